@@ -1,0 +1,4 @@
+pub mod Acks
+pub mod Dues
+pub mod Windows
+pub mod Placing

@@ -1,0 +1,81 @@
+ghost use Rattle.std.specs.Prelude.{◌≡◌, ◌↔◌, ◌<◌, IsTrue};
+ghost use Rattle.tcp_conn.specs.Calls.{HasGoodCapacities};
+ghost use Rattle.tcp_conn.specs.Numbers.{config_error_number};
+
+use std::error::Error;
+use std::fmt;
+use tcp_wire::{Addr, Seq};
+
+/// The least own MSS that a [`Config`] may have, in bytes.
+pub const LEAST_MSS: u16 = 64;
+
+/// The greatest own MSS that a [`Config`] may have, in bytes: what an Ethernet frame carries.
+pub const MOST_MSS: u16 = 1460;
+
+/// The greatest capacity of a buffer, in bytes.
+pub const MAX_CAPACITY: usize = 1_048_576;
+
+/// What one end is made from.
+#[derive(Clone, Copy, Debug, PartialEq, Eq)]
+pub struct Config {
+    /// The own address.
+    pub addr: Addr,
+    /// The own port.
+    pub port: u16,
+    /// The initial sequence number, ISS (RFC 9293, 3.4.1).
+    pub isn: Seq,
+    /// The own maximum segment size in bytes, from 64 to 1460 (RFC 9293, 3.7.1).
+    pub mss: u16,
+    /// The most bytes that are kept for the peer, from 1 to 1,048,576.
+    pub send_capacity: usize,
+    /// The most bytes that are kept for the user, and the greatest receive window, from 1 to 1,048,576.
+    pub recv_capacity: usize,
+}
+
+impl Config {
+    /// Whether both capacities are from 1 to 1,048,576.
+    pub(crate) fn has_good_capacities(&self) -> bool
+        ensures { IsTrue result ↔ HasGoodCapacities self.now }
+    {
+        self.send_capacity >= 1
+            && self.send_capacity <= MAX_CAPACITY
+            && self.recv_capacity >= 1
+            && self.recv_capacity <= MAX_CAPACITY
+    }
+}
+
+/// Why an end can't be made, in the order in which the faults are looked for, want of memory last.
+#[derive(Clone, Copy, Debug, PartialEq, Eq)]
+pub enum ConfigError {
+    /// A capacity isn't from 1 to 1,048,576.
+    BadCapacity,
+    /// The buffers found no memory.
+    NoMemory,
+    /// The MSS isn't from 64 to 1460.
+    BadMss,
+}
+
+impl ConfigError {
+    /// The number under which the refusal is reported.
+    pub fn number(self) -> u8
+        ensures { result ≡ config_error_number self }
+    {
+        match self {
+            ConfigError::BadCapacity => 21,
+            ConfigError::NoMemory => 22,
+            ConfigError::BadMss => 23,
+        }
+    }
+}
+
+impl fmt::Display for ConfigError {
+    fn fmt<W: fmt::Write>(&self, f: &mut fmt::Formatter<W>) -> fmt::Result {
+        f.write_str(match self {
+            ConfigError::BadCapacity => "a capacity is not from 1 to 1048576 bytes",
+            ConfigError::NoMemory => "no memory for the buffers",
+            ConfigError::BadMss => "the maximum segment size is not from 64 to 1460 bytes",
+        })
+    }
+}
+
+impl Error for ConfigError {}

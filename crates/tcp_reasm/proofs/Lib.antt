@@ -1,0 +1,10 @@
+pub mod Agreement
+pub mod Beginnings
+pub mod Keeping
+pub mod Maximal
+pub mod Newest
+pub mod Overlays
+pub mod Padding
+mod Examples
+pub mod Steps
+pub mod Views

@@ -1,0 +1,5 @@
+pub mod Agreement
+pub mod Laws
+pub mod Reassembly
+pub mod Refusals
+pub mod Store

@@ -1,0 +1,168 @@
+-- What one end has of its peer's text (RFC 9293, 3.4 and 3.10.7.4): the bytes that came in order and are
+-- not read yet, and a map from place to byte and stamp for those that came early. Place 0 is the next byte
+-- in order. The map is a list as long as the window, so that what lies beyond the window has no place.
+use Rattle.std.specs.Prelude.{ℕ, zero, suc, ◌-◌, min, max, ℤ, pos, negsuc, Bool, ◌&&◌, ◌||◌, ◌==◌, nat_lt, nat_le, if◌then◌else◌, List, [], ◌∷◌, ◌++◌, length, take, drop, map, replicate, Option, Some, None}
+use Rattle.std.specs.List.{count_by}
+use Rattle.tcp_reasm.specs.declared.placed.Placed.{Placed}
+use Rattle.tcp_reasm.specs.declared.placed.Placed.TheVariants.{Advanced, Held, NotKept}
+
+-- a byte that came early; of two stamps the greater belongs to the run that had news later
+pub record Cell : Type 0 where
+  pub byte : ℕ
+  pub stamp : ℕ
+
+pub record Inbox : Type 0 where
+  pub capacity : ℕ
+  pub unread : List ℕ
+  -- one place for each byte of the window
+  pub held : List (Option Cell)
+
+-- the receive window (RFC 9293, 3.3.1)
+abbrev pub window : Inbox → ℕ
+window q = q.capacity - length q.unread
+
+abbrev pub empty : ℕ → Inbox
+empty capacity = record { capacity = capacity; unread = []; held = replicate capacity None }
+
+-- THE PIECE: what is left of a text at an offset when the bytes before place 0 are cut off. The window's
+-- end cuts by itself, since no place lies beyond it.
+pub record Piece : Type 0 where
+  pub start : ℕ
+  pub text : List ℕ
+
+abbrev pub piece : ℤ → List ℕ → Piece
+piece (pos start) text = record { start = start; text = text }
+piece (negsuc n) text = record { start = 0; text = drop (suc n) text }
+
+-- whether no byte of it has a place
+abbrev pub is_empty : Piece → List (Option Cell) → Bool
+is_empty p held = (length p.text == 0) || nat_le (length held) p.start
+
+-- a byte that is held already stays
+abbrev pub first_byte : Option Cell → ℕ → ℕ
+first_byte None byte = byte
+first_byte (Some cell) byte = cell.byte
+
+-- the piece laid over what is held: each of its places takes the stamp
+abbrev pub overlay : ℕ → List ℕ → ℕ → List (Option Cell) → List (Option Cell)
+overlay start text stamp [] = []
+overlay zero [] stamp (place ∷ places) = place ∷ places
+overlay zero (byte ∷ text) stamp (place ∷ places) =
+    Some (record { byte = first_byte place byte; stamp = stamp }) ∷ overlay zero text stamp places
+overlay (suc start) text stamp (place ∷ places) = place ∷ overlay start text stamp places
+
+abbrev pub stamp_at : Option Cell → ℕ
+stamp_at None = 0
+stamp_at (Some cell) = cell.stamp
+
+abbrev pub greatest_stamp : List (Option Cell) → ℕ
+greatest_stamp [] = 0
+greatest_stamp (place ∷ places) = max (stamp_at place) (greatest_stamp places)
+
+-- RUNS: the maximal intervals of held places, each with its first place, the place after its last, and
+-- its greatest stamp
+pub record Run : Type 0 where
+  pub from : ℕ
+  pub to : ℕ
+  pub stamp : ℕ
+
+-- a held place before some runs begins a run of its own, or joins the one that begins right behind it
+abbrev pub with_place : ℕ → ℕ → List Run → List Run
+with_place place stamp [] = record { from = place; to = suc place; stamp = stamp } ∷ []
+with_place place stamp (run ∷ runs) =
+    if run.from == suc place
+    then record { from = place; to = run.to; stamp = max stamp run.stamp } ∷ runs
+    else record { from = place; to = suc place; stamp = stamp } ∷ run ∷ runs
+
+-- the runs of the places from this one on, from the left
+abbrev pub runs_from : ℕ → List (Option Cell) → List Run
+runs_from place [] = []
+runs_from place (None ∷ places) = runs_from (suc place) places
+runs_from place (Some cell ∷ places) = with_place place cell.stamp (runs_from (suc place) places)
+
+abbrev pub runs : List (Option Cell) → List Run
+runs held = runs_from 0 held
+
+-- the greatest number of runs that are kept apart
+abbrev pub most_runs : ℕ
+most_runs = 16
+
+-- the bytes at the front, up to the first place that is missing
+abbrev pub in_order : List (Option Cell) → List ℕ
+in_order [] = []
+in_order (None ∷ places) = []
+in_order (Some cell ∷ places) = cell.byte ∷ in_order places
+
+-- how many runs had no news after this one, itself among them
+abbrev pub rank_in : List Run → ℕ → ℕ
+rank_in others stamp = count_by (λ run. nat_le run.stamp stamp) others
+
+abbrev pub is_within : ℕ → Run → Bool
+is_within place run = nat_le run.from place && nat_lt place run.to
+
+-- the greatest stamp of the run that a place lies in
+abbrev pub stamp_of_run : List Run → ℕ → ℕ
+stamp_of_run [] place = 0
+stamp_of_run (run ∷ others) place = if is_within place run then run.stamp else stamp_of_run others place
+
+abbrev pub ranked_from : List Run → ℕ → List (Option Cell) → List (Option Cell)
+ranked_from all place [] = []
+ranked_from all place (None ∷ places) = None ∷ ranked_from all (suc place) places
+ranked_from all place (Some cell ∷ places) =
+    Some (record cell { stamp = rank_in all (stamp_of_run all place) }) ∷ ranked_from all (suc place) places
+
+-- Only the order of stamps is ever seen: each place takes the rank of its run, the oldest run's being 1.
+unfoldable pub ranked : List (Option Cell) → List (Option Cell)
+ranked held = ranked_from (runs held) 0 held
+
+-- the overlay goes to the unread bytes as far as it is in order, and the rest moves up
+abbrev pub settled : Inbox → List (Option Cell) → Inbox
+settled q over = record q {
+  unread = q.unread ++ in_order over;
+  held = ranked (drop (length (in_order over)) over);
+}
+
+abbrev pub laid_over : Inbox → Piece → List (Option Cell)
+laid_over q p = overlay p.start p.text (suc (greatest_stamp q.held)) q.held
+
+-- nothing has a place, or a piece that isn't in order would make too many runs
+abbrev pub is_refused : Inbox → Piece → Bool
+is_refused q p = is_empty p q.held || (nat_lt 0 p.start && nat_lt most_runs (length (runs (laid_over q p))))
+
+abbrev pub answer_for : ℕ → Placed
+answer_for zero = Held
+answer_for (suc n) = Advanced (suc n)
+
+-- PLACING (RFC 9293, 3.10.7.4): a text whose first byte lies at this offset from the next byte in order
+unfoldable pub placed : Inbox → ℤ → List ℕ → Inbox
+placed q offset text = if is_refused q (piece offset text) then q else settled q (laid_over q (piece offset text))
+
+unfoldable pub place_answer : Inbox → ℤ → List ℕ → Placed
+place_answer q offset text =
+    if is_refused q (piece offset text) then NotKept else answer_for (length (in_order (laid_over q (piece offset text))))
+
+-- the user takes n unread bytes, and as many places come into the window
+unfoldable pub after_read : Inbox → ℕ → Inbox
+after_read q n = record q {
+  unread = drop n q.unread;
+  held = q.held ++ replicate (min n (length q.unread)) None;
+}
+
+abbrev pub cleared : Inbox → Inbox
+cleared q = record q { held = replicate (window q) None }
+
+-- BLOCKS (RFC 2018, 4): the runs by stamp, the newest first, at most four of them
+abbrev pub by_stamp : Run → List Run → List Run
+by_stamp run [] = run ∷ []
+by_stamp run (other ∷ others) =
+    if nat_lt other.stamp run.stamp then run ∷ other ∷ others else other ∷ by_stamp run others
+
+unfoldable pub newest_first : List Run → List Run
+newest_first [] = []
+newest_first (run ∷ others) = by_stamp run (newest_first others)
+
+abbrev pub most_blocks : ℕ
+most_blocks = 4
+
+unfoldable pub blocks : Inbox → List (ℕ × ℕ)
+blocks q = map (λ (run : Run). (run.from, run.to)) (take most_blocks (newest_first (runs q.held)))

@@ -1,0 +1,39 @@
+ghost use Rattle.std.specs.Prelude.{◌≡◌, Some};
+ghost use Rattle.tcp_reasm.specs.Refusals.{number_of, text_of};
+
+use std::error::Error;
+use std::fmt;
+
+/// Why there is no reassembly.
+#[derive(Clone, Copy, Debug, PartialEq, Eq)]
+pub enum ReasmError {
+    /// The capacity isn't from 1 to 1,048,576 bytes.
+    BadCapacity,
+    /// Memory for the capacity was refused.
+    NoMemory,
+}
+
+impl ReasmError {
+    /// The number under which the refusal is reported.
+    pub fn number(self) -> u8
+        ensures { result ≡ number_of self }
+    {
+        match self {
+            ReasmError::BadCapacity => 21,
+            ReasmError::NoMemory => 22,
+        }
+    }
+}
+
+impl fmt::Display for ReasmError {
+    ghost output = { λ e. Some (text_of e) };
+
+    fn fmt<W: fmt::Write>(&self, f: &mut fmt::Formatter<W>) -> fmt::Result {
+        f.write_str(match self {
+            ReasmError::BadCapacity => "the capacity is not from 1 to 1048576 bytes",
+            ReasmError::NoMemory => "no memory for the capacity",
+        })
+    }
+}
+
+impl Error for ReasmError {}

@@ -1,0 +1,18 @@
+//! A peer's text put in order (RFC 9293, 3.10.7.4): bytes that came early are held until those before them come,
+//! and are told to the peer as blocks (RFC 2018, 4).
+#![tactic(auto)]
+
+pub use error::ReasmError;
+pub use placed::Placed;
+pub use reassembly::{MAX_CAPACITY, Reassembly};
+
+mod blocks;
+mod cells;
+mod error;
+mod keep;
+pub mod laws;
+mod placed;
+mod reassembly;
+mod table;
+#[cfg(test)]
+mod tests;

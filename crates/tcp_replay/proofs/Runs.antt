@@ -1,0 +1,145 @@
+-- A run, taken event by event.
+use Rattle.std.proofs.Common.{◌≡◌, ℕ, ◌+◌, ◌<◌, List, [], ◌∷◌, ◌++◌, length, get_or, take, drop, refl, sym, ◌∙◌, ap, arith, take-append-drop}
+use Rattle.std.specs.Prelude.{Option, Some, None, Result, Ok, Err, IfSome, IfNone, ◌==◌, nat_le, if◌then◌else◌}
+use Rattle.std.proofs.lemmas.Bool.{cond_both}
+use Rattle.std.proofs.lemmas.List.{drop_more, take_more, length-take-le}
+use Rattle.tcp_replay.specs.declared.event.Event.{Event}
+use Rattle.tcp_replay.specs.declared.event.Event.TheVariants as events
+use Rattle.tcp_replay.specs.declared.outcome.Outcome.{Outcome}
+use Rattle.tcp_replay.specs.declared.outcome.StepError.TheVariants.{NoSuchSegment, NoChange, PlaceOutside, NoMemory}
+use Rattle.tcp_replay.specs.declared.outcome.StepError.{StepError}
+use Rattle.tcp_replay.specs.World.{WorldState, PartyState, party_of, missing, segment_at, delivery_refusal, damage_refusal, happens, refusal, stop_of, run_of, stop_or, stay_or, later}
+
+-- where nothing was refused, the first event wasn't, nor any of the rest
+record Goes (refused : Option StepError) (rest : Option (ℕ × StepError)) : Type 0 where
+  first : refused ≡ None
+  others : rest ≡ None
+
+goes : (refused : Option StepError) (rest : Option (ℕ × StepError)) → stop_or refused rest ≡ None → Goes refused rest
+goes None None e = record { first = refl; others = refl }
+goes None (Some stop) e = absurd (cc)
+goes (Some error) rest e = absurd (cc)
+
+-- the run goes on by one event
+pub record GoesOn (w : WorldState) (list : List Event) (next : WorldState) : Type 0 where
+  pub stop : stop_of w list ≡ None
+  pub end : run_of w list ≡ next
+
+pub run-more : (w : WorldState) (list : List Event) (event : Event) → stop_of w list ≡ None → refusal (run_of w list) event ≡ None → GoesOn w (list ++ event ∷ []) (happens (run_of w list) event)
+unfolding stop_of run_of
+run-more w [] event e f = record { stop = ap (λ r. stop_or r None) f; end = ap (λ r. stay_or r w (happens w event)) f }
+run-more w (first ∷ list) event e f =
+    let both = goes (refusal w first) (stop_of (happens w first) list) e in
+    let here : stay_or (refusal w first) w (run_of (happens w first) list) ≡ run_of (happens w first) list = ap (λ r. stay_or r w (run_of (happens w first) list)) both.first in
+    let more = run-more (happens w first) list event both.others (ap (λ v. refusal v event) (sym here) ∙ f) in
+    record {
+      stop = ap (λ r. stop_or r (stop_of (happens w first) (list ++ event ∷ []))) both.first ∙ ap later more.stop;
+      end = ap (λ r. stay_or r w (run_of (happens w first) (list ++ event ∷ []))) both.first ∙ more.end ∙ ap (λ v. happens v event) (sym here);
+    }
+
+-- the run stops at one
+pub record Stops (w : WorldState) (list : List Event) (index : ℕ) (error : StepError) (end : WorldState) : Type 0 where
+  pub stop : stop_of w list ≡ Some (index, error)
+  pub stays : run_of w list ≡ end
+
+pub run-stop : (w : WorldState) (list rest : List Event) (event : Event) (error : StepError) → stop_of w list ≡ None → refusal (run_of w list) event ≡ Some error
+    → Stops w (list ++ event ∷ rest) (length list) error (run_of w list)
+unfolding stop_of run_of
+run-stop w [] rest event error e f = record { stop = ap (λ r. stop_or r (stop_of (happens w event) rest)) f; stays = ap (λ r. stay_or r w (run_of (happens w event) rest)) f }
+run-stop w (first ∷ list) rest event error e f =
+    let both = goes (refusal w first) (stop_of (happens w first) list) e in
+    let here : stay_or (refusal w first) w (run_of (happens w first) list) ≡ run_of (happens w first) list = ap (λ r. stay_or r w (run_of (happens w first) list)) both.first in
+    let more = run-stop (happens w first) list rest event error both.others (ap (λ v. refusal v event) (sym here) ∙ f) in
+    record {
+      stop = ap (λ r. stop_or r (stop_of (happens w first) (list ++ event ∷ rest))) both.first ∙ ap later more.stop;
+      stays = ap (λ r. stay_or r w (run_of (happens w first) (list ++ event ∷ rest))) both.first ∙ more.stays ∙ sym here;
+    }
+
+-- want of memory is no reason of the definitions
+damage-not_memory : (p : PartyState) (k place value : ℕ) → damage_refusal p k place value ≡ Some NoMemory → ⊥
+damage-not_memory p k place value =
+    cond_both (missing p k) (Some NoSuchSegment) (if value == 0 then Some NoChange else (if nat_le (length (segment_at p k)) place then Some PlaceOutside else None)) (λ r. r ≡ Some NoMemory → ⊥) (λ _ e. absurd (cc))
+    (λ _. cond_both (value == 0) (Some NoChange) (if nat_le (length (segment_at p k)) place then Some PlaceOutside else None) (λ r. r ≡ Some NoMemory → ⊥) (λ _ e. absurd (cc))
+    (λ _. cond_both (nat_le (length (segment_at p k)) place) (Some PlaceOutside) None (λ r. r ≡ Some NoMemory → ⊥) (λ _ e. absurd (cc)) (λ _ e. absurd (cc))))
+
+delivery-not_memory : (p : PartyState) (k : ℕ) → delivery_refusal p k ≡ Some NoMemory → ⊥
+delivery-not_memory p k = cond_both (missing p k) (Some NoSuchSegment) None (λ r. r ≡ Some NoMemory → ⊥) (λ _ e. absurd (cc)) (λ _ e. absurd (cc))
+
+refusal-not_memory : (w : WorldState) (event : Event) → refusal w event ≡ Some NoMemory → ⊥
+unfolding refusal
+refusal-not_memory w (events.Send side bytes) e = absurd (cc)
+refusal-not_memory w (events.Receive side room) e = absurd (cc)
+refusal-not_memory w (events.Timer side timer) e = absurd (cc)
+refusal-not_memory w (events.Emit side) e = absurd (cc)
+refusal-not_memory w (events.Deliver side k) e = delivery-not_memory (party_of w side) k e
+refusal-not_memory w (events.Damage side k place value) e = damage-not_memory (party_of w side) k place value e
+
+-- what a step answers, with its type
+abbrev pub answered : Outcome → Result Outcome StepError
+answered o = Ok o
+
+abbrev pub refused_by : StepError → Result Outcome StepError
+refused_by e = Err e
+
+abbrev pub stopped : ℕ → StepError → Option (ℕ × StepError)
+stopped k e = Some (k, e)
+
+-- what a step's clauses tell of the definitions' refusal
+pub not-refused : (refused : Option StepError) (o : Outcome) → IfSome refused (λ e. answered o ≡ Err e) → refused ≡ None
+not-refused None o h = refl
+not-refused (Some e) o h = absurd (cc)
+
+is-refused : (refused : Option StepError) (error : StepError) (Q : Type 0) → IfSome refused (λ e. refused_by error ≡ Err e) → IfNone refused ((error ≡ NoMemory) × Q) → (error ≡ NoMemory → ⊥) → refused ≡ Some error
+is-refused None error Q h m other = absurd (other m.0)
+is-refused (Some e) error Q h m other = cc
+
+is-memory : (refused : Option StepError) (error : StepError) → IfSome refused (λ e. refused_by error ≡ Err e) → error ≡ NoMemory → (refused ≡ Some NoMemory → ⊥) → refused ≡ None
+is-memory None error h e never = refl
+is-memory (Some e) error h is never = absurd (never (cc))
+
+-- the events up to one, that one, and the rest
+split-at : (list : List Event) (i : ℕ) (event : Event) → i < length list → event ≡ get_or list i event → take i list ++ event ∷ drop (i + 1) list ≡ list
+split-at list i event inside is =
+    ap (λ rest. take i list ++ rest) (ap (λ e. e ∷ drop (i + 1) list) is ∙ sym (drop_more list i event inside)) ∙ take-append-drop i list
+
+next-front : (list : List Event) (i : ℕ) (event : Event) → i < length list → event ≡ get_or list i event → take i list ++ event ∷ [] ≡ take (i + 1) list
+next-front list i event inside is = ap (λ e. take i list ++ e ∷ []) is ∙ sym (take_more list i event inside)
+
+-- a run as far as an event, in the code's words
+pub record RunsTo (w here : WorldState) (list : List Event) (i : ℕ) : Type 0 where
+  pub going : stop_of w (take i list) ≡ None
+  pub now : here ≡ run_of w (take i list)
+
+pub run_refused : (w here new : WorldState) (list : List Event) (i : ℕ) (event : Event) (error : StepError) (Q : Type 0) → i < length list → event ≡ get_or list i event
+    → RunsTo w here list i → IfSome (refusal here event) (λ e. refused_by error ≡ Err e) → IfNone (refusal here event) ((error ≡ NoMemory) × Q) → new ≡ here
+    → (error ≡ NoMemory → ⊥) → (stop_of w list ≡ Some (i, error)) × (new ≡ run_of w list)
+run_refused w here new list i event error Q inside is so_far h m same other =
+    let refused : refusal (run_of w (take i list)) event ≡ Some error = ap (λ v. refusal v event) (sym so_far.now) ∙ is-refused (refusal here event) error Q h m other in
+    let stops = run-stop w (take i list) (drop (i + 1) list) event error so_far.going refused in
+    let whole = split-at list i event inside is in
+    let count : length (take i list) ≡ i = length-take-le i list (omega arith) in (
+      ap (λ all. stop_of w all) (sym whole) ∙ stops.stop ∙ ap (λ k. stopped k error) count,
+      same ∙ so_far.now ∙ sym stops.stays ∙ ap (λ all. run_of w all) whole,
+    )
+
+pub run_out_of_memory : (w here new : WorldState) (list : List Event) (i : ℕ) (event : Event) (error : StepError) → i < length list → event ≡ get_or list i event
+    → RunsTo w here list i → IfSome (refusal here event) (λ e. refused_by error ≡ Err e) → new ≡ here
+    → error ≡ NoMemory → (stop_of w (take (i + 1) list) ≡ None) × (new ≡ run_of w (take i list))
+run_out_of_memory w here new list i event error inside is so_far h same memory =
+    let fine : refusal (run_of w (take i list)) event ≡ None = ap (λ v. refusal v event) (sym so_far.now) ∙ is-memory (refusal here event) error h memory (refusal-not_memory here event) in
+    let more = run-more w (take i list) event so_far.going fine in
+    (ap (λ all. stop_of w all) (sym (next-front list i event inside is)) ∙ more.stop, same ∙ so_far.now)
+
+pub run_goes_on : (w here new : WorldState) (list : List Event) (i : ℕ) (event : Event) (o : Outcome) → i < length list → event ≡ get_or list i event
+    → RunsTo w here list i → IfSome (refusal here event) (λ e. answered o ≡ Err e) → new ≡ happens here event → RunsTo w new list (i + 1)
+run_goes_on w here new list i event o inside is so_far h state =
+    let fine : refusal (run_of w (take i list)) event ≡ None = ap (λ v. refusal v event) (sym so_far.now) ∙ not-refused (refusal here event) o h in
+    let more = run-more w (take i list) event so_far.going fine in
+    record {
+      going = ap (λ all. stop_of w all) (sym (next-front list i event inside is)) ∙ more.stop;
+      now = state ∙ ap (λ v. happens v event) so_far.now ∙ sym more.end ∙ ap (λ all. run_of w all) (next-front list i event inside is);
+    }
+
+pub run_begins : (w : WorldState) (list : List Event) → RunsTo w w list 0
+unfolding stop_of run_of
+run_begins w list = record { going = refl; now = refl }

@@ -1,0 +1,5 @@
+pub mod World
+pub mod Truthful
+pub mod Safe
+pub mod Sound
+pub mod Numbers

@@ -1,0 +1,68 @@
+-- What a segment may say (RFC 9293, 3.4; RFC 2018, 3 and 4): nothing of its own stream but what was
+-- accepted for it, and nothing of the other stream but what has come.
+use Rattle.std.specs.Prelude.{◌≡◌, ℕ, ◌+◌, ◌-◌, ◌<◌, ◌≤◌, ◌⊎◌, Bool, true, false, ◌==◌, if◌then◌else◌, List, [], length, take, drop, Option, Some, slice_get}
+use Rattle.tcp_wire.specs.Position.{number}
+use Rattle.tcp_wire.specs.Options.{OptionContent, Nop, Mss, WindowScale, SackPermitted, Sack, Unknown}
+use Rattle.tcp_wire.specs.Wire.{Content, has}
+use Rattle.tcp_reasm.specs.Reassembly.{Cell}
+use Rattle.tcp_conn.specs.Arrival as bits
+
+-- what one end can show when it speaks
+pub record Witness : Type 0 where
+  -- the initial numbers of its own direction and of the peer's
+  pub iss : ℕ
+  pub irs : ℕ
+  -- the bytes that its user sent, and whether its user closed
+  pub accepted : List ℕ
+  pub closed : Bool
+  -- whether it took the peer's SYN, the next position that it wants, and what it holds from there on
+  pub opened : Bool
+  pub next : ℕ
+  pub held : List (Option Cell)
+  -- whether it gave up what it held, by a reset or an abort
+  pub gave_up : Bool
+
+-- a position of the peer's direction that the end has: below the next, or held
+abbrev pub HasPosition : Witness → ℕ → Type 0
+HasPosition x p = (p < x.next) ⊎ ((cell : Cell) × (x.next ≤ p) × (slice_get x.held (p - x.next) ≡ Some (Some cell)))
+
+-- a block tells of positions that the end has: from one up to another, whose numbers are its edges
+abbrev pub IsTrueBlock : Witness → ℕ × ℕ → Type 0
+IsTrueBlock x block =
+    (from : ℕ) × (to : ℕ) × (from < to) × (block.0 ≡ number x.irs from) × (block.1 ≡ number x.irs to) × ((p : ℕ) → from ≤ p → p < to → HasPosition x p)
+
+abbrev pub AreTrueBlocks : Witness → List (ℕ × ℕ) → Type 0
+AreTrueBlocks x blocks = (k : ℕ) (block : ℕ × ℕ) → slice_get blocks k ≡ Some block → IsTrueBlock x block
+
+abbrev pub IsTrueOption : Witness → OptionContent → Type 0
+IsTrueOption x Nop = Unit {0}
+IsTrueOption x (Mss size) = Unit {0}
+IsTrueOption x (WindowScale shift) = Unit {0}
+IsTrueOption x SackPermitted = Unit {0}
+IsTrueOption x (Sack blocks) = x.gave_up ≡ false → AreTrueBlocks x blocks
+IsTrueOption x (Unknown kind body) = Unit {0}
+
+-- an acknowledgement is the number of a position up to the next one that the end wants
+pub record IsTrueAck (x : Witness) (ack : ℕ) : Type 0 where
+  pub opened : x.opened ≡ true
+  pub position : ℕ
+  pub least : 1 ≤ position
+  pub most : position ≤ x.next
+  pub number : ack ≡ number x.irs position
+
+-- a segment without RST that the end emitted
+pub record IsTruthful (x : Witness) (v : Content) : Type 0 where
+  pub position : ℕ
+  pub seq : v.seq ≡ number x.iss position
+  -- it lies within what was accepted, the FIN's position included
+  pub within : position ≤ 1 + length x.accepted + (if x.closed then 1 else 0)
+  -- SYN stands at position 0 alone, and stands there alone
+  pub syn : has bits.syn v.flags ≡ (position == 0)
+  pub bare : position ≡ 0 → (v.text ≡ []) × (has bits.fin v.flags ≡ false)
+  -- its text is what was accepted, from its position on
+  pub fits : 0 < length v.text → position + length v.text ≤ 1 + length x.accepted
+  pub text : 0 < length v.text → v.text ≡ take (length v.text) (drop (position - 1) x.accepted)
+  -- FIN stands right behind all that was accepted, and only after a close
+  pub fin : has bits.fin v.flags ≡ true → (x.closed ≡ true) × (position + length v.text ≡ 1 + length x.accepted)
+  pub ack : has bits.ack v.flags ≡ true → IsTrueAck x v.ack
+  pub options : (k : ℕ) (option : OptionContent) → slice_get v.options k ≡ Some option → IsTrueOption x option

@@ -1,0 +1,26 @@
+use tcp_conn::Timer;
+
+/// One of the two ends.
+#[derive(Clone, Copy, Debug, PartialEq, Eq)]
+pub enum Side {
+    A,
+    B,
+}
+
+/// What can happen to the two ends.
+#[derive(Debug, Drop)]
+pub enum Event {
+    /// The user of this side sends these bytes.
+    Send(Side, Vec<u8>),
+    /// The user of this side asks for at most so many bytes.
+    Receive(Side, usize),
+    /// A timer of this side runs out.
+    Timer(Side, Timer),
+    /// This side emits the segment that is due, if there is one.
+    Emit(Side),
+    /// The segment of this number, from 0, that this side emitted arrives at the other side.
+    Deliver(Side, usize),
+    /// It arrives with the byte at a place combined with a value by exclusive or: side, number, place and
+    /// value.
+    Damage(Side, usize, usize, u8),
+}

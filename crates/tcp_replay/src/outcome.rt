@@ -1,0 +1,79 @@
+ghost use Rattle.std.specs.Prelude.{◌≡◌};
+ghost use Rattle.tcp_replay.specs.Numbers.{step_error_number};
+ghost use Rattle.tcp_replay.specs.declared.outcome.StepError.TheVariants.{NoMemory};
+
+use crate::event::Side;
+use std::alloc::AllocError;
+use std::error::Error;
+use std::fmt;
+use tcp_conn::{Arrival, CallError, ConfigError, Received};
+
+/// What came of an event.
+#[derive(Clone, Copy, Debug, PartialEq, Eq)]
+pub enum Outcome {
+    /// How many bytes `send` took.
+    Sent(Result<usize, CallError>),
+    /// What `receive` handed over.
+    Got(Result<Received, CallError>),
+    /// Whether the timer's rule applied.
+    Timer(bool),
+    /// The number of the segment that was emitted, if one was due.
+    Emitted(Option<usize>),
+    /// What became of the segment that arrived.
+    Arrived(Arrival),
+}
+
+/// Why an event can't happen, in the order in which the reasons are looked for. The world is as it was.
+#[derive(Clone, Copy, Debug, PartialEq, Eq)]
+pub enum StepError {
+    /// No segment of this number was emitted.
+    NoSuchSegment,
+    /// The value of a damage is 0.
+    NoChange,
+    /// The place of a damage lies behind the segment's end.
+    PlaceOutside,
+    /// A growth of the world found no memory.
+    NoMemory,
+}
+
+impl StepError {
+    /// The number under which the refusal is reported.
+    pub fn number(self) -> u8
+        ensures { result ≡ step_error_number self }
+    {
+        match self {
+            StepError::NoSuchSegment => 31,
+            StepError::NoChange => 32,
+            StepError::PlaceOutside => 33,
+            StepError::NoMemory => 34,
+        }
+    }
+}
+
+impl fmt::Display for StepError {
+    fn fmt<W: fmt::Write>(&self, f: &mut fmt::Formatter<W>) -> fmt::Result {
+        f.write_str(match self {
+            StepError::NoSuchSegment => "no segment of this number was emitted",
+            StepError::NoChange => "the damage changes nothing",
+            StepError::PlaceOutside => "the place lies behind the segment's end",
+            StepError::NoMemory => "no memory for the event",
+        })
+    }
+}
+
+impl Error for StepError {}
+
+impl From<AllocError> for StepError {
+    ghost from_gives = { λ _ e. e ≡ NoMemory };
+
+    fn from(_: AllocError) -> StepError {
+        StepError::NoMemory
+    }
+}
+
+/// Why a world can't be made.
+#[derive(Clone, Copy, Debug, PartialEq, Eq)]
+pub enum WorldError {
+    /// The end of this side can't be made.
+    Config(Side, ConfigError),
+}

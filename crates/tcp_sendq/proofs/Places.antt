@@ -1,0 +1,290 @@
+-- Lemmas on marked places.
+use Rattle.std.proofs.Common.{◌≡◌, ℕ, zero, suc, ◌+◌, ◌-◌, ◌<◌, ◌≤◌, ◌⊎◌, Bool, true, false, not, List, [], ◌∷◌, ◌++◌, length, take, drop, replicate, get_or, Some, None, slice_get, refl, sym, ap, subst, ◌∙◌, inl, inr, arith, length-append, length-drop, length-take}
+use Rattle.std.proofs.lemmas.List.{take_more, length-replicate}
+use Rattle.std.proofs.lemmas.Bool.Decides.{nat_tests}
+use Rattle.std.proofs.lemmas.Bool.{cases_lt}
+use Rattle.tcp_sendq.specs.SendQueue.{Queue, released, offered, count_taken, unmarked, marked_between, leading, unmarked_from, next_unmarked, IsNextUnmarked, AllMarkedFrom, end_of_marks, last_mark_end, IsLastMarkEnd, NoneMarkedFrom, IsMarked}
+
+slice_get-drop : {X : Type 0} (n : ℕ) (xs : List X) (k : ℕ) → slice_get (drop n xs) k ≡ slice_get xs (n + k)
+slice_get-drop zero xs k = let e : k ≡ 0 + k = omega arith in ap (slice_get xs) e
+slice_get-drop (suc n) [] k = refl
+slice_get-drop (suc n) (x ∷ xs) k =
+    let e : suc (n + k) ≡ suc n + k = omega arith in slice_get-drop n xs k ∙ ap (slice_get (x ∷ xs)) e
+
+slice_get-append_left : {X : Type 0} (xs ys : List X) (k : ℕ) → k < length xs → slice_get (xs ++ ys) k ≡ slice_get xs k
+slice_get-append_left [] ys k h = absurd (omega arith)
+slice_get-append_left (x ∷ xs) ys zero h = refl
+slice_get-append_left (x ∷ xs) ys (suc k) h = slice_get-append_left xs ys k (omega arith)
+
+slice_get-append_right : {X : Type 0} (xs ys : List X) (k : ℕ) → length xs ≤ k → slice_get (xs ++ ys) k ≡ slice_get ys (k - length xs)
+slice_get-append_right [] ys k h = let e : k ≡ k - 0 = omega arith in ap (slice_get ys) e
+slice_get-append_right (x ∷ xs) ys zero h = absurd (omega arith)
+slice_get-append_right (x ∷ xs) ys (suc k) h =
+    let e : k - length xs ≡ suc k - suc (length xs) = omega arith in slice_get-append_right xs ys k (omega arith) ∙ ap (slice_get ys) e
+
+slice_get-replicate : {X : Type 0} (n : ℕ) (x : X) (k : ℕ) → k < n → slice_get (replicate n x) k ≡ Some x
+slice_get-replicate zero x k h = absurd (omega arith)
+slice_get-replicate (suc n) x zero h = refl
+slice_get-replicate (suc n) x (suc k) h = slice_get-replicate n x k (omega arith)
+
+slice_get-take : {X : Type 0} (n : ℕ) (xs : List X) (k : ℕ) → k < n → slice_get (take n xs) k ≡ slice_get xs k
+slice_get-take zero xs k h = absurd (omega arith)
+slice_get-take (suc n) [] k h = refl
+slice_get-take (suc n) (x ∷ xs) zero h = refl
+slice_get-take (suc n) (x ∷ xs) (suc k) h = slice_get-take n xs k (omega arith)
+
+-- ---- the marks after each call
+
+-- the part in front of what a call marks, and that part with it
+length_front : (from : ℕ) (marks : List Bool) → from ≤ length marks → length (take from marks) ≡ from
+length_front from marks h = omega (arith, length-take from marks)
+
+length_marked : (from to : ℕ) (marks : List Bool) → from ≤ to → to ≤ length marks → length (take from marks ++ replicate (to - from) true) ≡ to
+length_marked from to marks ordered within =
+    omega (arith, length_front from marks (omega arith), length-append (take from marks) (replicate (to - from) true), length-replicate (to - from) true)
+
+pub marked_between-below : (from to : ℕ) (marks : List Bool) (place : ℕ) → from ≤ to → to ≤ length marks → place < from → slice_get (marked_between from to marks) place ≡ slice_get marks place
+marked_between-below from to marks place ordered within below =
+    slice_get-append_left (take from marks ++ replicate (to - from) true) (drop to marks) place (omega (arith, length_marked from to marks ordered within))
+    ∙ (slice_get-append_left (take from marks) (replicate (to - from) true) place (omega (arith, length_front from marks (omega arith)))
+    ∙ slice_get-take from marks place below)
+
+pub marked_between-inside : (from to : ℕ) (marks : List Bool) (place : ℕ) → from ≤ place → place < to → to ≤ length marks → slice_get (marked_between from to marks) place ≡ Some true
+marked_between-inside from to marks place low high within =
+    let front : length (take from marks) ≡ from = length_front from marks (omega arith) in
+    slice_get-append_left (take from marks ++ replicate (to - from) true) (drop to marks) place (omega (arith, length_marked from to marks (omega arith) within))
+    ∙ (slice_get-append_right (take from marks) (replicate (to - from) true) place (omega arith)
+    ∙ slice_get-replicate (to - from) true (place - length (take from marks)) (omega arith))
+
+pub marked_between-above : (from to : ℕ) (marks : List Bool) (place : ℕ) → from ≤ to → to ≤ length marks → to ≤ place → slice_get (marked_between from to marks) place ≡ slice_get marks place
+marked_between-above from to marks place ordered within above =
+    let front : length (take from marks ++ replicate (to - from) true) ≡ to = length_marked from to marks ordered within in
+    let e : to + (place - length (take from marks ++ replicate (to - from) true)) ≡ place = omega arith in
+    slice_get-append_right (take from marks ++ replicate (to - from) true) (drop to marks) place (omega arith)
+    ∙ (slice_get-drop to marks (place - length (take from marks ++ replicate (to - from) true)) ∙ ap (slice_get marks) e)
+
+-- what is marked then was marked or is in the part
+pub marked_between-only : (from to : ℕ) (marks : List Bool) (place : ℕ) → from ≤ to → to ≤ length marks → slice_get (marked_between from to marks) place ≡ Some true → (slice_get marks place ≡ Some true) ⊎ ((from ≤ place) × (place < to))
+marked_between-only from to marks place ordered within holds = elim (cases_lt place from) [
+  | inl below ↦ inl (sym (marked_between-below from to marks place ordered within below) ∙ holds)
+  | inr low ↦ elim (cases_lt place to) [
+    | inl high ↦ inr (low, high)
+    | inr above ↦ inl (sym (marked_between-above from to marks place ordered within above) ∙ holds)
+  ]
+]
+
+-- and the other way round
+pub marked_between-all : (from to : ℕ) (marks : List Bool) (place : ℕ) → from ≤ to → to ≤ length marks → (slice_get marks place ≡ Some true) ⊎ ((from ≤ place) × (place < to)) → slice_get (marked_between from to marks) place ≡ Some true
+marked_between-all from to marks place ordered within (inl held) = elim (cases_lt place from) [
+  | inl below ↦ marked_between-below from to marks place ordered within below ∙ held
+  | inr low ↦ elim (cases_lt place to) [
+    | inl high ↦ marked_between-inside from to marks place low high within
+    | inr above ↦ marked_between-above from to marks place ordered within above ∙ held
+  ]
+]
+marked_between-all from to marks place ordered within (inr inside) = marked_between-inside from to marks place inside.0 inside.1 within
+
+no_mark_in_unmarked : (n place : ℕ) → slice_get (replicate n false) place ≡ Some true → ⊥
+no_mark_in_unmarked zero place h = cc
+no_mark_in_unmarked (suc n) zero h = cc
+no_mark_in_unmarked (suc n) (suc place) h = no_mark_in_unmarked n place h
+
+-- after a timeout nothing is marked
+pub IsMarked-unmarked : (q : Queue) (place : ℕ) → IsMarked (unmarked q) place → ⊥
+unfolding unmarked
+IsMarked-unmarked q place holds = no_mark_in_unmarked (length q.bytes) place holds
+
+-- a release moves each mark down
+pub IsMarked-released : (q : Queue) (n place : ℕ) → IsMarked (released q n) place → IsMarked q (n + place)
+IsMarked-released q n place holds = sym (slice_get-drop n q.marks place) ∙ holds
+
+-- what is offered comes without marks
+pub IsMarked-offered : (q : Queue) (text : List ℕ) (place : ℕ) → IsMarked (offered q text) place → IsMarked q place
+IsMarked-offered q text place holds = elim (cases_lt place (length q.marks)) [
+  | inl old ↦ sym (slice_get-append_left q.marks (replicate (count_taken q text) false) place old) ∙ holds
+  | inr new ↦
+      let behind : slice_get (replicate (count_taken q text) false) (place - length q.marks) ≡ Some true =
+      sym (slice_get-append_right q.marks (replicate (count_taken q text) false) place new) ∙ holds in
+      absurd (no_mark_in_unmarked (count_taken q text) (place - length q.marks) behind)
+]
+
+-- ---- leading flags
+
+pub leading-le : (flag : Bool) (marks : List Bool) → leading flag marks ≤ length marks
+leading-le flag [] = omega arith
+leading-le true (true ∷ marks) = omega (arith, leading-le true marks)
+leading-le true (false ∷ marks) = omega arith
+leading-le false (true ∷ marks) = omega arith
+leading-le false (false ∷ marks) = omega (arith, leading-le false marks)
+
+leading-at : (flag : Bool) (marks : List Bool) (k : ℕ) → k < leading flag marks → slice_get marks k ≡ Some flag
+leading-at flag [] k h = absurd (omega arith)
+leading-at true (true ∷ marks) zero h = refl
+leading-at true (true ∷ marks) (suc k) h = leading-at true marks k (omega arith)
+leading-at true (false ∷ marks) k h = absurd (omega arith)
+leading-at false (true ∷ marks) k h = absurd (omega arith)
+leading-at false (false ∷ marks) zero h = refl
+leading-at false (false ∷ marks) (suc k) h = leading-at false marks k (omega arith)
+
+leading-stops : (flag : Bool) (marks : List Bool) → leading flag marks < length marks → slice_get marks (leading flag marks) ≡ Some (not flag)
+leading-stops flag [] h = absurd (omega arith)
+leading-stops true (true ∷ marks) h = leading-stops true marks (omega arith)
+leading-stops true (false ∷ marks) h = refl
+leading-stops false (true ∷ marks) h = refl
+leading-stops false (false ∷ marks) h = leading-stops false marks (omega arith)
+
+leading-positive : (flag : Bool) (marks : List Bool) → slice_get marks 0 ≡ Some flag → 0 < leading flag marks
+leading-positive flag [] h = cc
+leading-positive true (true ∷ marks) h = omega arith
+leading-positive true (false ∷ marks) h = cc
+leading-positive false (true ∷ marks) h = cc
+leading-positive false (false ∷ marks) h = omega arith
+
+-- the same from a place on
+leading_between : (flag : Bool) (marks : List Bool) (at place : ℕ) → at ≤ place → place < at + leading flag (drop at marks) → slice_get marks place ≡ Some flag
+leading_between flag marks at place low high =
+    let e : at + (place - at) ≡ place = omega arith in
+    ap (slice_get marks) (sym e) ∙ (sym (slice_get-drop at marks (place - at)) ∙ leading-at flag (drop at marks) (place - at) (omega arith))
+
+leading_then : (flag : Bool) (marks : List Bool) (at : ℕ) → at + leading flag (drop at marks) < length marks → slice_get marks (at + leading flag (drop at marks)) ≡ Some (not flag)
+leading_then flag marks at h =
+    sym (slice_get-drop at marks (leading flag (drop at marks))) ∙ leading-stops flag (drop at marks) (omega (arith, length-drop at marks))
+
+leading_within : (flag : Bool) (marks : List Bool) (at : ℕ) → at ≤ length marks → at + leading flag (drop at marks) ≤ length marks
+leading_within flag marks at h = omega (arith, leading-le flag (drop at marks), length-drop at marks)
+
+-- ---- the next unmarked place
+
+pub next_some : (q : Queue) (at : ℕ) → unmarked_from q at < length q.marks → next_unmarked q at ≡ Some (unmarked_from q at, unmarked_from q at + leading false (drop (unmarked_from q at) q.marks))
+unfolding next_unmarked
+next_some q at h = grind (arith, nat_tests)
+
+pub next_none : (q : Queue) (at : ℕ) → length q.marks ≤ unmarked_from q at → next_unmarked q at ≡ None
+unfolding next_unmarked
+next_none q at h = grind (arith, nat_tests)
+
+pub is_next_unmarked : (q : Queue) (at : ℕ) → length q.marks ≡ length q.bytes → unmarked_from q at < length q.marks → IsNextUnmarked q at (unmarked_from q at, unmarked_from q at + leading false (drop (unmarked_from q at) q.marks))
+is_next_unmarked q at flags h =
+    let from = unmarked_from q at in
+    let first : slice_get q.marks from ≡ Some false = leading_then true q.marks at h in
+    let first_of_rest : slice_get (drop from q.marks) 0 ≡ Some false =
+    slice_get-drop from q.marks 0 ∙ (ap (slice_get q.marks) (omega arith) ∙ first) in
+    let some : 0 < leading false (drop from q.marks) = leading-positive false (drop from q.marks) first_of_rest in
+    let within : from + leading false (drop from q.marks) ≤ length q.marks = leading_within false q.marks from (omega arith) in
+    record {
+      from_at = omega arith;
+      ordered = omega arith;
+      within = omega arith;
+      passed_over = λ place low high. leading_between true q.marks at place low high;
+      unmarked_run = λ place low high. leading_between false q.marks from place low high;
+      maximal = elim (cases_lt (from + leading false (drop from q.marks)) (length q.marks)) [ inl below ↦ inr (leading_then false q.marks from below) | inr past ↦ inl (omega arith) ];
+    }
+
+pub all_marked : (q : Queue) (at : ℕ) → length q.marks ≡ length q.bytes → length q.marks ≤ unmarked_from q at → AllMarkedFrom q at
+all_marked q at flags h = λ place low high. leading_between true q.marks at place low (omega arith)
+
+pub not_all_marked : (q : Queue) (at : ℕ) → length q.marks ≡ length q.bytes → unmarked_from q at < length q.marks → AllMarkedFrom q at → ⊥
+not_all_marked q at flags h all =
+    let first : slice_get q.marks (unmarked_from q at) ≡ Some false = leading_then true q.marks at h in
+    let same : slice_get q.marks (unmarked_from q at) ≡ Some true = all (unmarked_from q at) (omega arith) (omega arith) in
+    cc
+
+-- ---- the end of the marks
+
+take_last : (marks : List Bool) (n : ℕ) → 0 < n → n ≤ length marks → take n marks ≡ take (n - 1) marks ++ get_or marks (n - 1) false ∷ []
+take_last marks n positive within =
+    let e : n ≡ n - 1 + 1 = omega arith in
+    ap (λ m. take m marks) e ∙ take_more marks (n - 1) false (omega arith)
+
+end_of_marks-push_marked : (marks : List Bool) → end_of_marks (marks ++ true ∷ []) ≡ suc (length marks)
+end_of_marks-push_marked [] = refl
+end_of_marks-push_marked (marked ∷ marks) = rw (end_of_marks-push_marked marks) (grind (arith, nat_tests))
+
+end_of_marks-push_unmarked : (marks : List Bool) → end_of_marks (marks ++ false ∷ []) ≡ end_of_marks marks
+end_of_marks-push_unmarked [] = refl
+end_of_marks-push_unmarked (marked ∷ marks) = rw (end_of_marks-push_unmarked marks) refl
+
+-- a look from the end on
+pub end_at_marked : (marks : List Bool) (n : ℕ) → 0 < n → n ≤ length marks → get_or marks (n - 1) false ≡ true → end_of_marks (take n marks) ≡ n
+end_at_marked marks n positive within here =
+    let cut : take n marks ≡ take (n - 1) marks ++ get_or marks (n - 1) false ∷ [] = take_last marks n positive within in
+    rw (cut, here, end_of_marks-push_marked (take (n - 1) marks)) (omega (arith, length-take (n - 1) marks))
+
+pub end_at_unmarked : (marks : List Bool) (n : ℕ) → 0 < n → n ≤ length marks → get_or marks (n - 1) false ≡ false → end_of_marks (take n marks) ≡ end_of_marks (take (n - 1) marks)
+end_at_unmarked marks n positive within here =
+    let cut : take n marks ≡ take (n - 1) marks ++ get_or marks (n - 1) false ∷ [] = take_last marks n positive within in
+    rw (cut, here) (end_of_marks-push_unmarked (take (n - 1) marks))
+
+end_of_marks-later : (marked : Bool) (marks : List Bool) → 0 < end_of_marks marks → end_of_marks (marked ∷ marks) ≡ suc (end_of_marks marks)
+end_of_marks-later marked marks h = grind (arith, nat_tests)
+
+end_of_marks-here : (marks : List Bool) → end_of_marks (true ∷ marks) ≡ suc (end_of_marks marks)
+end_of_marks-here marks = grind (arith, nat_tests)
+
+end_of_marks-nowhere : (marks : List Bool) → end_of_marks marks ≡ 0 → end_of_marks (false ∷ marks) ≡ 0
+end_of_marks-nowhere marks h = grind (arith, nat_tests)
+
+pub end_of_marks-le : (marks : List Bool) → end_of_marks marks ≤ length marks
+end_of_marks-le [] = omega arith
+end_of_marks-le (true ∷ marks) = omega (arith, end_of_marks-here marks, end_of_marks-le marks)
+end_of_marks-le (false ∷ marks) = elim (cases_lt 0 (end_of_marks marks)) [
+  | inl some ↦ omega (arith, end_of_marks-later false marks some, end_of_marks-le marks)
+  | inr none ↦ omega (arith, end_of_marks-nowhere marks (omega arith))
+]
+
+marked_behind : (marked : Bool) (marks : List Bool) → 0 < end_of_marks marks → slice_get marks (end_of_marks marks - 1) ≡ Some true → slice_get (marked ∷ marks) (end_of_marks (marked ∷ marks) - 1) ≡ Some true
+marked_behind marked marks some behind =
+    let next : suc (end_of_marks marks - 1) ≡ end_of_marks (marked ∷ marks) - 1 =
+    omega (arith, end_of_marks-later marked marks some) in
+    subst (λ k. slice_get (marked ∷ marks) k ≡ Some true) next behind
+
+pub end_of_marks-marked : (marks : List Bool) → 0 < end_of_marks marks → slice_get marks (end_of_marks marks - 1) ≡ Some true
+end_of_marks-marked [] h = absurd (omega arith)
+end_of_marks-marked (true ∷ marks) h = elim (cases_lt 0 (end_of_marks marks)) [
+  | inl some ↦ marked_behind true marks some (end_of_marks-marked marks some)
+  | inr none ↦
+      let whole : 0 ≡ end_of_marks (true ∷ marks) - 1 = omega (arith, end_of_marks-here marks) in
+      subst (λ k. slice_get (true ∷ marks) k ≡ Some true) whole refl
+]
+end_of_marks-marked (false ∷ marks) h = elim (cases_lt 0 (end_of_marks marks)) [
+  | inl some ↦ marked_behind false marks some (end_of_marks-marked marks some)
+  | inr none ↦ absurd (omega (arith, end_of_marks-nowhere marks (omega arith)))
+]
+
+pub end_of_marks-beyond : (marks : List Bool) (place : ℕ) → end_of_marks marks ≤ place → place < length marks → slice_get marks place ≡ Some false
+end_of_marks-beyond [] place low high = absurd (omega arith)
+end_of_marks-beyond (true ∷ marks) zero low high = absurd (omega (arith, end_of_marks-here marks))
+end_of_marks-beyond (true ∷ marks) (suc place) low high =
+    end_of_marks-beyond marks place (omega (arith, end_of_marks-here marks)) (omega arith)
+end_of_marks-beyond (false ∷ marks) zero low high = refl
+end_of_marks-beyond (false ∷ marks) (suc place) low high =
+    let below : end_of_marks marks ≤ place = elim (cases_lt 0 (end_of_marks marks)) [
+      | inl some ↦ omega (arith, end_of_marks-later false marks some)
+      | inr none ↦ omega arith
+    ] in
+    end_of_marks-beyond marks place below (omega arith)
+
+pub is_last_mark_end : (q : Queue) → length q.marks ≡ length q.bytes → 0 < end_of_marks q.marks → IsLastMarkEnd q (end_of_marks q.marks)
+is_last_mark_end q flags some = record {
+  within = omega (arith, end_of_marks-le q.marks);
+  positive = some;
+  last_marked = end_of_marks-marked q.marks some;
+  none_beyond = λ place low high. end_of_marks-beyond q.marks place low (omega arith);
+}
+
+pub none_marked : (q : Queue) → length q.marks ≡ length q.bytes → end_of_marks q.marks ≡ 0 → NoneMarkedFrom q 0
+none_marked q flags none = λ place low high. end_of_marks-beyond q.marks place (omega arith) (omega arith)
+
+pub not_none_marked : (q : Queue) → length q.marks ≡ length q.bytes → 0 < end_of_marks q.marks → NoneMarkedFrom q 0 → ⊥
+not_none_marked q flags some none =
+    let last : slice_get q.marks (end_of_marks q.marks - 1) ≡ Some true = end_of_marks-marked q.marks some in
+    let same : slice_get q.marks (end_of_marks q.marks - 1) ≡ Some false = none (end_of_marks q.marks - 1) (omega arith) (omega (arith, end_of_marks-le q.marks)) in
+    cc
+
+pub last_some : (q : Queue) → 0 < end_of_marks q.marks → last_mark_end q ≡ Some (end_of_marks q.marks)
+unfolding last_mark_end
+last_some q h = grind (arith, nat_tests)
+
+pub last_none : (q : Queue) → end_of_marks q.marks ≡ 0 → last_mark_end q ≡ None
+unfolding last_mark_end
+last_none q h = grind (arith, nat_tests)

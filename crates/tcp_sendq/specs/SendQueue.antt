@@ -1,0 +1,155 @@
+-- The bytes that one end still keeps for its peer (RFC 9293, 3.3.1): a list of bytes, the oldest first,
+-- and the set of those that the peer has told to hold (RFC 2018, 4 and 5), as one flag for each byte.
+use Rattle.std.specs.Prelude.{◌≡◌, ℕ, zero, suc, ◌+◌, ◌-◌, ◌<◌, ◌≤◌, ◌⊎◌, min, Bool, true, false, not, ◌&&◌, ◌||◌, nat_lt, nat_le, if◌then◌else◌, List, [], ◌∷◌, ◌++◌, length, take, drop, replicate, slice_get, slice_index_or, count_by, Option, Some, None}
+use Rattle.std.specs.List.{range_with_len}
+
+pub record Queue : Type 0 where
+  pub capacity : ℕ
+  -- offered and not yet released
+  pub bytes : List ℕ
+  -- for each byte, whether it is marked
+  pub marks : List Bool
+
+abbrev pub empty : ℕ → Queue
+empty capacity = record { capacity = capacity; bytes = []; marks = [] }
+
+abbrev pub room : Queue → ℕ
+room q = q.capacity - length q.bytes
+
+-- how many bytes of a text the queue takes: the front that fits
+abbrev pub count_taken : Queue → List ℕ → ℕ
+count_taken q text = min (room q) (length text)
+
+abbrev pub offered : Queue → List ℕ → Queue
+offered q text = record q {
+  bytes = q.bytes ++ take (count_taken q text) text;
+  marks = q.marks ++ replicate (count_taken q text) false;
+}
+
+-- n bytes are acknowledged: they leave the front, with their marks (RFC 9293, 3.10.7.4)
+abbrev pub released : Queue → ℕ → Queue
+released q n = record q { bytes = drop n q.bytes; marks = drop n q.marks }
+
+-- ---- marks
+
+-- the place holds a byte, and it is marked
+abbrev pub IsMarked : Queue → ℕ → Type 0
+IsMarked q place = slice_get q.marks place ≡ Some true
+
+-- the place holds a byte, and it isn't marked
+abbrev pub IsUnmarked : Queue → ℕ → Type 0
+IsUnmarked q place = slice_get q.marks place ≡ Some false
+
+-- every place from the first number on and below the second is marked
+abbrev pub marked_between : ℕ → ℕ → List Bool → List Bool
+marked_between from to marks = take from marks ++ replicate (to - from) true ++ drop to marks
+
+-- How many runs there are, a run being a maximal interval of marked places: each has one place that is
+-- marked while the place before it isn't. The first argument tells of the place before the list.
+abbrev pub count_runs : Bool → List Bool → ℕ
+count_runs before [] = 0
+count_runs before (marked ∷ marks) = (if marked && not before then 1 else 0) + count_runs marked marks
+
+-- The same without a recursion. Whether a place is marked:
+abbrev pub is_marked : List Bool → ℕ → Bool
+is_marked marks place = slice_index_or marks place false
+
+-- whether the place before it is, which the first place lacks;
+abbrev pub follows_mark : List Bool → ℕ → Bool
+follows_mark marks zero = false
+follows_mark marks (suc place) = is_marked marks place
+
+-- whether a maximal interval of marked places begins there;
+abbrev pub begins_run : List Bool → ℕ → Bool
+begins_run marks place = is_marked marks place && not (follows_mark marks place)
+
+-- and at how many of all places one begins.
+abbrev pub runs_begun : List Bool → ℕ
+runs_begun marks = count_by (begins_run marks) (range_with_len 0 (length marks))
+
+-- the greatest number of runs that are kept apart
+abbrev pub most_runs : ℕ
+most_runs = 16
+
+-- whether the peer's report can be kept
+unfoldable pub can_mark : Queue → ℕ → ℕ → Bool
+can_mark q from to = nat_le (count_runs false (marked_between from to q.marks)) most_runs
+
+-- the peer told that it holds these bytes (RFC 2018, 5); what would make too many runs changes nothing
+unfoldable pub marked : Queue → ℕ → ℕ → Queue
+marked q from to = record q { marks = if can_mark q from to then marked_between from to q.marks else q.marks }
+
+-- a retransmission timeout forgets what the peer told (RFC 2018, 5)
+unfoldable pub unmarked : Queue → Queue
+unmarked q = record q { marks = replicate (length q.bytes) false }
+
+-- how many flags at the front are this one
+abbrev pub leading : Bool → List Bool → ℕ
+leading flag [] = 0
+leading true (true ∷ marks) = suc (leading true marks)
+leading true (false ∷ marks) = 0
+leading false (true ∷ marks) = 0
+leading false (false ∷ marks) = suc (leading false marks)
+
+-- the first unmarked place from at on, if there is one
+abbrev pub unmarked_from : Queue → ℕ → ℕ
+unmarked_from q at = at + leading true (drop at q.marks)
+
+-- that place, and the end of its run of unmarked places
+unfoldable pub next_unmarked : Queue → ℕ → Option (ℕ × ℕ)
+next_unmarked q at =
+    if nat_lt (unmarked_from q at) (length q.marks) then Some (unmarked_from q at, unmarked_from q at + leading false (drop (unmarked_from q at) q.marks)) else None
+
+-- the same as a relation: `run` is the first unmarked place from `at` on, and the end of its run
+pub record IsNextUnmarked (q : Queue) (at : ℕ) (run : ℕ × ℕ) : Type 0 where
+  pub from_at : at ≤ run.0
+  pub ordered : run.0 < run.1
+  pub within : run.1 ≤ length q.bytes
+  pub passed_over : (place : ℕ) → at ≤ place → place < run.0 → IsMarked q place
+  pub unmarked_run : (place : ℕ) → run.0 ≤ place → place < run.1 → IsUnmarked q place
+  -- the run is maximal: the queue ends there, or a marked place follows
+  pub maximal : (run.1 ≡ length q.bytes) ⊎ IsMarked q run.1
+
+-- no unmarked place is left from `at` on
+abbrev pub AllMarkedFrom : Queue → ℕ → Type 0
+AllMarkedFrom q at = (place : ℕ) → at ≤ place → place < length q.bytes → IsMarked q place
+
+-- the place after the greatest that is marked
+abbrev pub end_of_marks : List Bool → ℕ
+end_of_marks [] = 0
+end_of_marks (marked ∷ marks) = if nat_lt 0 (end_of_marks marks) || marked then suc (end_of_marks marks) else 0
+
+unfoldable pub last_mark_end : Queue → Option ℕ
+last_mark_end q = if nat_lt 0 (end_of_marks q.marks) then Some (end_of_marks q.marks) else None
+
+-- no place from this one on is marked
+abbrev pub NoneMarkedFrom : Queue → ℕ → Type 0
+NoneMarkedFrom q from = (place : ℕ) → from ≤ place → place < length q.bytes → IsUnmarked q place
+
+-- the same as a relation: the place before `end` is marked, and none from `end` on is
+pub record IsLastMarkEnd (q : Queue) (end : ℕ) : Type 0 where
+  pub within : end ≤ length q.bytes
+  pub positive : 0 < end
+  pub last_marked : IsMarked q (end - 1)
+  pub none_beyond : NoneMarkedFrom q end
+
+-- ---- what holds of every queue
+
+-- the greatest capacity, in bytes
+abbrev pub most_capacity : ℕ
+most_capacity = 1048576
+
+pub record IsQueue (q : Queue) : Type 0 where
+  pub least : 1 ≤ q.capacity
+  pub most : q.capacity ≤ most_capacity
+  pub within : length q.bytes ≤ q.capacity
+  -- one flag for each byte
+  pub flags : length q.marks ≡ length q.bytes
+  pub few_runs : count_runs false q.marks ≤ most_runs
+
+-- A queue and the room that its two stores have reserved. As long as both can hold the capacity, no call
+-- takes memory.
+pub record IsKept (queue : Queue) (room_for_bytes room_for_marks : ℕ) : Type 0 where
+  pub sound : IsQueue queue
+  pub bytes_reserved : queue.capacity ≤ room_for_bytes
+  pub marks_reserved : queue.capacity ≤ room_for_marks

@@ -1,0 +1,14 @@
+//! The bytes that one end of a TCP connection still keeps for its peer: those that were sent or wait to be
+//! sent, until an acknowledgement releases them (RFC 9293, 3.3.1), and which of them the peer has told to
+//! hold by selective acknowledgement (RFC 2018, 4 and 5).
+#![tactic(auto)]
+
+mod error;
+mod marks;
+mod queue;
+
+pub use error::QueueError;
+pub use queue::{MAX_CAPACITY, SendQueue};
+
+#[cfg(test)]
+mod tests;

@@ -1,0 +1,199 @@
+//! The send queue.
+ghost use Rattle.std.specs.Prelude.{◌≡◌, ℕ, ◌+◌, ◌<◌, ◌≤◌, ◌↔◌, ◌⊎◌, length, take, drop, IsTrue, IsFalse, IsNone, IfSome, IfOk, vec_capacity};
+ghost use Rattle.tcp_sendq.specs.SendQueue.{Queue, IsQueue, IsKept, IsMarked, empty, room, count_taken, offered, released, marked_between, runs_begun, most_runs, most_capacity, can_mark, marked, unmarked, next_unmarked, IsNextUnmarked, AllMarkedFrom, last_mark_end, IsLastMarkEnd, NoneMarkedFrom};
+
+use crate::error::QueueError;
+use crate::marks;
+use std::alloc::{Allocator, Global};
+use std::marker::Model;
+
+/// The greatest capacity of a queue, in bytes.
+pub const MAX_CAPACITY: usize = 1_048_576;
+
+/// The greatest number of runs of marked bytes that are kept apart.
+const MAX_RUNS: usize = 16;
+
+/// The bytes offered and not yet released, oldest first, of which some are marked: the peer has told to
+/// hold them. A place is counted from the oldest byte, which stands at 0.
+#[derive(Drop)]
+pub struct SendQueue<A: Allocator = Global> {
+    /// From 1 to [`MAX_CAPACITY`]; both vectors have room for as many.
+    capacity: usize,
+    bytes: Vec<u8, A>,
+    /// For each byte, whether it is marked.
+    marks: Vec<bool, A>,
+}
+
+impl<A: Allocator> Model for SendQueue<A> {
+    ghost Value = { Queue };
+
+    ghost view = { λ q. record { capacity = q.capacity; bytes = q.bytes.items; marks = q.marks.items } };
+
+    ghost invariant = { λ q. IsKept (record { capacity = q.capacity; bytes = q.bytes.items; marks = q.marks.items }) (vec_capacity q.bytes) (vec_capacity q.marks) };
+}
+
+impl SendQueue {
+    /// An empty queue of `capacity` bytes, whose memory is taken now: no later call takes any.
+    pub fn new(alloc: Global, capacity: usize) -> Result<Self, QueueError>
+        ensures empty { IfOk result (λ q. q ≡ empty capacity) }
+        ensures sound { IfOk result IsQueue }
+        ensures bad_capacity { (result ≡ Err QueueError.BadCapacity) ↔ ((capacity < 1) ⊎ (most_capacity < capacity)) }
+    {
+        Self::new_in(alloc, capacity)
+    }
+}
+
+impl<A: Allocator + Copy> SendQueue<A> {
+    /// An empty queue of `capacity` bytes, whose memory is taken from `alloc` now: no later call takes any.
+    pub fn new_in(alloc: A, capacity: usize) -> Result<Self, QueueError>
+        ensures empty { IfOk result (λ q. q ≡ empty capacity) }
+        ensures sound { IfOk result IsQueue }
+        ensures bad_capacity { (result ≡ Err QueueError.BadCapacity) ↔ ((capacity < 1) ⊎ (most_capacity < capacity)) }
+    {
+        if capacity < 1 || capacity > MAX_CAPACITY {
+            return Err(QueueError::BadCapacity);
+        }
+        let Ok(bytes) = Vec::with_capacity(alloc, capacity) else {
+            return Err(QueueError::NoMemory);
+        };
+        let Ok(marks) = Vec::with_capacity(alloc, capacity) else {
+            return Err(QueueError::NoMemory);
+        };
+        Ok(SendQueue {
+            capacity,
+            bytes,
+            marks,
+        })
+    }
+}
+
+impl<A: Allocator> SendQueue<A> {
+    /// How many bytes are queued.
+    pub fn len(&self) -> usize
+        ensures value { result ≡ length self.now.bytes }
+        ensures sound { IsQueue self.now }
+    {
+        self.bytes.len()
+    }
+
+    /// Whether no byte is queued.
+    pub fn is_empty(&self) -> bool
+        ensures value { IsTrue result ↔ (length self.now.bytes ≡ 0) }
+        ensures sound { IsQueue self.now }
+    {
+        self.bytes.is_empty()
+    }
+
+    /// The most bytes that can be queued at a time.
+    pub fn capacity(&self) -> usize
+        ensures value { result ≡ self.now.capacity }
+        ensures sound { IsQueue self.now }
+    {
+        self.capacity
+    }
+
+    /// How many more bytes the queue takes.
+    pub fn room(&self) -> usize
+        ensures value { result ≡ room self.now }
+        ensures sound { IsQueue self.now }
+    {
+        self.capacity - self.bytes.len()
+    }
+
+    /// Appends the front of `text` that fits, unmarked, and answers its length.
+    pub fn offer(&mut self, text: &[u8]) -> usize
+        ensures count { result ≡ count_taken self.old text.now }
+        ensures state { self.new ≡ offered self.old text.now }
+        ensures sound { IsQueue self.new }
+    {
+        let count = text.len().min(self.capacity - self.bytes.len());
+        let _ = self.bytes.extend_from_slice(&text[..count]);
+        marks::append_unmarked(&mut self.marks, count);
+        count
+    }
+
+    /// Takes the oldest `n` bytes and their marks away (RFC 9293, 3.10.7.4).
+    pub fn release(&mut self, n: usize)
+        requires { n ≤ length self.old.bytes }
+        ensures state { self.new ≡ released self.old n }
+        ensures sound { IsQueue self.new }
+    {
+        let rest = self.bytes.len() - n;
+        self.bytes.rotate_left(n);
+        self.bytes.truncate(rest);
+        self.marks.rotate_left(n);
+        self.marks.truncate(rest);
+    }
+
+    /// Fills `out` with the bytes from the place `at` on.
+    pub fn copy(&self, at: usize, out: &mut [u8])
+        requires { at + length out.old ≤ length self.now.bytes }
+        ensures { out.new ≡ take (length out.old) (drop at self.now.bytes) }
+    {
+        let rest = &self.bytes[at..];
+        out.copy_from_slice(&rest[..out.len()]);
+    }
+
+    /// Marks the places from `from` on and below `to`, unless more than 16 runs would then be marked:
+    /// false, with nothing changed (RFC 2018, 5).
+    #[tactic(auto, using(crate::proofs::Runs::runs_begun_is), unfolding(crate::specs::SendQueue::can_mark, crate::specs::SendQueue::marked))]
+    pub fn mark(&mut self, from: usize, to: usize) -> bool
+        requires ordered { from < to }
+        requires within { to ≤ length self.old.bytes }
+        ensures value { result ≡ can_mark self.old from to }
+        ensures state { self.new ≡ marked self.old from to }
+        ensures refused { IsFalse result → self.new ≡ self.old }
+        ensures runs { IsTrue result ↔ (runs_begun (marked_between from to self.old.marks) ≤ most_runs) }
+        ensures places { IsTrue result → (place : ℕ) → IsMarked self.new place ↔ (IsMarked self.old place ⊎ ((from ≤ place) × (place < to))) }
+        ensures sound { IsQueue self.new }
+    {
+        if marks::runs_with(&self.marks, from, to) > MAX_RUNS {
+            return false;
+        }
+        marks::set_between(&mut self.marks, from, to);
+        true
+    }
+
+    /// Takes every mark away (RFC 2018, 5).
+    #[tactic(auto, using(crate::proofs::Runs::runs), unfolding(crate::specs::SendQueue::unmarked))]
+    pub fn forget_marks(&mut self)
+        ensures state { self.new ≡ unmarked self.old }
+        ensures sound { IsQueue self.new }
+    {
+        self.marks.fill(false);
+    }
+
+    /// The first unmarked place from `at` on, and the end of its run of unmarked places; none where every
+    /// place from `at` on is marked.
+    #[tactic(auto, using(crate::proofs::Places::next_some, crate::proofs::Places::next_none, crate::proofs::Places::is_next_unmarked, crate::proofs::Places::all_marked, crate::proofs::Places::not_all_marked, std::proofs::lemmas::List::take_rest))]
+    pub fn next_unmarked(&self, at: usize) -> Option<(usize, usize)>
+        ensures value { result ≡ next_unmarked self.now at }
+        ensures first { IfSome result (IsNextUnmarked self.now at) }
+        ensures none { IsNone result ↔ AllMarkedFrom self.now at }
+        ensures sound { IsQueue self.now }
+    {
+        if at >= self.marks.len() {
+            return None;
+        }
+        let from = at + marks::count_leading(true, &self.marks[at..]);
+        if from >= self.marks.len() {
+            return None;
+        }
+        Some((
+            from,
+            from + marks::count_leading(false, &self.marks[from..]),
+        ))
+    }
+
+    /// The place after the last that is marked; none where no place is.
+    #[tactic(auto, using(crate::proofs::Places::last_some, crate::proofs::Places::last_none, crate::proofs::Places::is_last_mark_end, crate::proofs::Places::none_marked, crate::proofs::Places::not_none_marked))]
+    pub fn last_mark_end(&self) -> Option<usize>
+        ensures value { result ≡ last_mark_end self.now }
+        ensures last { IfSome result (IsLastMarkEnd self.now) }
+        ensures none { IsNone result ↔ NoneMarkedFrom self.now 0 }
+        ensures sound { IsQueue self.now }
+    {
+        let end = marks::end_of_marks(&self.marks);
+        if end > 0 { Some(end) } else { None }
+    }
+}

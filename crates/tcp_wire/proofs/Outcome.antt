@@ -1,0 +1,60 @@
+-- What `decode` answers, from what its function computes.
+use Rattle.std.proofs.Common.{◌≡◌, ℕ, List, Result, Ok, Err, sym, ap, subst, ◌∙◌}
+use Rattle.std.specs.Prelude.{◌↔◌, MatchResult, IsOkAnd}
+use Rattle.tcp_wire.specs.declared.fault.DecodeError.{DecodeError}
+use Rattle.tcp_wire.specs.declared.fault.DecodeError.TheVariants.{BadChecksum}
+use Rattle.tcp_wire.specs.declared.segment.Segment.{Segment}
+use Rattle.tcp_wire.specs.Checksum.{AreBytes, DiffersInOnePlace}
+use Rattle.tcp_wire.specs.Wire.{Content, IsWire}
+use Rattle.tcp_wire.specs.Fault.{FirstFault}
+use Rattle.tcp_wire.specs.Decoded.{decoded}
+use Rattle.tcp_wire.specs.View.{content}
+use Rattle.tcp_wire.proofs.Reading.{Explains, explained, complete, faulty, damaged}
+
+abbrev Value : Content → Result Content DecodeError
+Value v = Ok v
+
+abbrev Fault : DecodeError → Result Content DecodeError
+Fault e = Err e
+
+-- the answer is what the function computes
+abbrev pub Computes : Result Content DecodeError → Result Segment DecodeError → Type 0
+Computes read r = MatchResult r (λ s. read ≡ Ok (content s)) (λ e. read ≡ Err e)
+
+same_value : (v w : Content) → Value v ≡ Value w → v ≡ w
+same_value v w e = cc
+
+same_fault : (d e : DecodeError) → Fault d ≡ Fault e → d ≡ e
+same_fault d e h = cc
+
+failed : DecodeError → Result Segment DecodeError
+failed e = Err e
+
+pub value_of : (src dst bytes : List ℕ) (r : Result Segment DecodeError) → AreBytes bytes → Computes (decoded src dst bytes) r
+    → (v : Content) → IsOkAnd r (λ s. content s ≡ v) ↔ IsWire src dst v bytes
+value_of src dst bytes (Ok s) fits read v = (
+  (λ e. subst (λ (x : Content). IsWire src dst x bytes) e (subst (Explains src dst bytes) read (explained src dst bytes fits))),
+  (λ w. same_value (content s) v (sym read ∙ complete src dst v bytes w)),
+)
+value_of src dst bytes (Err e) fits read v = (
+  (λ none. absurd none),
+  (λ w. let clash : Fault e ≡ Value v = sym read ∙ complete src dst v bytes w in absurd cc),
+)
+
+pub fault_of : (src dst bytes : List ℕ) (r : Result Segment DecodeError) → AreBytes bytes → Computes (decoded src dst bytes) r
+    → (e : DecodeError) → (r ≡ Err e) ↔ FirstFault src dst bytes e
+fault_of src dst bytes (Ok s) fits read e = (
+  (λ h. absurd cc),
+  (λ f. let clash : Value (content s) ≡ Fault e = sym read ∙ faulty src dst bytes e fits f in absurd cc),
+)
+fault_of src dst bytes (Err d) fits read e = (
+  (λ h. let same : d ≡ e = cc in subst (λ (x : DecodeError). FirstFault src dst bytes x) same (subst (Explains src dst bytes) read (explained src dst bytes fits))),
+  (λ f. ap (λ (x : DecodeError). Err x) (same_fault d e (sym read ∙ faulty src dst bytes e fits f))),
+)
+
+pub damaged_of : (src dst : List ℕ) (v : Content) (sent bytes : List ℕ) (r : Result Segment DecodeError) → Computes (decoded src dst bytes) r
+    → IsWire src dst v sent → DiffersInOnePlace sent bytes → r ≡ Err BadChecksum
+damaged_of src dst v sent bytes (Ok s) read w d =
+    let clash : Value (content s) ≡ Fault BadChecksum = sym read ∙ damaged src dst v sent bytes w d in absurd cc
+damaged_of src dst v sent bytes (Err e) read w d =
+    ap (λ (x : DecodeError). Err x) (same_fault e BadChecksum (sym read ∙ damaged src dst v sent bytes w d))

@@ -1,0 +1,55 @@
+-- What stands in `out` after a write behind what was written before.
+use Rattle.std.proofs.Common.{◌≡◌, ℕ, ◌+◌, ◌-◌, List, [], ◌++◌, length, take, drop, refl, sym, append_assoc, ap, ◌∙◌, arith}
+use Rattle.std.proofs.lemmas.List.{take_at, drop_at, drop-drop, take_rest, drop_all, append-nil, length-drop}
+use Rattle.byteorder.specs.Endian.{big_bytes}
+use Rattle.tcp_wire.specs.Checksum.{field}
+use Rattle.tcp_wire.specs.Wire.{Content, wire_length, spelled, encoded}
+use Rattle.tcp_wire.proofs.Writing.{length_spelled}
+use borrow.Rule.Slice.PartMut.{put_mid}
+
+-- a part behind a front
+pub put_behind : (a k : ℕ) (front old out part : List ℕ) → out ≡ front ++ old → length front ≡ a → put_mid a k out part ≡ front ++ (part ++ drop k old)
+put_behind a k front old out part is len = rw (is, take_at front old a len, drop_at front old a len) refl
+
+-- a part that ends in what stood there, behind a front of what is written
+pub written_behind : (a k n : ℕ) (front old out part X : List ℕ) → out ≡ front ++ drop a old → length front ≡ a → k ≡ length out - a
+    → part ≡ X ++ drop n (take k (drop a out)) → put_mid a k out part ≡ (front ++ X) ++ drop (a + n) old
+written_behind a k n front old out part X is len klen part_is =
+    let whole : take k (drop a out) ≡ drop a out = ap (λ (m : ℕ). take m (drop a out)) klen ∙ take_rest out a in
+    let behind : drop a out ≡ drop a old = ap (drop a) is ∙ drop_at front (drop a old) a len in
+    let none : drop k (drop a old) ≡ [] = drop_all k (drop a old) (omega (arith, klen, ap length (sym behind), length-drop a out)) in
+    let part' : part ≡ X ++ drop (a + n) old = part_is ∙ ap (λ (xs : List ℕ). X ++ drop n xs) (whole ∙ behind) ∙ ap (λ (xs : List ℕ). X ++ xs) (drop-drop n a old) in
+    put_behind a k front (drop a old) out part is len
+    ∙ ap (λ (xs : List ℕ). front ++ (part ++ xs)) none
+    ∙ ap (λ (xs : List ℕ). front ++ xs) (append-nil part ∙ part')
+    ∙ sym (append_assoc front X (drop (a + n) old))
+
+-- a part of its own length, behind a front
+pub filled_behind : (a k : ℕ) (front old out part : List ℕ) → out ≡ front ++ drop a old → length front ≡ a → put_mid a k out part ≡ (front ++ part) ++ drop (a + k) old
+filled_behind a k front old out part is len =
+    put_behind a k front (drop a old) out part is len
+    ∙ ap (λ (xs : List ℕ). front ++ (part ++ xs)) (drop-drop k a old)
+    ∙ sym (append_assoc front part (drop (a + k) old))
+
+drop_past : (k : ℕ) (xs out : List ℕ) → xs ≡ drop 16 out → k ≡ length out - 16 → drop k xs ≡ []
+drop_past k xs out is len = drop_all k xs (omega (arith, ap length is, length-drop 16 out))
+
+pub field_written : (v : Content) (f : ℕ) (rest out part : List ℕ) (k : ℕ) → out ≡ spelled v 0 ++ rest → k ≡ length out - 16
+    → part ≡ big_bytes 2 f ++ drop 2 (take k (drop 16 out)) → put_mid 16 k out part ≡ spelled v f ++ rest
+field_written v f rest out part k is len part_is =
+    let behind : take k (drop 16 out) ≡ drop 16 out = ap (λ (n : ℕ). take n (drop 16 out)) len ∙ take_rest out 16 in
+    let past : drop k (drop 16 out) ≡ [] = drop_past k (drop 16 out) out refl len in
+    let part' : part ≡ big_bytes 2 f ++ drop 18 (spelled v 0 ++ rest) = part_is ∙ ap (λ (xs : List ℕ). big_bytes 2 f ++ drop 2 xs) (behind ∙ ap (drop 16) is) in
+    ap (λ (xs : List ℕ). take 16 out ++ (part ++ xs)) past
+    ∙ ap (λ (xs : List ℕ). take 16 out ++ xs) (append-nil part)
+    ∙ ap (λ (xs : List ℕ). take 16 out ++ xs) part'
+    ∙ ap (λ (xs : List ℕ). take 16 xs ++ (big_bytes 2 f ++ drop 18 (spelled v 0 ++ rest))) is
+
+pub encoded_written : (src dst : List ℕ) (v : Content) (f n : ℕ) (rest out part whole : List ℕ) (k : ℕ) → n ≡ wire_length v → out ≡ spelled v 0 ++ rest
+    → f ≡ field src dst whole → whole ≡ take n out
+    → k ≡ length out - 16 → part ≡ big_bytes 2 f ++ drop 2 (take k (drop 16 out)) → put_mid 16 k out part ≡ encoded src dst v ++ rest
+unfolding encoded
+encoded_written src dst v f n rest out part whole k len is field_is whole_is klen part_is =
+    let same : whole ≡ spelled v 0 = whole_is ∙ ap (take n) is ∙ take_at (spelled v 0) rest n (length_spelled v 0 ∙ sym len) in
+    field_written v f rest out part k is klen part_is
+    ∙ ap (λ (g : ℕ). spelled v g ++ rest) (field_is ∙ ap (field src dst) same)

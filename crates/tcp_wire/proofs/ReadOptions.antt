@@ -1,0 +1,60 @@
+-- Options, read one behind the other.
+use Rattle.std.proofs.Common.{◌≡◌, ℕ, suc, ◌+◌, ◌-◌, ◌≤◌, List, [], ◌∷◌, ◌++◌, length, map, Some, None, Ok, Err, sym, ap, ◌∙◌, arith}
+use Rattle.std.proofs.lemmas.List.{map_push, length-append}
+use Rattle.tcp_wire.specs.declared.fault.DecodeError.{DecodeError}
+use Rattle.tcp_wire.specs.declared.option.TcpOption.{TcpOption}
+use Rattle.tcp_wire.specs.Options.{OptionContent, spelling}
+use Rattle.tcp_wire.specs.Decoded.{option_at, padding_at, options_in}
+use Rattle.tcp_wire.specs.View.{option_content}
+use Rattle.tcp_wire.proofs.OptionLaws.{option_length, spelling_length}
+use Rattle.tcp_wire.proofs.AreaLaws.{with_all, with_all-nil, options_more, options_end, options_padded, options_failed}
+
+-- what was read and what is still to be read give the whole, and there is room for an option a byte
+abbrev pub OptionsRead : List TcpOption → List ℕ → List ℕ → Type 0
+OptionsRead options rest area =
+    (with_all (map option_content options) (options_in (40 - length options) (20 + (length area - length rest)) rest) ≡ options_in 40 20 area)
+    × (length options + length rest ≤ length area)
+
+pub options_start : (options : List TcpOption) (area : List ℕ) → options ≡ [] → OptionsRead options area area
+options_start options area none =
+    let place : 20 + (length area - length area) ≡ 20 = omega arith in
+    let len : length options ≡ 0 = ap length none in
+    let fuel : 40 - length options ≡ 40 = omega arith in (
+      ap (λ (os : List TcpOption). with_all (map option_content os) (options_in (40 - length options) (20 + (length area - length area)) area)) none
+          ∙ with_all-nil (options_in (40 - length options) (20 + (length area - length area)) area)
+          ∙ ap (λ (n : ℕ). options_in n (20 + (length area - length area)) area) fuel
+          ∙ ap (λ (n : ℕ). options_in 40 n area) place,
+      omega arith,
+    )
+
+pub options_step : (options pushed : List TcpOption) (o : TcpOption) (rest behind area : List ℕ) → length area ≤ 40 → option_at rest ≡ Some (option_content o, behind)
+    → pushed ≡ options ++ o ∷ [] → OptionsRead options rest area → OptionsRead pushed behind area
+options_step options pushed o rest behind area small found pushed_is before =
+    let len = option_length rest (option_content o) behind found in
+    let least = spelling_length (option_content o) in
+    let count : length pushed ≡ length options + 1 = ap length pushed_is ∙ length-append options (o ∷ []) in
+    let room = before.1 in
+    let fuel : 40 - length options ≡ suc (40 - length pushed) = omega arith in
+    let place : 20 + (length area - length rest) + length (spelling (option_content o)) ≡ 20 + (length area - length behind) = omega arith in
+    let total = options_in 40 20 area in
+    let start : with_all (map option_content options) (options_in (suc (40 - length pushed)) (20 + (length area - length rest)) rest) ≡ total =
+    sym (ap (λ (n : ℕ). with_all (map option_content options) (options_in n (20 + (length area - length rest)) rest)) fuel) ∙ before.0 in
+    let step = options_more (40 - length pushed) (20 + (length area - length rest)) (map option_content options) (option_content o) rest behind total found start in
+    let mapped : map option_content pushed ≡ map option_content options ++ option_content o ∷ [] = ap (map option_content) pushed_is ∙ map_push option_content options o in (
+      ap (λ (os : List OptionContent). with_all os (options_in (40 - length pushed) (20 + (length area - length behind)) behind)) mapped
+          ∙ sym (ap (λ (n : ℕ). with_all (map option_content options ++ option_content o ∷ []) (options_in (40 - length pushed) n behind)) place)
+          ∙ step,
+      omega arith,
+    )
+
+pub options_done : (options : List TcpOption) (rest area : List ℕ) (pad : ℕ) → option_at rest ≡ None → OptionsRead options rest area
+    → padding_at (20 + (length area - length rest)) rest ≡ Ok ([], pad) → options_in 40 20 area ≡ Ok (map option_content options, pad)
+options_done options rest area pad none before pads =
+    let place : ℕ = 20 + (length area - length rest) in
+    options_padded place pad (map option_content options) rest (options_in 40 20 area) (options_end (40 - length options) place (map option_content options) rest (options_in 40 20 area) none before.0) pads
+
+pub options_fault : (options : List TcpOption) (rest area : List ℕ) (e : DecodeError) → option_at rest ≡ None → OptionsRead options rest area
+    → padding_at (20 + (length area - length rest)) rest ≡ Err e → options_in 40 20 area ≡ Err e
+options_fault options rest area e none before fails =
+    let place : ℕ = 20 + (length area - length rest) in
+    options_failed place e (map option_content options) rest (options_in 40 20 area) (options_end (40 - length options) place (map option_content options) rest (options_in 40 20 area) none before.0) fails

@@ -1,0 +1,64 @@
+-- Options and blocks, written one behind the other.
+use Rattle.std.proofs.Common.{◌≡◌, ℕ, ◌+◌, ◌-◌, ◌*◌, ◌<◌, ◌≤◌, List, ◌++◌, length, take, drop, map, get_or, sym, ap, ◌∙◌, length-append, append_assoc, arith}
+use Rattle.std.specs.List.{flat_map}
+use Rattle.std.proofs.lemmas.List.{map_more, length-map, length-take-le, take-append-drop, drop_at}
+use Rattle.tcp_wire.specs.declared.seq.Seq.{Seq}
+use Rattle.tcp_wire.specs.declared.option.TcpOption.{TcpOption}
+use Rattle.tcp_wire.specs.Options.{block_bytes, spelling, spellings}
+use Rattle.tcp_wire.specs.Wire.{Content, option_bytes, wire_length, header, spelled}
+use Rattle.tcp_wire.specs.View.{block, option_content}
+use Rattle.tcp_wire.proofs.OptionLaws.{blocks_bytes_length, blocks_push, spellings_push}
+use Rattle.tcp_wire.proofs.Places.{written_behind, filled_behind}
+use borrow.Rule.Slice.PartMut.{put_mid}
+
+pub blocks_written : (blocks : List (Seq × Seq)) (i k : ℕ) (d : Seq × Seq) (old out part : List ℕ) → i < length blocks → k ≡ length out - 8 * i
+    → part ≡ block_bytes (block (get_or blocks i d)) ++ drop 8 (take k (drop (8 * i) out))
+    → out ≡ flat_map block_bytes (map block (take i blocks)) ++ drop (8 * i) old
+    → put_mid (8 * i) k out part ≡ flat_map block_bytes (map block (take (i + 1) blocks)) ++ drop (8 * (i + 1)) old
+blocks_written blocks i k d old out part inside len part_is before =
+    let front : List ℕ = flat_map block_bytes (map block (take i blocks)) in
+    let front_len : length front ≡ 8 * i = omega (arith, blocks_bytes_length (map block (take i blocks)), length-map (take i blocks) block, length-take-le i blocks (omega arith)) in
+    let next : 8 * i + 8 ≡ 8 * (i + 1) = omega arith in
+    let more : flat_map block_bytes (map block (take (i + 1) blocks)) ≡ front ++ block_bytes (block (get_or blocks i d)) =
+    ap (flat_map block_bytes) (map_more block blocks i d inside) ∙ blocks_push (map block (take i blocks)) (block (get_or blocks i d)) in
+    written_behind (8 * i) k 8 front old out part (block_bytes (block (get_or blocks i d))) before front_len len part_is
+    ∙ ap (λ (xs : List ℕ). xs ++ drop (8 * i + 8) old) (sym more)
+    ∙ ap (λ (n : ℕ). flat_map block_bytes (map block (take (i + 1) blocks)) ++ drop n old) next
+
+abbrev pub OptionsWritten : List TcpOption → ℕ → ℕ → List ℕ → List ℕ → Type 0
+OptionsWritten options i at old out = (out ≡ spellings (map option_content (take i options)) ++ drop at old) × (at ≡ length (spellings (map option_content (take i options))))
+
+pub options_written : (options : List TcpOption) (i at k n : ℕ) (o : TcpOption) (old out part : List ℕ) → i < length options → o ≡ get_or options i o → k ≡ length out - at
+    → n ≡ length (spelling (option_content o)) → part ≡ spelling (option_content o) ++ drop (length (spelling (option_content o))) (take k (drop at out))
+    → OptionsWritten options i at old out → OptionsWritten options (i + 1) (at + n) old (put_mid at k out part)
+options_written options i at k n o old out part inside is len n_is part_is before =
+    let front : List ℕ = spellings (map option_content (take i options)) in
+    let more : spellings (map option_content (take (i + 1) options)) ≡ front ++ spelling (option_content o) =
+    ap spellings (map_more option_content options i o inside) ∙ spellings_push (map option_content (take i options)) (option_content (get_or options i o))
+    ∙ ap (λ (x : TcpOption). front ++ spelling (option_content x)) (sym is) in (
+      written_behind at k (length (spelling (option_content o))) front old out part (spelling (option_content o)) before.0 (sym before.1) len part_is
+          ∙ ap (λ (xs : List ℕ). xs ++ drop (at + length (spelling (option_content o))) old) (sym more)
+          ∙ ap (λ (m : ℕ). spellings (map option_content (take (i + 1) options)) ++ drop (at + m) old) (sym n_is),
+      omega (arith, before.1, n_is, ap length more, length-append front (spelling (option_content o))),
+    )
+
+-- the whole segment: options and padding, then the header in front, then the text
+pub whole_written : (v : Content) (len k kt : ℕ) (old one area two text : List ℕ) → 20 ≤ length old → k ≡ length old - 20 → len ≡ length (option_bytes v)
+    → area ≡ option_bytes v ++ drop (length (option_bytes v)) (take k (drop 20 old)) → one ≡ put_mid 20 k old area
+    → two ≡ header v 0 ++ drop 20 one → text ≡ v.text → kt ≡ length v.text
+    → put_mid (20 + len) kt two text ≡ spelled v 0 ++ drop (wire_length v) old
+whole_written v len k kt old one area two text room klen len_is area_is one_is two_is text_is text_len =
+    let L : ℕ = length (option_bytes v) in
+    let front : List ℕ = take 20 old in
+    let front_len : length front ≡ 20 = length-take-le 20 old room in
+    let first : one ≡ (front ++ option_bytes v) ++ drop (20 + L) old =
+    one_is ∙ written_behind 20 k L front old old area (option_bytes v) (sym (take-append-drop 20 old)) front_len klen area_is in
+    let behind : drop 20 one ≡ option_bytes v ++ drop (20 + L) old =
+    ap (drop 20) (first ∙ append_assoc front (option_bytes v) (drop (20 + L) old)) ∙ drop_at front (option_bytes v ++ drop (20 + L) old) 20 front_len in
+    let second : two ≡ (header v 0 ++ option_bytes v) ++ drop (20 + L) old =
+    two_is ∙ ap (λ (xs : List ℕ). header v 0 ++ xs) behind in
+    let second' : two ≡ (header v 0 ++ option_bytes v) ++ drop (20 + len) old = second ∙ ap (λ (n : ℕ). (header v 0 ++ option_bytes v) ++ drop (20 + n) old) (sym len_is) in
+    let total : 20 + len + kt ≡ wire_length v = omega arith in
+    filled_behind (20 + len) kt (header v 0 ++ option_bytes v) old two text second' (omega (arith, len_is))
+    ∙ ap (λ (n : ℕ). ((header v 0 ++ option_bytes v) ++ text) ++ drop n old) total
+    ∙ ap (λ (xs : List ℕ). ((header v 0 ++ option_bytes v) ++ xs) ++ drop (wire_length v) old) text_is

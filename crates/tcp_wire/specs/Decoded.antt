@@ -1,0 +1,102 @@
+-- Reading a segment from its bytes, as a function.
+use Rattle.std.specs.Prelude.{ℕ, zero, suc, ◌+◌, ◌-◌, ◌*◌, ◌/◌, ◌%◌, ◌==◌, ◌||◌, nat_lt, if◌then◌else◌, List, [], ◌∷◌, length, take, drop, slice_index, Option, Some, None, Result, Ok, Err}
+use Rattle.byteorder.specs.Endian.{big_from}
+use Rattle.tcp_wire.specs.declared.fault.DecodeError.{DecodeError}
+use Rattle.tcp_wire.specs.declared.fault.DecodeError.TheVariants.{TooShort, TooLong, BadChecksum, BadOffset, BadOption, BadPadding}
+use Rattle.tcp_wire.specs.Checksum.{segment_sum}
+use Rattle.tcp_wire.specs.Options.{OptionContent, Nop, Mss, WindowScale, SackPermitted, Sack, Unknown, spelling, has_own_length}
+use Rattle.tcp_wire.specs.Wire.{Content, data_offset, option_area}
+
+-- the header's fields at their places, with these options and this padding
+abbrev pub content_at : List ℕ → List OptionContent → ℕ → Content
+content_at bytes options pad = record {
+  src_port = big_from 0 2 bytes;
+  dst_port = big_from 2 2 bytes;
+  seq = big_from 4 4 bytes;
+  ack = big_from 8 4 bytes;
+  reserved = slice_index bytes 12 % 16;
+  flags = slice_index bytes 13;
+  window = big_from 14 2 bytes;
+  urgent = big_from 18 2 bytes;
+  options = options;
+  pad = pad;
+  text = drop (4 * data_offset bytes) bytes;
+}
+
+-- one value or another, by whether there is one
+abbrev pub with_option : {A B : Type 0} → Option A → B → (A → B) → B
+with_option None none some = none
+with_option (Some x) none some = some x
+
+-- this many blocks of eight bytes
+abbrev pub blocks_in : ℕ → List ℕ → List (ℕ × ℕ)
+blocks_in zero body = []
+blocks_in (suc n) body = (big_from 0 4 body, big_from 4 4 body) ∷ blocks_in n (drop 8 body)
+
+-- an option of a known kind and its own length
+abbrev pub known_option : ℕ → List ℕ → OptionContent
+known_option kind body =
+    if kind == 2 then Mss (big_from 0 2 body)
+    else (if kind == 3 then WindowScale (slice_index body 0)
+    else (if kind == 4 then SackPermitted
+    else Sack (blocks_in (length body / 8) body)))
+
+-- the option of this kind with these bytes behind its length byte
+abbrev pub option_of : ℕ → List ℕ → OptionContent
+option_of kind body =
+    if has_own_length kind (length body + 2) then known_option kind body else Unknown kind body
+
+-- the option whose spelling begins these bytes, and the bytes behind it
+unfoldable pub option_at : List ℕ → Option (OptionContent × List ℕ)
+option_at [] = None
+option_at (zero ∷ rest) = None
+option_at (suc zero ∷ rest) = Some (Nop, rest)
+option_at (suc (suc k) ∷ []) = None
+option_at (suc (suc k) ∷ len ∷ rest) =
+    if nat_lt len 2 || nat_lt (length rest + 2) len then None
+    else Some (option_of (suc (suc k)) (take (len - 2) rest), drop (len - 2) rest)
+
+-- how many zeros stand in front
+abbrev pub zeros : List ℕ → ℕ
+zeros [] = 0
+zeros (zero ∷ rest) = suc (zeros rest)
+zeros (suc b ∷ rest) = 0
+
+-- what stands where no further option is spelled, in bytes that begin at this place: padding, or a fault
+unfoldable pub padding_at : ℕ → List ℕ → Result (List OptionContent × ℕ) DecodeError
+padding_at place [] = Ok ([], 0)
+padding_at place (zero ∷ rest) =
+    if zeros (zero ∷ rest) == length (zero ∷ rest) then Ok ([], length (zero ∷ rest))
+    else Err (BadPadding (place + zeros (zero ∷ rest)))
+padding_at place (suc b ∷ rest) = Err (BadOption place)
+
+-- an option in front of what was read behind it
+abbrev pub with_first : OptionContent → Result (List OptionContent × ℕ) DecodeError → Result (List OptionContent × ℕ) DecodeError
+with_first option (Ok read) = Ok (option ∷ read.0, read.1)
+with_first option (Err e) = Err e
+
+-- up to this many options in bytes that begin at this place, and the count of zeros behind them
+unfoldable pub options_in : ℕ → ℕ → List ℕ → Result (List OptionContent × ℕ) DecodeError
+options_in zero place bytes = padding_at place bytes
+options_in (suc n) place bytes =
+    with_option (option_at bytes) (padding_at place bytes)
+    (λ found. with_first found.0 (options_in n (place + length (spelling found.0)) found.1))
+
+abbrev pub with_options : List ℕ → Result (List OptionContent × ℕ) DecodeError → Result Content DecodeError
+with_options bytes (Ok read) = Ok (content_at bytes read.0 read.1)
+with_options bytes (Err e) = Err e
+
+-- Behind the length and the checksum: the data offset, then options and padding, then what the segment
+-- says. An option takes a byte or more, and there are at most 40.
+unfoldable pub laid_out : List ℕ → Result Content DecodeError
+laid_out bytes =
+    if nat_lt (data_offset bytes) 5 || nat_lt (length bytes) (4 * data_offset bytes) then Err BadOffset
+    else with_options bytes (options_in 40 20 (option_area bytes))
+
+-- what the bytes say between these addresses, or why they are no segment
+unfoldable pub decoded : List ℕ → List ℕ → List ℕ → Result Content DecodeError
+decoded src dst bytes =
+    if nat_lt (length bytes) 20 then Err TooShort
+    else (if nat_lt 65515 (length bytes) then Err TooLong
+    else (if segment_sum src dst bytes % 65535 == 0 then laid_out bytes
+    else Err BadChecksum))

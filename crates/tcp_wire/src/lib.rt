@@ -1,0 +1,27 @@
+//! TCP segments over IPv4 (RFC 9293, 3.1): sequence numbers, the checksum, and segments as bytes.
+#![tactic(auto)]
+
+mod addr;
+mod decoding;
+mod encoding;
+mod fault;
+mod flags;
+mod option;
+mod option_reading;
+mod option_writing;
+mod segment;
+mod seq;
+mod sums;
+
+pub use addr::Addr;
+pub use decoding::decode;
+pub use encoding::encode;
+pub use fault::DecodeError;
+pub use flags::Flags;
+pub use option::TcpOption;
+pub use segment::Segment;
+pub use seq::Seq;
+pub use sums::{checks, checksum};
+
+#[cfg(test)]
+mod tests;

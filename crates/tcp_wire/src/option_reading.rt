@@ -1,0 +1,97 @@
+ghost use Rattle.std.specs.Prelude.{◌≡◌, ◌↔◌, ◌+◌, ◌*◌, ◌/◌, ◌<◌, ◌≤◌, List, [], length, map, Ok, Err, Some, None, IsTrue, IfSome, MatchOption, MatchResult};
+ghost use Rattle.tcp_wire.specs.Options.{has_own_length};
+ghost use Rattle.tcp_wire.specs.Decoded.{blocks_in, known_option, option_of, option_at, zeros, padding_at, options_in};
+ghost use Rattle.tcp_wire.specs.View.{block, option_content};
+
+use crate::fault::DecodeError;
+use crate::option::{TcpOption, has_own_length};
+use crate::segment::HEADER_LEN;
+use crate::seq::Seq;
+use arrayvec::ArrayVec;
+use byteorder::{BigEndian, ByteOrder};
+
+/// The blocks of eight bytes each.
+fn read_blocks(body: &[u8]) -> ArrayVec<(Seq, Seq), 4>
+    requires { length body.now ≤ 32 }
+    ensures { map block result.items ≡ blocks_in (length body.now / 8) body.now }
+{
+    let mut blocks = ArrayVec::new();
+    let mut rest = body;
+    while rest.len() >= 8 {
+        let left = Seq(BigEndian::read_u32(rest));
+        let right = Seq(BigEndian::read_u32(&rest[4..]));
+        blocks.push((left, right));
+        rest = &rest[8..];
+    }
+    blocks
+}
+
+/// The option of this kind with these bytes behind its length byte.
+fn option_from(kind: u8, body: &[u8]) -> TcpOption<'_>
+    requires { length body.now ≤ 38 }
+    ensures { option_content result ≡ option_of kind body.now }
+{
+    if !has_own_length(kind, body.len() + 2) {
+        return TcpOption::Unknown { kind, body };
+    }
+    match kind {
+        2 => TcpOption::Mss(BigEndian::read_u16(body)),
+        3 => TcpOption::WindowScale(body[0]),
+        4 => TcpOption::SackPermitted,
+        _ => TcpOption::Sack(read_blocks(body)),
+    }
+}
+
+/// The option whose spelling begins these bytes, and the bytes behind it.
+#[tactic(auto, unfolding(crate::specs::Decoded::option_at))]
+fn read_option(bytes: &[u8]) -> Option<(TcpOption<'_>, &[u8])>
+    requires { length bytes.now ≤ 40 }
+    ensures value { MatchOption result (option_at bytes.now ≡ None) (λ r. option_at bytes.now ≡ Some (option_content r.0, r.1.now)) }
+    ensures shorter { IfSome result (λ r. length r.1.now < length bytes.now) }
+{
+    match bytes {
+        [1, rest @ ..] => Some((TcpOption::Nop, rest)),
+        [kind, len, rest @ ..] => {
+            let len = usize::from(*len);
+            if *kind == 0 || len < 2 || rest.len() + 2 < len {
+                return None;
+            }
+            let (body, behind) = rest.split_at(len - 2);
+            Some((option_from(*kind, body), behind))
+        }
+        _ => None,
+    }
+}
+
+/// How many zeros these bytes are, which stand from place `at` of the segment on; a fault where they
+/// aren't zeros.
+fn read_padding(bytes: &[u8], at: usize) -> Result<u8, DecodeError>
+    requires most { length bytes.now ≤ 40 }
+    requires low { at ≤ 60 }
+    ensures { MatchResult result (λ pad. padding_at at bytes.now ≡ Ok ([], pad)) (λ e. padding_at at bytes.now ≡ Err e) }
+{
+    for (i, byte) in bytes.iter().enumerate() {
+        if *byte != 0 {
+            if i == 0 {
+                return Err(DecodeError::BadOption { at });
+            }
+            return Err(DecodeError::BadPadding { at: at + i });
+        }
+    }
+    Ok(bytes.len() as u8)
+}
+
+/// The options in this area, which begins behind the fixed header, and the count of zeros behind them.
+pub(crate) fn read_options(area: &[u8]) -> Result<(ArrayVec<TcpOption<'_>, 40>, u8), DecodeError>
+    requires { length area.now ≤ 40 }
+    ensures { MatchResult result (λ r. options_in 40 20 area.now ≡ Ok (map option_content r.0.items, r.1)) (λ e. options_in 40 20 area.now ≡ Err e) }
+{
+    let mut options = ArrayVec::new();
+    let mut rest = area;
+    while let Some((option, behind)) = read_option(rest) {
+        options.push(option);
+        rest = behind;
+    }
+    let pad = read_padding(rest, HEADER_LEN + (area.len() - rest.len()))?;
+    Ok((options, pad))
+}
