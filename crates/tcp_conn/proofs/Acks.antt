@@ -43,9 +43,9 @@ old-ahead : (s : Sending) (ack : ℕ) → s.iss < 2 ^ 32 → ack < 2 ^ 32 → is
 unfolding is_old
 old-ahead s ack fits small =
     ⊎_elim
-      (λ close. ap (λ z. int_lt z (pos s.una)) (position-ahead s ack fits small close) ∙ le-ltb (s.una + count_acked s ack) s.una (omega arith) ∙ sym (lt-leb (2 ^ 31) (count_acked s ack) close))
-      (λ far. ap (λ z. int_lt z (pos s.una)) (position-behind s ack fits small far) ∙ round-below (s.una + count_acked s ack) s.una (2 ^ 32) (omega (arith, count_acked-fits s ack)) ∙ sym (le-leb (2 ^ 31) (count_acked s ack) far))
-      (cases_lt (count_acked s ack) (2 ^ 31))
+    (λ close. ap (λ z. int_lt z (pos s.una)) (position-ahead s ack fits small close) ∙ le-ltb (s.una + count_acked s ack) s.una (omega arith) ∙ sym (lt-leb (2 ^ 31) (count_acked s ack) close))
+    (λ far. ap (λ z. int_lt z (pos s.una)) (position-behind s ack fits small far) ∙ round-below (s.una + count_acked s ack) s.una (2 ^ 32) (omega (arith, count_acked-fits s ack)) ∙ sym (le-leb (2 ^ 31) (count_acked s ack) far))
+    (cases_lt (count_acked s ack) (2 ^ 31))
 
 past-test : (una nxt count : ℕ) → una ≤ nxt → nat_lt nxt (una + count) ≡ nat_lt (nxt - una) count
 past-test una nxt count order = grind (arith, nat_tests)
@@ -54,9 +54,9 @@ beyond-ahead : (s : Sending) (ack : ℕ) → s.iss < 2 ^ 32 → ack < 2 ^ 32 →
 unfolding is_beyond
 beyond-ahead s ack fits small order =
     ⊎_elim
-      (λ close. ap (λ z. int_lt (pos s.nxt) z) (position-ahead s ack fits small close) ∙ past-test s.una s.nxt (count_acked s ack) order ∙ ap (λ b. b && nat_lt (s.nxt - s.una) (count_acked s ack)) (sym (lt-ltb (count_acked s ack) (2 ^ 31) close)))
-      (λ far. ap (λ z. int_lt (pos s.nxt) z) (position-behind s ack fits small far) ∙ round-not_above (s.una + count_acked s ack) s.nxt (2 ^ 32) (omega (arith, count_acked-fits s ack, order)) ∙ ap (λ b. b && nat_lt (s.nxt - s.una) (count_acked s ack)) (sym (le-ltb (count_acked s ack) (2 ^ 31) far)))
-      (cases_lt (count_acked s ack) (2 ^ 31))
+    (λ close. ap (λ z. int_lt (pos s.nxt) z) (position-ahead s ack fits small close) ∙ past-test s.una s.nxt (count_acked s ack) order ∙ ap (λ b. b && nat_lt (s.nxt - s.una) (count_acked s ack)) (sym (lt-ltb (count_acked s ack) (2 ^ 31) close)))
+    (λ far. ap (λ z. int_lt (pos s.nxt) z) (position-behind s ack fits small far) ∙ round-not_above (s.una + count_acked s ack) s.nxt (2 ^ 32) (omega (arith, count_acked-fits s ack, order)) ∙ ap (λ b. b && nat_lt (s.nxt - s.una) (count_acked s ack)) (sym (le-ltb (count_acked s ack) (2 ^ 31) far)))
+    (cases_lt (count_acked s ack) (2 ^ 31))
 
 -- for the methods of the sender
 pub is_old_ahead : (s : Sending) (ack : ℕ) → IsSender s → ack < 2 ^ 32 → is_old s ack ≡ nat_le (2 ^ 31) (count_acked s ack)

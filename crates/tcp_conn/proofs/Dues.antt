@@ -46,7 +46,7 @@ unfolding due_of
 due-lies s due order within e =
     ⊎_elim (λ resend. resend-lies s.sending (text_limit s) s.sending.resend due resend)
     (λ others. ⊎_elim (λ new. new-lies s.sending (text_limit s) due order new) (λ ack. ack-lies s.sending (text_limit s) s.owes_ack due order within ack)
-      (or_else-some (new_text_of s.sending (text_limit s)) (acknowledgement_of s) due others))
+    (or_else-some (new_text_of s.sending (text_limit s)) (acknowledgement_of s) due others))
     (or_else-some (resend_of s.sending (text_limit s) s.sending.resend) _ due e)
 
 -- for the methods of the sender: what an option of something due tells

@@ -44,30 +44,30 @@ pub first_inside : (next window seq : ℕ) → next < 2 ^ 32 → window ≤ 2 ^ 
 first_inside next window seq fits small = ⊎_elim
     (λ close. ap (is_inside next window) (near-ahead next seq fits close) ∙ inside-ahead next window (distance next seq))
     (λ far. ap (is_inside next window) (near-behind next seq fits far)
-      ∙ (let below : next + distance next seq < next + 2 ^ 32 = omega arith in round-outside (next + distance next seq) next window (2 ^ 32) below)
-      ∙ sym (le-ltb (distance next seq) window (omega (arith, far, small))))
+    ∙ (let below : next + distance next seq < next + 2 ^ 32 = omega arith in round-outside (next + distance next seq) next window (2 ^ 32) below)
+    ∙ sym (le-ltb (distance next seq) window (omega (arith, far, small))))
     (cases_lt (distance next seq) (2 ^ 31))
 
 -- its last
 pub last_inside : (next window seq k : ℕ) → next < 2 ^ 32 → window ≤ 2 ^ 20 → k < 2 ^ 16 → is_inside next window (near next seq +ℤ pos k) ≡ nat_lt (distance next ((seq + k) % 2 ^ 32)) window
 last_inside next window seq k fits small short = ⊎_elim
     (λ close.
-      let whole : distance next ((seq + k) % 2 ^ 32) ≡ distance next seq + k = omega arith in
-      let place : next + distance next seq + k ≡ next + (distance next seq + k) = omega arith in
-      ap (λ z. is_inside next window (z +ℤ pos k)) (near-ahead next seq fits close) ∙ ap (λ n. is_inside next window (pos n)) place
-      ∙ inside-ahead next window (distance next seq + k) ∙ ap (λ d. nat_lt d window) (sym whole))
+    let whole : distance next ((seq + k) % 2 ^ 32) ≡ distance next seq + k = omega arith in
+    let place : next + distance next seq + k ≡ next + (distance next seq + k) = omega arith in
+    ap (λ z. is_inside next window (z +ℤ pos k)) (near-ahead next seq fits close) ∙ ap (λ n. is_inside next window (pos n)) place
+    ∙ inside-ahead next window (distance next seq + k) ∙ ap (λ d. nat_lt d window) (sym whole))
     (λ far. ap (λ z. is_inside next window (z +ℤ pos k)) (near-behind next seq fits far) ∙ ap (is_inside next window) (round-plus (next + distance next seq) k (2 ^ 32))
-      ∙ ⊎_elim
-        (λ short_of.
-          let whole : distance next ((seq + k) % 2 ^ 32) ≡ distance next seq + k = omega arith in
-          let below : next + distance next seq + k < next + 2 ^ 32 = omega arith in
-          round-outside (next + distance next seq + k) next window (2 ^ 32) below ∙ sym (le-ltb (distance next ((seq + k) % 2 ^ 32)) window (omega (arith, whole, far, small))))
-        (λ round.
-          let whole : distance next ((seq + k) % 2 ^ 32) ≡ distance next seq + k - 2 ^ 32 = omega arith in
-          let place : next + distance next seq + k ≡ next + (distance next seq + k - 2 ^ 32) + 2 ^ 32 = omega arith in
-          ap (is_inside next window) (round-back (next + distance next seq + k) (next + (distance next seq + k - 2 ^ 32)) (2 ^ 32) place)
-          ∙ inside-ahead next window (distance next seq + k - 2 ^ 32) ∙ ap (λ d. nat_lt d window) (sym whole))
-        (cases_lt (distance next seq + k) (2 ^ 32)))
+    ∙ ⊎_elim
+    (λ short_of.
+    let whole : distance next ((seq + k) % 2 ^ 32) ≡ distance next seq + k = omega arith in
+    let below : next + distance next seq + k < next + 2 ^ 32 = omega arith in
+    round-outside (next + distance next seq + k) next window (2 ^ 32) below ∙ sym (le-ltb (distance next ((seq + k) % 2 ^ 32)) window (omega (arith, whole, far, small))))
+    (λ round.
+    let whole : distance next ((seq + k) % 2 ^ 32) ≡ distance next seq + k - 2 ^ 32 = omega arith in
+    let place : next + distance next seq + k ≡ next + (distance next seq + k - 2 ^ 32) + 2 ^ 32 = omega arith in
+    ap (is_inside next window) (round-back (next + distance next seq + k) (next + (distance next seq + k - 2 ^ 32)) (2 ^ 32) place)
+    ∙ inside-ahead next window (distance next seq + k - 2 ^ 32) ∙ ap (λ d. nat_lt d window) (sym whole))
+    (cases_lt (distance next seq + k) (2 ^ 32)))
     (cases_lt (distance next seq) (2 ^ 31))
 
 risen : (m n : ℕ) → pos (n + m) -ℤ pos n ≡ pos m

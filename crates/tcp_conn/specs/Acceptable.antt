@@ -14,7 +14,7 @@ is_acceptable next window seq count =
     if count == 0
     then (if window == 0 then seq == next else is_inside next window (near next seq))
     else (if window == 0 then false
-          else is_inside next window (near next seq) || is_inside next window (near next seq +ℤ pos (count - 1)))
+    else is_inside next window (near next seq) || is_inside next window (near next seq +ℤ pos (count - 1)))
 
 -- how far ahead of the next position a number lies, behind it being below 0
 unfoldable pub offset : ℕ → ℕ → ℤ

@@ -55,36 +55,36 @@ pub record IsConfig (c : Config) : Type 0 where
 -- A NEW END, whose SYN the peer has acknowledged already, and the other way round
 abbrev pub born_sending : Config → Config → Sending
 born_sending own peer = record {
-    iss = own.isn.0;
-    una = 1;
-    nxt = 1;
-    released = 0;
-    queue = queues.empty own.send_capacity;
-    resend = None;
-    wnd = min most_window peer.recv_capacity;
-    wl1 = peer.isn.0;
-    wl2 = number own.isn.0 1;
-  }
+  iss = own.isn.0;
+  una = 1;
+  nxt = 1;
+  released = 0;
+  queue = queues.empty own.send_capacity;
+  resend = None;
+  wnd = min most_window peer.recv_capacity;
+  wl1 = peer.isn.0;
+  wl2 = number own.isn.0 1;
+}
 
 abbrev pub born_receiving : Config → Config → Receiving
 born_receiving own peer = record {
-    next = number peer.isn.0 1;
-    ordered = 0;
-    inbox = inboxes.empty own.recv_capacity;
-  }
+  next = number peer.isn.0 1;
+  ordered = 0;
+  inbox = inboxes.empty own.recv_capacity;
+}
 
 abbrev pub born : Config → Config → State
 born own peer = record {
-    config = own;
-    peer_addr = peer.addr.0;
-    peer_port = peer.port;
-    peer_mss = peer.mss;
-    phase = Established;
-    ending = NotEnded;
-    sending = born_sending own peer;
-    receiving = born_receiving own peer;
-    owes_ack = false;
-  }
+  config = own;
+  peer_addr = peer.addr.0;
+  peer_port = peer.port;
+  peer_mss = peer.mss;
+  phase = Established;
+  ending = NotEnded;
+  sending = born_sending own peer;
+  receiving = born_receiving own peer;
+  owes_ack = false;
+}
 
 -- SEND (RFC 9293, 3.10.2)
 abbrev pub is_full : State → List ℕ → Bool

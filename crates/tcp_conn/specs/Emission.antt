@@ -80,18 +80,18 @@ window_field s = min most_window (window s.receiving.inbox)
 
 unfoldable pub segment_of : State → Due → Content
 segment_of s due = record {
-    src_port = s.config.port;
-    dst_port = s.peer_port;
-    seq = number s.sending.iss (position_of s due);
-    ack = s.receiving.next;
-    reserved = 0;
-    flags = flags_of s due;
-    window = window_field s;
-    urgent = 0;
-    options = [];
-    pad = 0;
-    text = text_of s due;
-  }
+  src_port = s.config.port;
+  dst_port = s.peer_port;
+  seq = number s.sending.iss (position_of s due);
+  ack = s.receiving.next;
+  reserved = 0;
+  flags = flags_of s due;
+  window = window_field s;
+  urgent = 0;
+  options = [];
+  pad = 0;
+  text = text_of s due;
+}
 
 -- AFTER AN EMISSION: what was emitted isn't owed any more, and SND.NXT moves behind new text
 abbrev pub stretch_behind : ℕ → Option (Range ℕ) → Option (Range ℕ)

@@ -12,10 +12,10 @@ most_ordered = 2 ^ 64 - 1
 -- the receiver once its inbox has become this one, by which n bytes more are in order
 abbrev pub with_inbox : Receiving → Inbox → ℕ → Receiving
 with_inbox r inbox n = record {
-    next = (r.next + n) % 2 ^ 32;
-    ordered = min most_ordered (r.ordered + n);
-    inbox = inbox;
-  }
+  next = (r.next + n) % 2 ^ 32;
+  ordered = min most_ordered (r.ordered + n);
+  inbox = inbox;
+}
 
 -- TEXT: it is placed at its distance from RCV.NXT
 unfoldable pub text_placed : Receiving → ℕ → List ℕ → Receiving

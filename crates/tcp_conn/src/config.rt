@@ -1,6 +1,6 @@
-ghost use Rattle.std.specs.Prelude.{◌≡◌, ◌↔◌, ◌<◌, IsTrue};
+ghost use Rattle.std.specs.Prelude.{◌≡◌, ◌↔◌, ◌<◌, IsTrue, Some};
 ghost use Rattle.tcp_conn.specs.Calls.{HasGoodCapacities};
-ghost use Rattle.tcp_conn.specs.Numbers.{config_error_number};
+ghost use Rattle.tcp_conn.specs.Numbers.{config_error_number, config_error_text};
 
 use std::error::Error;
 use std::fmt;
@@ -69,6 +69,8 @@ impl ConfigError {
 }
 
 impl fmt::Display for ConfigError {
+    ghost output = { λ e. Some (config_error_text e) };
+
     fn fmt<W: fmt::Write>(&self, f: &mut fmt::Formatter<W>) -> fmt::Result {
         f.write_str(match self {
             ConfigError::BadCapacity => "a capacity is not from 1 to 1048576 bytes",

@@ -1,5 +1,5 @@
-ghost use Rattle.std.specs.Prelude.{◌≡◌};
-ghost use Rattle.tcp_conn.specs.Numbers.{call_error_number};
+ghost use Rattle.std.specs.Prelude.{◌≡◌, Some};
+ghost use Rattle.tcp_conn.specs.Numbers.{call_error_number, call_error_text};
 
 use crate::Ending;
 use std::error::Error;
@@ -40,6 +40,8 @@ impl CallError {
 }
 
 impl fmt::Display for CallError {
+    ghost output = { λ e. Some (call_error_text e) };
+
     fn fmt<W: fmt::Write>(&self, f: &mut fmt::Formatter<W>) -> fmt::Result {
         f.write_str(match self {
             CallError::NotOpen => "the end was never opened",

@@ -104,7 +104,11 @@ impl<A: Allocator> Receiver<A> {
         ensures most { result <ℤ pos 2147483648 }
     {
         let ahead = i64::from(seq.minus(self.next));
-        if ahead < 1 << 31 { ahead } else { ahead - (1 << 32) }
+        if ahead < 1 << 31 {
+            ahead
+        } else {
+            ahead - (1 << 32)
+        }
     }
 
     /// Places text whose first byte has this number.

@@ -1,12 +1,21 @@
 //! Two ends born in ESTABLISHED, driven directly. The expected bytes come from a program that is no part of
-//! this project.
-use crate::{Arrival, Config, ConfigError, Due, EMIT_ROOM, Endpoint, Ending, Phase, Received, Timer};
+//! this project, the expected answers from RFC 9293.
+
+use crate::{
+    Arrival, CallError, Config, ConfigError, Due, EMIT_ROOM, Ending, Endpoint, Phase, Received,
+    Timer,
+};
+use arrayvec::ArrayVec;
 use std::test::Fail;
-use tcp_wire::{Addr, Seq};
+use tcp_wire::{Addr, DecodeError, Flags, Segment, Seq, encode};
+
+const ADDR_A: Addr = Addr([10, 0, 0, 1]);
+
+const ADDR_B: Addr = Addr([10, 0, 0, 2]);
 
 fn config_a() -> Config {
     Config {
-        addr: Addr([10, 0, 0, 1]),
+        addr: ADDR_A,
         port: 1,
         isn: Seq(1000),
         mss: 1460,
@@ -17,7 +26,7 @@ fn config_a() -> Config {
 
 fn config_b() -> Config {
     Config {
-        addr: Addr([10, 0, 0, 2]),
+        addr: ADDR_B,
         port: 2,
         isn: Seq(5000),
         ..config_a()
@@ -26,70 +35,267 @@ fn config_b() -> Config {
 
 /// Port 1 to 2, seq 1001, ack 5001, ACK and PSH, window 65535, text `abc`.
 const TEXT: [u8; 23] = [
-    0x00, 0x01, 0x00, 0x02, 0x00, 0x00, 0x03, 0xe9, 0x00, 0x00, 0x13, 0x89, 0x50, 0x18, 0xff, 0xff, 0xbf,
-    0xef, 0x00, 0x00, 0x61, 0x62, 0x63,
+    0x00, 0x01, 0x00, 0x02, 0x00, 0x00, 0x03, 0xe9, 0x00, 0x00, 0x13, 0x89, 0x50, 0x18, 0xff, 0xff,
+    0xbf, 0xef, 0x00, 0x00, 0x61, 0x62, 0x63,
 ];
 
+/// A segment of A for B with these numbers and this text.
+fn segment_of_a(seq: u32, ack: u32, text: &[u8]) -> Segment<'_> {
+    Segment {
+        src_port: 1,
+        dst_port: 2,
+        seq: Seq(seq),
+        ack: Seq(ack),
+        reserved: 0,
+        flags: Flags::ACK,
+        window: 65_535,
+        urgent: 0,
+        options: ArrayVec::new(),
+        pad: 0,
+        text,
+    }
+}
+
+/// What `end` answers to the segment on its way from `src` to `dst`; `None` where it is longer than 64 bytes.
+fn reach(end: &mut Endpoint, src: Addr, dst: Addr, segment: &Segment<'_>) -> Option<Arrival> {
+    let mut bytes = [0u8; 64];
+    if !segment.is_valid() || bytes.len() < segment.wire_len() {
+        return None;
+    }
+    let len = encode(segment, src, dst, &mut bytes);
+    Some(end.arrive(src, dst, &bytes[..len]))
+}
+
 #[test]
-fn text_there_and_acknowledgement_back(rt: HostRuntime) -> Result<(), Fail> {
+fn text_goes_out_and_again_after_a_timeout(rt: HostRuntime) -> Result<(), Fail> {
     let mut a = Endpoint::new(rt.alloc(), config_a(), config_b())?;
-    let mut b = Endpoint::new(rt.alloc(), config_b(), config_a())?;
     let mut room = [0u8; EMIT_ROOM];
     assert_eq!(rt; a.config(), config_a());
+    assert_eq!(rt; a.phase(), Phase::Established);
+    assert_eq!(rt; a.ending(), Ending::NotEnded);
     assert!(rt; a.emit(&mut room).is_none(), "nothing is due");
     assert_eq!(rt; a.send(b"abc")?, 3);
     assert_eq!(rt; a.due(), Some(Due::NewText(1, 3)));
     assert_eq!(rt; a.pending(), Some(23));
-    assert_eq!(rt; a.emit(&mut room), Some((Addr([10, 0, 0, 2]), 23)));
-    assert_eq!(rt; &room[..23], TEXT.as_slice());
+    assert_eq!(rt; a.emit(&mut room), Some((ADDR_B, 23)));
+    assert!(rt; room.starts_with(&TEXT));
     assert!(rt; a.due().is_none(), "all was sent");
     assert!(rt; a.timer(Timer::Retransmit), "it is in flight");
     assert!(rt; !a.timer(Timer::Reorder), "nothing is marked");
     assert_eq!(rt; a.due(), Some(Due::Resend(1, 3)));
-    assert_eq!(rt; b.arrive(Addr([10, 0, 0, 1]), Addr([10, 0, 0, 2]), &TEXT), Arrival::Processed);
+    assert_eq!(rt; Due::Resend(1, 3).count(), 3);
+    Ok(())
+}
+
+#[test]
+fn text_is_handed_over_and_its_acknowledgement_releases_it(rt: HostRuntime) -> Result<(), Fail> {
+    let mut a = Endpoint::new(rt.alloc(), config_a(), config_b())?;
+    let mut b = Endpoint::new(rt.alloc(), config_b(), config_a())?;
+    let mut room = [0u8; EMIT_ROOM];
+    assert_eq!(rt; a.send(b"abc")?, 3);
+    assert_eq!(rt; a.emit(&mut room), Some((ADDR_B, 23)));
+    assert_eq!(rt; b.arrive(ADDR_A, ADDR_B, &TEXT), Arrival::Processed);
     assert_eq!(rt; b.unread(), 3);
     assert_eq!(rt; b.ordered(), 3);
     assert_eq!(rt; b.due(), Some(Due::Acknowledgement));
     let mut out = [0u8; 10];
     assert_eq!(rt; b.receive(&mut out)?, Received::Bytes(3));
-    assert_eq!(rt; &out[..3], b"abc".as_slice());
+    assert!(rt; out.starts_with(b"abc"));
     assert_eq!(rt; b.receive(&mut out)?, Received::Nothing);
-    assert_eq!(rt; b.emit(&mut room), Some((Addr([10, 0, 0, 1]), 20)));
-    let acknowledgement = room;
-    assert_eq!(rt; a.arrive(Addr([10, 0, 0, 2]), Addr([10, 0, 0, 1]), &acknowledgement[..20]), Arrival::Processed);
+    assert_eq!(rt; b.emit(&mut room), Some((ADDR_A, 20)));
+    assert_eq!(rt; a.arrive(ADDR_B, ADDR_A, &room[..20]), Arrival::Processed);
     assert_eq!(rt; a.released(), 3);
     assert!(rt; !a.timer(Timer::Retransmit), "nothing is in flight");
-    assert_eq!(rt; a.phase(), Phase::Established);
-    assert_eq!(rt; a.ending(), Ending::NotEnded);
     Ok(())
 }
 
 #[test]
-fn what_is_not_its_own_changes_nothing(rt: HostRuntime) -> Result<(), Fail> {
+fn fewer_bytes_than_a_header_are_malformed_and_change_nothing(rt: HostRuntime) -> Result<(), Fail> {
     let mut b = Endpoint::new(rt.alloc(), config_b(), config_a())?;
-    let here = Addr([10, 0, 0, 2]);
-    assert_eq!(rt; b.arrive(Addr([10, 0, 0, 3]), here, &TEXT[..19]).eq(&Arrival::Processed), false);
+    let found = b.arrive(Addr([10, 0, 0, 3]), ADDR_B, &TEXT[..19]);
+    assert_eq!(rt; found, Arrival::Malformed(DecodeError::TooShort));
     assert_eq!(rt; b.unread(), 0);
     assert!(rt; b.due().is_none(), "nothing is owed");
     Ok(())
 }
 
 #[test]
-fn faults_of_a_config(rt: HostRuntime) {
+fn segment_with_a_foreign_port_or_address_is_not_mine(rt: HostRuntime) -> Result<(), Fail> {
+    let mut b = Endpoint::new(rt.alloc(), config_b(), config_a())?;
+    let elsewhere = Addr([10, 0, 0, 3]);
+    let own = segment_of_a(1001, 5001, b"abc");
+    let mut from_other_port = segment_of_a(1001, 5001, b"abc");
+    from_other_port.src_port = 3;
+    let mut to_other_port = segment_of_a(1001, 5001, b"abc");
+    to_other_port.dst_port = 3;
+    assert_eq!(rt;
+        reach(&mut b, ADDR_A, ADDR_B, &from_other_port),
+        Some(Arrival::NotMine)
+    );
+    assert_eq!(rt;
+        reach(&mut b, ADDR_A, ADDR_B, &to_other_port),
+        Some(Arrival::NotMine)
+    );
+    assert_eq!(rt;
+        reach(&mut b, elsewhere, ADDR_B, &own),
+        Some(Arrival::NotMine)
+    );
+    assert_eq!(rt;
+        reach(&mut b, ADDR_A, elsewhere, &own),
+        Some(Arrival::NotMine)
+    );
+    assert_eq!(rt; b.unread(), 0);
+    assert!(rt; b.due().is_none(), "nothing is owed");
+    assert_eq!(rt;
+        reach(&mut b, ADDR_A, ADDR_B, &own),
+        Some(Arrival::Processed)
+    );
+    Ok(())
+}
+
+#[test]
+fn acknowledgement_of_what_was_not_sent_is_dropped_and_answered(
+    rt: HostRuntime,
+) -> Result<(), Fail> {
+    let mut b = Endpoint::new(rt.alloc(), config_b(), config_a())?;
+    let ahead = segment_of_a(1001, 5002, b"abc");
+    assert_eq!(rt;
+        reach(&mut b, ADDR_A, ADDR_B, &ahead),
+        Some(Arrival::Dropped)
+    );
+    assert_eq!(rt; b.due(), Some(Due::Acknowledgement));
+    assert_eq!(rt; b.unread(), 0);
+    assert_eq!(rt; b.released(), 0);
+    Ok(())
+}
+
+#[test]
+fn text_out_of_order_is_acknowledged_at_the_old_number_and_then_jumped_over(
+    rt: HostRuntime,
+) -> Result<(), Fail> {
+    let mut b = Endpoint::new(rt.alloc(), config_b(), config_a())?;
+    let mut room = [0u8; EMIT_ROOM];
+    let early = segment_of_a(1004, 5001, b"def");
+    assert_eq!(rt;
+        reach(&mut b, ADDR_A, ADDR_B, &early),
+        Some(Arrival::Processed)
+    );
+    assert_eq!(rt; b.unread(), 0);
+    assert_eq!(rt; b.emit(&mut room), Some((ADDR_A, 20)));
+    assert!(rt; room[8..].starts_with(&1001u32.to_be_bytes()));
+    let missing = segment_of_a(1001, 5001, b"abc");
+    assert_eq!(rt;
+        reach(&mut b, ADDR_A, ADDR_B, &missing),
+        Some(Arrival::Processed)
+    );
+    assert_eq!(rt; b.ordered(), 6);
+    assert_eq!(rt; b.emit(&mut room), Some((ADDR_A, 20)));
+    assert!(rt; room[8..].starts_with(&1007u32.to_be_bytes()));
+    let mut out = [0u8; 6];
+    assert_eq!(rt; b.receive(&mut out)?, Received::Bytes(6));
+    assert!(rt; out.starts_with(b"abcdef"));
+    Ok(())
+}
+
+#[test]
+fn peer_window_of_4_lets_only_4_bytes_of_new_text_out(rt: HostRuntime) -> Result<(), Fail> {
+    let mut b = Endpoint::new(rt.alloc(), config_b(), config_a())?;
+    let mut room = [0u8; EMIT_ROOM];
+    let mut update = segment_of_a(1001, 5001, b"");
+    update.window = 4;
+    assert_eq!(rt;
+        reach(&mut b, ADDR_A, ADDR_B, &update),
+        Some(Arrival::Processed)
+    );
+    assert_eq!(rt; b.send(b"abcdef")?, 6);
+    assert_eq!(rt; b.emit(&mut room), Some((ADDR_A, 24)));
+    assert!(rt; room[20..].starts_with(b"abcd"));
+    assert!(rt; b.due().is_none(), "the window is full");
+    update.ack = Seq(5005);
+    assert_eq!(rt;
+        reach(&mut b, ADDR_A, ADDR_B, &update),
+        Some(Arrival::Processed)
+    );
+    assert_eq!(rt; b.released(), 4);
+    assert_eq!(rt; b.due(), Some(Due::NewText(5, 2)));
+    Ok(())
+}
+
+#[test]
+fn faults_of_a_config(rt: HostRuntime) -> Result<(), Fail> {
     let rows = [
-        (Config { recv_capacity: 0, ..config_b() }, ConfigError::BadCapacity, 21),
-        (Config { recv_capacity: 1_048_577, ..config_b() }, ConfigError::BadCapacity, 21),
-        (Config { mss: 63, ..config_b() }, ConfigError::BadMss, 23),
-        (Config { mss: 1461, ..config_b() }, ConfigError::BadMss, 23),
-        (Config { recv_capacity: 0, mss: 63, ..config_b() }, ConfigError::BadCapacity, 21),
+        (
+            Config {
+                recv_capacity: 0,
+                ..config_b()
+            },
+            ConfigError::BadCapacity,
+            21,
+        ),
+        (
+            Config {
+                recv_capacity: 1_048_577,
+                ..config_b()
+            },
+            ConfigError::BadCapacity,
+            21,
+        ),
+        (
+            Config {
+                mss: 63,
+                ..config_b()
+            },
+            ConfigError::BadMss,
+            23,
+        ),
+        (
+            Config {
+                mss: 1461,
+                ..config_b()
+            },
+            ConfigError::BadMss,
+            23,
+        ),
+        (
+            Config {
+                recv_capacity: 0,
+                mss: 63,
+                ..config_b()
+            },
+            ConfigError::BadCapacity,
+            21,
+        ),
     ];
     for (config, fault, number) in rows {
-        match Endpoint::new(rt.alloc(), config, config_a()) {
-            Ok(_) => assert!(rt; false, "taken"),
-            Err(found) => {
-                assert_eq!(rt; found, fault);
-                assert_eq!(rt; found.number(), number);
-            }
-        }
+        assert_eq!(rt;
+            Endpoint::new(rt.alloc(), config, config_a()).err(),
+            Some(fault)
+        );
+        assert_eq!(rt; fault.number(), number);
     }
+    assert_eq!(rt; ConfigError::NoMemory.number(), 22);
+    let shown = format!(in rt.alloc(); "{}", ConfigError::BadMss)?;
+    assert_eq!(rt;
+        shown.as_str(),
+        "the maximum segment size is not from 64 to 1460 bytes"
+    );
+    Ok(())
+}
+
+#[test]
+fn refusals_of_calls_are_numbered_from_11_on(rt: HostRuntime) -> Result<(), Fail> {
+    let rows = [
+        (CallError::NotOpen, 11),
+        (CallError::AlreadyOpen, 12),
+        (CallError::Closing, 13),
+        (CallError::Ended(Ending::Reset), 14),
+        (CallError::StreamFull, 15),
+        (CallError::NotConnected, 16),
+    ];
+    for (refusal, number) in rows {
+        assert_eq!(rt; refusal.number(), number);
+    }
+    let shown = format!(in rt.alloc(); "{}", CallError::Ended(Ending::Aborted))?;
+    assert_eq!(rt; shown.as_str(), "the connection has ended");
+    Ok(())
 }

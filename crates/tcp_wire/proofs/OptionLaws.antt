@@ -357,7 +357,7 @@ known_length kind body (inr (inr (inr sack))) =
       | inr (inr (inr four)) ↦ (4, four)
     ]))
 
-option_of_length : (kind : ℕ) (body : List ℕ) → length (spelling (option_of kind body)) ≡ length body + 2
+pub option_of_length : (kind : ℕ) (body : List ℕ) → length (spelling (option_of kind body)) ≡ length body + 2
 option_of_length kind body =
     by_test (λ (o : OptionContent). length (spelling o) ≡ length body + 2) (has_own_length kind (length body + 2)) (known_option kind body) (Unknown kind body)
     (λ own. known_length kind body (own_length kind (length body + 2) own))

@@ -1,12 +1,12 @@
 -- Options, read one behind the other.
-use Rattle.std.proofs.Common.{◌≡◌, ℕ, suc, ◌+◌, ◌-◌, ◌≤◌, List, [], ◌∷◌, ◌++◌, length, map, Some, None, Ok, Err, sym, ap, ◌∙◌, arith}
+use Rattle.std.proofs.Common.{◌≡◌, ℕ, suc, ◌+◌, ◌-◌, ◌≤◌, List, [], ◌∷◌, ◌++◌, length, map, Some, None, Ok, Err, sym, ap, subst, ◌∙◌, add-zero, arith}
 use Rattle.std.proofs.lemmas.List.{map_push, length-append}
 use Rattle.tcp_wire.specs.declared.fault.DecodeError.{DecodeError}
 use Rattle.tcp_wire.specs.declared.option.TcpOption.{TcpOption}
-use Rattle.tcp_wire.specs.Options.{OptionContent, spelling}
+use Rattle.tcp_wire.specs.Options.{OptionContent, spelling, spellings}
 use Rattle.tcp_wire.specs.Decoded.{option_at, padding_at, options_in}
-use Rattle.tcp_wire.specs.View.{option_content}
-use Rattle.tcp_wire.proofs.OptionLaws.{option_length, spelling_length}
+use Rattle.tcp_wire.specs.View.{option_content, BodyIs, BodiesLie}
+use Rattle.tcp_wire.proofs.OptionLaws.{option_length, spelling_length, spellings_push}
 use Rattle.tcp_wire.proofs.AreaLaws.{with_all, with_all-nil, options_more, options_end, options_padded, options_failed}
 
 -- what was read and what is still to be read give the whole, and there is room for an option a byte
@@ -58,3 +58,36 @@ pub options_fault : (options : List TcpOption) (rest area : List ℕ) (e : Decod
 options_fault options rest area e none before fails =
     let place : ℕ = 20 + (length area - length rest) in
     options_failed place e (map option_content options) rest (options_in 40 20 area) (options_end (40 - length options) place (map option_content options) rest (options_in 40 20 area) none before.0) fails
+
+-- ---- where the bodies lie
+
+pub bodies_push : (address : ℕ × ℕ) (options : List TcpOption) (o : TcpOption) → BodiesLie address options
+    → BodyIs (address.0, address.1 + length (spellings (map option_content options)) + 2) o → BodiesLie address (options ++ o ∷ [])
+bodies_push address [] o lie is = (subst (λ (n : ℕ). BodyIs (address.0, n + 2) o) (add-zero address.1) is, tt)
+bodies_push address (x ∷ options) o lie is =
+    let place : address.1 + length (spellings (map option_content (x ∷ options))) ≡ address.1 + length (spelling (option_content x)) + length (spellings (map option_content options)) =
+    omega (arith, length-append (spelling (option_content x)) (spellings (map option_content options))) in
+    (lie.0, bodies_push (address.0, address.1 + length (spelling (option_content x))) options o lie.1 (subst (λ (n : ℕ). BodyIs (address.0, n + 2) o) place is))
+
+-- what was read lies in front of what is still to be read
+abbrev pub ReadUpTo : ℕ × ℕ → List TcpOption → ℕ × ℕ → Type 0
+ReadUpTo start options rest = BodiesLie start options × (rest ≡ (start.0, start.1 + length (spellings (map option_content options))))
+
+pub read_up_to_more : (start rest behind : ℕ × ℕ) (options pushed : List TcpOption) (o : TcpOption) → pushed ≡ options ++ o ∷ []
+    → BodyIs (rest.0, rest.1 + 2) o → behind ≡ (rest.0, rest.1 + length (spelling (option_content o))) → ReadUpTo start options rest → ReadUpTo start pushed behind
+read_up_to_more start rest behind options pushed o pushed_is body behind_is before =
+    let there : BodyIs (start.0, start.1 + length (spellings (map option_content options)) + 2) o = subst (λ (p : ℕ × ℕ). BodyIs (p.0, p.1 + 2) o) before.1 body in
+    let all = ap (λ (os : List TcpOption). length (spellings (map option_content os))) pushed_is in
+    let more : length (spellings (map option_content pushed)) ≡ length (spellings (map option_content options)) + length (spelling (option_content o)) =
+    all ∙ ap (λ (os : List OptionContent). length (spellings os)) (map_push option_content options o) ∙ ap length (spellings_push (map option_content options) (option_content o)) ∙ length-append (spellings (map option_content options)) (spelling (option_content o)) in
+    let moved : behind ≡ (start.0, start.1 + length (spellings (map option_content options)) + length (spelling (option_content o))) =
+    behind_is ∙ ap (λ (p : ℕ × ℕ). (p.0, p.1 + length (spelling (option_content o)))) before.1 in
+    let sum : start.1 + length (spellings (map option_content options)) + length (spelling (option_content o)) ≡ start.1 + length (spellings (map option_content pushed)) = omega (arith, more) in (
+      subst (λ (os : List TcpOption). BodiesLie start os) (sym pushed_is) (bodies_push start options o before.0 there),
+      moved ∙ ap (λ (n : ℕ). (start.0, n)) sum,
+    )
+
+pub read_up_to_start : (start : ℕ × ℕ) (options : List TcpOption) → options ≡ [] → ReadUpTo start options start
+read_up_to_start start options none =
+    let place : start.1 ≡ start.1 + length (spellings (map option_content options)) = omega (arith, ap (λ (os : List TcpOption). length (spellings (map option_content os))) none) in
+    (subst (λ (os : List TcpOption). BodiesLie start os) (sym none) tt, ap (λ (n : ℕ). (start.0, n)) place)

@@ -1,10 +1,10 @@
 -- What a segment of the code says.
-use Rattle.std.specs.Prelude.{ℕ, map}
+use Rattle.std.specs.Prelude.{◌≡◌, ℕ, ◌+◌, List, [], ◌∷◌, length, map}
 use Rattle.tcp_wire.specs.declared.seq.Seq.{Seq}
 use Rattle.tcp_wire.specs.declared.option.TcpOption.{TcpOption}
 use Rattle.tcp_wire.specs.declared.option.TcpOption.TheVariants as code
 use Rattle.tcp_wire.specs.declared.segment.Segment.{Segment}
-use Rattle.tcp_wire.specs.Options.{OptionContent, Nop, Mss, WindowScale, SackPermitted, Sack, Unknown}
+use Rattle.tcp_wire.specs.Options.{OptionContent, Nop, Mss, WindowScale, SackPermitted, Sack, Unknown, spelling}
 use Rattle.tcp_wire.specs.Wire.{Content}
 
 -- a block as its two numbers
@@ -33,3 +33,20 @@ content segment = record {
   pad = segment.pad;
   text = segment.text.now;
 }
+
+-- an Unknown option's body is the slice that lies at this address
+abbrev pub BodyIs : ℕ × ℕ → TcpOption → Type 0
+BodyIs address code.Nop = Unit {0}
+BodyIs address (code.Mss size) = Unit {0}
+BodyIs address (code.WindowScale shift) = Unit {0}
+BodyIs address code.SackPermitted = Unit {0}
+BodyIs address (code.Sack blocks) = Unit {0}
+BodyIs address (code.Unknown kind body) = body.ref_ptr ≡ address
+
+-- the bodies of options that are spelled from this address on are slices at their places: each lies
+-- behind its kind and length byte
+abbrev pub BodiesLie : ℕ × ℕ → List TcpOption → Type 0
+BodiesLie address [] = Unit {0}
+BodiesLie address (option ∷ options) =
+    BodyIs (address.0, address.1 + 2) option
+    × BodiesLie (address.0, address.1 + length (spelling (option_content option))) options

@@ -4,7 +4,7 @@ ghost use Rattle.tcp_wire.specs.Checksum.{DiffersInOnePlace};
 ghost use Rattle.tcp_wire.specs.Wire.{Content, IsWire, data_offset};
 ghost use Rattle.tcp_wire.specs.Fault.{FirstFault};
 ghost use Rattle.tcp_wire.specs.Decoded.{decoded, content_at, laid_out};
-ghost use Rattle.tcp_wire.specs.View.{content, option_content};
+ghost use Rattle.tcp_wire.specs.View.{content, option_content, BodiesLie};
 
 use crate::addr::Addr;
 use crate::fault::DecodeError;
@@ -53,6 +53,7 @@ fn lay_out(bytes: &[u8]) -> Result<Segment<'_>, DecodeError>
     requires { 20 ≤ length bytes.now }
     ensures value { MatchResult result (λ s. laid_out bytes.now ≡ Ok (content s)) (λ e. laid_out bytes.now ≡ Err e) }
     ensures place { IfOk result (λ s. s.text.ref_ptr ≡ (bytes.entry.ref_ptr.0, bytes.entry.ref_ptr.1 + 4 * data_offset bytes.now)) }
+    ensures bodies { IfOk result (λ s. BodiesLie (bytes.entry.ref_ptr.0, bytes.entry.ref_ptr.1 + 20) s.options.items) }
 {
     let offset = 4 * usize::from(bytes[12] / 16);
     if offset < HEADER_LEN || bytes.len() < offset {
@@ -67,6 +68,7 @@ fn lay_out(bytes: &[u8]) -> Result<Segment<'_>, DecodeError>
 fn read_segment(src: Addr, dst: Addr, bytes: &[u8]) -> Result<Segment<'_>, DecodeError>
     ensures computed { MatchResult result (λ s. decoded src.0 dst.0 bytes.now ≡ Ok (content s)) (λ e. decoded src.0 dst.0 bytes.now ≡ Err e) }
     ensures place { IfOk result (λ s. s.text.ref_ptr ≡ (bytes.entry.ref_ptr.0, bytes.entry.ref_ptr.1 + 4 * data_offset bytes.now)) }
+    ensures bodies { IfOk result (λ s. BodiesLie (bytes.entry.ref_ptr.0, bytes.entry.ref_ptr.1 + 20) s.options.items) }
 {
     if bytes.len() < HEADER_LEN {
         return Err(DecodeError::TooShort);
@@ -80,14 +82,15 @@ fn read_segment(src: Addr, dst: Addr, bytes: &[u8]) -> Result<Segment<'_>, Decod
     lay_out(bytes)
 }
 
-/// Reads a segment that came from `src` to `dst` (RFC 9293, 3.1). Text is the slice of the input at
-/// its place.
+/// Reads a segment that came from `src` to `dst` (RFC 9293, 3.1). Text and the bodies of `Unknown`
+/// options are the slices of the input at their places.
 pub fn decode(src: Addr, dst: Addr, bytes: &[u8]) -> Result<Segment<'_>, DecodeError>
     // Ok exactly on the grammar, with what the segment says.
     ensures value { (v : Content) → (IsOkAnd result (λ s. content s ≡ v)) ↔ IsWire src.0 dst.0 v bytes.now }
     // Each refusal exactly where it is the first fault.
     ensures fault { (e : DecodeError) → (result ≡ Err e) ↔ FirstFault src.0 dst.0 bytes.now e }
     ensures place { IfOk result (λ s. s.text.ref_ptr ≡ (bytes.entry.ref_ptr.0, bytes.entry.ref_ptr.1 + 4 * data_offset bytes.now)) }
+    ensures bodies { IfOk result (λ s. BodiesLie (bytes.entry.ref_ptr.0, bytes.entry.ref_ptr.1 + 20) s.options.items) }
     // A segment with one changed byte is refused for its checksum.
     ensures replaced { (v : Content) (sent : List ℕ) → IsWire src.0 dst.0 v sent → DiffersInOnePlace sent bytes.now → result ≡ Err DecodeError.BadChecksum }
     ensures computed { MatchResult result (λ s. decoded src.0 dst.0 bytes.now ≡ Ok (content s)) (λ e. decoded src.0 dst.0 bytes.now ≡ Err e) }

@@ -1,7 +1,7 @@
-ghost use Rattle.std.specs.Prelude.{◌≡◌, ◌↔◌, ◌+◌, ◌*◌, ◌/◌, ◌<◌, ◌≤◌, List, [], length, map, Ok, Err, Some, None, IsTrue, IfSome, MatchOption, MatchResult};
-ghost use Rattle.tcp_wire.specs.Options.{has_own_length};
+ghost use Rattle.std.specs.Prelude.{◌≡◌, ◌↔◌, ◌+◌, ◌*◌, ◌/◌, ◌<◌, ◌≤◌, List, [], length, map, Ok, Err, Some, None, IsTrue, IfSome, IfOk, MatchOption, MatchResult};
+ghost use Rattle.tcp_wire.specs.Options.{has_own_length, spelling};
 ghost use Rattle.tcp_wire.specs.Decoded.{blocks_in, known_option, option_of, option_at, zeros, padding_at, options_in};
-ghost use Rattle.tcp_wire.specs.View.{block, option_content};
+ghost use Rattle.tcp_wire.specs.View.{block, option_content, BodyIs, BodiesLie};
 
 use crate::fault::DecodeError;
 use crate::option::{TcpOption, has_own_length};
@@ -29,7 +29,8 @@ fn read_blocks(body: &[u8]) -> ArrayVec<(Seq, Seq), 4>
 /// The option of this kind with these bytes behind its length byte.
 fn option_from(kind: u8, body: &[u8]) -> TcpOption<'_>
     requires { length body.now ≤ 38 }
-    ensures { option_content result ≡ option_of kind body.now }
+    ensures value { option_content result ≡ option_of kind body.now }
+    ensures place { BodyIs body.entry.ref_ptr result }
 {
     if !has_own_length(kind, body.len() + 2) {
         return TcpOption::Unknown { kind, body };
@@ -48,6 +49,8 @@ fn read_option(bytes: &[u8]) -> Option<(TcpOption<'_>, &[u8])>
     requires { length bytes.now ≤ 40 }
     ensures value { MatchOption result (option_at bytes.now ≡ None) (λ r. option_at bytes.now ≡ Some (option_content r.0, r.1.now)) }
     ensures shorter { IfSome result (λ r. length r.1.now < length bytes.now) }
+    ensures body { IfSome result (λ r. BodyIs (bytes.entry.ref_ptr.0, bytes.entry.ref_ptr.1 + 2) r.0) }
+    ensures behind { IfSome result (λ r. r.1.ref_ptr ≡ (bytes.entry.ref_ptr.0, bytes.entry.ref_ptr.1 + length (spelling (option_content r.0)))) }
 {
     match bytes {
         [1, rest @ ..] => Some((TcpOption::Nop, rest)),
@@ -56,8 +59,8 @@ fn read_option(bytes: &[u8]) -> Option<(TcpOption<'_>, &[u8])>
             if *kind == 0 || len < 2 || rest.len() + 2 < len {
                 return None;
             }
-            let (body, behind) = rest.split_at(len - 2);
-            Some((option_from(*kind, body), behind))
+            let option = option_from(*kind, &rest[..len - 2]);
+            Some((option, &rest[len - 2..]))
         }
         _ => None,
     }
@@ -81,17 +84,22 @@ fn read_padding(bytes: &[u8], at: usize) -> Result<u8, DecodeError>
     Ok(bytes.len() as u8)
 }
 
+/// What is still to be read.
+struct Unread<'a>(&'a [u8]);
+
 /// The options in this area, which begins behind the fixed header, and the count of zeros behind them.
 pub(crate) fn read_options(area: &[u8]) -> Result<(ArrayVec<TcpOption<'_>, 40>, u8), DecodeError>
     requires { length area.now ≤ 40 }
-    ensures { MatchResult result (λ r. options_in 40 20 area.now ≡ Ok (map option_content r.0.items, r.1)) (λ e. options_in 40 20 area.now ≡ Err e) }
+    ensures value { MatchResult result (λ r. options_in 40 20 area.now ≡ Ok (map option_content r.0.items, r.1)) (λ e. options_in 40 20 area.now ≡ Err e) }
+    ensures places { IfOk result (λ r. BodiesLie area.entry.ref_ptr r.0.items) }
 {
     let mut options = ArrayVec::new();
-    let mut rest = area;
-    while let Some((option, behind)) = read_option(rest) {
+    let mut unread = Unread(area);
+    while let Some((option, behind)) = read_option(unread.0) {
         options.push(option);
-        rest = behind;
+        unread.0 = behind;
     }
+    let Unread(rest) = unread;
     let pad = read_padding(rest, HEADER_LEN + (area.len() - rest.len()))?;
     Ok((options, pad))
 }
