@@ -1,10 +1,10 @@
 -- Acknowledgements by distance, as the code has them, and by position, as they are meant.
-use Rattle.std.proofs.Common.{◌≡◌, ℕ, ◌+◌, ◌-◌, ◌%◌, ◌^◌, ◌<◌, ◌≤◌, refl, sym, ◌∙◌, ap, subst, ⊎_elim, arith, length, length-drop}
-use Rattle.std.specs.Prelude.{ℤ, pos, ◌-ℤ◌, int_lt, Bool, true, false, ◌&&◌, nat_lt, nat_le}
+use Rattle.std.proofs.Common.{◌≡◌, ℕ, ◌+◌, ◌-◌, ◌%◌, ◌^◌, ◌<◌, ◌≤◌, sym, ◌∙◌, ap, subst, ⊎_elim, arith, length, length-drop}
+use Rattle.std.specs.Prelude.{pos, ◌-ℤ◌, int_lt, true, false, ◌&&◌, nat_lt, nat_le}
 use Rattle.std.proofs.lemmas.Int.{ints}
 use Rattle.std.proofs.lemmas.Bool.Decides.{nat_tests}
 use Rattle.std.proofs.lemmas.Bool.{cases_lt, lt-ltb, le-ltb, le-leb, lt-leb, leb-false, ltb-false}
-use Rattle.tcp_wire.specs.Position.{number, distance, near}
+use Rattle.tcp_wire.specs.Position.{number, distance}
 use Rattle.tcp_wire.proofs.Positions.{distance_number, distance_shifted, near_ahead, near_behind}
 use Rattle.tcp_sendq.specs.SendQueue.{Queue, released}
 use Rattle.tcp_conn.specs.State.{Sending}

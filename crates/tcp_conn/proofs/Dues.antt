@@ -1,6 +1,6 @@
 -- What is due lies where it may.
-use Rattle.std.proofs.Common.{◌≡◌, ℕ, ◌+◌, ◌-◌, ◌<◌, ◌≤◌, ◌^◌, List, length, refl, sym, ◌∙◌, ap, subst, ⊎_elim, inl, inr, arith}
-use Rattle.std.specs.Prelude.{◌⊎◌, min, max, Bool, true, false, ◌==◌, if◌then◌else◌, Option, Some, None, IfSome}
+use Rattle.std.proofs.Common.{◌≡◌, ℕ, ◌+◌, ◌<◌, ◌≤◌, ◌^◌, length, refl, sym, subst, ⊎_elim, inl, inr, arith}
+use Rattle.std.specs.Prelude.{◌⊎◌, Bool, true, false, ◌==◌, if◌then◌else◌, Option, Some, None, IfSome}
 use Rattle.std.proofs.lemmas.Bool.{eqb-false}
 use Rattle.tcp_conn.specs.declared.due.Due.{Due}
 use Rattle.tcp_conn.specs.declared.due.Due.TheVariants.{Resend, NewText, Acknowledgement}
@@ -9,7 +9,7 @@ use Rattle.tcp_wire.specs.Checksum.{AreBytes}
 use Rattle.tcp_wire.specs.Wire.{IsValid, has}
 use Rattle.tcp_conn.specs.Arrival as bits
 use Rattle.tcp_conn.specs.State.{State, Sending, end_of_text}
-use Rattle.tcp_conn.specs.Emission.{or_else, resend_of, resend_count, resend_start, new_text_of, new_count, acknowledgement_of, due_of, text_limit, start_of, count_of, sending_after, text_of, pushes, segment_of, Lies, LiesShort}
+use Rattle.tcp_conn.specs.Emission.{or_else, resend_of, resend_count, resend_start, new_text_of, new_count, acknowledgement_of, due_of, text_limit, text_of, pushes, segment_of, LiesShort}
 
 or_else-some : (a b : Option Due) (due : Due) → or_else a b ≡ Some due → (a ≡ Some due) ⊎ (b ≡ Some due)
 or_else-some None b due e = inr e

@@ -1,5 +1,5 @@
 -- Placing a text: how many bytes come in order, and how long a segment's text can be.
-use Rattle.std.proofs.Common.{◌≡◌, ℕ, zero, suc, ◌+◌, ◌-◌, ◌*◌, ◌<◌, ◌≤◌, List, ◌++◌, length, drop, refl, sym, ◌∙◌, ap, arith, length-append, length-drop}
+use Rattle.std.proofs.Common.{◌≡◌, ℕ, zero, suc, ◌+◌, ◌≤◌, List, ◌++◌, length, drop, refl, sym, ◌∙◌, ap, arith, length-append, length-drop}
 use Rattle.std.specs.Prelude.{ℤ, Option, Bool, true, false, if◌then◌else◌}
 use Rattle.tcp_wire.specs.Wire.{Content, IsWire, option_bytes}
 use Rattle.tcp_reasm.specs.declared.placed.Placed.TheVariants.{NotKept}

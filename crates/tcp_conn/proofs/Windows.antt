@@ -1,12 +1,11 @@
 -- The window by distance, as the code has it, and by position, as it is meant.
-use Rattle.std.proofs.Common.{◌≡◌, ℕ, zero, suc, ◌+◌, ◌-◌, ◌%◌, ◌^◌, ◌<◌, ◌≤◌, refl, sym, ◌∙◌, ap, subst, ⊎_elim, arith}
-use Rattle.std.specs.Prelude.{ℤ, pos, ◌+ℤ◌, ◌-ℤ◌, int_lt, int_le, Bool, true, false, ◌&&◌, ◌||◌, ◌==◌, if◌then◌else◌, nat_lt, nat_le}
+use Rattle.std.proofs.Common.{◌≡◌, ℕ, ◌+◌, ◌-◌, ◌%◌, ◌^◌, ◌<◌, ◌≤◌, refl, sym, ◌∙◌, ap, subst, ⊎_elim, arith}
+use Rattle.std.specs.Prelude.{pos, ◌+ℤ◌, ◌-ℤ◌, int_lt, int_le, false, ◌&&◌, nat_lt}
 use Rattle.std.proofs.lemmas.Int.{ints}
-use Rattle.std.proofs.lemmas.Bool.Decides.{nat_tests}
-use Rattle.std.proofs.lemmas.Bool.{cases_lt, lt-ltb, le-ltb, le-leb, lt-leb}
-use Rattle.tcp_wire.specs.Position.{number, distance, near}
+use Rattle.std.proofs.lemmas.Bool.{cases_lt, lt-ltb, le-ltb, le-leb}
+use Rattle.tcp_wire.specs.Position.{distance, near}
 use Rattle.tcp_wire.proofs.Positions.{near_ahead, near_behind}
-use Rattle.tcp_conn.specs.Acceptable.{is_inside, is_acceptable, offset}
+use Rattle.tcp_conn.specs.Acceptable.{is_inside, offset}
 
 rounded : (next : ℕ) → next < 2 ^ 32 → next % 2 ^ 32 ≡ next
 rounded next fits = omega arith

@@ -1,6 +1,6 @@
 -- A segment arrives (RFC 9293, 3.10.7.4): its tests in their order, and what each leads to. Until resets
 -- and the handshake stand, a segment with RST or SYN is passed over, and a FIN counts for nothing.
-use Rattle.std.specs.Prelude.{ℕ, ◌+◌, Bool, true, false, not, ◌&&◌, ◌||◌, ◌==◌, nat_lt, if◌then◌else◌, bytes_eq, List, length, Result, Ok, Err}
+use Rattle.std.specs.Prelude.{ℕ, Bool, true, not, ◌||◌, ◌==◌, if◌then◌else◌, bytes_eq, List, length, Result, Ok, Err}
 use Rattle.tcp_wire.specs.Wire.{Content, has}
 use Rattle.tcp_wire.specs.Decoded.{decoded}
 use Rattle.tcp_wire.specs.declared.fault.DecodeError.{DecodeError}

@@ -1,6 +1,6 @@
 -- A new end, the user's calls and the timers (RFC 9293, 3.10.1 to 3.10.3 and 3.10.8). Until the handshake
 -- stands, an end is born in ESTABLISHED.
-use Rattle.std.specs.Prelude.{◌≡◌, ◌<◌, ◌≤◌, ℕ, ◌+◌, ◌-◌, ◌%◌, ◌^◌, min, Bool, true, false, ◌==◌, if◌then◌else◌, List, [], length, take, Option, Some, None, Result, Ok, Err}
+use Rattle.std.specs.Prelude.{◌≡◌, ◌<◌, ◌≤◌, ℕ, ◌^◌, min, Bool, false, ◌==◌, if◌then◌else◌, List, length, None, Result, Ok, Err}
 use Rattle.tcp_wire.specs.Position.{number}
 use Rattle.tcp_wire.specs.Checksum.{AreBytes}
 use Rattle.tcp_sendq.specs.SendQueue as queues

@@ -1,6 +1,6 @@
 -- What one end emits next, as a function of its state (RFC 9293, 3.7, 3.8 and 3.10): a retransmission, new
 -- text, an acknowledgement, the first of these that is due.
-use Rattle.std.specs.Prelude.{ℕ, ◌≤◌, ◌+◌, ◌-◌, min, max, Bool, false, ◌==◌, nat_lt, if◌then◌else◌, List, [], ◌++◌, length, take, drop, Option, Some, None, option_map}
+use Rattle.std.specs.Prelude.{ℕ, ◌≤◌, ◌+◌, ◌-◌, min, max, Bool, false, ◌==◌, if◌then◌else◌, List, [], ◌++◌, take, drop, Option, Some, None, option_map}
 use Rattle.tcp_wire.specs.Position.{number}
 use Rattle.tcp_wire.specs.Wire.{Content, encoded, wire_length}
 use Rattle.tcp_reasm.specs.Reassembly.{window}

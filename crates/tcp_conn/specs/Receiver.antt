@@ -1,5 +1,5 @@
 -- The half that receives (RFC 9293, 3.4 and 3.10.7.4).
-use Rattle.std.specs.Prelude.{ℕ, ◌+◌, ◌-◌, ◌%◌, ◌^◌, min, List, length}
+use Rattle.std.specs.Prelude.{ℕ, ◌+◌, ◌-◌, ◌%◌, ◌^◌, min, List}
 use Rattle.tcp_reasm.specs.Reassembly.{Inbox, placed, place_answer, after_read}
 use Rattle.tcp_reasm.specs.Agreement.{advance_of}
 use Rattle.tcp_conn.specs.Acceptable.{offset}

@@ -1,8 +1,7 @@
 -- The half that sends (RFC 9293, 3.3.1, 3.8 and 3.10.7.4): what acknowledgements, windows and timers do.
-use Rattle.std.specs.Prelude.{◌≡◌, ℕ, ◌+◌, ◌-◌, ◌^◌, ◌<◌, ◌≤◌, min, max, ℤ, pos, int_lt, int_le, Bool, ◌&&◌, ◌||◌, ◌==◌, nat_lt, if◌then◌else◌, List, length, take, drop, Option, Some, None}
+use Rattle.std.specs.Prelude.{◌≡◌, ℕ, ◌+◌, ◌-◌, ◌^◌, ◌<◌, ◌≤◌, min, ℤ, pos, int_lt, Bool, ◌&&◌, ◌||◌, ◌==◌, nat_lt, if◌then◌else◌, List, take, Some}
 use Rattle.tcp_wire.specs.Position.{number, distance, near, is_before}
 use Rattle.tcp_sendq.specs.SendQueue as queues
-use Rattle.std.specs.declared.ops.Range.{Range}
 use Rattle.tcp_conn.specs.State.{Sending, accepted_count, end_of_text}
 
 -- a direction carries at most this many bytes, so that any two of its positions differ by less than 2^31

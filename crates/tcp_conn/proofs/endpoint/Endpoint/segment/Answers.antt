@@ -1,4 +1,4 @@
-use Rattle.std.proofs.Common.{rules, arith, refl, subst, sym}
+use Rattle.std.proofs.Common.{rules, arith, refl}
 use Rattle.tcp_conn.proofs.endpoint.Endpoint.segment.Goals as goal
 
 -- each field is in the range of its type, and there are no options

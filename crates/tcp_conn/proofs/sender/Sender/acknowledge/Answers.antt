@@ -1,4 +1,4 @@
-use Rattle.std.proofs.Common.{◌≡◌, ℕ, ◌<◌, ◌≤◌, ◌+◌, ◌^◌, ◌∙◌, ap, sym, arith, rules}
+use Rattle.std.proofs.Common.{◌≡◌, ◌<◌, ◌^◌, ◌∙◌, ap, sym, arith, rules}
 use Rattle.tcp_conn.specs.Sender.{count_acked}
 use Rattle.tcp_conn.proofs.Acks.{acked_within, released-sound}
 use Rattle.tcp_conn.proofs.sender.Sender.acknowledge.Goals as goal
