@@ -1,0 +1,9 @@
+-- A line that is refused isn't empty.
+use Rattle.std.proofs.Common.{◌≡◌, ℕ, ◌<◌, List, [], ◌∷◌, length, None, arith}
+use Rattle.tcpkit.specs.Script.{line_of}
+use Rattle.tcpkit.specs.Scripts.{ScriptTold, taken_text}
+
+pub bad_has_bytes : (s : ScriptTold) (line : List ℕ) → taken_text s line ≡ None → 0 < length line
+unfolding line_of
+bad_has_bytes s [] none = cc
+bad_has_bytes s (x ∷ xs) none = omega arith

@@ -1,0 +1,70 @@
+//! The program: its words, its file, and its exit status.
+use crate::counted::Counted;
+use crate::errors::{ToolError, WordsError};
+use crate::replaying::replay;
+use crate::words::{Job, read_words};
+use std::fs::File;
+use std::rt::{Env, Files};
+use std::{env, io};
+use thiserror::Error;
+
+/// All was well.
+const WELL: u8 = 0;
+/// The report tells of a refusal.
+const REFUSED: u8 = 1;
+/// The words, the file or the script has a fault.
+const FAULT: u8 = 2;
+
+/// Why the program ends without its whole report.
+#[derive(Debug, Drop, Error)]
+enum Fault {
+    #[error(transparent)]
+    Words(WordsError),
+    #[error(transparent)]
+    Tool(ToolError),
+}
+
+/// The program's words, its name first.
+fn words(rt: &(impl Env + AllocGlobal)) -> Result<Vec<String>, WordsError> {
+    let alloc = rt.alloc();
+    let words = match env::args(rt) {
+        Ok(words) => words,
+        Err(error) if error.kind() == io::ErrorKind::OutOfMemory => {
+            return Err(WordsError::NoMemory);
+        }
+        Err(_) => return Err(WordsError::BadWords),
+    };
+    match words.collect(alloc) {
+        Ok(words) => Ok(words),
+        Err(_) => Err(WordsError::NoMemory),
+    }
+}
+
+/// Opens a file and does the job.
+fn work(rt: &(impl Files + Print + AllocGlobal), job: &Job) -> Result<bool, ToolError> {
+    let Job::Replay(path) = job;
+    let Ok(file) = File::open(rt, path.as_str()) else {
+        return Err(ToolError::ReadFault);
+    };
+    let mut input = Counted::new(file);
+    let mut output = Counted::new(io::writer(rt));
+    replay(rt.alloc(), &mut input, &mut output)
+}
+
+fn work_by_words(rt: &(impl Env + Files + Print + AllocGlobal)) -> Result<bool, Fault> {
+    let words = words(rt).map_err(Fault::Words)?;
+    let job = read_words(rt.alloc(), words).map_err(Fault::Words)?;
+    work(rt, &job).map_err(Fault::Tool)
+}
+
+/// Does what the words ask for, and answers the exit status. A fault is told by one line on standard error.
+pub(crate) fn run(rt: &(impl Env + Files + Print + Eprint + AllocGlobal)) -> u8 {
+    match work_by_words(rt) {
+        Ok(true) => WELL,
+        Ok(false) => REFUSED,
+        Err(fault) => {
+            let _ = eprintln!(rt; "tcpkit: {fault}");
+            FAULT
+        }
+    }
+}

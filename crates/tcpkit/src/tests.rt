@@ -1,0 +1,4 @@
+mod devices;
+mod program_words;
+mod scripts;
+mod texts;
