@@ -1,6 +1,10 @@
 pub mod Configs
 pub mod Devices
+pub mod Items
+pub mod Listing
+pub mod Listings
 pub mod Replay
 pub mod Report
 pub mod Script
 pub mod Scripts
+pub mod Show

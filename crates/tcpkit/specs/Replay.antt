@@ -9,7 +9,7 @@ use Rattle.tcpkit.specs.declared.errors.ToolError.{ToolError}
 use Rattle.tcpkit.specs.declared.errors.ToolError.TheVariants.{BadLine, NoMemory, ReadFault, WriteFault, Config as ConfigFault}
 use Rattle.tcpkit.specs.declared.script.Script.{Script}
 use Rattle.tcpkit.specs.Devices.{AppendsFront}
-use Rattle.tcpkit.specs.Scripts.{ScriptTold, script_told, script_of}
+use Rattle.tcpkit.specs.Scripts.{script_told, script_of}
 use Rattle.tcpkit.specs.Report.{report_text, report_is_well}
 
 -- why no report of these two is made: one of them is refused, never for want of memory; or memory ran out

@@ -1,5 +1,5 @@
 -- What a report says: a function from what the ends are made from and the list of events.
-use Rattle.std.specs.Prelude.{ℕ, suc, ◌+◌, ◌==◌, if◌then◌else◌, ◌&&◌, Bool, true, false, not, List, [], ◌∷◌, ◌++◌, length, drop, map, codes, decimal, Option, Some, None, Result, Ok, Err}
+use Rattle.std.specs.Prelude.{ℕ, ◌+◌, ◌==◌, if◌then◌else◌, ◌&&◌, Bool, true, false, not, List, [], ◌∷◌, ◌++◌, length, drop, map, codes, decimal, Option, Some, None, Result, Ok, Err}
 use Rattle.hex.specs.Hex.{encode_lower}
 use Rattle.tcp_wire.specs.declared.fault.DecodeError.{DecodeError}
 use Rattle.tcp_wire.specs.FaultNumber.{fault_number}

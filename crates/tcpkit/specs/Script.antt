@@ -1,11 +1,10 @@
 -- What a script says: a function from its whole text. Lines count from 1, all of them.
-use Rattle.std.specs.Prelude.{◌≡◌, ℕ, ◌+◌, ◌-◌, ◌*◌, ◌==◌, ◌&&◌, ◌||◌, nat_le, nat_lt, Bool, not, if◌then◌else◌, List, [], ◌∷◌, ◌++◌, length, take, map, slice_index, count_by, position, bytes_eq, codes, Option, Some, None, option_map, Result, Ok, Err}
+use Rattle.std.specs.Prelude.{◌≡◌, ℕ, ◌+◌, ◌-◌, ◌*◌, ◌==◌, ◌&&◌, ◌||◌, nat_le, nat_lt, Bool, not, if◌then◌else◌, List, [], ◌∷◌, length, take, slice_index, count_by, position, bytes_eq, codes, Option, Some, None, option_map, Result, Ok, Err}
 use Rattle.std.specs.Option.{option_and_then}
 use Rattle.std.specs.Result.{result_ok}
 use Rattle.std.specs.List.{slice_split, list_all}
 use Rattle.std.specs.Borrow.{Bor}
 use Rattle.hex.specs.Hex.{decode_of}
-use Rattle.tcp_conn.specs.declared.config.Config.{Config}
 use Rattle.tcp_conn.specs.declared.phase.Timer.{Timer}
 use Rattle.tcp_conn.specs.declared.phase.Timer.TheVariants.{Retransmit}
 use Rattle.tcp_replay.specs.declared.event.Side.{Side}

@@ -65,7 +65,7 @@ fn refused_text(alloc: Global, number: u8) -> Result<String, AllocError>
     format!(in alloc; "refused {number}")
 }
 
-fn fault_text(alloc: Global, fault: DecodeError) -> Result<String, AllocError>
+pub(crate) fn fault_text(alloc: Global, fault: DecodeError) -> Result<String, AllocError>
     ensures { IfOk result (λ text. string_bytes text ≡ fault_text fault) }
 {
     let number = fault.number();

@@ -5,6 +5,8 @@ ghost use Rattle.tcpkit.specs.Script.{pieces_of};
 
 /// What stands between the words of a line.
 pub(crate) const SPACE: u8 = b' ';
+/// What stands between the numbers of an address.
+pub(crate) const DOT: u8 = b'.';
 /// What ends a line.
 pub(crate) const LINE_FEED: u8 = b'\n';
 

@@ -1,6 +1,6 @@
 //! One line of a script.
 ghost use Rattle.std.specs.Prelude.{◌≡◌, option_map};
-ghost use Rattle.tcpkit.specs.Script.{line_told, line_of, setting_of_words, line_of_words, words_of, pieces_of, Reads};
+ghost use Rattle.tcpkit.specs.Script.{line_told, line_of, setting_of_words, line_of_words, words_of, pieces_of, is_passed_over, Reads};
 
 use crate::cutting::{SPACE, cut};
 use crate::events::read_event;
@@ -57,12 +57,19 @@ fn worded(alloc: Global, line: &[u8]) -> Result<Line, LineFault>
     }
 }
 
+/// Whether a line is empty or a comment.
+pub(crate) fn is_passed_over(line: &[u8]) -> bool
+    ensures { result ≡ is_passed_over line.now }
+{
+    line.is_empty() || line[0] == b'#'
+}
+
 /// What a line says.
 #[tactic(auto, unfolding(crate::specs::Script::line_of))]
 pub(crate) fn read_line(alloc: Global, line: &[u8]) -> Result<Line, LineFault>
     ensures { Reads line_told result (line_of line.now) }
 {
-    if line.is_empty() || line[0] == b'#' {
+    if is_passed_over(line) {
         return Ok(Line::Passed);
     }
     worded(alloc, line)

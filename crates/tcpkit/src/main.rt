@@ -1,5 +1,6 @@
-//! `tcpkit replay FILE`: replays a script of losses, repeats, reorderings and damage between the two ends of
-//! one TCP connection, and reports what came of each event.
+//! `tcpkit decode FILE` tells what the segments of a list say, and which are malformed. `tcpkit replay FILE`
+//! replays a script of losses, repeats, reorderings and damage between the two ends of one TCP connection, and
+//! reports what came of each event.
 #![tactic(auto)]
 
 mod answers;
@@ -7,7 +8,9 @@ mod counted;
 mod cutting;
 mod errors;
 mod events;
+mod items;
 mod lines;
+mod listing;
 mod names;
 mod numbers;
 mod pieces;
@@ -15,7 +18,9 @@ mod program;
 mod replaying;
 mod report;
 mod script;
+mod segment_texts;
 mod settings;
+mod showing;
 mod tally;
 #[cfg(test)]
 mod tests;
@@ -26,6 +31,7 @@ pub use counted::{Counted, Input, Output};
 pub use errors::{ScriptError, ToolError, WordsError};
 pub use replaying::replay;
 pub use script::{Script, read_script};
+pub use showing::show;
 use std::process::ExitCode;
 pub use tcp_conn::{
     Arrival, CallError, Config, ConfigError, Ending, Endpoint, Phase, Received, Timer,

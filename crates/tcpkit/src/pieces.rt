@@ -21,7 +21,7 @@ pub(crate) fn bytes_text(alloc: Global, bytes: &[u8]) -> Result<String, AllocErr
 }
 
 /// The text, or `-` where it is empty.
-fn or_dash(alloc: Global, text: String) -> Result<String, AllocError>
+pub(crate) fn or_dash(alloc: Global, text: String) -> Result<String, AllocError>
     ensures { IfOk result (λ out. string_bytes out ≡ or_dash (string_bytes text)) }
 {
     if text.is_empty() {
@@ -77,7 +77,7 @@ fn block_text(alloc: Global, edges: &(Seq, Seq)) -> Result<String, AllocError>
 }
 
 /// Blocks joined by `+`, or `-` for none.
-fn blocks_text(alloc: Global, blocks: &[(Seq, Seq)]) -> Result<String, AllocError>
+pub(crate) fn blocks_text(alloc: Global, blocks: &[(Seq, Seq)]) -> Result<String, AllocError>
     ensures { IfOk result (λ text. string_bytes text ≡ blocks_text (map block blocks.now)) }
 {
     let mut text = String::new(alloc);

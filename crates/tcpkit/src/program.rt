@@ -2,6 +2,7 @@
 use crate::counted::Counted;
 use crate::errors::{ToolError, WordsError};
 use crate::replaying::replay;
+use crate::showing::show;
 use crate::words::{Job, read_words};
 use std::fs::File;
 use std::rt::{Env, Files};
@@ -42,13 +43,19 @@ fn words(rt: &(impl Env + AllocGlobal)) -> Result<Vec<String>, WordsError> {
 
 /// Opens a file and does the job.
 fn work(rt: &(impl Files + Print + AllocGlobal), job: &Job) -> Result<bool, ToolError> {
-    let Job::Replay(path) = job;
+    let path = match job {
+        Job::Decode(path) => path,
+        Job::Replay(path) => path,
+    };
     let Ok(file) = File::open(rt, path.as_str()) else {
         return Err(ToolError::ReadFault);
     };
     let mut input = Counted::new(file);
     let mut output = Counted::new(io::writer(rt));
-    replay(rt.alloc(), &mut input, &mut output)
+    match job {
+        Job::Decode(_) => show(rt.alloc(), &mut input, &mut output),
+        Job::Replay(_) => replay(rt.alloc(), &mut input, &mut output),
+    }
 }
 
 fn work_by_words(rt: &(impl Env + Files + Print + AllocGlobal)) -> Result<bool, Fault> {

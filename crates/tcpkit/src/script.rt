@@ -99,7 +99,7 @@ fn count_lines(front: &[u8]) -> usize
 }
 
 /// The line of the first byte above 7f.
-fn line_above_ascii(text: &[u8]) -> Option<usize>
+pub(crate) fn line_above_ascii(text: &[u8]) -> Option<usize>
     ensures { result ≡ line_above_ascii text.now }
 {
     let at = first_above_ascii(text)?;

@@ -1,4 +1,5 @@
 mod devices;
+mod listings;
 mod program_words;
 mod scripts;
 mod texts;

@@ -1,25 +1,36 @@
 //! The program's words.
 use crate::errors::WordsError;
 use clap::error::ErrorKind;
-use clap::{Arg, ArgAction, Command, Error};
+use clap::{Arg, ArgAction, ArgMatches, Command, Error};
 use std::alloc::{AllocError, Global};
 
 /// What the program is to do, with the path of its file.
 #[derive(Debug, PartialEq, Eq, Drop)]
 pub enum Job {
+    /// To list the segments of a file.
+    Decode(String),
     /// To replay a script.
     Replay(String),
 }
 
-/// The forms that the program has.
-fn forms<'a>(alloc: Global) -> Result<Command<'a>, AllocError> {
+const DECODE: &str = "decode";
+
+const REPLAY: &str = "replay";
+
+/// A form of this name, with one file.
+fn form<'a>(alloc: Global, name: &'a str) -> Result<Command<'a>, AllocError> {
     let file = Arg::new(alloc, "FILE")
         .required(true)
         .action(ArgAction::Set);
-    let replay = Command::new(alloc, "replay").arg(file)?;
+    Command::new(alloc, name).arg(file)
+}
+
+/// The forms that the program has.
+fn forms<'a>(alloc: Global) -> Result<Command<'a>, AllocError> {
     Command::new(alloc, "tcpkit")
         .subcommand_required(true)
-        .subcommand(replay)
+        .subcommand(form(alloc, DECODE)?)?
+        .subcommand(form(alloc, REPLAY)?)
 }
 
 /// Any refusal but want of memory is one of the words; so is a request for help.
@@ -27,6 +38,17 @@ fn fault(error: &Error) -> WordsError {
     match error.kind() {
         ErrorKind::OutOfMemory => WordsError::NoMemory,
         _ => WordsError::BadWords,
+    }
+}
+
+/// The path of the form that has this name.
+fn file(alloc: Global, form: &ArgMatches) -> Result<String, WordsError> {
+    let Some(file) = form.get_str("FILE") else {
+        return Err(WordsError::BadWords);
+    };
+    match String::from_str(alloc, file) {
+        Ok(file) => Ok(file),
+        Err(_) => Err(WordsError::NoMemory),
     }
 }
 
@@ -39,14 +61,11 @@ pub fn read_words(alloc: Global, words: Vec<String>) -> Result<Job, WordsError> 
         Ok(matches) => matches,
         Err(error) => return Err(fault(&error)),
     };
-    let Some(replay) = matches.subcommand_matches("replay") else {
-        return Err(WordsError::BadWords);
-    };
-    let Some(file) = replay.get_str("FILE") else {
-        return Err(WordsError::BadWords);
-    };
-    match String::from_str(alloc, file) {
-        Ok(file) => Ok(Job::Replay(file)),
-        Err(_) => Err(WordsError::NoMemory),
+    if let Some(form) = matches.subcommand_matches(DECODE) {
+        return Ok(Job::Decode(file(alloc, form)?));
     }
+    if let Some(form) = matches.subcommand_matches(REPLAY) {
+        return Ok(Job::Replay(file(alloc, form)?));
+    }
+    Err(WordsError::BadWords)
 }

@@ -21,13 +21,23 @@ fn replay_takes_one_file(rt: HostRuntime) -> Result<(), Fail> {
 }
 
 #[test]
+fn decode_takes_one_file(rt: HostRuntime) -> Result<(), Fail> {
+    let alloc = rt.alloc();
+    let job = read_words(alloc, words(alloc, &["tcpkit", "decode", "x"])?)?;
+    assert_eq!(rt; job, Job::Decode(String::from_str(alloc, "x")?));
+    Ok(())
+}
+
+#[test]
 fn other_words_are_refused(rt: HostRuntime) -> Result<(), Fail> {
     let alloc = rt.alloc();
-    let refused: [&[&str]; 12] = [
+    let refused: [&[&str]; 14] = [
         &[],
         &["tcpkit"],
         &["tcpkit", "replay"],
         &["tcpkit", "replay", "x", "y"],
+        &["tcpkit", "decode"],
+        &["tcpkit", "decode", "x", "y"],
         &["tcpkit", "replay", "--help"],
         &["tcpkit", "replay", "-x"],
         &["tcpkit", "show", "x"],

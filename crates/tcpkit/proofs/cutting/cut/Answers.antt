@@ -1,4 +1,4 @@
-use Rattle.std.proofs.Common.{◌≡◌, ℕ, ◌+◌, ◌-◌, ◌<◌, ◌≤◌, length, get_or, take, drop, arith, add-one, length-drop}
+use Rattle.std.proofs.Common.{◌+◌, ◌-◌, ◌≤◌, length, drop, arith, add-one, length-drop}
 use Rattle.std.proofs.lemmas.List.{take_all}
 use Rattle.tcpkit.proofs.Cuts.{slice_split-first, slice_split-nowhere}
 use Rattle.tcpkit.proofs.cutting.cut.Goals as goal

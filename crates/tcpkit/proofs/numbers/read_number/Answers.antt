@@ -1,4 +1,4 @@
-use Rattle.std.proofs.Common.{◌≡◌, ℕ, ◌+◌, ◌-◌, ◌*◌, ◌<◌, suc, ◌∷◌, length, get_or, drop, sym, ap, ◌∙◌, arith, drop-cons}
+use Rattle.std.proofs.Common.{◌≡◌, ◌+◌, ◌-◌, ◌*◌, suc, ◌∷◌, get_or, drop, sym, ap, ◌∙◌, arith, drop-cons}
 use Rattle.tcpkit.specs.Script.{value_from}
 use Rattle.tcpkit.proofs.Digits.{value_from-least, number_of-above}
 use Rattle.tcpkit.proofs.numbers.read_number.Goals as goal

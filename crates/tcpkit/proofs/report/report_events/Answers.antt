@@ -1,4 +1,4 @@
-use Rattle.std.proofs.Common.{◌≡◌, ◌+◌, ◌≤◌, length, drop, string_bytes, arith}
+use Rattle.std.proofs.Common.{◌+◌, drop, string_bytes, arith}
 use Rattle.tcpkit.proofs.ReportSteps.{events-at, lines-on, well-on, world-on, lines-end, well-end, world-end}
 use Rattle.tcpkit.proofs.report.report_events.Goals as goal
 

@@ -1,4 +1,4 @@
-use Rattle.std.proofs.Common.{◌≡◌, ℕ, ◌+◌, ◌-◌, ◌≤◌, length, take, drop, refl, arith, length-drop, take-append-drop, ◌∙◌}
+use Rattle.std.proofs.Common.{◌+◌, take, drop, refl, arith, length-drop, take-append-drop, ◌∙◌}
 use Rattle.std.proofs.lemmas.List.{take_rest}
 use Rattle.tcpkit.proofs.Transfers.{Appends-more, Appends-kept, Appends-nothing, take-more, some-written}
 use Rattle.tcpkit.proofs.transfer.write_all.Goals as goal

@@ -3,21 +3,19 @@ use Rattle.std.proofs.Common.{ℕ, ◌+◌, List, [], ◌∷◌, refl, MutBor}
 use seplogic.Ra.Ura.{Ura}
 use mir.Syntax.{named}
 use mir.Val.{Val, vunit, vptr}
-use base.Logic.{SProp, ent, sep, emp, via, fst∗, id⊢}
-use base.Fml.{GName, Lft, Share, ftrue, flft, fobs, fbor}
+use base.Logic.{SProp, ent, emp, via, fst∗, id⊢}
+use base.Fml.{GName, Lft, Share, ftrue, flft}
 use prog.Memory.{Memory}
 use prog.Routine.{Routine}
 use prog.Wp.{Calls, Loops, WpFn, Tables}
 use types.Logic.{Logic}
 use contract.Monad.{Fun}
 use contract.Running.{tables, tables_of}
-use types.Kit.{‵, ◌⊛◌, ◌$◌, ◌∵◌, !, qed, by, move, keep, drop, use1, split, join, fsplit, fsplit3, fjoin, fjoin3, feq_i, suffices, frame, done}
+use types.Kit.{‵, ◌⊛◌, ◌$◌, ◌∵◌, !, qed, move, drop, use1, split, join, fsplit, fsplit3, fjoin, fjoin3, feq_i, suffices, frame, done}
 use types.Run.{unit_lit, of_opd, returns, enter}
-use types.SemTy.{Body}
 use types.ByLocal.{alloc_all, pass_all, free_all, look_at, sets}
 use sound.WpLaws.{WpFn-mono}
 use denote.RattleType.{owns}
-use denote.Memory.{mem}
 use denote.Ref.{MutRef, mut_vals, mut_Tells}
 use denote.Signature.{plain}
 use denote.Steps.{opens, closes}
