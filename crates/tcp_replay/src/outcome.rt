@@ -1,5 +1,5 @@
-ghost use Rattle.std.specs.Prelude.{◌≡◌};
-ghost use Rattle.tcp_replay.specs.Numbers.{step_error_number};
+ghost use Rattle.std.specs.Prelude.{◌≡◌, Some};
+ghost use Rattle.tcp_replay.specs.Numbers.{step_error_number, step_error_text, world_error_text};
 ghost use Rattle.tcp_replay.specs.declared.outcome.StepError.TheVariants.{NoMemory};
 
 use crate::event::Side;
@@ -51,6 +51,8 @@ impl StepError {
 }
 
 impl fmt::Display for StepError {
+    ghost output = { λ e. Some (step_error_text e) };
+
     fn fmt<W: fmt::Write>(&self, f: &mut fmt::Formatter<W>) -> fmt::Result {
         f.write_str(match self {
             StepError::NoSuchSegment => "no segment of this number was emitted",
@@ -77,3 +79,17 @@ pub enum WorldError {
     /// The end of this side can't be made.
     Config(Side, ConfigError),
 }
+
+impl fmt::Display for WorldError {
+    ghost output = { λ e. Some (world_error_text e) };
+
+    fn fmt<W: fmt::Write>(&self, f: &mut fmt::Formatter<W>) -> fmt::Result {
+        let WorldError::Config(side, error) = self;
+        match side {
+            Side::A => write!(f, "side A: {error}"),
+            Side::B => write!(f, "side B: {error}"),
+        }
+    }
+}
+
+impl Error for WorldError {}

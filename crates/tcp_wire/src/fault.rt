@@ -1,5 +1,8 @@
-ghost use Rattle.std.specs.Prelude.{◌≡◌};
-ghost use Rattle.tcp_wire.specs.FaultNumber.{fault_number};
+ghost use Rattle.std.specs.Prelude.{◌≡◌, Some};
+ghost use Rattle.tcp_wire.specs.FaultNumber.{fault_number, fault_message};
+
+use std::error::Error;
+use std::fmt;
 
 /// Why bytes are no segment: the first fault that applies, in the order of the numbers.
 #[derive(Clone, Copy, Debug, PartialEq, Eq)]
@@ -33,3 +36,20 @@ impl DecodeError {
         }
     }
 }
+
+impl fmt::Display for DecodeError {
+    ghost output = { λ e. Some (fault_message e) };
+
+    fn fmt<W: fmt::Write>(&self, f: &mut fmt::Formatter<W>) -> fmt::Result {
+        match *self {
+            DecodeError::TooShort => f.write_str("a segment has at least 20 bytes"),
+            DecodeError::TooLong => f.write_str("a segment has at most 65515 bytes"),
+            DecodeError::BadChecksum => f.write_str("the checksum is wrong"),
+            DecodeError::BadOffset => f.write_str("the data offset is wrong"),
+            DecodeError::BadOption { at } => write!(f, "no option begins at byte {at}"),
+            DecodeError::BadPadding { at } => write!(f, "the padding at byte {at} is not zero"),
+        }
+    }
+}
+
+impl Error for DecodeError {}
