@@ -6,7 +6,7 @@ use crate::{
     Timer,
 };
 use arrayvec::ArrayVec;
-use std::test::Fail;
+use std::process::Abort;
 use tcp_wire::{Addr, DecodeError, Flags, Segment, Seq, encode};
 
 const ADDR_A: Addr = Addr([10, 0, 0, 1]);
@@ -31,6 +31,16 @@ fn config_b() -> Config {
         isn: Seq(5000),
         ..config_a()
     }
+}
+
+/// A's end, new.
+fn end_a(rt: &(impl AllocGlobal + Abort)) -> Endpoint {
+    Endpoint::new(rt.alloc(), config_a(), config_b()).expect(rt, "an end")
+}
+
+/// B's end, new.
+fn end_b(rt: &(impl AllocGlobal + Abort)) -> Endpoint {
+    Endpoint::new(rt.alloc(), config_b(), config_a()).expect(rt, "an end")
 }
 
 /// Port 1 to 2, seq 1001, ack 5001, ACK and PSH, window 65535, text `abc`.
@@ -67,14 +77,14 @@ fn reach(end: &mut Endpoint, src: Addr, dst: Addr, segment: &Segment<'_>) -> Opt
 }
 
 #[test]
-fn text_goes_out_and_again_after_a_timeout(rt: HostRuntime) -> Result<(), Fail> {
-    let mut a = Endpoint::new(rt.alloc(), config_a(), config_b())?;
+fn text_goes_out_and_again_after_a_timeout(rt: HostRuntime) {
+    let mut a = end_a(&rt);
     let mut room = [0u8; EMIT_ROOM];
     assert_eq!(rt; a.config(), config_a());
     assert_eq!(rt; a.phase(), Phase::Established);
     assert_eq!(rt; a.ending(), Ending::NotEnded);
     assert!(rt; a.emit(&mut room).is_none(), "nothing is due");
-    assert_eq!(rt; a.send(b"abc")?, 3);
+    assert_eq!(rt; a.send(b"abc"), Ok(3));
     assert_eq!(rt; a.due(), Some(Due::NewText(1, 3)));
     assert_eq!(rt; a.pending(), Some(23));
     assert_eq!(rt; a.emit(&mut room), Some((ADDR_B, 23)));
@@ -84,44 +94,41 @@ fn text_goes_out_and_again_after_a_timeout(rt: HostRuntime) -> Result<(), Fail> 
     assert!(rt; !a.timer(Timer::Reorder), "nothing is marked");
     assert_eq!(rt; a.due(), Some(Due::Resend(1, 3)));
     assert_eq!(rt; Due::Resend(1, 3).count(), 3);
-    Ok(())
 }
 
 #[test]
-fn text_is_handed_over_and_its_acknowledgement_releases_it(rt: HostRuntime) -> Result<(), Fail> {
-    let mut a = Endpoint::new(rt.alloc(), config_a(), config_b())?;
-    let mut b = Endpoint::new(rt.alloc(), config_b(), config_a())?;
+fn text_is_handed_over_and_its_acknowledgement_releases_it(rt: HostRuntime) {
+    let mut a = end_a(&rt);
+    let mut b = end_b(&rt);
     let mut room = [0u8; EMIT_ROOM];
-    assert_eq!(rt; a.send(b"abc")?, 3);
+    assert_eq!(rt; a.send(b"abc"), Ok(3));
     assert_eq!(rt; a.emit(&mut room), Some((ADDR_B, 23)));
     assert_eq!(rt; b.arrive(ADDR_A, ADDR_B, &TEXT), Arrival::Processed);
     assert_eq!(rt; b.unread(), 3);
     assert_eq!(rt; b.ordered(), 3);
     assert_eq!(rt; b.due(), Some(Due::Acknowledgement));
     let mut out = [0u8; 10];
-    assert_eq!(rt; b.receive(&mut out)?, Received::Bytes(3));
+    assert_eq!(rt; b.receive(&mut out), Ok(Received::Bytes(3)));
     assert!(rt; out.starts_with(b"abc"));
-    assert_eq!(rt; b.receive(&mut out)?, Received::Nothing);
+    assert_eq!(rt; b.receive(&mut out), Ok(Received::Nothing));
     assert_eq!(rt; b.emit(&mut room), Some((ADDR_A, 20)));
     assert_eq!(rt; a.arrive(ADDR_B, ADDR_A, &room[..20]), Arrival::Processed);
     assert_eq!(rt; a.released(), 3);
     assert!(rt; !a.timer(Timer::Retransmit), "nothing is in flight");
-    Ok(())
 }
 
 #[test]
-fn fewer_bytes_than_a_header_are_malformed_and_change_nothing(rt: HostRuntime) -> Result<(), Fail> {
-    let mut b = Endpoint::new(rt.alloc(), config_b(), config_a())?;
+fn fewer_bytes_than_a_header_are_malformed_and_change_nothing(rt: HostRuntime) {
+    let mut b = end_b(&rt);
     let found = b.arrive(Addr([10, 0, 0, 3]), ADDR_B, &TEXT[..19]);
     assert_eq!(rt; found, Arrival::Malformed(DecodeError::TooShort));
     assert_eq!(rt; b.unread(), 0);
     assert!(rt; b.due().is_none(), "nothing is owed");
-    Ok(())
 }
 
 #[test]
-fn segment_with_a_foreign_port_or_address_is_not_mine(rt: HostRuntime) -> Result<(), Fail> {
-    let mut b = Endpoint::new(rt.alloc(), config_b(), config_a())?;
+fn segment_with_a_foreign_port_or_address_is_not_mine(rt: HostRuntime) {
+    let mut b = end_b(&rt);
     let elsewhere = Addr([10, 0, 0, 3]);
     let own = segment_of_a(1001, 5001, b"abc");
     let mut from_other_port = segment_of_a(1001, 5001, b"abc");
@@ -150,14 +157,11 @@ fn segment_with_a_foreign_port_or_address_is_not_mine(rt: HostRuntime) -> Result
         reach(&mut b, ADDR_A, ADDR_B, &own),
         Some(Arrival::Processed)
     );
-    Ok(())
 }
 
 #[test]
-fn acknowledgement_of_what_was_not_sent_is_dropped_and_answered(
-    rt: HostRuntime,
-) -> Result<(), Fail> {
-    let mut b = Endpoint::new(rt.alloc(), config_b(), config_a())?;
+fn acknowledgement_of_what_was_not_sent_is_dropped_and_answered(rt: HostRuntime) {
+    let mut b = end_b(&rt);
     let ahead = segment_of_a(1001, 5002, b"abc");
     assert_eq!(rt;
         reach(&mut b, ADDR_A, ADDR_B, &ahead),
@@ -166,14 +170,11 @@ fn acknowledgement_of_what_was_not_sent_is_dropped_and_answered(
     assert_eq!(rt; b.due(), Some(Due::Acknowledgement));
     assert_eq!(rt; b.unread(), 0);
     assert_eq!(rt; b.released(), 0);
-    Ok(())
 }
 
 #[test]
-fn text_out_of_order_is_acknowledged_at_the_old_number_and_then_jumped_over(
-    rt: HostRuntime,
-) -> Result<(), Fail> {
-    let mut b = Endpoint::new(rt.alloc(), config_b(), config_a())?;
+fn text_out_of_order_is_acknowledged_at_the_old_number_and_then_jumped_over(rt: HostRuntime) {
+    let mut b = end_b(&rt);
     let mut room = [0u8; EMIT_ROOM];
     let early = segment_of_a(1004, 5001, b"def");
     assert_eq!(rt;
@@ -192,14 +193,13 @@ fn text_out_of_order_is_acknowledged_at_the_old_number_and_then_jumped_over(
     assert_eq!(rt; b.emit(&mut room), Some((ADDR_A, 20)));
     assert!(rt; room[8..].starts_with(&1007u32.to_be_bytes()));
     let mut out = [0u8; 6];
-    assert_eq!(rt; b.receive(&mut out)?, Received::Bytes(6));
+    assert_eq!(rt; b.receive(&mut out), Ok(Received::Bytes(6)));
     assert!(rt; out.starts_with(b"abcdef"));
-    Ok(())
 }
 
 #[test]
-fn peer_window_of_4_lets_only_4_bytes_of_new_text_out(rt: HostRuntime) -> Result<(), Fail> {
-    let mut b = Endpoint::new(rt.alloc(), config_b(), config_a())?;
+fn peer_window_of_4_lets_only_4_bytes_of_new_text_out(rt: HostRuntime) {
+    let mut b = end_b(&rt);
     let mut room = [0u8; EMIT_ROOM];
     let mut update = segment_of_a(1001, 5001, b"");
     update.window = 4;
@@ -207,7 +207,7 @@ fn peer_window_of_4_lets_only_4_bytes_of_new_text_out(rt: HostRuntime) -> Result
         reach(&mut b, ADDR_A, ADDR_B, &update),
         Some(Arrival::Processed)
     );
-    assert_eq!(rt; b.send(b"abcdef")?, 6);
+    assert_eq!(rt; b.send(b"abcdef"), Ok(6));
     assert_eq!(rt; b.emit(&mut room), Some((ADDR_A, 24)));
     assert!(rt; room[20..].starts_with(b"abcd"));
     assert!(rt; b.due().is_none(), "the window is full");
@@ -218,11 +218,10 @@ fn peer_window_of_4_lets_only_4_bytes_of_new_text_out(rt: HostRuntime) -> Result
     );
     assert_eq!(rt; b.released(), 4);
     assert_eq!(rt; b.due(), Some(Due::NewText(5, 2)));
-    Ok(())
 }
 
 #[test]
-fn faults_of_a_config(rt: HostRuntime) -> Result<(), Fail> {
+fn faults_of_a_config(rt: HostRuntime) {
     let rows = [
         (
             Config {
@@ -274,16 +273,15 @@ fn faults_of_a_config(rt: HostRuntime) -> Result<(), Fail> {
         assert_eq!(rt; fault.number(), number);
     }
     assert_eq!(rt; ConfigError::NoMemory.number(), 22);
-    let shown = format!(in rt.alloc(); "{}", ConfigError::BadMss)?;
+    let shown = format!(in rt.alloc(); "{}", ConfigError::BadMss).expect(&rt, "memory for a text");
     assert_eq!(rt;
         shown.as_str(),
         "the maximum segment size is not from 64 to 1460 bytes"
     );
-    Ok(())
 }
 
 #[test]
-fn refusals_of_calls_are_numbered_from_11_on(rt: HostRuntime) -> Result<(), Fail> {
+fn refusals_of_calls_are_numbered_from_11_on(rt: HostRuntime) {
     let rows = [
         (CallError::NotOpen, 11),
         (CallError::AlreadyOpen, 12),
@@ -295,7 +293,9 @@ fn refusals_of_calls_are_numbered_from_11_on(rt: HostRuntime) -> Result<(), Fail
     for (refusal, number) in rows {
         assert_eq!(rt; refusal.number(), number);
     }
-    let shown = format!(in rt.alloc(); "{}", CallError::Ended(Ending::Aborted))?;
+    let shown = format!(in rt.alloc(); "{}", CallError::Ended(Ending::Aborted)).expect(
+        &rt,
+        "memory for a text",
+    );
     assert_eq!(rt; shown.as_str(), "the connection has ended");
-    Ok(())
 }

@@ -146,15 +146,13 @@ impl Plain {
     }
 }
 
-/// A fixed generator: the upper half of a linear congruence.
-fn next_number(state: &mut u64) -> u32 {
-    *state = state
-        .wrapping_mul(6_364_136_223_846_793_005)
-        .wrapping_add(1_442_695_040_888_963_407);
-    (*state >> 33) as u32
+/// A fixed generator: the upper 24 bits of a linear congruence.
+fn next_number(state: &mut u32) -> u32 {
+    *state = state.wrapping_mul(1_664_525).wrapping_add(1_013_904_223);
+    *state >> 8
 }
 
-fn text_of(alloc: Global, state: &mut u64, len: u32) -> Result<Vec<u8>, AllocError> {
+fn text_of(alloc: Global, state: &mut u32, len: u32) -> Result<Vec<u8>, AllocError> {
     let mut text = Vec::new(alloc);
     for _ in 0..len {
         text.push((next_number(state) % 256) as u8)?;
@@ -174,14 +172,14 @@ struct Met {
 fn compare(
     rt: &impl Abort,
     alloc: Global,
-    capacity: usize,
+    capacity: u32,
     calls: u32,
     longest: u32,
     met: &mut Met,
 ) -> Result<(), Fail> {
-    let mut state = capacity as u64;
-    let mut sut = Reassembly::new(alloc, capacity)?;
-    let mut plain = Plain::new(alloc, capacity)?;
+    let mut state = capacity;
+    let mut sut = Reassembly::new(alloc, capacity as usize)?;
+    let mut plain = Plain::new(alloc, capacity as usize)?;
     for _ in 0..calls {
         match next_number(&mut state) % 100 {
             0 => {

@@ -1,8 +1,7 @@
 //! Two ends born in ESTABLISHED, run from event to event. What is expected was worked out by hand from the
 //! standard's rules, and the segments' bytes by a program that is no part of this project.
 use crate::{Event, Outcome, Side, StepError, World, WorldError, every_run_is_safe};
-use std::alloc::Global;
-use std::test::Fail;
+use std::process::Abort;
 use tcp_conn::{Arrival, Config, ConfigError, Phase, Received, Timer};
 use tcp_wire::{Addr, DecodeError, Seq};
 
@@ -46,37 +45,52 @@ fn worked_events(text: Vec<u8>) -> [Event; 12] {
     ]
 }
 
-/// The world after that, with `abc` as the text and an initial number for A.
-fn world_after(alloc: Global, isn: u32) -> Result<World, Fail> {
-    let events = worked_events(b"abc".to_vec(alloc)?);
-    let mut world = World::new(alloc, config_a(isn), config_b())
-        .ok()
-        .ok_or("two ends")?;
-    world.run(&events).ok().ok_or("no event is refused")?;
-    Ok(world)
+/// A text, as an event takes it.
+fn letters(rt: &(impl AllocGlobal + Abort), text: &[u8]) -> Vec<u8> {
+    text.to_vec(rt.alloc()).expect(rt, "memory for a text")
+}
+
+/// Two new ends, the first made from this.
+fn new_world(rt: &(impl AllocGlobal + Abort), a: Config) -> World {
+    World::new(rt.alloc(), a, config_b()).expect(rt, "two ends")
+}
+
+/// The world after these events, none of which is refused.
+fn world_of(rt: &(impl AllocGlobal + Abort), a: Config, events: &[Event]) -> World {
+    let mut world = new_world(rt, a);
+    world.run(events).expect(rt, "no event is refused");
+    world
+}
+
+/// The world after the worked events with `abc` as the text and an initial number for A.
+fn world_after(rt: &(impl AllocGlobal + Abort), isn: u32) -> World {
+    world_of(rt, config_a(isn), &worked_events(letters(rt, b"abc")))
+}
+
+/// The bytes of a segment.
+fn segment<'w>(rt: &impl Abort, world: &'w World, side: Side, k: usize) -> &'w [u8] {
+    world.sent(side, k).expect(rt, "a segment")
 }
 
 #[test]
-fn loss_and_repeats(rt: HostRuntime) -> Result<(), Fail> {
-    let world = world_after(rt.alloc(), 1000)?;
+fn loss_and_repeats(rt: HostRuntime) {
+    let world = world_after(&rt, 1000);
     assert_eq!(rt; world.accepted(Side::A), b"abc".as_slice());
     assert_eq!(rt; world.delivered(Side::B), b"abc".as_slice());
     assert_eq!(rt; world.delivered(Side::A).len(), 0);
     assert_eq!(rt; world.count(Side::A), 2);
     assert_eq!(rt; world.count(Side::B), 1);
-    Ok(())
 }
 
 #[test]
-fn ends_after_loss_and_repeats(rt: HostRuntime) -> Result<(), Fail> {
-    let world = world_after(rt.alloc(), 1000)?;
+fn ends_after_loss_and_repeats(rt: HostRuntime) {
+    let world = world_after(&rt, 1000);
     assert_eq!(rt; world.endpoint(Side::A).released(), 3);
     assert_eq!(rt; world.endpoint(Side::B).ordered(), 3);
     assert_eq!(rt; world.endpoint(Side::B).phase(), Phase::Established);
     assert!(rt; !world.closed(Side::A), "no close yet");
     assert!(rt; !world.ended(Side::B), "no end yet");
     every_run_is_safe();
-    Ok(())
 }
 
 /// Port 1 to 2, seq 1001, ack 5001, ACK and PSH, window 65535, text `abc`.
@@ -86,34 +100,27 @@ const TEXT: [u8; 23] = [
 ];
 
 #[test]
-fn emitted_bytes(rt: HostRuntime) -> Result<(), Fail> {
-    let world = world_after(rt.alloc(), 1000)?;
-    assert_eq!(rt; world.sent(Side::A, 0).ok_or("a segment")?, TEXT.as_slice());
-    assert_eq!(rt;
-        world.sent(Side::A, 1).ok_or("the same again")?,
-        TEXT.as_slice()
-    );
+fn emitted_bytes(rt: HostRuntime) {
+    let world = world_after(&rt, 1000);
+    assert_eq!(rt; segment(&rt, &world, Side::A, 0), TEXT.as_slice());
+    assert_eq!(rt; segment(&rt, &world, Side::A, 1), TEXT.as_slice());
     assert!(rt; world.sent(Side::A, 2).is_none(), "no third");
-    Ok(())
 }
 
 #[test]
-fn wraps_in_text(rt: HostRuntime) -> Result<(), Fail> {
-    let world = world_after(rt.alloc(), 4_294_967_295)?;
-    let segment = world.sent(Side::A, 0).ok_or("a segment")?;
-    assert_eq!(rt; segment.len(), 23);
-    assert_eq!(rt; &segment[4..8], [0, 0, 0, 0].as_slice());
-    let answer = world.sent(Side::B, 0).ok_or("an answer")?;
+fn wraps_in_text(rt: HostRuntime) {
+    let world = world_after(&rt, 4_294_967_295);
+    let text = segment(&rt, &world, Side::A, 0);
+    assert_eq!(rt; text.len(), 23);
+    assert_eq!(rt; &text[4..8], [0, 0, 0, 0].as_slice());
+    let answer = segment(&rt, &world, Side::B, 0);
     assert_eq!(rt; answer.len(), 20);
     assert_eq!(rt; &answer[8..12], [0, 0, 0, 3].as_slice());
-    Ok(())
 }
 
 #[test]
-fn outcomes_in_turn(rt: HostRuntime) -> Result<(), Fail> {
-    let mut world = World::new_in(rt.alloc(), config_a(1000), config_b())
-        .ok()
-        .ok_or("two ends")?;
+fn outcomes_in_turn(rt: HostRuntime) {
+    let mut world = World::new_in(rt.alloc(), config_a(1000), config_b()).expect(&rt, "two ends");
     let expected = [
         Outcome::Sent(Ok(3)),
         Outcome::Emitted(Some(0)),
@@ -128,20 +135,17 @@ fn outcomes_in_turn(rt: HostRuntime) -> Result<(), Fail> {
         Outcome::Got(Ok(Received::Bytes(3))),
         Outcome::Emitted(None),
     ];
-    let events = worked_events(b"abc".to_vec(rt.alloc())?);
+    let events = worked_events(letters(&rt, b"abc"));
     for (i, event) in events.iter().enumerate() {
         assert_eq!(rt; world.step(event), Ok(expected[i]));
     }
-    Ok(())
 }
 
 #[test]
-fn refused_event_stops_the_run(rt: HostRuntime) -> Result<(), Fail> {
-    let mut world = World::new(rt.alloc(), config_a(1000), config_b())
-        .ok()
-        .ok_or("two ends")?;
+fn refused_event_stops_the_run(rt: HostRuntime) {
+    let mut world = new_world(&rt, config_a(1000));
     let events = [
-        Event::Send(Side::A, b"abc".to_vec(rt.alloc())?),
+        Event::Send(Side::A, letters(&rt, b"abc")),
         Event::Emit(Side::A),
         Event::Deliver(Side::A, 1),
         Event::Emit(Side::B),
@@ -149,12 +153,11 @@ fn refused_event_stops_the_run(rt: HostRuntime) -> Result<(), Fail> {
     assert_eq!(rt; world.run(&events), Err((2, StepError::NoSuchSegment)));
     assert_eq!(rt; world.accepted(Side::A), b"abc".as_slice());
     assert_eq!(rt; world.count(Side::A), 1);
-    Ok(())
 }
 
 #[test]
-fn refusals_of_damage(rt: HostRuntime) -> Result<(), Fail> {
-    let mut world = world_after(rt.alloc(), 1000)?;
+fn refusals_of_damage(rt: HostRuntime) {
+    let mut world = world_after(&rt, 1000);
     let rows = [
         (Event::Deliver(Side::B, 1), StepError::NoSuchSegment, 31),
         (
@@ -173,30 +176,25 @@ fn refusals_of_damage(rt: HostRuntime) -> Result<(), Fail> {
         assert_eq!(rt; world.step(event), Err(*error));
         assert_eq!(rt; error.number(), *number);
     }
-    Ok(())
 }
 
 #[test]
-fn gap_is_held(rt: HostRuntime) -> Result<(), Fail> {
-    let mut world = World::new(rt.alloc(), config_a(1000), config_b())
-        .ok()
-        .ok_or("two ends")?;
+fn gap_is_held(rt: HostRuntime) {
     let events = [
-        Event::Send(Side::A, b"a".to_vec(rt.alloc())?),
+        Event::Send(Side::A, letters(&rt, b"a")),
         Event::Emit(Side::A),
-        Event::Send(Side::A, b"b".to_vec(rt.alloc())?),
+        Event::Send(Side::A, letters(&rt, b"b")),
         Event::Emit(Side::A),
         Event::Deliver(Side::A, 1),
         Event::Deliver(Side::A, 0),
         Event::Emit(Side::B),
     ];
-    world.run(&events).ok().ok_or("no event is refused")?;
-    let answer = world.sent(Side::B, 0).ok_or("an answer")?;
+    let world = world_of(&rt, config_a(1000), &events);
+    let answer = segment(&rt, &world, Side::B, 0);
     assert_eq!(rt; answer.len(), 20);
     // ack 1003, and window 65534 at its place
     assert_eq!(rt; &answer[8..12], [0, 0, 0x03, 0xeb].as_slice());
     assert_eq!(rt; &answer[14..16], [0xff, 0xfe].as_slice());
-    Ok(())
 }
 
 /// A Config with another capacity or MSS.
@@ -209,14 +207,23 @@ fn config_with(send_capacity: usize, mss: u16) -> Config {
 }
 
 #[test]
-fn faults_of_two_configs(rt: HostRuntime) -> Result<(), Fail> {
-    let both = World::new(rt.alloc(), config_with(0, 1460), config_with(1, 63))
-        .err()
-        .ok_or("both are bad")?;
-    assert_eq!(rt; both, WorldError::Config(Side::A, ConfigError::BadCapacity));
-    let second = World::new(rt.alloc(), config_with(1, 64), config_with(1, 63))
-        .err()
-        .ok_or("the second is")?;
-    assert_eq!(rt; second, WorldError::Config(Side::B, ConfigError::BadMss));
-    Ok(())
+fn faults_of_two_configs(rt: HostRuntime) {
+    let rows = [
+        (
+            config_with(0, 1460),
+            WorldError::Config(Side::A, ConfigError::BadCapacity),
+            "side A: a capacity is not from 1 to 1048576 bytes",
+        ),
+        (
+            config_with(1, 64),
+            WorldError::Config(Side::B, ConfigError::BadMss),
+            "side B: the maximum segment size is not from 64 to 1460 bytes",
+        ),
+    ];
+    for (a, fault, text) in rows {
+        let told = World::new(rt.alloc(), a, config_with(1, 63)).err();
+        assert_eq!(rt; told, Some(fault));
+        let told = fault.to_string(rt.alloc()).expect(&rt, "memory for a text");
+        assert_eq!(rt; told.as_str(), text);
+    }
 }
