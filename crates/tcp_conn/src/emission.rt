@@ -98,6 +98,7 @@ impl<A: Allocator> Endpoint<A> {
         requires lies { LiesShort self.now.sending 1460 due }
         requires room { EMIT_ROOM ≤ length out.old }
         ensures len { result ≡ wire_length (segment_of self.now due) }
+        ensures most { result ≤ EMIT_ROOM }
         ensures bytes { out.new ≡ bytes_of self.now due ++ drop result out.old }
     {
         let mut buffer = [0u8; 1460];
@@ -125,6 +126,7 @@ impl<A: Allocator> Endpoint<A> {
         requires { EMIT_ROOM ≤ length out.old }
         ensures destination { IfSome result (λ sent. sent.0.0 ≡ self.old.peer_addr) }
         ensures len { option_map (λ sent. sent.1) result ≡ pending_length self.old }
+        ensures most { IfSome result (λ sent. sent.1 ≤ EMIT_ROOM) }
         ensures bytes { out.new ≡ written self.old out.old }
         ensures state { self.new ≡ after_emission self.old }
     {

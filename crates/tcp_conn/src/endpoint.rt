@@ -11,7 +11,7 @@ use std::marker::Model;
 use tcp_wire::Addr;
 
 /// One end of a TCP connection (RFC 9293, 3.3). After it was made no call of it takes memory.
-#[derive(Drop)]
+#[derive(Debug, Drop)]
 pub struct Endpoint<A: Allocator = Global> {
     /// What it was made from.
     pub(crate) config: Config,

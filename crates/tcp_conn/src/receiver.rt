@@ -13,7 +13,7 @@ use tcp_reasm::{ReasmError, Reassembly};
 use tcp_wire::Seq;
 
 /// The half of an end that receives (RFC 9293, 3.3.1).
-#[derive(Drop)]
+#[derive(Debug, Drop)]
 pub(crate) struct Receiver<A: Allocator = Global> {
     /// RCV.NXT.
     next: Seq,

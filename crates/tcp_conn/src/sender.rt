@@ -22,7 +22,7 @@ pub const STREAM_LIMIT: u64 = 2_147_483_632;
 const MOST_WINDOW: usize = 65_535;
 
 /// The half of an end that sends (RFC 9293, 3.3.1). Positions count from the SYN, which stands at 0.
-#[derive(Drop)]
+#[derive(Debug, Drop)]
 pub(crate) struct Sender<A: Allocator = Global> {
     /// ISS, the number of position 0.
     iss: Seq,

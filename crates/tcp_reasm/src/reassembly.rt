@@ -16,7 +16,7 @@ pub const MAX_CAPACITY: usize = 1_048_576;
 
 /// A peer's text: the bytes that came in order and wait for the user, and those that came early and are held until
 /// the bytes before them come. Only `new` takes memory.
-#[derive(Drop)]
+#[derive(Debug, Drop)]
 pub struct Reassembly<A: Allocator = Global> {
     /// As many bytes are unread or have a place in the window; from 1 to [`MAX_CAPACITY`].
     capacity: usize,

@@ -11,7 +11,7 @@ use std::marker::Model;
 use tcp_conn::{Arrival, Config, ConfigError, EMIT_ROOM, Endpoint, Timer};
 
 /// One end, with what its user did and had, and every segment that it emitted.
-#[derive(Drop)]
+#[derive(Debug, Drop)]
 pub(crate) struct Party<A: Allocator = Global> {
     pub(crate) endpoint: Endpoint<A>,
     /// The segments that were emitted, in turn. Nothing leaves the list.

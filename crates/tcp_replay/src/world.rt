@@ -12,7 +12,7 @@ use tcp_conn::{Arrival, Config, ConfigError, Endpoint};
 use tcp_wire::DecodeError;
 
 /// Two ends of one connection, with all that their users did and had, and every segment that was emitted.
-#[derive(Drop)]
+#[derive(Debug, Drop)]
 pub struct World<A: Allocator = Global> {
     alloc: A,
     a: Party<A>,

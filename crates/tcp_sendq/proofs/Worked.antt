@@ -1,5 +1,5 @@
 -- The definitions at worked calls: they compute to what the calls are to answer.
-use Rattle.std.proofs.Common.{◌≡◌, ℕ, Bool, true, false, List, [], ◌∷◌, ◌++◌, replicate, drop, Some, None, refl}
+use Rattle.std.proofs.Common.{◌≡◌, ℕ, Bool, true, false, List, [], ◌∷◌, ◌++◌, replicate, Some, None, refl}
 use Rattle.tcp_sendq.specs.SendQueue.{Queue, empty, room, count_taken, offered, released, can_mark, marked, unmarked, next_unmarked, last_mark_end, count_runs, runs_begun}
 
 abbrev letters : List ℕ

@@ -15,7 +15,7 @@ const MAX_RUNS: usize = 16;
 
 /// The bytes offered and not yet released, oldest first, of which some are marked: the peer has told to
 /// hold them. A place is counted from the oldest byte, which stands at 0.
-#[derive(Drop)]
+#[derive(Debug, Drop)]
 pub struct SendQueue<A: Allocator = Global> {
     /// From 1 to [`MAX_CAPACITY`]; both vectors have room for as many.
     capacity: usize,
