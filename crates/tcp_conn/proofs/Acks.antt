@@ -86,4 +86,5 @@ released-sound s queue n k m h within e f is =
       nxt = omega (arith, h.nxt, e, rest, within);
       limit = omega (arith, h.limit, f, rest, within, h.nxt);
       wnd = h.wnd;
+      queued = omega (arith, h.queued, rest, ap (λ (q : Queue). q.capacity) is);
     }

@@ -1,9 +1,10 @@
 -- Placing a text: how many bytes come in order, and how long a segment's text can be.
-use Rattle.std.proofs.Common.{◌≡◌, ℕ, zero, suc, ◌+◌, ◌≤◌, List, ◌++◌, length, drop, refl, sym, ◌∙◌, ap, arith, length-append, length-drop}
-use Rattle.std.specs.Prelude.{ℤ, Option, Bool, true, false, if◌then◌else◌}
+use Rattle.std.proofs.Common.{◌≡◌, ℕ, zero, suc, ◌+◌, ◌-◌, ◌≤◌, min, List, ◌++◌, length, drop, replicate, refl, sym, ◌∙◌, ap, arith, length-append, length-drop}
+use Rattle.std.proofs.lemmas.List.{length-replicate}
+use Rattle.std.specs.Prelude.{ℤ, Option, None, Bool, true, false, if◌then◌else◌}
 use Rattle.tcp_wire.specs.Wire.{Content, IsWire, option_bytes}
 use Rattle.tcp_reasm.specs.declared.placed.Placed.TheVariants.{NotKept}
-use Rattle.tcp_reasm.specs.Reassembly.{Cell, Inbox, piece, is_refused, settled, laid_over, in_order, answer_for, placed, place_answer}
+use Rattle.tcp_reasm.specs.Reassembly.{Cell, Inbox, piece, is_refused, settled, laid_over, in_order, answer_for, placed, place_answer, after_read}
 use Rattle.tcp_reasm.specs.Agreement.{advance_of}
 
 advance_of-answer_for : (n : ℕ) → advance_of (answer_for n) ≡ n
@@ -18,6 +19,28 @@ length-placed_by false q over = length-append q.unread (in_order over) ∙ ap (�
 pub length_placed : (q : Inbox) (offset : ℤ) (text : List ℕ) → length (placed q offset text).unread ≡ length q.unread + advance_of (place_answer q offset text)
 unfolding placed place_answer
 length_placed q offset text = length-placed_by (is_refused q (piece offset text)) q (laid_over q (piece offset text))
+
+capacity-placed_by : (refused : Bool) (q : Inbox) (over : List (Option Cell)) → (if refused then q else settled q over).capacity ≡ q.capacity
+capacity-placed_by true q over = refl
+capacity-placed_by false q over = refl
+
+-- the capacity stays
+pub capacity_placed : (q : Inbox) (offset : ℤ) (text : List ℕ) → (placed q offset text).capacity ≡ q.capacity
+unfolding placed
+capacity_placed q offset text = capacity-placed_by (is_refused q (piece offset text)) q (laid_over q (piece offset text))
+
+pub capacity_read : (q : Inbox) (n : ℕ) → (after_read q n).capacity ≡ q.capacity
+unfolding after_read
+capacity_read q n = refl
+
+-- what is read leaves as many places in the window
+pub whole_read : (q : Inbox) (n : ℕ) → length q.unread + length q.held ≡ q.capacity → length (after_read q n).unread + length (after_read q n).held ≡ q.capacity
+unfolding after_read
+whole_read q n whole =
+    let read : length (drop n q.unread) ≡ length q.unread - n = length-drop n q.unread in
+    let more : length (q.held ++ replicate (min n (length q.unread)) None) ≡ length q.held + min n (length q.unread) =
+    length-append q.held (replicate (min n (length q.unread)) None) ∙ ap (λ k. length q.held + k) (length-replicate (min n (length q.unread)) None) in
+    omega (arith, read, more)
 
 -- the text of a segment
 pub text_short : (src dst : List ℕ) (v : Content) (bytes : List ℕ) → IsWire src dst v bytes → length v.text ≤ 65495

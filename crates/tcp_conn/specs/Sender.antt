@@ -1,5 +1,5 @@
 -- The half that sends (RFC 9293, 3.3.1, 3.8 and 3.10.7.4): what acknowledgements, windows and timers do.
-use Rattle.std.specs.Prelude.{◌≡◌, ℕ, ◌+◌, ◌-◌, ◌^◌, ◌<◌, ◌≤◌, min, ℤ, pos, int_lt, Bool, ◌&&◌, ◌||◌, ◌==◌, nat_lt, if◌then◌else◌, List, take, Some}
+use Rattle.std.specs.Prelude.{◌≡◌, ℕ, ◌+◌, ◌-◌, ◌^◌, ◌<◌, ◌≤◌, min, ℤ, pos, int_lt, Bool, ◌&&◌, ◌||◌, ◌==◌, nat_lt, if◌then◌else◌, List, length, take, Some}
 use Rattle.tcp_wire.specs.Position.{number, distance, near, is_before}
 use Rattle.tcp_sendq.specs.SendQueue as queues
 use Rattle.tcp_conn.specs.State.{Sending, accepted_count, end_of_text}
@@ -67,3 +67,4 @@ pub record IsSender (s : Sending) : Type 0 where
   pub nxt : s.nxt ≤ end_of_text s
   pub limit : accepted_count s ≤ stream_limit
   pub wnd : s.wnd < 2 ^ 32
+  pub queued : length s.queue.bytes ≤ s.queue.capacity

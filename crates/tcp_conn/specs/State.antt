@@ -1,6 +1,6 @@
 -- What one end is: data alone (RFC 9293, 3.3.1). Positions count from the first number of a direction: the
 -- SYN is at 0, byte i of the stream at 1 + i.
-use Rattle.std.specs.Prelude.{ℕ, ◌+◌, ◌^◌, ◌<◌, ◌≤◌, Bool, true, List, length, Option}
+use Rattle.std.specs.Prelude.{◌≡◌, ℕ, ◌+◌, ◌^◌, ◌<◌, ◌≤◌, Bool, true, List, length, Option}
 use Rattle.tcp_sendq.specs.SendQueue.{Queue}
 use Rattle.tcp_reasm.specs.Reassembly.{Inbox}
 use Rattle.std.specs.declared.ops.Range.{Range}
@@ -64,3 +64,17 @@ pub record HasFields (own_mss own_port other_port : ℕ) : Type 0 where
   pub mss : own_mss ≤ 1460
   pub port : own_port < 2 ^ 16
   pub peer_port : other_port < 2 ^ 16
+
+-- what is queued stays within the capacity that the Config says
+pub record KeepsWithin (capacity : ℕ) (queue : Queue) : Type 0 where
+  pub size : queue.capacity ≡ capacity
+  pub queued : length queue.bytes ≤ capacity
+
+-- and so does what is unread together with the window, which has one place for each byte that is held or may come
+pub record HoldsWithin (capacity : ℕ) (inbox : Inbox) : Type 0 where
+  pub size : inbox.capacity ≡ capacity
+  pub received : length inbox.unread + length inbox.held ≡ capacity
+
+-- an end keeps no more than its Config allows
+abbrev pub IsWithin : State → Type 0
+IsWithin s = KeepsWithin s.config.send_capacity s.sending.queue × HoldsWithin s.config.recv_capacity s.receiving.inbox

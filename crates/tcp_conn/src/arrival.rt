@@ -1,6 +1,6 @@
 ghost use Rattle.std.specs.Prelude.{◌≡◌, ◌≤◌, ◌+◌, length, true, false};
 ghost use Rattle.tcp_wire.specs.View.{content};
-ghost use Rattle.tcp_conn.specs.State.{State, owing_ack};
+ghost use Rattle.tcp_conn.specs.State.{State, IsWithin, owing_ack};
 ghost use Rattle.tcp_conn.specs.Arrival.{is_foreign, is_control, is_wanted, acks_unsent, with_ack, text_taken, receiving_answer, after_receiving, wanted_answer, after_wanted, segment_answer, after_segment, arrival_answer, after_arrival};
 
 use crate::endpoint::Endpoint;
@@ -14,11 +14,14 @@ impl<A: Allocator> Endpoint<A> {
     pub fn arrive(&mut self, src: Addr, dst: Addr, bytes: &[u8]) -> Arrival
         ensures answer { result ≡ arrival_answer self.old src.0 dst.0 bytes.now }
         ensures state { self.new ≡ after_arrival self.old src.0 dst.0 bytes.now }
+        ensures within { IsWithin self.new }
     {
-        match decode(src, dst, bytes) {
+        let answer = match decode(src, dst, bytes) {
             Ok(segment) => self.segment_arrives(src, dst, &segment),
             Err(fault) => Arrival::Malformed(fault),
-        }
+        };
+        let _ = &self.config;
+        answer
     }
 
     /// A segment arrives.

@@ -1,5 +1,5 @@
 ghost use Rattle.std.specs.Prelude.{◌≡◌, ◌++◌, length, take, drop};
-ghost use Rattle.tcp_conn.specs.State.{State};
+ghost use Rattle.tcp_conn.specs.State.{State, IsWithin};
 ghost use Rattle.tcp_conn.specs.Calls.{send_answer, after_send, receive_answer, after_receive, count_handed, timer_answer, after_timer};
 
 use crate::endpoint::Endpoint;
@@ -14,7 +14,9 @@ impl<A: Allocator> Endpoint<A> {
     pub fn send(&mut self, text: &[u8]) -> Result<usize, CallError>
         ensures answer { result ≡ send_answer self.old text.now }
         ensures state { self.new ≡ after_send self.old text.now }
+        ensures within { IsWithin self.new }
     {
+        let _ = &self.config;
         if !text.is_empty() && self.sender.accepted_count() == STREAM_LIMIT {
             return Err(CallError::StreamFull);
         }
@@ -27,7 +29,9 @@ impl<A: Allocator> Endpoint<A> {
         ensures answer { result ≡ receive_answer self.old (length out.old) }
         ensures bytes { let count = count_handed self.old (length out.old) in out.new ≡ take count self.old.receiving.inbox.unread ++ drop count out.old }
         ensures state { self.new ≡ after_receive self.old (length out.old) }
+        ensures within { IsWithin self.new }
     {
+        let _ = &self.config;
         let nothing = self.receiver.unread() == 0;
         let count = self.receiver.read(out);
         if nothing {
@@ -40,7 +44,9 @@ impl<A: Allocator> Endpoint<A> {
     pub fn timer(&mut self, timer: Timer) -> bool
         ensures answer { result ≡ timer_answer self.old timer }
         ensures state { self.new ≡ after_timer self.old timer }
+        ensures within { IsWithin self.new }
     {
+        let _ = &self.config;
         match timer {
             Timer::Retransmit => self.sender.time_out(),
             Timer::Reorder | Timer::TimeWait => false,

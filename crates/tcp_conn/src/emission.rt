@@ -1,7 +1,7 @@
 ghost use Rattle.std.specs.Prelude.{◌≡◌, ◌<◌, ◌≤◌, ◌+◌, ◌^◌, ◌++◌, length, take, drop, min, Some, None, option_map, IfSome};
 ghost use Rattle.tcp_wire.specs.View.{content};
 ghost use Rattle.tcp_wire.specs.Wire.{wire_length, IsValid};
-ghost use Rattle.tcp_conn.specs.State.{State, end_of_text};
+ghost use Rattle.tcp_conn.specs.State.{State, IsWithin, end_of_text};
 ghost use Rattle.tcp_conn.specs.Emission.{due_of, text_limit, start_of, count_of, position_of, text_of, pushes, flags_of, window_field, segment_of, bytes_of, gone, after_emission, written, pending_length, Lies, LiesShort};
 
 use crate::due::Due;
@@ -119,8 +119,8 @@ impl<A: Allocator> Endpoint<A> {
     }
 
     /// Writes the segment that is due into the front of `out`, which has room for [`EMIT_ROOM`] bytes, and
-    /// answers where it goes and its length (RFC 9293, 3.7, 3.8 and 3.10). `None`, and nothing changes,
-    /// exactly where none is due.
+    /// answers where it goes and its length, at most that (RFC 9293, 3.7, 3.8 and 3.10). `None`, and nothing
+    /// changes, exactly where none is due.
     #[tactic(auto, unfolding(crate::specs::Emission::pending_length, crate::specs::Emission::written, crate::specs::Emission::after_emission))]
     pub fn emit(&mut self, out: &mut [u8]) -> Option<(Addr, usize)>
         requires { EMIT_ROOM ≤ length out.old }
@@ -129,6 +129,7 @@ impl<A: Allocator> Endpoint<A> {
         ensures most { IfSome result (λ sent. sent.1 ≤ EMIT_ROOM) }
         ensures bytes { out.new ≡ written self.old out.old }
         ensures state { self.new ≡ after_emission self.old }
+        ensures within { IsWithin self.new }
     {
         let due = self.due()?;
         let len = self.write(due, out);

@@ -1,5 +1,5 @@
 ghost use Rattle.std.specs.Prelude.{◌≡◌, ◌↔◌, ◌<◌, ◌≤◌, length, IfOk, OnOk};
-ghost use Rattle.tcp_conn.specs.State.{State};
+ghost use Rattle.tcp_conn.specs.State.{State, IsWithin};
 ghost use Rattle.tcp_conn.specs.Calls.{born, HasGoodCapacities, HasGoodMss, HasBadCapacity, HasBadMss, IsConfig};
 
 use crate::config::{Config, ConfigError, LEAST_MSS, MAX_CAPACITY, MOST_MSS};
@@ -29,13 +29,13 @@ pub struct Endpoint<A: Allocator = Global> {
 }
 
 impl<A: Allocator> Model for Endpoint<A> {
-    ghost use Rattle.tcp_conn.specs.State.{State, HasFields};
+    ghost use Rattle.tcp_conn.specs.State.{State, HasFields, KeepsWithin, HoldsWithin};
 
     ghost Value = { State };
 
     ghost view = { λ e. record { config = e.config; peer_addr = e.peer_addr.0; peer_port = e.peer_port; peer_mss = e.peer_mss; phase = e.phase; ending = e.ending; sending = e.sender; receiving = e.receiver; owes_ack = e.owes_ack } };
 
-    ghost invariant = { λ e. HasFields e.config.mss e.config.port e.peer_port };
+    ghost invariant = { λ e. HasFields e.config.mss e.config.port e.peer_port × KeepsWithin e.config.send_capacity e.sender.queue × HoldsWithin e.config.recv_capacity e.receiver.inbox };
 }
 
 impl Endpoint {
@@ -46,6 +46,7 @@ impl Endpoint {
         ensures bad_mss { (result ≡ Err ConfigError.BadMss) ↔ HasBadMss config }
         ensures good { (result ≡ Err ConfigError.NoMemory) → HasGoodCapacities config × HasGoodMss config }
         ensures made { OnOk result (IsConfig config) }
+        ensures within { IfOk result IsWithin }
     {
         Self::new_in(alloc, config, peer)
     }
@@ -59,6 +60,7 @@ impl<A: Allocator + Copy> Endpoint<A> {
         ensures bad_mss { (result ≡ Err ConfigError.BadMss) ↔ HasBadMss config }
         ensures good { (result ≡ Err ConfigError.NoMemory) → HasGoodCapacities config × HasGoodMss config }
         ensures made { OnOk result (IsConfig config) }
+        ensures within { IfOk result IsWithin }
     {
         let Addr(_in_range) = config.addr;
         if !config.has_good_capacities() {

@@ -24,20 +24,21 @@ pub(crate) struct Receiver<A: Allocator = Global> {
 }
 
 impl<A: Allocator> Model for Receiver<A> {
-    ghost use Rattle.std.specs.Prelude.{◌^◌, ◌<◌};
+    ghost use Rattle.std.specs.Prelude.{◌≡◌, ◌+◌, ◌^◌, ◌<◌, length};
     ghost use Rattle.tcp_conn.specs.State.{Receiving};
 
     ghost Value = { Receiving };
 
     ghost view = { λ r. record { next = r.next.0; ordered = r.ordered; inbox = r.inbox } };
 
-    ghost invariant = { λ r. (r.next.0 < 2 ^ 32) × (r.ordered < 2 ^ 64) };
+    ghost invariant = { λ r. (r.next.0 < 2 ^ 32) × (r.ordered < 2 ^ 64) × (length r.inbox.unread + length r.inbox.held ≡ r.inbox.capacity) };
 }
 
 impl<A: Allocator + Copy> Receiver<A> {
     /// A receiver that has taken the peer's SYN.
     pub(crate) fn new_in(alloc: A, own: &Config, peer: &Config) -> Result<Self, ReasmError>
         ensures ok { IfOk result (λ r. r ≡ born_receiving own.now peer.now) }
+        ensures whole { IfOk result (λ r. length r.inbox.unread + length r.inbox.held ≡ r.inbox.capacity) }
     {
         let inbox = Reassembly::new_in(alloc, own.recv_capacity)?;
         Ok(Receiver {
@@ -112,24 +113,29 @@ impl<A: Allocator> Receiver<A> {
     }
 
     /// Places text whose first byte has this number.
-    #[tactic(auto, using(crate::proofs::Placing::length_placed), unfolding(crate::specs::Receiver::text_placed))]
+    #[tactic(auto, using(crate::proofs::Placing::length_placed, crate::proofs::Placing::capacity_placed), unfolding(crate::specs::Receiver::text_placed))]
     pub(crate) fn place(&mut self, seq: Seq, text: &[u8])
         requires { length text.now ≤ 65495 }
-        ensures { self.new ≡ text_placed self.old seq.0 text.now }
+        ensures state { self.new ≡ text_placed self.old seq.0 text.now }
+        ensures capacity { self.new.inbox.capacity ≡ self.old.inbox.capacity }
+        ensures whole { length self.new.inbox.unread + length self.new.inbox.held ≡ self.new.inbox.capacity }
     {
         let offset = self.offset_of(seq);
-        let before = self.inbox.unread();
+        let before = self.inbox.window();
         self.inbox.place(offset, text);
-        let count = self.inbox.unread() - before;
-        self.next = self.next.plus(count as u32);
-        self.ordered = self.ordered.saturating_add(count as u64);
+        let count = before - self.inbox.window();
+        self.next = self.next.plus(count);
+        self.ordered = self.ordered.saturating_add(u64::from(count));
     }
 
     /// Hands over the front of the unread bytes that fits `out`, and answers its length.
+    #[tactic(auto, using(crate::proofs::Placing::whole_read, crate::proofs::Placing::capacity_read))]
     pub(crate) fn read(&mut self, out: &mut [u8]) -> usize
         ensures count { result ≡ min (length out.old) (length self.old.inbox.unread) }
         ensures bytes { out.new ≡ take result self.old.inbox.unread ++ drop result out.old }
         ensures state { self.new ≡ handed_over self.old (length out.old) }
+        ensures capacity { self.new.inbox.capacity ≡ self.old.inbox.capacity }
+        ensures whole { length self.new.inbox.unread + length self.new.inbox.held ≡ self.new.inbox.capacity }
     {
         self.inbox.read(out)
     }

@@ -122,6 +122,8 @@ impl<A: Allocator> Sender<A> {
     pub(crate) fn send(&mut self, text: &[u8]) -> usize
         ensures count { result ≡ count_sendable self.old text.now }
         ensures state { self.new ≡ extended self.old text.now }
+        ensures capacity { self.new.queue.capacity ≡ self.old.queue.capacity }
+        ensures queued { length self.new.queue.bytes ≤ self.new.queue.capacity }
     {
         let left = STREAM_LIMIT - self.accepted_count();
         let count = self.queue.room().min(text.len()).min(left as usize);
@@ -159,8 +161,11 @@ impl<A: Allocator> Sender<A> {
     #[tactic(auto, unfolding(crate::specs::Sender::ack_taken))]
     pub(crate) fn take_ack(&mut self, seq: Seq, ack: Seq, window: u16)
         requires { is_beyond self.old ack.0 ≡ false }
-        ensures { self.new ≡ ack_taken self.old seq.0 ack.0 window }
+        ensures state { self.new ≡ ack_taken self.old seq.0 ack.0 window }
+        ensures capacity { self.new.queue.capacity ≡ self.old.queue.capacity }
+        ensures queued { length self.new.queue.bytes ≤ self.new.queue.capacity }
     {
+        let _ = &self.iss;
         if self.is_old(ack) {
             return;
         }
@@ -173,7 +178,9 @@ impl<A: Allocator> Sender<A> {
     fn acknowledge(&mut self, ack: Seq)
         requires sent { is_beyond self.old ack.0 ≡ false }
         requires current { is_old self.old ack.0 ≡ false }
-        ensures { self.new ≡ acknowledged self.old ack.0 }
+        ensures state { self.new ≡ acknowledged self.old ack.0 }
+        ensures capacity { self.new.queue.capacity ≡ self.old.queue.capacity }
+        ensures queued { length self.new.queue.bytes ≤ self.new.queue.capacity }
     {
         let count = self.ahead(ack);
         self.una += u64::from(count);
@@ -184,7 +191,9 @@ impl<A: Allocator> Sender<A> {
     /// Takes a window, unless a newer segment told one (RFC 9293, 3.10.7.4).
     #[tactic(auto, unfolding(crate::specs::Sender::window_updated))]
     fn update_window(&mut self, seq: Seq, ack: Seq, window: u16)
-        ensures { self.new ≡ window_updated self.old seq.0 ack.0 window }
+        ensures state { self.new ≡ window_updated self.old seq.0 ack.0 window }
+        ensures capacity { self.new.queue.capacity ≡ self.old.queue.capacity }
+        ensures queued { length self.new.queue.bytes ≤ self.new.queue.capacity }
     {
         let follows = self.wl1 == seq && (self.wl2.before(ack) || self.wl2 == ack);
         if self.wl1.before(seq) || follows {
@@ -200,6 +209,8 @@ impl<A: Allocator> Sender<A> {
     pub(crate) fn time_out(&mut self) -> bool
         ensures answer { result ≡ is_in_flight self.old }
         ensures state { self.new ≡ (if is_in_flight self.old then timed_out self.old else self.old) }
+        ensures capacity { self.new.queue.capacity ≡ self.old.queue.capacity }
+        ensures queued { length self.new.queue.bytes ≤ self.new.queue.capacity }
     {
         if self.una >= self.nxt {
             return false;
@@ -261,7 +272,9 @@ impl<A: Allocator> Sender<A> {
     /// What was due has gone out.
     pub(crate) fn mark_gone(&mut self, due: Due)
         requires { Lies self.old due }
-        ensures { self.new ≡ sending_after self.old due }
+        ensures state { self.new ≡ sending_after self.old due }
+        ensures capacity { self.new.queue.capacity ≡ self.old.queue.capacity }
+        ensures queued { length self.new.queue.bytes ≤ self.new.queue.capacity }
     {
         match due {
             Due::Resend(start, count) => {

@@ -34,7 +34,8 @@ fn show_text<O: Output>(alloc: Global, text: &[u8], output: &mut O) -> Result<bo
 }
 
 /// Reads a list of segments to its end, and writes what each says, up to the first bad line if there is one.
-/// Answers whether no segment was malformed.
+/// Answers whether no segment was malformed. At `BadLine` all that stands before that line was written, at
+/// `WriteFault` a beginning of the listing, at `ReadFault` and `NoMemory` nothing; `Config` never comes.
 pub fn show<I: Input, O: Output>(
     alloc: Global,
     input: &mut I,

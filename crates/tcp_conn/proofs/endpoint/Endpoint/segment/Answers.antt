@@ -4,8 +4,8 @@ use Rattle.tcp_conn.proofs.endpoint.Endpoint.segment.Goals as goal
 -- each field is in the range of its type, and there are no options
 pub returns-clause-valid : goal.returns-clause-valid
 returns-clause-valid g c = record {
-  src_port = c.self.invariant.port;
-  dst_port = c.self.invariant.peer_port;
+  src_port = c.self.invariant.0.port;
+  dst_port = c.self.invariant.0.peer_port;
   seq = omega (arith, c.number.ensures);
   ack = search rules;
   reserved = omega arith;
