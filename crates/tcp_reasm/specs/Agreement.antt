@@ -1,5 +1,5 @@
--- What a layer above says of held bytes: they are those of the peer's stream. Bytes alone are spoken of here,
--- no stamp.
+-- What a layer above says of held bytes: they are those of the peer's stream (RFC 9293, 3.4). Bytes alone
+-- are spoken of here, no stamp.
 use Rattle.std.specs.Prelude.{◌≡◌, ℕ, suc, ◌-◌, ◌≤◌, ℤ, pos, negsuc, List, [], ◌∷◌, ◌++◌, length, take, drop, Option, Some, None}
 use Rattle.tcp_reasm.specs.declared.placed.Placed.{Placed}
 use Rattle.tcp_reasm.specs.declared.placed.Placed.TheVariants.{Advanced, Held, NotKept}

@@ -1,4 +1,4 @@
--- What a reader can believe of runs and blocks apart from the recursion that gives them.
+-- What a reader can believe of runs and blocks apart from the recursion that gives them (RFC 2018, 3 and 4).
 use Rattle.std.specs.Prelude.{◌≡◌, ℕ, zero, suc, ◌<◌, ◌≤◌, ◌⊎◌, Bool, true, false, List, [], ◌∷◌, length, Option, Some, None, IsSome}
 use Rattle.std.specs.List.{AllByRecursion}
 use Rattle.std.specs.List.Sorted.{IsPermutation}

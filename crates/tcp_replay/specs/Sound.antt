@@ -1,5 +1,5 @@
 -- What keeps two ends safe from event to event: more than is promised, one record for each half of a
--- direction and one for what lies between them.
+-- direction (RFC 9293, 3.3.1 and 3.4) and one for what lies between them.
 use Rattle.std.specs.Prelude.{◌≡◌, ℕ, ◌+◌, ◌^◌, ◌<◌, ◌≤◌, false, List, [], ◌++◌, length, take, drop, Some, slice_get}
 use Rattle.tcp_wire.specs.Position.{number}
 use Rattle.tcp_wire.specs.Checksum.{AreBytes}

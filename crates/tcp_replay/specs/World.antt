@@ -1,4 +1,5 @@
--- Two ends and all that they emitted, what can happen to them, and a run of events.
+-- Two ends and all that they emitted, what can happen to them (RFC 9293, 3.10), and a run of
+-- events.
 use Rattle.std.specs.Prelude.{ℕ, suc, ◌<◌, Bool, true, false, ◌==◌, nat_le, bit_xor, if◌then◌else◌, List, [], ◌∷◌, ◌++◌, length, take, Option, Some, None, unwrap_or, option_to_list, option_map, slice_get, slice_set, slice_index}
 use Rattle.tcp_wire.specs.Checksum.{AreBytes}
 use Rattle.tcp_conn.specs.declared.config.Config.{Config}

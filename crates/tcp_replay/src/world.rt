@@ -21,13 +21,13 @@ pub struct World<A: Allocator = Global> {
 
 impl<A: Allocator> Model for World<A> {
     ghost use Rattle.tcp_replay.specs.World.{WorldState, both};
-    ghost use Rattle.tcp_replay.specs.Sound.{Pair};
+    ghost use Rattle.tcp_replay.specs.Sound.{IsSound};
 
     ghost Value = { WorldState };
 
     ghost view = { λ w. both w.a w.b };
 
-    ghost invariant = { λ w. Pair w.a w.b };
+    ghost invariant = { λ w. IsSound (both w.a w.b) };
 }
 
 /// One event at the two parties.

@@ -1,4 +1,4 @@
--- Reading a segment from its bytes, as a function.
+-- Reading a segment from its bytes, as a function (RFC 9293, 3.1).
 use Rattle.std.specs.Prelude.{ℕ, zero, suc, ◌+◌, ◌-◌, ◌*◌, ◌/◌, ◌%◌, ◌==◌, ◌||◌, nat_lt, if◌then◌else◌, List, [], ◌∷◌, length, take, drop, slice_index, Option, Some, None, Result, Ok, Err}
 use Rattle.byteorder.specs.Endian.{big_from}
 use Rattle.tcp_wire.specs.declared.fault.DecodeError.{DecodeError}

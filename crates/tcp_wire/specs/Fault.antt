@@ -1,4 +1,5 @@
--- Why bytes are no segment: the first fault that applies, in the order of the refusals' numbers.
+-- Why bytes are no segment: the first fault that applies, in the order of the refusals' numbers (RFC
+-- 9293, 3.1; where it names no order or refusal, that of docs/FORMATS.md).
 use Rattle.std.specs.Prelude.{◌≡◌, ◌≢◌, ◌⊎◌, ℕ, ◌+◌, ◌*◌, ◌<◌, ◌≤◌, List, ◌∷◌, ◌++◌, length, replicate}
 use Rattle.tcp_wire.specs.declared.fault.DecodeError.{DecodeError}
 use Rattle.tcp_wire.specs.declared.fault.DecodeError.TheVariants.{TooShort, TooLong, BadChecksum, BadOffset, BadOption, BadPadding}

@@ -1,4 +1,4 @@
--- What a segment of the code says.
+-- What a segment of the code says (RFC 9293, 3.1).
 use Rattle.std.specs.Prelude.{◌≡◌, ℕ, ◌+◌, List, [], ◌∷◌, length, map}
 use Rattle.tcp_wire.specs.declared.seq.Seq.{Seq}
 use Rattle.tcp_wire.specs.declared.option.TcpOption.{TcpOption}

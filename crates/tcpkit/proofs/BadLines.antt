@@ -3,7 +3,7 @@ use Rattle.std.proofs.Common.{◌≡◌, ℕ, ◌<◌, List, [], ◌∷◌, leng
 use Rattle.tcpkit.specs.Script.{line_of}
 use Rattle.tcpkit.specs.Scripts.{ScriptTold, taken_text}
 use Rattle.tcpkit.specs.Items.{item_of}
-use Rattle.tcpkit.specs.Listing.{ListingTold, with_line}
+use Rattle.tcpkit.specs.Listings.{ListingTold, with_line}
 
 pub bad_has_bytes : (s : ScriptTold) (line : List ℕ) → taken_text s line ≡ None → 0 < length line
 unfolding line_of

@@ -1,6 +1,7 @@
 pub mod BadLines
 pub mod Cuts
 pub mod Digits
+pub mod Listed
 pub mod Refusals
 pub mod ReportSteps
 pub mod Transfers

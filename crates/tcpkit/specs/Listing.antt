@@ -1,5 +1,5 @@
 -- What is written of a list of segments: a function from its whole text.
-use Rattle.std.specs.Prelude.{ℕ, ◌+◌, ◌==◌, Bool, List, [], ◌∷◌, ◌++◌, map, codes, decimal, Option, option_map, Result, Ok, Err}
+use Rattle.std.specs.Prelude.{ℕ, ◌+◌, ◌==◌, if◌then◌else◌, Bool, true, false, List, [], ◌∷◌, ◌++◌, length, map, codes, decimal, Option, Some, None, Result, Ok, Err}
 use Rattle.std.specs.Option.{option_map_or}
 use Rattle.tcp_wire.specs.declared.fault.DecodeError.{DecodeError}
 use Rattle.tcp_wire.specs.declared.fault.DecodeError.TheVariants.{TooShort, TooLong, BadChecksum, BadOffset, BadOption, BadPadding}
@@ -58,57 +58,63 @@ abbrev pub meaning_text : Result Content DecodeError → List ℕ
 meaning_text (Ok v) = fields_text v
 meaning_text (Err e) = malformed_text e
 
-abbrev pub count_malformed : Result Content DecodeError → ℕ
-count_malformed (Ok v) = 0
-count_malformed (Err e) = 1
+abbrev pub is_malformed : Result Content DecodeError → Bool
+is_malformed (Ok v) = false
+is_malformed (Err e) = true
 
--- the line of a segment that stands in this line of the text
+-- THE SEGMENTS of a list up to its first bad line, each with the number of its line and what its bytes say
+abbrev pub segment_in : ℕ → ItemTold → List (ℕ × Result Content DecodeError)
+segment_in n nothing = []
+segment_in n (arrived src dst bytes) = (n, decoded src dst bytes) ∷ []
+
+unfoldable pub segments_from : ℕ → List (List ℕ) → List (ℕ × Result Content DecodeError)
+segments_from n [] = []
+segments_from n (line ∷ lines) = option_map_or (λ item. segment_in n item ++ segments_from (n + 1) lines) (item_of line) []
+
+-- THE FIRST BAD LINE, if there is one
+unfoldable pub bad_line_from : ℕ → List (List ℕ) → Option ℕ
+bad_line_from n [] = None
+bad_line_from n (line ∷ lines) = option_map_or (λ item. bad_line_from (n + 1) lines) (item_of line) (Some n)
+
+-- THE LISTING: a line for each segment
 unfoldable pub segment_line : ℕ → Result Content DecodeError → List ℕ
 segment_line n meaning = decimal n ++ (codes " " ++ (meaning_text meaning ++ (10 ∷ [])))
 
--- SO FAR: the lines that are to be written, the segments, and how many of them were malformed
-pub record ListingTold : Type 0 where
-  pub text : List ℕ
-  pub segments : ℕ
-  pub malformed : ℕ
+abbrev pub segment_lines : List (ℕ × Result Content DecodeError) → List ℕ
+segment_lines [] = []
+segment_lines (segment ∷ segments) = segment_line segment.0 segment.1 ++ segment_lines segments
 
-abbrev pub nothing_listed : ListingTold
-nothing_listed = record { text = []; segments = 0; malformed = 0 }
+abbrev pub count_malformed : List (ℕ × Result Content DecodeError) → ℕ
+count_malformed [] = 0
+count_malformed (segment ∷ segments) = (if is_malformed segment.1 then 1 else 0) + count_malformed segments
 
-abbrev pub with_segment : ListingTold → ℕ → Result Content DecodeError → ListingTold
-with_segment l n meaning = record {
-  text = l.text ++ segment_line n meaning;
-  segments = l.segments + 1;
-  malformed = l.malformed + count_malformed meaning;
-}
+-- and then the total, unless it ended at a bad line
+unfoldable pub total_text : ℕ → ℕ → List ℕ
+total_text segments malformed = codes "total " ++ (decimal segments ++ (codes " malformed " ++ (decimal malformed ++ (10 ∷ []))))
 
-abbrev pub with_item : ListingTold → ℕ → ItemTold → ListingTold
-with_item l n nothing = l
-with_item l n (arrived src dst bytes) = with_segment l n (decoded src dst bytes)
+abbrev pub total_unless : Option ℕ → ℕ → ℕ → List ℕ
+total_unless (Some line) segments malformed = []
+total_unless None segments malformed = total_text segments malformed
 
-abbrev pub with_line : ListingTold → ℕ → List ℕ → Option ListingTold
-with_line l n line = option_map (with_item l n) (item_of line)
+-- whether no segment was malformed, or the bad line
+abbrev pub answer_unless : Option ℕ → ℕ → Result Bool ℕ
+answer_unless (Some line) malformed = Err line
+answer_unless None malformed = Ok (malformed == 0)
 
--- A WHOLE LISTING: what is written, and whether no segment was malformed, or the first bad line, where it
--- ends without a total
 pub record WholeTold : Type 0 where
   pub text : List ℕ
   pub answer : Result Bool ℕ
 
-unfoldable pub total_text : ListingTold → List ℕ
-total_text l = codes "total " ++ (decimal l.segments ++ (codes " malformed " ++ (decimal l.malformed ++ (10 ∷ []))))
+abbrev pub listed : List (ℕ × Result Content DecodeError) → Option ℕ → WholeTold
+listed segments bad = record {
+  text = segment_lines segments ++ total_unless bad (length segments) (count_malformed segments);
+  answer = answer_unless bad (count_malformed segments);
+}
 
-abbrev pub finished : ListingTold → WholeTold
-finished l = record { text = l.text ++ total_text l; answer = Ok (l.malformed == 0) }
+-- of all lines
+abbrev pub listing_of_lines : List (List ℕ) → WholeTold
+listing_of_lines lines = listed (segments_from 1 lines) (bad_line_from 1 lines)
 
-abbrev pub ended_at : ListingTold → ℕ → WholeTold
-ended_at l n = record { text = l.text; answer = Err n }
-
--- all lines, from one of this number on
-unfoldable pub listing_from : List (List ℕ) → ListingTold → ℕ → WholeTold
-listing_from [] l n = finished l
-listing_from (line ∷ lines) l n = option_map_or (λ l'. listing_from lines l' (n + 1)) (with_line l n line) (ended_at l n)
-
--- a text: before any other line is looked at, one with a byte above 7f is bad
+-- and of a text: before any other line is looked at, one with a byte above 7f is bad
 unfoldable pub listing_of : List ℕ → WholeTold
-listing_of text = option_map_or (ended_at nothing_listed) (line_above_ascii text) (listing_from (lines_of text) nothing_listed 1)
+listing_of text = option_map_or (λ n. listed [] (Some n)) (line_above_ascii text) (listing_of_lines (lines_of text))

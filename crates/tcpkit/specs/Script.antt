@@ -167,6 +167,12 @@ Reads view (Ok x) meaning = meaning ≡ Some (view x)
 Reads view (Err Bad) meaning = meaning ≡ None
 Reads view (Err NoMemory) meaning = Unit {0}
 
+-- what going on by a line answers, where there is memory
+abbrev pub Takes : {X : Type 0} → Result (Unit {0}) LineFault → Option X → X → Type 0
+Takes (Ok done) meaning new = meaning ≡ Some new
+Takes (Err Bad) meaning new = meaning ≡ None
+Takes (Err NoMemory) meaning new = Unit {0}
+
 -- the line of the first byte above 7f
 abbrev pub line_above_ascii : List ℕ → Option ℕ
 line_above_ascii text = option_map (λ at. count_by (λ b. b == 10) (take at text) + 1) (position (nat_lt 127) text)

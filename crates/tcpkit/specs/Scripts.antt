@@ -1,12 +1,10 @@
 -- The whole script, and its first bad line.
 use Rattle.std.specs.Prelude.{◌≡◌, ℕ, ◌+◌, ◌==◌, if◌then◌else◌, List, [], ◌∷◌, ◌++◌, length, map, Option, Some, None, Result, Ok, Err}
-use Rattle.std.specs.Option.{option_and_then}
+use Rattle.std.specs.Option.{option_and_then, option_map_or}
 use Rattle.tcp_conn.specs.declared.config.Config.{Config}
 use Rattle.tcp_replay.specs.declared.event.Side.{Side}
 use Rattle.tcp_replay.specs.declared.event.Side.TheVariants.{A, B}
 use Rattle.tcpkit.specs.declared.settings.Setting.{Setting}
-use Rattle.tcpkit.specs.declared.lines.LineFault.{LineFault}
-use Rattle.tcpkit.specs.declared.lines.LineFault.TheVariants as faults
 use Rattle.tcpkit.specs.declared.errors.ScriptError.{ScriptError}
 use Rattle.tcpkit.specs.declared.errors.ScriptError.TheVariants.{BadLine, NoMemory}
 use Rattle.tcpkit.specs.declared.script.Script.{Script}
@@ -39,27 +37,13 @@ abbrev pub taken_text : ScriptTold → List ℕ → Option ScriptTold
 taken_text s line = option_and_then (taken s) (line_of line)
 
 -- ALL LINES, from one of this number on: the script, or the number of the first bad one
-abbrev pub goes_on : Option ScriptTold → (ScriptTold → Result ScriptTold ℕ) → ℕ → Result ScriptTold ℕ
-goes_on None further n = Err n
-goes_on (Some s) further n = further s
-
 unfoldable pub script_from : List (List ℕ) → ScriptTold → ℕ → Result ScriptTold ℕ
 script_from [] s n = Ok s
-script_from (line ∷ lines) s n = goes_on (taken_text s line) (λ s'. script_from lines s' (n + 1)) n
+script_from (line ∷ lines) s n = option_map_or (λ s'. script_from lines s' (n + 1)) (taken_text s line) (Err n)
 
 -- A TEXT: before any other line is looked at, one with a byte above 7f is bad
-abbrev pub unless_above : Option ℕ → Result ScriptTold ℕ → Result ScriptTold ℕ
-unless_above (Some n) script = Err n
-unless_above None script = script
-
 unfoldable pub script_of : List ℕ → Result ScriptTold ℕ
-script_of text = unless_above (line_above_ascii text) (script_from (lines_of text) default_script 1)
-
--- what going on by a line answers, where there is memory
-abbrev pub Takes : Result (Unit {0}) LineFault → Option ScriptTold → ScriptTold → Type 0
-Takes (Ok done) meaning new = meaning ≡ Some new
-Takes (Err faults.Bad) meaning new = meaning ≡ None
-Takes (Err faults.NoMemory) meaning new = Unit {0}
+script_of text = option_map_or (λ n. Err n) (line_above_ascii text) (script_from (lines_of text) default_script 1)
 
 -- what `read_script` answers, where there is memory
 abbrev pub ReadsScript : Result Script ScriptError → Result ScriptTold ℕ → Type 0

@@ -1,10 +1,10 @@
 //! The listing of segments.
 ghost use Rattle.std.specs.Prelude.{◌≡◌, ◌≤◌, ◌<◌, IfOk, OnOk, OnErr, string_bytes, Ok, Err};
 ghost use Rattle.tcp_wire.specs.Decoded.{decoded};
-ghost use Rattle.tcpkit.specs.Script.{lines_of};
+ghost use Rattle.tcpkit.specs.Script.{lines_of, Takes};
 ghost use Rattle.tcpkit.specs.Items.{item_told};
-ghost use Rattle.tcpkit.specs.Listing.{nothing_listed, with_segment, with_item, with_line, finished, ended_at, listing_from, listing_of};
-ghost use Rattle.tcpkit.specs.Listings.{listing_told, whole_told, TakesLine};
+ghost use Rattle.tcpkit.specs.Listing.{listing_of};
+ghost use Rattle.tcpkit.specs.Listings.{listing_told, whole_told, nothing_listed, with_segment, with_item, with_line, finished, ended_at, goes_on_from};
 
 use crate::cutting::{LINE_FEED, cut};
 use crate::items::{Item, read_item};
@@ -87,7 +87,7 @@ impl Listing {
     fn take_text(&mut self, alloc: Global, number: usize, line: &[u8]) -> Result<(), LineFault>
         requires below { self.old.segments < number }
         requires within { self.old.malformed ≤ self.old.segments }
-        ensures told { TakesLine result (with_line (listing_told self.old) number line.now) (listing_told self.new) }
+        ensures told { Takes result (with_line (listing_told self.old) number line.now) (listing_told self.new) }
         ensures bad { result ≡ Err LineFault.Bad → self.new ≡ self.old }
         ensures counts { OnOk result (self.new.malformed ≤ self.new.segments) }
         ensures most { OnOk result (self.new.segments ≤ number) }
@@ -127,9 +127,9 @@ impl Listing {
 }
 
 /// The listing of these lines.
-#[tactic(auto, using(crate::proofs::BadLines::bad_item_has_bytes), unfolding(crate::specs::Listing::listing_from))]
+#[tactic(auto, using(crate::proofs::BadLines::bad_item_has_bytes), unfolding(crate::specs::Listings::goes_on_from))]
 fn list_lines(alloc: Global, text: &[u8]) -> Result<Whole, AllocError>
-    ensures { IfOk result (λ w. whole_told w ≡ listing_from (lines_of text.now) nothing_listed 1) }
+    ensures { IfOk result (λ w. whole_told w ≡ goes_on_from (lines_of text.now) nothing_listed 1) }
 {
     let mut listing = Listing::new(alloc);
     let mut passed = 0usize;
@@ -150,7 +150,7 @@ fn list_lines(alloc: Global, text: &[u8]) -> Result<Whole, AllocError>
 }
 
 /// The listing of a text whose bytes can be any.
-#[tactic(auto, unfolding(crate::specs::Listing::listing_of))]
+#[tactic(auto, using(crate::proofs::Listed::goes_on_listed, crate::proofs::Listed::listed_at), unfolding(crate::specs::Listing::listing_of))]
 pub(crate) fn list_text(alloc: Global, text: &[u8]) -> Result<Whole, AllocError>
     ensures { IfOk result (λ w. whole_told w ≡ listing_of text.now) }
 {

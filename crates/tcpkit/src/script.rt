@@ -1,7 +1,7 @@
 //! The whole script.
 ghost use Rattle.std.specs.Prelude.{◌≡◌, ◌==◌, ◌<◌, ◌≤◌, length, IfSome, position, count_by, nat_lt};
-ghost use Rattle.tcpkit.specs.Script.{lines_of, line_told, line_above_ascii};
-ghost use Rattle.tcpkit.specs.Scripts.{default_script, script_told, script_from, script_of, taken, taken_text, Takes, ReadsScript};
+ghost use Rattle.tcpkit.specs.Script.{lines_of, line_told, line_above_ascii, Takes};
+ghost use Rattle.tcpkit.specs.Scripts.{default_script, script_told, script_from, script_of, taken, taken_text, ReadsScript};
 ghost use Rattle.tcpkit.specs.Configs.{default_config};
 
 use crate::cutting::{LINE_FEED, cut};
