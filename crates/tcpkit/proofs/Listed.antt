@@ -1,13 +1,13 @@
 -- A listing that goes on line by line comes to the listing of all lines.
-use Rattle.std.proofs.Common.{◌≡◌, ℕ, ◌+◌, ◌==◌, cond, Bool, true, false, List, [], ◌∷◌, ◌++◌, length, Option, Some, None, Result, Ok, Err, refl, sym, ap, ◌∙◌, append_assoc, arith, option_map}
+use Rattle.std.proofs.Common.{◌≡◌, ℕ, ◌+◌, List, [], ◌∷◌, ◌++◌, length, Option, Some, None, Result, refl, sym, ap, ◌∙◌, append_assoc, arith, option_map}
 use Rattle.std.proofs.lemmas.List.{append-nil}
 use Rattle.std.specs.Option.{option_map_or}
 use Rattle.tcp_wire.specs.declared.fault.DecodeError.{DecodeError}
 use Rattle.tcp_wire.specs.Wire.{Content}
 use Rattle.tcp_wire.specs.Decoded.{decoded}
 use Rattle.tcpkit.specs.Items.{ItemTold, nothing, arrived, item_of}
-use Rattle.tcpkit.specs.Listing.{WholeTold, is_malformed, segment_in, segments_from, bad_line_from, segment_line, segment_lines, count_malformed, total_text, total_unless, answer_unless, listed, listing_of_lines}
-use Rattle.tcpkit.specs.Listings.{ListingTold, nothing_listed, with_segment, with_item, with_line, finished, ended_at, goes_on_from}
+use Rattle.tcpkit.specs.Listing.{WholeTold, segment_in, segments_from, bad_line_from, segment_line, segment_lines, count_malformed, total_unless, answer_unless, listed, listing_of_lines}
+use Rattle.tcpkit.specs.Listings.{ListingTold, nothing_listed, with_segment, with_item, finished, ended_at, goes_on_from}
 
 -- lines behind a text, and then the total
 abbrev made : List ℕ → List ℕ → ℕ → ℕ → Option ℕ → WholeTold

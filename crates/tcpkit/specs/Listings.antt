@@ -1,6 +1,6 @@
 -- What the code keeps of a listing, and how it goes on line by line. Nobody has to believe this: it is proved to
 -- come to the listing of specs/Listing.
-use Rattle.std.specs.Prelude.{◌≡◌, ℕ, ◌+◌, ◌==◌, if◌then◌else◌, List, [], ◌∷◌, ◌++◌, Option, option_map, Result, Ok, Err, string_bytes}
+use Rattle.std.specs.Prelude.{ℕ, ◌+◌, ◌==◌, if◌then◌else◌, List, [], ◌∷◌, ◌++◌, Option, option_map, Result, Ok, Err, string_bytes}
 use Rattle.std.specs.Option.{option_map_or}
 use Rattle.tcp_wire.specs.declared.fault.DecodeError.{DecodeError}
 use Rattle.tcp_wire.specs.Wire.{Content}
