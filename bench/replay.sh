@@ -13,17 +13,18 @@ if [ ! -x "$program" ]; then
     (cd "$top/crates/tcpkit" && rt run -- replay data/first-run.script >/dev/null)
 fi
 
-# Rounds of six events: 16 bytes are sent, emitted, delivered and received, and then acknowledged.
+# The handshake, and then rounds of six events: 16 bytes are sent, emitted, delivered and received, and then acknowledged.
 script() {
+    printf '%s\n' 'listen B' 'connect A' 'emit A' 'deliver A 0' 'emit B' 'deliver B 0' 'emit A' 'deliver A 1'
     awk -v events="$1" 'BEGIN {
-        for (i = 0; i < events; i++) {
+        for (i = 0; i < events - 8; i++) {
             k = int(i / 6)
             if (i % 6 == 0) print "send A 000102030405060708090a0b0c0d0e0f"
             else if (i % 6 == 1) print "emit A"
-            else if (i % 6 == 2) print "deliver A " k
+            else if (i % 6 == 2) print "deliver A " k + 2
             else if (i % 6 == 3) print "receive B 16"
             else if (i % 6 == 4) print "emit B"
-            else print "deliver B " k
+            else print "deliver B " k + 1
         }
     }'
 }

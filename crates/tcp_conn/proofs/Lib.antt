@@ -1,4 +1,3 @@
-pub mod Acks
-pub mod Dues
-pub mod Windows
 pub mod Placing
+pub mod Blocks
+pub mod Segments

@@ -1,8 +1,13 @@
 pub mod Acceptable
+pub mod Phases
+pub mod Link
+pub mod Configs
 pub mod State
 pub mod Sender
 pub mod Receiver
 pub mod Calls
+pub mod Judgement
 pub mod Arrival
 pub mod Emission
-pub mod Numbers
+pub mod Inside
+pub mod Refusals

@@ -1,27 +1,48 @@
 -- The half that receives (RFC 9293, 3.4 and 3.10.7.4).
-use Rattle.std.specs.Prelude.{ℕ, ◌+◌, ◌-◌, ◌%◌, ◌^◌, min, List}
-use Rattle.tcp_reasm.specs.Reassembly.{Inbox, placed, place_answer, after_read}
+use Rattle.std.specs.Prelude.{ℕ, ◌+◌, ◌-◌, ◌%◌, ◌^◌, min, Bool, true, false, ◌&&◌, ◌==◌, nat_lt, List}
+use Rattle.tcp_wire.specs.Position.{number, offset}
+use Rattle.tcp_reasm.specs.Reassembly.{Inbox, window, empty_inbox, after_place, place_answer, after_read, without_held}
 use Rattle.tcp_reasm.specs.Agreement.{advance_of}
-use Rattle.tcp_conn.specs.Acceptable.{offset}
 use Rattle.tcp_conn.specs.State.{Receiving}
 
 -- the greatest count that is kept
-abbrev pub most_ordered : ℕ
-most_ordered = 2 ^ 64 - 1
+abbrev pub max_ordered : ℕ
+max_ordered = 2 ^ 64 - 1
+
+-- no SYN of the peer was taken yet
+abbrev pub new_receiving : ℕ → Receiving
+new_receiving capacity = record { opened = false; next = 0; ordered = 0; finished = false; inbox = empty_inbox capacity }
+
+-- the peer's SYN with this number is taken (RFC 9293, 3.10.7.2)
+abbrev pub with_syn : Receiving → ℕ → Receiving
+with_syn r seq = record r { opened = true; next = number seq 1 }
 
 -- the receiver once its inbox has become this one, by which n bytes more are in order
 abbrev pub with_inbox : Receiving → Inbox → ℕ → Receiving
-with_inbox r inbox n = record {
+with_inbox r inbox n = record r {
   next = (r.next + n) % 2 ^ 32;
-  ordered = min most_ordered (r.ordered + n);
+  ordered = min max_ordered (r.ordered + n);
   inbox = inbox;
 }
 
--- TEXT: it is placed at its distance from RCV.NXT
-unfoldable pub text_placed : Receiving → ℕ → List ℕ → Receiving
-text_placed r seq text =
-    with_inbox r (placed r.inbox (offset r.next seq) text) (advance_of (place_answer r.inbox (offset r.next seq) text))
+-- TEXT (RFC 9293, 3.10.7.4, seventh): it is placed at its distance from RCV.NXT
+unfoldable pub after_text : Receiving → ℕ → List ℕ → Receiving
+after_text r seq text =
+    with_inbox r (after_place r.inbox (offset r.next seq) text) (advance_of (place_answer r.inbox (offset r.next seq) text))
 
--- the user takes n unread bytes
-abbrev pub handed_over : Receiving → ℕ → Receiving
-handed_over r n = record r { inbox = after_read r.inbox n }
+-- THE PEER'S FIN (RFC 9293, 3.10.7.4, eighth) is taken in its turn alone: its number is RCV.NXT, and the window
+-- is open
+abbrev pub is_fin_due : Receiving → ℕ → Bool
+is_fin_due r number = (number == r.next) && nat_lt 0 (window r.inbox)
+
+-- held pieces are given up
+abbrev pub with_fin : Receiving → Receiving
+with_fin r = record r { next = number r.next 1; finished = true; inbox = without_held r.inbox }
+
+-- the user takes at most n unread bytes
+abbrev pub after_handing : Receiving → ℕ → Receiving
+after_handing r n = record r { inbox = after_read r.inbox n }
+
+-- what is unread and held is given up
+abbrev pub without_bytes : Receiving → Receiving
+without_bytes r = record r { inbox = empty_inbox r.inbox.capacity }

@@ -1,70 +1,124 @@
--- The half that sends (RFC 9293, 3.3.1, 3.8 and 3.10.7.4): what acknowledgements, windows and timers do.
-use Rattle.std.specs.Prelude.{◌≡◌, ℕ, ◌+◌, ◌-◌, ◌^◌, ◌<◌, ◌≤◌, min, ℤ, pos, int_lt, Bool, ◌&&◌, ◌||◌, ◌==◌, nat_lt, if◌then◌else◌, List, length, take, Some}
-use Rattle.tcp_wire.specs.Position.{number, distance, near, is_before}
+-- The half that sends (RFC 9293, 3.3.1, 3.8 and 3.10.7.4): what acknowledgements, windows, blocks and timers
+-- do to it. Acknowledgements and edges of blocks are spoken of as positions here.
+use Rattle.std.specs.Prelude.{ℕ, ◌+◌, ◌-◌, ◌^◌, ◌<◌, ◌≤◌, min, Bool, ◌&&◌, ◌||◌, ◌==◌, nat_lt, nat_le, if◌then◌else◌, List, length, take, Some, None}
+use Rattle.tcp_wire.specs.Position.{is_before}
 use Rattle.tcp_sendq.specs.SendQueue as queues
-use Rattle.tcp_conn.specs.State.{Sending, accepted_count, end_of_text}
+use Rattle.tcp_conn.specs.State.{Sending, accepted_count, place_of, position_at, end_of_text}
 
 -- a direction carries at most this many bytes, so that any two of its positions differ by less than 2^31
 abbrev pub stream_limit : ℕ
 stream_limit = 2147483632
 
--- the position that an acknowledgement number means: the nearest one to SND.UNA
-abbrev pub ack_position : Sending → ℕ → ℤ
-ack_position s ack = near s.una (distance s.iss ack)
+-- what nothing was asked of yet
+abbrev pub new_sending : ℕ → Sending
+new_sending capacity = record {
+  una = 0;
+  nxt = 0;
+  released = 0;
+  queue = queues.empty_queue capacity;
+  resend = None;
+  wnd = 0;
+  wl1 = 0;
+  wl2 = 0;
+}
+
+-- the SYN is on its way: SND.UNA = ISS, SND.NXT = ISS + 1 (RFC 9293, 3.10.1)
+abbrev pub with_syn_sent : Sending → Sending
+with_syn_sent s = record s { una = 0; nxt = 1 }
+
+-- it is acknowledged
+abbrev pub with_syn_acked : Sending → Sending
+with_syn_acked s = record s { una = s.nxt }
 
 -- it acknowledges what wasn't sent
-unfoldable pub is_beyond : Sending → ℕ → Bool
-is_beyond s ack = int_lt (pos s.nxt) (ack_position s ack)
+abbrev pub acks_unsent : Sending → ℕ → Bool
+acks_unsent s ack = nat_lt s.nxt ack
 
--- it is older than one that came before
-unfoldable pub is_old : Sending → ℕ → Bool
-is_old s ack = int_lt (ack_position s ack) (pos s.una)
+-- it acknowledges something for the first time
+abbrev pub acks_more : Sending → ℕ → Bool
+acks_more s ack = nat_lt s.una ack && nat_le ack s.nxt
 
--- how many positions it acknowledges for the first time
-unfoldable pub count_acked : Sending → ℕ → ℕ
-count_acked s ack = distance (number s.iss s.una) ack
+-- how many queued bytes stand below a position
+abbrev pub count_below : Sending → ℕ → ℕ
+count_below s position = min (place_of s position) (length s.queue.bytes)
 
 -- ACKNOWLEDGEMENT: the text below it is released (RFC 9293, 3.10.7.4, fifth, ESTABLISHED)
-abbrev pub advanced : Sending → ℕ → Sending
-advanced s n = record s { una = s.una + n; released = s.released + n; queue = queues.released s.queue n }
+abbrev pub with_acked : Sending → ℕ → Sending
+with_acked s ack = record s {
+  una = ack;
+  released = s.released + count_below s ack;
+  queue = queues.after_release s.queue (count_below s ack);
+}
 
-unfoldable pub acknowledged : Sending → ℕ → Sending
-acknowledged s ack = if is_old s ack then s else advanced s (count_acked s ack)
+unfoldable pub after_ack : Sending → ℕ → Sending
+after_ack s ack = if acks_more s ack then with_acked s ack else s
 
--- WINDOW UPDATE (RFC 9293, 3.10.7.4): not from a segment older than the one that told the window last
+-- WINDOW UPDATE (RFC 9293, 3.10.7.4, fifth): not from a segment older than the one that told the window last
 abbrev pub is_newer : Sending → ℕ → ℕ → Bool
 is_newer s seq ack = is_before s.wl1 seq || ((s.wl1 == seq) && (is_before s.wl2 ack || (s.wl2 == ack)))
 
 abbrev pub with_window : Sending → ℕ → ℕ → ℕ → Sending
 with_window s seq ack window = record s { wnd = window; wl1 = seq; wl2 = ack }
 
-unfoldable pub window_updated : Sending → ℕ → ℕ → ℕ → Sending
-window_updated s seq ack window = if is_newer s seq ack then with_window s seq ack window else s
+unfoldable pub after_window_update : Sending → ℕ → ℕ → ℕ → Sending
+after_window_update s seq ack window = if is_newer s seq ack then with_window s seq ack window else s
 
--- what an acceptable segment with an acknowledgement does: an old one tells no window
-unfoldable pub ack_taken : Sending → ℕ → ℕ → ℕ → Sending
-ack_taken s seq ack window = if is_old s ack then s else window_updated (acknowledged s ack) seq ack window
+-- MARKS (RFC 2018, 5): a block of what was sent and isn't acknowledged. Its text is marked, never the FIN
+abbrev pub is_of_flight : Sending → ℕ → ℕ → Bool
+is_of_flight s left right = nat_lt s.una left && (nat_lt left right && nat_le right s.nxt)
 
--- RETRANSMISSION TIMEOUT (RFC 9293, 3.8.1; RFC 2018, 5): all that is in flight goes out again
+abbrev pub marks_text : Sending → ℕ → ℕ → Bool
+marks_text s left right = is_of_flight s left right && nat_lt (place_of s left) (count_below s right)
+
+abbrev pub with_marks : Sending → ℕ → ℕ → Sending
+with_marks s left right = record s { queue = queues.after_mark s.queue (place_of s left) (count_below s right) }
+
+unfoldable pub after_block : Sending → ℕ → ℕ → Sending
+after_block s left right = if marks_text s left right then with_marks s left right else s
+
+-- RETRANSMISSION TIMEOUT (RFC 9293, 3.8.1; RFC 2018, 5): all that is in flight goes out again, and every mark is
+-- forgotten
 abbrev pub is_in_flight : Sending → Bool
 is_in_flight s = nat_lt s.una s.nxt
 
-abbrev pub timed_out : Sending → Sending
-timed_out s = record s { resend = Some (record { start = s.una; end = s.nxt }); queue = queues.unmarked s.queue }
+abbrev pub with_all_resent : Sending → Sending
+with_all_resent s = record s { resend = Some (record { start = s.una; end = s.nxt }); queue = queues.without_marks s.queue }
+
+-- REORDERING TIMEOUT (RFC 2018, 5): what stands below the last mark goes out again
+abbrev pub with_gaps_resent : Sending → ℕ → Sending
+with_gaps_resent s end = record s { resend = Some (record { start = s.una; end = position_at s end }) }
 
 -- how many bytes of a text the direction takes: the front that fits the queue and the limit
 abbrev pub count_sendable : Sending → List ℕ → ℕ
 count_sendable s text = min (queues.count_taken s.queue text) (stream_limit - accepted_count s)
 
-abbrev pub extended : Sending → List ℕ → Sending
-extended s text = record s { queue = queues.offered s.queue (take (count_sendable s text) text) }
+abbrev pub with_text : Sending → List ℕ → Sending
+with_text s text = record s { queue = queues.after_offer s.queue (take (count_sendable s text) text) }
+
+-- how many queued bytes weren't sent yet
+abbrev pub count_unsent : Sending → ℕ
+count_unsent s = length s.queue.bytes - place_of s s.nxt
+
+-- the own FIN was sent: SND.NXT lies behind the end of text
+abbrev pub is_fin_sent : Sending → Bool
+is_fin_sent s = nat_lt (end_of_text s) s.nxt
+
+-- and all that was sent is acknowledged
+abbrev pub is_fin_acked : Sending → Bool
+is_fin_acked s = is_fin_sent s && (s.una == s.nxt)
+
+-- the connection has ended: nothing goes out again
+abbrev pub without_resend : Sending → Sending
+without_resend s = record s { resend = None }
+
+-- and what is queued is given up
+abbrev pub without_text : Sending → Sending
+without_text s = record s { resend = None; queue = queues.after_release s.queue (length s.queue.bytes) }
 
 -- what always holds of the half that sends
 pub record IsSender (s : Sending) : Type 0 where
-  pub iss : s.iss < 2 ^ 32
-  pub una : s.una ≡ 1 + s.released
   pub order : s.una ≤ s.nxt
-  pub nxt : s.nxt ≤ end_of_text s
+  pub most : s.nxt ≤ 2 + stream_limit
   pub limit : accepted_count s ≤ stream_limit
   pub wnd : s.wnd < 2 ^ 32
   pub queued : length s.queue.bytes ≤ s.queue.capacity

@@ -1,23 +1,24 @@
 -- What one end is: data alone (RFC 9293, 3.3.1). Positions count from the first number of a direction: the
--- SYN is at 0, byte i of the stream at 1 + i.
-use Rattle.std.specs.Prelude.{◌≡◌, ℕ, ◌+◌, ◌^◌, ◌<◌, ◌≤◌, Bool, true, List, length, Option}
+-- SYN is at 0, byte i of the stream at 1 + i, the FIN behind the last byte.
+use Rattle.std.specs.Prelude.{◌≡◌, ℕ, ◌+◌, ◌-◌, ◌≤◌, Bool, true, length, Option}
 use Rattle.tcp_sendq.specs.SendQueue.{Queue}
 use Rattle.tcp_reasm.specs.Reassembly.{Inbox}
 use Rattle.std.specs.declared.ops.Range.{Range}
 use Rattle.tcp_conn.specs.declared.config.Config.{Config}
 use Rattle.tcp_conn.specs.declared.phase.Phase.{Phase}
 use Rattle.tcp_conn.specs.declared.phase.Ending.{Ending}
+use Rattle.tcp_conn.specs.declared.link.Peer.{Peer}
+use Rattle.tcp_conn.specs.declared.link.Link.{Link}
+use Rattle.tcp_conn.specs.declared.link.Owed.{Owed}
 
 -- the half that sends
 pub record Sending : Type 0 where
-  -- ISS, the initial number
-  pub iss : ℕ
   -- SND.UNA and SND.NXT, as positions: the oldest that isn't acknowledged, and the next to be sent
   pub una : ℕ
   pub nxt : ℕ
   -- text bytes that an acknowledgement has released
   pub released : ℕ
-  -- the bytes that were accepted and are not released
+  -- the bytes that were accepted and are not released, with the peer's marks
   pub queue : Queue
   -- what a retransmission has still to send again
   pub resend : Option (Range ℕ)
@@ -28,42 +29,46 @@ pub record Sending : Type 0 where
 
 -- the half that receives
 pub record Receiving : Type 0 where
+  -- the peer's SYN was taken
+  pub opened : Bool
   -- RCV.NXT, a number
   pub next : ℕ
   -- text bytes that came in order; it stays at its greatest value once there
   pub ordered : ℕ
+  -- the peer's FIN was taken
+  pub finished : Bool
   pub inbox : Inbox
 
 -- one end of a connection
 pub record State : Type 0 where
   pub config : Config
-  -- the peer's address and port
-  pub peer_addr : List ℕ
-  pub peer_port : ℕ
-  -- the greatest text of a segment that the peer takes
-  pub peer_mss : ℕ
   pub phase : Phase
   pub ending : Ending
+  -- a `close` was answered Ok
+  pub closing : Bool
+  pub peer : Peer
+  -- what the SYNs agreed on
+  pub link : Link
   pub sending : Sending
   pub receiving : Receiving
-  pub owes_ack : Bool
+  -- what is owed to the wire
+  pub owed : Owed
 
 -- as many bytes as the direction has accepted from its user
 abbrev pub accepted_count : Sending → ℕ
 accepted_count s = s.released + length s.queue.bytes
 
--- the position behind the last byte that was accepted
+-- the place in the queue of the byte at a position
+abbrev pub place_of : Sending → ℕ → ℕ
+place_of s position = position - (1 + s.released)
+
+-- the position of the byte at a place
+abbrev pub position_at : Sending → ℕ → ℕ
+position_at s place = 1 + s.released + place
+
+-- the position behind the last byte that was accepted, where the FIN stands
 abbrev pub end_of_text : Sending → ℕ
-end_of_text s = s.una + length s.queue.bytes
-
-abbrev pub owing_ack : State → State
-owing_ack s = record s { owes_ack = true }
-
--- an end's segments fit the room that it asks for, and its ports their fields
-pub record HasFields (own_mss own_port other_port : ℕ) : Type 0 where
-  pub mss : own_mss ≤ 1460
-  pub port : own_port < 2 ^ 16
-  pub peer_port : other_port < 2 ^ 16
+end_of_text s = 1 + accepted_count s
 
 -- what is queued stays within the capacity that the Config says
 pub record KeepsWithin (capacity : ℕ) (queue : Queue) : Type 0 where
@@ -78,3 +83,14 @@ pub record HoldsWithin (capacity : ℕ) (inbox : Inbox) : Type 0 where
 -- an end keeps no more than its Config allows
 abbrev pub IsWithin : State → Type 0
 IsWithin s = KeepsWithin s.config.send_capacity s.sending.queue × HoldsWithin s.config.recv_capacity s.receiving.inbox
+
+-- ---- parts of an end, changed
+
+abbrev pub with_ack_owed : State → State
+with_ack_owed s = record s { owed = record s.owed { ack = true } }
+
+abbrev pub with_sending : State → Sending → State
+with_sending s sending = record s { sending = sending }
+
+abbrev pub with_receiving : State → Receiving → State
+with_receiving s receiving = record s { receiving = receiving }

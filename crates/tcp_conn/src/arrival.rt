@@ -1,15 +1,53 @@
-ghost use Rattle.std.specs.Prelude.{◌≡◌, ◌≤◌, ◌+◌, length, true, false};
+//! What an arrival does (RFC 9293, 3.10.7): each judgement's effect, a method for each rule.
+ghost use Rattle.std.specs.Prelude.{◌≡◌, ◌≤◌, length};
 ghost use Rattle.tcp_wire.specs.View.{content};
-ghost use Rattle.tcp_conn.specs.State.{State, IsWithin, owing_ack};
-ghost use Rattle.tcp_conn.specs.Arrival.{is_foreign, is_control, is_wanted, acks_unsent, with_ack, text_taken, receiving_answer, after_receiving, wanted_answer, after_wanted, segment_answer, after_segment, arrival_answer, after_arrival};
+ghost use Rattle.tcp_conn.specs.State.{State, IsWithin, with_ack_owed};
+ghost use Rattle.tcp_conn.specs.Arrival.{with_reset, reset_at_ack, reset_of_stray, after_opening, after_acceptance, after_own_syn, after_acked_text, after_news, after_own_fin, after_its_ack, after_its_text, after_fin, after_taking, after_taking_shut, with_ack_owed_unless_closed, after_judgement, arrival_answer, after_arrival};
 
 use crate::endpoint::Endpoint;
+use crate::judgement::Judgement;
+use crate::judging::count_numbers;
+use crate::link::{Peer, WaitingReset};
+use crate::options::link_of;
 use crate::outcome::Arrival;
+use crate::phase::{Ending, Phase};
 use std::alloc::Allocator;
-use tcp_wire::{Addr, Segment, decode};
+use tcp_wire::{Addr, Segment, Seq, decode};
+
+/// A reset at the number that a segment acknowledges (RFC 9293, 3.10.7.1).
+fn reset_at_ack(src: Addr, segment: &Segment<'_>) -> WaitingReset
+    ensures { result ≡ reset_at_ack src.0 (content segment.now) }
+{
+    WaitingReset {
+        to: Peer {
+            addr: src,
+            port: segment.src_port,
+        },
+        seq: segment.ack,
+        ack: None,
+    }
+}
+
+/// The reset that answers a segment which comes to no connection (RFC 9293, 3.10.7.1).
+fn reset_of_stray(src: Addr, segment: &Segment<'_>) -> WaitingReset
+    requires { length (content segment.now).text ≤ 65495 }
+    ensures { result ≡ reset_of_stray src.0 (content segment.now) }
+{
+    if segment.flags.is_ack() {
+        return reset_at_ack(src, segment);
+    }
+    WaitingReset {
+        to: Peer {
+            addr: src,
+            port: segment.src_port,
+        },
+        seq: Seq(0),
+        ack: Some(segment.seq.plus(count_numbers(segment))),
+    }
+}
 
 impl<A: Allocator> Endpoint<A> {
-    /// Takes bytes that came from `src` to `dst` (RFC 9293, 3.10.7).
+    /// Takes bytes that came from `src` to `dst`, whatever they are (RFC 9293, 3.10.7).
     #[tactic(auto, unfolding(crate::specs::Arrival::arrival_answer, crate::specs::Arrival::after_arrival))]
     pub fn arrive(&mut self, src: Addr, dst: Addr, bytes: &[u8]) -> Arrival
         ensures answer { result ≡ arrival_answer self.old src.0 dst.0 bytes.now }
@@ -17,86 +55,198 @@ impl<A: Allocator> Endpoint<A> {
         ensures within { IsWithin self.new }
     {
         let answer = match decode(src, dst, bytes) {
-            Ok(segment) => self.segment_arrives(src, dst, &segment),
+            Ok(segment) => {
+                let judgement = self.judge(src, dst, &segment);
+                self.follow(judgement, src, &segment);
+                judgement.answer()
+            }
             Err(fault) => Arrival::Malformed(fault),
         };
         let _ = &self.config;
         answer
     }
 
-    /// A segment arrives.
-    #[tactic(auto, unfolding(crate::specs::Arrival::segment_answer, crate::specs::Arrival::after_segment))]
-    fn segment_arrives(&mut self, src: Addr, dst: Addr, segment: &Segment<'_>) -> Arrival
+    /// What a judgement does.
+    fn follow(&mut self, judgement: Judgement, src: Addr, segment: &Segment<'_>)
         requires { length (content segment.now).text ≤ 65495 }
-        ensures answer { result ≡ segment_answer self.old src.0 dst.0 (content segment.now) }
-        ensures state { self.new ≡ after_segment self.old src.0 dst.0 (content segment.now) }
+        ensures { self.new ≡ after_judgement judgement self.old src.0 (content segment.now) }
     {
-        if self.is_foreign(src, dst, segment) {
-            return Arrival::NotMine;
+        match judgement {
+            Judgement::Foreign | Judgement::ResetIgnored | Judgement::NoSyn | Judgement::NoAck => {}
+            Judgement::Stray => self.record_reset(reset_of_stray(src, segment)),
+            Judgement::AckOfListen | Judgement::AckOfNoSyn | Judgement::HandshakeRefused => {
+                self.record_reset(reset_at_ack(src, segment));
+            }
+            Judgement::HandshakeRefusedShut => {
+                self.record_reset(reset_at_ack(src, segment));
+                self.owed.ack = true;
+            }
+            Judgement::PeerOpens => self.open(src, segment),
+            Judgement::PeerAccepts => self.accept(segment),
+            Judgement::PeerRefuses | Judgement::PeerResets => self.end_by(Ending::Reset),
+            Judgement::Unacceptable
+            | Judgement::ResetElsewhere
+            | Judgement::SynInWindow
+            | Judgement::AcksUnsent => self.owed.ack = true,
+            Judgement::Taken => self.take(segment),
+            Judgement::TakenShut => self.take_shut(segment),
         }
-        if segment.flags.is_rst() || segment.flags.is_syn() {
-            return Arrival::Dropped;
-        }
-        self.wanted_arrives(segment)
     }
 
-    /// Whether it is for another end, or from another peer.
-    #[tactic(auto, unfolding(crate::specs::Arrival::is_foreign))]
-    fn is_foreign(&self, src: Addr, dst: Addr, segment: &Segment<'_>) -> bool
-        ensures { result ≡ is_foreign self.now src.0 dst.0 (content segment.now) }
+    /// A reset waits, unless one does already (RFC 9293, 3.10.7.1).
+    fn record_reset(&mut self, reset: WaitingReset)
+        ensures { self.new ≡ with_reset self.old reset }
     {
-        dst != self.config.addr
-            || segment.dst_port != self.config.port
-            || src != self.peer_addr
-            || segment.src_port != self.peer_port
+        if self.owed.reset.is_none() {
+            self.owed.reset = Some(reset);
+        }
     }
 
-    /// A segment of the own peer, which is taken where it is acceptable (RFC 9293, 3.10.7.4, first).
-    #[tactic(auto, unfolding(crate::specs::Arrival::wanted_answer, crate::specs::Arrival::after_wanted))]
-    fn wanted_arrives(&mut self, segment: &Segment<'_>) -> Arrival
-        requires { length (content segment.now).text ≤ 65495 }
-        ensures answer { result ≡ wanted_answer self.old (content segment.now) }
-        ensures state { self.new ≡ after_wanted self.old (content segment.now) }
+    /// The peer opens by a SYN in LISTEN (RFC 9293, 3.10.7.2, third).
+    #[tactic(auto, unfolding(crate::specs::Arrival::after_opening))]
+    fn open(&mut self, src: Addr, segment: &Segment<'_>)
+        ensures { self.new ≡ after_opening self.old src.0 (content segment.now) }
     {
-        if !self
-            .receiver
-            .accepts(segment.seq, segment.text.len() as u32)
-        {
-            self.owes_ack = true;
-            return Arrival::Dropped;
-        }
-        self.acceptable_arrives(segment)
+        self.phase = Phase::SynReceived;
+        self.peer = Peer {
+            addr: src,
+            port: segment.src_port,
+        };
+        self.link = link_of(&self.config, segment.options.as_slice());
+        self.sender.send_syn();
+        self.receiver.take_syn(segment.seq);
+        self.owed.syn = true;
     }
 
-    /// An acceptable segment: its acknowledgement and window, then its text (RFC 9293, 3.10.7.4, fifth and
-    /// seventh).
-    #[tactic(auto, unfolding(crate::specs::Arrival::receiving_answer, crate::specs::Arrival::after_receiving))]
-    fn acceptable_arrives(&mut self, segment: &Segment<'_>) -> Arrival
-        requires { length (content segment.now).text ≤ 65495 }
-        ensures answer { result ≡ receiving_answer self.old (content segment.now) }
-        ensures state { self.new ≡ after_receiving self.old (content segment.now) }
+    /// The peer accepts by a SYN with an acknowledgement in SYN-SENT; its window isn't scaled (RFC 9293, 3.10.7.3, fourth).
+    #[tactic(auto, unfolding(crate::specs::Arrival::after_acceptance))]
+    fn accept(&mut self, segment: &Segment<'_>)
+        ensures { self.new ≡ after_acceptance self.old (content segment.now) }
     {
-        if !segment.flags.is_ack() {
-            return Arrival::Dropped;
-        }
-        if self.sender.is_beyond(segment.ack) {
-            self.owes_ack = true;
-            return Arrival::Dropped;
-        }
+        self.phase = Phase::Established;
+        self.link = link_of(&self.config, segment.options.as_slice());
         self.sender
-            .take_ack(segment.seq, segment.ack, segment.window);
-        self.take_text(segment);
-        Arrival::Processed
+            .take_syn_ack(segment.seq, segment.ack, u32::from(segment.window));
+        self.receiver.take_syn(segment.seq);
+        self.owed.syn = false;
+        self.owed.ack = true;
     }
 
-    /// Places the text, if there is any, and owes an acknowledgement for it.
+    /// All of a segment is taken (RFC 9293, 3.10.7.4, fifth to eighth).
+    #[tactic(auto, unfolding(crate::specs::Arrival::after_taking))]
+    fn take(&mut self, segment: &Segment<'_>)
+        requires { length (content segment.now).text ≤ 65495 }
+        ensures { self.new ≡ after_taking self.old (content segment.now) }
+    {
+        self.take_ack(segment);
+        self.take_text(segment);
+        self.take_fin(segment);
+    }
+
+    /// The window is shut: text and FIN are dropped, and an acknowledgement tells where the window stands.
+    #[tactic(auto, unfolding(crate::specs::Arrival::after_taking_shut))]
+    fn take_shut(&mut self, segment: &Segment<'_>)
+        ensures { self.new ≡ after_taking_shut self.old (content segment.now) }
+    {
+        self.take_ack(segment);
+        self.owed.ack = self.owed.ack || !self.phase.is_closed();
+    }
+
+    /// Its acknowledgement, window and blocks (RFC 9293, 3.10.7.4, fifth).
+    #[tactic(auto, unfolding(crate::specs::Arrival::after_its_ack))]
+    fn take_ack(&mut self, segment: &Segment<'_>)
+        ensures { self.new ≡ after_its_ack self.old (content segment.now) }
+    {
+        self.take_own_syn(segment);
+        self.take_acked_text(segment);
+        self.take_news(segment);
+        self.take_own_fin();
+    }
+
+    /// The own SYN is acknowledged in SYN-RECEIVED; a waiting close acts (RFC 9293, 3.10.7.4, fifth).
+    #[tactic(auto, unfolding(crate::specs::Arrival::after_own_syn))]
+    fn take_own_syn(&mut self, segment: &Segment<'_>)
+        ensures { self.new ≡ after_own_syn self.old (content segment.now) }
+    {
+        if self.phase.is_syn_received() {
+            self.phase = if self.closing {
+                Phase::FinWait1
+            } else {
+                Phase::Established
+            };
+            let window = self.window_from(segment.window);
+            self.sender.take_syn_ack(segment.seq, segment.ack, window);
+            self.owed.syn = false;
+        }
+    }
+
+    /// Text is acknowledged (RFC 9293, 3.10.7.4, fifth).
+    #[tactic(auto, unfolding(crate::specs::Arrival::after_acked_text))]
+    fn take_acked_text(&mut self, segment: &Segment<'_>)
+        ensures { self.new ≡ after_acked_text self.old (content segment.now) }
+    {
+        let ack = self.position_near(segment.ack);
+        self.sender.take_ack(ack);
+    }
+
+    /// Window update, then each block: not from an old acknowledgement (RFC 9293, 3.10.7.4, fifth; RFC 2018, 5).
+    #[tactic(auto, unfolding(crate::specs::Arrival::after_news))]
+    fn take_news(&mut self, segment: &Segment<'_>)
+        ensures { self.new ≡ after_news self.old (content segment.now) }
+    {
+        if !self.sender.is_una(self.position_near(segment.ack)) {
+            return;
+        }
+        let window = self.window_from(segment.window);
+        self.sender.update_window(segment.seq, segment.ack, window);
+        if self.link.sack {
+            let iss = self.config.isn;
+            self.sender.mark_told(iss, segment.options.as_slice());
+        }
+    }
+
+    /// The own FIN is acknowledged (RFC 9293, 3.10.7.4, fifth).
+    #[tactic(auto, unfolding(crate::specs::Arrival::after_own_fin))]
+    fn take_own_fin(&mut self)
+        ensures { self.new ≡ after_own_fin self.old }
+    {
+        if !self.sender.is_fin_acked() {
+            return;
+        }
+        match self.phase {
+            Phase::LastAck => self.end_in_order(),
+            Phase::FinWait1 => self.phase = Phase::FinWait2,
+            Phase::Closing => self.phase = Phase::TimeWait,
+            _ => {}
+        }
+    }
+
+    /// Its text is placed, where there is any, and an acknowledgement is owed for it (RFC 9293, 3.10.7.4, seventh).
+    #[tactic(auto, unfolding(crate::specs::Arrival::after_its_text))]
     fn take_text(&mut self, segment: &Segment<'_>)
         requires { length (content segment.now).text ≤ 65495 }
-        ensures { self.new ≡ text_taken self.old (content segment.now) }
+        ensures { self.new ≡ after_its_text self.old (content segment.now) }
     {
-        if !segment.text.is_empty() {
+        if self.phase.takes_text() && !segment.text.is_empty() {
             self.receiver.place(segment.seq, segment.text);
-            self.owes_ack = true;
+            self.owed.ack = true;
+        }
+    }
+
+    /// The peer's FIN is acknowledged, and taken where its number is the next one (RFC 9293, 3.10.7.4, eighth).
+    #[tactic(auto, unfolding(crate::specs::Arrival::after_fin))]
+    fn take_fin(&mut self, segment: &Segment<'_>)
+        requires { length (content segment.now).text ≤ 65495 }
+        ensures { self.new ≡ after_fin self.old (content segment.now) }
+    {
+        if !self.phase.takes_text() || !segment.flags.is_fin() {
+            return;
+        }
+        self.owed.ack = true;
+        let number = segment.seq.plus(segment.text.len() as u32);
+        if self.receiver.is_fin_due(number) {
+            self.receiver.take_fin();
+            self.phase = self.phase.behind_fin();
         }
     }
 }

@@ -1,55 +1,245 @@
-ghost use Rattle.std.specs.Prelude.{◌≡◌, ◌++◌, length, take, drop};
+ghost use Rattle.std.specs.Prelude.{◌≡◌, ◌++◌, ◌≤◌, ◌||◌, length, take, drop};
 ghost use Rattle.tcp_conn.specs.State.{State, IsWithin};
-ghost use Rattle.tcp_conn.specs.Calls.{send_answer, after_send, receive_answer, after_receive, count_handed, timer_answer, after_timer};
+ghost use Rattle.tcp_conn.specs.Calls.{opening_refusal, opening_answer, after_connect, after_listen, open_refusal, send_refusal, send_answer, after_send, receive_refusal, receive_answer, received_bytes, told_window, after_receive, close_refusal, close_answer, after_closing, after_close, abort_answer, with_abort, after_abort, after_orderly_end, after_giving_up};
 
 use crate::endpoint::Endpoint;
+use crate::link::{Peer, WaitingReset};
 use crate::outcome::{CallError, Received};
-use crate::phase::Timer;
+use crate::phase::{Ending, Phase};
 use crate::sender::STREAM_LIMIT;
 use std::alloc::Allocator;
+use tcp_wire::Addr;
 
 impl<A: Allocator> Endpoint<A> {
-    /// Takes the front of `text` that fits the send queue, and answers its length (RFC 9293, 3.10.2).
-    /// `StreamFull` where the direction has carried 2,147,483,632 bytes, and `text` isn't empty.
+    /// Opens a connection to this address and port: SYN-SENT (RFC 9293, 3.10.1). `Ended` where one has ended, else
+    /// `AlreadyOpen` in any phase but CLOSED.
+    #[tactic(auto, unfolding(crate::specs::Calls::after_connect))]
+    pub fn connect(&mut self, addr: Addr, port: u16) -> Result<(), CallError>
+        ensures answer { result ≡ opening_answer self.old }
+        ensures state { self.new ≡ after_connect self.old (record { addr = addr; port = port }) }
+        ensures within { IsWithin self.new }
+    {
+        let _ = &self.config;
+        if let Some(refusal) = self.opening_refusal() {
+            return Err(refusal);
+        }
+        self.phase = Phase::SynSent;
+        self.peer = Peer { addr, port };
+        self.sender.send_syn();
+        self.owed.syn = true;
+        Ok(())
+    }
+
+    /// Waits for a peer: LISTEN (RFC 9293, 3.10.1). Refused as `connect` is.
+    #[tactic(auto, unfolding(crate::specs::Calls::after_listen))]
+    pub fn listen(&mut self) -> Result<(), CallError>
+        ensures answer { result ≡ opening_answer self.old }
+        ensures state { self.new ≡ after_listen self.old }
+        ensures within { IsWithin self.new }
+    {
+        let _ = &self.config;
+        if let Some(refusal) = self.opening_refusal() {
+            return Err(refusal);
+        }
+        self.phase = Phase::Listen;
+        Ok(())
+    }
+
+    /// Why an opening is refused.
+    fn opening_refusal(&self) -> Option<CallError>
+        ensures { result ≡ opening_refusal self.now }
+    {
+        if self.ending.is_ended() {
+            return Some(CallError::Ended(self.ending));
+        }
+        if !self.phase.is_closed() {
+            return Some(CallError::AlreadyOpen);
+        }
+        None
+    }
+
+    /// Why a call on a connection is refused.
+    fn open_refusal(&self) -> Option<CallError>
+        ensures { result ≡ open_refusal self.now }
+    {
+        if self.ending.is_ended() {
+            return Some(CallError::Ended(self.ending));
+        }
+        if self.phase.is_closed() {
+            return Some(CallError::NotOpen);
+        }
+        None
+    }
+
+    /// Takes the front of `text` that fits the send queue and the limit of the direction, and answers its length; before
+    /// ESTABLISHED the bytes wait (RFC 9293, 3.10.2). `Ended` or `NotOpen` where there is no connection, `NotConnected` in
+    /// LISTEN, `Closing` behind a `close`, and `StreamFull` where the direction has carried 2,147,483,632 bytes and `text`
+    /// isn't empty.
+    #[tactic(auto, unfolding(crate::specs::Calls::after_send))]
     pub fn send(&mut self, text: &[u8]) -> Result<usize, CallError>
         ensures answer { result ≡ send_answer self.old text.now }
         ensures state { self.new ≡ after_send self.old text.now }
         ensures within { IsWithin self.new }
     {
         let _ = &self.config;
-        if !text.is_empty() && self.sender.accepted_count() == STREAM_LIMIT {
-            return Err(CallError::StreamFull);
+        if let Some(refusal) = self.send_refusal(text) {
+            return Err(refusal);
         }
         Ok(self.sender.send(text))
     }
 
-    /// Hands over the front of the unread bytes that fits `out`, which it fills from its front (RFC 9293,
-    /// 3.10.3). The rest of `out` stays.
+    /// Why `send` is refused.
+    fn send_refusal(&self, text: &[u8]) -> Option<CallError>
+        ensures { result ≡ send_refusal self.now text.now }
+    {
+        if let Some(refusal) = self.open_refusal() {
+            return Some(refusal);
+        }
+        if self.phase.is_listening() {
+            return Some(CallError::NotConnected);
+        }
+        if self.closing {
+            return Some(CallError::Closing);
+        }
+        if !text.is_empty() && self.sender.accepted_count() == STREAM_LIMIT {
+            return Some(CallError::StreamFull);
+        }
+        None
+    }
+
+    /// Hands over the front of the unread bytes that fits `out`, which it fills from its front; the rest of `out` stays
+    /// (RFC 9293, 3.10.3). `EndOfStream` behind all bytes of a peer that closed, as often as asked, `Nothing` before. `Ended`
+    /// behind a reset or an abort, `NotOpen` where nothing was opened.
+    #[tactic(auto, unfolding(crate::specs::Calls::after_receive))]
     pub fn receive(&mut self, out: &mut [u8]) -> Result<Received, CallError>
         ensures answer { result ≡ receive_answer self.old (length out.old) }
-        ensures bytes { let count = count_handed self.old (length out.old) in out.new ≡ take count self.old.receiving.inbox.unread ++ drop count out.old }
+        ensures bytes { let bytes = received_bytes self.old (length out.old) in out.new ≡ bytes ++ drop (length bytes) out.old }
         ensures state { self.new ≡ after_receive self.old (length out.old) }
         ensures within { IsWithin self.new }
     {
         let _ = &self.config;
-        let nothing = self.receiver.unread() == 0;
-        let count = self.receiver.read(out);
-        if nothing {
-            return Ok(Received::Nothing);
+        if let Some(refusal) = self.receive_refusal() {
+            return Err(refusal);
         }
-        Ok(Received::Bytes(count))
+        let nothing = self.receiver.unread() == 0;
+        let was_shut = self.told_window() == 0;
+        let count = self.receiver.read(out);
+        let opens = self.phase.takes_text() && was_shut && self.told_window() > 0;
+        self.owed.ack = self.owed.ack || opens;
+        if !nothing {
+            return Ok(Received::Bytes(count));
+        }
+        if self.receiver.is_finished() {
+            Ok(Received::EndOfStream)
+        } else {
+            Ok(Received::Nothing)
+        }
     }
 
-    /// A timer has run out (RFC 9293, 3.10.8): whether its rule applies. Where it doesn't, nothing changes.
-    pub fn timer(&mut self, timer: Timer) -> bool
-        ensures answer { result ≡ timer_answer self.old timer }
-        ensures state { self.new ≡ after_timer self.old timer }
+    /// Why `receive` is refused.
+    fn receive_refusal(&self) -> Option<CallError>
+        ensures { result ≡ receive_refusal self.now }
+    {
+        if self.ending.gives_up() {
+            return Some(CallError::Ended(self.ending));
+        }
+        if self.phase.is_closed() && !self.ending.is_ended() {
+            return Some(CallError::NotOpen);
+        }
+        None
+    }
+
+    /// The user has no more to send (RFC 9293, 3.10.4). Before the handshake has an answer the connection ends as aborted; in
+    /// SYN-RECEIVED the close waits. `Ended` or `NotOpen` where there is no connection, `Closing` behind an earlier `close`.
+    #[tactic(auto, unfolding(crate::specs::Calls::after_close))]
+    pub fn close(&mut self) -> Result<(), CallError>
+        ensures answer { result ≡ close_answer self.old }
+        ensures state { self.new ≡ after_close self.old }
         ensures within { IsWithin self.new }
     {
         let _ = &self.config;
-        match timer {
-            Timer::Retransmit => self.sender.time_out(),
-            Timer::Reorder | Timer::TimeWait => false,
+        if let Some(refusal) = self.close_refusal() {
+            return Err(refusal);
         }
+        self.take_close();
+        Ok(())
+    }
+
+    /// Why `close` is refused.
+    fn close_refusal(&self) -> Option<CallError>
+        ensures { result ≡ close_refusal self.now }
+    {
+        if let Some(refusal) = self.open_refusal() {
+            return Some(refusal);
+        }
+        if self.closing {
+            return Some(CallError::Closing);
+        }
+        None
+    }
+
+    /// Closes in the phase that it is in.
+    fn take_close(&mut self)
+        ensures { self.new ≡ after_closing self.old }
+    {
+        self.closing = true;
+        match self.phase {
+            Phase::Listen | Phase::SynSent => self.end_by(Ending::Aborted),
+            Phase::Established => self.phase = Phase::FinWait1,
+            Phase::CloseWait => self.phase = Phase::LastAck,
+            _ => {}
+        }
+    }
+
+    /// Gives the connection up, with a reset to a peer that may know of it (RFC 9293, 3.10.5). `Ended` or `NotOpen` where there is
+    /// no connection.
+    #[tactic(auto, unfolding(crate::specs::Calls::after_abort))]
+    pub fn abort(&mut self) -> Result<(), CallError>
+        ensures answer { result ≡ abort_answer self.old }
+        ensures state { self.new ≡ after_abort self.old }
+        ensures within { IsWithin self.new }
+    {
+        let _ = &self.config;
+        if let Some(refusal) = self.open_refusal() {
+            return Err(refusal);
+        }
+        self.take_abort();
+        Ok(())
+    }
+
+    /// Aborts in the phase that it is in.
+    fn take_abort(&mut self)
+        ensures { self.new ≡ with_abort self.old }
+    {
+        if self.phase.is_synchronized_open() {
+            self.owed.reset = Some(WaitingReset {
+                to: self.peer,
+                seq: self.number_of(self.sender.nxt()),
+                ack: None,
+            });
+        }
+        self.end_by(Ending::Aborted);
+    }
+
+    /// The connection ends by a reset or an abort: what is queued, held and unread is given up, and nothing is owed but a waiting
+    /// reset.
+    pub(crate) fn end_by(&mut self, ending: Ending)
+        ensures { self.new ≡ after_giving_up self.old ending }
+    {
+        self.phase = Phase::Closed;
+        self.ending = ending;
+        self.sender.give_up();
+        self.receiver.give_up();
+        self.owed.clear_debts();
+    }
+
+    /// The connection ends in order: what is unread can still be read.
+    pub(crate) fn end_in_order(&mut self)
+        ensures { self.new ≡ after_orderly_end self.old }
+    {
+        self.phase = Phase::Closed;
+        self.ending = Ending::Orderly;
+        self.sender.stop();
+        self.owed.clear_debts();
     }
 }

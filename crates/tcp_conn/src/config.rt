@@ -1,19 +1,22 @@
 ghost use Rattle.std.specs.Prelude.{◌≡◌, ◌↔◌, ◌<◌, IsTrue, Some};
-ghost use Rattle.tcp_conn.specs.Calls.{HasGoodCapacities};
-ghost use Rattle.tcp_conn.specs.Numbers.{config_error_number, config_error_text};
+ghost use Rattle.tcp_conn.specs.Configs.{HasGoodCapacities, HasGoodMss, HasGoodShift};
+ghost use Rattle.tcp_conn.specs.Refusals.{config_error_number, config_error_text};
 
 use std::error::Error;
 use std::fmt;
 use tcp_wire::{Addr, Seq};
 
-/// The least own MSS that a [`Config`] may have, in bytes.
-pub const LEAST_MSS: u16 = 64;
+/// The least MSS, in bytes: that of a [`Config`], and the one that is used where a peer tells less.
+pub const MIN_MSS: u16 = 64;
 
 /// The greatest own MSS that a [`Config`] may have, in bytes: what an Ethernet frame carries.
-pub const MOST_MSS: u16 = 1460;
+pub const MAX_MSS: u16 = 1460;
 
 /// The greatest capacity of a buffer, in bytes.
 pub const MAX_CAPACITY: usize = 1_048_576;
+
+/// The greatest window shift (RFC 7323, 2.3).
+pub const MAX_SHIFT: u8 = 14;
 
 /// What one end is made from.
 #[derive(Clone, Copy, Debug, PartialEq, Eq)]
@@ -30,6 +33,10 @@ pub struct Config {
     pub send_capacity: usize,
     /// The most bytes that are kept for the user, and the greatest receive window, from 1 to 1,048,576.
     pub recv_capacity: usize,
+    /// The shift of the windows that this end tells, from 0 to 14, where it offers to scale them (RFC 7323, 2.2).
+    pub window_shift: Option<u8>,
+    /// Whether this end permits selective acknowledgement (RFC 2018, 2).
+    pub sack: bool,
 }
 
 impl Config {
@@ -42,6 +49,20 @@ impl Config {
             && self.recv_capacity >= 1
             && self.recv_capacity <= MAX_CAPACITY
     }
+
+    /// Whether the MSS is from 64 to 1460.
+    pub(crate) fn has_good_mss(&self) -> bool
+        ensures { IsTrue result ↔ HasGoodMss self.now }
+    {
+        MIN_MSS <= self.mss && self.mss <= MAX_MSS
+    }
+
+    /// Whether the shift, if there is one, is at most 14.
+    pub(crate) fn has_good_shift(&self) -> bool
+        ensures { IsTrue result ↔ HasGoodShift self.now }
+    {
+        self.window_shift.unwrap_or(0) <= MAX_SHIFT
+    }
 }
 
 /// Why an end can't be made, in the order in which the faults are looked for, want of memory last.
@@ -49,10 +70,12 @@ impl Config {
 pub enum ConfigError {
     /// A capacity isn't from 1 to 1,048,576.
     BadCapacity,
-    /// The buffers found no memory.
-    NoMemory,
     /// The MSS isn't from 64 to 1460.
     BadMss,
+    /// The window shift isn't from 0 to 14.
+    BadShift,
+    /// The buffers found no memory.
+    NoMemory,
 }
 
 impl ConfigError {
@@ -62,8 +85,9 @@ impl ConfigError {
     {
         match self {
             ConfigError::BadCapacity => 21,
-            ConfigError::NoMemory => 22,
             ConfigError::BadMss => 23,
+            ConfigError::BadShift => 24,
+            ConfigError::NoMemory => 22,
         }
     }
 }
@@ -74,8 +98,9 @@ impl fmt::Display for ConfigError {
     fn fmt<W: fmt::Write>(&self, f: &mut fmt::Formatter<W>) -> fmt::Result {
         f.write_str(match self {
             ConfigError::BadCapacity => "a capacity is not from 1 to 1048576 bytes",
-            ConfigError::NoMemory => "no memory for the buffers",
             ConfigError::BadMss => "the maximum segment size is not from 64 to 1460 bytes",
+            ConfigError::BadShift => "the window shift is not from 0 to 14",
+            ConfigError::NoMemory => "no memory for the buffers",
         })
     }
 }

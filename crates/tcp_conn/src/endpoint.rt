@@ -1,8 +1,11 @@
 ghost use Rattle.std.specs.Prelude.{◌≡◌, ◌↔◌, ◌<◌, ◌≤◌, length, IfOk, OnOk};
 ghost use Rattle.tcp_conn.specs.State.{State, IsWithin};
-ghost use Rattle.tcp_conn.specs.Calls.{born, HasGoodCapacities, HasGoodMss, HasBadCapacity, HasBadMss, IsConfig};
+ghost use Rattle.tcp_conn.specs.Calls.{new_end};
+ghost use Rattle.tcp_conn.specs.Configs.{HasBadCapacity, HasBadMss, HasBadShift, IsGoodConfig, IsConfig};
 
-use crate::config::{Config, ConfigError, LEAST_MSS, MAX_CAPACITY, MOST_MSS};
+use crate::config::{Config, ConfigError};
+use crate::link::{Link, Owed, Peer};
+use crate::options::DEFAULT_MSS;
 use crate::phase::{Ending, Phase};
 use crate::receiver::Receiver;
 use crate::sender::Sender;
@@ -15,50 +18,55 @@ use tcp_wire::Addr;
 pub struct Endpoint<A: Allocator = Global> {
     /// What it was made from.
     pub(crate) config: Config,
-    /// The peer's address and port.
-    pub(crate) peer_addr: Addr,
-    pub(crate) peer_port: u16,
-    /// The greatest text of a segment that the peer takes, in bytes.
-    pub(crate) peer_mss: u16,
     pub(crate) phase: Phase,
     pub(crate) ending: Ending,
+    /// Whether a `close` was answered Ok.
+    pub(crate) closing: bool,
+    /// The other end, from `connect` or the peer's SYN on.
+    pub(crate) peer: Peer,
+    /// What the SYNs agreed on, once the peer's was taken.
+    pub(crate) link: Link,
     pub(crate) sender: Sender<A>,
     pub(crate) receiver: Receiver<A>,
-    /// Whether an acknowledgement is owed to the peer.
-    pub(crate) owes_ack: bool,
+    /// What it owes to the wire.
+    pub(crate) owed: Owed,
 }
 
 impl<A: Allocator> Model for Endpoint<A> {
-    ghost use Rattle.tcp_conn.specs.State.{State, HasFields, KeepsWithin, HoldsWithin};
+    ghost use Rattle.tcp_conn.specs.State.{State};
 
     ghost Value = { State };
 
-    ghost view = { λ e. record { config = e.config; peer_addr = e.peer_addr.0; peer_port = e.peer_port; peer_mss = e.peer_mss; phase = e.phase; ending = e.ending; sending = e.sender; receiving = e.receiver; owes_ack = e.owes_ack } };
+    ghost use Rattle.tcp_conn.specs.Inside.{IsEndpoint};
 
-    ghost invariant = { λ e. HasFields e.config.mss e.config.port e.peer_port × KeepsWithin e.config.send_capacity e.sender.queue × HoldsWithin e.config.recv_capacity e.receiver.inbox };
+    ghost view = { λ e. record { config = e.config; phase = e.phase; ending = e.ending; closing = e.closing; peer = e.peer; link = e.link; sending = e.sender; receiving = e.receiver; owed = e.owed } };
+
+    ghost invariant = { λ e. IsEndpoint e.config e.link e.sender.queue e.receiver.inbox };
 }
 
 impl Endpoint {
-    /// An end in ESTABLISHED, whose peer is made from `peer` and has its SYN, as this end has the peer's.
-    pub fn new(alloc: Global, config: Config, peer: Config) -> Result<Self, ConfigError>
-        ensures born { IfOk result (λ e. e ≡ born config peer) }
+    /// A new end: CLOSED, empty, with nothing owed. Its memory is taken now.
+    pub fn new(alloc: Global, config: Config) -> Result<Self, ConfigError>
+        ensures new { IfOk result (λ e. e ≡ new_end config) }
         ensures bad_capacity { (result ≡ Err ConfigError.BadCapacity) ↔ HasBadCapacity config }
         ensures bad_mss { (result ≡ Err ConfigError.BadMss) ↔ HasBadMss config }
-        ensures good { (result ≡ Err ConfigError.NoMemory) → HasGoodCapacities config × HasGoodMss config }
+        ensures bad_shift { (result ≡ Err ConfigError.BadShift) ↔ HasBadShift config }
+        ensures good { (result ≡ Err ConfigError.NoMemory) → IsGoodConfig config }
         ensures made { OnOk result (IsConfig config) }
         ensures within { IfOk result IsWithin }
     {
-        Self::new_in(alloc, config, peer)
+        Self::new_in(alloc, config)
     }
 }
 
 impl<A: Allocator + Copy> Endpoint<A> {
     /// The same with memory of this allocator.
-    pub fn new_in(alloc: A, config: Config, peer: Config) -> Result<Self, ConfigError>
-        ensures born { IfOk result (λ e. e ≡ born config peer) }
+    pub fn new_in(alloc: A, config: Config) -> Result<Self, ConfigError>
+        ensures new { IfOk result (λ e. e ≡ new_end config) }
         ensures bad_capacity { (result ≡ Err ConfigError.BadCapacity) ↔ HasBadCapacity config }
         ensures bad_mss { (result ≡ Err ConfigError.BadMss) ↔ HasBadMss config }
-        ensures good { (result ≡ Err ConfigError.NoMemory) → HasGoodCapacities config × HasGoodMss config }
+        ensures bad_shift { (result ≡ Err ConfigError.BadShift) ↔ HasBadShift config }
+        ensures good { (result ≡ Err ConfigError.NoMemory) → IsGoodConfig config }
         ensures made { OnOk result (IsConfig config) }
         ensures within { IfOk result IsWithin }
     {
@@ -66,25 +74,41 @@ impl<A: Allocator + Copy> Endpoint<A> {
         if !config.has_good_capacities() {
             return Err(ConfigError::BadCapacity);
         }
-        if config.mss < LEAST_MSS || config.mss > MOST_MSS {
+        if !config.has_good_mss() {
             return Err(ConfigError::BadMss);
         }
-        let Ok(sender) = Sender::new_in(alloc, &config, &peer) else {
+        if !config.has_good_shift() {
+            return Err(ConfigError::BadShift);
+        }
+        let Ok(sender) = Sender::new_in(alloc, &config) else {
             return Err(ConfigError::NoMemory);
         };
-        let Ok(receiver) = Receiver::new_in(alloc, &config, &peer) else {
+        let Ok(receiver) = Receiver::new_in(alloc, &config) else {
             return Err(ConfigError::NoMemory);
         };
         Ok(Endpoint {
             config,
-            peer_addr: peer.addr,
-            peer_port: peer.port,
-            peer_mss: peer.mss,
-            phase: Phase::Established,
+            phase: Phase::Closed,
             ending: Ending::NotEnded,
+            closing: false,
+            peer: Peer {
+                addr: Addr([0, 0, 0, 0]),
+                port: 0,
+            },
+            link: Link {
+                peer_mss: DEFAULT_MSS,
+                scaling: false,
+                peer_shift: 0,
+                sack: false,
+            },
             sender,
             receiver,
-            owes_ack: false,
+            owed: Owed {
+                syn: false,
+                ack: false,
+                probe: false,
+                reset: None,
+            },
         })
     }
 }
@@ -125,7 +149,7 @@ impl<A: Allocator> Endpoint<A> {
         self.sender.released()
     }
 
-    /// The text bytes that came in order up to now; it stays at its greatest value once there.
+    /// The text bytes that came in order up to now, also past an end; it stays at its greatest value once there.
     pub fn ordered(&self) -> u64
         ensures { result ≡ self.now.receiving.ordered }
     {

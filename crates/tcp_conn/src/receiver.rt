@@ -1,12 +1,13 @@
-ghost use Rattle.std.specs.Prelude.{◌≡◌, ◌+◌, ◌-◌, ◌%◌, ◌^◌, ◌<◌, ◌≤◌, ◌≤ℤ◌, ◌<ℤ◌, pos, negsuc, length, take, drop, min, ◌++◌, IfOk};
-ghost use Rattle.tcp_wire.specs.Position.{number};
-ghost use Rattle.tcp_reasm.specs.Reassembly.{window};
+ghost use Rattle.std.specs.Prelude.{◌≡◌, ◌+◌, ◌^◌, ◌<◌, ◌≤◌, ◌≤ℤ◌, ◌<ℤ◌, pos, negsuc, length, take, drop, min, ◌++◌, IfOk};
+ghost use Rattle.tcp_reasm.specs.Reassembly.{window, blocks};
 ghost use Rattle.tcp_conn.specs.State.{Receiving};
-ghost use Rattle.tcp_conn.specs.Acceptable.{is_acceptable, offset};
-ghost use Rattle.tcp_conn.specs.Receiver.{text_placed, handed_over, with_inbox};
-ghost use Rattle.tcp_conn.specs.Calls.{born_receiving, most_capacity};
+ghost use Rattle.tcp_wire.specs.Position.{offset};
+ghost use Rattle.tcp_conn.specs.Acceptable.{is_acceptable};
+ghost use Rattle.tcp_conn.specs.Receiver.{new_receiving, with_syn, after_text, is_fin_due, with_fin, after_handing, without_bytes};
+ghost use Rattle.tcp_conn.specs.Configs.{max_capacity};
 
 use crate::config::Config;
+use arrayvec::ArrayVec;
 use std::alloc::{Allocator, Global};
 use std::marker::Model;
 use tcp_reasm::{ReasmError, Reassembly};
@@ -15,10 +16,14 @@ use tcp_wire::Seq;
 /// The half of an end that receives (RFC 9293, 3.3.1).
 #[derive(Debug, Drop)]
 pub(crate) struct Receiver<A: Allocator = Global> {
-    /// RCV.NXT.
+    /// Whether the peer's SYN was taken.
+    opened: bool,
+    /// RCV.NXT, once the peer's SYN was taken.
     next: Seq,
     /// The text bytes that came in order; it stays at its greatest value once there.
     ordered: u64,
+    /// Whether the peer's FIN was taken.
+    finished: bool,
     /// What came, in order and early.
     inbox: Reassembly<A>,
 }
@@ -29,27 +34,43 @@ impl<A: Allocator> Model for Receiver<A> {
 
     ghost Value = { Receiving };
 
-    ghost view = { λ r. record { next = r.next.0; ordered = r.ordered; inbox = r.inbox } };
+    ghost view = { λ r. record { opened = r.opened; next = r.next.0; ordered = r.ordered; finished = r.finished; inbox = r.inbox } };
 
     ghost invariant = { λ r. (r.next.0 < 2 ^ 32) × (r.ordered < 2 ^ 64) × (length r.inbox.unread + length r.inbox.held ≡ r.inbox.capacity) };
 }
 
 impl<A: Allocator + Copy> Receiver<A> {
-    /// A receiver that has taken the peer's SYN.
-    pub(crate) fn new_in(alloc: A, own: &Config, peer: &Config) -> Result<Self, ReasmError>
-        ensures ok { IfOk result (λ r. r ≡ born_receiving own.now peer.now) }
+    /// A receiver that waits for the peer's SYN.
+    pub(crate) fn new_in(alloc: A, config: &Config) -> Result<Self, ReasmError>
+        ensures ok { IfOk result (λ r. r ≡ new_receiving config.now.recv_capacity) }
         ensures whole { IfOk result (λ r. length r.inbox.unread + length r.inbox.held ≡ r.inbox.capacity) }
     {
-        let inbox = Reassembly::new_in(alloc, own.recv_capacity)?;
+        let inbox = Reassembly::new_in(alloc, config.recv_capacity)?;
         Ok(Receiver {
-            next: peer.isn.plus(1),
+            opened: false,
+            next: Seq(0),
             ordered: 0,
+            finished: false,
             inbox,
         })
     }
 }
 
 impl<A: Allocator> Receiver<A> {
+    /// Whether the peer's SYN was taken.
+    pub(crate) fn is_opened(&self) -> bool
+        ensures { result ≡ self.now.opened }
+    {
+        self.opened
+    }
+
+    /// Whether the peer's FIN was taken.
+    pub(crate) fn is_finished(&self) -> bool
+        ensures { result ≡ self.now.finished }
+    {
+        self.finished
+    }
+
     /// RCV.NXT.
     pub(crate) fn next(&self) -> Seq
         ensures value { result.0 ≡ self.now.next }
@@ -75,13 +96,30 @@ impl<A: Allocator> Receiver<A> {
     /// RCV.WND.
     pub(crate) fn window(&self) -> u32
         ensures value { result ≡ window self.now.inbox }
-        ensures most { result ≤ most_capacity }
+        ensures most { result ≤ max_capacity }
     {
         self.inbox.window()
     }
 
+    /// The held runs by their latest news, the newest first and at most four, counted from RCV.NXT (RFC 2018, 4).
+    pub(crate) fn blocks(&self) -> ArrayVec<(u32, u32), 4>
+        ensures { result.items ≡ blocks self.now.inbox }
+    {
+        self.inbox.blocks()
+    }
+
+    /// Takes the peer's SYN (RFC 9293, 3.10.7.2 and 3.10.7.3).
+    pub(crate) fn take_syn(&mut self, seq: Seq)
+        ensures state { self.new ≡ with_syn self.old seq.0 }
+        ensures capacity { self.new.inbox.capacity ≡ self.old.inbox.capacity }
+        ensures whole { length self.new.inbox.unread + length self.new.inbox.held ≡ self.new.inbox.capacity }
+    {
+        self.opened = true;
+        self.next = seq.plus(1);
+    }
+
     /// Whether a segment with so many numbers of its own is acceptable (RFC 9293, 3.10.7.4).
-    #[tactic(auto, using(crate::proofs::Windows::first_inside, crate::proofs::Windows::last_inside), unfolding(crate::specs::Acceptable::is_acceptable))]
+    #[tactic(auto, using(tcp_wire::proofs::Positions::first_inside, tcp_wire::proofs::Positions::last_inside), unfolding(crate::specs::Acceptable::is_acceptable))]
     pub(crate) fn accepts(&self, seq: Seq, count: u32) -> bool
         requires { count ≤ 65515 }
         ensures { result ≡ is_acceptable self.now.next (window self.now.inbox) seq.0 count }
@@ -98,7 +136,7 @@ impl<A: Allocator> Receiver<A> {
     }
 
     /// How far ahead of RCV.NXT a number lies, behind it being below 0.
-    #[tactic(auto, using(crate::proofs::Windows::offset_ahead, crate::proofs::Windows::offset_behind))]
+    #[tactic(auto, using(tcp_wire::proofs::Positions::offset_ahead, tcp_wire::proofs::Positions::offset_behind))]
     fn offset_of(&self, seq: Seq) -> i64
         ensures value { result ≡ offset self.now.next seq.0 }
         ensures least { negsuc 2147483647 ≤ℤ result }
@@ -112,11 +150,11 @@ impl<A: Allocator> Receiver<A> {
         }
     }
 
-    /// Places text whose first byte has this number.
-    #[tactic(auto, using(crate::proofs::Placing::length_placed, crate::proofs::Placing::capacity_placed), unfolding(crate::specs::Receiver::text_placed))]
+    /// Places text whose first byte has this number (RFC 9293, 3.10.7.4, seventh).
+    #[tactic(auto, using(crate::proofs::Placing::length_placed, crate::proofs::Placing::capacity_placed), unfolding(crate::specs::Receiver::after_text))]
     pub(crate) fn place(&mut self, seq: Seq, text: &[u8])
         requires { length text.now ≤ 65495 }
-        ensures state { self.new ≡ text_placed self.old seq.0 text.now }
+        ensures state { self.new ≡ after_text self.old seq.0 text.now }
         ensures capacity { self.new.inbox.capacity ≡ self.old.inbox.capacity }
         ensures whole { length self.new.inbox.unread + length self.new.inbox.held ≡ self.new.inbox.capacity }
     {
@@ -128,15 +166,44 @@ impl<A: Allocator> Receiver<A> {
         self.ordered = self.ordered.saturating_add(u64::from(count));
     }
 
+    /// Whether a FIN with this number is the next to come, and the window is open (RFC 9293, 3.10.7.4, eighth).
+    pub(crate) fn is_fin_due(&self, number: Seq) -> bool
+        ensures { result ≡ is_fin_due self.now number.0 }
+    {
+        number == self.next && self.window() > 0
+    }
+
+    /// Takes the peer's FIN, and gives up what is held.
+    #[tactic(auto, using(crate::proofs::Placing::whole_without_held))]
+    pub(crate) fn take_fin(&mut self)
+        ensures state { self.new ≡ with_fin self.old }
+        ensures capacity { self.new.inbox.capacity ≡ self.old.inbox.capacity }
+        ensures whole { length self.new.inbox.unread + length self.new.inbox.held ≡ self.new.inbox.capacity }
+    {
+        self.next = self.next.plus(1);
+        self.finished = true;
+        self.inbox.clear_held();
+    }
+
     /// Hands over the front of the unread bytes that fits `out`, and answers its length.
     #[tactic(auto, using(crate::proofs::Placing::whole_read, crate::proofs::Placing::capacity_read))]
     pub(crate) fn read(&mut self, out: &mut [u8]) -> usize
         ensures count { result ≡ min (length out.old) (length self.old.inbox.unread) }
         ensures bytes { out.new ≡ take result self.old.inbox.unread ++ drop result out.old }
-        ensures state { self.new ≡ handed_over self.old (length out.old) }
+        ensures state { self.new ≡ after_handing self.old (length out.old) }
         ensures capacity { self.new.inbox.capacity ≡ self.old.inbox.capacity }
         ensures whole { length self.new.inbox.unread + length self.new.inbox.held ≡ self.new.inbox.capacity }
     {
         self.inbox.read(out)
+    }
+
+    /// The connection has ended by a reset or an abort: what is unread and held is given up.
+    #[tactic(auto, using(crate::proofs::Placing::whole_empty))]
+    pub(crate) fn give_up(&mut self)
+        ensures state { self.new ≡ without_bytes self.old }
+        ensures capacity { self.new.inbox.capacity ≡ self.old.inbox.capacity }
+        ensures whole { length self.new.inbox.unread + length self.new.inbox.held ≡ self.new.inbox.capacity }
+    {
+        self.inbox.clear();
     }
 }

@@ -1,13 +1,11 @@
-ghost use Rattle.std.specs.Prelude.{◌≡◌, ◌+◌, ◌-◌, ◌%◌, ◌^◌, ◌<◌, ◌≤◌, length, take, drop, min, true, false, IfOk, IfSome, ℕ, IsTrue, ◌==◌, if◌then◌else◌};
-ghost use Rattle.tcp_wire.specs.Position.{number, distance};
-ghost use Rattle.tcp_sendq.specs.SendQueue.{IsQueue};
-ghost use Rattle.tcp_conn.specs.State.{Sending, accepted_count, end_of_text};
-ghost use Rattle.tcp_conn.specs.Sender.{stream_limit, is_beyond, is_old, count_acked, advanced, acknowledged, is_newer, with_window, window_updated, ack_taken, is_in_flight, timed_out, count_sendable, extended, IsSender};
-ghost use Rattle.tcp_conn.specs.Calls.{born_sending};
-ghost use Rattle.tcp_conn.specs.Emission.{resend_of, new_text_of, sending_after, start_of, count_of, Lies, LiesShort};
+ghost use Rattle.std.specs.Prelude.{◌≡◌, ◌<◌, ◌≤◌, ◌==◌, ◌&&◌, nat_lt, length, IfOk, IfSome};
+ghost use Rattle.tcp_sendq.specs.SendQueue.{last_mark_end};
+ghost use Rattle.tcp_wire.specs.Position.{number, distance, position_of};
+ghost use Rattle.tcp_conn.specs.State.{Sending, accepted_count, place_of, end_of_text};
+ghost use Rattle.tcp_conn.specs.Sender.{stream_limit, new_sending, with_syn_sent, with_syn_acked, acks_unsent, acks_more, count_below, with_acked, after_ack, is_newer, with_window, after_window_update, is_of_flight, marks_text, with_marks, after_block, is_in_flight, with_all_resent, with_gaps_resent, count_sendable, with_text, count_unsent, is_fin_sent, is_fin_acked, without_resend, without_text, IsSender};
+ghost use Rattle.tcp_conn.specs.Calls.{after_gaps};
 
 use crate::config::Config;
-use crate::due::Due;
 use std::alloc::{Allocator, Global};
 use std::marker::Model;
 use std::ops::Range;
@@ -18,29 +16,25 @@ use tcp_wire::Seq;
 /// 2^31 apart.
 pub const STREAM_LIMIT: u64 = 2_147_483_632;
 
-/// The greatest window that a segment tells without scaling (RFC 9293, 3.1).
-const MOST_WINDOW: usize = 65_535;
-
-/// The half of an end that sends (RFC 9293, 3.3.1). Positions count from the SYN, which stands at 0.
+/// The half of an end that sends (RFC 9293, 3.3.1). Positions count from the SYN, which stands at 0; byte i of
+/// the queue stands at `1 + released + i`, the FIN behind the last byte.
 #[derive(Debug, Drop)]
 pub(crate) struct Sender<A: Allocator = Global> {
-    /// ISS, the number of position 0.
-    iss: Seq,
-    /// SND.UNA, the oldest position that isn't acknowledged.
-    una: u64,
-    /// SND.NXT, the next position to be sent; from `una` on, and at most behind the last queued byte.
-    nxt: u64,
-    /// The text bytes that were released by acknowledgement; one less than `una`.
-    released: u64,
-    /// The text from `una` on.
-    queue: SendQueue<A>,
+    /// SND.UNA, the oldest position that isn't acknowledged; at most `nxt`.
+    pub(crate) una: u64,
+    /// SND.NXT, the next position to be sent; at most that behind the FIN of a full direction.
+    pub(crate) nxt: u64,
+    /// The text bytes that were released by acknowledgement.
+    pub(crate) released: u64,
+    /// The text behind them.
+    pub(crate) queue: SendQueue<A>,
     /// What a retransmission has still to send again.
-    resend: Option<Range<u64>>,
+    pub(crate) resend: Option<Range<u64>>,
     /// SND.WND, in bytes.
-    wnd: u32,
+    pub(crate) wnd: u32,
     /// SND.WL1 and SND.WL2, the numbers of the segment that told the window.
-    wl1: Seq,
-    wl2: Seq,
+    pub(crate) wl1: Seq,
+    pub(crate) wl2: Seq,
 }
 
 impl<A: Allocator> Model for Sender<A> {
@@ -50,28 +44,26 @@ impl<A: Allocator> Model for Sender<A> {
 
     ghost use Rattle.tcp_conn.specs.Sender.{IsSender};
 
-    ghost view = { λ s. record { iss = s.iss.0; una = s.una; nxt = s.nxt; released = s.released; queue = s.queue; resend = s.resend; wnd = s.wnd; wl1 = s.wl1.0; wl2 = s.wl2.0 } };
+    ghost view = { λ s. record { una = s.una; nxt = s.nxt; released = s.released; queue = s.queue; resend = s.resend; wnd = s.wnd; wl1 = s.wl1.0; wl2 = s.wl2.0 } };
 
-    ghost invariant = { λ s. IsSender (record { iss = s.iss.0; una = s.una; nxt = s.nxt; released = s.released; queue = s.queue; resend = s.resend; wnd = s.wnd; wl1 = s.wl1.0; wl2 = s.wl2.0 }) };
+    ghost invariant = { λ s. IsSender (record { una = s.una; nxt = s.nxt; released = s.released; queue = s.queue; resend = s.resend; wnd = s.wnd; wl1 = s.wl1.0; wl2 = s.wl2.0 }) };
 }
 
 impl<A: Allocator + Copy> Sender<A> {
-    /// A sender whose SYN the peer has acknowledged already.
-    pub(crate) fn new_in(alloc: A, own: &Config, peer: &Config) -> Result<Self, QueueError>
-        ensures ok { IfOk result (λ s. s ≡ born_sending own.now peer.now) }
+    /// A sender of which nothing was asked yet.
+    pub(crate) fn new_in(alloc: A, config: &Config) -> Result<Self, QueueError>
+        ensures ok { IfOk result (λ s. s ≡ new_sending config.now.send_capacity) }
     {
-        let Seq(_in_range) = own.isn;
-        let queue = SendQueue::new_in(alloc, own.send_capacity)?;
+        let queue = SendQueue::new_in(alloc, config.send_capacity)?;
         Ok(Sender {
-            iss: own.isn,
-            una: 1,
-            nxt: 1,
+            una: 0,
+            nxt: 0,
             released: 0,
             queue,
             resend: None,
-            wnd: peer.recv_capacity.min(MOST_WINDOW) as u32,
-            wl1: peer.isn,
-            wl2: own.isn.plus(1),
+            wnd: 0,
+            wl1: Seq(0),
+            wl2: Seq(0),
         })
     }
 }
@@ -92,36 +84,185 @@ impl<A: Allocator> Sender<A> {
         self.released + self.queue.len() as u64
     }
 
-    /// The sequence number of a position.
-    pub(crate) fn number(&self, position: u64) -> Seq
-        ensures { result.0 ≡ number self.now.iss position }
+    /// SND.NXT.
+    pub(crate) fn nxt(&self) -> u64
+        ensures { result ≡ self.now.nxt }
     {
-        self.iss.plus((position % (1 << 32)) as u32)
+        self.nxt
     }
 
-    /// An acknowledgement can always go out: it takes SND.NXT, and no text.
-    pub(crate) fn acknowledgement(&self) -> Due
-        ensures value { result ≡ Due.Acknowledgement }
-        ensures lies { (limit : ℕ) → LiesShort self.now limit result }
+    /// The position behind the last byte that was accepted.
+    pub(crate) fn end_of_text(&self) -> u64
+        ensures { result ≡ end_of_text self.now }
     {
-        let _ = &self.nxt;
-        Due::Acknowledgement
+        1 + self.accepted_count()
     }
 
-    /// The position where it begins.
-    pub(crate) fn start_of(&self, due: Due) -> u64
-        ensures { result ≡ start_of self.now due }
+    /// The place in the queue of the byte at a position.
+    pub(crate) fn place_of(&self, position: u64) -> u64
+        ensures { result ≡ place_of self.now position }
     {
-        match due {
-            Due::Resend(start, _) | Due::NewText(start, _) => start,
-            Due::Acknowledgement => self.nxt,
+        let _ = &self.una;
+        position.saturating_sub(1 + self.released)
+    }
+
+    /// How many queued bytes stand below a position.
+    fn count_below(&self, position: u64) -> usize
+        ensures { result ≡ count_below self.now position }
+    {
+        self.place_of(position).min(self.queue.len() as u64) as usize
+    }
+
+    /// The position that a number means: the nearest to SND.UNA (RFC 9293, 3.4).
+    #[tactic(auto, using(tcp_wire::proofs::Positions::position_of_ahead, tcp_wire::proofs::Positions::position_of_behind))]
+    pub(crate) fn position_of(&self, iss: Seq, number: Seq) -> u64
+        ensures { result ≡ position_of iss.0 self.now.una number.0 }
+    {
+        let ahead = u64::from(number.minus(iss.plus((self.una % (1 << 32)) as u32)));
+        if ahead < 1 << 31 {
+            self.una + ahead
+        } else {
+            (self.una + ahead).saturating_sub(1 << 32)
         }
+    }
+
+    /// The own SYN is on its way (RFC 9293, 3.10.1).
+    pub(crate) fn send_syn(&mut self)
+        ensures state { self.new ≡ with_syn_sent self.old }
+        ensures capacity { self.new.queue.capacity ≡ self.old.queue.capacity }
+        ensures queued { length self.new.queue.bytes ≤ self.new.queue.capacity }
+    {
+        self.una = 0;
+        self.nxt = 1;
+    }
+
+    /// The own SYN is acknowledged, by a segment that tells a window (RFC 9293, 3.10.7.3 and 3.10.7.4).
+    pub(crate) fn take_syn_ack(&mut self, seq: Seq, ack: Seq, window: u32)
+        ensures state { self.new ≡ with_window (with_syn_acked self.old) seq.0 ack.0 window }
+        ensures capacity { self.new.queue.capacity ≡ self.old.queue.capacity }
+        ensures queued { length self.new.queue.bytes ≤ self.new.queue.capacity }
+    {
+        self.una = self.nxt;
+        self.wnd = window;
+        self.wl1 = seq;
+        self.wl2 = ack;
+    }
+
+    /// Whether it acknowledges all that was sent, and no more.
+    pub(crate) fn is_nxt(&self, ack: u64) -> bool
+        ensures { result ≡ (ack == self.now.nxt) }
+    {
+        ack == self.nxt
+    }
+
+    /// Whether it acknowledges what wasn't sent.
+    pub(crate) fn acks_unsent(&self, ack: u64) -> bool
+        ensures { result ≡ acks_unsent self.now ack }
+    {
+        self.nxt < ack
+    }
+
+    /// Whether it acknowledges SND.UNA, and no less.
+    pub(crate) fn is_una(&self, ack: u64) -> bool
+        ensures { result ≡ (ack == self.now.una) }
+    {
+        ack == self.una
+    }
+
+    /// Releases the text below an acknowledgement of what was sent and not acknowledged before (RFC 9293, 3.10.7.4).
+    #[tactic(auto, unfolding(crate::specs::Sender::after_ack))]
+    pub(crate) fn take_ack(&mut self, ack: u64)
+        ensures state { self.new ≡ after_ack self.old ack }
+        ensures capacity { self.new.queue.capacity ≡ self.old.queue.capacity }
+        ensures queued { length self.new.queue.bytes ≤ self.new.queue.capacity }
+    {
+        if self.una < ack && ack <= self.nxt {
+            let count = self.count_below(ack);
+            self.una = ack;
+            self.released += count as u64;
+            self.queue.release(count);
+        }
+    }
+
+    /// Takes a window, unless a newer segment told one (RFC 9293, 3.10.7.4).
+    #[tactic(auto, unfolding(crate::specs::Sender::after_window_update))]
+    pub(crate) fn update_window(&mut self, seq: Seq, ack: Seq, window: u32)
+        ensures state { self.new ≡ after_window_update self.old seq.0 ack.0 window }
+        ensures capacity { self.new.queue.capacity ≡ self.old.queue.capacity }
+        ensures queued { length self.new.queue.bytes ≤ self.new.queue.capacity }
+    {
+        let follows = self.wl1 == seq && (self.wl2.before(ack) || self.wl2 == ack);
+        if self.wl1.before(seq) || follows {
+            self.wnd = window;
+            self.wl1 = seq;
+            self.wl2 = ack;
+        }
+    }
+
+    /// Marks the text of a block of what is in flight (RFC 2018, 5). The FIN is never marked.
+    #[tactic(auto, unfolding(crate::specs::Sender::after_block, tcp_sendq::specs::SendQueue::after_mark))]
+    pub(crate) fn mark(&mut self, left: u64, right: u64)
+        ensures state { self.new ≡ after_block self.old left right }
+        ensures una { self.new.una ≡ self.old.una }
+        ensures capacity { self.new.queue.capacity ≡ self.old.queue.capacity }
+        ensures queued { length self.new.queue.bytes ≤ self.new.queue.capacity }
+    {
+        let from = self.place_of(left);
+        let to = self.count_below(right);
+        let of_flight = self.una < left && left < right && right <= self.nxt;
+        if of_flight && from < to as u64 {
+            self.queue.mark(from as usize, to);
+        }
+    }
+
+    /// Whether anything that was sent isn't acknowledged.
+    pub(crate) fn is_in_flight(&self) -> bool
+        ensures { result ≡ is_in_flight self.now }
+    {
+        self.una < self.nxt
+    }
+
+    /// Sends all that is in flight again, and forgets what the peer told of it (RFC 9293, 3.8.1; RFC 2018, 5).
+    #[tactic(auto, unfolding(tcp_sendq::specs::SendQueue::without_marks))]
+    pub(crate) fn resend_all(&mut self)
+        ensures state { self.new ≡ with_all_resent self.old }
+        ensures capacity { self.new.queue.capacity ≡ self.old.queue.capacity }
+        ensures queued { length self.new.queue.bytes ≤ self.new.queue.capacity }
+    {
+        self.queue.forget_marks();
+        self.resend = Some(self.una..self.nxt);
+    }
+
+    /// The place behind the last marked byte, if one is marked.
+    pub(crate) fn marks_end(&self) -> Option<usize>
+        ensures value { result ≡ last_mark_end self.now.queue }
+        ensures inside { IfSome result (λ end. end ≤ length self.now.queue.bytes) }
+    {
+        self.queue.last_mark_end()
+    }
+
+    /// Sends what stands below the place `end` again (RFC 2018, 5).
+    pub(crate) fn resend_gaps(&mut self, end: usize)
+        requires { end ≤ length self.old.queue.bytes }
+        ensures state { self.new ≡ with_gaps_resent self.old end }
+        ensures capacity { self.new.queue.capacity ≡ self.old.queue.capacity }
+        ensures queued { length self.new.queue.bytes ≤ self.new.queue.capacity }
+    {
+        self.resend = Some(self.una..1 + self.released + end as u64);
+    }
+
+    /// Whether the retransmission timeout asks for a probe: nothing is in flight, text is unsent, and the window is
+    /// shut (RFC 9293, 3.8.6.1).
+    pub(crate) fn needs_probe(&self) -> bool
+        ensures { result ≡ ((self.now.una == self.now.nxt) && (nat_lt 0 (count_unsent self.now) && (self.now.wnd == 0))) }
+    {
+        self.una == self.nxt && self.count_unsent() > 0 && self.wnd == 0
     }
 
     /// Takes the front of `text` that fits the queue and the limit, and answers its length.
     pub(crate) fn send(&mut self, text: &[u8]) -> usize
         ensures count { result ≡ count_sendable self.old text.now }
-        ensures state { self.new ≡ extended self.old text.now }
+        ensures state { self.new ≡ with_text self.old text.now }
         ensures capacity { self.new.queue.capacity ≡ self.old.queue.capacity }
         ensures queued { length self.new.queue.bytes ≤ self.new.queue.capacity }
     {
@@ -131,159 +272,37 @@ impl<A: Allocator> Sender<A> {
         count
     }
 
-    /// How far an acknowledgement lies ahead of SND.UNA, modulo 2^32.
-    #[tactic(auto, unfolding(crate::specs::Sender::count_acked))]
-    fn ahead(&self, ack: Seq) -> u32
-        ensures { result ≡ count_acked self.now ack.0 }
+    /// How many queued bytes weren't sent yet.
+    pub(crate) fn count_unsent(&self) -> u64
+        ensures { result ≡ count_unsent self.now }
     {
-        ack.minus(self.number(self.una))
+        (self.queue.len() as u64).saturating_sub(self.place_of(self.nxt))
     }
 
-    /// Whether it acknowledges what wasn't sent.
-    #[tactic(auto, using(crate::proofs::Acks::is_beyond_ahead))]
-    pub(crate) fn is_beyond(&self, ack: Seq) -> bool
-        ensures { result ≡ is_beyond self.now ack.0 }
+    /// Whether the own FIN was sent, and all that was sent is acknowledged.
+    pub(crate) fn is_fin_acked(&self) -> bool
+        ensures { result ≡ is_fin_acked self.now }
     {
-        let ahead = self.ahead(ack);
-        ahead < 1 << 31 && self.nxt - self.una < u64::from(ahead)
+        self.end_of_text() < self.nxt && self.una == self.nxt
     }
 
-    /// Whether it is older than one that came before.
-    #[tactic(auto, using(crate::proofs::Acks::is_old_ahead))]
-    fn is_old(&self, ack: Seq) -> bool
-        ensures { result ≡ is_old self.now ack.0 }
-    {
-        let _ = &self.iss;
-        self.ahead(ack) >= 1 << 31
-    }
-
-    /// Takes an acknowledgement of what was sent, with the window that came along. An old one tells nothing.
-    #[tactic(auto, unfolding(crate::specs::Sender::ack_taken))]
-    pub(crate) fn take_ack(&mut self, seq: Seq, ack: Seq, window: u16)
-        requires { is_beyond self.old ack.0 ≡ false }
-        ensures state { self.new ≡ ack_taken self.old seq.0 ack.0 window }
+    /// The connection has ended: nothing goes out again.
+    pub(crate) fn stop(&mut self)
+        ensures state { self.new ≡ without_resend self.old }
         ensures capacity { self.new.queue.capacity ≡ self.old.queue.capacity }
         ensures queued { length self.new.queue.bytes ≤ self.new.queue.capacity }
     {
-        let _ = &self.iss;
-        if self.is_old(ack) {
-            return;
-        }
-        self.acknowledge(ack);
-        self.update_window(seq, ack, window);
+        self.resend = None;
     }
 
-    /// Releases the text below an acknowledgement (RFC 9293, 3.10.7.4).
-    #[tactic(auto, using(crate::proofs::Acks::acked_within), unfolding(crate::specs::Sender::acknowledged))]
-    fn acknowledge(&mut self, ack: Seq)
-        requires sent { is_beyond self.old ack.0 ≡ false }
-        requires current { is_old self.old ack.0 ≡ false }
-        ensures state { self.new ≡ acknowledged self.old ack.0 }
+    /// It has ended by a reset or an abort: what is queued is given up.
+    pub(crate) fn give_up(&mut self)
+        ensures state { self.new ≡ without_text self.old }
         ensures capacity { self.new.queue.capacity ≡ self.old.queue.capacity }
         ensures queued { length self.new.queue.bytes ≤ self.new.queue.capacity }
     {
-        let count = self.ahead(ack);
-        self.una += u64::from(count);
-        self.released += u64::from(count);
-        self.queue.release(count as usize);
-    }
-
-    /// Takes a window, unless a newer segment told one (RFC 9293, 3.10.7.4).
-    #[tactic(auto, unfolding(crate::specs::Sender::window_updated))]
-    fn update_window(&mut self, seq: Seq, ack: Seq, window: u16)
-        ensures state { self.new ≡ window_updated self.old seq.0 ack.0 window }
-        ensures capacity { self.new.queue.capacity ≡ self.old.queue.capacity }
-        ensures queued { length self.new.queue.bytes ≤ self.new.queue.capacity }
-    {
-        let follows = self.wl1 == seq && (self.wl2.before(ack) || self.wl2 == ack);
-        if self.wl1.before(seq) || follows {
-            self.wnd = u32::from(window);
-            self.wl1 = seq;
-            self.wl2 = ack;
-        }
-    }
-
-    /// Sends all that is in flight again, and forgets what the peer told of it (RFC 9293, 3.8.1; RFC 2018,
-    /// 5). False, and nothing changes, where nothing is in flight.
-    #[tactic(auto, unfolding(tcp_sendq::specs::SendQueue::unmarked))]
-    pub(crate) fn time_out(&mut self) -> bool
-        ensures answer { result ≡ is_in_flight self.old }
-        ensures state { self.new ≡ (if is_in_flight self.old then timed_out self.old else self.old) }
-        ensures capacity { self.new.queue.capacity ≡ self.old.queue.capacity }
-        ensures queued { length self.new.queue.bytes ≤ self.new.queue.capacity }
-    {
-        if self.una >= self.nxt {
-            return false;
-        }
-        self.queue.forget_marks();
-        self.resend = Some(self.una..self.nxt);
-        true
-    }
-
-    /// The text that has to go out again, if any is left: at most `limit` bytes.
-    #[tactic(auto, using(crate::proofs::Dues::resend_lies))]
-    pub(crate) fn resend_due(&self, limit: u16) -> Option<Due>
-        ensures lies { IfSome result (LiesShort self.now limit) }
-        ensures value { result ≡ resend_of self.now limit self.now.resend }
-    {
-        let stretch = self.resend.as_ref()?;
-        let start = stretch.start.max(self.una);
-        let end = stretch.end.min(self.una + self.queue.len() as u64);
-        let count = u64::from(limit).min(end.saturating_sub(start));
-        if count == 0 {
-            return None;
-        }
-        Some(Due::Resend(start, count as usize))
-    }
-
-    /// The text that can go out for the first time, if any: at most `limit` bytes, and no more than the
-    /// peer's window allows (RFC 9293, 3.8.6).
-    #[tactic(auto, using(crate::proofs::Dues::new_lies))]
-    pub(crate) fn new_text_due(&self, limit: u16) -> Option<Due>
-        ensures lies { IfSome result (LiesShort self.now limit) }
-        ensures value { result ≡ new_text_of self.now limit }
-    {
-        let unsent = self.una + self.queue.len() as u64 - self.nxt;
-        let usable = (self.una + u64::from(self.wnd)).saturating_sub(self.nxt);
-        let count = u64::from(limit).min(unsent.min(usable));
-        if count == 0 {
-            return None;
-        }
-        Some(Due::NewText(self.nxt, count as usize))
-    }
-
-    /// Copies the text of what is due.
-    pub(crate) fn copy(&self, due: Due, out: &mut [u8])
-        requires lies { Lies self.now due }
-        requires len { length out.old ≡ count_of due }
-        ensures { out.new ≡ take (count_of due) (drop (start_of self.now due - self.now.una) self.now.queue.bytes) }
-    {
-        let start = self.start_of(due);
-        self.queue.copy((start - self.una) as usize, out);
-    }
-
-    /// The position behind the last byte that was accepted.
-    pub(crate) fn end_of_text(&self) -> u64
-        ensures { result ≡ end_of_text self.now }
-    {
-        self.una + self.queue.len() as u64
-    }
-
-    /// What was due has gone out.
-    pub(crate) fn mark_gone(&mut self, due: Due)
-        requires { Lies self.old due }
-        ensures state { self.new ≡ sending_after self.old due }
-        ensures capacity { self.new.queue.capacity ≡ self.old.queue.capacity }
-        ensures queued { length self.new.queue.bytes ≤ self.new.queue.capacity }
-    {
-        match due {
-            Due::Resend(start, count) => {
-                if let Some(stretch) = &mut self.resend {
-                    stretch.start = start + count as u64;
-                }
-            }
-            Due::NewText(start, count) => self.nxt = start + count as u64,
-            Due::Acknowledgement => {}
-        }
+        self.resend = None;
+        let count = self.queue.len();
+        self.queue.release(count);
     }
 }

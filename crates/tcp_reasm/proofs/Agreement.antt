@@ -4,7 +4,7 @@ use Rattle.std.proofs.Common.{◌≡◌, ℕ, zero, suc, ◌≤◌, List, [], �
 use lib.Seq.{drop-nil}
 use Rattle.std.specs.Prelude.{ℤ, pos, negsuc, true, false, min, replicate, Option, Some, None, if◌then◌else◌}
 use Rattle.tcp_reasm.specs.declared.placed.Placed.TheVariants.{NotKept}
-use Rattle.tcp_reasm.specs.Reassembly.{Cell, Inbox, Run, piece, empty, cleared, window, overlay, in_order, ranked, ranked_from, runs, is_refused, laid_over, settled, greatest_stamp, answer_for, placed, place_answer, after_read}
+use Rattle.tcp_reasm.specs.Reassembly.{Cell, Inbox, Run, piece, empty_inbox, without_held, window, overlay, bytes_in_order, with_ranks, with_ranks_from, runs, is_refused, overlay_of, with_overlay, greatest_stamp, answer_for, after_place, place_answer, after_read}
 use Rattle.tcp_reasm.specs.Agreement.{Agrees, LiesAt, advance_of, Advances}
 
 -- places that are not held agree with anything
@@ -21,16 +21,16 @@ Agrees-append (Some cell ∷ places) n [] h = h
 Agrees-append (Some cell ∷ places) n (byte ∷ rest) h = (h.0, Agrees-append places n rest h.1)
 
 -- stamps are not spoken of
-ranked_from-agrees : (all : List Run) (place : ℕ) (held : List (Option Cell)) (rest : List ℕ) → Agrees held rest → Agrees (ranked_from all place held) rest
-ranked_from-agrees all place [] rest h = tt
-ranked_from-agrees all place (None ∷ places) [] h = ranked_from-agrees all (suc place) places [] h
-ranked_from-agrees all place (None ∷ places) (byte ∷ rest) h = ranked_from-agrees all (suc place) places rest h
-ranked_from-agrees all place (Some cell ∷ places) [] h = h
-ranked_from-agrees all place (Some cell ∷ places) (byte ∷ rest) h = (h.0, ranked_from-agrees all (suc place) places rest h.1)
+with_ranks_from-agrees : (all : List Run) (place : ℕ) (held : List (Option Cell)) (rest : List ℕ) → Agrees held rest → Agrees (with_ranks_from all place held) rest
+with_ranks_from-agrees all place [] rest h = tt
+with_ranks_from-agrees all place (None ∷ places) [] h = with_ranks_from-agrees all (suc place) places [] h
+with_ranks_from-agrees all place (None ∷ places) (byte ∷ rest) h = with_ranks_from-agrees all (suc place) places rest h
+with_ranks_from-agrees all place (Some cell ∷ places) [] h = h
+with_ranks_from-agrees all place (Some cell ∷ places) (byte ∷ rest) h = (h.0, with_ranks_from-agrees all (suc place) places rest h.1)
 
-pub ranked-agrees : (held : List (Option Cell)) (rest : List ℕ) → Agrees held rest → Agrees (ranked held) rest
-unfolding ranked
-ranked-agrees held rest h = ranked_from-agrees (runs held) 0 held rest h
+pub with_ranks-agrees : (held : List (Option Cell)) (rest : List ℕ) → Agrees held rest → Agrees (with_ranks held) rest
+unfolding with_ranks
+with_ranks-agrees held rest h = with_ranks_from-agrees (runs held) 0 held rest h
 
 -- a piece of the stream laid over what agrees with it
 overlay-agrees : (start : ℕ) (text : List ℕ) (stamp : ℕ) (held : List (Option Cell)) (rest : List ℕ) → Agrees held rest → take (length text) (drop start rest) ≡ text → Agrees (overlay start text stamp held) rest
@@ -48,15 +48,15 @@ overlay-agrees (suc start) text stamp (Some cell ∷ places) (b ∷ rest) h lies
 -- what is in order is the stream's beginning, and what is held behind it agrees with the rest
 record InOrder (over : List (Option Cell)) (rest : List ℕ) (count : ℕ) : Type 0 where
   within : count ≤ length rest
-  front : in_order over ≡ take count rest
+  front : bytes_in_order over ≡ take count rest
   behind : Agrees (drop count over) (drop count rest)
 
-in_order-agrees : (over : List (Option Cell)) (rest : List ℕ) → Agrees over rest → InOrder over rest (length (in_order over))
-in_order-agrees [] rest h = record { within = omega arith; front = refl; behind = tt }
-in_order-agrees (None ∷ places) rest h = record { within = omega arith; front = refl; behind = h }
-in_order-agrees (Some cell ∷ places) [] h = absurd h
-in_order-agrees (Some cell ∷ places) (byte ∷ rest) h =
-    let further = in_order-agrees places rest h.1 in
+bytes_in_order-agrees : (over : List (Option Cell)) (rest : List ℕ) → Agrees over rest → InOrder over rest (length (bytes_in_order over))
+bytes_in_order-agrees [] rest h = record { within = omega arith; front = refl; behind = tt }
+bytes_in_order-agrees (None ∷ places) rest h = record { within = omega arith; front = refl; behind = h }
+bytes_in_order-agrees (Some cell ∷ places) [] h = absurd h
+bytes_in_order-agrees (Some cell ∷ places) (byte ∷ rest) h =
+    let further = bytes_in_order-agrees places rest h.1 in
     record { within = omega arith; front = cc (h.0, further.front); behind = further.behind }
 
 -- the piece that is left of a text lies at its start
@@ -64,13 +64,13 @@ piece-lies : (offset : ℤ) (text rest : List ℕ) → LiesAt offset text rest �
 piece-lies (pos start) text rest lies = lies
 piece-lies (negsuc n) text rest lies = rw length-drop (sym lies)
 
-settled-advances : (q : Inbox) (over : List (Option Cell)) (rest : List ℕ) → Agrees over rest → Advances q (settled q over) rest (length (in_order over))
-settled-advances q over rest h =
-    let split = in_order-agrees over rest h in
+with_overlay-advances : (q : Inbox) (over : List (Option Cell)) (rest : List ℕ) → Agrees over rest → Advances q (with_overlay q over) rest (length (bytes_in_order over))
+with_overlay-advances q over rest h =
+    let split = bytes_in_order-agrees over rest h in
     record {
       within = split.within;
       unread = ap (λ bytes. q.unread ++ bytes) split.front;
-      held = ranked-agrees (drop (length (in_order over)) over) (drop (length (in_order over)) rest) split.behind;
+      held = with_ranks-agrees (drop (length (bytes_in_order over)) over) (drop (length (bytes_in_order over)) rest) split.behind;
       capacity = refl;
     }
 
@@ -82,14 +82,14 @@ advance_of-answer_for zero = refl
 advance_of-answer_for (suc n) = refl
 
 -- placing
-pub placed-agrees : (q : Inbox) (offset : ℤ) (text rest : List ℕ) → Agrees q.held rest → LiesAt offset text rest → Advances q (placed q offset text) rest (advance_of (place_answer q offset text))
-unfolding placed place_answer
-placed-agrees q offset text rest h lies =
+pub after_place-agrees : (q : Inbox) (offset : ℤ) (text rest : List ℕ) → Agrees q.held rest → LiesAt offset text rest → Advances q (after_place q offset text) rest (advance_of (place_answer q offset text))
+unfolding after_place place_answer
+after_place-agrees q offset text rest h lies =
     let p = piece offset text in
-    let over_agrees : Agrees (laid_over q p) rest = overlay-agrees p.start p.text (suc (greatest_stamp q.held)) q.held rest h (piece-lies offset text rest lies) in
-    elim (is_refused q p) as (λ refused. Advances q (if refused then q else settled q (laid_over q p)) rest (advance_of (if refused then NotKept else answer_for (length (in_order (laid_over q p)))))) [
+    let over_agrees : Agrees (overlay_of q p) rest = overlay-agrees p.start p.text (suc (greatest_stamp q.held)) q.held rest h (piece-lies offset text rest lies) in
+    elim (is_refused q p) as (λ refused. Advances q (if refused then q else with_overlay q (overlay_of q p)) rest (advance_of (if refused then NotKept else answer_for (length (bytes_in_order (overlay_of q p)))))) [
       | true ↦ unchanged-advances q rest h
-      | false ↦ rw advance_of-answer_for (settled-advances q (laid_over q p) rest over_agrees)
+      | false ↦ rw advance_of-answer_for (with_overlay-advances q (overlay_of q p) rest over_agrees)
     ]
 
 -- reading
@@ -98,8 +98,8 @@ unfolding after_read
 after_read-agrees q n rest h = Agrees-append q.held (min n (length q.unread)) rest h
 
 -- giving up what is held
-pub cleared-agrees : (q : Inbox) (rest : List ℕ) → Agrees (cleared q).held rest
-cleared-agrees q rest = Agrees-replicate (window q) rest
+pub without_held-agrees : (q : Inbox) (rest : List ℕ) → Agrees (without_held q).held rest
+without_held-agrees q rest = Agrees-replicate (window q) rest
 
-pub empty-agrees : (capacity : ℕ) (rest : List ℕ) → Agrees (empty capacity).held rest
-empty-agrees capacity rest = Agrees-replicate capacity rest
+pub empty_inbox-agrees : (capacity : ℕ) (rest : List ℕ) → Agrees (empty_inbox capacity).held rest
+empty_inbox-agrees capacity rest = Agrees-replicate capacity rest

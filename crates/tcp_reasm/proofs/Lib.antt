@@ -5,6 +5,7 @@ pub mod Maximal
 pub mod Newest
 pub mod Overlays
 pub mod Padding
+pub mod Placing
 mod Examples
 pub mod Steps
 pub mod Views

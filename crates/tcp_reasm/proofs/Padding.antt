@@ -1,7 +1,7 @@
 -- Empty places behind the last held one change nothing of what the definitions give.
 use Rattle.std.proofs.Common.{◌≡◌, ℕ, zero, suc, ◌+◌, ◌≤◌, List, [], ◌∷◌, ◌++◌, length, take, refl, ◌∙◌, ap, arith}
 use Rattle.std.specs.Prelude.{max, replicate, Option, Some, None}
-use Rattle.tcp_reasm.specs.Reassembly.{Cell, Run, first_byte, overlay, stamp_at, greatest_stamp, runs, runs_from, with_place, in_order, rank_in, stamp_of_run, ranked_from, ranked}
+use Rattle.tcp_reasm.specs.Reassembly.{Cell, Run, first_byte, overlay, stamp_at, greatest_stamp, runs, runs_from, with_place, bytes_in_order, rank_in, stamp_of_run, with_ranks_from, with_ranks}
 use Rattle.tcp_reasm.specs.Laws.{cell_at}
 use Rattle.tcp_reasm.specs.Store.{IsFrontMissing}
 
@@ -25,29 +25,29 @@ pub greatest_padded : (places : List (Option Cell)) (n : ℕ) → greatest_stamp
 greatest_padded [] n = greatest_empty n
 greatest_padded (place ∷ places) n = ap (max (stamp_at place)) (greatest_padded places n)
 
-in_order_empty : (n : ℕ) → in_order (replicate n None) ≡ []
-in_order_empty zero = refl
-in_order_empty (suc n) = refl
+bytes_in_order_empty : (n : ℕ) → bytes_in_order (replicate n None) ≡ []
+bytes_in_order_empty zero = refl
+bytes_in_order_empty (suc n) = refl
 
-pub in_order_padded : (places : List (Option Cell)) (n : ℕ) → in_order (places ++ replicate n None) ≡ in_order places
-in_order_padded [] n = in_order_empty n
-in_order_padded (None ∷ places) n = refl
-in_order_padded (Some cell ∷ places) n = ap (λ bytes. cell.byte ∷ bytes) (in_order_padded places n)
+pub bytes_in_order_padded : (places : List (Option Cell)) (n : ℕ) → bytes_in_order (places ++ replicate n None) ≡ bytes_in_order places
+bytes_in_order_padded [] n = bytes_in_order_empty n
+bytes_in_order_padded (None ∷ places) n = refl
+bytes_in_order_padded (Some cell ∷ places) n = ap (λ bytes. cell.byte ∷ bytes) (bytes_in_order_padded places n)
 
-ranked_from-empty : (all : List Run) (place n : ℕ) → ranked_from all place (replicate n None) ≡ replicate n None
-ranked_from-empty all place zero = refl
-ranked_from-empty all place (suc n) = ap (λ (places : List (Option Cell)). None ∷ places) (ranked_from-empty all (suc place) n)
+with_ranks_from-empty : (all : List Run) (place n : ℕ) → with_ranks_from all place (replicate n None) ≡ replicate n None
+with_ranks_from-empty all place zero = refl
+with_ranks_from-empty all place (suc n) = ap (λ (places : List (Option Cell)). None ∷ places) (with_ranks_from-empty all (suc place) n)
 
-ranked_from-padded : (all : List Run) (place : ℕ) (places : List (Option Cell)) (n : ℕ) → ranked_from all place (places ++ replicate n None) ≡ ranked_from all place places ++ replicate n None
-ranked_from-padded all place [] n = ranked_from-empty all place n
-ranked_from-padded all place (None ∷ places) n = ap (λ (rest : List (Option Cell)). None ∷ rest) (ranked_from-padded all (suc place) places n)
-ranked_from-padded all place (Some cell ∷ places) n = ap (λ (rest : List (Option Cell)). Some (record cell { stamp = rank_in all (stamp_of_run all place) }) ∷ rest) (ranked_from-padded all (suc place) places n)
+with_ranks_from-padded : (all : List Run) (place : ℕ) (places : List (Option Cell)) (n : ℕ) → with_ranks_from all place (places ++ replicate n None) ≡ with_ranks_from all place places ++ replicate n None
+with_ranks_from-padded all place [] n = with_ranks_from-empty all place n
+with_ranks_from-padded all place (None ∷ places) n = ap (λ (rest : List (Option Cell)). None ∷ rest) (with_ranks_from-padded all (suc place) places n)
+with_ranks_from-padded all place (Some cell ∷ places) n = ap (λ (rest : List (Option Cell)). Some (record cell { stamp = rank_in all (stamp_of_run all place) }) ∷ rest) (with_ranks_from-padded all (suc place) places n)
 
-pub ranked_padded : (places : List (Option Cell)) (n : ℕ) → ranked (places ++ replicate n None) ≡ ranked places ++ replicate n None
-unfolding ranked
-ranked_padded places n =
-    ap (λ all. ranked_from all 0 (places ++ replicate n None)) (runs_padded places n)
-    ∙ ranked_from-padded (runs places) 0 places n
+pub with_ranks_padded : (places : List (Option Cell)) (n : ℕ) → with_ranks (places ++ replicate n None) ≡ with_ranks places ++ replicate n None
+unfolding with_ranks
+with_ranks_padded places n =
+    ap (λ all. with_ranks_from all 0 (places ++ replicate n None)) (runs_padded places n)
+    ∙ with_ranks_from-padded (runs places) 0 places n
 
 -- a text that ends within the places
 pub overlay_padded : (start : ℕ) (text : List ℕ) (stamp : ℕ) (places : List (Option Cell)) (n : ℕ) → start + length text ≤ length places → overlay start text stamp (places ++ replicate n None) ≡ overlay start text stamp places ++ replicate n None

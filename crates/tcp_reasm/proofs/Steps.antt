@@ -6,8 +6,8 @@ use Rattle.std.proofs.lemmas.Bool.Decides.{nat_tests}
 use Rattle.std.proofs.lemmas.List.Sums.{count_by_more_yes, count_by_more_no}
 use Rattle.tcp_reasm.specs.declared.cells.HeldByte.{HeldByte}
 use Rattle.tcp_reasm.specs.declared.table.Run.{Run as Entry}
-use Rattle.tcp_reasm.specs.Reassembly.{Cell, Run, stamp_at, greatest_stamp, in_order, runs_from, with_place, rank_in, ranked_from, is_within, stamp_of_run, newest_first, by_stamp}
-use Rattle.tcp_reasm.specs.Store.{place_of, places_of, stamped, run_of, runs_in}
+use Rattle.tcp_reasm.specs.Reassembly.{Cell, Run, stamp_at, greatest_stamp, bytes_in_order, runs_from, with_place, rank_in, with_ranks_from, is_within, stamp_of_run, runs_newest_first, insertion_by_stamp}
+use Rattle.tcp_reasm.specs.Store.{place_of, places_of, with_stamp, run_of, runs_in}
 
 le_true : (a b : ℕ) → a ≤ b → nat_le a b ≡ true
 le_true a b h = grind (arith, nat_tests)
@@ -68,15 +68,15 @@ rank_no table i stamp d h lt =
     (ap (λ (run : Run). nat_le run.stamp stamp) (get_or-map run_of table i d (run_of d) h) ∙ le_false (get_or table i d).stamp stamp lt)
 
 -- the bytes in order
-pub in_order_some : (cells : List (Option HeldByte)) (i : ℕ) (held : HeldByte) → i < length cells → get_or cells i None ≡ Some held → in_order (drop i (places_of cells)) ≡ held.byte ∷ in_order (drop (i + 1) (places_of cells))
+pub in_order_some : (cells : List (Option HeldByte)) (i : ℕ) (held : HeldByte) → i < length cells → get_or cells i None ≡ Some held → bytes_in_order (drop i (places_of cells)) ≡ held.byte ∷ bytes_in_order (drop (i + 1) (places_of cells))
 in_order_some cells i held h e =
-    ap in_order (places_drop cells i None h)
-    ∙ ap (λ (c : Option HeldByte). in_order (place_of c ∷ drop (i + 1) (places_of cells))) e
+    ap bytes_in_order (places_drop cells i None h)
+    ∙ ap (λ (c : Option HeldByte). bytes_in_order (place_of c ∷ drop (i + 1) (places_of cells))) e
 
-pub in_order_none : (cells : List (Option HeldByte)) (i : ℕ) → i < length cells → get_or cells i None ≡ None → in_order (drop i (places_of cells)) ≡ []
+pub in_order_none : (cells : List (Option HeldByte)) (i : ℕ) → i < length cells → get_or cells i None ≡ None → bytes_in_order (drop i (places_of cells)) ≡ []
 in_order_none cells i h e =
-    ap in_order (places_drop cells i None h)
-    ∙ ap (λ (c : Option HeldByte). in_order (place_of c ∷ drop (i + 1) (places_of cells))) e
+    ap bytes_in_order (places_drop cells i None h)
+    ∙ ap (λ (c : Option HeldByte). bytes_in_order (place_of c ∷ drop (i + 1) (places_of cells))) e
 
 -- the runs, from the right
 pub runs_some : (cells : List (Option HeldByte)) (i next : ℕ) (held : HeldByte) → i + 1 ≡ next → i < length cells → get_or cells i None ≡ Some held → runs_from i (drop i (places_of cells)) ≡ with_place i held.stamp (runs_from next (drop next (places_of cells)))
@@ -94,34 +94,34 @@ runs_none cells i next n h e =
     ∙ ap (λ m. runs_from m (drop m (places_of cells))) n
 
 -- the runs in order of their news
-pub newest_step : (table : List Entry) (i next : ℕ) (d : Entry) → i + 1 ≡ next → i < length table → newest_first (drop i (runs_in table)) ≡ by_stamp (run_of (get_or table i d)) (newest_first (drop next (runs_in table)))
-unfolding newest_first
+pub newest_step : (table : List Entry) (i next : ℕ) (d : Entry) → i + 1 ≡ next → i < length table → runs_newest_first (drop i (runs_in table)) ≡ insertion_by_stamp (run_of (get_or table i d)) (runs_newest_first (drop next (runs_in table)))
+unfolding runs_newest_first
 newest_step table i next d n h =
-    ap newest_first (runs_drop table i d h)
-    ∙ ap (λ m. by_stamp (run_of (get_or table i d)) (newest_first (drop m (runs_in table)))) n
+    ap runs_newest_first (runs_drop table i d h)
+    ∙ ap (λ m. insertion_by_stamp (run_of (get_or table i d)) (runs_newest_first (drop m (runs_in table)))) n
 
 -- where a run is put among those in order
-pub by_stamp_older : (table : List Entry) (i : ℕ) (d : Entry) (run : Run) → i < length table → (get_or table i d).stamp < run.stamp → by_stamp run (drop i (runs_in table)) ≡ run ∷ drop i (runs_in table)
+pub by_stamp_older : (table : List Entry) (i : ℕ) (d : Entry) (run : Run) → i < length table → (get_or table i d).stamp < run.stamp → insertion_by_stamp run (drop i (runs_in table)) ≡ run ∷ drop i (runs_in table)
 by_stamp_older table i d run h lt =
     let other = run_of (get_or table i d) in
     let rest = drop (i + 1) (runs_in table) in
-    ap (by_stamp run) (runs_drop table i d h)
-    ∙ ap (λ b. if b then run ∷ other ∷ rest else other ∷ by_stamp run rest) (lt_true other.stamp run.stamp lt)
+    ap (insertion_by_stamp run) (runs_drop table i d h)
+    ∙ ap (λ b. if b then run ∷ other ∷ rest else other ∷ insertion_by_stamp run rest) (lt_true other.stamp run.stamp lt)
     ∙ ap (λ rs. run ∷ rs) (sym (runs_drop table i d h))
 
-pub by_stamp_newer : (table : List Entry) (i : ℕ) (d : Entry) (run : Run) → i < length table → run.stamp ≤ (get_or table i d).stamp → by_stamp run (drop i (runs_in table)) ≡ run_of (get_or table i d) ∷ by_stamp run (drop (i + 1) (runs_in table))
+pub by_stamp_newer : (table : List Entry) (i : ℕ) (d : Entry) (run : Run) → i < length table → run.stamp ≤ (get_or table i d).stamp → insertion_by_stamp run (drop i (runs_in table)) ≡ run_of (get_or table i d) ∷ insertion_by_stamp run (drop (i + 1) (runs_in table))
 by_stamp_newer table i d run h le =
     let other = run_of (get_or table i d) in
     let rest = drop (i + 1) (runs_in table) in
-    ap (by_stamp run) (runs_drop table i d h)
-    ∙ ap (λ b. if b then run ∷ other ∷ rest else other ∷ by_stamp run rest) (lt_false other.stamp run.stamp le)
+    ap (insertion_by_stamp run) (runs_drop table i d h)
+    ∙ ap (λ b. if b then run ∷ other ∷ rest else other ∷ insertion_by_stamp run rest) (lt_false other.stamp run.stamp le)
 
 pub runs_take : (table : List Entry) (i : ℕ) (d : Entry) → i < length table → take (i + 1) (runs_in table) ≡ take i (runs_in table) ++ run_of (get_or table i d) ∷ []
 runs_take table i d h =
     take_more (runs_in table) i (run_of d) (rw length-map h)
     ∙ ap (λ (run : Run). take i (runs_in table) ++ run ∷ []) (get_or-map run_of table i d (run_of d) h)
 
-get_or-ranked_from : (all : List Run) (first : ℕ) (places : List (Option Cell)) (i at : ℕ) → first + i ≡ at → get_or (ranked_from all first places) i None ≡ stamped (rank_in all (stamp_of_run all at)) (get_or places i None)
+get_or-ranked_from : (all : List Run) (first : ℕ) (places : List (Option Cell)) (i at : ℕ) → first + i ≡ at → get_or (with_ranks_from all first places) i None ≡ with_stamp (rank_in all (stamp_of_run all at)) (get_or places i None)
 get_or-ranked_from all first [] i at e = refl
 get_or-ranked_from all first (None ∷ places) zero at e = refl
 get_or-ranked_from all first (Some cell ∷ places) zero at e =
@@ -130,10 +130,10 @@ get_or-ranked_from all first (Some cell ∷ places) zero at e =
 get_or-ranked_from all first (None ∷ places) (suc i) at e = get_or-ranked_from all (suc first) places i at (omega arith)
 get_or-ranked_from all first (Some cell ∷ places) (suc i) at e = get_or-ranked_from all (suc first) places i at (omega arith)
 
-pub length-ranked_from : (all : List Run) (first : ℕ) (places : List (Option Cell)) → length (ranked_from all first places) ≡ length places
-length-ranked_from all first [] = refl
-length-ranked_from all first (None ∷ places) = ap suc (length-ranked_from all (suc first) places)
-length-ranked_from all first (Some cell ∷ places) = ap suc (length-ranked_from all (suc first) places)
+pub length-with_ranks_from : (all : List Run) (first : ℕ) (places : List (Option Cell)) → length (with_ranks_from all first places) ≡ length places
+length-with_ranks_from all first [] = refl
+length-with_ranks_from all first (None ∷ places) = ap suc (length-with_ranks_from all (suc first) places)
+length-with_ranks_from all first (Some cell ∷ places) = ap suc (length-with_ranks_from all (suc first) places)
 
 -- a list that is turned into another of its length, as far as a place: one place further
 half_step : {X : Type 0} (xs ys : List X) (i : ℕ) (d : X) → length xs ≡ length ys → i < length ys → set (take i xs ++ drop i ys) i (get_or xs i d) ≡ take (i + 1) xs ++ drop (i + 1) ys
@@ -150,10 +150,10 @@ half_get xs ys i d same h =
     ∙ get_or_at (take i xs) (get_or ys i d) (drop (i + 1) ys) d i size
 
 -- one place more is ranked
-pub ranked_step : (all : List Run) (cells before : List (Option HeldByte)) (i : ℕ) (new : Option HeldByte) → i < length cells → length cells ≡ length before → places_of cells ≡ take i (ranked_from all 0 (places_of before)) ++ drop i (places_of before) → place_of new ≡ stamped (rank_in all (stamp_of_run all i)) (place_of (get_or cells i None)) → places_of (set cells i new) ≡ take (i + 1) (ranked_from all 0 (places_of before)) ++ drop (i + 1) (places_of before)
+pub ranked_step : (all : List Run) (cells before : List (Option HeldByte)) (i : ℕ) (new : Option HeldByte) → i < length cells → length cells ≡ length before → places_of cells ≡ take i (with_ranks_from all 0 (places_of before)) ++ drop i (places_of before) → place_of new ≡ with_stamp (rank_in all (stamp_of_run all i)) (place_of (get_or cells i None)) → places_of (set cells i new) ≡ take (i + 1) (with_ranks_from all 0 (places_of before)) ++ drop (i + 1) (places_of before)
 ranked_step all cells before i new h same e is_new =
-    let after = ranked_from all 0 (places_of before) in
-    let size : length after ≡ length (places_of before) = length-ranked_from all 0 (places_of before) in
+    let after = with_ranks_from all 0 (places_of before) in
+    let size : length after ≡ length (places_of before) = length-with_ranks_from all 0 (places_of before) in
     let below : i < length (places_of before) = omega (arith, length-map before place_of) in
     let here : place_of (get_or cells i None) ≡ get_or (places_of before) i None =
     sym (get_or-map place_of cells i None None h)
@@ -162,7 +162,7 @@ ranked_step all cells before i new h same e is_new =
     map-set place_of cells i new
     ∙ ap (λ (ps : List (Option Cell)). set ps i (place_of new)) e
     ∙ ap (λ (p : Option Cell). set (take i after ++ drop i (places_of before)) i p)
-    (is_new ∙ ap (stamped (rank_in all (stamp_of_run all i))) here ∙ sym (get_or-ranked_from all 0 (places_of before) i i (omega arith)))
+    (is_new ∙ ap (with_stamp (rank_in all (stamp_of_run all i))) here ∙ sym (get_or-ranked_from all 0 (places_of before) i i (omega arith)))
     ∙ half_step after (places_of before) i None size below
 
 -- a run that ends at or before a place has none of what comes after
@@ -175,8 +175,8 @@ map-insert f xs i x =
     ∙ ap (λ front. front ++ f x ∷ map f (drop i xs)) (sym (take-map f i xs))
     ∙ ap (λ rest. take i (map f xs) ++ f x ∷ rest) (sym (drop-map f i xs))
 
-pub ranked_end : (all : List Run) (before : List (Option HeldByte)) (i : ℕ) → length before ≤ i → take i (ranked_from all 0 (places_of before)) ++ drop i (places_of before) ≡ ranked_from all 0 (places_of before)
+pub ranked_end : (all : List Run) (before : List (Option HeldByte)) (i : ℕ) → length before ≤ i → take i (with_ranks_from all 0 (places_of before)) ++ drop i (places_of before) ≡ with_ranks_from all 0 (places_of before)
 ranked_end all before i h =
-    ap (λ rest. take i (ranked_from all 0 (places_of before)) ++ rest) (places_end before i h)
-    ∙ append-nil (take i (ranked_from all 0 (places_of before)))
-    ∙ take_all i (ranked_from all 0 (places_of before)) (omega (arith, length-ranked_from all 0 (places_of before), length-map before place_of))
+    ap (λ rest. take i (with_ranks_from all 0 (places_of before)) ++ rest) (places_end before i h)
+    ∙ append-nil (take i (with_ranks_from all 0 (places_of before)))
+    ∙ take_all i (with_ranks_from all 0 (places_of before)) (omega (arith, length-with_ranks_from all 0 (places_of before), length-map before place_of))

@@ -6,11 +6,11 @@ use Rattle.std.proofs.lemmas.List.{replicate-append-replicate, length-replicate,
 use Rattle.tcp_reasm.specs.declared.cells.HeldByte.{HeldByte}
 use Rattle.tcp_reasm.specs.declared.placed.Placed.{Placed}
 use Rattle.tcp_reasm.specs.declared.placed.Placed.TheVariants.{NotKept}
-use Rattle.tcp_reasm.specs.Reassembly.{Cell, Inbox, Piece, piece, is_empty, is_refused, laid_over, settled, answer_for, overlay, greatest_stamp, in_order, runs, ranked, most_runs, placed, place_answer, after_read}
+use Rattle.tcp_reasm.specs.Reassembly.{Cell, Inbox, Piece, piece, is_empty, is_refused, overlay_of, with_overlay, answer_for, overlay, greatest_stamp, bytes_in_order, runs, with_ranks, max_runs, after_place, place_answer, after_read}
 use Rattle.tcp_reasm.specs.Store.{place_of, places_of, inbox_of, cells_over, has_too_many}
-use Rattle.tcp_reasm.proofs.Keeping.{length_in_order, length_ranked}
+use Rattle.tcp_reasm.proofs.Keeping.{length_bytes_in_order, length_with_ranks}
 use Rattle.tcp_reasm.proofs.Overlays.{length-overlay}
-use Rattle.tcp_reasm.proofs.Padding.{greatest_padded, runs_padded, in_order_padded, ranked_padded, overlay_padded, overlay_cut}
+use Rattle.tcp_reasm.proofs.Padding.{greatest_padded, runs_padded, bytes_in_order_padded, with_ranks_padded, overlay_padded, overlay_cut}
 
 -- as many places come into the window as bytes were read
 pub read_view : (capacity n count : ℕ) (unread after : List ℕ) (cells : List (Option HeldByte)) → length unread + length cells ≤ capacity → count ≡ min n (length unread) → after ≡ drop count unread → inbox_of capacity after cells ≡ after_read (inbox_of capacity unread cells) n
@@ -38,19 +38,19 @@ outside_empty start size window h = grind (arith, nat_tests)
 inside_empty : (start size window : ℕ) → 0 < size → start < window → ((size == 0) || nat_le window start) ≡ false
 inside_empty start size window some below = grind (arith, nat_tests)
 
-pub outside_view : (q : Inbox) (offset : ℤ) (text : List ℕ) → (length (piece offset text).text ≡ 0) ⊎ (length q.held ≤ (piece offset text).start) → (q ≡ placed q offset text) × (NotKept ≡ place_answer q offset text)
-unfolding placed place_answer
+pub outside_view : (q : Inbox) (offset : ℤ) (text : List ℕ) → (length (piece offset text).text ≡ 0) ⊎ (length q.held ≤ (piece offset text).start) → (q ≡ after_place q offset text) × (NotKept ≡ place_answer q offset text)
+unfolding after_place place_answer
 outside_view q offset text h =
     let p = piece offset text in
-    let over = laid_over q p in
+    let over = overlay_of q p in
     let empty : is_empty p q.held ≡ true = outside_empty p.start (length p.text) (length q.held) h in
-    let refused : is_refused q p ≡ true = ap (λ b. b || (nat_lt 0 p.start && nat_lt most_runs (length (runs over)))) empty in
-    (ap (λ b. if b then q else settled q over) (sym refused), ap (λ b. if b then NotKept else answer_for (length (in_order over))) (sym refused))
+    let refused : is_refused q p ≡ true = ap (λ b. b || (nat_lt 0 p.start && nat_lt max_runs (length (runs over)))) empty in
+    (ap (λ b. if b then q else with_overlay q over) (sym refused), ap (λ b. if b then NotKept else answer_for (length (bytes_in_order over))) (sym refused))
 
 -- The overlay on the window is that on the cells, which reach to the text's end, and empty places behind.
 laid_view : (capacity : ℕ) (unread : List ℕ) (cells : List (Option HeldByte)) (p : Piece) → length unread + length cells ≤ capacity → p.start < capacity - length unread →
     let cut = take (min (capacity - length unread - p.start) (length p.text)) p.text in
-    laid_over (inbox_of capacity unread cells) p ≡ cells_over p.start cut cells ++ replicate (capacity - length unread - max (length cells) (p.start + length cut)) None
+    overlay_of (inbox_of capacity unread cells) p ≡ cells_over p.start cut cells ++ replicate (capacity - length unread - max (length cells) (p.start + length cut)) None
 laid_view capacity unread cells p fits below =
     let window = capacity - length unread in
     let held = (inbox_of capacity unread cells).held in
@@ -88,36 +88,36 @@ length_cells_over start text cells =
     omega (arith, length-overlay start text (suc (greatest_stamp wide)) wide, length-append (places_of cells) (replicate (start + length text - length cells) None), length-map cells place_of, length-replicate {A = Option Cell} (start + length text - length cells) None)
 
 -- a call that lays a piece over what is held
-view_settled : (capacity : ℕ) (unread unread' : List ℕ) (cells cells' : List (Option HeldByte)) (p : Piece) → length unread + length cells ≤ capacity → p.start < capacity - length unread →
+view_with_overlay : (capacity : ℕ) (unread unread' : List ℕ) (cells cells' : List (Option HeldByte)) (p : Piece) → length unread + length cells ≤ capacity → p.start < capacity - length unread →
     let over = cells_over p.start (take (min (capacity - length unread - p.start) (length p.text)) p.text) cells in
-    unread' ≡ unread ++ in_order over → places_of cells' ≡ ranked (drop (length (in_order over)) over) →
-    inbox_of capacity unread' cells' ≡ settled (inbox_of capacity unread cells) (laid_over (inbox_of capacity unread cells) p)
-view_settled capacity unread unread' cells cells' p fits below u h =
+    unread' ≡ unread ++ bytes_in_order over → places_of cells' ≡ with_ranks (drop (length (bytes_in_order over)) over) →
+    inbox_of capacity unread' cells' ≡ with_overlay (inbox_of capacity unread cells) (overlay_of (inbox_of capacity unread cells) p)
+view_with_overlay capacity unread unread' cells cells' p fits below u h =
     let q = inbox_of capacity unread cells in
     let cut = take (min (capacity - length unread - p.start) (length p.text)) p.text in
     let over = cells_over p.start cut cells in
-    let n = length (in_order over) in
+    let n = length (bytes_in_order over) in
     let more = capacity - length unread - max (length cells) (p.start + length cut) in
     let laid = laid_view capacity unread cells p fits below in
-    let in_front : in_order (laid_over q p) ≡ in_order over = ap in_order laid ∙ in_order_padded over more in
-    let behind : ranked (drop (length (in_order (laid_over q p))) (laid_over q p)) ≡ ranked (drop n over) ++ replicate more None =
-    ap (λ (bytes : List ℕ). ranked (drop (length bytes) (laid_over q p))) in_front
-    ∙ ap (λ (places : List (Option Cell)). ranked (drop n places)) laid
-    ∙ ap ranked (drop-append-le n over (replicate more None) (length_in_order over))
-    ∙ ranked_padded (drop n over) more in
+    let in_front : bytes_in_order (overlay_of q p) ≡ bytes_in_order over = ap bytes_in_order laid ∙ bytes_in_order_padded over more in
+    let behind : with_ranks (drop (length (bytes_in_order (overlay_of q p))) (overlay_of q p)) ≡ with_ranks (drop n over) ++ replicate more None =
+    ap (λ (bytes : List ℕ). with_ranks (drop (length bytes) (overlay_of q p))) in_front
+    ∙ ap (λ (places : List (Option Cell)). with_ranks (drop n places)) laid
+    ∙ ap with_ranks (drop-append-le n over (replicate more None) (length_bytes_in_order over))
+    ∙ with_ranks_padded (drop n over) more in
     let rest : capacity - length unread' - length cells' ≡ more =
-    omega (arith, ap length u, length-append unread (in_order over), ap length h, length-map cells' place_of, length_ranked (drop n over), length-drop n over, length_cells_over p.start cut cells, length_in_order over, length-take (min (capacity - length unread - p.start) (length p.text)) p.text) in
-    let held : places_of cells' ++ replicate (capacity - length unread' - length cells') None ≡ ranked (drop (length (in_order (laid_over q p))) (laid_over q p)) =
+    omega (arith, ap length u, length-append unread (bytes_in_order over), ap length h, length-map cells' place_of, length_with_ranks (drop n over), length-drop n over, length_cells_over p.start cut cells, length_bytes_in_order over, length-take (min (capacity - length unread - p.start) (length p.text)) p.text) in
+    let held : places_of cells' ++ replicate (capacity - length unread' - length cells') None ≡ with_ranks (drop (length (bytes_in_order (overlay_of q p))) (overlay_of q p)) =
     ap (λ m. places_of cells' ++ replicate m None) rest ∙ ap (λ (places : List (Option Cell)). places ++ replicate more None) h ∙ sym behind in
     ap (λ (places : List (Option Cell)). record { capacity = capacity; unread = unread'; held = places }) held
-    ∙ ap (λ (bytes : List ℕ). record { capacity = capacity; unread = bytes; held = ranked (drop (length (in_order (laid_over q p))) (laid_over q p)) }) (u ∙ ap (λ (bytes : List ℕ). unread ++ bytes) (sym in_front))
+    ∙ ap (λ (bytes : List ℕ). record { capacity = capacity; unread = bytes; held = with_ranks (drop (length (bytes_in_order (overlay_of q p))) (overlay_of q p)) }) (u ∙ ap (λ (bytes : List ℕ). unread ++ bytes) (sym in_front))
 
 view_kept : (b : Bool) (capacity : ℕ) (unread unread' : List ℕ) (cells cells' : List (Option HeldByte)) (p : Piece) → length unread + length cells ≤ capacity → p.start < capacity - length unread →
     let over = cells_over p.start (take (min (capacity - length unread - p.start) (length p.text)) p.text) cells in
-    unread' ≡ (if b then unread else unread ++ in_order over) → places_of cells' ≡ (if b then places_of cells else ranked (drop (length (in_order over)) over)) →
-    inbox_of capacity unread' cells' ≡ (if b then inbox_of capacity unread cells else settled (inbox_of capacity unread cells) (laid_over (inbox_of capacity unread cells) p))
+    unread' ≡ (if b then unread else unread ++ bytes_in_order over) → places_of cells' ≡ (if b then places_of cells else with_ranks (drop (length (bytes_in_order over)) over)) →
+    inbox_of capacity unread' cells' ≡ (if b then inbox_of capacity unread cells else with_overlay (inbox_of capacity unread cells) (overlay_of (inbox_of capacity unread cells) p))
 view_kept true capacity unread unread' cells cells' p fits below u h = view_refused capacity unread unread' cells cells' u h
-view_kept false capacity unread unread' cells cells' p fits below u h = view_settled capacity unread unread' cells cells' p fits below u h
+view_kept false capacity unread unread' cells cells' p fits below u h = view_with_overlay capacity unread unread' cells cells' p fits below u h
 
 is_refused_inside : (capacity : ℕ) (unread : List ℕ) (cells : List (Option HeldByte)) (p : Piece) → length unread + length cells ≤ capacity → 0 < length p.text → p.start < capacity - length unread →
     is_refused (inbox_of capacity unread cells) p ≡ has_too_many p.start (cells_over p.start (take (min (capacity - length unread - p.start) (length p.text)) p.text) cells)
@@ -127,18 +127,18 @@ is_refused_inside capacity unread cells p fits some below =
     let over = cells_over p.start cut cells in
     let more = capacity - length unread - max (length cells) (p.start + length cut) in
     let inside : is_empty p q.held ≡ false = inside_empty p.start (length p.text) (length q.held) some (omega (arith, length_held capacity unread cells fits)) in
-    ap (λ b. b || (nat_lt 0 p.start && nat_lt most_runs (length (runs (laid_over q p))))) inside
-    ∙ ap (λ (places : List (Option Cell)). nat_lt 0 p.start && nat_lt most_runs (length (runs places))) (laid_view capacity unread cells p fits below)
-    ∙ ap (λ rs. nat_lt 0 p.start && nat_lt most_runs (length rs)) (runs_padded over more)
+    ap (λ b. b || (nat_lt 0 p.start && nat_lt max_runs (length (runs (overlay_of q p))))) inside
+    ∙ ap (λ (places : List (Option Cell)). nat_lt 0 p.start && nat_lt max_runs (length (runs places))) (laid_view capacity unread cells p fits below)
+    ∙ ap (λ rs. nat_lt 0 p.start && nat_lt max_runs (length rs)) (runs_padded over more)
 
 -- a text that has a place in the window: what is done to the cells with the part of it that fits
 pub place_view : (capacity : ℕ) (unread unread' : List ℕ) (cells cells' : List (Option HeldByte)) (offset : ℤ) (text : List ℕ) (start : ℕ) (rest cut : List ℕ) (answer : Placed) →
     length unread + length cells ≤ capacity → start ≡ (piece offset text).start → rest ≡ (piece offset text).text → cut ≡ take (min (capacity - length unread - start) (length rest)) rest → 0 < length rest → start < capacity - length unread →
-    answer ≡ (if has_too_many start (cells_over start cut cells) then NotKept else answer_for (length (in_order (cells_over start cut cells)))) →
-    unread' ≡ (if has_too_many start (cells_over start cut cells) then unread else unread ++ in_order (cells_over start cut cells)) →
-    places_of cells' ≡ (if has_too_many start (cells_over start cut cells) then places_of cells else ranked (drop (length (in_order (cells_over start cut cells))) (cells_over start cut cells))) →
-    (inbox_of capacity unread' cells' ≡ placed (inbox_of capacity unread cells) offset text) × (answer ≡ place_answer (inbox_of capacity unread cells) offset text)
-unfolding placed place_answer
+    answer ≡ (if has_too_many start (cells_over start cut cells) then NotKept else answer_for (length (bytes_in_order (cells_over start cut cells)))) →
+    unread' ≡ (if has_too_many start (cells_over start cut cells) then unread else unread ++ bytes_in_order (cells_over start cut cells)) →
+    places_of cells' ≡ (if has_too_many start (cells_over start cut cells) then places_of cells else with_ranks (drop (length (bytes_in_order (cells_over start cut cells))) (cells_over start cut cells))) →
+    (inbox_of capacity unread' cells' ≡ after_place (inbox_of capacity unread cells) offset text) × (answer ≡ place_answer (inbox_of capacity unread cells) offset text)
+unfolding after_place place_answer
 place_view capacity unread unread' cells cells' offset text start rest cut answer fits is_start is_rest is_cut some below a u h =
     let q = inbox_of capacity unread cells in
     let p : Piece = record { start = start; text = rest } in
@@ -147,14 +147,14 @@ place_view capacity unread unread' cells cells' offset text start rest cut answe
     ap (λ (n : ℕ). record { start = n; text = rest }) is_start ∙ ap (λ (t : List ℕ). record { start = (piece offset text).start; text = t }) is_rest in
     let refused = is_refused_inside capacity unread cells p fits some below in
     let b = has_too_many start (cells_over start whole cells) in
-    let u' = u ∙ ap (λ (t : List ℕ). if has_too_many start (cells_over start t cells) then unread else unread ++ in_order (cells_over start t cells)) is_cut in
-    let h' = h ∙ ap (λ (t : List ℕ). if has_too_many start (cells_over start t cells) then places_of cells else ranked (drop (length (in_order (cells_over start t cells))) (cells_over start t cells))) is_cut in
+    let u' = u ∙ ap (λ (t : List ℕ). if has_too_many start (cells_over start t cells) then unread else unread ++ bytes_in_order (cells_over start t cells)) is_cut in
+    let h' = h ∙ ap (λ (t : List ℕ). if has_too_many start (cells_over start t cells) then places_of cells else with_ranks (drop (length (bytes_in_order (cells_over start t cells))) (cells_over start t cells))) is_cut in
     let more = capacity - length unread - max (length cells) (start + length whole) in (
       view_kept b capacity unread unread' cells cells' p fits below u' h'
-          ∙ ap (λ b. if b then q else settled q (laid_over q p)) (sym refused)
-          ∙ ap (λ (part : Piece). if is_refused q part then q else settled q (laid_over q part)) is_piece,
-      a ∙ ap (λ (t : List ℕ). if has_too_many start (cells_over start t cells) then NotKept else answer_for (length (in_order (cells_over start t cells)))) is_cut
-          ∙ ap (λ (bytes : List ℕ). if b then NotKept else answer_for (length bytes)) (sym (ap in_order (laid_view capacity unread cells p fits below) ∙ in_order_padded (cells_over start whole cells) more))
-          ∙ ap (λ b. if b then NotKept else answer_for (length (in_order (laid_over q p)))) (sym refused)
-          ∙ ap (λ (part : Piece). if is_refused q part then NotKept else answer_for (length (in_order (laid_over q part)))) is_piece,
+          ∙ ap (λ b. if b then q else with_overlay q (overlay_of q p)) (sym refused)
+          ∙ ap (λ (part : Piece). if is_refused q part then q else with_overlay q (overlay_of q part)) is_piece,
+      a ∙ ap (λ (t : List ℕ). if has_too_many start (cells_over start t cells) then NotKept else answer_for (length (bytes_in_order (cells_over start t cells)))) is_cut
+          ∙ ap (λ (bytes : List ℕ). if b then NotKept else answer_for (length bytes)) (sym (ap bytes_in_order (laid_view capacity unread cells p fits below) ∙ bytes_in_order_padded (cells_over start whole cells) more))
+          ∙ ap (λ b. if b then NotKept else answer_for (length (bytes_in_order (overlay_of q p)))) (sym refused)
+          ∙ ap (λ (part : Piece). if is_refused q part then NotKept else answer_for (length (bytes_in_order (overlay_of q part)))) is_piece,
     )

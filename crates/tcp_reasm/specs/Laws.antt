@@ -1,8 +1,9 @@
--- What a reader can believe of runs and blocks apart from the recursion that gives them (RFC 2018, 3 and 4).
-use Rattle.std.specs.Prelude.{◌≡◌, ℕ, zero, suc, ◌<◌, ◌≤◌, ◌⊎◌, Bool, true, false, List, [], ◌∷◌, length, Option, Some, None, IsSome}
+-- What a reader can believe of runs, of blocks and of placing apart from the recursions that give them (RFC 2018, 3
+-- and 4; RFC 9293, 3.10.7.4).
+use Rattle.std.specs.Prelude.{◌≡◌, ℕ, zero, suc, ◌+◌, ◌<◌, ◌≤◌, ◌⊎◌, Bool, true, false, List, [], ◌∷◌, ◌++◌, length, map, slice_get, slice_index_or, Option, Some, None, IsSome}
 use Rattle.std.specs.List.{AllByRecursion}
 use Rattle.std.specs.List.Sorted.{IsPermutation}
-use Rattle.tcp_reasm.specs.Reassembly.{Cell, Run, runs, stamp_at, newest_first}
+use Rattle.tcp_reasm.specs.Reassembly.{Cell, Inbox, Piece, Run, window, runs, stamp_at, runs_newest_first}
 
 -- what is held at a place
 abbrev pub cell_at : List (Option Cell) → ℕ → Option Cell
@@ -59,4 +60,40 @@ Falls (run ∷ others) = AllByRecursion (λ other. other.stamp ≤ run.stamp) ot
 
 -- newest first: the same runs, with falling stamps
 abbrev pub NewestComeFirst : Type 0
-NewestComeFirst = (all : List Run) → IsPermutation all (newest_first all) × Falls (newest_first all)
+NewestComeFirst = (all : List Run) → IsPermutation all (runs_newest_first all) × Falls (runs_newest_first all)
+
+-- ---- placing, place by place
+
+-- the byte that is held
+abbrev pub byte_of : Option Cell → Option ℕ
+byte_of None = None
+byte_of (Some cell) = Some cell.byte
+
+-- what is there of the peer's text, from the first unread byte on: the byte of each place, none where it is missing
+abbrev pub bytes_by_place : Inbox → List (Option ℕ)
+bytes_by_place q = map (λ (byte : ℕ). Some byte) q.unread ++ map byte_of q.held
+
+-- the byte at a place. Places are counted from the first unread byte here, so that a byte that comes in order keeps
+-- its place.
+abbrev pub byte_at : Inbox → ℕ → Option ℕ
+byte_at q place = slice_index_or (bytes_by_place q) place None
+
+-- a byte that is there stays
+abbrev pub KeepsBytes : Inbox → Inbox → Type 0
+KeepsBytes old new = (place byte : ℕ) → byte_at old place ≡ Some byte → byte_at new place ≡ Some byte
+
+-- each byte of the piece that has a place in the window is there afterwards, unless another was there before
+abbrev pub TakesPiece : Inbox → Inbox → Piece → Type 0
+TakesPiece old new p =
+    (i byte : ℕ) → slice_get p.text i ≡ Some byte → p.start + i < window old
+    → byte_at old (length old.unread + (p.start + i)) ≡ None → byte_at new (length old.unread + (p.start + i)) ≡ Some byte
+
+-- a place that the piece doesn't cover is as it was
+abbrev pub LeavesOthers : Inbox → Inbox → Piece → Type 0
+LeavesOthers old new p =
+    (place : ℕ) → (place < length old.unread + p.start) ⊎ (length old.unread + (p.start + length p.text) ≤ place)
+    → byte_at new place ≡ byte_at old place
+
+-- the bytes that came in order go up to the first that is missing
+abbrev pub EndsAtMissing : Inbox → Type 0
+EndsAtMissing q = byte_at q (length q.unread) ≡ None

@@ -21,8 +21,8 @@ pub record Inbox : Type 0 where
 abbrev pub window : Inbox → ℕ
 window q = q.capacity - length q.unread
 
-abbrev pub empty : ℕ → Inbox
-empty capacity = record { capacity = capacity; unread = []; held = replicate capacity None }
+abbrev pub empty_inbox : ℕ → Inbox
+empty_inbox capacity = record { capacity = capacity; unread = []; held = replicate capacity None }
 
 -- THE PIECE: what is left of a text at an offset when the bytes before place 0 are cut off. The window's
 -- end cuts by itself, since no place lies beyond it.
@@ -84,14 +84,14 @@ abbrev pub runs : List (Option Cell) → List Run
 runs held = runs_from 0 held
 
 -- the greatest number of runs that are kept apart
-abbrev pub most_runs : ℕ
-most_runs = 16
+abbrev pub max_runs : ℕ
+max_runs = 16
 
 -- the bytes at the front, up to the first place that is missing
-abbrev pub in_order : List (Option Cell) → List ℕ
-in_order [] = []
-in_order (None ∷ places) = []
-in_order (Some cell ∷ places) = cell.byte ∷ in_order places
+abbrev pub bytes_in_order : List (Option Cell) → List ℕ
+bytes_in_order [] = []
+bytes_in_order (None ∷ places) = []
+bytes_in_order (Some cell ∷ places) = cell.byte ∷ bytes_in_order places
 
 -- how many runs had no news after this one, itself among them
 abbrev pub rank_in : List Run → ℕ → ℕ
@@ -105,41 +105,45 @@ abbrev pub stamp_of_run : List Run → ℕ → ℕ
 stamp_of_run [] place = 0
 stamp_of_run (run ∷ others) place = if is_within place run then run.stamp else stamp_of_run others place
 
-abbrev pub ranked_from : List Run → ℕ → List (Option Cell) → List (Option Cell)
-ranked_from all place [] = []
-ranked_from all place (None ∷ places) = None ∷ ranked_from all (suc place) places
-ranked_from all place (Some cell ∷ places) =
-    Some (record cell { stamp = rank_in all (stamp_of_run all place) }) ∷ ranked_from all (suc place) places
+abbrev pub with_ranks_from : List Run → ℕ → List (Option Cell) → List (Option Cell)
+with_ranks_from all place [] = []
+with_ranks_from all place (None ∷ places) = None ∷ with_ranks_from all (suc place) places
+with_ranks_from all place (Some cell ∷ places) =
+    Some (record cell { stamp = rank_in all (stamp_of_run all place) }) ∷ with_ranks_from all (suc place) places
 
 -- Only the order of stamps is ever seen: each place takes the rank of its run, the oldest run's being 1.
-unfoldable pub ranked : List (Option Cell) → List (Option Cell)
-ranked held = ranked_from (runs held) 0 held
+unfoldable pub with_ranks : List (Option Cell) → List (Option Cell)
+with_ranks held = with_ranks_from (runs held) 0 held
 
 -- the overlay goes to the unread bytes as far as it is in order, and the rest moves up
-abbrev pub settled : Inbox → List (Option Cell) → Inbox
-settled q over = record q {
-  unread = q.unread ++ in_order over;
-  held = ranked (drop (length (in_order over)) over);
+abbrev pub with_overlay : Inbox → List (Option Cell) → Inbox
+with_overlay q over = record q {
+  unread = q.unread ++ bytes_in_order over;
+  held = with_ranks (drop (length (bytes_in_order over)) over);
 }
 
-abbrev pub laid_over : Inbox → Piece → List (Option Cell)
-laid_over q p = overlay p.start p.text (suc (greatest_stamp q.held)) q.held
+abbrev pub overlay_of : Inbox → Piece → List (Option Cell)
+overlay_of q p = overlay p.start p.text (suc (greatest_stamp q.held)) q.held
 
 -- nothing has a place, or a piece that isn't in order would make too many runs
 abbrev pub is_refused : Inbox → Piece → Bool
-is_refused q p = is_empty p q.held || (nat_lt 0 p.start && nat_lt most_runs (length (runs (laid_over q p))))
+is_refused q p = is_empty p q.held || (nat_lt 0 p.start && nat_lt max_runs (length (runs (overlay_of q p))))
 
 abbrev pub answer_for : ℕ → Placed
 answer_for zero = Held
 answer_for (suc n) = Advanced (suc n)
 
+-- the longest text of a segment, in bytes (RFC 9293, 3.1: what an IPv4 packet holds behind both headers)
+abbrev pub max_text_len : ℕ
+max_text_len = 65495
+
 -- PLACING (RFC 9293, 3.10.7.4): a text whose first byte lies at this offset from the next byte in order
-unfoldable pub placed : Inbox → ℤ → List ℕ → Inbox
-placed q offset text = if is_refused q (piece offset text) then q else settled q (laid_over q (piece offset text))
+unfoldable pub after_place : Inbox → ℤ → List ℕ → Inbox
+after_place q offset text = if is_refused q (piece offset text) then q else with_overlay q (overlay_of q (piece offset text))
 
 unfoldable pub place_answer : Inbox → ℤ → List ℕ → Placed
 place_answer q offset text =
-    if is_refused q (piece offset text) then NotKept else answer_for (length (in_order (laid_over q (piece offset text))))
+    if is_refused q (piece offset text) then NotKept else answer_for (length (bytes_in_order (overlay_of q (piece offset text))))
 
 -- the user takes n unread bytes, and as many places come into the window
 unfoldable pub after_read : Inbox → ℕ → Inbox
@@ -148,21 +152,21 @@ after_read q n = record q {
   held = q.held ++ replicate (min n (length q.unread)) None;
 }
 
-abbrev pub cleared : Inbox → Inbox
-cleared q = record q { held = replicate (window q) None }
+abbrev pub without_held : Inbox → Inbox
+without_held q = record q { held = replicate (window q) None }
 
 -- BLOCKS (RFC 2018, 4): the runs by stamp, the newest first, at most four of them
-abbrev pub by_stamp : Run → List Run → List Run
-by_stamp run [] = run ∷ []
-by_stamp run (other ∷ others) =
-    if nat_lt other.stamp run.stamp then run ∷ other ∷ others else other ∷ by_stamp run others
+abbrev pub insertion_by_stamp : Run → List Run → List Run
+insertion_by_stamp run [] = run ∷ []
+insertion_by_stamp run (other ∷ others) =
+    if nat_lt other.stamp run.stamp then run ∷ other ∷ others else other ∷ insertion_by_stamp run others
 
-unfoldable pub newest_first : List Run → List Run
-newest_first [] = []
-newest_first (run ∷ others) = by_stamp run (newest_first others)
+unfoldable pub runs_newest_first : List Run → List Run
+runs_newest_first [] = []
+runs_newest_first (run ∷ others) = insertion_by_stamp run (runs_newest_first others)
 
-abbrev pub most_blocks : ℕ
-most_blocks = 4
+abbrev pub max_blocks : ℕ
+max_blocks = 4
 
 unfoldable pub blocks : Inbox → List (ℕ × ℕ)
-blocks q = map (λ (run : Run). (run.from, run.to)) (take most_blocks (newest_first (runs q.held)))
+blocks q = map (λ (run : Run). (run.from, run.to)) (take max_blocks (runs_newest_first (runs q.held)))

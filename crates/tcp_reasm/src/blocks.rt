@@ -1,30 +1,30 @@
 ghost use Rattle.std.specs.Prelude.{◌≡◌, ◌≤◌, insert, length, map, take};
-ghost use Rattle.tcp_reasm.specs.Reassembly.{Run as Interval, runs, most_runs, most_blocks, by_stamp, newest_first};
-ghost use Rattle.tcp_reasm.specs.Store.{places_of, runs_in, most_capacity};
+ghost use Rattle.tcp_reasm.specs.Reassembly.{Run as Interval, runs, max_runs, max_blocks, insertion_by_stamp, runs_newest_first};
+ghost use Rattle.tcp_reasm.specs.Store.{places_of, runs_in, max_capacity};
 
 use crate::cells::HeldByte;
 use crate::table::{Run, runs_of};
 use arrayvec::ArrayVec;
 
 /// The greatest number of blocks that are told at once.
-const MOST_BLOCKS: usize = 4;
+const MAX_BLOCKS: usize = 4;
 
 /// The four newest runs, each as its first place and the place after its last.
 pub(crate) fn newest_blocks(cells: &[Option<HeldByte>]) -> ArrayVec<(u32, u32), 4>
-    requires few { length (runs (places_of cells.now)) ≤ most_runs }
-    requires within { length cells.now ≤ most_capacity }
+    requires few { length (runs (places_of cells.now)) ≤ max_runs }
+    requires within { length cells.now ≤ max_capacity }
     ensures { result.items
         ≡ map (λ (run : Interval). (run.from, run.to))
-        (take most_blocks (newest_first (runs (places_of cells.now)))) }
+        (take max_blocks (runs_newest_first (runs (places_of cells.now)))) }
 {
     let newest = newest_of(&runs_of(cells));
-    let count = newest.len().min(MOST_BLOCKS);
+    let count = newest.len().min(MAX_BLOCKS);
     edges_of(&newest.as_slice()[..count])
 }
 
 /// Each run as its first place and the place after its last.
 fn edges_of(runs: &[Run]) -> ArrayVec<(u32, u32), 4>
-    requires { length runs.now ≤ most_blocks }
+    requires { length runs.now ≤ max_blocks }
     ensures { result.items ≡ map (λ (run : Interval). (run.from, run.to)) (runs_in runs.now) }
 {
     let mut edges = ArrayVec::new();
@@ -36,8 +36,8 @@ fn edges_of(runs: &[Run]) -> ArrayVec<(u32, u32), 4>
 
 /// The runs by stamp, the newest first.
 fn newest_of(table: &[Run]) -> ArrayVec<Run, 16>
-    requires { length table.now ≤ most_runs }
-    ensures { runs_in result.items ≡ newest_first (runs_in table.now) }
+    requires { length table.now ≤ max_runs }
+    ensures { runs_in result.items ≡ runs_newest_first (runs_in table.now) }
 {
     let mut newest = ArrayVec::new();
     let mut left = table.len();
@@ -54,7 +54,7 @@ fn newest_of(table: &[Run]) -> ArrayVec<Run, 16>
 fn older_from(newest: &[Run], stamp: u8) -> usize
     ensures within { result ≤ length newest.now }
     ensures place { (run : Interval) → run.stamp ≡ stamp →
-        by_stamp run (runs_in newest.now) ≡ insert (runs_in newest.now) result run }
+        insertion_by_stamp run (runs_in newest.now) ≡ insert (runs_in newest.now) result run }
 {
     for (at, other) in newest.iter().enumerate() {
         if other.stamp < stamp {

@@ -1,5 +1,5 @@
 ghost use Rattle.std.specs.Prelude.{◌≡◌, ℕ, ◌+◌, ◌-◌, ◌≤◌, ◌++◌, ◌&&◌, nat_le, nat_lt, length, drop, vec_len, vec_capacity};
-ghost use Rattle.tcp_reasm.specs.Reassembly.{piece, first_byte as earlier_byte, overlay, runs, in_order};
+ghost use Rattle.tcp_reasm.specs.Reassembly.{piece, first_byte as earlier_byte, overlay, runs, bytes_in_order};
 ghost use Rattle.tcp_reasm.specs.Store.{place_of, places_of};
 
 use std::alloc::Allocator;
@@ -83,8 +83,8 @@ pub(crate) fn append_in_order<A: Allocator>(
     cells: &[Option<HeldByte>],
 ) -> usize
     requires { vec_len unread.old + length cells.now ≤ vec_capacity unread.old }
-    ensures count { result ≡ length (in_order (places_of cells.now)) }
-    ensures items { unread.new.items ≡ unread.old.items ++ in_order (places_of cells.now) }
+    ensures count { result ≡ length (bytes_in_order (places_of cells.now)) }
+    ensures items { unread.new.items ≡ unread.old.items ++ bytes_in_order (places_of cells.now) }
     ensures capacity { vec_capacity unread.new ≡ vec_capacity unread.old }
 {
     for (place, cell) in cells.iter().enumerate() {

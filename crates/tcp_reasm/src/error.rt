@@ -1,5 +1,5 @@
 ghost use Rattle.std.specs.Prelude.{◌≡◌, Some};
-ghost use Rattle.tcp_reasm.specs.Refusals.{number_of, text_of};
+ghost use Rattle.tcp_reasm.specs.Refusals.{reasm_error_number, reasm_error_text};
 
 use std::error::Error;
 use std::fmt;
@@ -16,7 +16,7 @@ pub enum ReasmError {
 impl ReasmError {
     /// The number under which the refusal is reported.
     pub fn number(self) -> u8
-        ensures { result ≡ number_of self }
+        ensures { result ≡ reasm_error_number self }
     {
         match self {
             ReasmError::BadCapacity => 21,
@@ -26,7 +26,7 @@ impl ReasmError {
 }
 
 impl fmt::Display for ReasmError {
-    ghost output = { λ e. Some (text_of e) };
+    ghost output = { λ e. Some (reasm_error_text e) };
 
     fn fmt<W: fmt::Write>(&self, f: &mut fmt::Formatter<W>) -> fmt::Result {
         f.write_str(match self {

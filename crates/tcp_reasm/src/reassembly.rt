@@ -1,7 +1,7 @@
-ghost use Rattle.std.specs.Prelude.{◌≡◌, ◌↔◌, ◌⊎◌, ◌<◌, ◌≤◌, ◌+◌, ◌++◌, ◌≤ℤ◌, ◌<ℤ◌, ℕ, ℤ, pos, negsuc, min, length, take, drop, OnErr, IfOk, None, vec_capacity};
-ghost use Rattle.tcp_reasm.specs.Reassembly.{Inbox, empty, window, placed, place_answer, after_read, cleared, blocks, runs, most_runs};
-ghost use Rattle.tcp_reasm.specs.Laws.{cell_at};
-ghost use Rattle.tcp_reasm.specs.Store.{inbox_of, places_of, most_capacity, IsKept, IsFrontMissing};
+ghost use Rattle.std.specs.Prelude.{◌≡◌, ◌≢◌, ◌↔◌, ◌⊎◌, ◌<◌, ◌≤◌, ◌+◌, ◌++◌, ◌≤ℤ◌, ◌<ℤ◌, ℕ, ℤ, pos, negsuc, min, length, take, drop, OnErr, IfOk, None, vec_capacity};
+ghost use Rattle.tcp_reasm.specs.Reassembly.{Inbox, empty_inbox, window, piece, after_place, place_answer, after_read, without_held, blocks, runs, max_runs, max_text_len};
+ghost use Rattle.tcp_reasm.specs.Laws.{cell_at, KeepsBytes, TakesPiece, LeavesOthers, EndsAtMissing};
+ghost use Rattle.tcp_reasm.specs.Store.{inbox_of, places_of, max_capacity, IsKept, IsFrontMissing};
 
 use crate::blocks::newest_blocks;
 use crate::cells::{HeldByte, drop_front, piece_of};
@@ -39,8 +39,8 @@ impl<A: Allocator> Model for Reassembly<A> {
 impl Reassembly {
     /// An empty reassembly of so many bytes, on the global allocator.
     pub fn new(alloc: Global, capacity: usize) -> Result<Self, ReasmError>
-        ensures ok { IfOk result (λ q. q ≡ empty capacity) }
-        ensures bad { (result ≡ Err ReasmError.BadCapacity) ↔ ((capacity < 1) ⊎ (most_capacity < capacity)) }
+        ensures ok { IfOk result (λ q. q ≡ empty_inbox capacity) }
+        ensures bad { (result ≡ Err ReasmError.BadCapacity) ↔ ((capacity < 1) ⊎ (max_capacity < capacity)) }
     {
         Self::new_in(alloc, capacity)
     }
@@ -49,8 +49,8 @@ impl Reassembly {
 impl<A: Allocator + Copy> Reassembly<A> {
     /// An empty reassembly of so many bytes.
     pub fn new_in(alloc: A, capacity: usize) -> Result<Self, ReasmError>
-        ensures ok { IfOk result (λ q. q ≡ empty capacity) }
-        ensures bad { (result ≡ Err ReasmError.BadCapacity) ↔ ((capacity < 1) ⊎ (most_capacity < capacity)) }
+        ensures ok { IfOk result (λ q. q ≡ empty_inbox capacity) }
+        ensures bad { (result ≡ Err ReasmError.BadCapacity) ↔ ((capacity < 1) ⊎ (max_capacity < capacity)) }
     {
         if capacity < 1 || capacity > MAX_CAPACITY {
             return Err(ReasmError::BadCapacity);
@@ -74,7 +74,7 @@ impl<A: Allocator> Reassembly<A> {
     pub fn capacity(&self) -> usize
         ensures value { result ≡ self.now.capacity }
         ensures some { 0 < result }
-        ensures most { result ≤ most_capacity }
+        ensures most { result ≤ max_capacity }
     {
         self.capacity
     }
@@ -83,7 +83,7 @@ impl<A: Allocator> Reassembly<A> {
     pub fn unread(&self) -> usize
         ensures value { result ≡ length self.now.unread }
         ensures within { result ≤ self.now.capacity }
-        ensures most { self.now.capacity ≤ most_capacity }
+        ensures most { self.now.capacity ≤ max_capacity }
     {
         self.unread.len()
     }
@@ -93,7 +93,7 @@ impl<A: Allocator> Reassembly<A> {
         ensures value { result ≡ window self.now }
         ensures unread { result + length self.now.unread ≡ self.now.capacity }
         ensures places { length self.now.held ≡ result }
-        ensures most { self.now.capacity ≤ most_capacity }
+        ensures most { self.now.capacity ≤ max_capacity }
     {
         (self.capacity - self.unread.len()) as u32
     }
@@ -103,14 +103,19 @@ impl<A: Allocator> Reassembly<A> {
     pub fn place(&mut self, offset: i64, text: &[u8]) -> Placed
         requires from { negsuc 2147483647 ≤ℤ offset }
         requires below { offset <ℤ pos 2147483648 }
-        requires short { length text.now ≤ 65495 }
-        ensures after { self.new ≡ placed self.old offset text.now }
+        requires short { length text.now ≤ max_text_len }
+        ensures after { self.new ≡ after_place self.old offset text.now }
         ensures answer { result ≡ place_answer self.old offset text.now }
         ensures not_kept { result ≡ Placed.NotKept → self.new ≡ self.old }
         ensures held { result ≡ Placed.Held → self.new.unread ≡ self.old.unread }
         ensures some { (n : ℕ) → result ≡ Placed.Advanced n → 0 < n }
         ensures grown { (n : ℕ) → result ≡ Placed.Advanced n → length self.new.unread ≡ length self.old.unread + n }
         ensures front { take (length self.old.unread) self.new.unread ≡ self.old.unread }
+        // Place by place, counted from the first unread byte.
+        ensures kept { KeepsBytes self.old self.new }
+        ensures taken { result ≢ Placed.NotKept → TakesPiece self.old self.new (piece offset text.now) }
+        ensures others { LeavesOthers self.old self.new (piece offset text.now) }
+        ensures missing { EndsAtMissing self.new }
     {
         let (start, text) = piece_of(offset, text);
         let window = self.capacity - self.unread.len();
@@ -139,15 +144,24 @@ impl<A: Allocator> Reassembly<A> {
         ensures value { result.items ≡ blocks self.now }
 
         // So many runs are held at most, and none at the next byte in order.
-        ensures few { length (runs self.now.held) ≤ most_runs }
+        ensures few { length (runs self.now.held) ≤ max_runs }
         ensures missing { cell_at self.now.held 0 ≡ None }
     {
         newest_blocks(&self.cells)
     }
 
+    /// Gives up what is unread and what is held, and leaves the whole window, as a reset and an abort do (RFC 9293,
+    /// 3.10.5 and 3.10.7.4).
+    pub fn clear(&mut self)
+        ensures { self.new ≡ empty_inbox self.old.capacity }
+    {
+        self.unread.clear();
+        self.clear_held();
+    }
+
     /// Gives up what is held. Unread bytes stay.
     pub fn clear_held(&mut self)
-        ensures { self.new ≡ cleared self.old }
+        ensures { self.new ≡ without_held self.old }
     {
         self.cells.clear();
     }

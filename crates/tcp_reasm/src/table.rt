@@ -1,13 +1,13 @@
 ghost use Rattle.std.specs.Prelude.{◌≡◌, ℕ, ◌≤◌, drop, length, vec_capacity};
-ghost use Rattle.tcp_reasm.specs.Reassembly.{runs, most_runs, with_place, stamp_at as stamp_of_place, greatest_stamp as greatest_in, rank_in as rank_among, stamp_of_run, ranked};
-ghost use Rattle.tcp_reasm.specs.Store.{place_of, places_of, stamped, runs_in, most_capacity};
+ghost use Rattle.tcp_reasm.specs.Reassembly.{runs, max_runs, with_place, stamp_at as stamp_of_place, greatest_stamp as greatest_in, rank_in as rank_among, stamp_of_run, with_ranks};
+ghost use Rattle.tcp_reasm.specs.Store.{place_of, places_of, with_stamp, runs_in, max_capacity};
 
 use crate::cells::HeldByte;
 use arrayvec::ArrayVec;
 use std::alloc::Allocator;
 
 /// The greatest number of runs that are held apart.
-pub(crate) const MOST_RUNS: usize = 16;
+pub(crate) const MAX_RUNS: usize = 16;
 
 /// A maximal interval of held places.
 #[derive(Clone, Copy, Debug, Default)]
@@ -22,8 +22,8 @@ pub(crate) struct Run {
 
 /// The runs from the left.
 pub(crate) fn runs_of(cells: &[Option<HeldByte>]) -> ArrayVec<Run, 16>
-    requires few { length (runs (places_of cells.now)) ≤ most_runs }
-    requires within { length cells.now ≤ most_capacity }
+    requires few { length (runs (places_of cells.now)) ≤ max_runs }
+    requires within { length cells.now ≤ max_capacity }
     ensures { runs_in result.items ≡ runs (places_of cells.now) }
 {
     let mut table = ArrayVec::new();
@@ -39,8 +39,8 @@ pub(crate) fn runs_of(cells: &[Option<HeldByte>]) -> ArrayVec<Run, 16>
 
 /// Puts a held place in front of the runs behind it: it joins the first of them, or begins a run of its own.
 fn begin_run(table: &mut ArrayVec<Run, 16>, place: u32, stamp: u8)
-    requires few { length (with_place place stamp (runs_in table.old.items)) ≤ most_runs }
-    requires within { place ≤ most_capacity }
+    requires few { length (with_place place stamp (runs_in table.old.items)) ≤ max_runs }
+    requires within { place ≤ max_capacity }
     ensures { runs_in table.new.items ≡ with_place place stamp (runs_in table.old.items) }
 {
     if !table.is_empty() && table[0].from == place + 1 {
@@ -86,7 +86,7 @@ pub(crate) fn greatest_stamp(cells: &[Option<HeldByte>]) -> u8
 
 /// How many runs have at most this stamp.
 fn rank_in(table: &[Run], stamp: u8) -> u8
-    requires { length table.now ≤ most_runs }
+    requires { length table.now ≤ max_runs }
     ensures { result ≡ rank_among (runs_in table.now) stamp }
 {
     let mut rank = 0;
@@ -135,10 +135,10 @@ fn passed(table: &[Run], next: usize, place: u32) -> usize
 
 /// What is held at a place, with the rank of the run that it lies in: one of those from `next` on.
 fn ranked_byte(cell: Option<HeldByte>, table: &[Run], next: usize, place: u32) -> Option<HeldByte>
-    requires few { length table.now ≤ most_runs }
+    requires few { length table.now ≤ max_runs }
     requires within { next ≤ length table.now }
     ensures { let stamp = stamp_of_run (drop next (runs_in table.now)) place in
-        place_of result ≡ stamped (rank_among (runs_in table.now) stamp) (place_of cell) }
+        place_of result ≡ with_stamp (rank_among (runs_in table.now) stamp) (place_of cell) }
 {
     match cell {
         Some(held) => Some(HeldByte {
@@ -151,9 +151,9 @@ fn ranked_byte(cell: Option<HeldByte>, table: &[Run], next: usize, place: u32) -
 
 /// Gives each held place the rank of its run as its stamp.
 pub(crate) fn rank<A: Allocator>(cells: &mut Vec<Option<HeldByte>, A>)
-    requires few { length (runs (places_of cells.old.items)) ≤ most_runs }
-    requires within { length cells.old.items ≤ most_capacity }
-    ensures places { places_of cells.new.items ≡ ranked (places_of cells.old.items) }
+    requires few { length (runs (places_of cells.old.items)) ≤ max_runs }
+    requires within { length cells.old.items ≤ max_capacity }
+    ensures places { places_of cells.new.items ≡ with_ranks (places_of cells.old.items) }
     ensures capacity { vec_capacity cells.new ≡ vec_capacity cells.old }
 {
     let table = runs_of(cells);

@@ -342,3 +342,16 @@ fn agrees_with_plain_program(rt: HostRuntime) -> Result<(), Fail> {
     assert!(rt; met.crowded > 50, "refused for a seventeenth run");
     Ok(())
 }
+
+#[test]
+fn clearing_leaves_the_whole_window(rt: HostRuntime) -> Result<(), Fail> {
+    let mut sut = Reassembly::new(rt.alloc(), 8)?;
+    assert_eq!(rt; sut.place(0, b"ab"), Placed::Advanced(2));
+    assert_eq!(rt; sut.place(2, b"ef"), Placed::Held);
+    sut.clear();
+    assert_eq!(rt; sut.unread(), 0);
+    assert_eq!(rt; sut.window(), 8);
+    blocks_are(&rt, &sut, &[]);
+    assert_eq!(rt; sut.place(0, b"x"), Placed::Advanced(1));
+    Ok(())
+}

@@ -1,190 +1,155 @@
--- A true segment arrives: stage by stage, the end stays sound.
-use Rattle.std.proofs.Common.{◌≡◌, ℕ, zero, suc, ◌+◌, ◌-◌, ◌%◌, ◌^◌, ◌<◌, ◌≤◌, List, [], ◌∷◌, length, take, drop, refl, sym, ◌∙◌, ap, subst, ⊎_elim, arith}
-use Rattle.std.specs.Prelude.{ℤ, pos, negsuc, int_lt, Bool, false, not, ◌||◌, nat_lt, ◌==◌, if◌then◌else◌}
-use Rattle.std.proofs.lemmas.Bool.{cases_lt, cond_both, ltb-false, eqb-false, not-false}
-use Rattle.std.proofs.lemmas.List.{drop-drop}
-use Rattle.tcp_wire.specs.Position.{number, distance, near}
-use Rattle.tcp_wire.specs.Wire.{Content, has}
-use Rattle.tcp_wire.proofs.Positions.{near_number, distance_numbers}
-use Rattle.tcp_reasm.specs.Reassembly.{placed, place_answer}
-use Rattle.tcp_reasm.specs.Agreement.{LiesAt, advance_of}
-use Rattle.tcp_reasm.proofs.Agreement.{placed-agrees}
-use Rattle.tcp_conn.specs.Acceptable.{offset}
-use Rattle.tcp_conn.specs.State.{State, Sending, owing_ack}
-use Rattle.tcp_conn.specs.Sender.{stream_limit, ack_position, is_beyond, is_old, count_acked, advanced, acknowledged, is_newer, with_window, window_updated, ack_taken}
-use Rattle.tcp_conn.specs.Receiver.{text_placed}
-use Rattle.tcp_conn.specs.Arrival as arrivals
+-- A segment that the peer emitted arrives: whatever is judged of it, the end stays sound.
+use Rattle.std.proofs.Common.{◌≡◌, ℕ, ◌+◌, ◌^◌, ◌<◌, ◌≤◌, List, length, refl, sym, ◌∙◌, ap, arith}
+use Rattle.std.specs.Prelude.{true, false, IfSome, Option, Some, None}
+use Rattle.std.proofs.lemmas.Bool.{cond_both, eqb-true}
+use Rattle.tcp_wire.specs.Position.{number}
+use Rattle.tcp_wire.specs.Flags.{syn, rst, ack, has}
+use Rattle.tcp_wire.specs.Wire.{Content, IsValid}
+use Rattle.tcp_wire.specs.declared.seq.Seq.{Seq}
+use Rattle.tcp_conn.specs.declared.judgement.Judgement.{Judgement}
+use Rattle.tcp_conn.specs.declared.judgement.Judgement.TheVariants.{HandshakeRefusedShut, Taken, TakenShut}
+use Rattle.tcp_conn.specs.declared.phase.Ending.TheVariants.{Reset}
+use Rattle.tcp_conn.specs.Phases.{is_listening, is_syn_sent, gives_up}
+use Rattle.tcp_conn.specs.State.{State, with_ack_owed}
+use Rattle.tcp_conn.specs.Sender.{stream_limit}
+use Rattle.tcp_conn.specs.Judgement.{count_numbers, judgement}
+use Rattle.tcp_conn.specs.Arrival.{reset_at_ack, reset_of_stray, with_reset, after_opening, after_acceptance, after_judgement}
 use Rattle.tcp_replay.specs.World.{PartyState}
 use Rattle.tcp_replay.specs.Truthful.{IsTruthful}
-use Rattle.tcp_replay.specs.Safe.{witness_of}
-use Rattle.tcp_replay.specs.Sound.{Sends, Takes, Pair}
-use Rattle.tcp_replay.proofs.Positions.{offset-ahead, offset-behind}
-use Rattle.tcp_replay.proofs.Halves.{take-none, sends-advanced, sends-window, takes-advance}
-use Rattle.tcp_replay.proofs.Truths.{positive, position-of_text}
+use Rattle.tcp_replay.specs.Safe.{witness_of, next_position}
+use Rattle.tcp_replay.specs.Sound.{IsSendable}
+use Rattle.tcp_replay.proofs.Halves.{sends-syn, sends-syn_acked, takes-syn}
+use Rattle.tcp_replay.proofs.Steps.{Kept}
+use Rattle.tcp_replay.proofs.Stands.{at-listen, at-syn_sent, syn_sent-knows, present-knows, present-opened}
+use Rattle.tcp_replay.proofs.Moves.{kept-changed, kept-reset, kept-owing, kept-given_up}
+use Rattle.tcp_replay.proofs.Judgements.{IsPresent, IsAckOnly, judged}
+use Rattle.tcp_replay.proofs.Stages.{IsAck, kept-taking, kept-taking_shut}
 
--- PartyState p's end may be in this state, its peer q being where it is.
-pub record Kept (p q : PartyState) (s : State) : Type 0 where
-  pub config : s.config ≡ p.endpoint.config
-  pub peer_addr : s.peer_addr ≡ p.endpoint.peer_addr
-  pub peer_port : s.peer_port ≡ p.endpoint.peer_port
-  pub iss : s.sending.iss ≡ p.endpoint.sending.iss
-  pub ending : s.ending ≡ p.endpoint.ending
-  pub sends : Sends s.sending p.accepted
-  pub takes : Takes s.receiving q.endpoint.sending.iss q.accepted p.delivered
-  pub between : s.sending.una ≤ 1 + q.endpoint.receiving.ordered
-  pub further : p.endpoint.receiving.ordered ≤ s.receiving.ordered
+-- RESETS
+sendable-at_ack : (src : List ℕ) (v : Content) → IsValid v → IsSendable src (reset_at_ack src v)
+sendable-at_ack src v valid = record { to = record { addr_is = refl; port = valid.src_port }; seq = valid.ack; ack = tt }
 
-pub kept-same : (p q : PartyState) → Pair p q → Kept p q p.endpoint
-kept-same p q h = record {
-  config = refl;
-  peer_addr = refl;
-  peer_port = refl;
-  iss = refl;
-  ending = refl;
-  sends = h.there.sends;
-  takes = h.back.takes;
-  between = h.there.between;
-  further = omega arith;
+sendable-stray : (src : List ℕ) (v : Content) → IsValid v → IsSendable src (reset_of_stray src v)
+sendable-stray src v valid = record {
+  to = record { addr_is = refl; port = valid.src_port };
+  seq = cond_both (has ack v.flags) v.ack 0 (λ n. n < 2 ^ 32) (λ _. valid.ack) (λ _. omega arith);
+  ack = cond_both (has ack v.flags) None (Some (record { 0 = number v.seq (count_numbers v) })) (λ (o : Option Seq). IfSome o (λ seq. seq.0 < 2 ^ 32)) (λ _. tt) (λ _. omega arith);
 }
 
-pub kept-owing : (p q : PartyState) (s : State) → Kept p q s → Kept p q (owing_ack s)
-kept-owing p q s h = record { config = h.config; peer_addr = h.peer_addr; peer_port = h.peer_port; iss = h.iss; ending = h.ending; sends = h.sends; takes = h.takes; between = h.between; further = h.further }
+-- SYN: it stands at position 0
+syn-number : (p q : PartyState) (v : Content) → IsTruthful (witness_of q p) v → has syn v.flags ≡ true → v.seq ≡ number q.endpoint.config.isn.0 0
+syn-number p q v truth e =
+    let zero : truth.position ≡ 0 = eqb-true truth.position 0 (sym truth.has_syn ∙ e) in
+    truth.seq ∙ ap (number q.endpoint.config.isn.0) zero
 
--- another sending half
-pub kept-sending : (p q : PartyState) (s : State) (sending : Sending) → Kept p q s → sending.iss ≡ s.sending.iss → Sends sending p.accepted → sending.una ≤ 1 + q.endpoint.receiving.ordered
-    → Kept p q (record s { sending = sending })
-kept-sending p q s sending h iss sends between = record { config = h.config; peer_addr = h.peer_addr; peer_port = h.peer_port; iss = iss ∙ h.iss; ending = h.ending; sends = sends; takes = h.takes; between = between; further = h.further }
-
--- ACKNOWLEDGEMENT of a position
-pub ack_position-is : (s : Sending) (a : ℕ) → s.iss < 2 ^ 32 → s.una < 2 ^ 31 → a < 2 ^ 31 → ack_position s (number s.iss a) ≡ pos a
-ack_position-is s a fits low small =
-    let same : s.iss % 2 ^ 32 ≡ s.iss = omega arith in
-    subst (λ (n : ℕ). near s.una (distance n (number s.iss a)) ≡ pos a) same (near_number s.una a s.iss (omega arith) (omega arith))
-
-beyond-is : (s : Sending) (ack a : ℕ) → ack_position s ack ≡ pos a → is_beyond s ack ≡ nat_lt s.nxt a
-unfolding is_beyond
-beyond-is s ack a e = ap (λ z. int_lt (pos s.nxt) z) e
-
-old-is : (s : Sending) (ack a : ℕ) → ack_position s ack ≡ pos a → is_old s ack ≡ nat_lt a s.una
-unfolding is_old
-old-is s ack a e = ap (λ z. int_lt z (pos s.una)) e
-
-acked-is : (s : Sending) (a : ℕ) → s.una ≤ a → a < 2 ^ 31 → count_acked s (number s.iss a) ≡ a - s.una
-unfolding count_acked
-acked-is s a order small = distance_numbers s.iss s.una a order (omega arith)
-
-sends-updated : (s : Sending) (accepted : List ℕ) (seq ack window : ℕ) → Sends s accepted → Sends (window_updated s seq ack window) accepted
-unfolding window_updated
-sends-updated s accepted seq ack window h = cond_both (is_newer s seq ack) (with_window s seq ack window) s (λ x. Sends x accepted) (λ _. sends-window s accepted window seq ack h) (λ _. h)
-
-updated-iss : (s : Sending) (seq ack window : ℕ) → (window_updated s seq ack window).iss ≡ s.iss
-unfolding window_updated
-updated-iss s seq ack window = cond_both (is_newer s seq ack) (with_window s seq ack window) s (λ x. x.iss ≡ s.iss) (λ _. refl) (λ _. refl)
-
-updated-una : (s : Sending) (seq ack window : ℕ) → (window_updated s seq ack window).una ≡ s.una
-unfolding window_updated
-updated-una s seq ack window = cond_both (is_newer s seq ack) (with_window s seq ack window) s (λ x. x.una ≡ s.una) (λ _. refl) (λ _. refl)
-
--- the acknowledgement number of a position that the peer wants next, or wanted before
-kept-acked : (p q : PartyState) (s : State) (seq a window : ℕ) → Kept p q s → s.sending.iss < 2 ^ 32 → a ≤ 1 + q.endpoint.receiving.ordered → q.endpoint.receiving.ordered ≤ length p.accepted
-    → is_beyond s.sending (number s.sending.iss a) ≡ false → Kept p q (record s { sending = ack_taken s.sending seq (number s.sending.iss a) window })
-unfolding ack_taken acknowledged
-kept-acked p q s seq a window h fits had order sent =
-    let ack = number s.sending.iss a in
-    let low : s.sending.una < 2 ^ 31 = omega (arith, h.between, order, h.sends.limit) in
-    let small : a < 2 ^ 31 = omega (arith, had, order, h.sends.limit) in
-    let place : ack_position s.sending ack ≡ pos a = ack_position-is s.sending a fits low small in
-    let reached : a ≤ s.sending.nxt = ltb-false s.sending.nxt a (sym (beyond-is s.sending ack a place) ∙ sent) in
-    cond_both (is_old s.sending ack) s.sending (window_updated (if is_old s.sending ack then s.sending else advanced s.sending (count_acked s.sending ack)) seq ack window)
-    (λ x. Kept p q (record s { sending = x }))
-    (λ _. kept-sending p q s s.sending h refl h.sends h.between)
-    (λ new.
-    let order : s.sending.una ≤ a = ltb-false a s.sending.una (sym (old-is s.sending ack a place) ∙ new) in
-    let count : count_acked s.sending ack ≡ a - s.sending.una = acked-is s.sending a order small in
-    let ahead : s.sending.una + count_acked s.sending ack ≡ a = omega (arith, count, order) in
-    let sends : Sends (advanced s.sending (count_acked s.sending ack)) p.accepted = sends-advanced s.sending p.accepted (count_acked s.sending ack) (omega (arith, ahead, reached)) h.sends in
-    subst (λ (b : Bool). Kept p q (record s { sending = window_updated (if b then s.sending else advanced s.sending (count_acked s.sending ack)) seq ack window })) (sym new)
-    (kept-sending p q s (window_updated (advanced s.sending (count_acked s.sending ack)) seq ack window) h
-    (updated-iss (advanced s.sending (count_acked s.sending ack)) seq ack window)
-    (sends-updated (advanced s.sending (count_acked s.sending ack)) p.accepted seq ack window sends)
-    (omega (arith, updated-una (advanced s.sending (count_acked s.sending ack)) seq ack window, ahead, had))))
-
--- TEXT of the peer's stream
-drop-take-sub : (k n : ℕ) (xs : List ℕ) → drop k (take n xs) ≡ take (n - k) (drop k xs)
-drop-take-sub zero n xs = let e : n ≡ n - zero = omega arith in ap (λ m. take m xs) e
-drop-take-sub (suc k) zero xs = let e : zero ≡ zero - suc k = omega arith in ap (λ m. take m (drop (suc k) xs)) e
-drop-take-sub (suc k) (suc n) [] = sym (take-none (suc n - suc k))
-drop-take-sub (suc k) (suc n) (x ∷ xs) = drop-take-sub k n xs ∙ (let e : n - k ≡ suc n - suc k = omega arith in ap (λ m. take m (drop k xs)) e)
-
-lies-ahead : (ordered position : ℕ) (text accepted : List ℕ) → 1 + ordered ≤ position → text ≡ take (length text) (drop (position - 1) accepted)
-    → LiesAt (pos (position - (1 + ordered))) text (drop ordered accepted)
-lies-ahead ordered position text accepted order is =
-    let whole : ordered + (position - (1 + ordered)) ≡ position - 1 = omega arith in
-    ap (take (length text)) (drop-drop (position - (1 + ordered)) ordered accepted ∙ ap (λ k. drop k accepted) whole) ∙ sym is
-
-lies-behind : (ordered position : ℕ) (text accepted : List ℕ) → 1 ≤ position → position ≤ ordered → text ≡ take (length text) (drop (position - 1) accepted)
-    → LiesAt (negsuc (1 + ordered - position - 1)) text (drop ordered accepted)
-lies-behind ordered position text accepted least order is =
-    let k = suc (1 + ordered - position - 1) in
-    let whole : position - 1 + k ≡ ordered = omega arith in
-    ap (drop k) is ∙ drop-take-sub k (length text) (drop (position - 1) accepted)
-    ∙ ap (take (length text - k)) (drop-drop k (position - 1) accepted ∙ ap (λ n. drop n accepted) whole)
-
-lies-at : (irs ordered position next seq : ℕ) (text accepted : List ℕ) → irs < 2 ^ 32 → ordered < 2 ^ 31 - 1 → position < 2 ^ 31 → 1 ≤ position → next ≡ number irs (1 + ordered) → seq ≡ number irs position
-    → text ≡ take (length text) (drop (position - 1) accepted) → LiesAt (offset next seq) text (drop ordered accepted)
-lies-at irs ordered position next seq text accepted fits small low least next_is seq_is is =
-    let P : ℤ → Type 0 = λ z. LiesAt z text (drop ordered accepted) in
-    subst (λ (n : ℕ). P (offset n seq)) (sym next_is) (subst (λ (m : ℕ). P (offset (number irs (1 + ordered)) m)) (sym seq_is)
-    (⊎_elim
-    (λ less. let behind : position ≤ ordered = omega arith in subst P (sym (offset-behind irs (1 + ordered) position fits (omega arith) less)) (lies-behind ordered position text accepted least behind is))
-    (λ more. subst P (sym (offset-ahead irs (1 + ordered) position fits low more)) (lies-ahead ordered position text accepted more is))
-    (cases_lt position (1 + ordered))))
-
--- a text that lies in the peer's stream is placed
-kept-placed : (p q : PartyState) (s : State) (v : Content) → Kept p q s → length q.accepted ≤ stream_limit → LiesAt (offset s.receiving.next v.seq) v.text (drop s.receiving.ordered q.accepted)
-    → Kept p q (arrivals.with_text s v)
-unfolding text_placed
-kept-placed p q s v h limit lies =
+-- in LISTEN
+kept-opening : (p q : PartyState) (s : State) (v : Content) → IsValid v → IsTruthful (witness_of q p) v → is_listening s.phase ≡ true → has syn v.flags ≡ true → Kept p q s
+    → Kept p q (after_opening s q.endpoint.config.addr.0 v)
+unfolding after_opening
+kept-opening p q s v valid truth listening e h =
+    let d = s.sending in
     let r = s.receiving in
-    let z = offset r.next v.seq in
-    let steps = placed-agrees r.inbox z v.text (drop r.ordered q.accepted) h.takes.held lies in
-    let taken = takes-advance r q.endpoint.sending.iss q.accepted p.delivered (placed r.inbox z v.text) (advance_of (place_answer r.inbox z v.text)) limit h.takes steps in
-    record { config = h.config; peer_addr = h.peer_addr; peer_port = h.peer_port; iss = h.iss; ending = h.ending; sends = h.sends; takes = taken; between = h.between; further = omega (arith, h.further, h.takes.order, limit) }
+    let irs = q.endpoint.config.isn.0 in
+    let at = at-listen s.phase s.ending d.una d.nxt r.opened r.finished listening h.here.stays.stands in
+    kept-changed p q s _ h refl
+    (record {
+      config = h.here.stays.config;
+      closing = h.here.stays.closing;
+      stands = (at.0, record { nxt_is = refl; is_opened = refl; goes_on = (h.here.takes.unopened at.1.not_opened).2 });
+      peer = λ _. record { addr_is = refl; port = valid.src_port };
+      syn = λ _. refl;
+      ack = λ _. (refl, refl);
+      reset = h.here.stays.reset;
+    })
+    (sends-syn d p.accepted p.closed (gives_up s.ending) at.1.nxt_is h.here.sends)
+    (takes-syn r irs v.seq q.accepted q.closed p.delivered p.ended (gives_up s.ending) at.1.not_opened (syn-number p q v truth e) h.here.takes)
+    (omega arith) (λ _. refl) (omega arith)
 
--- where there is text at all
-kept-texted : (p q : PartyState) (s : State) (v : Content) → Kept p q s → q.endpoint.sending.iss < 2 ^ 32 → length q.accepted ≤ stream_limit → IsTruthful (witness_of q p) v → Kept p q (arrivals.text_taken s v)
-kept-texted p q s v h fits limit true_one =
-    cond_both (length v.text == 0) s (arrivals.with_text s v) (λ x. Kept p q x) (λ _. h)
-    (λ some.
-    let nonempty : 0 < length v.text = positive (length v.text) (eqb-false (length v.text) 0 some) in
-    let least : 1 ≤ true_one.position = position-of_text (witness_of q p) v true_one nonempty in
-    let fit : true_one.position + length v.text ≤ 1 + length q.accepted = true_one.fits nonempty in
-    kept-placed p q s v h limit
-    (lies-at q.endpoint.sending.iss s.receiving.ordered true_one.position s.receiving.next v.seq v.text q.accepted fits (omega (arith, h.takes.order, limit)) (omega (arith, fit, limit)) least h.takes.next true_one.seq (true_one.text nonempty)))
+-- in SYN-SENT
+kept-acceptance : (p q : PartyState) (s : State) (v : Content) → IsTruthful (witness_of q p) v → is_syn_sent s.phase ≡ true → has syn v.flags ≡ true → Kept p q s → Kept p q (after_acceptance s v)
+unfolding after_acceptance
+kept-acceptance p q s v truth sent e h =
+    let d = s.sending in
+    let r = s.receiving in
+    let irs = q.endpoint.config.isn.0 in
+    let at = at-syn_sent s.phase s.ending d.una d.nxt r.opened r.finished sent h.here.stays.stands in
+    kept-changed p q s _ h refl
+    (record {
+      config = h.here.stays.config;
+      closing = h.here.stays.closing;
+      stands = (at.0, record { least = omega (arith, at.1.nxt_is); is_opened = refl; goes_on = (h.here.takes.unopened at.1.not_opened).2 });
+      peer = λ _. h.here.stays.peer (syn_sent-knows s.phase sent);
+      syn = λ never. absurd (cc);
+      ack = λ _. (refl, refl);
+      reset = h.here.stays.reset;
+    })
+    (sends-syn_acked d p.accepted p.closed (gives_up s.ending) v.window v.seq v.ack at.1.nxt_is h.here.sends)
+    (takes-syn r irs v.seq q.accepted q.closed p.delivered p.ended (gives_up s.ending) at.1.not_opened (syn-number p q v truth e) h.here.takes)
+    (omega (arith, at.1.nxt_is)) (λ _. refl) (omega arith)
 
--- RECEIVING
-kept-received : (p q : PartyState) (s : State) (v : Content) → Kept p q s → s.sending.iss < 2 ^ 32 → q.endpoint.sending.iss < 2 ^ 32 → q.endpoint.receiving.ordered ≤ length p.accepted → length q.accepted ≤ stream_limit
-    → IsTruthful (witness_of q p) v → Kept p q (arrivals.after_receiving s v)
-unfolding arrivals.after_receiving
-kept-received p q s v h own_fits fits order limit true_one =
-    cond_both (not (has arrivals.ack v.flags)) s (if arrivals.acks_unsent s v then owing_ack s else arrivals.text_taken (arrivals.with_ack s v) v) (λ x. Kept p q x) (λ _. h)
-    (λ told.
-    let a = true_one.ack (not-false (has arrivals.ack v.flags) told) in
-    let number_is : v.ack ≡ number s.sending.iss a.position = a.number ∙ ap (λ n. number n a.position) (sym h.iss) in
-    cond_both (arrivals.acks_unsent s v) (owing_ack s) (arrivals.text_taken (arrivals.with_ack s v) v) (λ x. Kept p q x) (λ _. kept-owing p q s h)
-    (λ sent.
-    kept-texted p q (arrivals.with_ack s v) v
-    (subst (λ (n : ℕ). Kept p q (record s { sending = ack_taken s.sending v.seq n v.window })) (sym number_is)
-    (kept-acked p q s v.seq a.position v.window h own_fits a.most order (subst (λ (n : ℕ). is_beyond s.sending n ≡ false) number_is sent)))
-    fits limit true_one))
+-- WHAT ARRIVES: a segment that the peer emitted, which tells the truth unless it is a reset
+pub record Comes (p q : PartyState) (v : Content) : Type 0 where
+  pub valid : IsValid v
+  pub truthful : has rst v.flags ≡ false → IsTruthful (witness_of q p) v
+  pub near : next_position q ≤ 2 + stream_limit
+  pub limit : length q.accepted ≤ stream_limit
 
--- ANY TRUE SEGMENT
-pub kept-segment : (p q : PartyState) (src dst : List ℕ) (v : Content) → Pair p q → IsTruthful (witness_of q p) v → Kept p q (arrivals.after_segment p.endpoint src dst v)
-unfolding arrivals.after_segment arrivals.after_wanted
-kept-segment p q src dst v h true_one =
-    let s = p.endpoint in
-    let same : Kept p q s = kept-same p q h in
-    cond_both (arrivals.is_foreign s src dst v || arrivals.is_control v) s (arrivals.after_wanted s v) (λ x. Kept p q x) (λ _. same)
-    (λ _. cond_both (arrivals.is_wanted s v) (arrivals.after_receiving s v) (owing_ack s) (λ x. Kept p q x)
-    (λ _. kept-received p q s v same h.there.ranges.iss h.back.ranges.iss h.there.takes.order h.back.sends.limit true_one)
-    (λ _. kept-owing p q s same))
+-- a judgement under which the end stays sound
+abbrev pub Fair : PartyState → PartyState → State → Content → Judgement → Type 0
+Fair p q s v j = Kept p q (after_judgement j s q.endpoint.config.addr.0 v)
+
+-- an acknowledgement may be owed in the phases that aren't tested first
+fair-owing : (p q : PartyState) (s : State) → Kept p q s → IsPresent s → Kept p q (with_ack_owed s)
+fair-owing p q s h present =
+    kept-owing p q s (present-knows s.phase present.shut present.listening)
+    (present-opened s.phase s.ending s.sending.una s.sending.nxt s.receiving.opened s.receiving.finished present.shut present.listening present.syn_sent h.here.stays.stands) h
+
+-- the acknowledgement of a segment that tells the truth
+pub ack-is : (p q : PartyState) (s : State) (v : Content) → Kept p q s → (c : Comes p q v) (told : IsAckOnly v) → IsAck s v ((c.truthful told.plain).has_ack told.told).position
+ack-is p q s v h c told =
+    let a = (c.truthful told.plain).has_ack told.told in
+    record { number = a.number ∙ ap (λ n. number n a.position) (sym h.grows.iss); small = omega (arith, a.most, c.near) }
+
+fair-taken : (p q : PartyState) (s : State) (v : Content) → Comes p q v → Kept p q s → IsPresent s → IsAckOnly v → Fair p q s v Taken
+fair-taken p q s v c h present told =
+    let truth = c.truthful told.plain in
+    let a = truth.has_ack told.told in
+    kept-taking p q s v a.position (ack-is p q s v h c told) a.most c.near c.limit truth present h
+
+fair-taken_shut : (p q : PartyState) (s : State) (v : Content) → Comes p q v → Kept p q s → IsPresent s → IsAckOnly v → Fair p q s v TakenShut
+fair-taken_shut p q s v c h present told =
+    let a = (c.truthful told.plain).has_ack told.told in
+    kept-taking_shut p q s v a.position (ack-is p q s v h c told) a.most c.near present h
+
+fair-refused_shut : (p q : PartyState) (s : State) (v : Content) → Comes p q v → Kept p q s → IsPresent s → Fair p q s v HandshakeRefusedShut
+fair-refused_shut p q s v c h present =
+    let reset = reset_at_ack q.endpoint.config.addr.0 v in
+    let waits : Kept p q (with_reset s reset) = kept-reset p q s reset (sendable-at_ack q.endpoint.config.addr.0 v c.valid) h in
+    fair-owing p q (with_reset s reset) waits (record { shut = present.shut; listening = present.listening; syn_sent = present.syn_sent })
+
+pub fair-judgement : (p q : PartyState) (s : State) (dst : List ℕ) (v : Content) → Comes p q v → Kept p q s → Fair p q s v (judgement s q.endpoint.config.addr.0 dst v)
+fair-judgement p q s dst v c h =
+    let src = q.endpoint.config.addr.0 in
+    let owing = fair-owing p q s h in
+    let resets : Kept p q s → Kept p q (with_reset s (reset_at_ack src v)) = kept-reset p q s (reset_at_ack src v) (sendable-at_ack src v c.valid) in
+    judged s v (Fair p q s v) (record {
+      foreign = h;
+      reset_ignored = h;
+      stray = kept-reset p q s (reset_of_stray src v) (sendable-stray src v c.valid) h;
+      ack_of_listen = resets h;
+      no_syn = h;
+      peer_opens = λ listening is. kept-opening p q s v c.valid (c.truthful is.plain) listening is.told h;
+      ack_of_no_syn = resets h;
+      peer_refuses = kept-given_up p q s Reset refl h;
+      peer_accepts = λ sent is. kept-acceptance p q s v (c.truthful is.plain) sent is.told h;
+      unacceptable = owing;
+      peer_resets = kept-given_up p q s Reset refl h;
+      reset_elsewhere = owing;
+      syn_in_window = owing;
+      no_ack = h;
+      acks_unsent = owing;
+      handshake_refused = resets h;
+      handshake_refused_shut = fair-refused_shut p q s v c h;
+      taken = fair-taken p q s v c h;
+      taken_shut = fair-taken_shut p q s v c h;
+    }) src dst

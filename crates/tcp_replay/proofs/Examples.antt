@@ -1,55 +1,75 @@
--- The worked run on the definitions: a text that is damaged, sent again, delivered twice and acknowledged.
-use Rattle.std.proofs.Common.{◌≡◌, [], ◌∷◌, length, refl}
-use Rattle.tcp_wire.specs.Wire.{encoded}
-use Rattle.tcp_wire.specs.Decoded.{decoded, laid_out, options_in, option_at, padding_at}
-use Rattle.tcp_sendq.specs.SendQueue as queues
-use Rattle.tcp_reasm.specs.Reassembly.{placed, place_answer, ranked, after_read}
+-- A whole connection on the definitions: the handshake, three bytes each way, and an orderly close (RFC 9293, 3.5 and 3.6).
+use Rattle.std.proofs.Common.{◌≡◌, [], ◌∷◌, ◌++◌, List, length, refl}
+use Rattle.std.specs.Prelude.{true, false, None}
+use Rattle.tcp_wire.specs.Position.{position_of, offset}
+use Rattle.tcp_wire.specs.Wire.{encoded_bytes}
+use Rattle.tcp_wire.specs.Decoded.{decode_answer, layout_of, options_in, option_at, padding_at}
+use Rattle.tcp_sendq.specs.SendQueue.{next_unmarked, without_marks, after_mark, can_mark}
+use Rattle.tcp_reasm.specs.Reassembly.{after_place, place_answer, with_ranks, after_read, blocks, runs_newest_first}
 use Rattle.tcp_conn.specs.declared.config.Config.{Config}
-use Rattle.tcp_conn.specs.declared.phase.Timer.TheVariants.{Retransmit}
-use Rattle.tcp_conn.specs.Acceptable.{is_acceptable, offset}
-use Rattle.tcp_conn.specs.Sender.{is_beyond, is_old, count_acked, acknowledged, window_updated, ack_taken}
-use Rattle.tcp_conn.specs.Receiver.{text_placed}
-use Rattle.tcp_conn.specs.Arrival.{is_foreign, receiving_answer, after_receiving, wanted_answer, after_wanted, segment_answer, after_segment, arrival_answer, after_arrival}
-use Rattle.tcp_conn.specs.Emission.{due_of, segment_of, bytes_of, emitted, after_emission}
-use Rattle.tcp_replay.specs.World.{PartyState, new_party, user_sends, user_receives, timer_fires, emits, takes_in, segment_at, damaged}
+use Rattle.tcp_conn.specs.declared.phase.Ending.TheVariants.{Orderly}
+use Rattle.tcp_conn.specs.declared.phase.Timer.TheVariants.{TimeWait}
+use Rattle.tcp_conn.specs.Acceptable.{is_acceptable}
+use Rattle.tcp_conn.specs.Link.{link_of}
+use Rattle.tcp_conn.specs.Sender.{after_ack, after_window_update, after_block}
+use Rattle.tcp_conn.specs.Receiver.{after_text}
+use Rattle.tcp_conn.specs.Calls.{after_connect, after_listen, after_send, after_receive, after_close, after_time_wait}
+use Rattle.tcp_conn.specs.Judgement.{is_foreign, closed_judgement, listen_judgement, syn_sent_judgement, ack_judgement, unacceptable_judgement, acceptable_judgement, present_judgement, phase_judgement, judgement}
+use Rattle.tcp_conn.specs.Arrival.{after_opening, after_acceptance, after_own_syn, after_acked_text, after_news, after_own_fin, after_its_ack, after_its_text, after_fin, after_taking, arrival_answer, after_arrival}
+use Rattle.tcp_conn.specs.Emission.{resend_of, new_text_of, due_of, segment_of, bytes_of, emitted_bytes, after_emission}
+use Rattle.tcp_replay.specs.declared.event.Side.TheVariants.{A, B}
+use Rattle.tcp_replay.specs.Events.{EventContent, Connect, Listen, Send, Receive, Close, Timer, Emit, Deliver}
+use Rattle.tcp_replay.specs.World.{WorldState, new_world, party_after_connect, party_after_listen, party_after_send, party_after_receive, party_after_close, party_after_timer, party_after_emission, party_after_arrival, effect_of, world_behind_all, stop_of}
 
 a : Config
-a = record { addr = record { 0 = 10 ∷ 0 ∷ 0 ∷ 1 ∷ [] }; port = 1; isn = record { 0 = 1000 }; mss = 1460; send_capacity = 40; recv_capacity = 40 }
+a = record { addr = record { 0 = 10 ∷ 0 ∷ 0 ∷ 1 ∷ [] }; port = 1; isn = record { 0 = 1000 }; mss = 1460; send_capacity = 40; recv_capacity = 40; window_shift = None; sack = true }
 
 b : Config
-b = record { addr = record { 0 = 10 ∷ 0 ∷ 0 ∷ 2 ∷ [] }; port = 2; isn = record { 0 = 5000 }; mss = 1460; send_capacity = 40; recv_capacity = 40 }
+b = record { addr = record { 0 = 10 ∷ 0 ∷ 0 ∷ 2 ∷ [] }; port = 2; isn = record { 0 = 5000 }; mss = 1460; send_capacity = 40; recv_capacity = 40; window_shift = None; sack = true }
 
--- event by event
-a1 : PartyState
-a1 = emits (user_sends (new_party a b) (97 ∷ 98 ∷ 99 ∷ []))
+handshake : List EventContent
+handshake = Listen B ∷ Connect A ∷ Emit A ∷ Deliver A 0 ∷ Emit B ∷ Deliver B 0 ∷ Emit A ∷ Deliver A 1 ∷ []
 
-b1 : PartyState
-b1 = user_receives (takes_in (new_party b a) a1 (damaged (segment_at a1 0) 20 1)) 10
+events : List EventContent
+events =
+    handshake
+    ++ Send A (97 ∷ 98 ∷ 99 ∷ []) ∷ Send B (100 ∷ 101 ∷ 102 ∷ []) ∷ Emit A ∷ Deliver A 2 ∷ Emit B ∷ Deliver B 1 ∷ Receive B 10 ∷ Receive A 10 ∷ Emit A ∷ Deliver A 3
+    ∷ Close A ∷ Emit A ∷ Deliver A 4 ∷ Emit B ∷ Deliver B 2 ∷ Receive B 10 ∷ Close B ∷ Emit B ∷ Deliver B 3 ∷ Emit A ∷ Deliver A 5 ∷ Timer A TimeWait ∷ []
 
-a2 : PartyState
-a2 = emits (timer_fires a1 Retransmit)
+behind : WorldState
+behind = world_behind_all (new_world a b) events
 
-b2 : PartyState
-b2 = emits (takes_in (takes_in b1 a2 (segment_at a2 1)) a2 (segment_at a2 0))
+-- each has what the other sent, both ended in order, and nothing was refused
+record IsWhole : Type 0 where
+  at_b : behind.b.delivered ≡ 97 ∷ 98 ∷ 99 ∷ []
+  at_a : behind.a.delivered ≡ 100 ∷ 101 ∷ 102 ∷ []
+  a_ended : behind.a.endpoint.ending ≡ Orderly
+  b_ended : behind.b.endpoint.ending ≡ Orderly
+  b_told : behind.b.ended ≡ true
+  a_untold : behind.a.ended ≡ false
+  a_sent : length behind.a.sent ≡ 6
+  b_sent : length behind.b.sent ≡ 4
+  none_refused : stop_of (new_world a b) events ≡ None
 
-a3 : PartyState
-a3 = emits (takes_in a2 b2 (segment_at b2 0))
+whole : IsWhole
+unfolding a b handshake events behind stop_of world_behind_all effect_of party_after_connect party_after_listen party_after_send party_after_receive party_after_close party_after_timer party_after_emission party_after_arrival after_connect after_listen after_send after_receive after_close after_time_wait encoded_bytes decode_answer layout_of options_in option_at padding_at position_of offset next_unmarked without_marks after_place place_answer with_ranks after_read blocks runs_newest_first is_acceptable link_of after_ack after_window_update after_block after_text is_foreign closed_judgement listen_judgement syn_sent_judgement ack_judgement unacceptable_judgement acceptable_judgement present_judgement phase_judgement judgement after_opening after_acceptance after_own_syn after_acked_text after_news after_own_fin after_its_ack after_its_text after_fin after_taking arrival_answer after_arrival resend_of new_text_of due_of segment_of bytes_of emitted_bytes after_emission
+whole = record { at_b = refl; at_a = refl; a_ended = refl; b_ended = refl; b_told = refl; a_untold = refl; a_sent = refl; b_sent = refl; none_refused = refl }
 
-b3 : PartyState
-b3 = user_receives b2 10
+-- a text that came early is held, told as a block, and comes in order behind the one before it
+behind_gap : WorldState
+behind_gap = world_behind_all (new_world a b) (handshake ++ Send A (97 ∷ []) ∷ Emit A ∷ Send A (98 ∷ []) ∷ Emit A ∷ Deliver A 3 ∷ Emit B ∷ Deliver B 1 ∷ [])
 
-damage-found : b1.delivered ≡ []
-unfolding a b a1 b1 encoded decoded laid_out options_in option_at padding_at queues.unmarked placed place_answer ranked after_read is_acceptable offset is_beyond is_old count_acked acknowledged window_updated ack_taken text_placed is_foreign receiving_answer after_receiving wanted_answer after_wanted segment_answer after_segment arrival_answer after_arrival due_of segment_of bytes_of emitted after_emission user_sends user_receives emits takes_in
-damage-found = refl
+behind_both : WorldState
+behind_both = world_behind_all behind_gap (Deliver A 2 ∷ Emit B ∷ Deliver B 2 ∷ [])
 
-text-delivered : b3.delivered ≡ 97 ∷ 98 ∷ 99 ∷ []
-unfolding a b a1 b1 a2 b2 b3 encoded decoded laid_out options_in option_at padding_at queues.unmarked placed place_answer ranked after_read is_acceptable offset is_beyond is_old count_acked acknowledged window_updated ack_taken text_placed is_foreign receiving_answer after_receiving wanted_answer after_wanted segment_answer after_segment arrival_answer after_arrival due_of segment_of bytes_of emitted after_emission user_sends user_receives emits takes_in
-text-delivered = refl
+record IsFilled : Type 0 where
+  none_unread : behind_gap.b.endpoint.receiving.inbox.unread ≡ []
+  one_held : blocks behind_gap.b.endpoint.receiving.inbox ≡ (1, 2) ∷ []
+  one_marked : behind_gap.a.endpoint.sending.queue.marks ≡ false ∷ true ∷ []
+  none_released : behind_gap.a.endpoint.sending.released ≡ 0
+  both_unread : behind_both.b.endpoint.receiving.inbox.unread ≡ 97 ∷ 98 ∷ []
+  both_released : behind_both.a.endpoint.sending.released ≡ 2
 
-all-released : a3.endpoint.sending.released ≡ 3
-unfolding a b a1 b1 a2 b2 a3 encoded decoded laid_out options_in option_at padding_at queues.unmarked placed place_answer ranked after_read is_acceptable offset is_beyond is_old count_acked acknowledged window_updated ack_taken text_placed is_foreign receiving_answer after_receiving wanted_answer after_wanted segment_answer after_segment arrival_answer after_arrival due_of segment_of bytes_of emitted after_emission user_sends user_receives emits takes_in
-all-released = refl
-
-nothing-more : length a3.sent ≡ 2
-unfolding a b a1 b1 a2 b2 a3 encoded decoded laid_out options_in option_at padding_at queues.unmarked placed place_answer ranked after_read is_acceptable offset is_beyond is_old count_acked acknowledged window_updated ack_taken text_placed is_foreign receiving_answer after_receiving wanted_answer after_wanted segment_answer after_segment arrival_answer after_arrival due_of segment_of bytes_of emitted after_emission user_sends user_receives emits takes_in
-nothing-more = refl
+filled : IsFilled
+unfolding a b handshake behind_gap behind_both world_behind_all effect_of party_after_connect party_after_listen party_after_send party_after_receive party_after_close party_after_timer party_after_emission party_after_arrival after_connect after_listen after_send after_receive after_close after_time_wait encoded_bytes decode_answer layout_of options_in option_at padding_at position_of offset next_unmarked without_marks after_mark can_mark after_place place_answer with_ranks after_read blocks runs_newest_first is_acceptable link_of after_ack after_window_update after_block after_text is_foreign closed_judgement listen_judgement syn_sent_judgement ack_judgement unacceptable_judgement acceptable_judgement present_judgement phase_judgement judgement after_opening after_acceptance after_own_syn after_acked_text after_news after_own_fin after_its_ack after_its_text after_fin after_taking arrival_answer after_arrival resend_of new_text_of due_of segment_of bytes_of emitted_bytes after_emission
+filled = record { none_unread = refl; one_held = refl; one_marked = refl; none_released = refl; both_unread = refl; both_released = refl }

@@ -1,145 +1,263 @@
 -- The moves of one half of a direction: what each does to the bytes that were accepted, queued, held and
 -- delivered.
-use Rattle.std.proofs.Common.{◌≡◌, ℕ, zero, suc, ◌+◌, ◌-◌, ◌%◌, ◌^◌, ◌≤◌, List, [], ◌∷◌, ◌++◌, length, take, drop, refl, sym, ◌∙◌, ap, ⊎_elim, arith, append_assoc, length-append, length-take, length-drop, take-append-drop}
-use Rattle.std.specs.Prelude.{min, Option, Some, None}
-use Rattle.std.proofs.lemmas.List.{take_all, take-append-le, drop-append-le, drop-drop, take_min, get_or-take, get_or-drop, get_or_past, get_or_append_left, get_or-append_right}
-use Rattle.std.proofs.lemmas.Bool.{cases_lt}
+use Rattle.std.proofs.Common.{◌≡◌, ℕ, ◌+◌, ◌-◌, ◌<◌, ◌≤◌, List, [], ◌++◌, length, take, drop, refl, sym, ◌∙◌, ap, ⊎_elim, arith, append_assoc, append-nil, length-append, length-take, length-drop, take-append-drop}
+use Rattle.std.specs.Prelude.{min, max, Bool, true, false, ◌||◌, if◌then◌else◌, replicate, Option, Some, None, IfSome}
+use Rattle.std.proofs.lemmas.List.{take_all, take-append-le, drop-append-le, drop-drop, take_min, length-replicate}
+use Rattle.std.proofs.lemmas.Bool.{or_cases}
 use Rattle.tcp_wire.specs.Position.{number}
 use Rattle.tcp_wire.specs.Checksum.{AreBytes}
 use Rattle.tcp_sendq.specs.SendQueue as queues
-use Rattle.tcp_reasm.specs.Reassembly.{Inbox, Cell, after_read}
-use Rattle.tcp_reasm.specs.Agreement.{Agrees, Advances}
-use Rattle.tcp_reasm.proofs.Agreement.{after_read-agrees}
+use Rattle.tcp_reasm.specs.Reassembly.{Inbox, after_read}
+use Rattle.tcp_reasm.specs.Agreement.{Advances}
+use Rattle.tcp_reasm.proofs.Agreement.{after_read-agrees, without_held-agrees, empty_inbox-agrees}
 use Rattle.std.specs.declared.ops.Range.{Range}
 use Rattle.tcp_conn.specs.State.{Sending, Receiving}
-use Rattle.tcp_conn.specs.Receiver.{most_ordered, with_inbox, handed_over}
-use Rattle.tcp_conn.specs.Sender.{stream_limit, count_sendable, extended, timed_out, advanced}
+use Rattle.tcp_conn.specs.Receiver.{max_ordered, with_inbox, with_fin, with_syn, after_handing, without_bytes}
+use Rattle.tcp_conn.specs.Sender.{stream_limit, count_sendable, with_text, with_syn_sent, with_acked, count_below, without_text}
 use Rattle.tcp_replay.specs.Sound.{Sends, Takes}
+use Rattle.tcp_replay.proofs.Lists.{one_if, one_if-false, AreBytes-append, AreBytes-take, Agrees-more, take-none, take-further, front-is, nothing-follows}
+use Rattle.tcp_replay.proofs.Positions.{number-further}
 
--- bytes in front of bytes
-pub AreBytes-append : (xs ys : List ℕ) → AreBytes xs → AreBytes ys → AreBytes (xs ++ ys)
-AreBytes-append xs ys left right i =
-    ⊎_elim (λ less. rw (get_or_append_left xs ys 0 i less) (left i))
-    (λ more. rw (get_or-append_right xs ys (length xs) i 0 refl more) (right (i - length xs))) (cases_lt i (length xs))
+-- THE HALF THAT SENDS. A range ends no later where the bound is higher.
+pub range-more : (m n : ℕ) (range : Option (Range ℕ)) → m ≤ n → IfSome range (λ r. r.end ≤ m) → IfSome range (λ r. r.end ≤ n)
+range-more m n None more h = tt
+range-more m n (Some range) more h = omega arith
 
-take-short : (n : ℕ) (xs : List ℕ) (i : ℕ) → n ≤ i → length (take n xs) ≤ i
-take-short n xs i more = omega (arith, length-take n xs)
-
-pub AreBytes-take : (n : ℕ) (xs : List ℕ) → AreBytes xs → AreBytes (take n xs)
-AreBytes-take n xs h i =
-    ⊎_elim (λ less. rw (get_or-take n xs i 0 less) (h i))
-    (λ more. rw (get_or_past (take n xs) i 0 (take-short n xs i more)) (omega arith)) (cases_lt i n)
-
-pub AreBytes-drop : (n : ℕ) (xs : List ℕ) → AreBytes xs → AreBytes (drop n xs)
-AreBytes-drop n xs h i = rw (get_or-drop n xs i 0) (h (n + i))
-
--- a stream that grows still agrees with what is held
-Agrees-more : (held : List (Option Cell)) (rest more : List ℕ) → Agrees held rest → Agrees held (rest ++ more)
-Agrees-more [] rest more h = tt
-Agrees-more (None ∷ places) [] [] h = h
-Agrees-more (None ∷ places) [] (byte ∷ more) h = Agrees-more places [] more h
-Agrees-more (None ∷ places) (byte ∷ rest) more h = Agrees-more places rest more h
-Agrees-more (Some cell ∷ places) [] more h = absurd h
-Agrees-more (Some cell ∷ places) (byte ∷ rest) more h = (h.0, Agrees-more places rest more h.1)
-
-pub take-none : (n : ℕ) → take {A = ℕ} n [] ≡ []
-take-none zero = refl
-take-none (suc n) = refl
-
--- a front, and what follows it
-pub take-further : (m n : ℕ) (xs : List ℕ) → take m xs ++ take n (drop m xs) ≡ take (m + n) xs
-take-further zero n xs = let e : n ≡ zero + n = omega arith in ap (λ k. take k xs) e
-take-further (suc m) zero [] = sym (take-none (suc m + 0))
-take-further (suc m) (suc n) [] = sym (take-none (suc m + suc n))
-take-further (suc m) n (x ∷ xs) = ap (λ ys. x ∷ ys) (take-further m n xs) ∙ (let e : suc (m + n) ≡ suc m + n = omega arith in ap (λ k. take k (x ∷ xs)) e)
-
-next-moves : (next irs p n count ordered : ℕ) → next ≡ number irs p → count ≡ n → ordered ≡ (p - 1) + n → 1 ≤ p → (next + count) % 2 ^ 32 ≡ number irs (1 + ordered)
-next-moves next irs p n count ordered h e f least = omega arith
-
--- THE SENDING HALF
+-- the queue takes the whole front that the direction takes
 count_sendable-room : (s : Sending) (text : List ℕ) → length (take (count_sendable s text) text) ≤ queues.count_taken s.queue (take (count_sendable s text) text)
 count_sendable-room s text = omega (arith, length-take (count_sendable s text) text)
 
--- the queue takes the whole front that the direction takes
-pub extended-queue : (s : Sending) (text : List ℕ) → (extended s text).queue.bytes ≡ s.queue.bytes ++ take (count_sendable s text) text
-extended-queue s text =
+with_text-queue : (s : Sending) (text : List ℕ) → (with_text s text).queue.bytes ≡ s.queue.bytes ++ take (count_sendable s text) text
+with_text-queue s text =
     ap (λ more. s.queue.bytes ++ more) (take_all (queues.count_taken s.queue (take (count_sendable s text) text)) (take (count_sendable s text) text) (count_sendable-room s text))
 
-pub sends-more : (s : Sending) (accepted text : List ℕ) → AreBytes text → Sends s accepted → Sends (extended s text) (accepted ++ take (count_sendable s text) text)
+with_text-flags : (s : Sending) (text : List ℕ) → length s.queue.marks ≡ length s.queue.bytes → length (with_text s text).queue.marks ≡ length (with_text s text).queue.bytes
+with_text-flags s text h =
+    let taken = take (count_sendable s text) text in
+    let n = queues.count_taken s.queue taken in
+    omega (arith, h, length-append s.queue.marks (replicate n false), length-replicate n false, length-append s.queue.bytes (take n taken), length-take n taken)
+
+-- more text is accepted
+pub sends-more : (s : Sending) (accepted text : List ℕ) → AreBytes text → Sends s accepted false false → Sends (with_text s text) (accepted ++ take (count_sendable s text) text) false false
 sends-more s accepted text bytes h =
     let more = take (count_sendable s text) text in
     let longer : length (accepted ++ more) ≡ length accepted + length more = length-append accepted more in
-    let count : length s.queue.bytes ≡ length accepted - s.released = ap length h.queue ∙ length-drop s.released accepted in
+    let inside : s.released ≤ length accepted = omega (arith, h.released) in
+    let count : length s.queue.bytes ≡ length accepted - s.released = ap length (h.queue refl) ∙ length-drop s.released accepted in
     record {
-      una = h.una;
       order = h.order;
-      nxt = omega (arith, h.nxt, longer);
-      limit = omega (arith, h.limit, h.released, longer, count, length-take (count_sendable s text) text);
-      released = omega (arith, h.released, longer);
-      queue = extended-queue s text ∙ ap (λ kept. kept ++ more) h.queue ∙ sym (drop-append-le s.released accepted more h.released);
+      most = omega (arith, h.most, longer);
+      limit = omega (arith, h.limit, inside, longer, count, length-take (count_sendable s text) text);
       bytes = AreBytes-append accepted more h.bytes (AreBytes-take (count_sendable s text) text bytes);
+      released = omega (arith, h.released, h.order, h.most, longer);
+      queue = λ _. with_text-queue s text ∙ ap (λ kept. kept ++ more) (h.queue refl) ∙ sym (drop-append-le s.released accepted more inside);
+      flags = with_text-flags s text h.flags;
+      range = range-more (max s.nxt (1 + length accepted)) (max s.nxt (1 + length (accepted ++ more))) s.resend (omega (arith, longer)) h.range;
     }
 
-pub sends-timed_out : (s : Sending) (accepted : List ℕ) → Sends s accepted → Sends (timed_out s) accepted
-unfolding queues.unmarked
-sends-timed_out s accepted h = record { una = h.una; order = h.order; nxt = h.nxt; limit = h.limit; released = h.released; queue = h.queue; bytes = h.bytes }
+-- the SYN is on its way
+pub sends-syn : (s : Sending) (accepted : List ℕ) (closed gone : Bool) → s.nxt ≡ 0 → Sends s accepted closed gone → Sends (with_syn_sent s) accepted closed gone
+sends-syn s accepted closed gone none h = record {
+  order = omega arith;
+  most = omega arith;
+  limit = h.limit;
+  bytes = h.bytes;
+  released = omega (arith, h.released, h.order);
+  queue = h.queue;
+  flags = h.flags;
+  range = range-more (max s.nxt (1 + length accepted)) (max 1 (1 + length accepted)) s.resend (omega arith) h.range;
+}
 
--- n positions more are acknowledged, all of which were sent
-pub sends-advanced : (s : Sending) (accepted : List ℕ) (n : ℕ) → s.una + n ≤ s.nxt → Sends s accepted → Sends (advanced s n) accepted
-sends-advanced s accepted n sent h =
+-- and it is acknowledged
+pub sends-syn_acked : (s : Sending) (accepted : List ℕ) (closed gone : Bool) (wnd wl1 wl2 : ℕ) → s.nxt ≡ 1 → Sends s accepted closed gone
+    → Sends (record s { una = s.nxt; wnd = wnd; wl1 = wl1; wl2 = wl2 }) accepted closed gone
+sends-syn_acked s accepted closed gone wnd wl1 wl2 one h = record {
+  order = omega arith;
+  most = h.most;
+  limit = h.limit;
+  bytes = h.bytes;
+  released = omega (arith, h.released, h.order);
+  queue = h.queue;
+  flags = h.flags;
+  range = h.range;
+}
+
+-- a close: the FIN may follow
+pub sends-closed : (s : Sending) (accepted : List ℕ) (closed gone : Bool) → Sends s accepted closed gone → Sends s accepted true gone
+sends-closed s accepted true gone h = h
+sends-closed s accepted false gone h = record { order = h.order; most = omega (arith, h.most); limit = h.limit; bytes = h.bytes; released = h.released; queue = h.queue; flags = h.flags; range = h.range }
+
+-- a position that was sent is acknowledged, and what stands below it released
+pub sends-acked : (s : Sending) (accepted : List ℕ) (closed : Bool) (a : ℕ) → s.una < a → a ≤ s.nxt → Sends s accepted closed false → Sends (with_acked s a) accepted closed false
+sends-acked s accepted closed a new sent h =
+    let inside : s.released ≤ length accepted = omega (arith, h.released) in
+    let count : length s.queue.bytes ≡ length accepted - s.released = ap length (h.queue refl) ∙ length-drop s.released accepted in
     record {
-      una = omega (arith, h.una);
       order = sent;
-      nxt = h.nxt;
+      most = h.most;
       limit = h.limit;
-      released = omega (arith, h.una, h.nxt);
-      queue = ap (drop n) h.queue ∙ drop-drop n s.released accepted;
       bytes = h.bytes;
+      released = omega (arith, h.released, count, inside, new);
+      queue = λ _. ap (drop (count_below s a)) (h.queue refl) ∙ drop-drop (count_below s a) s.released accepted;
+      flags = length-drop (count_below s a) s.queue.marks ∙ ap (λ n. n - count_below s a) h.flags ∙ sym (length-drop (count_below s a) s.queue.bytes);
+      range = h.range;
     }
 
--- the window is no part of it
-pub sends-window : (s : Sending) (accepted : List ℕ) (wnd wl1 wl2 : ℕ) → Sends s accepted → Sends (record s { wnd = wnd; wl1 = wl1; wl2 = wl2 }) accepted
-sends-window s accepted wnd wl1 wl2 h = record { una = h.una; order = h.order; nxt = h.nxt; limit = h.limit; released = h.released; queue = h.queue; bytes = h.bytes }
+-- a reset or an abort gives the queue up
+pub sends-given_up : (s : Sending) (accepted : List ℕ) (closed gone : Bool) → Sends s accepted closed gone → Sends (without_text s) accepted closed true
+sends-given_up s accepted closed gone h = record {
+  order = h.order;
+  most = h.most;
+  limit = h.limit;
+  bytes = h.bytes;
+  released = h.released;
+  queue = λ never. absurd (cc);
+  flags = length-drop (length s.queue.bytes) s.queue.marks ∙ ap (λ n. n - length s.queue.bytes) h.flags ∙ sym (length-drop (length s.queue.bytes) s.queue.bytes);
+  range = tt;
+}
 
--- SND.NXT moves behind text of the queue
-pub sends-sent : (s : Sending) (accepted : List ℕ) (n : ℕ) → s.nxt ≤ n → n ≤ 1 + length accepted → Sends s accepted → Sends (record s { nxt = n }) accepted
-sends-sent s accepted n further within h = record { una = h.una; order = omega (arith, h.order); nxt = within; limit = h.limit; released = h.released; queue = h.queue; bytes = h.bytes }
+-- SND.NXT moves on, and the range
+pub sends-sent : (s : Sending) (accepted : List ℕ) (closed gone : Bool) (n : ℕ) (resend : Option (Range ℕ)) → s.nxt ≤ n → n ≤ 1 + length accepted + (if closed then 1 else 0)
+    → IfSome resend (λ r. r.end ≤ max n (1 + length accepted)) → Sends s accepted closed gone → Sends (record s { nxt = n; resend = resend }) accepted closed gone
+sends-sent s accepted closed gone n resend further within range h =
+    record { order = omega (arith, h.order); most = within; limit = h.limit; bytes = h.bytes; released = h.released; queue = h.queue; flags = h.flags; range = range }
 
--- what goes out again is no part of it
-pub sends-resend : (s : Sending) (accepted : List ℕ) (resend : Option (Range ℕ)) → Sends s accepted → Sends (record s { resend = resend }) accepted
-sends-resend s accepted resend h = record { una = h.una; order = h.order; nxt = h.nxt; limit = h.limit; released = h.released; queue = h.queue; bytes = h.bytes }
-
--- THE RECEIVING HALF
-pub takes-more : (r : Receiving) (irs : ℕ) (accepted delivered more : List ℕ) → Takes r irs accepted delivered → Takes r irs (accepted ++ more) delivered
-takes-more r irs accepted delivered more h =
+-- THE HALF THAT RECEIVES. More is accepted at the other end, or it closes.
+pub takes-more : (r : Receiving) (irs : ℕ) (accepted : List ℕ) (closed closed' : Bool) (delivered more : List ℕ) (ended gone : Bool) → (closed ≡ true → (more ≡ []) × (closed' ≡ true))
+    → Takes r irs accepted closed delivered ended gone → Takes r irs (accepted ++ more) closed' delivered ended gone
+takes-more r irs accepted closed closed' delivered more ended gone fixed h =
+    let same : closed ≡ true → accepted ≡ accepted ++ more = λ e. sym (ap (λ xs. accepted ++ xs) (fixed e).0 ∙ append-nil accepted) in
     record {
       next = h.next;
+      unopened = h.unopened;
       order = omega (arith, h.order, length-append accepted more);
-      handed = h.handed ∙ sym (take-append-le r.ordered accepted more h.order);
+      fin = λ e. ((fixed (h.fin e).0).1, (h.fin e).1 ∙ ap length (same (h.fin e).0));
+      count = h.count;
+      handed = h.handed ∙ sym (take-append-le h.count accepted more (omega (arith, h.least, h.order)));
+      least = h.least;
+      whole = h.whole;
       held = rw (drop-append-le r.ordered accepted more h.order) (Agrees-more r.inbox.held (drop r.ordered accepted) more h.held);
+      told = λ e. ((fixed (h.told e).0).1, (h.told e).1 ∙ same (h.told e).0);
     }
 
-pub takes-read : (r : Receiving) (irs : ℕ) (accepted delivered : List ℕ) (n : ℕ) → Takes r irs accepted delivered → Takes (handed_over r n) irs accepted (delivered ++ take (min n (length r.inbox.unread)) r.inbox.unread)
+-- the peer's SYN is taken
+pub takes-syn : (r : Receiving) (irs seq : ℕ) (accepted : List ℕ) (closed : Bool) (delivered : List ℕ) (ended gone : Bool) → r.opened ≡ false → seq ≡ number irs 0
+    → Takes r irs accepted closed delivered ended gone → Takes (with_syn r seq) irs accepted closed delivered ended gone
+takes-syn r irs seq accepted closed delivered ended gone e is h =
+    let none = h.unopened e in
+    let fin : one_if r.finished ≡ 0 = one_if-false r.finished none.2 in
+    record {
+      next = λ _. omega (arith, is, none.1, fin);
+      unopened = λ never. absurd (cc);
+      order = h.order;
+      fin = h.fin;
+      count = h.count;
+      handed = h.handed;
+      least = h.least;
+      whole = h.whole;
+      held = h.held;
+      told = h.told;
+    }
+
+-- the user reads
+pub takes-read : (r : Receiving) (irs : ℕ) (accepted : List ℕ) (closed : Bool) (delivered : List ℕ) (ended gone : Bool) (n : ℕ)
+    → Takes r irs accepted closed delivered ended gone → Takes (after_handing r n) irs accepted closed (delivered ++ take (min n (length r.inbox.unread)) r.inbox.unread) ended gone
 unfolding after_read
-takes-read r irs accepted delivered n h =
+takes-read r irs accepted closed delivered ended gone n h =
+    let unread = r.inbox.unread in
     record {
       next = h.next;
+      unopened = h.unopened;
       order = h.order;
-      handed = append_assoc delivered (take (min n (length r.inbox.unread)) r.inbox.unread) (drop n r.inbox.unread)
-          ∙ ap (λ xs. delivered ++ xs) (ap (λ xs. xs ++ drop n r.inbox.unread) (take_min n r.inbox.unread) ∙ take-append-drop n r.inbox.unread) ∙ h.handed;
+      fin = h.fin;
+      count = h.count;
+      handed = append_assoc delivered (take (min n (length unread)) unread) (drop n unread)
+          ∙ ap (λ xs. delivered ++ xs) (ap (λ xs. xs ++ drop n unread) (take_min n unread) ∙ take-append-drop n unread) ∙ h.handed;
+      least = h.least;
+      whole = h.whole;
       held = after_read-agrees r.inbox n (drop r.ordered accepted) h.held;
+      told = λ e.
+          let none : unread ≡ [] = nothing-follows delivered unread accepted h.count h.handed (h.told e).1 in
+          ((h.told e).0, ap (λ xs. delivered ++ xs) (ap (take (min n (length unread))) none ∙ take-none (min n (length unread))) ∙ append-nil delivered ∙ (h.told e).1);
+    }
+
+-- the end of the stream is told, behind the FIN, where nothing is unread
+pub takes-told : (r : Receiving) (irs : ℕ) (accepted : List ℕ) (closed : Bool) (delivered : List ℕ) (ended gone tells : Bool) → (tells ≡ true → (r.finished ≡ true) × (r.inbox.unread ≡ [])) → gone ≡ false
+    → Takes r irs accepted closed delivered ended gone → Takes r irs accepted closed delivered (ended || tells) gone
+takes-told r irs accepted closed delivered ended gone tells only stays h =
+    record {
+      next = h.next;
+      unopened = h.unopened;
+      order = h.order;
+      fin = h.fin;
+      count = h.count;
+      handed = h.handed;
+      least = h.least;
+      whole = h.whole;
+      held = h.held;
+      told = λ e. ⊎_elim h.told (λ (told : tells ≡ true).
+          let all = only told in (
+            (h.fin all.0).0,
+            sym (append-nil delivered) ∙ ap (λ xs. delivered ++ xs) (sym all.1) ∙ h.handed ∙ take_all h.count accepted (omega (arith, h.whole stays, (h.fin all.0).1)),
+          ))
+          (or_cases ended tells e);
     }
 
 -- text of the stream is placed: so many bytes more are in order
-pub takes-advance : (r : Receiving) (irs : ℕ) (accepted delivered : List ℕ) (inbox : Inbox) (n : ℕ) → length accepted ≤ stream_limit
-    → Takes r irs accepted delivered → Advances r.inbox inbox (drop r.ordered accepted) n → Takes (with_inbox r inbox n) irs accepted delivered
-takes-advance r irs accepted delivered inbox n limit h steps =
+pub takes-advance : (r : Receiving) (irs : ℕ) (accepted : List ℕ) (closed : Bool) (delivered : List ℕ) (ended gone : Bool) (inbox : Inbox) (n : ℕ) → length accepted ≤ stream_limit
+    → r.opened ≡ true → r.finished ≡ false → gone ≡ false → Takes r irs accepted closed delivered ended gone → Advances r.inbox inbox (drop r.ordered accepted) n
+    → Takes (with_inbox r inbox n) irs accepted closed delivered ended gone
+takes-advance r irs accepted closed delivered ended gone inbox n limit opened unfinished stays h steps =
     let room : length (drop r.ordered accepted) ≡ length accepted - r.ordered = length-drop r.ordered accepted in
-    let further : min most_ordered (r.ordered + n) ≡ r.ordered + n = omega (arith, h.order, limit, steps.within, room) in
+    let further : min max_ordered (r.ordered + n) ≡ r.ordered + n = omega (arith, h.order, limit, steps.within, room) in
+    let fin : one_if r.finished ≡ 0 = one_if-false r.finished unfinished in
     record {
-      next = next-moves r.next irs (1 + r.ordered) n n (min most_ordered (r.ordered + n)) h.next refl (omega (arith, further)) (omega arith);
+      next = λ _. number-further irs (1 + r.ordered + one_if r.finished) n r.next (h.next opened) ∙ ap (number irs) (omega (arith, further));
+      unopened = λ never. absurd (cc);
       order = omega (arith, further, h.order, steps.within, room);
-      handed = ap (λ xs. delivered ++ xs) steps.unread ∙ sym (append_assoc delivered r.inbox.unread (take n (drop r.ordered accepted))) ∙ ap (λ xs. xs ++ take n (drop r.ordered accepted)) h.handed
-          ∙ take-further r.ordered n accepted ∙ ap (λ k. take k accepted) (sym further);
+      fin = λ never. absurd (cc);
+      count = r.ordered + n;
+      handed = ap (λ xs. delivered ++ xs) steps.unread ∙ sym (append_assoc delivered r.inbox.unread (take n (drop r.ordered accepted)))
+          ∙ ap (λ xs. xs ++ take n (drop r.ordered accepted)) (h.handed ∙ ap (λ k. take k accepted) (h.whole stays)) ∙ take-further r.ordered n accepted;
+      least = omega (arith, further);
+      whole = λ _. sym further;
       held = rw further (rw (← drop-drop n r.ordered accepted) steps.held);
+      told = λ e. h.told e;
+    }
+
+-- the FIN is taken in its turn
+pub takes-fin : (r : Receiving) (irs : ℕ) (accepted : List ℕ) (closed : Bool) (delivered : List ℕ) (ended gone : Bool) → r.opened ≡ true → r.finished ≡ false → closed ≡ true → r.ordered ≡ length accepted
+    → Takes r irs accepted closed delivered ended gone → Takes (with_fin r) irs accepted closed delivered ended gone
+takes-fin r irs accepted closed delivered ended gone opened unfinished is_closed all h =
+    let fin : one_if r.finished ≡ 0 = one_if-false r.finished unfinished in
+    record {
+      next = λ _. number-further irs (1 + r.ordered + one_if r.finished) 1 r.next (h.next opened) ∙ ap (number irs) (omega (arith, fin));
+      unopened = λ never. absurd (cc);
+      order = h.order;
+      fin = λ _. (is_closed, all);
+      count = h.count;
+      handed = h.handed;
+      least = h.least;
+      whole = h.whole;
+      held = without_held-agrees r.inbox (drop r.ordered accepted);
+      told = h.told;
+    }
+
+-- a reset or an abort gives up what is unread and held
+pub takes-given_up : (r : Receiving) (irs : ℕ) (accepted : List ℕ) (closed : Bool) (delivered : List ℕ) (ended gone : Bool)
+    → Takes r irs accepted closed delivered ended gone → Takes (without_bytes r) irs accepted closed delivered ended true
+takes-given_up r irs accepted closed delivered ended gone h =
+    let front : delivered ≡ take (length delivered) accepted = front-is delivered r.inbox.unread accepted h.count h.handed in
+    let short : length delivered ≤ h.count = omega (arith, ap length h.handed, length-append delivered r.inbox.unread, length-take h.count accepted) in
+    record {
+      next = h.next;
+      unopened = h.unopened;
+      order = h.order;
+      fin = h.fin;
+      count = length delivered;
+      handed = append-nil delivered ∙ front;
+      least = omega (arith, short, h.least);
+      whole = λ never. absurd (cc);
+      held = empty_inbox-agrees r.inbox.capacity (drop r.ordered accepted);
+      told = h.told;
     }

@@ -1,10 +1,24 @@
+pub mod Lists
 pub mod Positions
 pub mod Halves
 pub mod Truths
-pub mod Segments
 pub mod Steps
+pub mod Stands
+pub mod Moves
+pub mod Judgements
+pub mod Stages
 pub mod Arrivals
-pub mod Runs
+pub mod Users
+pub mod Dues
+pub mod Emissions
+pub mod Deliveries
 pub mod Worlds
 pub mod Parties
+pub mod Holdings
+pub mod Marks
+pub mod Hints
+pub mod HintEvents
+pub mod HintWorlds
+pub mod Runs
+pub mod Sounds
 mod Examples

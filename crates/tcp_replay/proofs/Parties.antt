@@ -1,32 +1,44 @@
 -- What a party's methods do, step by step, is what the definitions say.
-use Rattle.std.proofs.Common.{◌≡◌, ℕ, List, [], ◌∷◌, ◌++◌, length, take, drop, refl, sym, ◌∙◌, ap, subst, arith, append-nil}
-use Rattle.std.specs.Prelude.{min, Option, Some, None, option_map, option_to_list, replicate}
-use Rattle.std.proofs.lemmas.List.{take_at, drop_min, drop_all}
+use Rattle.std.proofs.Common.{◌≡◌, ◌≢◌, ℕ, ◌<◌, false, List, [], ◌∷◌, ◌++◌, length, get_or, take, drop, map, refl, sym, ◌∙◌, ap, subst, arith, append-nil, length-take}
+use Rattle.std.specs.Prelude.{min, Bool, ◌&&◌, ◌||◌, ◌==◌, nat_lt, nat_le, if◌then◌else◌, ◌↔◌, Option, Some, None, slice_get, unwrap_or, option_map, option_to_list, replicate, Result, Ok, Err}
+use Rattle.std.proofs.lemmas.Bool.{cond_both, eqb-true, lt-leb, ne_eqb}
+use Rattle.std.proofs.lemmas.List.{take_at, drop_min, length-map}
+use Rattle.std.proofs.lemmas.Option.{slice_get-map, slice_get-get_or}
 use Rattle.tcp_wire.specs.Wire.{wire_length}
-use Rattle.tcp_wire.proofs.Laws.{length_encoded}
+use Rattle.tcp_wire.proofs.RoundTrip.{length_encoded}
 use Rattle.tcp_reasm.specs.Reassembly.{Inbox, after_read}
-use Rattle.tcp_conn.specs.State.{State}
-use Rattle.tcp_conn.specs.Calls.{after_receive, count_handed}
+use Rattle.tcp_conn.specs.declared.config.Config.{Config}
+use Rattle.tcp_conn.specs.declared.config.ConfigError.{ConfigError}
+use Rattle.tcp_conn.specs.declared.config.ConfigError.TheVariants as faults
+use Rattle.tcp_conn.specs.Configs.{HasBadCapacity, HasBadMss, HasBadShift, IsGoodConfig}
 use Rattle.tcp_conn.specs.declared.due.Due.{Due}
-use Rattle.tcp_conn.specs.Emission.{due_of, segment_of, bytes_of, emitted, after_due, after_emission, pending_length, written_for, written}
-use Rattle.tcp_replay.specs.World.{PartyState, user_receives, emits, emission_at}
+use Rattle.tcp_conn.specs.declared.outcome.CallError.{CallError}
+use Rattle.tcp_conn.specs.declared.outcome.Received.{Received}
+use Rattle.tcp_conn.specs.declared.outcome.Received.TheVariants.{Bytes, Nothing, EndOfStream}
+use Rattle.tcp_conn.specs.Phases.{takes_text}
+use Rattle.tcp_conn.specs.State.{State}
+use Rattle.tcp_conn.specs.Calls.{answer_unless, bytes_unless, state_unless, receive_refusal, received_value, receive_answer, received_bytes, told_window, with_bytes_received, after_receive}
+use Rattle.tcp_conn.specs.Emission.{due_of, segment_of, bytes_of, emitted_bytes, after_due, after_emission, pending_length, destination_of, buffer_behind, buffer_after}
+use Rattle.tcp_replay.specs.World.{PartyState, segment_at, is_missing, damage_refusal, HasFault, count_handed, is_end_of_stream, party_after_receive, party_after_emission, emission_outcome}
 use Rattle.tcp_replay.specs.declared.outcome.Outcome.TheVariants as outcomes
 
 -- EMISSION, by what is due
-nothing-as : (p : PartyState) (due : Option Due) → option_map (λ d. wire_length (segment_of p.endpoint d)) due ≡ None → p ≡ record p { endpoint = after_due p.endpoint due; sent = p.sent ++ option_to_list (option_map (bytes_of p.endpoint) due) }
+nothing-as : (p : PartyState) (due : Option Due) → option_map (λ d. wire_length (segment_of p.endpoint d)) due ≡ None
+    → p ≡ record p { endpoint = after_due p.endpoint due; sent = p.sent ++ option_to_list (option_map (bytes_of p.endpoint) due) }
 nothing-as p None e = ap (λ (sent : List (List ℕ)). record p { sent = sent }) (sym (append-nil p.sent))
 nothing-as p (Some due) e = absurd (cc)
 
-pub emits_nothing : (p : PartyState) → pending_length p.endpoint ≡ None → p ≡ emits p
-unfolding pending_length emits emitted after_emission
+pub emits_nothing : (p : PartyState) → pending_length p.endpoint ≡ None → p ≡ party_after_emission p
+unfolding pending_length party_after_emission emitted_bytes after_emission
 emits_nothing p e = nothing-as p (due_of p.endpoint) e
 
-nothing-told : (p : PartyState) (due : Option Due) → option_map (λ d. wire_length (segment_of p.endpoint d)) due ≡ None → outcomes.Emitted None ≡ outcomes.Emitted (option_map (λ _. length p.sent) (option_map (bytes_of p.endpoint) due))
+nothing-told : (p : PartyState) (due : Option Due) → option_map (λ d. wire_length (segment_of p.endpoint d)) due ≡ None
+    → outcomes.Emitted None ≡ outcomes.Emitted (option_map (λ _. length p.sent) (option_map (bytes_of p.endpoint) due))
 nothing-told p None e = refl
 nothing-told p (Some due) e = absurd (cc)
 
-pub emission_none : (p : PartyState) (s : State) → s ≡ p.endpoint → pending_length s ≡ None → outcomes.Emitted None ≡ emission_at p
-unfolding pending_length emitted
+pub emission_none : (p : PartyState) (s : State) → s ≡ p.endpoint → pending_length s ≡ None → outcomes.Emitted None ≡ emission_outcome p
+unfolding pending_length emitted_bytes
 emission_none p s is e = nothing-told p (due_of p.endpoint) (subst (λ (s : State). option_map (λ d. wire_length (segment_of s d)) (due_of s) ≡ None) is e)
 
 something-told : (p : PartyState) (due : Option Due) (len n : ℕ) → option_map (λ d. wire_length (segment_of p.endpoint d)) due ≡ Some len → n ≡ length p.sent
@@ -34,28 +46,28 @@ something-told : (p : PartyState) (due : Option Due) (len n : ℕ) → option_ma
 something-told p None len n e f = absurd (cc)
 something-told p (Some due) len n e f = ap (λ k. outcomes.Emitted (Some k)) f
 
-pub emission_some : (p : PartyState) (s : State) (len n : ℕ) → s ≡ p.endpoint → pending_length s ≡ Some len → n ≡ length p.sent → outcomes.Emitted (Some n) ≡ emission_at p
-unfolding pending_length emitted
+pub emission_some : (p : PartyState) (s : State) (len n : ℕ) → s ≡ p.endpoint → pending_length s ≡ Some len → n ≡ length p.sent → outcomes.Emitted (Some n) ≡ emission_outcome p
+unfolding pending_length emitted_bytes
 emission_some p s len n is e f = something-told p (due_of p.endpoint) len n (subst (λ (s : State). option_map (λ d. wire_length (segment_of s d)) (due_of s) ≡ Some len) is e) f
 
 -- the bytes in front are the segment's
-front-is : (s : State) (due : Due) (room : List ℕ) → take (wire_length (segment_of s due)) (bytes_of s due ++ drop (wire_length (segment_of s due)) room) ≡ bytes_of s due
+front-is : (s : State) (due : Due) (out : List ℕ) → take (wire_length (segment_of s due)) (bytes_of s due ++ drop (wire_length (segment_of s due)) out) ≡ bytes_of s due
 unfolding bytes_of
-front-is s due room = take_at (bytes_of s due) (drop (wire_length (segment_of s due)) room) (wire_length (segment_of s due)) (length_encoded s.config.addr.0 s.peer_addr (segment_of s due))
+front-is s due out = take_at (bytes_of s due) (drop (wire_length (segment_of s due)) out) (wire_length (segment_of s due)) (length_encoded s.config.addr.0 (destination_of s due).addr.0 (segment_of s due))
 
 something-as : (p : PartyState) (due : Option Due) (end : State) (sent : List (List ℕ)) (len : ℕ) (room bytes : List ℕ) → option_map (λ d. wire_length (segment_of p.endpoint d)) due ≡ Some len
-    → end ≡ after_due p.endpoint due → bytes ≡ take len (written_for p.endpoint due room) → sent ≡ p.sent ++ bytes ∷ []
+    → end ≡ after_due p.endpoint due → bytes ≡ take len (buffer_behind p.endpoint due room) → sent ≡ p.sent ++ bytes ∷ []
     → record p { endpoint = end; sent = sent } ≡ record p { endpoint = after_due p.endpoint due; sent = p.sent ++ option_to_list (option_map (bytes_of p.endpoint) due) }
 something-as p None end sent len room bytes e f h k = absurd (cc)
 something-as p (Some due) end sent len room bytes e f h k =
     let is : wire_length (segment_of p.endpoint due) ≡ len = cc in
-    let text : bytes ≡ bytes_of p.endpoint due = h ∙ ap (λ n. take n (written_for p.endpoint (Some due) room)) (sym is) ∙ front-is p.endpoint due room in
+    let text : bytes ≡ bytes_of p.endpoint due = h ∙ ap (λ n. take n (buffer_behind p.endpoint (Some due) room)) (sym is) ∙ front-is p.endpoint due room in
     ap (λ (s : State). record p { endpoint = s; sent = sent }) f ∙ ap (λ (list : List (List ℕ)). record p { endpoint = after_due p.endpoint (Some due); sent = list }) (k ∙ ap (λ (last : List ℕ). p.sent ++ last ∷ []) text)
 
 pub emits_something : (p : PartyState) (end : State) (sent : List (List ℕ)) (len : ℕ) (room out bytes : List ℕ) → pending_length p.endpoint ≡ Some len
-    → end ≡ after_emission p.endpoint → out ≡ written p.endpoint room → bytes ≡ take len out → sent ≡ p.sent ++ bytes ∷ []
-    → record p { endpoint = end; sent = sent } ≡ emits p
-unfolding pending_length emits emitted after_emission written
+    → end ≡ after_emission p.endpoint → out ≡ buffer_after p.endpoint room → bytes ≡ take len out → sent ≡ p.sent ++ bytes ∷ []
+    → record p { endpoint = end; sent = sent } ≡ party_after_emission p
+unfolding pending_length party_after_emission emitted_bytes after_emission buffer_after
 emits_something p end sent len room out bytes e f g h k = something-as p (due_of p.endpoint) end sent len room bytes e f (h ∙ ap (take len) g) k
 
 -- RECEIVE: a buffer as long as what is unread serves as well as a longer one
@@ -66,15 +78,82 @@ same-read q room =
     ap (λ (bytes : List ℕ). record q { unread = bytes; held = q.held ++ replicate (min (min room (length q.unread)) (length q.unread)) None }) (drop_min room q.unread)
     ∙ ap (λ (n : ℕ). record q { unread = drop room q.unread; held = q.held ++ replicate n None }) count
 
-pub receives : (p : PartyState) (end : State) (delivered : List ℕ) (room : ℕ) (out old : List ℕ) → length old ≡ min room (length p.endpoint.receiving.inbox.unread)
-    → end ≡ after_receive p.endpoint (length old)
-    → out ≡ take (count_handed p.endpoint (length old)) p.endpoint.receiving.inbox.unread ++ drop (count_handed p.endpoint (length old)) old → delivered ≡ p.delivered ++ out
-    → record p { endpoint = end; delivered = delivered } ≡ user_receives p room
-unfolding user_receives
-receives p end delivered room out old size f g h =
-    let unread = p.endpoint.receiving.inbox.unread in
-    let count : count_handed p.endpoint (length old) ≡ min room (length unread) = omega (arith, size) in
-    let rest : drop (count_handed p.endpoint (length old)) old ≡ [] = drop_all (count_handed p.endpoint (length old)) old (omega (arith, size)) in
-    let text : out ≡ take (min room (length unread)) unread = g ∙ ap (λ xs. take (count_handed p.endpoint (length old)) unread ++ xs) rest ∙ append-nil (take (count_handed p.endpoint (length old)) unread) ∙ ap (λ n. take n unread) count in
-    let left : end ≡ after_receive p.endpoint room = f ∙ ap (after_receive p.endpoint) size ∙ ap (λ (q : Inbox). record p.endpoint { receiving = record p.endpoint.receiving { inbox = q } }) (same-read p.endpoint.receiving.inbox room) in
-    ap (λ (s : State). record p { endpoint = s; delivered = delivered }) left ∙ ap (λ (bytes : List ℕ). record p { endpoint = after_receive p.endpoint room; delivered = bytes }) (h ∙ ap (λ xs. p.delivered ++ xs) text)
+same-received : (s : State) (room : ℕ) → with_bytes_received s (min room (length s.receiving.inbox.unread)) ≡ with_bytes_received s room
+same-received s room =
+    ap (λ (q : Inbox). record s {
+      receiving = record s.receiving { inbox = q };
+      owed = record s.owed { ack = s.owed.ack || (takes_text s.phase && ((told_window s s.receiving.inbox == 0) && nat_lt 0 (told_window s q))) };
+    }) (same-read s.receiving.inbox room)
+
+same-count : (n m : ℕ) → min (min n m) m ≡ min n m
+same-count n m = omega arith
+
+same-answer : (s : State) (room : ℕ) → receive_answer s (min room (length s.receiving.inbox.unread)) ≡ receive_answer s room
+same-answer s room =
+    ap (λ n. answer_unless (receive_refusal s) (if length s.receiving.inbox.unread == 0 then (if s.receiving.finished then EndOfStream else Nothing) else Bytes n)) (same-count room (length s.receiving.inbox.unread))
+
+same-bytes : (s : State) (room : ℕ) → received_bytes s (min room (length s.receiving.inbox.unread)) ≡ received_bytes s room
+same-bytes s room = ap (λ n. bytes_unless (receive_refusal s) (take n s.receiving.inbox.unread)) (same-count room (length s.receiving.inbox.unread))
+
+-- as many bytes are put out as the answer tells
+handed-value : (unread : List ℕ) (finished : Bool) (room : ℕ) (value : Received) → value ≡ (if length unread == 0 then (if finished then EndOfStream else Nothing) else Bytes (min room (length unread)))
+    → count_handed (Ok value) ≡ length (take (min room (length unread)) unread)
+handed-value unread finished room value e =
+    subst (λ (value : Received). count_handed (Ok value) ≡ length (take (min room (length unread)) unread)) (sym e)
+    (cond_both (length unread == 0) (if finished then EndOfStream else Nothing) (Bytes (min room (length unread))) (λ (value : Received). count_handed (Ok value) ≡ length (take (min room (length unread)) unread))
+    (λ none. cond_both finished EndOfStream Nothing (λ (value : Received). count_handed (Ok value) ≡ length (take (min room (length unread)) unread))
+    (λ _. omega (arith, eqb-true (length unread) 0 none, length-take (min room (length unread)) unread)) (λ _. omega (arith, eqb-true (length unread) 0 none, length-take (min room (length unread)) unread)))
+    (λ _. omega (arith, length-take (min room (length unread)) unread)))
+
+handed-unless : (o : Option CallError) (value : Received) (bytes : List ℕ) → count_handed (Ok value) ≡ length bytes → count_handed (answer_unless o value) ≡ length (bytes_unless o bytes)
+handed-unless None value bytes e = e
+handed-unless (Some error) value bytes e = refl
+
+handed-is : (s : State) (room : ℕ) → count_handed (receive_answer s room) ≡ length (received_bytes s room)
+handed-is s room =
+    let unread = s.receiving.inbox.unread in
+    handed-unless (receive_refusal s) (received_value s room) (take (min room (length unread)) unread) (handed-value unread s.receiving.finished room (received_value s room) refl)
+
+pub receives : (p : PartyState) (end : State) (delivered : List ℕ) (ended : Bool) (room handed : ℕ) (answer : Result Received CallError) (out old : List ℕ)
+    → length old ≡ min room (length p.endpoint.receiving.inbox.unread)
+    → end ≡ after_receive p.endpoint (length old) → answer ≡ receive_answer p.endpoint (length old)
+    → out ≡ received_bytes p.endpoint (length old) ++ drop (length (received_bytes p.endpoint (length old))) old
+    → handed ≡ count_handed answer → delivered ≡ p.delivered ++ take handed out → ended ≡ (p.ended || is_end_of_stream answer)
+    → record p { endpoint = end; delivered = delivered; ended = ended } ≡ party_after_receive p room
+unfolding party_after_receive after_receive
+receives p end delivered ended room handed answer out old size f is g count h told =
+    let s = p.endpoint in
+    let bytes = received_bytes s (length old) in
+    let same : answer ≡ receive_answer s room = is ∙ ap (receive_answer s) size ∙ same-answer s room in
+    let all : handed ≡ length bytes = count ∙ ap count_handed is ∙ handed-is s (length old) in
+    let text : take handed out ≡ received_bytes s room = ap (take handed) g ∙ take_at bytes (drop (length bytes) old) handed (sym all) ∙ ap (received_bytes s) size ∙ same-bytes s room in
+    let left : end ≡ state_unless (receive_refusal s) s (with_bytes_received s room) = f ∙ ap (λ n. state_unless (receive_refusal s) s (with_bytes_received s n)) size ∙ ap (state_unless (receive_refusal s) s) (same-received s room) in
+    cc (left, h ∙ ap (λ xs. p.delivered ++ xs) text, told ∙ ap (λ a. p.ended || is_end_of_stream a) same)
+
+-- A FAULT of a Config is the one that is named
+abbrev pub refused_for : ConfigError → Result PartyState ConfigError
+refused_for fault = Err fault
+
+pub fault_is : (c : Config) (fault : ConfigError) → ((refused_for fault ≡ Err faults.BadCapacity) ↔ HasBadCapacity c) → ((refused_for fault ≡ Err faults.BadMss) ↔ HasBadMss c)
+    → ((refused_for fault ≡ Err faults.BadShift) ↔ HasBadShift c) → ((refused_for fault ≡ Err faults.NoMemory) → IsGoodConfig c) → HasFault c fault
+fault_is c faults.BadCapacity capacity mss shift good = capacity.0 refl
+fault_is c faults.BadMss capacity mss shift good = mss.0 refl
+fault_is c faults.BadShift capacity mss shift good = shift.0 refl
+fault_is c faults.NoMemory capacity mss shift good = good refl
+
+-- the bytes of a segment, read from the list of the code
+pub segment-read : {V : Type 0} (bytes : V → List ℕ) (segments : List V) (p : PartyState) (k : ℕ) (segment : V) → map bytes segments ≡ p.sent → k < length p.sent → segment ≡ get_or segments k segment
+    → bytes segment ≡ segment_at p k
+segment-read bytes segments p k segment sent there is =
+    let inside : k < length segments = omega (arith, ap length sent, length-map segments bytes) in
+    let found : slice_get p.sent k ≡ Some (bytes segment) =
+    ap (λ list. slice_get list k) (sym sent) ∙ slice_get-map bytes segments k ∙ ap (option_map bytes) (slice_get-get_or segments k segment inside ∙ ap Some (sym is)) in
+    sym (ap (λ o. unwrap_or o []) found)
+
+-- DAMAGE that passes each test isn't refused
+pub damage-fine : (p : PartyState) (k place value : ℕ) (segment : List ℕ) → k < length p.sent → segment ≡ segment_at p k → value ≢ 0 → place < length segment → damage_refusal p k place value ≡ None
+damage-fine p k place value segment there same some inside =
+    let found : is_missing p k ≡ false = lt-leb (length p.sent) k there in
+    let changes : (value == 0) ≡ false = ne_eqb value 0 some in
+    let within : nat_le (length (segment_at p k)) place ≡ false = lt-leb (length (segment_at p k)) place (omega (arith, ap length same)) in
+    rw (found, changes, within) refl

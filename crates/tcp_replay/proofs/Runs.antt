@@ -1,14 +1,15 @@
 -- A run, taken event by event.
-use Rattle.std.proofs.Common.{◌≡◌, ℕ, ◌+◌, ◌<◌, List, [], ◌∷◌, ◌++◌, length, get_or, take, drop, refl, sym, ◌∙◌, ap, arith, take-append-drop}
-use Rattle.std.specs.Prelude.{Option, Some, None, Result, Ok, Err, IfSome, IfNone, ◌==◌, nat_le, if◌then◌else◌}
+use Rattle.std.proofs.Common.{◌≡◌, ℕ, ◌+◌, ◌<◌, List, [], ◌∷◌, ◌++◌, length, get_or, take, drop, map, refl, sym, ◌∙◌, ap, arith, add-one, take-append-drop}
+use Rattle.std.specs.Prelude.{true, Option, Some, None, Result, Ok, Err, IfSome, IfNone, ◌==◌, nat_le, if◌then◌else◌}
 use Rattle.std.proofs.lemmas.Bool.{cond_both}
-use Rattle.std.proofs.lemmas.List.{drop_more, take_more, length-take-le}
+use Rattle.std.proofs.lemmas.List.{drop_more, take_more, length-take-le, length-map, get_or-map}
+use Rattle.std.proofs.lemmas.Option.{slice_get-get_or}
 use Rattle.tcp_replay.specs.declared.event.Event.{Event}
-use Rattle.tcp_replay.specs.declared.event.Event.TheVariants as events
 use Rattle.tcp_replay.specs.declared.outcome.Outcome.{Outcome}
 use Rattle.tcp_replay.specs.declared.outcome.StepError.TheVariants.{NoSuchSegment, NoChange, PlaceOutside, NoMemory}
 use Rattle.tcp_replay.specs.declared.outcome.StepError.{StepError}
-use Rattle.tcp_replay.specs.World.{WorldState, PartyState, party_of, missing, segment_at, delivery_refusal, damage_refusal, happens, refusal, stop_of, run_of, stop_or, stay_or, later}
+use Rattle.tcp_replay.specs.Events.{EventContent, event_content, Deliver, Damage}
+use Rattle.tcp_replay.specs.World.{WorldState, PartyState, party_of, is_missing, segment_at, delivery_refusal, damage_refusal, effect_of, world_after, refusal_of, grows_for, stop_of, run_of, stop_or, stay_or, later, StopsForMemory}
 
 -- where nothing was refused, the first event wasn't, nor any of the rest
 record Goes (refused : Option StepError) (rest : Option (ℕ × StepError)) : Type 0 where
@@ -21,58 +22,55 @@ goes None (Some stop) e = absurd (cc)
 goes (Some error) rest e = absurd (cc)
 
 -- the run goes on by one event
-pub record GoesOn (w : WorldState) (list : List Event) (next : WorldState) : Type 0 where
+pub record GoesOn (w : WorldState) (list : List EventContent) (next : WorldState) : Type 0 where
   pub stop : stop_of w list ≡ None
   pub end : run_of w list ≡ next
 
-pub run-more : (w : WorldState) (list : List Event) (event : Event) → stop_of w list ≡ None → refusal (run_of w list) event ≡ None → GoesOn w (list ++ event ∷ []) (happens (run_of w list) event)
+pub run-more : (w : WorldState) (list : List EventContent) (event : EventContent) → stop_of w list ≡ None → refusal_of (run_of w list) event ≡ None → GoesOn w (list ++ event ∷ []) (world_after (run_of w list) event)
 unfolding stop_of run_of
-run-more w [] event e f = record { stop = ap (λ r. stop_or r None) f; end = ap (λ r. stay_or r w (happens w event)) f }
+run-more w [] event e f = record { stop = ap (λ r. stop_or r None) f; end = ap (λ r. stay_or r w (world_after w event)) f }
 run-more w (first ∷ list) event e f =
-    let both = goes (refusal w first) (stop_of (happens w first) list) e in
-    let here : stay_or (refusal w first) w (run_of (happens w first) list) ≡ run_of (happens w first) list = ap (λ r. stay_or r w (run_of (happens w first) list)) both.first in
-    let more = run-more (happens w first) list event both.others (ap (λ v. refusal v event) (sym here) ∙ f) in
+    let both = goes (refusal_of w first) (stop_of (world_after w first) list) e in
+    let here : stay_or (refusal_of w first) w (run_of (world_after w first) list) ≡ run_of (world_after w first) list = ap (λ r. stay_or r w (run_of (world_after w first) list)) both.first in
+    let more = run-more (world_after w first) list event both.others (ap (λ v. refusal_of v event) (sym here) ∙ f) in
     record {
-      stop = ap (λ r. stop_or r (stop_of (happens w first) (list ++ event ∷ []))) both.first ∙ ap later more.stop;
-      end = ap (λ r. stay_or r w (run_of (happens w first) (list ++ event ∷ []))) both.first ∙ more.end ∙ ap (λ v. happens v event) (sym here);
+      stop = ap (λ r. stop_or r (stop_of (world_after w first) (list ++ event ∷ []))) both.first ∙ ap later more.stop;
+      end = ap (λ r. stay_or r w (run_of (world_after w first) (list ++ event ∷ []))) both.first ∙ more.end ∙ ap (λ v. world_after v event) (sym here);
     }
 
 -- the run stops at one
-pub record Stops (w : WorldState) (list : List Event) (index : ℕ) (error : StepError) (end : WorldState) : Type 0 where
+pub record Stops (w : WorldState) (list : List EventContent) (index : ℕ) (error : StepError) (end : WorldState) : Type 0 where
   pub stop : stop_of w list ≡ Some (index, error)
   pub stays : run_of w list ≡ end
 
-pub run-stop : (w : WorldState) (list rest : List Event) (event : Event) (error : StepError) → stop_of w list ≡ None → refusal (run_of w list) event ≡ Some error
+pub run-stop : (w : WorldState) (list rest : List EventContent) (event : EventContent) (error : StepError) → stop_of w list ≡ None → refusal_of (run_of w list) event ≡ Some error
     → Stops w (list ++ event ∷ rest) (length list) error (run_of w list)
 unfolding stop_of run_of
-run-stop w [] rest event error e f = record { stop = ap (λ r. stop_or r (stop_of (happens w event) rest)) f; stays = ap (λ r. stay_or r w (run_of (happens w event) rest)) f }
+run-stop w [] rest event error e f = record { stop = ap (λ r. stop_or r (stop_of (world_after w event) rest)) f; stays = ap (λ r. stay_or r w (run_of (world_after w event) rest)) f }
 run-stop w (first ∷ list) rest event error e f =
-    let both = goes (refusal w first) (stop_of (happens w first) list) e in
-    let here : stay_or (refusal w first) w (run_of (happens w first) list) ≡ run_of (happens w first) list = ap (λ r. stay_or r w (run_of (happens w first) list)) both.first in
-    let more = run-stop (happens w first) list rest event error both.others (ap (λ v. refusal v event) (sym here) ∙ f) in
+    let both = goes (refusal_of w first) (stop_of (world_after w first) list) e in
+    let here : stay_or (refusal_of w first) w (run_of (world_after w first) list) ≡ run_of (world_after w first) list = ap (λ r. stay_or r w (run_of (world_after w first) list)) both.first in
+    let more = run-stop (world_after w first) list rest event error both.others (ap (λ v. refusal_of v event) (sym here) ∙ f) in
     record {
-      stop = ap (λ r. stop_or r (stop_of (happens w first) (list ++ event ∷ rest))) both.first ∙ ap later more.stop;
-      stays = ap (λ r. stay_or r w (run_of (happens w first) (list ++ event ∷ rest))) both.first ∙ more.stays ∙ sym here;
+      stop = ap (λ r. stop_or r (stop_of (world_after w first) (list ++ event ∷ rest))) both.first ∙ ap later more.stop;
+      stays = ap (λ r. stay_or r w (run_of (world_after w first) (list ++ event ∷ rest))) both.first ∙ more.stays ∙ sym here;
     }
 
 -- want of memory is no reason of the definitions
 damage-not_memory : (p : PartyState) (k place value : ℕ) → damage_refusal p k place value ≡ Some NoMemory → ⊥
 damage-not_memory p k place value =
-    cond_both (missing p k) (Some NoSuchSegment) (if value == 0 then Some NoChange else (if nat_le (length (segment_at p k)) place then Some PlaceOutside else None)) (λ r. r ≡ Some NoMemory → ⊥) (λ _ e. absurd (cc))
+    cond_both (is_missing p k) (Some NoSuchSegment) (if value == 0 then Some NoChange else (if nat_le (length (segment_at p k)) place then Some PlaceOutside else None)) (λ r. r ≡ Some NoMemory → ⊥) (λ _ e. absurd (cc))
     (λ _. cond_both (value == 0) (Some NoChange) (if nat_le (length (segment_at p k)) place then Some PlaceOutside else None) (λ r. r ≡ Some NoMemory → ⊥) (λ _ e. absurd (cc))
     (λ _. cond_both (nat_le (length (segment_at p k)) place) (Some PlaceOutside) None (λ r. r ≡ Some NoMemory → ⊥) (λ _ e. absurd (cc)) (λ _ e. absurd (cc))))
 
 delivery-not_memory : (p : PartyState) (k : ℕ) → delivery_refusal p k ≡ Some NoMemory → ⊥
-delivery-not_memory p k = cond_both (missing p k) (Some NoSuchSegment) None (λ r. r ≡ Some NoMemory → ⊥) (λ _ e. absurd (cc)) (λ _ e. absurd (cc))
+delivery-not_memory p k = cond_both (is_missing p k) (Some NoSuchSegment) None (λ r. r ≡ Some NoMemory → ⊥) (λ _ e. absurd (cc)) (λ _ e. absurd (cc))
 
-refusal-not_memory : (w : WorldState) (event : Event) → refusal w event ≡ Some NoMemory → ⊥
-unfolding refusal
-refusal-not_memory w (events.Send side bytes) e = absurd (cc)
-refusal-not_memory w (events.Receive side room) e = absurd (cc)
-refusal-not_memory w (events.Timer side timer) e = absurd (cc)
-refusal-not_memory w (events.Emit side) e = absurd (cc)
-refusal-not_memory w (events.Deliver side k) e = delivery-not_memory (party_of w side) k e
-refusal-not_memory w (events.Damage side k place value) e = damage-not_memory (party_of w side) k place value e
+refusal-not_memory : (w : WorldState) (event : EventContent) → refusal_of w event ≡ Some NoMemory → ⊥
+unfolding effect_of
+refusal-not_memory w (Deliver side k) e = delivery-not_memory (party_of w side) k e
+refusal-not_memory w (Damage side k place value) e = damage-not_memory (party_of w side) k place value e
+refusal-not_memory w other e = absurd (cc)
 
 -- what a step answers, with its type
 abbrev pub answered : Outcome → Result Outcome StepError
@@ -98,23 +96,23 @@ is-memory None error h e never = refl
 is-memory (Some e) error h is never = absurd (never (cc))
 
 -- the events up to one, that one, and the rest
-split-at : (list : List Event) (i : ℕ) (event : Event) → i < length list → event ≡ get_or list i event → take i list ++ event ∷ drop (i + 1) list ≡ list
+split-at : (list : List EventContent) (i : ℕ) (event : EventContent) → i < length list → event ≡ get_or list i event → take i list ++ event ∷ drop (i + 1) list ≡ list
 split-at list i event inside is =
     ap (λ rest. take i list ++ rest) (ap (λ e. e ∷ drop (i + 1) list) is ∙ sym (drop_more list i event inside)) ∙ take-append-drop i list
 
-next-front : (list : List Event) (i : ℕ) (event : Event) → i < length list → event ≡ get_or list i event → take i list ++ event ∷ [] ≡ take (i + 1) list
+next-front : (list : List EventContent) (i : ℕ) (event : EventContent) → i < length list → event ≡ get_or list i event → take i list ++ event ∷ [] ≡ take (i + 1) list
 next-front list i event inside is = ap (λ e. take i list ++ e ∷ []) is ∙ sym (take_more list i event inside)
 
 -- a run as far as an event, in the code's words
-pub record RunsTo (w here : WorldState) (list : List Event) (i : ℕ) : Type 0 where
+pub record RunsTo (w here : WorldState) (list : List EventContent) (i : ℕ) : Type 0 where
   pub going : stop_of w (take i list) ≡ None
   pub now : here ≡ run_of w (take i list)
 
-pub run_refused : (w here new : WorldState) (list : List Event) (i : ℕ) (event : Event) (error : StepError) (Q : Type 0) → i < length list → event ≡ get_or list i event
-    → RunsTo w here list i → IfSome (refusal here event) (λ e. refused_by error ≡ Err e) → IfNone (refusal here event) ((error ≡ NoMemory) × Q) → new ≡ here
+pub run_refused : (w here new : WorldState) (list : List EventContent) (i : ℕ) (event : EventContent) (error : StepError) (Q : Type 0) → i < length list → event ≡ get_or list i event
+    → RunsTo w here list i → IfSome (refusal_of here event) (λ e. refused_by error ≡ Err e) → IfNone (refusal_of here event) ((error ≡ NoMemory) × Q) → new ≡ here
     → (error ≡ NoMemory → ⊥) → (stop_of w list ≡ Some (i, error)) × (new ≡ run_of w list)
 run_refused w here new list i event error Q inside is so_far h m same other =
-    let refused : refusal (run_of w (take i list)) event ≡ Some error = ap (λ v. refusal v event) (sym so_far.now) ∙ is-refused (refusal here event) error Q h m other in
+    let refused : refusal_of (run_of w (take i list)) event ≡ Some error = ap (λ v. refusal_of v event) (sym so_far.now) ∙ is-refused (refusal_of here event) error Q h m other in
     let stops = run-stop w (take i list) (drop (i + 1) list) event error so_far.going refused in
     let whole = split-at list i event inside is in
     let count : length (take i list) ≡ i = length-take-le i list (omega arith) in (
@@ -122,24 +120,42 @@ run_refused w here new list i event error Q inside is so_far h m same other =
       same ∙ so_far.now ∙ sym stops.stays ∙ ap (λ all. run_of w all) whole,
     )
 
-pub run_out_of_memory : (w here new : WorldState) (list : List Event) (i : ℕ) (event : Event) (error : StepError) → i < length list → event ≡ get_or list i event
-    → RunsTo w here list i → IfSome (refusal here event) (λ e. refused_by error ≡ Err e) → new ≡ here
-    → error ≡ NoMemory → (stop_of w (take (i + 1) list) ≡ None) × (new ≡ run_of w (take i list))
-run_out_of_memory w here new list i event error inside is so_far h same memory =
-    let fine : refusal (run_of w (take i list)) event ≡ None = ap (λ v. refusal v event) (sym so_far.now) ∙ is-memory (refusal here event) error h memory (refusal-not_memory here event) in
-    let more = run-more w (take i list) event so_far.going fine in
-    (ap (λ all. stop_of w all) (sym (next-front list i event inside is)) ∙ more.stop, same ∙ so_far.now)
+grows-if : (refusal : Option StepError) (error : StepError) (Q : Type 0) → refusal ≡ None → IfNone refusal ((error ≡ NoMemory) × Q) → Q
+grows-if None error Q e m = m.1
+grows-if (Some other) error Q e m = absurd (cc)
 
-pub run_goes_on : (w here new : WorldState) (list : List Event) (i : ℕ) (event : Event) (o : Outcome) → i < length list → event ≡ get_or list i event
-    → RunsTo w here list i → IfSome (refusal here event) (λ e. answered o ≡ Err e) → new ≡ happens here event → RunsTo w new list (i + 1)
+pub run_out_of_memory : (w here new : WorldState) (list : List EventContent) (i : ℕ) (event : EventContent) (error : StepError) → i < length list → event ≡ get_or list i event
+    → RunsTo w here list i → IfSome (refusal_of here event) (λ e. refused_by error ≡ Err e) → IfNone (refusal_of here event) ((error ≡ NoMemory) × (grows_for here event ≡ true)) → new ≡ here
+    → error ≡ NoMemory → StopsForMemory w list i new
+run_out_of_memory w here new list i event error inside is so_far h m same memory =
+    let none : refusal_of here event ≡ None = is-memory (refusal_of here event) error h memory (refusal-not_memory here event) in
+    let fine : refusal_of (run_of w (take i list)) event ≡ None = ap (λ v. refusal_of v event) (sym so_far.now) ∙ none in
+    let more = run-more w (take i list) event so_far.going fine in
+    record {
+      event = event;
+      event_is = slice_get-get_or list i event inside ∙ ap Some (sym is);
+      going = ap (λ n. stop_of w (take n list)) (sym (add-one i)) ∙ ap (λ all. stop_of w all) (sym (next-front list i event inside is)) ∙ more.stop;
+      grows = ap (λ v. grows_for v event) same ∙ grows-if (refusal_of here event) error (grows_for here event ≡ true) none m;
+      stays = same ∙ so_far.now;
+    }
+
+pub run_goes_on : (w here new : WorldState) (list : List EventContent) (i : ℕ) (event : EventContent) (o : Outcome) → i < length list → event ≡ get_or list i event
+    → RunsTo w here list i → IfSome (refusal_of here event) (λ e. answered o ≡ Err e) → new ≡ world_after here event → RunsTo w new list (i + 1)
 run_goes_on w here new list i event o inside is so_far h state =
-    let fine : refusal (run_of w (take i list)) event ≡ None = ap (λ v. refusal v event) (sym so_far.now) ∙ not-refused (refusal here event) o h in
+    let fine : refusal_of (run_of w (take i list)) event ≡ None = ap (λ v. refusal_of v event) (sym so_far.now) ∙ not-refused (refusal_of here event) o h in
     let more = run-more w (take i list) event so_far.going fine in
     record {
       going = ap (λ all. stop_of w all) (sym (next-front list i event inside is)) ∙ more.stop;
-      now = state ∙ ap (λ v. happens v event) so_far.now ∙ sym more.end ∙ ap (λ all. run_of w all) (next-front list i event inside is);
+      now = state ∙ ap (λ v. world_after v event) so_far.now ∙ sym more.end ∙ ap (λ all. run_of w all) (next-front list i event inside is);
     }
 
-pub run_begins : (w : WorldState) (list : List Event) → RunsTo w w list 0
+pub run_begins : (w : WorldState) (list : List EventContent) → RunsTo w w list 0
 unfolding stop_of run_of
 run_begins w list = record { going = refl; now = refl }
+
+-- the content of an event of the code's list, by its index
+pub content_at : (list : List Event) (i : ℕ) (event : Event) → i < length list → event ≡ get_or list i event → event_content event ≡ get_or (map event_content list) i (event_content event)
+content_at list i event inside is = ap event_content is ∙ sym (get_or-map event_content list i event (event_content event) inside)
+
+pub content_inside : (list : List Event) (i : ℕ) → i < length list → i < length (map event_content list)
+content_inside list i inside = simp length-map inside

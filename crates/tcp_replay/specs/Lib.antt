@@ -1,5 +1,6 @@
+pub mod Events
 pub mod World
 pub mod Truthful
 pub mod Safe
 pub mod Sound
-pub mod Numbers
+pub mod Refusals

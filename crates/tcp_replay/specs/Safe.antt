@@ -1,23 +1,17 @@
 -- THE HEADLINE: what holds of two ends after every list of events (RFC 9293, 3.3.1 and 3.4).
-use Rattle.std.specs.Prelude.{◌≡◌, ℕ, ◌+◌, ◌≤◌, Bool, true, false, List, ◌++◌, length, drop, Some, slice_get, Ok}
-use Rattle.tcp_wire.specs.Wire.{Content, has}
-use Rattle.tcp_wire.specs.Decoded.{decoded}
+use Rattle.std.specs.Prelude.{◌≡◌, ℕ, ◌+◌, ◌≤◌, Bool, true, false, if◌then◌else◌, List, ◌++◌, length, drop, Some, slice_get, Ok}
+use Rattle.tcp_wire.specs.Flags.{rst, has}
+use Rattle.tcp_wire.specs.Wire.{Content}
+use Rattle.tcp_wire.specs.Decoded.{decode_answer}
+use Rattle.tcp_sendq.specs.SendQueue.{IsMarked}
 use Rattle.std.specs.List.{AllByRecursion}
 use Rattle.tcp_conn.specs.declared.config.Config.{Config}
-use Rattle.tcp_conn.specs.Calls.{IsConfig}
-use Rattle.tcp_replay.specs.declared.event.Event.{Event}
-use Rattle.tcp_conn.specs.declared.phase.Ending.{Ending}
-use Rattle.tcp_conn.specs.declared.phase.Ending.TheVariants.{NotEnded, Orderly, Reset, Aborted}
-use Rattle.tcp_conn.specs.Arrival as bits
-use Rattle.tcp_replay.specs.World.{WorldState, PartyState, HasBytes, new_world, run_of}
-use Rattle.tcp_replay.specs.Truthful.{Witness, IsTruthful}
-
--- a reset or an abort gives up what is queued, held and unread
-abbrev pub has_given_up : Ending → Bool
-has_given_up NotEnded = false
-has_given_up Orderly = false
-has_given_up Reset = true
-has_given_up Aborted = true
+use Rattle.tcp_conn.specs.Configs.{IsConfig}
+use Rattle.tcp_conn.specs.Phases.{gives_up}
+use Rattle.tcp_conn.specs.State.{position_at}
+use Rattle.tcp_replay.specs.Events.{EventContent, HasBytes}
+use Rattle.tcp_replay.specs.World.{WorldState, PartyState, new_world, run_of, world_behind_all}
+use Rattle.tcp_replay.specs.Truthful.{Witness, HasPosition, IsTruthful, HasTrueBlocks}
 
 abbrev pub unread_of : PartyState → List ℕ
 unread_of p = p.endpoint.receiving.inbox.unread
@@ -32,7 +26,11 @@ abbrev pub queue_of : PartyState → List ℕ
 queue_of p = p.endpoint.sending.queue.bytes
 
 abbrev pub gave_up : PartyState → Bool
-gave_up p = has_given_up p.endpoint.ending
+gave_up p = gives_up p.endpoint.ending
+
+-- the next position that it wants: behind what came in order, and behind the peer's FIN once it was taken
+abbrev pub next_position : PartyState → ℕ
+next_position p = 1 + p.endpoint.receiving.ordered + (if p.endpoint.receiving.finished then 1 else 0)
 
 -- the first list is how the second begins
 abbrev pub IsBeginning : List ℕ → List ℕ → Type 0
@@ -55,21 +53,26 @@ pub record IsSafeWay (x y : PartyState) : Type 0 where
 -- what x can show, in the world where y is its peer
 abbrev pub witness_of : PartyState → PartyState → Witness
 witness_of x y = record {
-  iss = x.endpoint.sending.iss;
-  irs = y.endpoint.sending.iss;
+  iss = x.endpoint.config.isn.0;
+  irs = y.endpoint.config.isn.0;
   accepted = x.accepted;
   closed = x.closed;
-  opened = true;
-  next = 1 + count_ordered x;
+  opened = x.endpoint.receiving.opened;
+  next = next_position x;
   held = x.endpoint.receiving.inbox.held;
   gave_up = gave_up x;
 }
 
--- every segment that x emitted is read as it was meant, and says what is true
+-- each segment that x emitted is read as this
+abbrev pub IsSent : PartyState → PartyState → Content → Type 0
+IsSent x y v =
+    (k : ℕ) × (bytes : List ℕ) × (slice_get x.sent k ≡ Some bytes) × (decode_answer x.endpoint.config.addr.0 y.endpoint.config.addr.0 bytes ≡ Ok v)
+
+-- every segment that x emitted can be read, and what it says is true, unless it is a reset
 abbrev pub TellsTruth : PartyState → PartyState → Type 0
 TellsTruth x y =
     (k : ℕ) (bytes : List ℕ) → slice_get x.sent k ≡ Some bytes
-    → (v : Content) × (decoded x.endpoint.config.addr.0 y.endpoint.config.addr.0 bytes ≡ Ok v) × (has bits.rst v.flags ≡ false → IsTruthful (witness_of x y) v)
+    → (v : Content) × (decode_answer x.endpoint.config.addr.0 y.endpoint.config.addr.0 bytes ≡ Ok v) × (has rst v.flags ≡ false → IsTruthful (witness_of x y) v)
 
 pub record IsSafe (w : WorldState) : Type 0 where
   pub there : IsSafeWay w.a w.b
@@ -77,7 +80,20 @@ pub record IsSafe (w : WorldState) : Type 0 where
   pub told : TellsTruth w.a w.b
   pub answered : TellsTruth w.b w.a
 
--- THE HEADLINE, over every list of events: whatever two Configs the ends were made from, and however a run
--- ended
+-- SELECTIVE ACKNOWLEDGEMENT (RFC 2018, 3 to 5) tells nothing but the truth, though nothing rests on it: each block that
+-- x emitted is of positions that x has, and each byte that y's blocks marked at x is one that y has, unless it gave up.
+pub record HasTrueHints (x y : PartyState) : Type 0 where
+  pub blocks : (v : Content) → IsSent x y v → HasTrueBlocks (witness_of x y) v
+  pub marks : gave_up y ≡ false → (place : ℕ) → IsMarked x.endpoint.sending.queue place → HasPosition (witness_of y x) (position_at x.endpoint.sending place)
+
+pub record HintsAreTrue (w : WorldState) : Type 0 where
+  pub there : HasTrueHints w.a w.b
+  pub back : HasTrueHints w.b w.a
+
+-- THE HEADLINE, over every list of events: whatever two Configs the ends were made from, however a run ended, and
+-- whether it stops at a refusal or goes on
 abbrev pub EveryRunIsSafe : Type 0
-EveryRunIsSafe = (a b : Config) (list : List Event) → IsConfig a → IsConfig b → AllByRecursion HasBytes list → IsSafe (run_of (new_world a b) list)
+EveryRunIsSafe =
+    (a b : Config) (list : List EventContent) → IsConfig a → IsConfig b → AllByRecursion HasBytes list
+    → IsSafe (run_of (new_world a b) list) × IsSafe (world_behind_all (new_world a b) list)
+    × HintsAreTrue (run_of (new_world a b) list) × HintsAreTrue (world_behind_all (new_world a b) list)

@@ -2,10 +2,10 @@
 -- accepted for it, and nothing of the other stream but what has come.
 use Rattle.std.specs.Prelude.{◌≡◌, ℕ, ◌+◌, ◌-◌, ◌<◌, ◌≤◌, ◌⊎◌, Bool, true, false, ◌==◌, if◌then◌else◌, List, [], length, take, drop, Option, Some, slice_get}
 use Rattle.tcp_wire.specs.Position.{number}
-use Rattle.tcp_wire.specs.Options.{OptionContent, Nop, Mss, WindowScale, SackPermitted, Sack, Unknown}
-use Rattle.tcp_wire.specs.Wire.{Content, has}
+use Rattle.tcp_wire.specs.Flags.{fin, syn, ack, has}
+use Rattle.tcp_wire.specs.Wire.{Content}
 use Rattle.tcp_reasm.specs.Reassembly.{Cell}
-use Rattle.tcp_conn.specs.Arrival as bits
+use Rattle.tcp_conn.specs.Link.{blocks_told}
 
 -- what one end can show when it speaks
 pub record Witness : Type 0 where
@@ -34,13 +34,9 @@ IsTrueBlock x block =
 abbrev pub AreTrueBlocks : Witness → List (ℕ × ℕ) → Type 0
 AreTrueBlocks x blocks = (k : ℕ) (block : ℕ × ℕ) → slice_get blocks k ≡ Some block → IsTrueBlock x block
 
-abbrev pub IsTrueOption : Witness → OptionContent → Type 0
-IsTrueOption x Nop = Unit {0}
-IsTrueOption x (Mss size) = Unit {0}
-IsTrueOption x (WindowScale shift) = Unit {0}
-IsTrueOption x SackPermitted = Unit {0}
-IsTrueOption x (Sack blocks) = x.gave_up ≡ false → AreTrueBlocks x blocks
-IsTrueOption x (Unknown kind body) = Unit {0}
+-- the blocks of a segment, unless the end gave up what it held
+abbrev pub HasTrueBlocks : Witness → Content → Type 0
+HasTrueBlocks x v = x.gave_up ≡ false → AreTrueBlocks x (blocks_told v.options)
 
 -- an acknowledgement is the number of a position up to the next one that the end wants
 pub record IsTrueAck (x : Witness) (ack : ℕ) : Type 0 where
@@ -57,12 +53,11 @@ pub record IsTruthful (x : Witness) (v : Content) : Type 0 where
   -- it lies within what was accepted, the FIN's position included
   pub within : position ≤ 1 + length x.accepted + (if x.closed then 1 else 0)
   -- SYN stands at position 0 alone, and stands there alone
-  pub syn : has bits.syn v.flags ≡ (position == 0)
-  pub bare : position ≡ 0 → (v.text ≡ []) × (has bits.fin v.flags ≡ false)
+  pub has_syn : has syn v.flags ≡ (position == 0)
+  pub bare : position ≡ 0 → (v.text ≡ []) × (has fin v.flags ≡ false)
   -- its text is what was accepted, from its position on
   pub fits : 0 < length v.text → position + length v.text ≤ 1 + length x.accepted
   pub text : 0 < length v.text → v.text ≡ take (length v.text) (drop (position - 1) x.accepted)
   -- FIN stands right behind all that was accepted, and only after a close
-  pub fin : has bits.fin v.flags ≡ true → (x.closed ≡ true) × (position + length v.text ≡ 1 + length x.accepted)
-  pub ack : has bits.ack v.flags ≡ true → IsTrueAck x v.ack
-  pub options : (k : ℕ) (option : OptionContent) → slice_get v.options k ≡ Some option → IsTrueOption x option
+  pub has_fin : has fin v.flags ≡ true → (x.closed ≡ true) × (position + length v.text ≡ 1 + length x.accepted)
+  pub has_ack : has ack v.flags ≡ true → IsTrueAck x v.ack

@@ -1,33 +1,36 @@
--- Two ends and all that they emitted, what can happen to them (RFC 9293, 3.10), and a run of
--- events.
-use Rattle.std.specs.Prelude.{ℕ, suc, ◌<◌, Bool, true, false, ◌==◌, nat_le, bit_xor, if◌then◌else◌, List, [], ◌∷◌, ◌++◌, length, take, Option, Some, None, unwrap_or, option_to_list, option_map, slice_get, slice_set, slice_index}
-use Rattle.tcp_wire.specs.Checksum.{AreBytes}
+-- Two ends and all that they emitted, what happens to them at an event (RFC 9293, 3.10), and runs of events.
+use Rattle.std.specs.Prelude.{◌≡◌, ℕ, suc, Bool, true, false, ◌||◌, ◌==◌, nat_le, bit_xor, if◌then◌else◌, is_ok, List, [], ◌∷◌, ◌++◌, length, take, Option, Some, None, unwrap_or, option_to_list, option_map, slice_get, slice_set, slice_index, Result, Ok, Err}
 use Rattle.tcp_conn.specs.declared.config.Config.{Config}
 use Rattle.tcp_conn.specs.declared.config.ConfigError.{ConfigError}
 use Rattle.tcp_conn.specs.declared.config.ConfigError.TheVariants as faults
-use Rattle.tcp_conn.specs.declared.phase.Timer.{Timer}
+use Rattle.tcp_conn.specs.declared.link.Peer.{Peer}
+use Rattle.tcp_conn.specs.declared.outcome.CallError.{CallError}
+use Rattle.tcp_conn.specs.declared.outcome.Received.{Received}
+use Rattle.tcp_conn.specs.declared.outcome.Received.TheVariants.{Bytes, EndOfStream}
+use Rattle.tcp_conn.specs.declared.phase.Timer.{Timer as Which}
 use Rattle.tcp_conn.specs.State.{State}
-use Rattle.tcp_conn.specs.Sender.{count_sendable}
-use Rattle.tcp_conn.specs.Calls.{HasGoodCapacities, HasGoodMss, HasBadCapacity, HasBadMss, born, send_answer, after_send, receive_answer, after_receive, count_handed, timer_answer, after_timer}
-use Rattle.tcp_conn.specs.Emission.{emitted, after_emission}
+use Rattle.tcp_conn.specs.Configs.{HasBadCapacity, HasBadMss, HasBadShift, IsGoodConfig}
+use Rattle.tcp_conn.specs.Calls.{new_end, opening_answer, after_connect, after_listen, send_answer, after_send, receive_answer, after_receive, received_bytes, close_answer, after_close, abort_answer, after_abort, timer_answer, after_timer}
+use Rattle.tcp_conn.specs.Emission.{emitted_bytes, after_emission}
 use Rattle.tcp_conn.specs.Arrival.{arrival_answer, after_arrival}
 use Rattle.tcp_replay.specs.declared.event.Side.{Side}
 use Rattle.tcp_replay.specs.declared.event.Side.TheVariants.{A, B}
-use Rattle.tcp_replay.specs.declared.event.Event.{Event}
-use Rattle.tcp_replay.specs.declared.event.Event.TheVariants as events
 use Rattle.tcp_replay.specs.declared.outcome.Outcome.{Outcome}
 use Rattle.tcp_replay.specs.declared.outcome.Outcome.TheVariants as outcomes
 use Rattle.tcp_replay.specs.declared.outcome.WorldError.{WorldError}
 use Rattle.tcp_replay.specs.declared.outcome.WorldError.TheVariants as worlds
 use Rattle.tcp_replay.specs.declared.outcome.StepError.{StepError}
 use Rattle.tcp_replay.specs.declared.outcome.StepError.TheVariants.{NoSuchSegment, NoChange, PlaceOutside}
+use Rattle.tcp_replay.specs.Events.{EventContent, Connect, Listen, Send, Receive, Close, Abort, Timer, Emit, Deliver, Damage}
 
 -- one end, with what its user did and had, and every segment that it emitted
 pub record PartyState : Type 0 where
   pub endpoint : State
   pub sent : List (List ℕ)
+  -- what `send` took, and what `receive` put out
   pub accepted : List ℕ
   pub delivered : List ℕ
+  -- a `close` was answered Ok; the end of the stream was handed over
   pub closed : Bool
   pub ended : Bool
 
@@ -38,38 +41,98 @@ pub record WorldState : Type 0 where
 abbrev pub both : PartyState → PartyState → WorldState
 both a b = record { a = a; b = b }
 
-abbrev pub new_party : Config → Config → PartyState
-new_party own peer = record { endpoint = born own peer; sent = []; accepted = []; delivered = []; closed = false; ended = false }
+abbrev pub new_party : Config → PartyState
+new_party c = record { endpoint = new_end c; sent = []; accepted = []; delivered = []; closed = false; ended = false }
 
 abbrev pub new_world : Config → Config → WorldState
-new_world a b = both (new_party a b) (new_party b a)
+new_world a b = both (new_party a) (new_party b)
 
--- SEND: what is accepted is the front that the end takes
-unfoldable pub user_sends : PartyState → List ℕ → PartyState
-user_sends p text = record p {
+-- ---- what happens at one party
+
+abbrev pub address_of : PartyState → Peer
+address_of p = record { addr = p.endpoint.config.addr; port = p.endpoint.config.port }
+
+unfoldable pub party_after_connect : PartyState → Peer → PartyState
+party_after_connect p peer = record p { endpoint = after_connect p.endpoint peer }
+
+unfoldable pub party_after_listen : PartyState → PartyState
+party_after_listen p = record p { endpoint = after_listen p.endpoint }
+
+-- SEND: accepted is what the call took
+abbrev pub front_taken : Result ℕ CallError → List ℕ → List ℕ
+front_taken (Ok count) text = take count text
+front_taken (Err error) text = []
+
+unfoldable pub party_after_send : PartyState → List ℕ → PartyState
+party_after_send p text = record p {
   endpoint = after_send p.endpoint text;
-  accepted = p.accepted ++ take (count_sendable p.endpoint.sending text) text;
+  accepted = p.accepted ++ front_taken (send_answer p.endpoint text) text;
 }
 
--- RECEIVE: what is delivered are the bytes that the end puts out
-unfoldable pub user_receives : PartyState → ℕ → PartyState
-user_receives p room = record p {
+-- RECEIVE: delivered are the bytes that the call put out, as many as it answers
+abbrev pub count_handed : Result Received CallError → ℕ
+count_handed (Ok (Bytes count)) = count
+count_handed other = 0
+
+abbrev pub is_end_of_stream : Result Received CallError → Bool
+is_end_of_stream (Ok EndOfStream) = true
+is_end_of_stream other = false
+
+unfoldable pub party_after_receive : PartyState → ℕ → PartyState
+party_after_receive p room = record p {
   endpoint = after_receive p.endpoint room;
-  delivered = p.delivered ++ take (count_handed p.endpoint room) p.endpoint.receiving.inbox.unread;
+  delivered = p.delivered ++ received_bytes p.endpoint room;
+  ended = p.ended || is_end_of_stream (receive_answer p.endpoint room);
 }
 
-abbrev pub timer_fires : PartyState → Timer → PartyState
-timer_fires p timer = record p { endpoint = after_timer p.endpoint timer }
+unfoldable pub party_after_close : PartyState → PartyState
+party_after_close p = record p { endpoint = after_close p.endpoint; closed = p.closed || is_ok (close_answer p.endpoint) }
+
+unfoldable pub party_after_abort : PartyState → PartyState
+party_after_abort p = record p { endpoint = after_abort p.endpoint }
+
+unfoldable pub party_after_timer : PartyState → Which → PartyState
+party_after_timer p timer = record p { endpoint = after_timer p.endpoint timer }
 
 -- EMIT: a segment is appended to the list, which nothing leaves
-unfoldable pub emits : PartyState → PartyState
-emits p = record p { endpoint = after_emission p.endpoint; sent = p.sent ++ option_to_list (emitted p.endpoint) }
+unfoldable pub party_after_emission : PartyState → PartyState
+party_after_emission p = record p { endpoint = after_emission p.endpoint; sent = p.sent ++ option_to_list (emitted_bytes p.endpoint) }
 
--- bytes arrive from another party, with the true addresses
-unfoldable pub takes_in : PartyState → PartyState → List ℕ → PartyState
-takes_in p from bytes = record p {
+abbrev pub emission_outcome : PartyState → Outcome
+emission_outcome p = outcomes.Emitted (option_map (λ _. length p.sent) (emitted_bytes p.endpoint))
+
+-- ARRIVAL: bytes come from another party, with the true addresses
+unfoldable pub party_after_arrival : PartyState → PartyState → List ℕ → PartyState
+party_after_arrival p from bytes = record p {
   endpoint = after_arrival p.endpoint from.endpoint.config.addr.0 p.endpoint.config.addr.0 bytes;
 }
+
+abbrev pub arrival_outcome : PartyState → PartyState → List ℕ → Outcome
+arrival_outcome p from bytes = outcomes.Arrived (arrival_answer p.endpoint from.endpoint.config.addr.0 p.endpoint.config.addr.0 bytes)
+
+-- segment k of a party, none being the empty text
+abbrev pub segment_at : PartyState → ℕ → List ℕ
+segment_at p k = unwrap_or (slice_get p.sent k) []
+
+-- the bytes with one of them combined with a value by exclusive or
+abbrev pub bytes_with_damage : List ℕ → ℕ → ℕ → List ℕ
+bytes_with_damage bytes place value = slice_set bytes place (bit_xor (slice_index bytes place) value)
+
+-- REFUSALS of a delivery, want of memory aside, the first that applies
+abbrev pub is_missing : PartyState → ℕ → Bool
+is_missing p k = nat_le (length p.sent) k
+
+abbrev pub delivery_refusal : PartyState → ℕ → Option StepError
+delivery_refusal p k = if is_missing p k then Some NoSuchSegment else None
+
+abbrev pub damage_refusal : PartyState → ℕ → ℕ → ℕ → Option StepError
+damage_refusal p k place value =
+    if is_missing p k then Some NoSuchSegment
+    else (if value == 0 then Some NoChange
+    else (if nat_le (length (segment_at p k)) place then Some PlaceOutside
+    else None))
+
+-- ---- what happens in the world
 
 abbrev pub other : Side → Side
 other A = B
@@ -83,93 +146,79 @@ abbrev pub with_party : WorldState → Side → PartyState → WorldState
 with_party w A p = record w { a = p }
 with_party w B p = record w { b = p }
 
--- segment k of a party, none being the empty text
-abbrev pub segment_at : PartyState → ℕ → List ℕ
-segment_at p k = unwrap_or (slice_get p.sent k) []
+-- What comes of an event: why it is refused, want of memory aside; where it isn't, the side at which it happens, the
+-- party there after it, and what is answered; and whether the world has to grow for it.
+pub record Effect : Type 0 where
+  pub refusal : Option StepError
+  pub side : Side
+  pub party : PartyState
+  pub outcome : Outcome
+  pub grows : Bool
 
--- the bytes with one of them combined with a value by exclusive or
-abbrev pub damaged : List ℕ → ℕ → ℕ → List ℕ
-damaged bytes place value = slice_set bytes place (bit_xor (slice_index bytes place) value)
+abbrev pub effect_at : Side → PartyState → Outcome → Bool → Effect
+effect_at side party outcome grows = record { refusal = None; side = side; party = party; outcome = outcome; grows = grows }
 
 -- bytes come to the side that isn't this one
-abbrev pub handed : WorldState → Side → List ℕ → WorldState
-handed w from bytes = with_party w (other from) (takes_in (party_of w (other from)) (party_of w from) bytes)
+abbrev pub effect_of_arrival : WorldState → Side → List ℕ → Option StepError → Bool → Effect
+effect_of_arrival w from bytes refusal grows = record {
+  refusal = refusal;
+  side = other from;
+  party = party_after_arrival (party_of w (other from)) (party_of w from) bytes;
+  outcome = arrival_outcome (party_of w (other from)) (party_of w from) bytes;
+  grows = grows;
+}
 
--- WHAT HAPPENS at an event that isn't refused
-unfoldable pub happens : WorldState → Event → WorldState
-happens w (events.Send side bytes) = with_party w side (user_sends (party_of w side) bytes.items)
-happens w (events.Receive side room) = with_party w side (user_receives (party_of w side) room)
-happens w (events.Timer side timer) = with_party w side (timer_fires (party_of w side) timer)
-happens w (events.Emit side) = with_party w side (emits (party_of w side))
-happens w (events.Deliver from k) = handed w from (segment_at (party_of w from) k)
-happens w (events.Damage from k place value) = handed w from (damaged (segment_at (party_of w from) k) place value)
+-- THE TABLE OF EVENTS
+unfoldable pub effect_of : WorldState → EventContent → Effect
+effect_of w (Connect side) = effect_at side (party_after_connect (party_of w side) (address_of (party_of w (other side)))) (outcomes.Call (opening_answer (party_of w side).endpoint)) false
+effect_of w (Listen side) = effect_at side (party_after_listen (party_of w side)) (outcomes.Call (opening_answer (party_of w side).endpoint)) false
+effect_of w (Send side bytes) = effect_at side (party_after_send (party_of w side) bytes) (outcomes.Sent (send_answer (party_of w side).endpoint bytes)) true
+effect_of w (Receive side room) = effect_at side (party_after_receive (party_of w side) room) (outcomes.Got (receive_answer (party_of w side).endpoint room)) true
+effect_of w (Close side) = effect_at side (party_after_close (party_of w side)) (outcomes.Call (close_answer (party_of w side).endpoint)) false
+effect_of w (Abort side) = effect_at side (party_after_abort (party_of w side)) (outcomes.Call (abort_answer (party_of w side).endpoint)) false
+effect_of w (Timer side which) = effect_at side (party_after_timer (party_of w side) which) (outcomes.Timer (timer_answer (party_of w side).endpoint which)) false
+effect_of w (Emit side) = effect_at side (party_after_emission (party_of w side)) (emission_outcome (party_of w side)) true
+effect_of w (Deliver from k) = effect_of_arrival w from (segment_at (party_of w from) k) (delivery_refusal (party_of w from) k) false
+effect_of w (Damage from k place value) = effect_of_arrival w from (bytes_with_damage (segment_at (party_of w from) k) place value) (damage_refusal (party_of w from) k place value) true
 
--- what an event brings along are bytes
-abbrev pub HasBytes : Event → Type 0
-HasBytes (events.Send side bytes) = AreBytes bytes.items
-HasBytes (events.Receive side room) = Unit {0}
-HasBytes (events.Timer side timer) = Unit {0}
-HasBytes (events.Emit side) = Unit {0}
-HasBytes (events.Deliver from k) = Unit {0}
-HasBytes (events.Damage from k place value) = value < 256
+-- why an event is refused, want of memory aside
+abbrev pub refusal_of : WorldState → EventContent → Option StepError
+refusal_of w e = (effect_of w e).refusal
 
--- WHAT IS ANSWERED at an event that isn't refused
-abbrev pub arrival_at : PartyState → PartyState → List ℕ → Outcome
-arrival_at p from bytes = outcomes.Arrived (arrival_answer p.endpoint from.endpoint.config.addr.0 p.endpoint.config.addr.0 bytes)
+-- the world after one that isn't, and what is answered
+abbrev pub world_after : WorldState → EventContent → WorldState
+world_after w e = with_party w (effect_of w e).side (effect_of w e).party
 
-abbrev pub emission_at : PartyState → Outcome
-emission_at p = outcomes.Emitted (option_map (λ _. length p.sent) (emitted p.endpoint))
+abbrev pub outcome_of : WorldState → EventContent → Outcome
+outcome_of w e = (effect_of w e).outcome
 
-unfoldable pub outcome_of : WorldState → Event → Outcome
-outcome_of w (events.Send side bytes) = outcomes.Sent (send_answer (party_of w side).endpoint bytes.items)
-outcome_of w (events.Receive side room) = outcomes.Got (receive_answer (party_of w side).endpoint room)
-outcome_of w (events.Timer side timer) = outcomes.Timer (timer_answer (party_of w side).endpoint timer)
-outcome_of w (events.Emit side) = emission_at (party_of w side)
-outcome_of w (events.Deliver from k) = arrival_at (party_of w (other from)) (party_of w from) (segment_at (party_of w from) k)
-outcome_of w (events.Damage from k place value) = arrival_at (party_of w (other from)) (party_of w from) (damaged (segment_at (party_of w from) k) place value)
+-- whether the world has to grow for it
+abbrev pub grows_for : WorldState → EventContent → Bool
+grows_for w e = (effect_of w e).grows
 
--- whether bytes come with one of them changed
-abbrev pub IsDamage : Event → Type 0
-IsDamage (events.Send side bytes) = ⊥
-IsDamage (events.Receive side room) = ⊥
-IsDamage (events.Timer side timer) = ⊥
-IsDamage (events.Emit side) = ⊥
-IsDamage (events.Deliver from k) = ⊥
-IsDamage (events.Damage from k place value) = Unit {0}
+-- ---- runs
 
--- REFUSALS, want of memory aside, the first that applies
-abbrev pub missing : PartyState → ℕ → Bool
-missing p k = nat_le (length p.sent) k
+-- ONE EVENT, refused or not: what is answered, and the world behind it
+abbrev pub answer_or : Option StepError → Outcome → Result Outcome StepError
+answer_or None outcome = Ok outcome
+answer_or (Some error) outcome = Err error
 
-abbrev pub delivery_refusal : PartyState → ℕ → Option StepError
-delivery_refusal p k = if missing p k then Some NoSuchSegment else None
+abbrev pub step_answer : WorldState → EventContent → Result Outcome StepError
+step_answer w e = answer_or (refusal_of w e) (outcome_of w e)
 
-abbrev pub damage_refusal : PartyState → ℕ → ℕ → ℕ → Option StepError
-damage_refusal p k place value =
-    if missing p k then Some NoSuchSegment
-    else (if value == 0 then Some NoChange
-    else (if nat_le (length (segment_at p k)) place then Some PlaceOutside
-    else None))
+abbrev pub stay_or : Option StepError → WorldState → WorldState → WorldState
+stay_or (Some error) here there = here
+stay_or None here there = there
 
-unfoldable pub refusal : WorldState → Event → Option StepError
-refusal w (events.Send side bytes) = None
-refusal w (events.Receive side room) = None
-refusal w (events.Timer side timer) = None
-refusal w (events.Emit side) = None
-refusal w (events.Deliver from k) = delivery_refusal (party_of w from) k
-refusal w (events.Damage from k place value) = damage_refusal (party_of w from) k place value
+abbrev pub world_behind : WorldState → EventContent → WorldState
+world_behind w e = stay_or (refusal_of w e) w (world_after w e)
 
--- the events for which the world has to grow
-abbrev pub takes_memory : Event → Bool
-takes_memory (events.Send side bytes) = true
-takes_memory (events.Receive side room) = true
-takes_memory (events.Timer side timer) = false
-takes_memory (events.Emit side) = true
-takes_memory (events.Deliver from k) = false
-takes_memory (events.Damage from k place value) = true
+-- A RUN THAT GOES ON takes all its events in turn, refused ones too: the world behind all of them
+unfoldable pub world_behind_all : WorldState → List EventContent → WorldState
+world_behind_all w [] = w
+world_behind_all w (event ∷ events) = world_behind_all (world_behind w event) events
 
--- A RUN applies its events in turn, and stops at the first that is refused: whether one is, its index
--- and why
+-- A RUN THAT STOPS at the first event that is refused: whether one is, its index and why
 abbrev pub later : Option (ℕ × StepError) → Option (ℕ × StepError)
 later None = None
 later (Some stop) = Some (suc stop.0, stop.1)
@@ -178,31 +227,34 @@ abbrev pub stop_or : Option StepError → Option (ℕ × StepError) → Option (
 stop_or (Some error) rest = Some (0, error)
 stop_or None rest = later rest
 
-unfoldable pub stop_of : WorldState → List Event → Option (ℕ × StepError)
+unfoldable pub stop_of : WorldState → List EventContent → Option (ℕ × StepError)
 stop_of w [] = None
-stop_of w (event ∷ events) = stop_or (refusal w event) (stop_of (happens w event) events)
-
-abbrev pub stay_or : Option StepError → WorldState → WorldState → WorldState
-stay_or (Some error) here there = here
-stay_or None here there = there
+stop_of w (event ∷ events) = stop_or (refusal_of w event) (stop_of (world_after w event) events)
 
 -- the world in which it ends
-unfoldable pub run_of : WorldState → List Event → WorldState
+unfoldable pub run_of : WorldState → List EventContent → WorldState
 run_of w [] = w
-run_of w (event ∷ events) = stay_or (refusal w event) w (run_of (happens w event) events)
+run_of w (event ∷ events) = stay_or (refusal_of w event) w (run_of (world_after w event) events)
+
+-- Want of memory stops a run before an event for which the world has to grow: none before it is refused, nor it
+-- itself, and all before it stay done.
+pub record StopsForMemory (w : WorldState) (list : List EventContent) (index : ℕ) (here : WorldState) : Type 0 where
+  pub event : EventContent
+  pub event_is : slice_get list index ≡ Some event
+  pub going : stop_of w (take (suc index) list) ≡ None
+  pub grows : grows_for here event ≡ true
+  pub stays : here ≡ run_of w (take index list)
 
 -- FAULTS of two Configs: what can be made of them, and whose fault a refusal names. Memory aside, a fault of
 -- the second is named only where the first has none.
-abbrev pub IsGoodConfig : Config → Type 0
-IsGoodConfig c = HasGoodCapacities c × HasGoodMss c
-
 abbrev pub HasGoodConfigs : Config → Config → Type 0
 HasGoodConfigs a b = IsGoodConfig a × IsGoodConfig b
 
 abbrev pub HasFault : Config → ConfigError → Type 0
 HasFault c faults.BadCapacity = HasBadCapacity c
-HasFault c faults.NoMemory = IsGoodConfig c
 HasFault c faults.BadMss = HasBadMss c
+HasFault c faults.BadShift = HasBadShift c
+HasFault c faults.NoMemory = IsGoodConfig c
 
 abbrev pub HasNamedFault : Config → Config → WorldError → Type 0
 HasNamedFault a b (worlds.Config A fault) = HasFault a fault

@@ -10,10 +10,18 @@ pub enum Side {
 /// What can happen to the two ends.
 #[derive(Debug, Drop)]
 pub enum Event {
+    /// The user of this side opens to the other side's address and port.
+    Connect(Side),
+    /// The user of this side waits for the other one.
+    Listen(Side),
     /// The user of this side sends these bytes.
     Send(Side, Vec<u8>),
     /// The user of this side asks for at most so many bytes.
     Receive(Side, usize),
+    /// The user of this side has no more to send.
+    Close(Side),
+    /// The user of this side gives the connection up.
+    Abort(Side),
     /// A timer of this side runs out.
     Timer(Side, Timer),
     /// This side emits the segment that is due, if there is one.

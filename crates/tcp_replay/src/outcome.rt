@@ -1,5 +1,5 @@
 ghost use Rattle.std.specs.Prelude.{◌≡◌, Some};
-ghost use Rattle.tcp_replay.specs.Numbers.{step_error_number, step_error_text, world_error_text};
+ghost use Rattle.tcp_replay.specs.Refusals.{step_error_number, step_error_text, world_error_text};
 ghost use Rattle.tcp_replay.specs.declared.outcome.StepError.TheVariants.{NoMemory};
 
 use crate::event::Side;
@@ -11,6 +11,8 @@ use tcp_conn::{Arrival, CallError, ConfigError, Received};
 /// What came of an event.
 #[derive(Clone, Copy, Debug, PartialEq, Eq)]
 pub enum Outcome {
+    /// What `connect`, `listen`, `close` or `abort` answered.
+    Call(Result<(), CallError>),
     /// How many bytes `send` took.
     Sent(Result<usize, CallError>),
     /// What `receive` handed over.

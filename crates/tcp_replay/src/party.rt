@@ -1,14 +1,14 @@
-ghost use Rattle.std.specs.Prelude.{◌≡◌, ◌↔◌, ℕ, ◌<◌, ◌≤◌, length, min, OnOk, OnErr, IfOk, IfErr, IfSome, IfNone, IsOk, option_map, map, vec_items};
+ghost use Rattle.std.specs.Prelude.{◌≡◌, ◌↔◌, ◌||◌, length, OnOk, OnErr, IfOk, IfErr, IfSome, IfNone, IsOk};
 ghost use Rattle.tcp_wire.specs.Checksum.{AreBytes};
-ghost use Rattle.tcp_conn.specs.Calls.{born, send_answer, receive_answer, timer_answer, HasBadCapacity, HasBadMss, IsConfig};
+ghost use Rattle.tcp_conn.specs.Configs.{HasBadCapacity, HasBadMss, HasBadShift, IsGoodConfig, IsConfig};
+ghost use Rattle.tcp_conn.specs.Calls.{opening_answer, send_answer, receive_answer, close_answer, abort_answer, timer_answer};
 ghost use Rattle.tcp_conn.specs.Arrival.{arrival_answer};
-ghost use Rattle.tcp_conn.specs.Emission.{emitted};
-ghost use Rattle.tcp_replay.specs.World.{PartyState, new_party, user_sends, user_receives, timer_fires, emits, takes_in, segment_at, damaged, arrival_at, emission_at, delivery_refusal, damage_refusal, IsGoodConfig};
+ghost use Rattle.tcp_replay.specs.World.{PartyState, new_party, address_of, party_after_connect, party_after_listen, party_after_send, count_handed, is_end_of_stream, party_after_receive, party_after_close, party_after_abort, party_after_timer, party_after_emission, emission_outcome, party_after_arrival, arrival_outcome, segment_at, bytes_with_damage, delivery_refusal, damage_refusal};
 
 use crate::outcome::{Outcome, StepError};
 use std::alloc::{Allocator, Global};
 use std::marker::Model;
-use tcp_conn::{Arrival, Config, ConfigError, EMIT_ROOM, Endpoint, Timer};
+use tcp_conn::{Arrival, CallError, Config, ConfigError, EMIT_ROOM, Endpoint, Received, Timer};
 
 /// One end, with what its user did and had, and every segment that it emitted.
 #[derive(Debug, Drop)]
@@ -20,7 +20,7 @@ pub(crate) struct Party<A: Allocator = Global> {
     pub(crate) accepted: Vec<u8, A>,
     /// The bytes that `receive` put out.
     pub(crate) delivered: Vec<u8, A>,
-    /// Whether a `close` was accepted.
+    /// Whether a `close` was answered Ok.
     pub(crate) closed: bool,
     /// Whether the end of the stream was handed over.
     pub(crate) ended: bool,
@@ -35,16 +35,34 @@ impl<A: Allocator> Model for Party<A> {
     ghost view = { λ p. record { endpoint = p.endpoint; sent = map (λ bytes. bytes.items) p.sent.items; accepted = p.accepted.items; delivered = p.delivered.items; closed = p.closed; ended = p.ended } };
 }
 
+/// How many bytes a `receive` with this answer put out.
+fn count_handed(answer: Result<Received, CallError>) -> usize
+    ensures { result ≡ count_handed answer }
+{
+    match answer {
+        Ok(Received::Bytes(count)) => count,
+        _ => 0,
+    }
+}
+
+/// Whether the end of the stream was handed over, by this answer of a `receive` or before it.
+fn ended_by(ended: bool, answer: Result<Received, CallError>) -> bool
+    ensures { result ≡ (ended || is_end_of_stream answer) }
+{
+    ended || matches!(answer, Ok(Received::EndOfStream))
+}
+
 impl<A: Allocator + Copy> Party<A> {
     /// A new end, of which nothing was asked yet.
-    pub(crate) fn new_in(alloc: A, own: Config, peer: Config) -> Result<Self, ConfigError>
-        ensures ok { IfOk result (λ p. p ≡ new_party own peer) }
-        ensures bad_capacity { (result ≡ Err ConfigError.BadCapacity) ↔ HasBadCapacity own }
-        ensures bad_mss { (result ≡ Err ConfigError.BadMss) ↔ HasBadMss own }
-        ensures good { (result ≡ Err ConfigError.NoMemory) → IsGoodConfig own }
-        ensures made { OnOk result (IsConfig own) }
+    pub(crate) fn new_in(alloc: A, config: Config) -> Result<Self, ConfigError>
+        ensures new { IfOk result (λ p. p ≡ new_party config) }
+        ensures bad_capacity { (result ≡ Err ConfigError.BadCapacity) ↔ HasBadCapacity config }
+        ensures bad_mss { (result ≡ Err ConfigError.BadMss) ↔ HasBadMss config }
+        ensures bad_shift { (result ≡ Err ConfigError.BadShift) ↔ HasBadShift config }
+        ensures good { (result ≡ Err ConfigError.NoMemory) → IsGoodConfig config }
+        ensures made { OnOk result (IsConfig config) }
     {
-        let endpoint = Endpoint::new_in(alloc, own, peer)?;
+        let endpoint = Endpoint::new_in(alloc, config)?;
         Ok(Party {
             endpoint,
             sent: Vec::new(alloc),
@@ -55,10 +73,19 @@ impl<A: Allocator + Copy> Party<A> {
         })
     }
 
+    /// The user waits for a peer.
+    #[tactic(auto, unfolding(crate::specs::World::party_after_listen))]
+    pub(crate) fn listen(&mut self) -> Outcome
+        ensures state { self.new ≡ party_after_listen self.old }
+        ensures outcome { result ≡ Outcome.Call (opening_answer self.old.endpoint) }
+    {
+        Outcome::Call(self.endpoint.listen())
+    }
+
     /// The user sends. Memory for all of the text is taken first.
-    #[tactic(auto, unfolding(crate::specs::World::user_sends))]
+    #[tactic(auto, unfolding(crate::specs::World::party_after_send))]
     pub(crate) fn send(&mut self, text: &[u8]) -> Result<Outcome, StepError>
-        ensures state { OnOk result (self.new ≡ user_sends self.old text.now) }
+        ensures state { OnOk result (self.new ≡ party_after_send self.old text.now) }
         ensures outcome { IfOk result (λ o. o ≡ Outcome.Sent (send_answer self.old.endpoint text.now)) }
         ensures bytes { AreBytes text.now }
         ensures err { OnErr result (self.new ≡ self.old) }
@@ -73,9 +100,9 @@ impl<A: Allocator + Copy> Party<A> {
     }
 
     /// The user receives at most so many bytes. Memory for what there is, is taken first.
-    #[tactic(auto, unfolding(crate::specs::World::user_receives))]
+    #[tactic(auto, unfolding(crate::specs::World::party_after_receive))]
     pub(crate) fn receive(&mut self, alloc: A, room: usize) -> Result<Outcome, StepError>
-        ensures state { OnOk result (self.new ≡ user_receives self.old room) }
+        ensures state { OnOk result (self.new ≡ party_after_receive self.old room) }
         ensures outcome { IfOk result (λ o. o ≡ Outcome.Got (receive_answer self.old.endpoint room)) }
         ensures err { OnErr result (self.new ≡ self.old) }
         ensures memory { IfErr result (λ e. e ≡ StepError.NoMemory) }
@@ -84,23 +111,47 @@ impl<A: Allocator + Copy> Party<A> {
         let mut out = vec![in alloc; 0u8; count]?;
         self.delivered.reserve(count)?;
         let answer = self.endpoint.receive(&mut out);
-        let _ = self.delivered.extend_from_slice(&out);
+        let _ = self
+            .delivered
+            .extend_from_slice(&out[..count_handed(answer)]);
+        self.ended = ended_by(self.ended, answer);
         Ok(Outcome::Got(answer))
     }
 
+    /// The user has no more to send.
+    #[tactic(auto, unfolding(crate::specs::World::party_after_close))]
+    pub(crate) fn close(&mut self) -> Outcome
+        ensures state { self.new ≡ party_after_close self.old }
+        ensures outcome { result ≡ Outcome.Call (close_answer self.old.endpoint) }
+    {
+        let answer = self.endpoint.close();
+        self.closed = self.closed || answer.is_ok();
+        Outcome::Call(answer)
+    }
+
+    /// The user gives the connection up.
+    #[tactic(auto, unfolding(crate::specs::World::party_after_abort))]
+    pub(crate) fn abort(&mut self) -> Outcome
+        ensures state { self.new ≡ party_after_abort self.old }
+        ensures outcome { result ≡ Outcome.Call (abort_answer self.old.endpoint) }
+    {
+        Outcome::Call(self.endpoint.abort())
+    }
+
     /// A timer runs out.
+    #[tactic(auto, unfolding(crate::specs::World::party_after_timer))]
     pub(crate) fn timer(&mut self, timer: Timer) -> Outcome
-        ensures state { self.new ≡ timer_fires self.old timer }
+        ensures state { self.new ≡ party_after_timer self.old timer }
         ensures outcome { result ≡ Outcome.Timer (timer_answer self.old.endpoint timer) }
     {
         Outcome::Timer(self.endpoint.timer(timer))
     }
 
     /// The end emits what is due. Memory for its bytes, and for them alone, is taken first.
-    #[tactic(auto, unfolding(crate::specs::World::emits))]
+    #[tactic(auto, unfolding(crate::specs::World::party_after_emission))]
     pub(crate) fn emit(&mut self, alloc: A) -> Result<Outcome, StepError>
-        ensures state { OnOk result (self.new ≡ emits self.old) }
-        ensures outcome { IfOk result (λ o. o ≡ emission_at self.old) }
+        ensures state { OnOk result (self.new ≡ party_after_emission self.old) }
+        ensures outcome { IfOk result (λ o. o ≡ emission_outcome self.old) }
         ensures err { OnErr result (self.new ≡ self.old) }
         ensures memory { IfErr result (λ e. e ≡ StepError.NoMemory) }
     {
@@ -118,9 +169,9 @@ impl<A: Allocator + Copy> Party<A> {
     }
 
     /// Bytes arrive from another party, with the true addresses.
-    #[tactic(auto, unfolding(crate::specs::World::takes_in))]
+    #[tactic(auto, unfolding(crate::specs::World::party_after_arrival))]
     fn take_in(&mut self, from: &Party<A>, bytes: &[u8]) -> Arrival
-        ensures state { self.new ≡ takes_in self.old from.now bytes.now }
+        ensures state { self.new ≡ party_after_arrival self.old from.now bytes.now }
         ensures answer { result ≡ arrival_answer self.old.endpoint from.now.endpoint.config.addr.0 self.old.endpoint.config.addr.0 bytes.now }
     {
         let src = from.endpoint.config().addr;
@@ -129,14 +180,24 @@ impl<A: Allocator + Copy> Party<A> {
     }
 }
 
+/// The user of `party` opens to the address and port of `peer`.
+#[tactic(auto, unfolding(crate::specs::World::party_after_connect))]
+pub(crate) fn connect<A: Allocator + Copy>(party: &mut Party<A>, peer: &Party<A>) -> Outcome
+    ensures state { party.new ≡ party_after_connect party.old (address_of peer.now) }
+    ensures outcome { result ≡ Outcome.Call (opening_answer party.old.endpoint) }
+{
+    let config = peer.endpoint.config();
+    Outcome::Call(party.endpoint.connect(config.addr, config.port))
+}
+
 /// Segment `k` of `from` arrives at `to`, unchanged. No byte of it is copied.
 pub(crate) fn deliver<A: Allocator + Copy>(
     from: &Party<A>,
     k: usize,
     to: &mut Party<A>,
 ) -> Result<Outcome, StepError>
-    ensures state { OnOk result (to.new ≡ takes_in to.old from.now (segment_at from.now k)) }
-    ensures outcome { IfOk result (λ o. o ≡ arrival_at to.old from.now (segment_at from.now k)) }
+    ensures state { OnOk result (to.new ≡ party_after_arrival to.old from.now (segment_at from.now k)) }
+    ensures outcome { IfOk result (λ o. o ≡ arrival_outcome to.old from.now (segment_at from.now k)) }
     ensures refused { IfSome (delivery_refusal from.now k) (λ e. result ≡ Err e) }
     ensures taken { IfNone (delivery_refusal from.now k) (IsOk result) }
     ensures err { OnErr result (to.new ≡ to.old) }
@@ -157,8 +218,8 @@ pub(crate) fn damage<A: Allocator + Copy>(
     value: u8,
     to: &mut Party<A>,
 ) -> Result<Outcome, StepError>
-    ensures state { OnOk result (to.new ≡ takes_in to.old from.now (damaged (segment_at from.now k) place value)) }
-    ensures outcome { IfOk result (λ o. o ≡ arrival_at to.old from.now (damaged (segment_at from.now k) place value)) }
+    ensures state { OnOk result (to.new ≡ party_after_arrival to.old from.now (bytes_with_damage (segment_at from.now k) place value)) }
+    ensures outcome { IfOk result (λ o. o ≡ arrival_outcome to.old from.now (bytes_with_damage (segment_at from.now k) place value)) }
     ensures refused { IfSome (damage_refusal from.now k place value) (λ e. result ≡ Err e) }
     ensures memory { IfNone (damage_refusal from.now k place value) (IfErr result (λ e. e ≡ StepError.NoMemory)) }
     ensures err { OnErr result (to.new ≡ to.old) }

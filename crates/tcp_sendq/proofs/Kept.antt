@@ -2,20 +2,20 @@
 use Rattle.std.proofs.Common.{◌≡◌, ℕ, ◌≤◌, Bool, true, false, if◌then◌else◌, nat_le, List, refl, length, take, replicate, ◌∙◌, arith, length-append, length-take, length-drop}
 use Rattle.std.proofs.lemmas.List.{length-replicate}
 use Rattle.std.proofs.lemmas.Bool.Decides.{nat_tests}
-use Rattle.tcp_sendq.specs.SendQueue.{Queue, IsQueue, count_taken, offered, released, marked, unmarked, can_mark, marked_between, count_runs, most_runs}
-use Rattle.tcp_sendq.proofs.Runs.{count_runs-drop, count_runs-offered, count_runs-unmarked}
+use Rattle.tcp_sendq.specs.SendQueue.{Queue, IsQueue, count_taken, after_offer, after_release, after_mark, without_marks, can_mark, marks_with, count_runs, max_runs}
+use Rattle.tcp_sendq.proofs.Runs.{count_runs-drop, count_runs-after_offer, count_runs-unmarked}
 
-pub IsQueue-offered : {q : Queue} (text : List ℕ) → IsQueue q → IsQueue (offered q text)
-IsQueue-offered {q} text old = record {
+pub IsQueue-after_offer : {q : Queue} (text : List ℕ) → IsQueue q → IsQueue (after_offer q text)
+IsQueue-after_offer {q} text old = record {
   least = old.least;
   most = old.most;
   within = omega (arith, old.within, length-append q.bytes (take (count_taken q text) text), length-take (count_taken q text) text);
   flags = omega (arith, old.flags, length-append q.bytes (take (count_taken q text) text), length-take (count_taken q text) text, length-append q.marks (replicate (count_taken q text) false), length-replicate (count_taken q text) false);
-  few_runs = omega (arith, old.few_runs, count_runs-offered q.marks (count_taken q text));
+  few_runs = omega (arith, old.few_runs, count_runs-after_offer q.marks (count_taken q text));
 }
 
-pub IsQueue-released : {q : Queue} (n : ℕ) → IsQueue q → IsQueue (released q n)
-IsQueue-released {q} n old = record {
+pub IsQueue-after_release : {q : Queue} (n : ℕ) → IsQueue q → IsQueue (after_release q n)
+IsQueue-after_release {q} n old = record {
   least = old.least;
   most = old.most;
   within = omega (arith, old.within, length-drop n q.bytes);
@@ -24,32 +24,32 @@ IsQueue-released {q} n old = record {
 }
 
 -- a part that is marked changes no length
-pub length-marked_between : (from to : ℕ) (marks : List Bool) → from ≤ to → to ≤ length marks → length (marked_between from to marks) ≡ length marks
-length-marked_between from to marks ordered within =
+pub length-marks_with : (from to : ℕ) (marks : List Bool) → from ≤ to → to ≤ length marks → length (marks_with from to marks) ≡ length marks
+length-marks_with from to marks ordered within =
     simp (length-append, length-take, length-drop, length-replicate) (omega arith)
 
 either : (b : Bool) (P : List Bool → Type 0) (xs ys : List Bool) → (b ≡ true → P xs) → P ys → P (if b then xs else ys)
 either true P xs ys holds other = holds refl
 either false P xs ys holds other = other
 
-pub IsQueue-marked : {q : Queue} (from to : ℕ) → from ≤ to → to ≤ length q.bytes → IsQueue q → IsQueue (marked q from to)
-unfolding marked can_mark
-IsQueue-marked {q} from to ordered within old =
-    let more : List Bool = marked_between from to q.marks in
-    let few : Bool = nat_le (count_runs false more) most_runs in
+pub IsQueue-after_mark : {q : Queue} (from to : ℕ) → from ≤ to → to ≤ length q.bytes → IsQueue q → IsQueue (after_mark q from to)
+unfolding after_mark can_mark
+IsQueue-after_mark {q} from to ordered within old =
+    let more : List Bool = marks_with from to q.marks in
+    let few : Bool = nat_le (count_runs false more) max_runs in
     let flags : length more ≡ length q.bytes =
-    length-marked_between from to q.marks ordered (omega (arith, old.flags)) ∙ old.flags in
+    length-marks_with from to q.marks ordered (omega (arith, old.flags)) ∙ old.flags in
     record {
       least = old.least;
       most = old.most;
       within = old.within;
       flags = either few (λ marks. length marks ≡ length q.bytes) more q.marks (λ _. flags) old.flags;
-      few_runs = either few (λ marks. count_runs false marks ≤ most_runs) more q.marks (λ h. grind (arith, nat_tests)) old.few_runs;
+      few_runs = either few (λ marks. count_runs false marks ≤ max_runs) more q.marks (λ h. grind (arith, nat_tests)) old.few_runs;
     }
 
-pub IsQueue-unmarked : {q : Queue} → IsQueue q → IsQueue (unmarked q)
-unfolding unmarked
-IsQueue-unmarked {q} old = record {
+pub IsQueue-without_marks : {q : Queue} → IsQueue q → IsQueue (without_marks q)
+unfolding without_marks
+IsQueue-without_marks {q} old = record {
   least = old.least;
   most = old.most;
   within = old.within;

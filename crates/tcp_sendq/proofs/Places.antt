@@ -3,7 +3,7 @@ use Rattle.std.proofs.Common.{◌≡◌, ℕ, zero, suc, ◌+◌, ◌-◌, ◌<�
 use Rattle.std.proofs.lemmas.List.{take_more, length-replicate}
 use Rattle.std.proofs.lemmas.Bool.Decides.{nat_tests}
 use Rattle.std.proofs.lemmas.Bool.{cases_lt}
-use Rattle.tcp_sendq.specs.SendQueue.{Queue, released, offered, count_taken, unmarked, marked_between, leading, unmarked_from, next_unmarked, IsNextUnmarked, AllMarkedFrom, end_of_marks, last_mark_end, IsLastMarkEnd, NoneMarkedFrom, IsMarked}
+use Rattle.tcp_sendq.specs.SendQueue.{Queue, after_release, after_offer, count_taken, without_marks, marks_with, count_leading, first_unmarked, next_unmarked, IsNextUnmarked, AllMarkedFrom, end_of_marks, last_mark_end, IsLastMarkEnd, NoneMarkedFrom, IsMarked}
 
 slice_get-drop : {X : Type 0} (n : ℕ) (xs : List X) (k : ℕ) → slice_get (drop n xs) k ≡ slice_get xs (n + k)
 slice_get-drop zero xs k = let e : k ≡ 0 + k = omega arith in ap (slice_get xs) e
@@ -43,46 +43,46 @@ length_marked : (from to : ℕ) (marks : List Bool) → from ≤ to → to ≤ l
 length_marked from to marks ordered within =
     omega (arith, length_front from marks (omega arith), length-append (take from marks) (replicate (to - from) true), length-replicate (to - from) true)
 
-pub marked_between-below : (from to : ℕ) (marks : List Bool) (place : ℕ) → from ≤ to → to ≤ length marks → place < from → slice_get (marked_between from to marks) place ≡ slice_get marks place
-marked_between-below from to marks place ordered within below =
+pub marks_with-below : (from to : ℕ) (marks : List Bool) (place : ℕ) → from ≤ to → to ≤ length marks → place < from → slice_get (marks_with from to marks) place ≡ slice_get marks place
+marks_with-below from to marks place ordered within below =
     slice_get-append_left (take from marks ++ replicate (to - from) true) (drop to marks) place (omega (arith, length_marked from to marks ordered within))
     ∙ (slice_get-append_left (take from marks) (replicate (to - from) true) place (omega (arith, length_front from marks (omega arith)))
     ∙ slice_get-take from marks place below)
 
-pub marked_between-inside : (from to : ℕ) (marks : List Bool) (place : ℕ) → from ≤ place → place < to → to ≤ length marks → slice_get (marked_between from to marks) place ≡ Some true
-marked_between-inside from to marks place low high within =
+pub marks_with-inside : (from to : ℕ) (marks : List Bool) (place : ℕ) → from ≤ place → place < to → to ≤ length marks → slice_get (marks_with from to marks) place ≡ Some true
+marks_with-inside from to marks place low high within =
     let front : length (take from marks) ≡ from = length_front from marks (omega arith) in
     slice_get-append_left (take from marks ++ replicate (to - from) true) (drop to marks) place (omega (arith, length_marked from to marks (omega arith) within))
     ∙ (slice_get-append_right (take from marks) (replicate (to - from) true) place (omega arith)
     ∙ slice_get-replicate (to - from) true (place - length (take from marks)) (omega arith))
 
-pub marked_between-above : (from to : ℕ) (marks : List Bool) (place : ℕ) → from ≤ to → to ≤ length marks → to ≤ place → slice_get (marked_between from to marks) place ≡ slice_get marks place
-marked_between-above from to marks place ordered within above =
+pub marks_with-above : (from to : ℕ) (marks : List Bool) (place : ℕ) → from ≤ to → to ≤ length marks → to ≤ place → slice_get (marks_with from to marks) place ≡ slice_get marks place
+marks_with-above from to marks place ordered within above =
     let front : length (take from marks ++ replicate (to - from) true) ≡ to = length_marked from to marks ordered within in
     let e : to + (place - length (take from marks ++ replicate (to - from) true)) ≡ place = omega arith in
     slice_get-append_right (take from marks ++ replicate (to - from) true) (drop to marks) place (omega arith)
     ∙ (slice_get-drop to marks (place - length (take from marks ++ replicate (to - from) true)) ∙ ap (slice_get marks) e)
 
 -- what is marked then was marked or is in the part
-pub marked_between-only : (from to : ℕ) (marks : List Bool) (place : ℕ) → from ≤ to → to ≤ length marks → slice_get (marked_between from to marks) place ≡ Some true → (slice_get marks place ≡ Some true) ⊎ ((from ≤ place) × (place < to))
-marked_between-only from to marks place ordered within holds = elim (cases_lt place from) [
-  | inl below ↦ inl (sym (marked_between-below from to marks place ordered within below) ∙ holds)
+pub marks_with-only : (from to : ℕ) (marks : List Bool) (place : ℕ) → from ≤ to → to ≤ length marks → slice_get (marks_with from to marks) place ≡ Some true → (slice_get marks place ≡ Some true) ⊎ ((from ≤ place) × (place < to))
+marks_with-only from to marks place ordered within holds = elim (cases_lt place from) [
+  | inl below ↦ inl (sym (marks_with-below from to marks place ordered within below) ∙ holds)
   | inr low ↦ elim (cases_lt place to) [
     | inl high ↦ inr (low, high)
-    | inr above ↦ inl (sym (marked_between-above from to marks place ordered within above) ∙ holds)
+    | inr above ↦ inl (sym (marks_with-above from to marks place ordered within above) ∙ holds)
   ]
 ]
 
 -- and the other way round
-pub marked_between-all : (from to : ℕ) (marks : List Bool) (place : ℕ) → from ≤ to → to ≤ length marks → (slice_get marks place ≡ Some true) ⊎ ((from ≤ place) × (place < to)) → slice_get (marked_between from to marks) place ≡ Some true
-marked_between-all from to marks place ordered within (inl held) = elim (cases_lt place from) [
-  | inl below ↦ marked_between-below from to marks place ordered within below ∙ held
+pub marks_with-all : (from to : ℕ) (marks : List Bool) (place : ℕ) → from ≤ to → to ≤ length marks → (slice_get marks place ≡ Some true) ⊎ ((from ≤ place) × (place < to)) → slice_get (marks_with from to marks) place ≡ Some true
+marks_with-all from to marks place ordered within (inl held) = elim (cases_lt place from) [
+  | inl below ↦ marks_with-below from to marks place ordered within below ∙ held
   | inr low ↦ elim (cases_lt place to) [
-    | inl high ↦ marked_between-inside from to marks place low high within
-    | inr above ↦ marked_between-above from to marks place ordered within above ∙ held
+    | inl high ↦ marks_with-inside from to marks place low high within
+    | inr above ↦ marks_with-above from to marks place ordered within above ∙ held
   ]
 ]
-marked_between-all from to marks place ordered within (inr inside) = marked_between-inside from to marks place inside.0 inside.1 within
+marks_with-all from to marks place ordered within (inr inside) = marks_with-inside from to marks place inside.0 inside.1 within
 
 no_mark_in_unmarked : (n place : ℕ) → slice_get (replicate n false) place ≡ Some true → ⊥
 no_mark_in_unmarked zero place h = cc
@@ -90,17 +90,17 @@ no_mark_in_unmarked (suc n) zero h = cc
 no_mark_in_unmarked (suc n) (suc place) h = no_mark_in_unmarked n place h
 
 -- after a timeout nothing is marked
-pub IsMarked-unmarked : (q : Queue) (place : ℕ) → IsMarked (unmarked q) place → ⊥
-unfolding unmarked
-IsMarked-unmarked q place holds = no_mark_in_unmarked (length q.bytes) place holds
+pub IsMarked-without_marks : (q : Queue) (place : ℕ) → IsMarked (without_marks q) place → ⊥
+unfolding without_marks
+IsMarked-without_marks q place holds = no_mark_in_unmarked (length q.bytes) place holds
 
 -- a release moves each mark down
-pub IsMarked-released : (q : Queue) (n place : ℕ) → IsMarked (released q n) place → IsMarked q (n + place)
-IsMarked-released q n place holds = sym (slice_get-drop n q.marks place) ∙ holds
+pub IsMarked-after_release : (q : Queue) (n place : ℕ) → IsMarked (after_release q n) place → IsMarked q (n + place)
+IsMarked-after_release q n place holds = sym (slice_get-drop n q.marks place) ∙ holds
 
 -- what is offered comes without marks
-pub IsMarked-offered : (q : Queue) (text : List ℕ) (place : ℕ) → IsMarked (offered q text) place → IsMarked q place
-IsMarked-offered q text place holds = elim (cases_lt place (length q.marks)) [
+pub IsMarked-after_offer : (q : Queue) (text : List ℕ) (place : ℕ) → IsMarked (after_offer q text) place → IsMarked q place
+IsMarked-after_offer q text place holds = elim (cases_lt place (length q.marks)) [
   | inl old ↦ sym (slice_get-append_left q.marks (replicate (count_taken q text) false) place old) ∙ holds
   | inr new ↦
       let behind : slice_get (replicate (count_taken q text) false) (place - length q.marks) ≡ Some true =
@@ -110,83 +110,83 @@ IsMarked-offered q text place holds = elim (cases_lt place (length q.marks)) [
 
 -- ---- leading flags
 
-pub leading-le : (flag : Bool) (marks : List Bool) → leading flag marks ≤ length marks
-leading-le flag [] = omega arith
-leading-le true (true ∷ marks) = omega (arith, leading-le true marks)
-leading-le true (false ∷ marks) = omega arith
-leading-le false (true ∷ marks) = omega arith
-leading-le false (false ∷ marks) = omega (arith, leading-le false marks)
+pub count_leading-le : (flag : Bool) (marks : List Bool) → count_leading flag marks ≤ length marks
+count_leading-le flag [] = omega arith
+count_leading-le true (true ∷ marks) = omega (arith, count_leading-le true marks)
+count_leading-le true (false ∷ marks) = omega arith
+count_leading-le false (true ∷ marks) = omega arith
+count_leading-le false (false ∷ marks) = omega (arith, count_leading-le false marks)
 
-leading-at : (flag : Bool) (marks : List Bool) (k : ℕ) → k < leading flag marks → slice_get marks k ≡ Some flag
-leading-at flag [] k h = absurd (omega arith)
-leading-at true (true ∷ marks) zero h = refl
-leading-at true (true ∷ marks) (suc k) h = leading-at true marks k (omega arith)
-leading-at true (false ∷ marks) k h = absurd (omega arith)
-leading-at false (true ∷ marks) k h = absurd (omega arith)
-leading-at false (false ∷ marks) zero h = refl
-leading-at false (false ∷ marks) (suc k) h = leading-at false marks k (omega arith)
+count_leading-at : (flag : Bool) (marks : List Bool) (k : ℕ) → k < count_leading flag marks → slice_get marks k ≡ Some flag
+count_leading-at flag [] k h = absurd (omega arith)
+count_leading-at true (true ∷ marks) zero h = refl
+count_leading-at true (true ∷ marks) (suc k) h = count_leading-at true marks k (omega arith)
+count_leading-at true (false ∷ marks) k h = absurd (omega arith)
+count_leading-at false (true ∷ marks) k h = absurd (omega arith)
+count_leading-at false (false ∷ marks) zero h = refl
+count_leading-at false (false ∷ marks) (suc k) h = count_leading-at false marks k (omega arith)
 
-leading-stops : (flag : Bool) (marks : List Bool) → leading flag marks < length marks → slice_get marks (leading flag marks) ≡ Some (not flag)
-leading-stops flag [] h = absurd (omega arith)
-leading-stops true (true ∷ marks) h = leading-stops true marks (omega arith)
-leading-stops true (false ∷ marks) h = refl
-leading-stops false (true ∷ marks) h = refl
-leading-stops false (false ∷ marks) h = leading-stops false marks (omega arith)
+count_leading-stops : (flag : Bool) (marks : List Bool) → count_leading flag marks < length marks → slice_get marks (count_leading flag marks) ≡ Some (not flag)
+count_leading-stops flag [] h = absurd (omega arith)
+count_leading-stops true (true ∷ marks) h = count_leading-stops true marks (omega arith)
+count_leading-stops true (false ∷ marks) h = refl
+count_leading-stops false (true ∷ marks) h = refl
+count_leading-stops false (false ∷ marks) h = count_leading-stops false marks (omega arith)
 
-leading-positive : (flag : Bool) (marks : List Bool) → slice_get marks 0 ≡ Some flag → 0 < leading flag marks
-leading-positive flag [] h = cc
-leading-positive true (true ∷ marks) h = omega arith
-leading-positive true (false ∷ marks) h = cc
-leading-positive false (true ∷ marks) h = cc
-leading-positive false (false ∷ marks) h = omega arith
+count_leading-positive : (flag : Bool) (marks : List Bool) → slice_get marks 0 ≡ Some flag → 0 < count_leading flag marks
+count_leading-positive flag [] h = cc
+count_leading-positive true (true ∷ marks) h = omega arith
+count_leading-positive true (false ∷ marks) h = cc
+count_leading-positive false (true ∷ marks) h = cc
+count_leading-positive false (false ∷ marks) h = omega arith
 
 -- the same from a place on
-leading_between : (flag : Bool) (marks : List Bool) (at place : ℕ) → at ≤ place → place < at + leading flag (drop at marks) → slice_get marks place ≡ Some flag
-leading_between flag marks at place low high =
+count_leading_between : (flag : Bool) (marks : List Bool) (at place : ℕ) → at ≤ place → place < at + count_leading flag (drop at marks) → slice_get marks place ≡ Some flag
+count_leading_between flag marks at place low high =
     let e : at + (place - at) ≡ place = omega arith in
-    ap (slice_get marks) (sym e) ∙ (sym (slice_get-drop at marks (place - at)) ∙ leading-at flag (drop at marks) (place - at) (omega arith))
+    ap (slice_get marks) (sym e) ∙ (sym (slice_get-drop at marks (place - at)) ∙ count_leading-at flag (drop at marks) (place - at) (omega arith))
 
-leading_then : (flag : Bool) (marks : List Bool) (at : ℕ) → at + leading flag (drop at marks) < length marks → slice_get marks (at + leading flag (drop at marks)) ≡ Some (not flag)
-leading_then flag marks at h =
-    sym (slice_get-drop at marks (leading flag (drop at marks))) ∙ leading-stops flag (drop at marks) (omega (arith, length-drop at marks))
+count_leading_then : (flag : Bool) (marks : List Bool) (at : ℕ) → at + count_leading flag (drop at marks) < length marks → slice_get marks (at + count_leading flag (drop at marks)) ≡ Some (not flag)
+count_leading_then flag marks at h =
+    sym (slice_get-drop at marks (count_leading flag (drop at marks))) ∙ count_leading-stops flag (drop at marks) (omega (arith, length-drop at marks))
 
-leading_within : (flag : Bool) (marks : List Bool) (at : ℕ) → at ≤ length marks → at + leading flag (drop at marks) ≤ length marks
-leading_within flag marks at h = omega (arith, leading-le flag (drop at marks), length-drop at marks)
+count_leading_within : (flag : Bool) (marks : List Bool) (at : ℕ) → at ≤ length marks → at + count_leading flag (drop at marks) ≤ length marks
+count_leading_within flag marks at h = omega (arith, count_leading-le flag (drop at marks), length-drop at marks)
 
 -- ---- the next unmarked place
 
-pub next_some : (q : Queue) (at : ℕ) → unmarked_from q at < length q.marks → next_unmarked q at ≡ Some (unmarked_from q at, unmarked_from q at + leading false (drop (unmarked_from q at) q.marks))
+pub next_some : (q : Queue) (at : ℕ) → first_unmarked q at < length q.marks → next_unmarked q at ≡ Some (first_unmarked q at, first_unmarked q at + count_leading false (drop (first_unmarked q at) q.marks))
 unfolding next_unmarked
 next_some q at h = grind (arith, nat_tests)
 
-pub next_none : (q : Queue) (at : ℕ) → length q.marks ≤ unmarked_from q at → next_unmarked q at ≡ None
+pub next_none : (q : Queue) (at : ℕ) → length q.marks ≤ first_unmarked q at → next_unmarked q at ≡ None
 unfolding next_unmarked
 next_none q at h = grind (arith, nat_tests)
 
-pub is_next_unmarked : (q : Queue) (at : ℕ) → length q.marks ≡ length q.bytes → unmarked_from q at < length q.marks → IsNextUnmarked q at (unmarked_from q at, unmarked_from q at + leading false (drop (unmarked_from q at) q.marks))
+pub is_next_unmarked : (q : Queue) (at : ℕ) → length q.marks ≡ length q.bytes → first_unmarked q at < length q.marks → IsNextUnmarked q at (first_unmarked q at, first_unmarked q at + count_leading false (drop (first_unmarked q at) q.marks))
 is_next_unmarked q at flags h =
-    let from = unmarked_from q at in
-    let first : slice_get q.marks from ≡ Some false = leading_then true q.marks at h in
+    let from = first_unmarked q at in
+    let first : slice_get q.marks from ≡ Some false = count_leading_then true q.marks at h in
     let first_of_rest : slice_get (drop from q.marks) 0 ≡ Some false =
     slice_get-drop from q.marks 0 ∙ (ap (slice_get q.marks) (omega arith) ∙ first) in
-    let some : 0 < leading false (drop from q.marks) = leading-positive false (drop from q.marks) first_of_rest in
-    let within : from + leading false (drop from q.marks) ≤ length q.marks = leading_within false q.marks from (omega arith) in
+    let some : 0 < count_leading false (drop from q.marks) = count_leading-positive false (drop from q.marks) first_of_rest in
+    let within : from + count_leading false (drop from q.marks) ≤ length q.marks = count_leading_within false q.marks from (omega arith) in
     record {
       from_at = omega arith;
       ordered = omega arith;
       within = omega arith;
-      passed_over = λ place low high. leading_between true q.marks at place low high;
-      unmarked_run = λ place low high. leading_between false q.marks from place low high;
-      maximal = elim (cases_lt (from + leading false (drop from q.marks)) (length q.marks)) [ inl below ↦ inr (leading_then false q.marks from below) | inr past ↦ inl (omega arith) ];
+      passed_over = λ place low high. count_leading_between true q.marks at place low high;
+      unmarked_run = λ place low high. count_leading_between false q.marks from place low high;
+      maximal = elim (cases_lt (from + count_leading false (drop from q.marks)) (length q.marks)) [ inl below ↦ inr (count_leading_then false q.marks from below) | inr past ↦ inl (omega arith) ];
     }
 
-pub all_marked : (q : Queue) (at : ℕ) → length q.marks ≡ length q.bytes → length q.marks ≤ unmarked_from q at → AllMarkedFrom q at
-all_marked q at flags h = λ place low high. leading_between true q.marks at place low (omega arith)
+pub all_marked : (q : Queue) (at : ℕ) → length q.marks ≡ length q.bytes → length q.marks ≤ first_unmarked q at → AllMarkedFrom q at
+all_marked q at flags h = λ place low high. count_leading_between true q.marks at place low (omega arith)
 
-pub not_all_marked : (q : Queue) (at : ℕ) → length q.marks ≡ length q.bytes → unmarked_from q at < length q.marks → AllMarkedFrom q at → ⊥
+pub not_all_marked : (q : Queue) (at : ℕ) → length q.marks ≡ length q.bytes → first_unmarked q at < length q.marks → AllMarkedFrom q at → ⊥
 not_all_marked q at flags h all =
-    let first : slice_get q.marks (unmarked_from q at) ≡ Some false = leading_then true q.marks at h in
-    let same : slice_get q.marks (unmarked_from q at) ≡ Some true = all (unmarked_from q at) (omega arith) (omega arith) in
+    let first : slice_get q.marks (first_unmarked q at) ≡ Some false = count_leading_then true q.marks at h in
+    let same : slice_get q.marks (first_unmarked q at) ≡ Some true = all (first_unmarked q at) (omega arith) (omega arith) in
     cc
 
 -- ---- the end of the marks

@@ -3,7 +3,7 @@ use Rattle.std.proofs.Common.{◌≡◌, ℕ, zero, suc, ◌+◌, ◌-◌, ◌<�
 use Rattle.std.specs.List.{range_with_len}
 use Rattle.std.proofs.lemmas.List.{get_or-drop, drop-drop}
 use Rattle.std.proofs.lemmas.List.Sums.{sum_by-cons}
-use Rattle.tcp_sendq.specs.SendQueue.{count_runs, marked_between, follows_mark, begins_run, runs_begun}
+use Rattle.tcp_sendq.specs.SendQueue.{count_runs, marks_with, follows_mark, begins_run, runs_begun}
 
 -- the flag that stands last once a list has passed, where `before` stood before it
 abbrev pub flag_after : Bool → List Bool → Bool
@@ -47,8 +47,8 @@ count_runs-drop (suc n) [] = omega arith
 count_runs-drop (suc n) (true ∷ marks) = omega (arith, count_runs-drop n marks, count_runs-before marks)
 count_runs-drop (suc n) (false ∷ marks) = omega (arith, count_runs-drop n marks)
 
-pub count_runs-offered : (marks : List Bool) (n : ℕ) → count_runs false (marks ++ replicate n false) ≡ count_runs false marks
-count_runs-offered marks n =
+pub count_runs-after_offer : (marks : List Bool) (n : ℕ) → count_runs false (marks ++ replicate n false) ≡ count_runs false marks
+count_runs-after_offer marks n =
     omega (arith, count_runs-append false marks (replicate n false), count_runs-unmarked (flag_after false marks) n)
 
 flag_after-take : (before : Bool) (marks : List Bool) (n : ℕ) → n < length marks → flag_after before (take (suc n) marks) ≡ get_or marks n false
@@ -78,7 +78,7 @@ count_runs-part false (suc n) h = omega (arith, count_runs-marked n)
 -- The runs of a list of which a part is marked: those before the part, the part's own unless it goes on with
 -- one, and those behind it that don't go on with the part's.
 runs_with_part : (from to : ℕ) (marks : List Bool) → from < to → to ≤ length marks
-    → count_runs false (marked_between from to marks)
+    → count_runs false (marks_with from to marks)
     ≡ count_runs false (take from marks) + (if follows_mark marks from then 0 else 1) + count_runs true (drop to marks)
 runs_with_part from to marks ordered within =
     let front : List Bool = take from marks in
@@ -95,13 +95,13 @@ runs_with_part from to marks ordered within =
     let before : flag_after false front ≡ follows_mark marks from = flag_after-front marks from (omega arith) in
     rw (whole, two, own, last, before) refl
 
-pub runs_joined : (from to : ℕ) (marks : List Bool) → from < to → to ≤ length marks → follows_mark marks from ≡ true → count_runs false (marked_between from to marks) ≡ count_runs false (take from marks) + count_runs true (drop to marks)
+pub runs_joined : (from to : ℕ) (marks : List Bool) → from < to → to ≤ length marks → follows_mark marks from ≡ true → count_runs false (marks_with from to marks) ≡ count_runs false (take from marks) + count_runs true (drop to marks)
 runs_joined from to marks ordered within joins =
     let whole = runs_with_part from to marks ordered within in
     let whole' = rw joins at whole in
     omega (arith, whole')
 
-pub runs_apart : (from to : ℕ) (marks : List Bool) → from < to → to ≤ length marks → follows_mark marks from ≡ false → count_runs false (marked_between from to marks) ≡ count_runs false (take from marks) + 1 + count_runs true (drop to marks)
+pub runs_apart : (from to : ℕ) (marks : List Bool) → from < to → to ≤ length marks → follows_mark marks from ≡ false → count_runs false (marks_with from to marks) ≡ count_runs false (take from marks) + 1 + count_runs true (drop to marks)
 runs_apart from to marks ordered within apart =
     let whole = runs_with_part from to marks ordered within in
     rw apart at whole
@@ -126,4 +126,4 @@ runs_from marks (marked ∷ rest) at e =
 pub runs_begun_is : (marks : List Bool) → count_runs false marks ≡ runs_begun marks
 runs_begun_is marks = runs_from marks marks 0 refl
 
-pub ruleset runs = (count_runs-drop, count_runs-offered, count_runs-unmarked)
+pub ruleset runs = (count_runs-drop, count_runs-after_offer, count_runs-unmarked)

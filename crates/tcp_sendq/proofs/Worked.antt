@@ -1,22 +1,22 @@
 -- The definitions at worked calls: they compute to what the calls are to answer.
 use Rattle.std.proofs.Common.{◌≡◌, ℕ, Bool, true, false, List, [], ◌∷◌, ◌++◌, replicate, Some, None, refl}
-use Rattle.tcp_sendq.specs.SendQueue.{Queue, empty, room, count_taken, offered, released, can_mark, marked, unmarked, next_unmarked, last_mark_end, count_runs, runs_begun}
+use Rattle.tcp_sendq.specs.SendQueue.{Queue, empty_queue, room, count_taken, after_offer, after_release, can_mark, after_mark, without_marks, next_unmarked, last_mark_end, count_runs, runs_begun}
 
 abbrev letters : List ℕ
 letters = 97 ∷ 98 ∷ 99 ∷ 100 ∷ 101 ∷ 102 ∷ []
 
 -- of six bytes a queue of four takes four
-four_taken : count_taken (empty 4) letters ≡ 4
+four_taken : count_taken (empty_queue 4) letters ≡ 4
 four_taken = refl
 
 abbrev full : Queue
-full = offered (empty 4) letters
+full = after_offer (empty_queue 4) letters
 
 no_room_left : room full ≡ 0
 no_room_left = refl
 
 -- three are released, three others offered
-refilled : (offered (released full 3) (120 ∷ 121 ∷ 122 ∷ [])).bytes ≡ 100 ∷ 120 ∷ 121 ∷ 122 ∷ []
+refilled : (after_offer (after_release full 3) (120 ∷ 121 ∷ 122 ∷ [])).bytes ≡ 100 ∷ 120 ∷ 121 ∷ 122 ∷ []
 refilled = refl
 
 -- ten bytes, of which the peer tells to hold those at 2 and 3, and then the one at 4
@@ -24,35 +24,35 @@ abbrev ten : Queue
 ten = record { capacity = 16; bytes = replicate 10 0; marks = replicate 10 false }
 
 unfoldable told : Queue
-told = marked (marked ten 2 4) 4 5
+told = after_mark (after_mark ten 2 4) 4 5
 
 told-marks : told.marks ≡ false ∷ false ∷ true ∷ true ∷ true ∷ replicate 5 false
-unfolding told marked can_mark
+unfolding told after_mark can_mark
 told-marks = refl
 
 unmarked_at_0 : next_unmarked told 0 ≡ Some (0, 2)
-unfolding told marked can_mark next_unmarked
+unfolding told after_mark can_mark next_unmarked
 unmarked_at_0 = refl
 
 unmarked_at_2 : next_unmarked told 2 ≡ Some (5, 10)
-unfolding told marked can_mark next_unmarked
+unfolding told after_mark can_mark next_unmarked
 unmarked_at_2 = refl
 
 told_end : last_mark_end told ≡ Some 5
-unfolding told marked can_mark last_mark_end
+unfolding told after_mark can_mark last_mark_end
 told_end = refl
 
 -- three bytes are released, with their marks
-unmarked_later : next_unmarked (released told 3) 0 ≡ Some (2, 7)
-unfolding told marked can_mark next_unmarked
+unmarked_later : next_unmarked (after_release told 3) 0 ≡ Some (2, 7)
+unfolding told after_mark can_mark next_unmarked
 unmarked_later = refl
 
-later_end : last_mark_end (released told 3) ≡ Some 2
-unfolding told marked can_mark last_mark_end
+later_end : last_mark_end (after_release told 3) ≡ Some 2
+unfolding told after_mark can_mark last_mark_end
 later_end = refl
 
-forgotten_end : last_mark_end (unmarked told) ≡ None
-unfolding told marked can_mark unmarked last_mark_end
+forgotten_end : last_mark_end (without_marks told) ≡ None
+unfolding told after_mark can_mark without_marks last_mark_end
 forgotten_end = refl
 
 -- sixteen runs of one byte each, with a gap behind each
@@ -78,6 +78,6 @@ longer_sixteenth : can_mark crowded 31 35 ≡ true
 unfolding can_mark
 longer_sixteenth = refl
 
-nothing_changed : marked crowded 33 35 ≡ crowded
-unfolding marked can_mark
+nothing_changed : after_mark crowded 33 35 ≡ crowded
+unfolding after_mark can_mark
 nothing_changed = refl

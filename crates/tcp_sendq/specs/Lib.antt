@@ -1,2 +1,2 @@
-pub mod Error
+pub mod Refusals
 pub mod SendQueue

@@ -10,8 +10,8 @@ pub record Queue : Type 0 where
   -- for each byte, whether it is marked
   pub marks : List Bool
 
-abbrev pub empty : ℕ → Queue
-empty capacity = record { capacity = capacity; bytes = []; marks = [] }
+abbrev pub empty_queue : ℕ → Queue
+empty_queue capacity = record { capacity = capacity; bytes = []; marks = [] }
 
 abbrev pub room : Queue → ℕ
 room q = q.capacity - length q.bytes
@@ -20,15 +20,15 @@ room q = q.capacity - length q.bytes
 abbrev pub count_taken : Queue → List ℕ → ℕ
 count_taken q text = min (room q) (length text)
 
-abbrev pub offered : Queue → List ℕ → Queue
-offered q text = record q {
+abbrev pub after_offer : Queue → List ℕ → Queue
+after_offer q text = record q {
   bytes = q.bytes ++ take (count_taken q text) text;
   marks = q.marks ++ replicate (count_taken q text) false;
 }
 
 -- n bytes are acknowledged: they leave the front, with their marks (RFC 9293, 3.10.7.4)
-abbrev pub released : Queue → ℕ → Queue
-released q n = record q { bytes = drop n q.bytes; marks = drop n q.marks }
+abbrev pub after_release : Queue → ℕ → Queue
+after_release q n = record q { bytes = drop n q.bytes; marks = drop n q.marks }
 
 -- ---- marks
 
@@ -41,8 +41,8 @@ abbrev pub IsUnmarked : Queue → ℕ → Type 0
 IsUnmarked q place = slice_get q.marks place ≡ Some false
 
 -- every place from the first number on and below the second is marked
-abbrev pub marked_between : ℕ → ℕ → List Bool → List Bool
-marked_between from to marks = take from marks ++ replicate (to - from) true ++ drop to marks
+abbrev pub marks_with : ℕ → ℕ → List Bool → List Bool
+marks_with from to marks = take from marks ++ replicate (to - from) true ++ drop to marks
 
 -- How many runs there are, a run being a maximal interval of marked places: each has one place that is
 -- marked while the place before it isn't. The first argument tells of the place before the list.
@@ -68,37 +68,37 @@ abbrev pub runs_begun : List Bool → ℕ
 runs_begun marks = count_by (begins_run marks) (range_with_len 0 (length marks))
 
 -- the greatest number of runs that are kept apart
-abbrev pub most_runs : ℕ
-most_runs = 16
+abbrev pub max_runs : ℕ
+max_runs = 16
 
 -- whether the peer's report can be kept
 unfoldable pub can_mark : Queue → ℕ → ℕ → Bool
-can_mark q from to = nat_le (count_runs false (marked_between from to q.marks)) most_runs
+can_mark q from to = nat_le (count_runs false (marks_with from to q.marks)) max_runs
 
 -- the peer told that it holds these bytes (RFC 2018, 5); what would make too many runs changes nothing
-unfoldable pub marked : Queue → ℕ → ℕ → Queue
-marked q from to = record q { marks = if can_mark q from to then marked_between from to q.marks else q.marks }
+unfoldable pub after_mark : Queue → ℕ → ℕ → Queue
+after_mark q from to = record q { marks = if can_mark q from to then marks_with from to q.marks else q.marks }
 
 -- a retransmission timeout forgets what the peer told (RFC 2018, 5)
-unfoldable pub unmarked : Queue → Queue
-unmarked q = record q { marks = replicate (length q.bytes) false }
+unfoldable pub without_marks : Queue → Queue
+without_marks q = record q { marks = replicate (length q.bytes) false }
 
 -- how many flags at the front are this one
-abbrev pub leading : Bool → List Bool → ℕ
-leading flag [] = 0
-leading true (true ∷ marks) = suc (leading true marks)
-leading true (false ∷ marks) = 0
-leading false (true ∷ marks) = 0
-leading false (false ∷ marks) = suc (leading false marks)
+abbrev pub count_leading : Bool → List Bool → ℕ
+count_leading flag [] = 0
+count_leading true (true ∷ marks) = suc (count_leading true marks)
+count_leading true (false ∷ marks) = 0
+count_leading false (true ∷ marks) = 0
+count_leading false (false ∷ marks) = suc (count_leading false marks)
 
 -- the first unmarked place from at on, if there is one
-abbrev pub unmarked_from : Queue → ℕ → ℕ
-unmarked_from q at = at + leading true (drop at q.marks)
+abbrev pub first_unmarked : Queue → ℕ → ℕ
+first_unmarked q at = at + count_leading true (drop at q.marks)
 
 -- that place, and the end of its run of unmarked places
 unfoldable pub next_unmarked : Queue → ℕ → Option (ℕ × ℕ)
 next_unmarked q at =
-    if nat_lt (unmarked_from q at) (length q.marks) then Some (unmarked_from q at, unmarked_from q at + leading false (drop (unmarked_from q at) q.marks)) else None
+    if nat_lt (first_unmarked q at) (length q.marks) then Some (first_unmarked q at, first_unmarked q at + count_leading false (drop (first_unmarked q at) q.marks)) else None
 
 -- the same as a relation: `run` is the first unmarked place from `at` on, and the end of its run
 pub record IsNextUnmarked (q : Queue) (at : ℕ) (run : ℕ × ℕ) : Type 0 where
@@ -136,16 +136,16 @@ pub record IsLastMarkEnd (q : Queue) (end : ℕ) : Type 0 where
 -- ---- what holds of every queue
 
 -- the greatest capacity, in bytes
-abbrev pub most_capacity : ℕ
-most_capacity = 1048576
+abbrev pub max_capacity : ℕ
+max_capacity = 1048576
 
 pub record IsQueue (q : Queue) : Type 0 where
   pub least : 1 ≤ q.capacity
-  pub most : q.capacity ≤ most_capacity
+  pub most : q.capacity ≤ max_capacity
   pub within : length q.bytes ≤ q.capacity
   -- one flag for each byte
   pub flags : length q.marks ≡ length q.bytes
-  pub few_runs : count_runs false q.marks ≤ most_runs
+  pub few_runs : count_runs false q.marks ≤ max_runs
 
 -- A queue and the room that its two stores have reserved. As long as both can hold the capacity, no call
 -- takes memory.

@@ -1,25 +1,23 @@
 //! Why a send queue can't be made.
-ghost use Rattle.std.specs.Prelude.{◌≡◌};
-ghost use Rattle.tcp_sendq.specs.Error.{number_of};
+ghost use Rattle.std.specs.Prelude.{◌≡◌, Some};
+ghost use Rattle.tcp_sendq.specs.Refusals.{queue_error_number, queue_error_text};
 
-use thiserror::Error;
+use std::error::Error;
+use std::fmt;
 
 /// Why [`SendQueue::new`](crate::SendQueue::new) made no queue.
-#[derive(Clone, Copy, Debug, PartialEq, Eq, Error)]
+#[derive(Clone, Copy, Debug, PartialEq, Eq)]
 pub enum QueueError {
     /// The capacity isn't from 1 to [`MAX_CAPACITY`](crate::MAX_CAPACITY).
-    #[error("the capacity is not from 1 to 1048576 bytes")]
     BadCapacity,
-
     /// Memory for the capacity was refused.
-    #[error("out of memory")]
     NoMemory,
 }
 
 impl QueueError {
-    /// The number by which reports name the error.
+    /// The number under which the refusal is reported.
     pub fn number(self) -> u8
-        ensures { result ≡ number_of self }
+        ensures { result ≡ queue_error_number self }
     {
         match self {
             QueueError::BadCapacity => 21,
@@ -27,3 +25,16 @@ impl QueueError {
         }
     }
 }
+
+impl fmt::Display for QueueError {
+    ghost output = { λ e. Some (queue_error_text e) };
+
+    fn fmt<W: fmt::Write>(&self, f: &mut fmt::Formatter<W>) -> fmt::Result {
+        f.write_str(match self {
+            QueueError::BadCapacity => "the capacity is not from 1 to 1048576 bytes",
+            QueueError::NoMemory => "out of memory",
+        })
+    }
+}
+
+impl Error for QueueError {}

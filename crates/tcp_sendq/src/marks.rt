@@ -1,6 +1,6 @@
 //! Slices of flags, one for each byte of a queue.
 ghost use Rattle.std.specs.Prelude.{◌≡◌, ◌+◌, ◌<◌, ◌≤◌, ◌++◌, Bool, false, length, replicate, vec_len, vec_capacity};
-ghost use Rattle.tcp_sendq.specs.SendQueue.{count_runs, follows_mark, marked_between, leading, end_of_marks};
+ghost use Rattle.tcp_sendq.specs.SendQueue.{count_runs, follows_mark, marks_with, count_leading, end_of_marks};
 
 use std::alloc::Allocator;
 
@@ -33,7 +33,7 @@ fn follows_mark(marks: &[bool], place: usize) -> bool
 pub(crate) fn runs_with(marks: &[bool], from: usize, to: usize) -> usize
     requires ordered { from < to }
     requires within { to ≤ length marks.now }
-    ensures { result ≡ count_runs false (marked_between from to marks.now) }
+    ensures { result ≡ count_runs false (marks_with from to marks.now) }
 {
     let earlier = count_runs(false, &marks[..from]);
     let later = count_runs(true, &marks[to..]);
@@ -48,7 +48,7 @@ pub(crate) fn runs_with(marks: &[bool], from: usize, to: usize) -> usize
 pub(crate) fn set_between(marks: &mut [bool], from: usize, to: usize)
     requires ordered { from ≤ to }
     requires within { to ≤ length marks.old }
-    ensures { marks.new ≡ marked_between from to marks.old }
+    ensures { marks.new ≡ marks_with from to marks.old }
 {
     marks[from..to].fill(true);
 }
@@ -66,7 +66,7 @@ pub(crate) fn append_unmarked<A: Allocator>(marks: &mut Vec<bool, A>, count: usi
 
 /// How many flags at the front are `flag`.
 pub(crate) fn count_leading(flag: bool, marks: &[bool]) -> usize
-    ensures value { result ≡ leading flag marks.now }
+    ensures value { result ≡ count_leading flag marks.now }
     ensures bound { result ≤ length marks.now }
 {
     for (i, &marked) in marks.iter().enumerate() {

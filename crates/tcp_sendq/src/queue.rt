@@ -1,6 +1,6 @@
 //! The send queue.
 ghost use Rattle.std.specs.Prelude.{◌≡◌, ℕ, ◌+◌, ◌<◌, ◌≤◌, ◌↔◌, ◌⊎◌, length, take, drop, IsTrue, IsFalse, IsNone, IfSome, IfOk, vec_capacity};
-ghost use Rattle.tcp_sendq.specs.SendQueue.{Queue, IsQueue, IsKept, IsMarked, empty, room, count_taken, offered, released, marked_between, runs_begun, most_runs, most_capacity, can_mark, marked, unmarked, next_unmarked, IsNextUnmarked, AllMarkedFrom, last_mark_end, IsLastMarkEnd, NoneMarkedFrom};
+ghost use Rattle.tcp_sendq.specs.SendQueue.{Queue, IsQueue, IsKept, IsMarked, empty_queue, room, count_taken, after_offer, after_release, marks_with, runs_begun, max_runs, max_capacity, can_mark, after_mark, without_marks, next_unmarked, IsNextUnmarked, AllMarkedFrom, last_mark_end, IsLastMarkEnd, NoneMarkedFrom};
 
 use crate::error::QueueError;
 use crate::marks;
@@ -35,9 +35,9 @@ impl<A: Allocator> Model for SendQueue<A> {
 impl SendQueue {
     /// An empty queue of `capacity` bytes, whose memory is taken now: no later call takes any.
     pub fn new(alloc: Global, capacity: usize) -> Result<Self, QueueError>
-        ensures empty { IfOk result (λ q. q ≡ empty capacity) }
+        ensures empty { IfOk result (λ q. q ≡ empty_queue capacity) }
         ensures sound { IfOk result IsQueue }
-        ensures bad_capacity { (result ≡ Err QueueError.BadCapacity) ↔ ((capacity < 1) ⊎ (most_capacity < capacity)) }
+        ensures bad_capacity { (result ≡ Err QueueError.BadCapacity) ↔ ((capacity < 1) ⊎ (max_capacity < capacity)) }
     {
         Self::new_in(alloc, capacity)
     }
@@ -46,9 +46,9 @@ impl SendQueue {
 impl<A: Allocator + Copy> SendQueue<A> {
     /// An empty queue of `capacity` bytes, whose memory is taken from `alloc` now: no later call takes any.
     pub fn new_in(alloc: A, capacity: usize) -> Result<Self, QueueError>
-        ensures empty { IfOk result (λ q. q ≡ empty capacity) }
+        ensures empty { IfOk result (λ q. q ≡ empty_queue capacity) }
         ensures sound { IfOk result IsQueue }
-        ensures bad_capacity { (result ≡ Err QueueError.BadCapacity) ↔ ((capacity < 1) ⊎ (most_capacity < capacity)) }
+        ensures bad_capacity { (result ≡ Err QueueError.BadCapacity) ↔ ((capacity < 1) ⊎ (max_capacity < capacity)) }
     {
         if capacity < 1 || capacity > MAX_CAPACITY {
             return Err(QueueError::BadCapacity);
@@ -103,7 +103,7 @@ impl<A: Allocator> SendQueue<A> {
     /// Appends the front of `text` that fits, unmarked, and answers its length.
     pub fn offer(&mut self, text: &[u8]) -> usize
         ensures count { result ≡ count_taken self.old text.now }
-        ensures state { self.new ≡ offered self.old text.now }
+        ensures state { self.new ≡ after_offer self.old text.now }
         ensures sound { IsQueue self.new }
     {
         let count = text.len().min(self.capacity - self.bytes.len());
@@ -115,7 +115,7 @@ impl<A: Allocator> SendQueue<A> {
     /// Takes the oldest `n` bytes and their marks away (RFC 9293, 3.10.7.4).
     pub fn release(&mut self, n: usize)
         requires { n ≤ length self.old.bytes }
-        ensures state { self.new ≡ released self.old n }
+        ensures state { self.new ≡ after_release self.old n }
         ensures sound { IsQueue self.new }
     {
         let rest = self.bytes.len() - n;
@@ -136,14 +136,14 @@ impl<A: Allocator> SendQueue<A> {
 
     /// Marks the places from `from` on and below `to`, unless more than 16 runs would then be marked:
     /// false, with nothing changed (RFC 2018, 5).
-    #[tactic(auto, using(crate::proofs::Runs::runs_begun_is), unfolding(crate::specs::SendQueue::can_mark, crate::specs::SendQueue::marked))]
+    #[tactic(auto, using(crate::proofs::Runs::runs_begun_is), unfolding(crate::specs::SendQueue::can_mark, crate::specs::SendQueue::after_mark))]
     pub fn mark(&mut self, from: usize, to: usize) -> bool
         requires ordered { from < to }
         requires within { to ≤ length self.old.bytes }
         ensures value { result ≡ can_mark self.old from to }
-        ensures state { self.new ≡ marked self.old from to }
+        ensures state { self.new ≡ after_mark self.old from to }
         ensures refused { IsFalse result → self.new ≡ self.old }
-        ensures runs { IsTrue result ↔ (runs_begun (marked_between from to self.old.marks) ≤ most_runs) }
+        ensures runs { IsTrue result ↔ (runs_begun (marks_with from to self.old.marks) ≤ max_runs) }
         ensures places { IsTrue result → (place : ℕ) → IsMarked self.new place ↔ (IsMarked self.old place ⊎ ((from ≤ place) × (place < to))) }
         ensures sound { IsQueue self.new }
     {
@@ -155,9 +155,9 @@ impl<A: Allocator> SendQueue<A> {
     }
 
     /// Takes every mark away (RFC 2018, 5).
-    #[tactic(auto, using(crate::proofs::Runs::runs), unfolding(crate::specs::SendQueue::unmarked))]
+    #[tactic(auto, using(crate::proofs::Runs::runs), unfolding(crate::specs::SendQueue::without_marks))]
     pub fn forget_marks(&mut self)
-        ensures state { self.new ≡ unmarked self.old }
+        ensures state { self.new ≡ without_marks self.old }
         ensures sound { IsQueue self.new }
     {
         self.marks.fill(false);

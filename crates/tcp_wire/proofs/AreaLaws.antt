@@ -7,7 +7,7 @@ use Rattle.tcp_wire.specs.declared.fault.DecodeError.TheVariants.{TooShort, TooL
 use Rattle.tcp_wire.specs.Checksum.{AreBytes}
 use Rattle.tcp_wire.specs.Options.{OptionContent, spelling, spellings, IsSpellable, AreSpellable}
 use Rattle.tcp_wire.specs.Fault.{IsBadOption, IsBadPadding}
-use Rattle.tcp_wire.specs.Decoded.{with_option, option_at, zeros, padding_at, with_first, options_in}
+use Rattle.tcp_wire.specs.Decoded.{with_option, option_at, count_zeros, padding_at, with_first, options_in}
 use Rattle.tcp_wire.proofs.Bytes.{bytes_behind}
 use Rattle.tcp_wire.proofs.OptionLaws.{TakesOption, option_takes, option_again, none_spelled, spelling_length}
 
@@ -23,7 +23,7 @@ record StopsAt (bytes : List ℕ) (count : ℕ) : Type 0 where
   parts : bytes ≡ replicate {A = ℕ} count 0 ++ first ∷ rest
   not_zero : first ≢ 0
 
-zeros_are : (bytes : List ℕ) → ((zeros bytes ≡ length bytes) × (bytes ≡ replicate {A = ℕ} (length bytes) 0)) ⊎ ((zeros bytes < length bytes) × StopsAt bytes (zeros bytes))
+zeros_are : (bytes : List ℕ) → ((count_zeros bytes ≡ length bytes) × (bytes ≡ replicate {A = ℕ} (length bytes) 0)) ⊎ ((count_zeros bytes < length bytes) × StopsAt bytes (count_zeros bytes))
 zeros_are [] = inl (refl, refl)
 zeros_are (zero ∷ bytes) = elim (zeros_are bytes) [
   | inl all ↦ inl (ap suc all.0, ap (λ (xs : List ℕ). 0 ∷ xs) all.1)
@@ -31,12 +31,12 @@ zeros_are (zero ∷ bytes) = elim (zeros_are bytes) [
 ]
 zeros_are (suc b ∷ bytes) = inr (omega arith, record { first = suc b; rest = bytes; parts = refl; not_zero = λ e. omega arith })
 
-zeros_stop : (n b : ℕ) (rest : List ℕ) → b ≢ 0 → zeros (replicate {A = ℕ} n 0 ++ b ∷ rest) ≡ n
+zeros_stop : (n b : ℕ) (rest : List ℕ) → b ≢ 0 → count_zeros (replicate {A = ℕ} n 0 ++ b ∷ rest) ≡ n
 zeros_stop zero zero rest other = absurd (other refl)
 zeros_stop zero (suc b) rest other = refl
 zeros_stop (suc n) b rest other = ap suc (zeros_stop n b rest other)
 
-zeros_all : (n : ℕ) → zeros (replicate {A = ℕ} n 0) ≡ n
+zeros_all : (n : ℕ) → count_zeros (replicate {A = ℕ} n 0) ≡ n
 zeros_all zero = refl
 zeros_all (suc n) = ap suc (zeros_all n)
 
@@ -61,11 +61,11 @@ padding_described : (start : ℕ) (area : List ℕ) → option_at area ≡ None 
 unfolding padding_at
 padding_described start [] none = (refl, tt)
 padding_described start (zero ∷ rest) none = elim (zeros_are (zero ∷ rest)) [
-  | inl all ↦ rw (is_same (zeros (zero ∷ rest)) (length (zero ∷ rest)) all.0) (all.1, tt)
+  | inl all ↦ rw (is_same (count_zeros (zero ∷ rest)) (length (zero ∷ rest)) all.0) (all.1, tt)
   | inr stop ↦
-      let bad : IsBadPadding start (zero ∷ rest) (start + zeros (zero ∷ rest)) = record {
+      let bad : IsBadPadding start (zero ∷ rest) (start + count_zeros (zero ∷ rest)) = record {
         before = [];
-        zeros = zeros (zero ∷ rest);
+        zeros = count_zeros (zero ∷ rest);
         first = stop.1.first;
         rest = stop.1.rest;
         spellable = tt;
@@ -74,7 +74,7 @@ padding_described start (zero ∷ rest) none = elim (zeros_are (zero ∷ rest)) 
         place_is = omega arith;
         not_zero = stop.1.not_zero;
       } in
-      rw (isn't_same (zeros (zero ∷ rest)) (length (zero ∷ rest)) stop.0) bad
+      rw (isn't_same (count_zeros (zero ∷ rest)) (length (zero ∷ rest)) stop.0) bad
 ]
 padding_described start (suc b ∷ rest) none = record {
   before = [];
@@ -213,8 +213,8 @@ unfolding padding_at
 padding_zeros place zero = refl
 padding_zeros place (suc n) =
     let len : length (replicate {A = ℕ} (suc n) 0) ≡ suc n = length-replicate {A = ℕ} (suc n) 0 in
-    let all : zeros (replicate {A = ℕ} (suc n) 0) ≡ length (replicate {A = ℕ} (suc n) 0) = zeros_all (suc n) ∙ sym len in
-    rw (is_same (zeros (replicate {A = ℕ} (suc n) 0)) (length (replicate {A = ℕ} (suc n) 0)) all) (ap (λ (k : ℕ). Ok ([], k)) len)
+    let all : count_zeros (replicate {A = ℕ} (suc n) 0) ≡ length (replicate {A = ℕ} (suc n) 0) = zeros_all (suc n) ∙ sym len in
+    rw (is_same (count_zeros (replicate {A = ℕ} (suc n) 0)) (length (replicate {A = ℕ} (suc n) 0)) all) (ap (λ (k : ℕ). Ok ([], k)) len)
 
 none_at_end : (n : ℕ) → option_at (replicate {A = ℕ} n 0) ≡ None
 unfolding option_at
@@ -234,9 +234,9 @@ padding_stops : (place n b : ℕ) (rest : List ℕ) → b ≢ 0 → padding_at p
 unfolding padding_at
 padding_stops place n b rest other =
     let bytes : List ℕ = replicate {A = ℕ} (suc n) 0 ++ b ∷ rest in
-    let count : zeros bytes ≡ suc n = zeros_stop (suc n) b rest other in
-    let shorter : zeros bytes < length bytes = omega (arith, count, length-append (replicate {A = ℕ} (suc n) 0) (b ∷ rest), length-replicate {A = ℕ} (suc n) 0) in
-    rw (isn't_same (zeros bytes) (length bytes) shorter) (ap (λ (k : ℕ). Err (BadPadding (place + k))) count)
+    let count : count_zeros bytes ≡ suc n = zeros_stop (suc n) b rest other in
+    let shorter : count_zeros bytes < length bytes = omega (arith, count, length-append (replicate {A = ℕ} (suc n) 0) (b ∷ rest), length-replicate {A = ℕ} (suc n) 0) in
+    rw (isn't_same (count_zeros bytes) (length bytes) shorter) (ap (λ (k : ℕ). Err (BadPadding (place + k))) count)
 
 padding_other : (place b : ℕ) (rest : List ℕ) → b ≢ 0 → padding_at place (b ∷ rest) ≡ Err (BadOption place)
 unfolding padding_at
@@ -288,36 +288,36 @@ bad_padding_read n start area place short bad =
 
 -- ---- as the code finds it: by the place of the first other byte
 
-pub zeros_more : (bytes : List ℕ) (i : ℕ) → i < length bytes → get_or bytes i 0 ≡ 0 → i + zeros (drop i bytes) ≡ zeros bytes → i + 1 + zeros (drop (i + 1) bytes) ≡ zeros bytes
+pub zeros_more : (bytes : List ℕ) (i : ℕ) → i < length bytes → get_or bytes i 0 ≡ 0 → i + count_zeros (drop i bytes) ≡ count_zeros bytes → i + 1 + count_zeros (drop (i + 1) bytes) ≡ count_zeros bytes
 zeros_more bytes i inside none before =
     let first : drop i bytes ≡ 0 ∷ drop (i + 1) bytes = drop_more bytes i 0 inside ∙ ap (λ (x : ℕ). x ∷ drop (i + 1) bytes) none in
-    omega (arith, before, ap zeros first)
+    omega (arith, before, ap count_zeros first)
 
-zeros_nonzero : (b : ℕ) (rest : List ℕ) → b ≢ 0 → zeros (b ∷ rest) ≡ 0
+zeros_nonzero : (b : ℕ) (rest : List ℕ) → b ≢ 0 → count_zeros (b ∷ rest) ≡ 0
 zeros_nonzero zero rest other = absurd (other refl)
 zeros_nonzero (suc b) rest other = refl
 
-pub zeros_end : (bytes : List ℕ) (i : ℕ) → i < length bytes → get_or bytes i 0 ≢ 0 → i + zeros (drop i bytes) ≡ zeros bytes → zeros bytes ≡ i
+pub zeros_end : (bytes : List ℕ) (i : ℕ) → i < length bytes → get_or bytes i 0 ≢ 0 → i + count_zeros (drop i bytes) ≡ count_zeros bytes → count_zeros bytes ≡ i
 zeros_end bytes i inside other before =
-    let none = ap zeros (drop_more bytes i 0 inside) ∙ zeros_nonzero (get_or bytes i 0) (drop (i + 1) bytes) other in
+    let none = ap count_zeros (drop_more bytes i 0 inside) ∙ zeros_nonzero (get_or bytes i 0) (drop (i + 1) bytes) other in
     omega (arith, before, none)
 
-pub padding_ok : (place : ℕ) (bytes : List ℕ) → zeros bytes ≡ length bytes → padding_at place bytes ≡ Ok ([], length bytes)
+pub padding_ok : (place : ℕ) (bytes : List ℕ) → count_zeros bytes ≡ length bytes → padding_at place bytes ≡ Ok ([], length bytes)
 unfolding padding_at
 padding_ok place [] all = refl
-padding_ok place (zero ∷ rest) all = rw (is_same (zeros (zero ∷ rest)) (length (zero ∷ rest)) all) refl
+padding_ok place (zero ∷ rest) all = rw (is_same (count_zeros (zero ∷ rest)) (length (zero ∷ rest)) all) refl
 padding_ok place (suc b ∷ rest) all = absurd (omega arith)
 
-pub padding_option : (place : ℕ) (bytes : List ℕ) → 0 < length bytes → zeros bytes ≡ 0 → padding_at place bytes ≡ Err (BadOption place)
+pub padding_option : (place : ℕ) (bytes : List ℕ) → 0 < length bytes → count_zeros bytes ≡ 0 → padding_at place bytes ≡ Err (BadOption place)
 unfolding padding_at
 padding_option place [] some none = absurd (omega arith)
 padding_option place (zero ∷ rest) some none = absurd (omega arith)
 padding_option place (suc b ∷ rest) some none = refl
 
-pub padding_fault : (place i : ℕ) (bytes : List ℕ) → zeros bytes ≡ i → 0 < i → i < length bytes → padding_at place bytes ≡ Err (BadPadding (place + i))
+pub padding_fault : (place i : ℕ) (bytes : List ℕ) → count_zeros bytes ≡ i → 0 < i → i < length bytes → padding_at place bytes ≡ Err (BadPadding (place + i))
 unfolding padding_at
 padding_fault place i [] is some short = absurd (omega arith)
-padding_fault place i (zero ∷ rest) is some short = rw (isn't_same (zeros (zero ∷ rest)) (length (zero ∷ rest)) (omega arith)) (ap (λ (k : ℕ). Err (BadPadding (place + k))) is)
+padding_fault place i (zero ∷ rest) is some short = rw (isn't_same (count_zeros (zero ∷ rest)) (length (zero ∷ rest)) (omega arith)) (ap (λ (k : ℕ). Err (BadPadding (place + k))) is)
 padding_fault place i (suc b ∷ rest) is some short = absurd (omega arith)
 
 -- what was read and what is still to be read, one option on
@@ -342,5 +342,5 @@ pub options_failed : (start : ℕ) (e : DecodeError) (os : List OptionContent) (
 unfolding with_all
 options_failed start e os bytes total before fails = sym before ∙ ap (with_all os) fails
 
-pub zeros_done : (bytes : List ℕ) (i : ℕ) → length bytes ≤ i → i ≤ length bytes → i + zeros (drop i bytes) ≡ zeros bytes → zeros bytes ≡ length bytes
-zeros_done bytes i past within before = omega (arith, before, ap zeros (drop_all i bytes past))
+pub zeros_done : (bytes : List ℕ) (i : ℕ) → length bytes ≤ i → i ≤ length bytes → i + count_zeros (drop i bytes) ≡ count_zeros bytes → count_zeros bytes ≡ length bytes
+zeros_done bytes i past within before = omega (arith, before, ap count_zeros (drop_all i bytes past))

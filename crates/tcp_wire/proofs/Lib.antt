@@ -10,5 +10,5 @@ pub mod Outcome
 pub mod Writing
 pub mod Places
 pub mod Positions
-pub mod Laws
+pub mod RoundTrip
 mod Rows

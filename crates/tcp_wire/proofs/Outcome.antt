@@ -1,13 +1,13 @@
 -- What `decode` answers, from what its function computes.
-use Rattle.std.proofs.Common.{◌≡◌, ℕ, List, Result, Ok, Err, sym, ap, subst, ◌∙◌}
-use Rattle.std.specs.Prelude.{◌↔◌, MatchResult, IsOkAnd}
+use Rattle.std.proofs.Common.{◌≡◌, ℕ, ◌≤◌, List, length, Result, Ok, Err, sym, ap, subst, ◌∙◌, arith, length-append, length-drop}
+use Rattle.std.specs.Prelude.{◌↔◌, MatchResult, IfOk, IsOkAnd}
 use Rattle.tcp_wire.specs.declared.fault.DecodeError.{DecodeError}
 use Rattle.tcp_wire.specs.declared.fault.DecodeError.TheVariants.{BadChecksum}
 use Rattle.tcp_wire.specs.declared.segment.Segment.{Segment}
 use Rattle.tcp_wire.specs.Checksum.{AreBytes, DiffersInOnePlace}
-use Rattle.tcp_wire.specs.Wire.{Content, IsWire}
+use Rattle.tcp_wire.specs.Wire.{Content, IsWire, max_text_len, option_bytes}
 use Rattle.tcp_wire.specs.Fault.{FirstFault}
-use Rattle.tcp_wire.specs.Decoded.{decoded}
+use Rattle.tcp_wire.specs.Decoded.{decode_answer}
 use Rattle.tcp_wire.specs.View.{content}
 use Rattle.tcp_wire.proofs.Reading.{Explains, explained, complete, faulty, damaged}
 
@@ -30,7 +30,7 @@ same_fault d e h = cc
 failed : DecodeError → Result Segment DecodeError
 failed e = Err e
 
-pub value_of : (src dst bytes : List ℕ) (r : Result Segment DecodeError) → AreBytes bytes → Computes (decoded src dst bytes) r
+pub value_of : (src dst bytes : List ℕ) (r : Result Segment DecodeError) → AreBytes bytes → Computes (decode_answer src dst bytes) r
     → (v : Content) → IsOkAnd r (λ s. content s ≡ v) ↔ IsWire src dst v bytes
 value_of src dst bytes (Ok s) fits read v = (
   (λ e. subst (λ (x : Content). IsWire src dst x bytes) e (subst (Explains src dst bytes) read (explained src dst bytes fits))),
@@ -41,7 +41,7 @@ value_of src dst bytes (Err e) fits read v = (
   (λ w. let clash : Fault e ≡ Value v = sym read ∙ complete src dst v bytes w in absurd cc),
 )
 
-pub fault_of : (src dst bytes : List ℕ) (r : Result Segment DecodeError) → AreBytes bytes → Computes (decoded src dst bytes) r
+pub fault_of : (src dst bytes : List ℕ) (r : Result Segment DecodeError) → AreBytes bytes → Computes (decode_answer src dst bytes) r
     → (e : DecodeError) → (r ≡ Err e) ↔ FirstFault src dst bytes e
 fault_of src dst bytes (Ok s) fits read e = (
   (λ h. absurd cc),
@@ -52,9 +52,18 @@ fault_of src dst bytes (Err d) fits read e = (
   (λ f. ap (λ (x : DecodeError). Err x) (same_fault d e (sym read ∙ faulty src dst bytes e fits f))),
 )
 
-pub damaged_of : (src dst : List ℕ) (v : Content) (sent bytes : List ℕ) (r : Result Segment DecodeError) → Computes (decoded src dst bytes) r
+pub damaged_of : (src dst : List ℕ) (v : Content) (sent bytes : List ℕ) (r : Result Segment DecodeError) → Computes (decode_answer src dst bytes) r
     → IsWire src dst v sent → DiffersInOnePlace sent bytes → r ≡ Err BadChecksum
 damaged_of src dst v sent bytes (Ok s) read w d =
     let clash : Value (content s) ≡ Fault BadChecksum = sym read ∙ damaged src dst v sent bytes w d in absurd cc
 damaged_of src dst v sent bytes (Err e) read w d =
     ap (λ (x : DecodeError). Err x) (same_fault e BadChecksum (sym read ∙ damaged src dst v sent bytes w d))
+
+-- behind the header there is room for so much text
+pub text_fits : (src dst : List ℕ) (v : Content) (bytes : List ℕ) → IsWire src dst v bytes → length v.text ≤ max_text_len
+text_fits src dst v bytes w =
+    omega (arith, w.least, w.most, ap length w.behind, length-append (option_bytes v) v.text, length-drop 20 bytes)
+
+pub short_of : (src dst bytes : List ℕ) (r : Result Segment DecodeError) → AreBytes bytes → Computes (decode_answer src dst bytes) r → IfOk r (λ s. length s.text.now ≤ max_text_len)
+short_of src dst bytes (Ok s) fits read = text_fits src dst (content s) bytes (subst (Explains src dst bytes) read (explained src dst bytes fits))
+short_of src dst bytes (Err e) fits read = tt

@@ -3,8 +3,8 @@ use Rattle.std.proofs.Common.{◌≡◌, ℕ, ◌+◌, ◌-◌, List, [], ◌++�
 use Rattle.std.proofs.lemmas.List.{take_at, drop_at, drop-drop, take_rest, drop_all, append-nil, length-drop}
 use Rattle.byteorder.specs.Endian.{big_bytes}
 use Rattle.tcp_wire.specs.Checksum.{field}
-use Rattle.tcp_wire.specs.Wire.{Content, wire_length, spelled, encoded}
-use Rattle.tcp_wire.proofs.Writing.{length_spelled}
+use Rattle.tcp_wire.specs.Wire.{Content, wire_length, segment_bytes, encoded_bytes}
+use Rattle.tcp_wire.proofs.Writing.{length_segment_bytes}
 use borrow.Rule.Slice.PartMut.{put_mid}
 
 -- a part behind a front
@@ -34,22 +34,22 @@ filled_behind a k front old out part is len =
 drop_past : (k : ℕ) (xs out : List ℕ) → xs ≡ drop 16 out → k ≡ length out - 16 → drop k xs ≡ []
 drop_past k xs out is len = drop_all k xs (omega (arith, ap length is, length-drop 16 out))
 
-pub field_written : (v : Content) (f : ℕ) (rest out part : List ℕ) (k : ℕ) → out ≡ spelled v 0 ++ rest → k ≡ length out - 16
-    → part ≡ big_bytes 2 f ++ drop 2 (take k (drop 16 out)) → put_mid 16 k out part ≡ spelled v f ++ rest
+pub field_written : (v : Content) (f : ℕ) (rest out part : List ℕ) (k : ℕ) → out ≡ segment_bytes v 0 ++ rest → k ≡ length out - 16
+    → part ≡ big_bytes 2 f ++ drop 2 (take k (drop 16 out)) → put_mid 16 k out part ≡ segment_bytes v f ++ rest
 field_written v f rest out part k is len part_is =
     let behind : take k (drop 16 out) ≡ drop 16 out = ap (λ (n : ℕ). take n (drop 16 out)) len ∙ take_rest out 16 in
     let past : drop k (drop 16 out) ≡ [] = drop_past k (drop 16 out) out refl len in
-    let part' : part ≡ big_bytes 2 f ++ drop 18 (spelled v 0 ++ rest) = part_is ∙ ap (λ (xs : List ℕ). big_bytes 2 f ++ drop 2 xs) (behind ∙ ap (drop 16) is) in
+    let part' : part ≡ big_bytes 2 f ++ drop 18 (segment_bytes v 0 ++ rest) = part_is ∙ ap (λ (xs : List ℕ). big_bytes 2 f ++ drop 2 xs) (behind ∙ ap (drop 16) is) in
     ap (λ (xs : List ℕ). take 16 out ++ (part ++ xs)) past
     ∙ ap (λ (xs : List ℕ). take 16 out ++ xs) (append-nil part)
     ∙ ap (λ (xs : List ℕ). take 16 out ++ xs) part'
-    ∙ ap (λ (xs : List ℕ). take 16 xs ++ (big_bytes 2 f ++ drop 18 (spelled v 0 ++ rest))) is
+    ∙ ap (λ (xs : List ℕ). take 16 xs ++ (big_bytes 2 f ++ drop 18 (segment_bytes v 0 ++ rest))) is
 
-pub encoded_written : (src dst : List ℕ) (v : Content) (f n : ℕ) (rest out part whole : List ℕ) (k : ℕ) → n ≡ wire_length v → out ≡ spelled v 0 ++ rest
+pub encoded_written : (src dst : List ℕ) (v : Content) (f n : ℕ) (rest out part whole : List ℕ) (k : ℕ) → n ≡ wire_length v → out ≡ segment_bytes v 0 ++ rest
     → f ≡ field src dst whole → whole ≡ take n out
-    → k ≡ length out - 16 → part ≡ big_bytes 2 f ++ drop 2 (take k (drop 16 out)) → put_mid 16 k out part ≡ encoded src dst v ++ rest
-unfolding encoded
+    → k ≡ length out - 16 → part ≡ big_bytes 2 f ++ drop 2 (take k (drop 16 out)) → put_mid 16 k out part ≡ encoded_bytes src dst v ++ rest
+unfolding encoded_bytes
 encoded_written src dst v f n rest out part whole k len is field_is whole_is klen part_is =
-    let same : whole ≡ spelled v 0 = whole_is ∙ ap (take n) is ∙ take_at (spelled v 0) rest n (length_spelled v 0 ∙ sym len) in
+    let same : whole ≡ segment_bytes v 0 = whole_is ∙ ap (take n) is ∙ take_at (segment_bytes v 0) rest n (length_segment_bytes v 0 ∙ sym len) in
     field_written v f rest out part k is klen part_is
-    ∙ ap (λ (g : ℕ). spelled v g ++ rest) (field_is ∙ ap (field src dst) same)
+    ∙ ap (λ (g : ℕ). segment_bytes v g ++ rest) (field_is ∙ ap (field src dst) same)

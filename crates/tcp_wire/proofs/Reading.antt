@@ -9,7 +9,7 @@ use Rattle.tcp_wire.specs.Checksum.{AreBytes, segment_sum, Checks, DiffersInOneP
 use Rattle.tcp_wire.specs.Options.{OptionContent, spellings}
 use Rattle.tcp_wire.specs.Wire.{Content, HasHeader, IsWire, data_offset, option_bytes, option_area}
 use Rattle.tcp_wire.specs.Fault.{FirstFault, IsSized, HasOffset}
-use Rattle.tcp_wire.specs.Decoded.{content_at, options_in, with_options, laid_out, decoded}
+use Rattle.tcp_wire.specs.Decoded.{content_at, options_in, with_options, layout_of, decode_answer}
 use Rattle.tcp_wire.proofs.Bytes.{bytes_take, bytes_drop}
 use Rattle.tcp_wire.proofs.AreaLaws.{Describes, options_described, options_complete, bad_option_read, bad_padding_read}
 use Rattle.tcp_wire.proofs.WordSums.{one_place, same_length}
@@ -94,9 +94,9 @@ neither : (a b : Bool) → (a || b) ≡ false → (a ≡ false) × (b ≡ false)
 neither true b e = absurd cc
 neither false b e = (refl, e)
 
-laid_out_explained : (src dst bytes : List ℕ) → AreBytes bytes → IsSized bytes → Checks src dst bytes → Explains src dst bytes (laid_out bytes)
-unfolding laid_out
-laid_out_explained src dst bytes fits sized checks =
+layout_of_explained : (src dst bytes : List ℕ) → AreBytes bytes → IsSized bytes → Checks src dst bytes → Explains src dst bytes (layout_of bytes)
+unfolding layout_of
+layout_of_explained src dst bytes fits sized checks =
     by_test (Explains src dst bytes) (ltb (data_offset bytes) 5 || ltb (length bytes) (4 * data_offset bytes)) (Err BadOffset) (with_options bytes (options_in 40 20 (option_area bytes)))
     (λ bad. (
       sized,
@@ -112,8 +112,8 @@ laid_out_explained src dst bytes fits sized checks =
     let short = area_short bytes fits has in
     content_explained src dst bytes (options_in 40 20 (option_area bytes)) fits sized checks has (options_described 40 20 (option_area bytes) (area_bytes bytes fits) short short))
 
-pub explained : (src dst bytes : List ℕ) → AreBytes bytes → Explains src dst bytes (decoded src dst bytes)
-unfolding decoded
+pub explained : (src dst bytes : List ℕ) → AreBytes bytes → Explains src dst bytes (decode_answer src dst bytes)
+unfolding decode_answer
 explained src dst bytes fits =
     by_test (Explains src dst bytes) (ltb (length bytes) 20) (Err TooShort) _
     (λ short. below (length bytes) 20 short)
@@ -122,8 +122,8 @@ explained src dst bytes fits =
     (λ past. below 65515 (length bytes) past)
     (λ within.
     let sized : IsSized bytes = (ltb-false _ _ long, ltb-false _ _ within) in
-    by_test (Explains src dst bytes) (eqb (segment_sum src dst bytes % 65535) 0) (laid_out bytes) (Err BadChecksum)
-    (λ checks. laid_out_explained src dst bytes fits sized (same (segment_sum src dst bytes % 65535) 0 checks))
+    by_test (Explains src dst bytes) (eqb (segment_sum src dst bytes % 65535) 0) (layout_of bytes) (Err BadChecksum)
+    (λ checks. layout_of_explained src dst bytes fits sized (same (segment_sum src dst bytes % 65535) 0 checks))
     (λ other. (sized, differs (segment_sum src dst bytes % 65535) 0 other))))
 
 -- ---- each statement about the bytes is met by the outcome
@@ -135,8 +135,8 @@ content_is : (v : Content) (bytes : List ℕ) → HasHeader v bytes → drop (4 
 content_is v bytes h text = let a = h.src_port in let b = h.dst_port in let c = h.seq in let d = h.ack in let e = h.reserved in let f = h.flags in let g = h.window in let i = h.urgent in cc (rebuilt v)
 
 -- the three tests in front, passed
-checked : (src dst bytes : List ℕ) → IsSized bytes → Checks src dst bytes → decoded src dst bytes ≡ laid_out bytes
-unfolding decoded
+checked : (src dst bytes : List ℕ) → IsSized bytes → Checks src dst bytes → decode_answer src dst bytes ≡ layout_of bytes
+unfolding decode_answer
 checked src dst bytes sized checks =
     let long : ltb (length bytes) 20 ≡ false = le-ltb _ _ sized.0 in
     let within : ltb 65515 (length bytes) ≡ false = le-ltb _ _ sized.1 in
@@ -144,14 +144,14 @@ checked src dst bytes sized checks =
     rw (long, within, sum) refl
 
 -- the data offset is right
-laid_out_by_offset : (bytes : List ℕ) → HasOffset bytes → laid_out bytes ≡ with_options bytes (options_in 40 20 (option_area bytes))
-unfolding laid_out
-laid_out_by_offset bytes has =
+layout_of_by_offset : (bytes : List ℕ) → HasOffset bytes → layout_of bytes ≡ with_options bytes (options_in 40 20 (option_area bytes))
+unfolding layout_of
+layout_of_by_offset bytes has =
     let small : ltb (data_offset bytes) 5 ≡ false = le-ltb _ _ has.0 in
     let past : ltb (length bytes) (4 * data_offset bytes) ≡ false = le-ltb _ _ has.1 in
     rw (small, past) refl
 
-pub complete : (src dst : List ℕ) (v : Content) (bytes : List ℕ) → IsWire src dst v bytes → decoded src dst bytes ≡ Ok v
+pub complete : (src dst : List ℕ) (v : Content) (bytes : List ℕ) → IsWire src dst v bytes → decode_answer src dst bytes ≡ Ok v
 complete src dst v bytes w =
     let k : 4 * data_offset bytes - 20 ≡ length (option_bytes v) = omega (arith, w.offset) in
     let len : length bytes - 20 ≡ length (option_bytes v) + length v.text = sym (length-drop 20 bytes) ∙ ap length w.behind ∙ length-append (option_bytes v) v.text in
@@ -164,12 +164,12 @@ complete src dst v bytes w =
     let short : length (option_area bytes) ≤ 40 = area_short bytes w.are_bytes has in
     let spelled : length (spellings v.options) ≤ 40 = omega (arith, ap length area, short, length-append (spellings v.options) (replicate {A = ℕ} v.pad 0)) in
     checked src dst bytes (w.least, w.most) w.checks
-    ∙ laid_out_by_offset bytes has
+    ∙ layout_of_by_offset bytes has
     ∙ ap (with_options bytes) (ap (options_in 40 20) area ∙ options_complete 40 20 v.pad v.options w.options spelled)
     ∙ ap (λ (u : Content). Ok u) (content_is v bytes w.header text)
 
-pub checksum_fault : (src dst bytes : List ℕ) → IsSized bytes → ¬ Checks src dst bytes → decoded src dst bytes ≡ Err BadChecksum
-unfolding decoded
+pub checksum_fault : (src dst bytes : List ℕ) → IsSized bytes → ¬ Checks src dst bytes → decode_answer src dst bytes ≡ Err BadChecksum
+unfolding decode_answer
 checksum_fault src dst bytes sized other =
     let long : ltb (length bytes) 20 ≡ false = le-ltb _ _ sized.0 in
     let within : ltb 65515 (length bytes) ≡ false = le-ltb _ _ sized.1 in
@@ -179,15 +179,15 @@ clash : (a b : Bool) → (a || b) ≡ false → b ≡ true → ⊥
 clash true b e f = absurd cc
 clash false b e f = absurd cc
 
-offset_fault : (bytes : List ℕ) → (data_offset bytes < 5) ⊎ (length bytes < 4 * data_offset bytes) → laid_out bytes ≡ Err BadOffset
-unfolding laid_out
+offset_fault : (bytes : List ℕ) → (data_offset bytes < 5) ⊎ (length bytes < 4 * data_offset bytes) → layout_of bytes ≡ Err BadOffset
+unfolding layout_of
 offset_fault bytes (inl small) = rw (is_below (data_offset bytes) 5 small) refl
 offset_fault bytes (inr past) = by_test (λ (r : Result Content DecodeError). r ≡ Err BadOffset) (ltb (data_offset bytes) 5 || ltb (length bytes) (4 * data_offset bytes)) (Err BadOffset) (with_options bytes (options_in 40 20 (option_area bytes)))
     (λ bad. refl)
     (λ good. absurd (clash (ltb (data_offset bytes) 5) (ltb (length bytes) (4 * data_offset bytes)) good (is_below (length bytes) (4 * data_offset bytes) past)))
 
-pub faulty : (src dst bytes : List ℕ) (e : DecodeError) → AreBytes bytes → FirstFault src dst bytes e → decoded src dst bytes ≡ Err e
-unfolding decoded
+pub faulty : (src dst bytes : List ℕ) (e : DecodeError) → AreBytes bytes → FirstFault src dst bytes e → decode_answer src dst bytes ≡ Err e
+unfolding decode_answer
 faulty src dst bytes TooShort fits f = rw (is_below (length bytes) 20 f) refl
 faulty src dst bytes TooLong fits f =
     let long : ltb (length bytes) 20 ≡ false = le-ltb _ _ (omega arith) in
@@ -196,14 +196,14 @@ faulty src dst bytes BadChecksum fits f = checksum_fault src dst bytes f.0 f.1
 faulty src dst bytes BadOffset fits f = checked src dst bytes f.0 f.1 ∙ offset_fault bytes f.2
 faulty src dst bytes (BadOption place) fits f =
     let short = area_short bytes fits f.2 in
-    checked src dst bytes f.0 f.1 ∙ laid_out_by_offset bytes f.2
+    checked src dst bytes f.0 f.1 ∙ layout_of_by_offset bytes f.2
     ∙ ap (with_options bytes) (bad_option_read 40 20 (option_area bytes) place (area_bytes bytes fits) short short f.3)
 faulty src dst bytes (BadPadding place) fits f =
-    checked src dst bytes f.0 f.1 ∙ laid_out_by_offset bytes f.2
+    checked src dst bytes f.0 f.1 ∙ layout_of_by_offset bytes f.2
     ∙ ap (with_options bytes) (bad_padding_read 40 20 (option_area bytes) place (area_short bytes fits f.2) f.3)
 
 -- a segment with one changed byte
-pub damaged : (src dst : List ℕ) (v : Content) (sent bytes : List ℕ) → IsWire src dst v sent → DiffersInOnePlace sent bytes → decoded src dst bytes ≡ Err BadChecksum
+pub damaged : (src dst : List ℕ) (v : Content) (sent bytes : List ℕ) → IsWire src dst v sent → DiffersInOnePlace sent bytes → decode_answer src dst bytes ≡ Err BadChecksum
 damaged src dst v sent bytes w d =
     let len = same_length sent bytes d in
     let sized : IsSized bytes = (omega (arith, w.least, len), omega (arith, w.most, len)) in

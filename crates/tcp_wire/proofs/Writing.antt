@@ -4,7 +4,7 @@ use Rattle.std.proofs.lemmas.List.{length-drop}
 use Rattle.byteorder.specs.Endian.{big_from, big_bytes}
 use Rattle.tcp_wire.specs.Checksum.{AreBytes, word_sum, pseudo_header, segment_sum, Checks, completion, field}
 use Rattle.tcp_wire.specs.Options.{spellings, AreSpellable}
-use Rattle.tcp_wire.specs.Wire.{Content, HasHeader, IsWire, IsValid, HasOtherZero, option_bytes, wire_length, spelled, encoded}
+use Rattle.tcp_wire.specs.Wire.{Content, HasHeader, IsWire, IsValid, HasOtherZero, option_bytes, wire_length, segment_bytes, encoded_bytes}
 use Rattle.tcp_wire.proofs.Bytes.{bytes_cons, bytes_append, bytes_zeros, bytes_drop, bytes_behind, bytes_two, bytes_four, next_two, next_four, next_one}
 use Rattle.tcp_wire.proofs.OptionLaws.{spellings_bytes}
 
@@ -20,25 +20,25 @@ completion_below sum = omega arith
 completion_only : (sum found : ℕ) → found < 65536 → (sum + found) % 65535 ≡ 0 → (found ≡ completion sum) ⊎ ((completion sum ≡ 0) × (found ≡ 65535))
 completion_only sum found fits checks = grind arith
 
-sum_with_field : (v : Content) (f : ℕ) → f < 65536 → word_sum (spelled v f) ≡ word_sum (spelled v 0) + f
+sum_with_field : (v : Content) (f : ℕ) → f < 65536 → word_sum (segment_bytes v f) ≡ word_sum (segment_bytes v 0) + f
 sum_with_field v f fits = omega arith
 
-pub length_spelled : (v : Content) (f : ℕ) → length (spelled v f) ≡ wire_length v
-length_spelled v f = omega (arith, length-append (option_bytes v) v.text)
+pub length_segment_bytes : (v : Content) (f : ℕ) → length (segment_bytes v f) ≡ wire_length v
+length_segment_bytes v f = omega (arith, length-append (option_bytes v) v.text)
 
-segment_sum_with_field : (src dst : List ℕ) (v : Content) (f : ℕ) → f < 65536 → segment_sum src dst (spelled v f) ≡ segment_sum src dst (spelled v 0) + f
+segment_sum_with_field : (src dst : List ℕ) (v : Content) (f : ℕ) → f < 65536 → segment_sum src dst (segment_bytes v f) ≡ segment_sum src dst (segment_bytes v 0) + f
 segment_sum_with_field src dst v f fits =
-    let len : length (spelled v f) ≡ length (spelled v 0) = length_spelled v f ∙ sym (length_spelled v 0) in
+    let len : length (segment_bytes v f) ≡ length (segment_bytes v 0) = length_segment_bytes v f ∙ sym (length_segment_bytes v 0) in
     let pseudo = ap (λ (n : ℕ). word_sum (pseudo_header src dst n)) len in
     omega (arith, pseudo, sum_with_field v f fits)
 
-field_of : (src dst : List ℕ) (v : Content) → field src dst (spelled v 0) ≡ completion (segment_sum src dst (spelled v 0))
+field_of : (src dst : List ℕ) (v : Content) → field src dst (segment_bytes v 0) ≡ completion (segment_sum src dst (segment_bytes v 0))
 field_of src dst v = refl
 
 -- ---- into the grammar
 
-spelled_bytes : (v : Content) (f : ℕ) → IsValid v → AreBytes (option_bytes v) → AreBytes (spelled v f)
-spelled_bytes v f valid options =
+segment_bytes_are_bytes : (v : Content) (f : ℕ) → IsValid v → AreBytes (option_bytes v) → AreBytes (segment_bytes v f)
+segment_bytes_are_bytes v f valid options =
     let room = valid.room in
     let low = valid.reserved in
     let behind : List ℕ = option_bytes v ++ v.text in
@@ -56,8 +56,8 @@ spelled_bytes v f valid options =
     let h4 : AreBytes dst_port = bytes_two v.dst_port seq (bytes_four v.seq ack (bytes_four v.ack offset h3)) in
     bytes_two v.src_port dst_port h4
 
-spelled_header : (v : Content) (f : ℕ) → IsValid v → HasHeader v (spelled v f)
-spelled_header v f valid =
+segment_bytes_header : (v : Content) (f : ℕ) → IsValid v → HasHeader v (segment_bytes v f)
+segment_bytes_header v f valid =
     let src_port = valid.src_port in let dst_port = valid.dst_port in let seq = valid.seq in let ack = valid.ack in
     let reserved = valid.reserved in let window = valid.window in let urgent = valid.urgent in
     record {
@@ -74,21 +74,21 @@ spelled_header v f valid =
 pub option_bytes_fit : (v : Content) → AreSpellable v.options → AreBytes (option_bytes v)
 option_bytes_fit v spellable = bytes_append (spellings v.options) (replicate {A = ℕ} v.pad 0) (spellings_bytes v.options spellable) (bytes_zeros v.pad)
 
-pub IsWire_encoded : (src dst : List ℕ) (v : Content) → IsValid v → IsWire src dst v (encoded src dst v)
-unfolding encoded
+pub IsWire_encoded : (src dst : List ℕ) (v : Content) → IsValid v → IsWire src dst v (encoded_bytes src dst v)
+unfolding encoded_bytes
 IsWire_encoded src dst v valid =
-    let f : ℕ = field src dst (spelled v 0) in
-    let sum = segment_sum src dst (spelled v 0) in
-    let len = length_spelled v f in
-    let checks : Checks src dst (spelled v f) = rw (segment_sum_with_field src dst v f (omega (arith, completion_below sum))) (completion_checks sum) in
+    let f : ℕ = field src dst (segment_bytes v 0) in
+    let sum = segment_sum src dst (segment_bytes v 0) in
+    let len = length_segment_bytes v f in
+    let checks : Checks src dst (segment_bytes v f) = rw (segment_sum_with_field src dst v f (omega (arith, completion_below sum))) (completion_checks sum) in
     let whole = valid.whole_words in
     let low = valid.reserved in
     record {
-      are_bytes = spelled_bytes v f valid (option_bytes_fit v valid.options);
+      are_bytes = segment_bytes_are_bytes v f valid (option_bytes_fit v valid.options);
       least = omega arith;
       most = omega (arith, valid.most, len);
       checks = checks;
-      header = spelled_header v f valid;
+      header = segment_bytes_header v f valid;
       offset = omega arith;
       options = valid.options;
       behind = refl;
@@ -97,8 +97,8 @@ IsWire_encoded src dst v valid =
 -- ---- and out of it
 
 -- the bytes of the grammar are what is spelled with the field that they have
-pub spelled_of : (src dst : List ℕ) (v : Content) (bytes : List ℕ) → IsWire src dst v bytes → bytes ≡ spelled v (big_from 16 2 bytes)
-spelled_of src dst v bytes w =
+pub segment_bytes_of : (src dst : List ℕ) (v : Content) (bytes : List ℕ) → IsWire src dst v bytes → bytes ≡ segment_bytes v (big_from 16 2 bytes)
+segment_bytes_of src dst v bytes w =
     let least = w.least in
     let offset = w.offset in
     let fits = w.are_bytes in
@@ -116,29 +116,29 @@ spelled_of src dst v bytes w =
     ∙ ap (λ (r : List ℕ). big_bytes 2 (big_from 16 2 bytes) ++ r) (next_two 18 bytes v.urgent fits (omega arith) h.urgent
     ∙ ap (λ (r : List ℕ). big_bytes 2 v.urgent ++ r) w.behind))))))))
 
-other_zero : (src dst : List ℕ) (v : Content) (bytes : List ℕ) (g : ℕ) → bytes ≡ spelled v g → completion (segment_sum src dst (spelled v 0)) ≡ 0 → g ≡ 65535 → HasOtherZero (encoded src dst v) bytes
-unfolding encoded
+other_zero : (src dst : List ℕ) (v : Content) (bytes : List ℕ) (g : ℕ) → bytes ≡ segment_bytes v g → completion (segment_sum src dst (segment_bytes v 0)) ≡ 0 → g ≡ 65535 → HasOtherZero (encoded_bytes src dst v) bytes
+unfolding encoded_bytes
 other_zero src dst v bytes g is none all = record {
-  front = take 16 (spelled v 0);
-  rest = drop 18 (spelled v 0);
+  front = take 16 (segment_bytes v 0);
+  rest = drop 18 (segment_bytes v 0);
   place = refl;
-  written_is = ap (spelled v) none;
-  other_is = is ∙ ap (spelled v) all;
+  written_is = ap (segment_bytes v) none;
+  other_is = is ∙ ap (segment_bytes v) all;
 }
 
-pub only_encoded : (src dst : List ℕ) (v : Content) (bytes : List ℕ) → IsWire src dst v bytes → (bytes ≡ encoded src dst v) ⊎ HasOtherZero (encoded src dst v) bytes
-unfolding encoded
+pub only_encoded : (src dst : List ℕ) (v : Content) (bytes : List ℕ) → IsWire src dst v bytes → (bytes ≡ encoded_bytes src dst v) ⊎ HasOtherZero (encoded_bytes src dst v) bytes
+unfolding encoded_bytes
 only_encoded src dst v bytes w =
     let g : ℕ = big_from 16 2 bytes in
     let fa = w.are_bytes 16 in
     let fb = w.are_bytes 17 in
     let fits : g < 65536 = omega arith in
-    let is = spelled_of src dst v bytes w in
-    let sum = segment_sum src dst (spelled v 0) in
-    let checks : Checks src dst (spelled v g) = subst (Checks src dst) is w.checks in
+    let is = segment_bytes_of src dst v bytes w in
+    let sum = segment_sum src dst (segment_bytes v 0) in
+    let checks : Checks src dst (segment_bytes v g) = subst (Checks src dst) is w.checks in
     let checks' : (sum + g) % 65535 ≡ 0 = rw (← segment_sum_with_field src dst v g fits) checks in
     elim (completion_only sum g fits checks') [
-      | inl same ↦ inl (is ∙ ap (spelled v) same)
+      | inl same ↦ inl (is ∙ ap (segment_bytes v) same)
       | inr other ↦ inr (other_zero src dst v bytes g is other.0 other.1)
     ]
 

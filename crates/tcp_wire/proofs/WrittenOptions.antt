@@ -5,7 +5,7 @@ use Rattle.std.proofs.lemmas.List.{map_more, length-map, length-take-le, take-ap
 use Rattle.tcp_wire.specs.declared.seq.Seq.{Seq}
 use Rattle.tcp_wire.specs.declared.option.TcpOption.{TcpOption}
 use Rattle.tcp_wire.specs.Options.{block_bytes, spelling, spellings}
-use Rattle.tcp_wire.specs.Wire.{Content, option_bytes, wire_length, header, spelled}
+use Rattle.tcp_wire.specs.Wire.{Content, option_bytes, wire_length, header, segment_bytes}
 use Rattle.tcp_wire.specs.View.{block, option_content}
 use Rattle.tcp_wire.proofs.OptionLaws.{blocks_bytes_length, blocks_push, spellings_push}
 use Rattle.tcp_wire.proofs.Places.{written_behind, filled_behind}
@@ -46,7 +46,7 @@ options_written options i at k n o old out part inside is len n_is part_is befor
 pub whole_written : (v : Content) (len k kt : ℕ) (old one area two text : List ℕ) → 20 ≤ length old → k ≡ length old - 20 → len ≡ length (option_bytes v)
     → area ≡ option_bytes v ++ drop (length (option_bytes v)) (take k (drop 20 old)) → one ≡ put_mid 20 k old area
     → two ≡ header v 0 ++ drop 20 one → text ≡ v.text → kt ≡ length v.text
-    → put_mid (20 + len) kt two text ≡ spelled v 0 ++ drop (wire_length v) old
+    → put_mid (20 + len) kt two text ≡ segment_bytes v 0 ++ drop (wire_length v) old
 whole_written v len k kt old one area two text room klen len_is area_is one_is two_is text_is text_len =
     let L : ℕ = length (option_bytes v) in
     let front : List ℕ = take 20 old in

@@ -5,7 +5,7 @@ use Rattle.tcp_wire.specs.declared.fault.DecodeError.{DecodeError}
 use Rattle.tcp_wire.specs.declared.fault.DecodeError.TheVariants.{TooShort, TooLong, BadChecksum, BadOffset, BadOption, BadPadding}
 use Rattle.tcp_wire.specs.Checksum.{segment_sum}
 use Rattle.tcp_wire.specs.Options.{OptionContent, Nop, Mss, WindowScale, SackPermitted, Sack, Unknown, spelling, has_own_length}
-use Rattle.tcp_wire.specs.Wire.{Content, data_offset, option_area}
+use Rattle.tcp_wire.specs.Wire.{Content, header_len, max_len, data_offset, option_area}
 
 -- the header's fields at their places, with these options and this padding
 abbrev pub content_at : List ℕ → List OptionContent → ℕ → Content
@@ -57,17 +57,17 @@ option_at (suc (suc k) ∷ len ∷ rest) =
     else Some (option_of (suc (suc k)) (take (len - 2) rest), drop (len - 2) rest)
 
 -- how many zeros stand in front
-abbrev pub zeros : List ℕ → ℕ
-zeros [] = 0
-zeros (zero ∷ rest) = suc (zeros rest)
-zeros (suc b ∷ rest) = 0
+abbrev pub count_zeros : List ℕ → ℕ
+count_zeros [] = 0
+count_zeros (zero ∷ rest) = suc (count_zeros rest)
+count_zeros (suc b ∷ rest) = 0
 
 -- what stands where no further option is spelled, in bytes that begin at this place: padding, or a fault
 unfoldable pub padding_at : ℕ → List ℕ → Result (List OptionContent × ℕ) DecodeError
 padding_at place [] = Ok ([], 0)
 padding_at place (zero ∷ rest) =
-    if zeros (zero ∷ rest) == length (zero ∷ rest) then Ok ([], length (zero ∷ rest))
-    else Err (BadPadding (place + zeros (zero ∷ rest)))
+    if count_zeros (zero ∷ rest) == length (zero ∷ rest) then Ok ([], length (zero ∷ rest))
+    else Err (BadPadding (place + count_zeros (zero ∷ rest)))
 padding_at place (suc b ∷ rest) = Err (BadOption place)
 
 -- an option in front of what was read behind it
@@ -88,15 +88,15 @@ with_options bytes (Err e) = Err e
 
 -- Behind the length and the checksum: the data offset, then options and padding, then what the segment
 -- says. An option takes a byte or more, and there are at most 40.
-unfoldable pub laid_out : List ℕ → Result Content DecodeError
-laid_out bytes =
+unfoldable pub layout_of : List ℕ → Result Content DecodeError
+layout_of bytes =
     if nat_lt (data_offset bytes) 5 || nat_lt (length bytes) (4 * data_offset bytes) then Err BadOffset
-    else with_options bytes (options_in 40 20 (option_area bytes))
+    else with_options bytes (options_in 40 header_len (option_area bytes))
 
 -- what the bytes say between these addresses, or why they are no segment
-unfoldable pub decoded : List ℕ → List ℕ → List ℕ → Result Content DecodeError
-decoded src dst bytes =
-    if nat_lt (length bytes) 20 then Err TooShort
-    else (if nat_lt 65515 (length bytes) then Err TooLong
-    else (if segment_sum src dst bytes % 65535 == 0 then laid_out bytes
+unfoldable pub decode_answer : List ℕ → List ℕ → List ℕ → Result Content DecodeError
+decode_answer src dst bytes =
+    if nat_lt (length bytes) header_len then Err TooShort
+    else (if nat_lt max_len (length bytes) then Err TooLong
+    else (if segment_sum src dst bytes % 65535 == 0 then layout_of bytes
     else Err BadChecksum))

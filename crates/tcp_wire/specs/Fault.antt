@@ -5,11 +5,11 @@ use Rattle.tcp_wire.specs.declared.fault.DecodeError.{DecodeError}
 use Rattle.tcp_wire.specs.declared.fault.DecodeError.TheVariants.{TooShort, TooLong, BadChecksum, BadOffset, BadOption, BadPadding}
 use Rattle.tcp_wire.specs.Checksum.{Checks}
 use Rattle.tcp_wire.specs.Options.{OptionContent, spelling, spellings, IsSpellable, AreSpellable}
-use Rattle.tcp_wire.specs.Wire.{data_offset, option_area}
+use Rattle.tcp_wire.specs.Wire.{header_len, max_len, data_offset, option_area}
 
 -- the length of a segment: from 20 to 65515
 abbrev pub IsSized : List ℕ → Type 0
-IsSized bytes = (20 ≤ length bytes) × (length bytes ≤ 65515)
+IsSized bytes = (header_len ≤ length bytes) × (length bytes ≤ max_len)
 
 -- the data offset is at least 5 words, and doesn't pass the end
 abbrev pub HasOffset : List ℕ → Type 0
@@ -41,9 +41,9 @@ pub record IsBadPadding (start : ℕ) (area : List ℕ) (place : ℕ) : Type 0 w
   pub not_zero : first ≢ 0
 
 abbrev pub FirstFault : List ℕ → List ℕ → List ℕ → DecodeError → Type 0
-FirstFault src dst bytes TooShort = length bytes < 20
-FirstFault src dst bytes TooLong = 65515 < length bytes
+FirstFault src dst bytes TooShort = length bytes < header_len
+FirstFault src dst bytes TooLong = max_len < length bytes
 FirstFault src dst bytes BadChecksum = IsSized bytes × ¬ Checks src dst bytes
 FirstFault src dst bytes BadOffset = IsSized bytes × Checks src dst bytes × ((data_offset bytes < 5) ⊎ (length bytes < 4 * data_offset bytes))
-FirstFault src dst bytes (BadOption place) = IsSized bytes × Checks src dst bytes × HasOffset bytes × IsBadOption 20 (option_area bytes) place
-FirstFault src dst bytes (BadPadding place) = IsSized bytes × Checks src dst bytes × HasOffset bytes × IsBadPadding 20 (option_area bytes) place
+FirstFault src dst bytes (BadOption place) = IsSized bytes × Checks src dst bytes × HasOffset bytes × IsBadOption header_len (option_area bytes) place
+FirstFault src dst bytes (BadPadding place) = IsSized bytes × Checks src dst bytes × HasOffset bytes × IsBadPadding header_len (option_area bytes) place

@@ -1,8 +1,10 @@
 pub mod Position
+pub mod Laws
 pub mod Checksum
 pub mod Options
+pub mod Flags
 pub mod Wire
 pub mod Fault
 pub mod Decoded
 pub mod View
-pub mod FaultNumber
+pub mod Refusals

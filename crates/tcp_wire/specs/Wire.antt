@@ -1,5 +1,5 @@
 -- Segments as bytes (RFC 9293, 3.1), numbers in network order.
-use Rattle.std.specs.Prelude.{◌≡◌, ℕ, ◌+◌, ◌-◌, ◌*◌, ◌/◌, ◌%◌, ◌^◌, ◌<◌, ◌≤◌, ◌==◌, Bool, List, [], ◌∷◌, ◌++◌, length, take, drop, replicate, slice_index}
+use Rattle.std.specs.Prelude.{◌≡◌, ℕ, ◌+◌, ◌-◌, ◌*◌, ◌/◌, ◌%◌, ◌^◌, ◌<◌, ◌≤◌, List, [], ◌∷◌, ◌++◌, length, take, drop, replicate, slice_index}
 use Rattle.byteorder.specs.Endian.{big_from, big_bytes}
 use Rattle.tcp_wire.specs.Checksum.{AreBytes, Checks, field}
 use Rattle.tcp_wire.specs.Options.{OptionContent, spellings, AreSpellable}
@@ -18,16 +18,24 @@ pub record Content : Type 0 where
   pub pad : ℕ
   pub text : List ℕ
 
--- the control bit of this value is set
-abbrev pub has : ℕ → ℕ → Bool
-has mask flags = flags / mask % 2 == 1
+-- the bytes of the fixed header
+abbrev pub header_len : ℕ
+header_len = 20
+
+-- the bytes of the longest segment: what an IPv4 packet holds behind its own header
+abbrev pub max_len : ℕ
+max_len = 65515
+
+-- the bytes of the longest text
+abbrev pub max_text_len : ℕ
+max_text_len = 65495
 
 -- options, then zeros
 abbrev pub option_bytes : Content → List ℕ
 option_bytes v = spellings v.options ++ replicate {A = ℕ} v.pad 0
 
 abbrev pub wire_length : Content → ℕ
-wire_length v = 20 + length (option_bytes v) + length v.text
+wire_length v = header_len + length (option_bytes v) + length v.text
 
 -- the data offset, in words of 32 bits
 abbrev pub data_offset : List ℕ → ℕ
@@ -35,7 +43,7 @@ data_offset bytes = slice_index bytes 12 / 16
 
 -- the bytes of options and padding: from byte 20 to the data offset
 abbrev pub option_area : List ℕ → List ℕ
-option_area bytes = take (4 * data_offset bytes - 20) (drop 20 bytes)
+option_area bytes = take (4 * data_offset bytes - header_len) (drop header_len bytes)
 
 -- the fields of the fixed header stand in their places
 pub record HasHeader (v : Content) (bytes : List ℕ) : Type 0 where
@@ -52,13 +60,13 @@ pub record HasHeader (v : Content) (bytes : List ℕ) : Type 0 where
 -- offset is 5 and a quarter of the option bytes; behind the fixed header stand options, zeros, text.
 pub record IsWire (src dst : List ℕ) (v : Content) (bytes : List ℕ) : Type 0 where
   pub are_bytes : AreBytes bytes
-  pub least : 20 ≤ length bytes
-  pub most : length bytes ≤ 65515
+  pub least : header_len ≤ length bytes
+  pub most : length bytes ≤ max_len
   pub checks : Checks src dst bytes
   pub header : HasHeader v bytes
-  pub offset : 4 * data_offset bytes ≡ 20 + length (option_bytes v)
+  pub offset : 4 * data_offset bytes ≡ header_len + length (option_bytes v)
   pub options : AreSpellable v.options
-  pub behind : drop 20 bytes ≡ option_bytes v ++ v.text
+  pub behind : drop header_len bytes ≡ option_bytes v ++ v.text
 
 -- v can be written: each field is in its range, each option has a spelling, spellings and padding
 -- fill whole words and at most ten of them, and the whole is no longer than a segment may be
@@ -75,7 +83,7 @@ pub record IsValid (v : Content) : Type 0 where
   pub whole_words : length (option_bytes v) % 4 ≡ 0
   pub room : length (option_bytes v) ≤ 40
   pub text : AreBytes v.text
-  pub most : wire_length v ≤ 65515
+  pub most : wire_length v ≤ max_len
 
 -- the fixed header with this checksum field
 abbrev pub header : Content → ℕ → List ℕ
@@ -85,12 +93,12 @@ header v checksum =
     ++ big_bytes 2 v.window ++ big_bytes 2 checksum ++ big_bytes 2 v.urgent
 
 -- the bytes of v with this checksum field
-abbrev pub spelled : Content → ℕ → List ℕ
-spelled v checksum = header v checksum ++ (option_bytes v ++ v.text)
+abbrev pub segment_bytes : Content → ℕ → List ℕ
+segment_bytes v checksum = header v checksum ++ (option_bytes v ++ v.text)
 
 -- the bytes that are written for v: the checksum field is the one that makes them check
-unfoldable pub encoded : List ℕ → List ℕ → Content → List ℕ
-encoded src dst v = spelled v (field src dst (spelled v 0))
+unfoldable pub encoded_bytes : List ℕ → List ℕ → Content → List ℕ
+encoded_bytes src dst v = segment_bytes v (field src dst (segment_bytes v 0))
 
 -- two segments are alike but for the checksum field, 0000 in the first and ffff in the other
 pub record HasOtherZero (written other : List ℕ) : Type 0 where

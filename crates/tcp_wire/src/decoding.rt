@@ -1,9 +1,9 @@
 ghost use Rattle.std.specs.Prelude.{◌≡◌, ◌↔◌, ◌+◌, ◌*◌, ◌<◌, ◌≤◌, List, ℕ, length, map, Ok, Err, IfOk, IsOkAnd, MatchResult, Result};
 ghost use Rattle.tcp_wire.specs.declared.fault.DecodeError.{DecodeError};
 ghost use Rattle.tcp_wire.specs.Checksum.{DiffersInOnePlace};
-ghost use Rattle.tcp_wire.specs.Wire.{Content, IsWire, data_offset};
+ghost use Rattle.tcp_wire.specs.Wire.{Content, IsWire, header_len, max_text_len, data_offset};
 ghost use Rattle.tcp_wire.specs.Fault.{FirstFault};
-ghost use Rattle.tcp_wire.specs.Decoded.{decoded, content_at, laid_out};
+ghost use Rattle.tcp_wire.specs.Decoded.{decode_answer, content_at, layout_of};
 ghost use Rattle.tcp_wire.specs.View.{content, option_content, BodiesLie};
 
 use crate::addr::Addr;
@@ -25,7 +25,7 @@ fn fields_of<'a>(
     options: ArrayVec<TcpOption<'a>, 40>,
     pad: u8,
 ) -> Segment<'a>
-    requires header { 20 ≤ length bytes.now }
+    requires header { header_len ≤ length bytes.now }
     requires inside { offset ≤ length bytes.now }
     requires offset { offset ≡ 4 * data_offset bytes.now }
     ensures value { content result ≡ content_at bytes.now (map option_content options.entry.items) pad }
@@ -48,12 +48,12 @@ fn fields_of<'a>(
 }
 
 /// What the bytes say, their length and checksum being right.
-#[tactic(auto, unfolding(crate::specs::Decoded::laid_out))]
+#[tactic(auto, unfolding(crate::specs::Decoded::layout_of))]
 fn lay_out(bytes: &[u8]) -> Result<Segment<'_>, DecodeError>
-    requires { 20 ≤ length bytes.now }
-    ensures value { MatchResult result (λ s. laid_out bytes.now ≡ Ok (content s)) (λ e. laid_out bytes.now ≡ Err e) }
+    requires { header_len ≤ length bytes.now }
+    ensures value { MatchResult result (λ s. layout_of bytes.now ≡ Ok (content s)) (λ e. layout_of bytes.now ≡ Err e) }
     ensures place { IfOk result (λ s. s.text.ref_ptr ≡ (bytes.entry.ref_ptr.0, bytes.entry.ref_ptr.1 + 4 * data_offset bytes.now)) }
-    ensures bodies { IfOk result (λ s. BodiesLie (bytes.entry.ref_ptr.0, bytes.entry.ref_ptr.1 + 20) s.options.items) }
+    ensures bodies { IfOk result (λ s. BodiesLie (bytes.entry.ref_ptr.0, bytes.entry.ref_ptr.1 + header_len) s.options.items) }
 {
     let offset = 4 * usize::from(bytes[12] / 16);
     if offset < HEADER_LEN || bytes.len() < offset {
@@ -64,11 +64,11 @@ fn lay_out(bytes: &[u8]) -> Result<Segment<'_>, DecodeError>
 }
 
 /// What the bytes say, or the first of their faults.
-#[tactic(auto, unfolding(crate::specs::Decoded::decoded))]
+#[tactic(auto, unfolding(crate::specs::Decoded::decode_answer))]
 fn read_segment(src: Addr, dst: Addr, bytes: &[u8]) -> Result<Segment<'_>, DecodeError>
-    ensures computed { MatchResult result (λ s. decoded src.0 dst.0 bytes.now ≡ Ok (content s)) (λ e. decoded src.0 dst.0 bytes.now ≡ Err e) }
+    ensures computed { MatchResult result (λ s. decode_answer src.0 dst.0 bytes.now ≡ Ok (content s)) (λ e. decode_answer src.0 dst.0 bytes.now ≡ Err e) }
     ensures place { IfOk result (λ s. s.text.ref_ptr ≡ (bytes.entry.ref_ptr.0, bytes.entry.ref_ptr.1 + 4 * data_offset bytes.now)) }
-    ensures bodies { IfOk result (λ s. BodiesLie (bytes.entry.ref_ptr.0, bytes.entry.ref_ptr.1 + 20) s.options.items) }
+    ensures bodies { IfOk result (λ s. BodiesLie (bytes.entry.ref_ptr.0, bytes.entry.ref_ptr.1 + header_len) s.options.items) }
 {
     if bytes.len() < HEADER_LEN {
         return Err(DecodeError::TooShort);
@@ -90,10 +90,11 @@ pub fn decode(src: Addr, dst: Addr, bytes: &[u8]) -> Result<Segment<'_>, DecodeE
     // Each refusal exactly where it is the first fault.
     ensures fault { (e : DecodeError) → (result ≡ Err e) ↔ FirstFault src.0 dst.0 bytes.now e }
     ensures place { IfOk result (λ s. s.text.ref_ptr ≡ (bytes.entry.ref_ptr.0, bytes.entry.ref_ptr.1 + 4 * data_offset bytes.now)) }
-    ensures bodies { IfOk result (λ s. BodiesLie (bytes.entry.ref_ptr.0, bytes.entry.ref_ptr.1 + 20) s.options.items) }
+    ensures short { IfOk result (λ s. length s.text.now ≤ max_text_len) }
+    ensures bodies { IfOk result (λ s. BodiesLie (bytes.entry.ref_ptr.0, bytes.entry.ref_ptr.1 + header_len) s.options.items) }
     // A segment with one changed byte is refused for its checksum.
     ensures replaced { (v : Content) (sent : List ℕ) → IsWire src.0 dst.0 v sent → DiffersInOnePlace sent bytes.now → result ≡ Err DecodeError.BadChecksum }
-    ensures computed { MatchResult result (λ s. decoded src.0 dst.0 bytes.now ≡ Ok (content s)) (λ e. decoded src.0 dst.0 bytes.now ≡ Err e) }
+    ensures computed { MatchResult result (λ s. decode_answer src.0 dst.0 bytes.now ≡ Ok (content s)) (λ e. decode_answer src.0 dst.0 bytes.now ≡ Err e) }
 {
     read_segment(src, dst, bytes)
 }

@@ -1,5 +1,5 @@
 ghost use Rattle.std.specs.Prelude.{◌≡◌, ◌⊎◌, ◌+◌, ◌/◌, ◌++◌, ◌≤◌, ℕ, List, length, drop};
-ghost use Rattle.tcp_wire.specs.Wire.{IsWire, IsValid, HasOtherZero, option_bytes, wire_length, encoded, spelled, header};
+ghost use Rattle.tcp_wire.specs.Wire.{IsWire, IsValid, HasOtherZero, header_len, option_bytes, wire_length, encoded_bytes, segment_bytes, header};
 ghost use Rattle.tcp_wire.specs.View.{content};
 
 use crate::addr::Addr;
@@ -12,8 +12,8 @@ use byteorder::{BigEndian, ByteOrder};
 fn write_header(segment: &Segment<'_>, offset: u8, out: &mut [u8])
     requires valid { IsValid (content segment.now) }
     requires offset { offset ≡ 5 + length (option_bytes (content segment.now)) / 4 }
-    requires room { 20 ≤ length out.old }
-    ensures { out.new ≡ header (content segment.now) 0 ++ drop 20 out.old }
+    requires room { header_len ≤ length out.old }
+    ensures { out.new ≡ header (content segment.now) 0 ++ drop header_len out.old }
 {
     BigEndian::write_u16(out, segment.src_port);
     BigEndian::write_u16(&mut out[2..], segment.dst_port);
@@ -44,7 +44,7 @@ fn write_unsummed(segment: &Segment<'_>, out: &mut [u8]) -> usize
     requires valid { IsValid (content segment.now) }
     requires room { wire_length (content segment.now) ≤ length out.old }
     ensures len { result ≡ wire_length (content segment.now) }
-    ensures written { out.new ≡ spelled (content segment.now) 0 ++ drop (wire_length (content segment.now)) out.old }
+    ensures written { out.new ≡ segment_bytes (content segment.now) 0 ++ drop (wire_length (content segment.now)) out.old }
 {
     let offset = HEADER_LEN + write_area(segment, &mut out[HEADER_LEN..]);
     write_header(segment, (offset / 4) as u8, out);
@@ -59,10 +59,10 @@ pub fn encode(segment: &Segment<'_>, src: Addr, dst: Addr, out: &mut [u8]) -> us
     requires valid { IsValid (content segment.now) }
     requires room { wire_length (content segment.now) ≤ length out.old }
     ensures len { result ≡ wire_length (content segment.now) }
-    ensures written { out.new ≡ encoded src.0 dst.0 (content segment.now) ++ drop (wire_length (content segment.now)) out.old }
-    ensures wire { IsWire src.0 dst.0 (content segment.now) (encoded src.0 dst.0 (content segment.now)) }
+    ensures written { out.new ≡ encoded_bytes src.0 dst.0 (content segment.now) ++ drop (wire_length (content segment.now)) out.old }
+    ensures wire { IsWire src.0 dst.0 (content segment.now) (encoded_bytes src.0 dst.0 (content segment.now)) }
     // Any other bytes for this segment differ in the checksum alone, 0000 against ffff.
-    ensures only { (other : List ℕ) → IsWire src.0 dst.0 (content segment.now) other → (other ≡ encoded src.0 dst.0 (content segment.now)) ⊎ HasOtherZero (encoded src.0 dst.0 (content segment.now)) other }
+    ensures only { (other : List ℕ) → IsWire src.0 dst.0 (content segment.now) other → (other ≡ encoded_bytes src.0 dst.0 (content segment.now)) ⊎ HasOtherZero (encoded_bytes src.0 dst.0 (content segment.now)) other }
 {
     let len = write_unsummed(segment, out);
     let field = checksum(src, dst, &out[..len]);

@@ -1,5 +1,5 @@
 ghost use Rattle.std.specs.Prelude.{◌≡◌, Some};
-ghost use Rattle.tcp_wire.specs.FaultNumber.{fault_number, fault_message};
+ghost use Rattle.tcp_wire.specs.Refusals.{decode_error_number, decode_error_text};
 
 use std::error::Error;
 use std::fmt;
@@ -24,7 +24,7 @@ pub enum DecodeError {
 impl DecodeError {
     /// The refusal's number, 1 to 6.
     pub fn number(self) -> u8
-        ensures { result ≡ fault_number self }
+        ensures { result ≡ decode_error_number self }
     {
         match self {
             DecodeError::TooShort => 1,
@@ -38,7 +38,7 @@ impl DecodeError {
 }
 
 impl fmt::Display for DecodeError {
-    ghost output = { λ e. Some (fault_message e) };
+    ghost output = { λ e. Some (decode_error_text e) };
 
     fn fmt<W: fmt::Write>(&self, f: &mut fmt::Formatter<W>) -> fmt::Result {
         match *self {

@@ -1,5 +1,5 @@
 ghost use Rattle.std.specs.Prelude.{◌≡◌, ◌==◌, bit_and, bit_or};
-ghost use Rattle.tcp_wire.specs.Wire.{has};
+ghost use Rattle.tcp_wire.specs.Flags.{fin, syn, rst, psh, ack, urg, ece, cwr, has};
 
 /// The control bits of a segment (RFC 9293, 3.1).
 #[derive(Clone, Copy, Debug, Default, PartialEq, Eq, Hash)]
@@ -38,49 +38,49 @@ impl Flags {
     }
 
     pub fn is_cwr(self) -> bool
-        ensures { result ≡ has 128 self.0 }
+        ensures { result ≡ has cwr self.0 }
     {
         self.0 >> 7 & 1 == 1
     }
 
     pub fn is_ece(self) -> bool
-        ensures { result ≡ has 64 self.0 }
+        ensures { result ≡ has ece self.0 }
     {
         self.0 >> 6 & 1 == 1
     }
 
     pub fn is_urg(self) -> bool
-        ensures { result ≡ has 32 self.0 }
+        ensures { result ≡ has urg self.0 }
     {
         self.0 >> 5 & 1 == 1
     }
 
     pub fn is_ack(self) -> bool
-        ensures { result ≡ has 16 self.0 }
+        ensures { result ≡ has ack self.0 }
     {
         self.0 >> 4 & 1 == 1
     }
 
     pub fn is_psh(self) -> bool
-        ensures { result ≡ has 8 self.0 }
+        ensures { result ≡ has psh self.0 }
     {
         self.0 >> 3 & 1 == 1
     }
 
     pub fn is_rst(self) -> bool
-        ensures { result ≡ has 4 self.0 }
+        ensures { result ≡ has rst self.0 }
     {
         self.0 >> 2 & 1 == 1
     }
 
     pub fn is_syn(self) -> bool
-        ensures { result ≡ has 2 self.0 }
+        ensures { result ≡ has syn self.0 }
     {
         self.0 >> 1 & 1 == 1
     }
 
     pub fn is_fin(self) -> bool
-        ensures { result ≡ has 1 self.0 }
+        ensures { result ≡ has fin self.0 }
     {
         self.0 & 1 == 1
     }

@@ -6,6 +6,7 @@ mod decoding;
 mod encoding;
 mod fault;
 mod flags;
+pub mod laws;
 mod option;
 mod option_reading;
 mod option_writing;

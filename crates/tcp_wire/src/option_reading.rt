@@ -1,6 +1,7 @@
 ghost use Rattle.std.specs.Prelude.{◌≡◌, ◌↔◌, ◌+◌, ◌*◌, ◌/◌, ◌<◌, ◌≤◌, List, [], length, map, Ok, Err, Some, None, IsTrue, IfSome, IfOk, MatchOption, MatchResult};
 ghost use Rattle.tcp_wire.specs.Options.{has_own_length, spelling};
-ghost use Rattle.tcp_wire.specs.Decoded.{blocks_in, known_option, option_of, option_at, zeros, padding_at, options_in};
+ghost use Rattle.tcp_wire.specs.Decoded.{blocks_in, known_option, option_of, option_at, count_zeros, padding_at, options_in};
+ghost use Rattle.tcp_wire.specs.Wire.{header_len};
 ghost use Rattle.tcp_wire.specs.View.{block, option_content, BodyIs, BodiesLie};
 
 use crate::fault::DecodeError;
@@ -90,7 +91,7 @@ struct Unread<'a>(&'a [u8]);
 /// The options in this area, which begins behind the fixed header, and the count of zeros behind them.
 pub(crate) fn read_options(area: &[u8]) -> Result<(ArrayVec<TcpOption<'_>, 40>, u8), DecodeError>
     requires { length area.now ≤ 40 }
-    ensures value { MatchResult result (λ r. options_in 40 20 area.now ≡ Ok (map option_content r.0.items, r.1)) (λ e. options_in 40 20 area.now ≡ Err e) }
+    ensures value { MatchResult result (λ r. options_in 40 header_len area.now ≡ Ok (map option_content r.0.items, r.1)) (λ e. options_in 40 header_len area.now ≡ Err e) }
     ensures places { IfOk result (λ r. BodiesLie area.entry.ref_ptr r.0.items) }
 {
     let mut options = ArrayVec::new();

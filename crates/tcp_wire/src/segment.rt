@@ -1,6 +1,6 @@
 ghost use Rattle.std.specs.Prelude.{◌≡◌, ◌↔◌, ◌+◌, ◌^◌, ◌<◌, ◌≤◌, length, map, IsTrue, IsSome, IfSome};
 ghost use Rattle.tcp_wire.specs.Checksum.{AreBytes};
-ghost use Rattle.tcp_wire.specs.Wire.{IsValid, wire_length};
+ghost use Rattle.tcp_wire.specs.Wire.{IsValid, max_len, wire_length};
 ghost use Rattle.tcp_wire.specs.Options.{AreSpellable, spellings};
 ghost use Rattle.tcp_wire.specs.View.{content, option_content};
 
@@ -52,7 +52,7 @@ fn area_len(options: &[TcpOption<'_>], pad: u8) -> Option<usize>
 /// Whether the text and `front` bytes before it make no more than the longest segment.
 fn fits_behind(front: usize, text: &[u8]) -> bool
     requires { front ≤ 60 }
-    ensures exact { IsTrue result ↔ (front + length text.now ≤ 65515) }
+    ensures exact { IsTrue result ↔ (front + length text.now ≤ max_len) }
     ensures bytes { AreBytes text.now }
 {
     text.len() <= MAX_LEN - front

@@ -1,4 +1,5 @@
 ghost use Rattle.std.specs.Prelude.{◌≡◌, ◌↔◌, ◌+◌, ◌*◌, ◌<◌, ◌≤◌, ◌^◌, ℕ, List, length, IsTrue};
+ghost use Rattle.tcp_wire.specs.Wire.{header_len, max_len};
 ghost use Rattle.tcp_wire.specs.Checksum.{word_sum, segment_sum, Checks, field, pseudo_header, DiffersInOnePlace};
 
 use crate::addr::Addr;
@@ -7,7 +8,7 @@ use byteorder::{BigEndian, ByteOrder};
 /// The sum of the 16-bit words, an odd last byte being a high half.
 #[tactic(auto, using(crate::proofs::WordSums::word_sum_more))]
 fn sum_of(bytes: &[u8]) -> u32
-    requires { length bytes.now ≤ 65515 }
+    requires { length bytes.now ≤ max_len }
     ensures exact { result ≡ word_sum bytes.now }
     ensures bound { 2 * result ≤ 65535 * (length bytes.now + 1) }
 {
@@ -26,7 +27,7 @@ fn sum_of(bytes: &[u8]) -> u32
 /// The sum over the pseudo-header: addresses, the protocol's number 6, and the segment's length.
 #[tactic(auto, using(crate::proofs::WordSums::pseudo_parts))]
 fn pseudo_sum(src: Addr, dst: Addr, len: usize) -> u32
-    requires { len ≤ 65515 }
+    requires { len ≤ max_len }
     ensures exact { result ≡ word_sum (pseudo_header src.0 dst.0 len) }
     ensures bound { result < 2 ^ 20 }
 {
@@ -35,8 +36,8 @@ fn pseudo_sum(src: Addr, dst: Addr, len: usize) -> u32
 
 /// The checksum field that makes `bytes` check, their own field taken as zero (RFC 9293, 3.1).
 pub fn checksum(src: Addr, dst: Addr, bytes: &[u8]) -> u16
-    requires least { 20 ≤ length bytes.now }
-    requires most { length bytes.now ≤ 65515 }
+    requires least { header_len ≤ length bytes.now }
+    requires most { length bytes.now ≤ max_len }
     ensures { result ≡ field src.0 dst.0 bytes.now }
 {
     let sum = pseudo_sum(src, dst, bytes.len()) + sum_of(&bytes[..16]) + sum_of(&bytes[18..]);
@@ -45,8 +46,8 @@ pub fn checksum(src: Addr, dst: Addr, bytes: &[u8]) -> u16
 
 /// Whether the sum over pseudo-header and segment is a multiple of 65535 (RFC 9293, 3.1).
 pub fn checks(src: Addr, dst: Addr, bytes: &[u8]) -> bool
-    requires least { 20 ≤ length bytes.now }
-    requires most { length bytes.now ≤ 65515 }
+    requires least { header_len ≤ length bytes.now }
+    requires most { length bytes.now ≤ max_len }
     ensures exact { IsTrue result ↔ Checks src.0 dst.0 bytes.now }
     // One changed byte never checks.
     ensures one_place { IsTrue result → (other : List ℕ) → DiffersInOnePlace bytes.now other → ¬ Checks src.0 dst.0 other }

@@ -3,41 +3,20 @@
 //! reports what came of each event.
 #![tactic(auto)]
 
-mod answers;
-mod counted;
-mod cutting;
-mod errors;
-mod events;
-mod items;
-mod lines;
-mod listing;
-mod names;
-mod numbers;
-mod pieces;
+mod command_line;
 mod program;
-mod replaying;
-mod report;
-mod script;
-mod segment_texts;
-mod settings;
-mod showing;
-mod tally;
 #[cfg(test)]
 mod tests;
-mod transfer;
-mod words;
 
-pub use counted::{Counted, Input, Output};
-pub use errors::{ScriptError, ToolError, WordsError};
-pub use replaying::replay;
-pub use script::{Script, read_script};
-pub use showing::show;
+pub use command_line::{Job, WordsError, read_words};
 use std::process::ExitCode;
 pub use tcp_conn::{
     Arrival, CallError, Config, ConfigError, Ending, Endpoint, Phase, Received, Timer,
 };
+pub use tcp_devices::{Counted, Input, Output};
 pub use tcp_replay::{Event, Outcome, Side, StepError, World, WorldError};
-pub use words::{Job, read_words};
+pub use tcp_script::{Script, ScriptError, read_script};
+pub use tcp_tool::{ToolError, replay, show};
 
 fn main(rt: HostRuntime) -> ExitCode {
     ExitCode::from(program::run(&rt))

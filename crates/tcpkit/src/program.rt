@@ -1,12 +1,10 @@
 //! The program: its words, its file, and its exit status.
-use crate::counted::Counted;
-use crate::errors::{ToolError, WordsError};
-use crate::replaying::replay;
-use crate::showing::show;
-use crate::words::{Job, read_words};
+use crate::command_line::{Job, WordsError, read_words};
 use std::fs::File;
 use std::rt::{Env, Files};
 use std::{env, io};
+use tcp_devices::Counted;
+use tcp_tool::{ToolError, replay, show};
 use thiserror::Error;
 
 /// All was well.

@@ -1,5 +1,1 @@
-mod devices;
-mod listings;
 mod program_words;
-mod scripts;
-mod texts;

@@ -1,6 +1,5 @@
 //! What the program's words mean, which no clause says.
-use crate::errors::WordsError;
-use crate::words::{Job, read_words};
+use crate::command_line::{Job, WordsError, read_words};
 use std::alloc::{AllocError, Global};
 use std::test::Fail;
 

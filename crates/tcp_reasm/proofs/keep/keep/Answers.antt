@@ -3,8 +3,8 @@ use Rattle.std.specs.Prelude.{true, Option, None, if◌then◌else◌, replicate
 use Rattle.std.proofs.lemmas.Bool.Decides.{nat_tests}
 use Rattle.tcp_reasm.specs.declared.cells.HeldByte.{HeldByte}
 use Rattle.tcp_reasm.specs.declared.placed.Placed.TheVariants.{NotKept}
-use Rattle.tcp_reasm.specs.Reassembly.{Cell, in_order, ranked, runs, greatest_stamp, answer_for}
-use Rattle.tcp_reasm.specs.Store.{places_of, merged, cells_over, has_too_many}
+use Rattle.tcp_reasm.specs.Reassembly.{Cell, bytes_in_order, with_ranks, runs, greatest_stamp, answer_for}
+use Rattle.tcp_reasm.specs.Store.{places_of, merge_of, cells_over, has_too_many}
 use Rattle.tcp_reasm.proofs.Keeping.{alone_kept, alone_in_order, alone_behind, places_cut}
 use Rattle.tcp_reasm.proofs.Padding.{runs_padded, greatest_padded}
 use Rattle.tcp_reasm.proofs.keep.keep.Goals as goal
@@ -15,7 +15,7 @@ returns-then-is_empty-clause-answer g c =
     let none : length cells ≡ 0 = grind (arith, nat_tests) in
     c.answer_of.ensures
     ∙ ap (λ (bytes : List ℕ). answer_for (length bytes)) (sym (alone_in_order c.args.start c.args.text.now cells c.if-start-eq0.true none))
-    ∙ ap (λ b. if b then NotKept else answer_for (length (in_order (cells_over c.args.start c.args.text.now cells)))) (sym (alone_kept c.args.start (cells_over c.args.start c.args.text.now cells) c.if-start-eq0.true))
+    ∙ ap (λ b. if b then NotKept else answer_for (length (bytes_in_order (cells_over c.args.start c.args.text.now cells)))) (sym (alone_kept c.args.start (cells_over c.args.start c.args.text.now cells) c.if-start-eq0.true))
 
 pub returns-then-is_empty-clause-unread : goal.returns-then-is_empty-clause-unread
 returns-then-is_empty-clause-unread g c =
@@ -25,7 +25,7 @@ returns-then-is_empty-clause-unread g c =
     c.extend_from_slice.ensures.items
     ∙ ap (λ b. if b then unread ++ c.args.text.now else unread) (c.extend_from_slice.ensures.succeeds (omega arith))
     ∙ ap (λ (bytes : List ℕ). unread ++ bytes) (sym (alone_in_order c.args.start c.args.text.now cells c.if-start-eq0.true none))
-    ∙ ap (λ b. if b then unread else unread ++ in_order (cells_over c.args.start c.args.text.now cells)) (sym (alone_kept c.args.start (cells_over c.args.start c.args.text.now cells) c.if-start-eq0.true))
+    ∙ ap (λ b. if b then unread else unread ++ bytes_in_order (cells_over c.args.start c.args.text.now cells)) (sym (alone_kept c.args.start (cells_over c.args.start c.args.text.now cells) c.if-start-eq0.true))
 
 pub returns-then-is_empty-clause-places : goal.returns-then-is_empty-clause-places
 returns-then-is_empty-clause-places g c =
@@ -33,8 +33,8 @@ returns-then-is_empty-clause-places g c =
     let over : List (Option Cell) = cells_over c.args.start c.args.text.now cells in
     let none : length cells ≡ 0 = grind (arith, nat_tests) in
     alone_behind c.args.start c.args.text.now cells c.if-start-eq0.true none
-    ∙ ap (λ (bytes : List ℕ). ranked (drop (length bytes) over)) (sym (alone_in_order c.args.start c.args.text.now cells c.if-start-eq0.true none))
-    ∙ ap (λ b. if b then places_of cells else ranked (drop (length (in_order over)) over)) (sym (alone_kept c.args.start over c.if-start-eq0.true))
+    ∙ ap (λ (bytes : List ℕ). with_ranks (drop (length bytes) over)) (sym (alone_in_order c.args.start c.args.text.now cells c.if-start-eq0.true none))
+    ∙ ap (λ b. if b then places_of cells else with_ranks (drop (length (bytes_in_order over)) over)) (sym (alone_kept c.args.start over c.if-start-eq0.true))
 
 pub returns-then-makes_too_many-clause-places : goal.returns-then-makes_too_many-clause-places
 returns-then-makes_too_many-clause-places g c =
@@ -49,9 +49,9 @@ returns-then-makes_too_many-clause-places g c =
     let refused : true ≡ has_too_many c.args.start over =
     sym c.if-makes_too_many.true
     ∙ c.makes_too_many.ensures (suc (greatest_stamp (places_of c.deref.result.now)))
-    ∙ ap (λ (places : List (Option Cell)). has_too_many c.args.start (merged c.args.start c.args.text.now places)) grown in
+    ∙ ap (λ (places : List (Option Cell)). has_too_many c.args.start (merge_of c.args.start c.args.text.now places)) grown in
     places_cut cells c.grow.new.cells.items c.truncate.new.self.items c.len-len.result (c.args.start + length c.args.text.now - vec_len c.args.cells.now) (omega arith) c.grow.ensures.places c.truncate.ensures.items
-    ∙ ap (λ b. if b then places_of cells else ranked (drop (length (in_order over)) over)) refused
+    ∙ ap (λ b. if b then places_of cells else with_ranks (drop (length (bytes_in_order over)) over)) refused
 
 pub returns-then-makes_too_many-clause-few : goal.returns-then-makes_too_many-clause-few
 returns-then-makes_too_many-clause-few g c =

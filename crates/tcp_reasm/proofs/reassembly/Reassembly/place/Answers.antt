@@ -1,13 +1,16 @@
-use Rattle.std.proofs.Common.{◌≡◌, ◌⊎◌, ◌<◌, ◌≤◌, ◌+◌, ◌-◌, ℕ, List, arith, ap, sym, ◌∙◌, inl, inr, take, length, length-take}
+use Rattle.std.proofs.Common.{◌≡◌, ◌⊎◌, ◌<◌, ◌≤◌, ◌+◌, ◌-◌, ℕ, List, arith, ap, sym, subst, ◌∙◌, inl, inr, take, length, length-take}
 use Rattle.std.specs.Prelude.{true, false, min, max, ◌==◌, Option}
 use Rattle.std.proofs.lemmas.Bool.Decides.{nat_tests}
 use Rattle.std.proofs.lemmas.List.{length-map}
 use Rattle.std.proofs.lemmas.Int.{to_z-of_z}
 use Rattle.std.proofs.Common.{w64}
 use Rattle.tcp_reasm.specs.declared.cells.HeldByte.{HeldByte}
-use Rattle.tcp_reasm.specs.Reassembly.{Inbox, piece, placed, place_answer}
+use Rattle.tcp_reasm.specs.Reassembly.{Inbox, piece, window, after_place, place_answer}
+use Rattle.tcp_reasm.specs.Laws.{KeepsBytes, TakesPiece, LeavesOthers}
 use Rattle.tcp_reasm.specs.Store.{place_of, places_of, inbox_of, has_too_many, cells_over}
 use Rattle.tcp_reasm.proofs.Keeping.{kept_fits}
+use Rattle.tcp_reasm.proofs.Padding.{missing_padded}
+use Rattle.tcp_reasm.proofs.Placing.{after_place-keeps, after_place-takes, after_place-leaves, ends_at_missing}
 use Rattle.tcp_reasm.proofs.Views.{outside_view, place_view, length_held, length_cells_over}
 use Rattle.tcp_reasm.proofs.reassembly.Reassembly.place.Goals as goal
 use Rattle.tcp_reasm.proofs.reassembly.Reassembly.place.Goals.{then-is_empty-via-then-is_empty, then-is_empty-via-else-is_empty+then-window-start}
@@ -31,7 +34,7 @@ returns-then-is_empty-clause-after g c =
       | then-is_empty-via-then-is_empty w ↦ inl (ap length (sym is_rest) ∙ is_zero (length c.piece_of-start.result.1.now) (sym c.is_empty.ensures ∙ w.if-is_empty.true))
       | then-is_empty-via-else-is_empty+then-window-start w ↦ inr (omega (arith, wide, w.if-window-start.true, is_start))
     ] in
-    sym c.self.view_is ∙ (outside_view q c.args.offset c.args.text.now outside).0 ∙ ap (λ r. placed r c.args.offset c.args.text.now) c.self.view_is
+    sym c.self.view_is ∙ (outside_view q c.args.offset c.args.text.now outside).0 ∙ ap (λ r. after_place r c.args.offset c.args.text.now) c.self.view_is
 
 pub returns-then-is_empty-clause-answer : goal.returns-then-is_empty-clause-answer
 returns-then-is_empty-clause-answer g c =
@@ -83,7 +86,7 @@ returns-clause-after g c =
     c.piece_of-start.result.0 rest (take c.min.result rest) c.keep.result
     (omega (arith, length-map c.self.inside.cells.items place_of)) is_start is_rest is_cut (above_zero (length rest) (sym c.is_empty.ensures ∙ c.if-is_empty.false)) (omega arith)
     c.keep.ensures.answer c.keep.ensures.unread c.keep.ensures.places).0
-    ∙ ap (λ q. placed q c.args.offset c.args.text.now) c.self.view_is
+    ∙ ap (λ q. after_place q c.args.offset c.args.text.now) c.self.view_is
 
 pub returns-clause-answer : goal.returns-clause-answer
 returns-clause-answer g c =
@@ -99,3 +102,25 @@ returns-clause-answer g c =
     (omega (arith, length-map c.self.inside.cells.items place_of)) is_start is_rest is_cut (above_zero (length rest) (sym c.is_empty.ensures ∙ c.if-is_empty.false)) (omega arith)
     c.keep.ensures.answer c.keep.ensures.unread c.keep.ensures.places).1
     ∙ ap (λ q. place_answer q c.args.offset c.args.text.now) c.self.view_is
+
+pub returns-clause-kept : goal.returns-clause-kept
+returns-clause-kept g c =
+    subst (λ (new : Inbox). KeepsBytes c.args.self.now new) (sym (returns-clause-after g c)) (after_place-keeps c.args.self.now c.args.offset c.args.text.now)
+
+pub returns-clause-taken : goal.returns-clause-taken
+returns-clause-taken g c =
+    let wide : length c.args.self.now.held ≡ window c.args.self.now =
+    subst (λ (q : Inbox). length q.held ≡ window q) c.self.view_is
+    (length_held c.self.inside.capacity c.self.inside.unread.items c.self.inside.cells.items (omega (arith, length-map c.self.inside.cells.items place_of))) in
+    λ kept. subst (λ (new : Inbox). TakesPiece c.args.self.now new (piece c.args.offset c.args.text.now)) (sym (returns-clause-after g c))
+    (after_place-takes c.args.self.now c.args.offset c.args.text.now wide (λ refused. kept (returns-clause-answer g c ∙ refused)))
+
+pub returns-clause-others : goal.returns-clause-others
+returns-clause-others g c =
+    subst (λ (new : Inbox). LeavesOthers c.args.self.now new (piece c.args.offset c.args.text.now)) (sym (returns-clause-after g c))
+    (after_place-leaves c.args.self.now c.args.offset c.args.text.now)
+
+pub returns-clause-missing : goal.returns-clause-missing
+returns-clause-missing g c =
+    ends_at_missing (inbox_of c.self.inside.capacity c.keep.new.unread.items c.keep.new.cells.items)
+    (missing_padded (places_of c.keep.new.cells.items) (c.self.inside.capacity - length c.keep.new.unread.items - length c.keep.new.cells.items) c.keep.ensures.front)

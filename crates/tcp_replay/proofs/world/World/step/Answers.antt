@@ -1,19 +1,25 @@
-use Rattle.tcp_replay.proofs.Worlds.{sound_step, damage_step, safe-sound}
+use Rattle.tcp_replay.specs.Events.{event_content}
 use Rattle.tcp_replay.specs.World.{both}
+use Rattle.tcp_replay.proofs.Sounds.{sound_step, damage_step, safe-sound, hints-sound}
 use Rattle.tcp_replay.proofs.world.World.step.Goals as goal
 
 -- two sound ends stay sound, whatever the event
 pub invariant_of-self : goal.invariant_of-self
 invariant_of-self g c =
-    sound_step c.step_parties.result (both c.self.inside.a c.self.inside.b) (both c.step_parties.new.a c.step_parties.new.b) c.args.event.now c.self.invariant
+    sound_step c.step_parties.result (both c.self.inside.a c.self.inside.b) (both c.step_parties.new.a c.step_parties.new.b) (event_content c.args.event.now) c.self.invariant
     c.step_parties.ensures.state c.step_parties.ensures.bytes c.step_parties.ensures.refused c.step_parties.ensures.err
 
 pub returns-clause-safe : goal.returns-clause-safe
 returns-clause-safe g c =
-    safe-sound _ (sound_step c.step_parties.result (both c.self.inside.a c.self.inside.b) (both c.step_parties.new.a c.step_parties.new.b) c.args.event.now c.self.invariant
+    safe-sound _ (sound_step c.step_parties.result (both c.self.inside.a c.self.inside.b) (both c.step_parties.new.a c.step_parties.new.b) (event_content c.args.event.now) c.self.invariant
+    c.step_parties.ensures.state c.step_parties.ensures.bytes c.step_parties.ensures.refused c.step_parties.ensures.err)
+
+pub returns-clause-hints : goal.returns-clause-hints
+returns-clause-hints g c =
+    hints-sound _ (sound_step c.step_parties.result (both c.self.inside.a c.self.inside.b) (both c.step_parties.new.a c.step_parties.new.b) (event_content c.args.event.now) c.self.invariant
     c.step_parties.ensures.state c.step_parties.ensures.bytes c.step_parties.ensures.refused c.step_parties.ensures.err)
 
 pub returns-clause-damaged : goal.returns-clause-damaged
 returns-clause-damaged g c = rw (← c.self.view_is)
-    (damage_step c.step_parties.result (both c.self.inside.a c.self.inside.b) (both c.step_parties.new.a c.step_parties.new.b) c.args.event.now c.self.invariant
+    (damage_step c.step_parties.result (both c.self.inside.a c.self.inside.b) (both c.step_parties.new.a c.step_parties.new.b) (event_content c.args.event.now) c.self.invariant
     c.step_parties.ensures.state c.step_parties.ensures.outcome c.step_parties.ensures.bytes c.step_parties.ensures.refused)

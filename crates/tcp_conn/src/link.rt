@@ -1,0 +1,57 @@
+use tcp_wire::{Addr, Seq};
+
+/// The other end of a connection: where its segments come from.
+#[derive(Clone, Copy, Debug, PartialEq, Eq)]
+pub struct Peer {
+    pub addr: Addr,
+    pub port: u16,
+}
+
+/// What the two SYNs agreed on (RFC 9293, 3.7.1; RFC 7323, 2.2; RFC 2018, 2).
+#[derive(Clone, Copy, Debug, PartialEq, Eq)]
+pub struct Link {
+    /// The greatest text of a segment that the peer takes, in bytes; at least 64.
+    pub peer_mss: u16,
+    /// Whether both SYNs offered to scale windows.
+    pub scaling: bool,
+    /// The shift of the windows that the peer tells, at most 14; 0 without scaling.
+    pub peer_shift: u8,
+    /// Whether both SYNs permitted selective acknowledgement.
+    pub sack: bool,
+}
+
+/// A reset that waits to be emitted (RFC 9293, 3.10.7.1): whom it goes to, its number, and what it acknowledges,
+/// if anything.
+#[derive(Clone, Copy, Debug, PartialEq, Eq)]
+pub struct WaitingReset {
+    pub to: Peer,
+    pub seq: Seq,
+    pub ack: Option<Seq>,
+}
+
+/// What one end owes to the wire.
+#[derive(Clone, Copy, Debug, PartialEq, Eq)]
+pub struct Owed {
+    /// A SYN, or in SYN-RECEIVED a SYN with its acknowledgement.
+    pub syn: bool,
+    /// An acknowledgement.
+    pub ack: bool,
+    /// One byte of new text past a shut window may go out (RFC 9293, 3.8.6.1).
+    pub probe: bool,
+    /// A reset. At most one waits.
+    pub reset: Option<WaitingReset>,
+}
+
+impl Owed {
+    ghost use Rattle.std.specs.Prelude.{◌≡◌};
+    ghost use Rattle.tcp_conn.specs.Calls.{without_debts};
+
+    /// The connection has ended: nothing is owed but a waiting reset.
+    pub(crate) fn clear_debts(&mut self)
+        ensures { self.new ≡ without_debts self.old }
+    {
+        self.syn = false;
+        self.ack = false;
+        self.probe = false;
+    }
+}

@@ -1,0 +1,94 @@
+ghost use Rattle.std.specs.Prelude.{◌≡◌};
+ghost use Rattle.tcp_conn.specs.State.{State, IsWithin};
+ghost use Rattle.tcp_conn.specs.Calls.{timer_answer, after_timer, after_retransmit, after_reorder, after_time_wait, sends_again, needs_probe};
+ghost use Rattle.tcp_conn.specs.declared.phase.Timer.TheVariants.{Retransmit, Reorder, TimeWait};
+
+use crate::endpoint::Endpoint;
+use crate::phase::Timer;
+use std::alloc::Allocator;
+
+impl<A: Allocator> Endpoint<A> {
+    /// A timer has run out (RFC 9293, 3.10.8): whether its rule applies. Where it doesn't, nothing changes.
+    pub fn timer(&mut self, timer: Timer) -> bool
+        ensures answer { result ≡ timer_answer self.old timer }
+        ensures state { self.new ≡ after_timer self.old timer }
+        ensures within { IsWithin self.new }
+    {
+        let applies = match timer {
+            Timer::Retransmit => self.retransmit(),
+            Timer::Reorder => self.reorder(),
+            Timer::TimeWait => self.leave_time_wait(),
+        };
+        let _ = &self.config;
+        applies
+    }
+
+    /// Whether `timer` would answer true now, for Retransmit, Reorder and TimeWait: which timers have to run.
+    pub fn timers(&self) -> (bool, bool, bool)
+        ensures { result ≡ (timer_answer self.now Retransmit, timer_answer self.now Reorder, timer_answer self.now TimeWait) }
+    {
+        let retransmit = self.phase.is_handshake() || self.sends_again() || self.needs_probe();
+        let reorder = self.phase.sends_text() && self.sender.marks_end().is_some();
+        (retransmit, reorder, self.phase.is_time_wait())
+    }
+
+    /// Whether something in flight is to go out again at the retransmission timeout.
+    fn sends_again(&self) -> bool
+        ensures { result ≡ sends_again self.now }
+    {
+        self.phase.sends_text() && self.sender.is_in_flight()
+    }
+
+    /// Whether a probe is to be granted at the retransmission timeout.
+    fn needs_probe(&self) -> bool
+        ensures { result ≡ needs_probe self.now }
+    {
+        self.phase.sends_text() && self.sender.needs_probe()
+    }
+
+    /// The retransmission timeout (RFC 9293, 3.8.1 and 3.8.6.1).
+    #[tactic(auto, unfolding(crate::specs::Calls::after_retransmit))]
+    fn retransmit(&mut self) -> bool
+        ensures answer { result ≡ timer_answer self.old Retransmit }
+        ensures state { self.new ≡ after_retransmit self.old }
+    {
+        let handshake = self.phase.is_handshake();
+        let again = self.sends_again();
+        let probe = self.needs_probe();
+        if again {
+            self.sender.resend_all();
+        }
+        self.owed.syn = self.owed.syn || handshake;
+        self.owed.probe = self.owed.probe || probe;
+        handshake || again || probe
+    }
+
+    /// The reordering timeout: what stands below the last mark is taken for lost (RFC 2018, 5).
+    #[tactic(auto, unfolding(crate::specs::Calls::after_reorder))]
+    fn reorder(&mut self) -> bool
+        ensures answer { result ≡ timer_answer self.old Reorder }
+        ensures state { self.new ≡ after_reorder self.old }
+    {
+        if !self.phase.sends_text() {
+            return false;
+        }
+        let Some(end) = self.sender.marks_end() else {
+            return false;
+        };
+        self.sender.resend_gaps(end);
+        true
+    }
+
+    /// The TIME-WAIT timeout (RFC 9293, 3.10.8).
+    #[tactic(auto, unfolding(crate::specs::Calls::after_time_wait))]
+    fn leave_time_wait(&mut self) -> bool
+        ensures answer { result ≡ timer_answer self.old TimeWait }
+        ensures state { self.new ≡ after_time_wait self.old }
+    {
+        if !self.phase.is_time_wait() {
+            return false;
+        }
+        self.end_in_order();
+        true
+    }
+}

@@ -1,0 +1,12 @@
+//! Readers and writers that count their failures, for contracts alone: all bytes of an input, and all bytes to
+//! an output.
+#![tactic(auto)]
+
+mod counted;
+mod error;
+mod tally;
+mod transfer;
+
+pub use counted::{Counted, Input, Output};
+pub use error::{ReadError, WriteFault};
+pub use transfer::{read_all, write_all};

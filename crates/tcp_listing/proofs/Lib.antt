@@ -1,0 +1,2 @@
+pub mod SegmentCounts
+pub mod WordCounts

@@ -1,0 +1,134 @@
+-- Emissions, deliveries and damage: both directions stay sound.
+use Rattle.std.proofs.Common.{◌≡◌, ◌≢◌, ℕ, ◌<◌, List, [], ◌++◌, length, refl, sym, ◌∙◌, ap, subst, arith, append-nil}
+use Rattle.std.specs.Prelude.{Bool, true, false, nat_le, ◌==◌, if◌then◌else◌, Option, Some, None, IfSome, Ok, Err, option_to_list, option_map, slice_get, slice_index, bit_xor}
+use Rattle.std.proofs.lemmas.Bool.{eqb-false, leb-false}
+use Rattle.std.proofs.lemmas.Nat.{xor_of_8}
+use Rattle.std.proofs.lemmas.Option.{slice_get-get_or, unwrap_or-slice_get}
+use Rattle.std.specs.Int.Bits.{xor_self, xor_zero_l, xor_assoc}
+use Rattle.tcp_wire.specs.Checksum.{DiffersInOnePlace}
+use Rattle.tcp_wire.specs.Wire.{Content, IsWire}
+use Rattle.tcp_wire.specs.Decoded.{decode_answer}
+use Rattle.tcp_wire.specs.declared.fault.DecodeError.{DecodeError}
+use Rattle.tcp_wire.specs.declared.fault.DecodeError.TheVariants.{BadChecksum}
+use Rattle.tcp_wire.proofs.RoundTrip.{decoded_encoded, IsWire_encoded, decoded_damaged, differs_set}
+use Rattle.tcp_conn.specs.declared.due.Due.{Due}
+use Rattle.tcp_conn.specs.declared.outcome.Arrival.TheVariants.{Malformed}
+use Rattle.tcp_conn.specs.State.{State}
+use Rattle.tcp_conn.specs.Judgement.{judgement}
+use Rattle.tcp_conn.specs.Arrival.{after_judgement, after_reading, after_arrival, answer_to_reading, arrival_answer}
+use Rattle.tcp_conn.specs.Emission.{due_of, bytes_of, emitted_bytes, after_due, after_emission}
+use Rattle.tcp_replay.specs.declared.outcome.StepError.{StepError}
+use Rattle.tcp_replay.specs.declared.outcome.StepError.TheVariants.{NoSuchSegment, NoChange, PlaceOutside}
+use Rattle.tcp_replay.specs.declared.outcome.Outcome.TheVariants as outcomes
+use Rattle.tcp_replay.specs.World.{PartyState, party_after_emission, party_after_arrival, arrival_outcome, segment_at, bytes_with_damage, is_missing, delivery_refusal, damage_refusal}
+use Rattle.tcp_replay.specs.Sound.{IsOwn, AreOwn, IsSoundPair}
+use Rattle.tcp_replay.proofs.Lists.{one_if-most}
+use Rattle.tcp_replay.proofs.Steps.{kept-same, pair-from-move}
+use Rattle.tcp_replay.proofs.Arrivals.{Comes, fair-judgement}
+use Rattle.tcp_replay.proofs.Emissions.{GoesOut, own-due, due-goes}
+use Rattle.tcp_replay.proofs.Users.{pair-kept}
+
+-- EMIT
+some-is : {x y : List ℕ} → Some x ≡ Some y → x ≡ y
+some-is e = cc
+
+emitted-due : (p q : PartyState) (due : Option Due) → IfSome due (GoesOut p q) → IsSoundPair p q
+    → IsSoundPair (record p { endpoint = after_due p.endpoint due; sent = p.sent ++ option_to_list (option_map (bytes_of p.endpoint) due) }) q
+emitted-due p q None goes h = subst (λ (sent : List (List ℕ)). IsSoundPair (record p { sent = sent }) q) (sym (append-nil p.sent)) h
+emitted-due p q (Some due) goes h =
+    let here = goes.kept.here in
+    pair-from-move p _ q (record { here = record { stays = here.stays; sends = here.sends; takes = here.takes; between = here.between }; config = goes.kept.config; grows = goes.kept.grows })
+    (record { new = Some (bytes_of p.endpoint due); sent = refl; own = λ bytes is. subst (λ (bytes : List ℕ). IsOwn p q bytes) (some-is is) (own-due p q due goes) }) h
+
+pub pair-emitted : (p q : PartyState) → IsSoundPair p q → IsSoundPair (party_after_emission p) q
+unfolding party_after_emission emitted_bytes after_emission
+pair-emitted p q h = emitted-due p q (due_of p.endpoint) (due-goes p q h) h
+
+-- DELIVERY of a segment that the peer emitted
+pub arrival-ok : (s : State) (src dst bytes : List ℕ) (v : Content) → decode_answer src dst bytes ≡ Ok v → after_arrival s src dst bytes ≡ after_judgement (judgement s src dst v) s src v
+unfolding after_arrival
+arrival-ok s src dst bytes v e = ap (after_reading s src dst) e
+
+arrival-err : (s : State) (src dst bytes : List ℕ) (fault : DecodeError) → decode_answer src dst bytes ≡ Err fault → after_arrival s src dst bytes ≡ s
+unfolding after_arrival
+arrival-err s src dst bytes fault e = ap (after_reading s src dst) e
+
+pub own-decodes : (q p : PartyState) (bytes : List ℕ) → (own : IsOwn q p bytes) → decode_answer q.endpoint.config.addr.0 p.endpoint.config.addr.0 bytes ≡ Ok own.content
+own-decodes q p bytes own = ap (decode_answer q.endpoint.config.addr.0 p.endpoint.config.addr.0) own.spelled ∙ decoded_encoded q.endpoint.config.addr.0 p.endpoint.config.addr.0 own.content own.valid
+
+pub comes : (p q : PartyState) (bytes : List ℕ) → IsSoundPair p q → (own : IsOwn q p bytes) → Comes p q own.content
+comes p q bytes h own = record {
+  valid = own.valid;
+  truthful = own.truthful;
+  near = omega (arith, one_if-most q.endpoint.receiving.finished, h.back.takes.order, h.there.sends.limit);
+  limit = h.back.sends.limit;
+}
+
+pair-arrived : (p q : PartyState) (bytes : List ℕ) → IsSoundPair p q → IsOwn q p bytes → IsSoundPair (party_after_arrival p q bytes) q
+unfolding party_after_arrival
+pair-arrived p q bytes h own =
+    let src = q.endpoint.config.addr.0 in
+    let dst = p.endpoint.config.addr.0 in
+    let s = after_judgement (judgement p.endpoint src dst own.content) p.endpoint src own.content in
+    subst (λ (s : State). IsSoundPair (record p { endpoint = s }) q) (sym (arrival-ok p.endpoint src dst bytes own.content (own-decodes q p bytes own)))
+    (pair-kept p q s (fair-judgement p q p.endpoint dst own.content (comes p q bytes h own) (kept-same p q h)) h)
+
+-- bytes that are no segment
+unmoved : (p q : PartyState) (bytes : List ℕ) (fault : DecodeError) → decode_answer q.endpoint.config.addr.0 p.endpoint.config.addr.0 bytes ≡ Err fault → party_after_arrival p q bytes ≡ p
+unfolding party_after_arrival
+unmoved p q bytes fault e = ap (λ (s : State). record p { endpoint = s }) (arrival-err p.endpoint q.endpoint.config.addr.0 p.endpoint.config.addr.0 bytes fault e)
+
+told-malformed : (p q : PartyState) (bytes : List ℕ) (fault : DecodeError) → decode_answer q.endpoint.config.addr.0 p.endpoint.config.addr.0 bytes ≡ Err fault → arrival_outcome p q bytes ≡ outcomes.Arrived (Malformed fault)
+unfolding arrival_answer
+told-malformed p q bytes fault e = ap (λ r. outcomes.Arrived (answer_to_reading p.endpoint q.endpoint.config.addr.0 p.endpoint.config.addr.0 r)) e
+
+-- a segment that was emitted, by its number
+pub segment-sent : (q : PartyState) (k : ℕ) → is_missing q k ≡ false → slice_get q.sent k ≡ Some (segment_at q k)
+segment-sent q k there =
+    let inside : k < length q.sent = leb-false (length q.sent) k there in
+    slice_get-get_or q.sent k [] inside ∙ ap Some (sym (unwrap_or-slice_get q.sent k []))
+
+refusal-none : (b : Bool) (error : StepError) (rest : Option StepError) → (if b then Some error else rest) ≡ None → (b ≡ false) × (rest ≡ None)
+refusal-none true error rest e = absurd (cc)
+refusal-none false error rest e = (refl, e)
+
+pub delivered-there : (q : PartyState) (k : ℕ) → delivery_refusal q k ≡ None → is_missing q k ≡ false
+delivered-there q k e = (refusal-none (is_missing q k) NoSuchSegment None e).0
+
+pub pair-delivered : (p q : PartyState) (k : ℕ) → delivery_refusal q k ≡ None → IsSoundPair p q → IsSoundPair (party_after_arrival p q (segment_at q k)) q
+pair-delivered p q k e h = pair-arrived p q (segment_at q k) h (h.answered k (segment_at q k) (segment-sent q k (delivered-there q k e)))
+
+-- DAMAGE: one byte of it differs, and is always found
+xor-changes : (x value : ℕ) → value ≢ 0 → bit_xor x value ≢ x
+xor-changes x value some e =
+    some (sym (xor_zero_l value) ∙ ap (λ z. bit_xor z value) (sym (xor_self x)) ∙ xor_assoc x x value ∙ ap (bit_xor x) e ∙ xor_self x)
+
+damage-found : (p q : PartyState) (k place value : ℕ) → value < 256 → AreOwn q p → damage_refusal q k place value ≡ None
+    → decode_answer q.endpoint.config.addr.0 p.endpoint.config.addr.0 (bytes_with_damage (segment_at q k) place value) ≡ Err BadChecksum
+damage-found p q k place value fits told e =
+    let src = q.endpoint.config.addr.0 in
+    let dst = p.endpoint.config.addr.0 in
+    let bytes = segment_at q k in
+    let first = refusal-none (is_missing q k) NoSuchSegment _ e in
+    let second = refusal-none (value == 0) NoChange _ first.1 in
+    let third = refusal-none (nat_le (length bytes) place) PlaceOutside None second.1 in
+    let own = told k bytes (segment-sent q k first.0) in
+    let wire : IsWire src dst own.content bytes = subst (λ (sent : List ℕ). IsWire src dst own.content sent) (sym own.spelled) (IsWire_encoded src dst own.content own.valid) in
+    let differs : DiffersInOnePlace bytes (bytes_with_damage bytes place value) =
+    differs_set bytes place (bit_xor (slice_index bytes place) value) wire.are_bytes (leb-false (length bytes) place third.0) (xor_of_8 (slice_index bytes place) value (wire.are_bytes place) fits)
+    (λ same. xor-changes (slice_index bytes place) value (eqb-false value 0 second.0) (sym same)) in
+    decoded_damaged src dst own.content bytes (bytes_with_damage bytes place value) wire differs
+
+-- it changes nothing, and is told
+pub record FindsDamage (p q : PartyState) (k place value : ℕ) : Type 0 where
+  pub same : party_after_arrival p q (bytes_with_damage (segment_at q k) place value) ≡ p
+  pub told : arrival_outcome p q (bytes_with_damage (segment_at q k) place value) ≡ outcomes.Arrived (Malformed BadChecksum)
+
+pub finds-damage : (p q : PartyState) (k place value : ℕ) → value < 256 → damage_refusal q k place value ≡ None → IsSoundPair p q → FindsDamage p q k place value
+finds-damage p q k place value fits e h =
+    let bytes = bytes_with_damage (segment_at q k) place value in
+    let found = damage-found p q k place value fits h.answered e in
+    record { same = unmoved p q bytes BadChecksum found; told = told-malformed p q bytes BadChecksum found }
+
+pub pair-damaged : (p q : PartyState) (k place value : ℕ) → value < 256 → damage_refusal q k place value ≡ None → IsSoundPair p q → IsSoundPair (party_after_arrival p q (bytes_with_damage (segment_at q k) place value)) q
+pair-damaged p q k place value fits e h = subst (λ (p' : PartyState). IsSoundPair p' q) (sym (finds-damage p q k place value fits e h).same) h

@@ -1,0 +1,120 @@
+-- What is known of a segment and the end where each judgement is passed: the tests are gone through once.
+use Rattle.std.proofs.Common.{◌≡◌, ℕ, List}
+use Rattle.std.specs.Prelude.{true, false, not, ◌&&◌, ◌==◌, if◌then◌else◌}
+use Rattle.std.proofs.lemmas.Bool.{cond_both, and_parts, not-false}
+use Rattle.tcp_wire.specs.Flags.{syn, rst, ack, has}
+use Rattle.tcp_wire.specs.Wire.{Content}
+use Rattle.tcp_reasm.specs.Reassembly.{window}
+use Rattle.tcp_conn.specs.declared.judgement.Judgement.{Judgement}
+use Rattle.tcp_conn.specs.declared.judgement.Judgement.TheVariants.{Foreign, ResetIgnored, Stray, AckOfListen, NoSyn, PeerOpens, AckOfNoSyn, PeerRefuses, PeerAccepts, Unacceptable, PeerResets, ResetElsewhere, SynInWindow, NoAck, AcksUnsent, HandshakeRefused, HandshakeRefusedShut, Taken, TakenShut}
+use Rattle.tcp_conn.specs.Phases.{is_closed, is_listening, is_syn_sent, is_syn_received}
+use Rattle.tcp_conn.specs.State.{State}
+use Rattle.tcp_conn.specs.Sender.{acks_unsent}
+use Rattle.tcp_conn.specs.Judgement.{position_near, is_foreign, closed_judgement, listen_judgement, acks_syn, syn_sent_judgement, is_wanted, ack_judgement, is_allowed_shut, unacceptable_judgement, acceptable_judgement, present_judgement, phase_judgement, judgement}
+
+-- the phases that are tested first are none of them
+pub record IsPresent (s : State) : Type 0 where
+  pub shut : is_closed s.phase ≡ false
+  pub listening : is_listening s.phase ≡ false
+  pub syn_sent : is_syn_sent s.phase ≡ false
+
+-- a SYN without RST, and an acknowledgement without
+pub record IsSyn (v : Content) : Type 0 where
+  pub plain : has rst v.flags ≡ false
+  pub told : has syn v.flags ≡ true
+
+pub record IsAckOnly (v : Content) : Type 0 where
+  pub plain : has rst v.flags ≡ false
+  pub told : has ack v.flags ≡ true
+
+-- something holds under each judgement, where it is passed
+pub record Cases (s : State) (v : Content) (P : Judgement → Type 0) : Type 0 where
+  pub foreign : P Foreign
+  pub reset_ignored : P ResetIgnored
+  pub stray : P Stray
+  pub ack_of_listen : P AckOfListen
+  pub no_syn : P NoSyn
+  pub peer_opens : is_listening s.phase ≡ true → IsSyn v → P PeerOpens
+  pub ack_of_no_syn : P AckOfNoSyn
+  pub peer_refuses : P PeerRefuses
+  pub peer_accepts : is_syn_sent s.phase ≡ true → IsSyn v → P PeerAccepts
+  pub unacceptable : IsPresent s → P Unacceptable
+  pub peer_resets : P PeerResets
+  pub reset_elsewhere : IsPresent s → P ResetElsewhere
+  pub syn_in_window : IsPresent s → P SynInWindow
+  pub no_ack : P NoAck
+  pub acks_unsent : IsPresent s → P AcksUnsent
+  pub handshake_refused : P HandshakeRefused
+  pub handshake_refused_shut : IsPresent s → P HandshakeRefusedShut
+  pub taken : IsPresent s → IsAckOnly v → P Taken
+  pub taken_shut : IsPresent s → IsAckOnly v → P TakenShut
+
+module _ (s : State) (v : Content) (P : Judgement → Type 0) (c : Cases s v P) where
+  in-closed : P (closed_judgement v)
+  unfolding closed_judgement
+  in-closed = cond_both (has rst v.flags) ResetIgnored Stray P (λ _. c.reset_ignored) (λ _. c.stray)
+
+  in-listen : is_listening s.phase ≡ true → P (listen_judgement v)
+  unfolding listen_judgement
+  in-listen listening =
+      cond_both (has rst v.flags) ResetIgnored (if has ack v.flags then AckOfListen else (if has syn v.flags then PeerOpens else NoSyn)) P (λ _. c.reset_ignored)
+      (λ plain. cond_both (has ack v.flags) AckOfListen (if has syn v.flags then PeerOpens else NoSyn) P (λ _. c.ack_of_listen)
+      (λ _. cond_both (has syn v.flags) PeerOpens NoSyn P (λ told. c.peer_opens listening (record { plain = plain; told = told })) (λ _. c.no_syn)))
+
+  in-syn_sent : is_syn_sent s.phase ≡ true → P (syn_sent_judgement s v)
+  unfolding syn_sent_judgement
+  in-syn_sent sent =
+      let answers = if has syn v.flags && has ack v.flags then PeerAccepts else NoSyn in
+      let resets = if has ack v.flags then PeerRefuses else ResetIgnored in
+      cond_both (has ack v.flags && not (acks_syn s v)) (if has rst v.flags then ResetIgnored else AckOfNoSyn) (if has rst v.flags then resets else answers) P
+      (λ _. cond_both (has rst v.flags) ResetIgnored AckOfNoSyn P (λ _. c.reset_ignored) (λ _. c.ack_of_no_syn))
+      (λ _. cond_both (has rst v.flags) resets answers P
+      (λ _. cond_both (has ack v.flags) PeerRefuses ResetIgnored P (λ _. c.peer_refuses) (λ _. c.reset_ignored))
+      (λ plain. cond_both (has syn v.flags && has ack v.flags) PeerAccepts NoSyn P
+      (λ e. c.peer_accepts sent (record { plain = plain; told = (and_parts (has syn v.flags) (has ack v.flags) e).0 })) (λ _. c.no_syn)))
+
+  by-ack : (good refused : Judgement) → IsPresent s → P good → P refused → P (ack_judgement s v good refused)
+  unfolding ack_judgement
+  by-ack good refused present well ill =
+      cond_both (is_syn_received s.phase) (if acks_syn s v then good else refused) (if acks_unsent s.sending (position_near s v.ack) then AcksUnsent else good) P
+      (λ _. cond_both (acks_syn s v) good refused P (λ _. well) (λ _. ill))
+      (λ _. cond_both (acks_unsent s.sending (position_near s v.ack)) AcksUnsent good P (λ _. c.acks_unsent present) (λ _. well))
+
+  in-unacceptable : IsPresent s → P (unacceptable_judgement s v)
+  unfolding unacceptable_judgement
+  in-unacceptable present =
+      let allowed = ack_judgement s v TakenShut HandshakeRefusedShut in
+      cond_both (has rst v.flags) ResetIgnored (if is_allowed_shut s v then allowed else Unacceptable) P (λ _. c.reset_ignored)
+      (λ plain. cond_both (is_allowed_shut s v) allowed Unacceptable P
+      (λ e.
+      let told = and_parts (has ack v.flags) (not (has syn v.flags)) (and_parts (window s.receiving.inbox == 0) (has ack v.flags && not (has syn v.flags)) e).1 in
+      by-ack TakenShut HandshakeRefusedShut present (c.taken_shut present (record { plain = plain; told = told.0 })) (c.handshake_refused_shut present))
+      (λ _. c.unacceptable present))
+
+  in-acceptable : IsPresent s → P (acceptable_judgement s v)
+  unfolding acceptable_judgement
+  in-acceptable present =
+      let resets = if v.seq == s.receiving.next then PeerResets else ResetElsewhere in
+      let acks = ack_judgement s v Taken HandshakeRefused in
+      cond_both (has rst v.flags) resets (if has syn v.flags then SynInWindow else (if not (has ack v.flags) then NoAck else acks)) P
+      (λ _. cond_both (v.seq == s.receiving.next) PeerResets ResetElsewhere P (λ _. c.peer_resets) (λ _. c.reset_elsewhere present))
+      (λ plain. cond_both (has syn v.flags) SynInWindow (if not (has ack v.flags) then NoAck else acks) P (λ _. c.syn_in_window present)
+      (λ _. cond_both (not (has ack v.flags)) NoAck acks P (λ _. c.no_ack)
+      (λ told. by-ack Taken HandshakeRefused present (c.taken present (record { plain = plain; told = not-false (has ack v.flags) told })) c.handshake_refused)))
+
+  in-present : IsPresent s → P (present_judgement s v)
+  unfolding present_judgement
+  in-present present = cond_both (is_wanted s v) (acceptable_judgement s v) (unacceptable_judgement s v) P (λ _. in-acceptable present) (λ _. in-unacceptable present)
+
+  in-phase : P (phase_judgement s v)
+  unfolding phase_judgement
+  in-phase =
+      let opens = if is_syn_sent s.phase then syn_sent_judgement s v else present_judgement s v in
+      cond_both (is_closed s.phase) (closed_judgement v) (if is_listening s.phase then listen_judgement v else opens) P (λ _. in-closed)
+      (λ shut. cond_both (is_listening s.phase) (listen_judgement v) opens P in-listen
+      (λ listening. cond_both (is_syn_sent s.phase) (syn_sent_judgement s v) (present_judgement s v) P in-syn_sent
+      (λ sent. in-present (record { shut = shut; listening = listening; syn_sent = sent }))))
+
+  pub judged : (src dst : List ℕ) → P (judgement s src dst v)
+  unfolding judgement
+  judged src dst = cond_both (is_foreign s src dst v) Foreign (phase_judgement s v) P (λ _. c.foreign) (λ _. in-phase)

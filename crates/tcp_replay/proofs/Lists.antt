@@ -1,0 +1,79 @@
+-- Cases by a test, fronts of lists, and bytes.
+use Rattle.std.proofs.Common.{◌≡◌, ℕ, zero, suc, ◌+◌, ◌-◌, ◌≤◌, List, [], ◌∷◌, ◌++◌, length, take, drop, refl, sym, ◌∙◌, ap, ⊎_elim, arith, length-append, length-take}
+use Rattle.std.specs.Prelude.{Bool, true, false, if◌then◌else◌, Option, Some, None}
+use Rattle.std.proofs.lemmas.List.{nil_from_length, get_or-take, get_or-drop, get_or_past, get_or_append_left, get_or-append_right}
+use Rattle.std.proofs.lemmas.Bool.{cases_lt}
+use Rattle.tcp_wire.specs.Checksum.{AreBytes}
+use Rattle.tcp_reasm.specs.Reassembly.{Cell}
+use Rattle.tcp_reasm.specs.Agreement.{Agrees}
+
+-- what holds by a test, either way
+pub by_test : (b : Bool) (P : Bool → Type 0) → (b ≡ true → P true) → (b ≡ false → P false) → P b
+by_test true P holds fails = holds refl
+by_test false P holds fails = fails refl
+
+-- how many numbers a FIN takes, where there is one
+abbrev pub one_if : Bool → ℕ
+one_if b = if b then 1 else 0
+
+pub one_if-false : (b : Bool) → b ≡ false → one_if b ≡ 0
+one_if-false b e = rw e refl
+
+pub one_if-most : (b : Bool) → one_if b ≤ 1
+one_if-most true = omega arith
+one_if-most false = omega arith
+
+-- bytes in front of bytes
+pub AreBytes-append : (xs ys : List ℕ) → AreBytes xs → AreBytes ys → AreBytes (xs ++ ys)
+AreBytes-append xs ys left right i =
+    ⊎_elim (λ less. rw (get_or_append_left xs ys 0 i less) (left i))
+    (λ more. rw (get_or-append_right xs ys (length xs) i 0 refl more) (right (i - length xs))) (cases_lt i (length xs))
+
+take-short : (n : ℕ) (xs : List ℕ) (i : ℕ) → n ≤ i → length (take n xs) ≤ i
+take-short n xs i more = omega (arith, length-take n xs)
+
+pub AreBytes-take : (n : ℕ) (xs : List ℕ) → AreBytes xs → AreBytes (take n xs)
+AreBytes-take n xs h i =
+    ⊎_elim (λ less. rw (get_or-take n xs i 0 less) (h i))
+    (λ more. rw (get_or_past (take n xs) i 0 (take-short n xs i more)) (omega arith)) (cases_lt i n)
+
+pub AreBytes-drop : (n : ℕ) (xs : List ℕ) → AreBytes xs → AreBytes (drop n xs)
+AreBytes-drop n xs h i = rw (get_or-drop n xs i 0) (h (n + i))
+
+-- a stream that grows still agrees with what is held
+pub Agrees-more : (held : List (Option Cell)) (rest more : List ℕ) → Agrees held rest → Agrees held (rest ++ more)
+Agrees-more [] rest more h = tt
+Agrees-more (None ∷ places) [] [] h = h
+Agrees-more (None ∷ places) [] (byte ∷ more) h = Agrees-more places [] more h
+Agrees-more (None ∷ places) (byte ∷ rest) more h = Agrees-more places rest more h
+Agrees-more (Some cell ∷ places) [] more h = absurd h
+Agrees-more (Some cell ∷ places) (byte ∷ rest) more h = (h.0, Agrees-more places rest more h.1)
+
+pub take-none : (n : ℕ) → take {A = ℕ} n [] ≡ []
+take-none zero = refl
+take-none (suc n) = refl
+
+-- a front, and what follows it
+pub take-further : (m n : ℕ) (xs : List ℕ) → take m xs ++ take n (drop m xs) ≡ take (m + n) xs
+take-further zero n xs = let e : n ≡ zero + n = omega arith in ap (λ k. take k xs) e
+take-further (suc m) zero [] = sym (take-none (suc m + 0))
+take-further (suc m) (suc n) [] = sym (take-none (suc m + suc n))
+take-further (suc m) n (x ∷ xs) = ap (λ ys. x ∷ ys) (take-further m n xs) ∙ (let e : suc (m + n) ≡ suc m + n = omega arith in ap (λ k. take k (x ∷ xs)) e)
+
+pub drop-take_sub : (k n : ℕ) (xs : List ℕ) → drop k (take n xs) ≡ take (n - k) (drop k xs)
+drop-take_sub zero n xs = let e : n ≡ n - zero = omega arith in ap (λ m. take m xs) e
+drop-take_sub (suc k) zero xs = let e : zero ≡ zero - suc k = omega arith in ap (λ m. take m (drop (suc k) xs)) e
+drop-take_sub (suc k) (suc n) [] = sym (take-none (suc n - suc k))
+drop-take_sub (suc k) (suc n) (x ∷ xs) = drop-take_sub k n xs ∙ (let e : n - k ≡ suc n - suc k = omega arith in ap (λ m. take m (drop k xs)) e)
+
+-- what stands in front of another list in a front
+pub front-is : (front more whole : List ℕ) (n : ℕ) → front ++ more ≡ take n whole → front ≡ take (length front) whole
+front-is [] more whole n e = refl
+front-is (x ∷ front) more whole zero e = absurd (cc)
+front-is (x ∷ front) more [] (suc n) e = absurd (cc)
+front-is (x ∷ front) more (w ∷ whole) (suc n) e = let rest = front-is front more whole n (cc) in cc
+
+-- behind all of a list nothing more of it follows
+pub nothing-follows : (front more whole : List ℕ) (n : ℕ) → front ++ more ≡ take n whole → front ≡ whole → more ≡ []
+nothing-follows front more whole n e is =
+    nil_from_length more (omega (arith, length-append front more, ap length e, length-take n whole, ap length is))

@@ -1,0 +1,5 @@
+pub mod Events
+pub mod Faults
+pub mod Names
+pub mod Outcomes
+pub mod Report

@@ -1,0 +1,4 @@
+pub mod Names
+pub mod Script
+pub mod Settings
+pub mod Statements

@@ -1,0 +1,90 @@
+//! Segments (RFC 9293, 3.1): all fields, or a summary.
+ghost use Rattle.std.specs.Prelude.{◌≡◌, ◌++◌, OnOk, string_bytes, map};
+ghost use Rattle.tcp_wire.specs.View.{content, option_content, block};
+ghost use Rattle.tcp_text.specs.Segments.{numbers_text, control_text, rest_text, fields_text, blocks_of, summary_text};
+
+use crate::bytes::push_bytes;
+use crate::flags::push_flags;
+use crate::options::{push_blocks, push_options};
+use std::alloc::{AllocError, Global};
+use tcp_wire::{Segment, Seq, TcpOption};
+
+/// Ports and numbers.
+#[tactic(auto, unfolding(crate::specs::Segments::numbers_text))]
+fn push_numbers(text: &mut String, segment: &Segment<'_>) -> Result<(), AllocError>
+    ensures { OnOk result (string_bytes text.new ≡ string_bytes text.old ++ numbers_text (content segment.now)) }
+{
+    let src_port = segment.src_port;
+    let dst_port = segment.dst_port;
+    let seq = segment.seq.0;
+    let ack = segment.ack.0;
+    write!(text, "{src_port} > {dst_port} seq {seq} ack {ack}")
+}
+
+/// The other fields of the fixed header.
+#[tactic(auto, unfolding(crate::specs::Segments::control_text))]
+fn push_control(text: &mut String, segment: &Segment<'_>) -> Result<(), AllocError>
+    ensures { OnOk result (string_bytes text.new ≡ string_bytes text.old ++ control_text (content segment.now)) }
+{
+    let reserved = segment.reserved;
+    let window = segment.window;
+    let urgent = segment.urgent;
+    write!(text, " reserved {reserved} flags ")?;
+    push_flags(text, segment.flags)?;
+    write!(text, " window {window} urgent {urgent}")
+}
+
+/// What is behind the fixed header.
+#[tactic(auto, unfolding(crate::specs::Segments::rest_text))]
+fn push_rest(alloc: Global, text: &mut String, segment: &Segment<'_>) -> Result<(), AllocError>
+    ensures { OnOk result (string_bytes text.new ≡ string_bytes text.old ++ rest_text (content segment.now)) }
+{
+    let pad = segment.pad;
+    text.push_str(" options ")?;
+    push_options(alloc, text, segment.options.as_slice())?;
+    write!(text, " pad {pad} text ")?;
+    push_bytes(alloc, text, segment.text)
+}
+
+/// Appends all fields of a segment, its checksum aside.
+pub fn push_fields(
+    alloc: Global,
+    text: &mut String,
+    segment: &Segment<'_>,
+) -> Result<(), AllocError>
+    ensures { OnOk result (string_bytes text.new ≡ string_bytes text.old ++ fields_text (content segment.now)) }
+{
+    push_numbers(text, segment)?;
+    push_control(text, segment)?;
+    push_rest(alloc, text, segment)
+}
+
+/// The blocks that the first option with blocks tells (RFC 2018, 3).
+fn blocks_of<'a>(options: &'a [TcpOption<'_>]) -> &'a [(Seq, Seq)]
+    ensures { map block result.now ≡ blocks_of (map option_content options.now) }
+{
+    for option in options {
+        if let TcpOption::Sack(blocks) = option {
+            return blocks.as_slice();
+        }
+    }
+    &[]
+}
+
+/// Appends flags, numbers, window, the text's length and the blocks of a segment.
+#[tactic(auto, unfolding(crate::specs::Segments::summary_text))]
+pub fn push_summary(text: &mut String, segment: &Segment<'_>) -> Result<(), AllocError>
+    ensures { OnOk result (string_bytes text.new ≡ string_bytes text.old ++ summary_text (content segment.now)) }
+{
+    let seq = segment.seq.0;
+    let ack = segment.ack.0;
+    let window = segment.window;
+    let count = segment.text.len();
+    text.push_str("flags ")?;
+    push_flags(text, segment.flags)?;
+    write!(
+        text,
+        " seq {seq} ack {ack} window {window} text {count} sack "
+    )?;
+    push_blocks(text, blocks_of(segment.options.as_slice()))
+}

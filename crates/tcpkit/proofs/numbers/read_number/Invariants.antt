@@ -1,9 +1,0 @@
-use Rattle.std.proofs.Common.{◌≡◌, ◌≤◌, drop}
-use Rattle.std.specs.List.{list_all}
-use Rattle.tcpkit.specs.Script.{is_digit, value_from}
-use Rattle.tcpkit.proofs.numbers.read_number.Given as goal
-
-abbrev pub invariant-loop-digit : goal.invariant-loop-digit
-invariant-loop-digit l =
-    (l.value ≤ l.most) × (value_from l.value (drop l.digit-index l.word) ≡ value_from 0 l.word)
-    × (list_all is_digit (drop l.digit-index l.word) ≡ list_all is_digit l.word)
