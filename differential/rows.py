@@ -262,8 +262,34 @@ def block_rows():
     yield r.arrive(ACK, options=sack((r.own + 1, r.own + 10))).timer("reorder").emit(2).arrive(ACK, ack=10).emit()
 
 
+REFUSALS = {
+    21: "a capacity is not from 1 to 1048576 bytes",
+    23: "the maximum segment size is not from 64 to 1460 bytes",
+    24: "the window shift is not from 0 to 14",
+}
+
+
+def config_rows():
+    """Settings that an end can be made from, and those that are refused: capacities first, then the MSS, then the shift."""
+    for mss_size, send, recv, shift, refusal in (
+        (1460, 65536, 65536, None, None), (64, 1, 1, 14, None), (1460, 1048576, 1048576, 0, None),
+        (1460, 65536, 0, None, 21), (1460, 65536, 1048577, None, 21), (1460, 0, 65536, None, 21), (1460, 1048577, 65536, None, 21),
+        (63, 65536, 65536, None, 23), (1461, 65536, 65536, None, 23), (1460, 65536, 65536, 15, 24),
+        (63, 65536, 0, 15, 21), (63, 65536, 65536, 15, 23),
+    ):
+        name = f"# MSS {mss_size}, capacities {send} and {recv}, shift {shift}: {'taken' if refusal is None else 'refused'}"
+        line = f"new 5000 {mss_size} {send} {recv} {'-' if shift is None else shift} 1"
+        if refusal is None:
+            yield [name, line, "emit"], ["none CLOSED not-ended unread 0 released 0 ordered 0"]
+        else:
+            yield [name, line], [f"refused {refusal}: {REFUSALS[refusal]}"]
+
+
 def main():
     lines, told = ["# Rows on one end, made by differential/rows.py: a comment names each."], []
+    for asked, answered in config_rows():
+        lines += asked
+        told += answered
     for row in rows():
         lines += row.lines
         told += row.told

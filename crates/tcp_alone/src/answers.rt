@@ -1,103 +1,24 @@
-//! Answers as words.
-use std::alloc::{AllocError, Global};
-use tcp_conn::{Arrival, CallError, Ending, Endpoint, Phase, Received};
-use tcp_text::{push_bytes, push_fault, push_summary};
-use tcp_wire::{Addr, decode};
+//! What the answers of tcp_answers leave out: a call that answers nothing, and where the end stands.
+ghost use Rattle.std.specs.Prelude.{◌≡◌, ◌++◌, OnOk, string_bytes};
+ghost use Rattle.tcp_alone.specs.Answers.{call_text, state_text};
 
-fn phase_name(phase: Phase) -> &'static str {
-    match phase {
-        Phase::Closed => "CLOSED",
-        Phase::Listen => "LISTEN",
-        Phase::SynSent => "SYN-SENT",
-        Phase::SynReceived => "SYN-RECEIVED",
-        Phase::Established => "ESTABLISHED",
-        Phase::FinWait1 => "FIN-WAIT-1",
-        Phase::FinWait2 => "FIN-WAIT-2",
-        Phase::CloseWait => "CLOSE-WAIT",
-        Phase::Closing => "CLOSING",
-        Phase::LastAck => "LAST-ACK",
-        Phase::TimeWait => "TIME-WAIT",
-    }
-}
+use std::alloc::AllocError;
+use tcp_answers::{ending_name, phase_name, push_refused};
+use tcp_conn::{CallError, Endpoint};
 
-fn ending_name(ending: Ending) -> &'static str {
-    match ending {
-        Ending::NotEnded => "not-ended",
-        Ending::Orderly => "orderly",
-        Ending::Reset => "reset",
-        Ending::Aborted => "aborted",
-    }
-}
-
-pub(crate) fn push_refusal(told: &mut String, refusal: CallError) -> Result<(), AllocError> {
-    let number = refusal.number();
-    write!(told, "refused {number}")
-}
-
-pub(crate) fn push_call(
-    told: &mut String,
-    answer: Result<(), CallError>,
-) -> Result<(), AllocError> {
+pub(crate) fn push_call(told: &mut String, answer: Result<(), CallError>) -> Result<(), AllocError>
+    ensures { OnOk result (string_bytes told.new ≡ string_bytes told.old ++ call_text answer) }
+{
     match answer {
         Ok(()) => told.push_str("ok"),
-        Err(refusal) => push_refusal(told, refusal),
-    }
-}
-
-pub(crate) fn push_sent(
-    told: &mut String,
-    answer: Result<usize, CallError>,
-) -> Result<(), AllocError> {
-    match answer {
-        Ok(count) => write!(told, "took {count}"),
-        Err(refusal) => push_refusal(told, refusal),
-    }
-}
-
-/// With the front of the buffer that was filled.
-pub(crate) fn push_received(
-    alloc: Global,
-    told: &mut String,
-    answer: Result<Received, CallError>,
-    out: &[u8],
-) -> Result<(), AllocError> {
-    match answer {
-        Ok(Received::Bytes(count)) => {
-            told.push_str("bytes ")?;
-            push_bytes(alloc, told, out.get(..count).unwrap_or(b""))
-        }
-        Ok(Received::Nothing) => told.push_str("nothing"),
-        Ok(Received::EndOfStream) => told.push_str("end"),
-        Err(refusal) => push_refusal(told, refusal),
-    }
-}
-
-pub(crate) fn push_arrival(told: &mut String, arrival: Arrival) -> Result<(), AllocError> {
-    match arrival {
-        Arrival::Malformed(fault) => push_fault(told, fault),
-        Arrival::NotMine => told.push_str("not-mine"),
-        Arrival::Dropped => told.push_str("dropped"),
-        Arrival::Processed => told.push_str("processed"),
-    }
-}
-
-/// The destination and the fields of a segment.
-pub(crate) fn push_segment(
-    told: &mut String,
-    src: Addr,
-    dst: Addr,
-    bytes: &[u8],
-) -> Result<(), AllocError> {
-    let [a, b, c, d] = dst.0;
-    write!(told, "{a}.{b}.{c}.{d} ")?;
-    match decode(src, dst, bytes) {
-        Ok(segment) => push_summary(told, &segment),
-        Err(fault) => push_fault(told, fault),
+        Err(refusal) => push_refused(told, refusal.number()),
     }
 }
 
 /// Where the end stands.
-pub(crate) fn push_state(told: &mut String, end: &Endpoint) -> Result<(), AllocError> {
+pub(crate) fn push_state(told: &mut String, end: &Endpoint) -> Result<(), AllocError>
+    ensures { OnOk result (string_bytes told.new ≡ string_bytes told.old ++ state_text end.now) }
+{
     let phase = phase_name(end.phase());
     let ending = ending_name(end.ending());
     let unread = end.unread();

@@ -1,13 +1,30 @@
 //! One line's call, and what it answers.
-use crate::answers::{push_arrival, push_call, push_received, push_segment, push_sent, push_state};
-use crate::reading::{first_word, read_timer};
+use crate::answers::{push_call, push_state};
 use std::alloc::Global;
-use tcp_conn::{EMIT_ROOM, Endpoint};
-use tcp_text::{LineError, read_addr, read_bytes, read_number};
+use tcp_answers::{push_arrival, push_receive, push_segment, push_send};
+use tcp_conn::{Config, EMIT_ROOM, Endpoint, Received};
+use tcp_script::read_timer;
+use tcp_text::{LineError, SPACE, cut, read_addr, read_bytes, read_number};
 use tcp_wire::Addr;
 
 /// The greatest count that a line asks to receive.
 const MAX_RECEIVE: u64 = 1_048_576;
+
+/// Makes an end, or tells why there is none.
+pub(crate) fn tell_new_end(
+    alloc: Global,
+    config: Config,
+    told: &mut String,
+) -> Result<Option<Endpoint>, LineError> {
+    match Endpoint::new(alloc, config) {
+        Ok(end) => Ok(Some(end)),
+        Err(refusal) => {
+            let number = refusal.number();
+            write!(told, "refused {number}: {refusal}\n")?;
+            Ok(None)
+        }
+    }
+}
 
 /// Takes a line's call, and tells its answer.
 pub(crate) fn tell_line(
@@ -16,7 +33,8 @@ pub(crate) fn tell_line(
     line: &[u8],
     told: &mut String,
 ) -> Result<(), LineError> {
-    let (word, rest) = first_word(line);
+    let (word, rest) = cut(SPACE, line);
+    let rest = rest.unwrap_or(b"");
     match word {
         b"emit" => tell_emission(end, told)?,
         b"arrive" => tell_arrival(alloc, end, rest, told)?,
@@ -60,7 +78,7 @@ fn tell_send(
     told: &mut String,
 ) -> Result<(), LineError> {
     let bytes = read_bytes(alloc, word)?;
-    push_sent(told, end.send(&bytes))?;
+    push_send(told, end.send(&bytes))?;
     Ok(())
 }
 
@@ -73,14 +91,22 @@ fn tell_receive(
     let room = read_number(word, MAX_RECEIVE).ok_or(LineError::BadForm)? as usize;
     let mut out = vec![in alloc; 0u8; room]?;
     let answer = end.receive(&mut out);
-    push_received(alloc, told, answer, &out)?;
+    let count = match answer {
+        Ok(Received::Bytes(count)) => count,
+        _ => 0,
+    };
+    push_receive(alloc, told, answer, &out[..count])?;
     Ok(())
 }
 
 fn tell_emission(end: &mut Endpoint, told: &mut String) -> Result<(), LineError> {
     let mut room = [0u8; EMIT_ROOM];
     match end.emit(&mut room) {
-        Some((to, len)) => push_segment(told, end.config().addr, to, &room[..len])?,
+        Some((dst, len)) => {
+            let [a, b, c, d] = dst.0;
+            write!(told, "{a}.{b}.{c}.{d} ")?;
+            push_segment(told, end.config().addr, dst, &room[..len])?;
+        }
         None => told.push_str("none")?,
     }
     Ok(())
@@ -92,11 +118,11 @@ fn tell_arrival(
     words: &[u8],
     told: &mut String,
 ) -> Result<(), LineError> {
-    let (src, rest) = first_word(words);
-    let (dst, bytes) = first_word(rest);
+    let (src, rest) = cut(SPACE, words);
+    let (dst, bytes) = cut(SPACE, rest.ok_or(LineError::BadForm)?);
     let src = read_addr(src).ok_or(LineError::BadForm)?;
     let dst = read_addr(dst).ok_or(LineError::BadForm)?;
-    let bytes = read_bytes(alloc, bytes)?;
+    let bytes = read_bytes(alloc, bytes.ok_or(LineError::BadForm)?)?;
     let arrival = end.arrive(src, dst, &bytes);
     push_arrival(told, arrival)?;
     Ok(())

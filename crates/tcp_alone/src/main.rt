@@ -1,6 +1,6 @@
 //! One end alone, for tests: reads calls and arriving segments, a line each, and tells each answer, each emission and
 //! the phase behind it. A line is `new ISN MSS SEND RECV SHIFT SACK` (a shift of `-` is none, SACK is 0 or 1), which
-//! begins with another end; `connect`, `listen`, `close`, `abort`, `emit`, `timers`; `send HEX`, `receive N`, `timer NAME`;
+//! begins with another end, or tells why there is none; `connect`, `listen`, `close`, `abort`, `emit`, `timers`; `send HEX`, `receive N`, `timer NAME`;
 //! or `arrive SOURCE DESTINATION HEX`. The end is 10.0.0.2, port 2; it connects to 10.0.0.1, port 1.
 #![tactic(auto)]
 
@@ -9,7 +9,6 @@ mod calls;
 mod reading;
 
 use std::process::ExitCode;
-use tcp_conn::Endpoint;
 use tcp_devices::{Counted, read_all};
 use tcp_text::{LineError, Lines};
 
@@ -21,7 +20,7 @@ fn tell(rt: &impl AllocGlobal, text: &[u8]) -> Result<String, LineError> {
     let lines = Lines::new(text).map_err(|_| LineError::BadForm)?;
     for (_, line) in lines {
         if let Some(config) = reading::read_config(line) {
-            end = Endpoint::new(rt.alloc(), config).ok();
+            end = calls::tell_new_end(rt.alloc(), config, &mut told)?;
         } else if let Some(end) = &mut end {
             calls::tell_line(rt.alloc(), end, line, &mut told)?;
         } else {

@@ -1,28 +1,16 @@
 //! The cases of a folder, in the order of their names. A file `NAME.script` is a script, and each line of a file
 //! `NAME.scripts` is one; `NAME.list` and `NAME.lists` are the same for lists of segments.
+use crate::form::{Form, Kind, form_of_ending};
 use std::alloc::Global;
 use std::rt::{Env, Files};
 use std::{env, fs, io};
 use tcp_devices::Counted;
 use tcp_tool::{ToolError, replay, show};
 
-/// What a text is.
-#[derive(Clone, Copy)]
-enum Kind {
-    Script,
-    List,
-}
-
-/// What the file of a name has: what its texts are, and whether each of its lines is a text of its own.
-fn form_of(name: &str) -> Option<(Kind, bool)> {
+/// The form that the file of a name has.
+fn form_of(name: &str) -> Option<Form> {
     let (_, ending) = name.rsplit_once('.')?;
-    match ending {
-        "script" => Some((Kind::Script, false)),
-        "scripts" => Some((Kind::Script, true)),
-        "list" => Some((Kind::List, false)),
-        "lists" => Some((Kind::List, true)),
-        _ => None,
-    }
+    form_of_ending(ending)
 }
 
 /// The names of a folder's files, in their order.
@@ -55,17 +43,17 @@ fn print_case(rt: &(impl Print + AllocGlobal), kind: Kind, text: &[u8]) -> io::R
 
 /// Prints the cases of a file.
 fn print_file(rt: &(impl Files + Print + AllocGlobal), folder: &str, name: &str) -> io::Result<()> {
-    let Some((kind, is_by_lines)) = form_of(name) else {
+    let Some(form) = form_of(name) else {
         return Err(io::Error::from(io::ErrorKind::InvalidFilename));
     };
     let path = format!(in rt.alloc(); "{folder}/{name}")?;
     let text = fs::read(rt, path)?;
     println!(rt; "== {name}")?;
-    if !is_by_lines {
-        return print_case(rt, kind, &text);
+    if !form.is_by_lines {
+        return print_case(rt, form.kind, &text);
     }
     for line in text.split_inclusive(|byte| *byte == b'\n') {
-        print_case(rt, kind, line)?;
+        print_case(rt, form.kind, line)?;
     }
     Ok(())
 }

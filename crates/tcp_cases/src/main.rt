@@ -3,6 +3,7 @@
 #![tactic(auto)]
 
 mod cases;
+mod form;
 
 use std::process::ExitCode;
 

@@ -27,6 +27,3 @@ pub use endpoint::Endpoint;
 pub use outcome::{Arrival, CallError, Received};
 pub use phase::{Ending, Phase, Timer};
 pub use sender::STREAM_LIMIT;
-
-#[cfg(test)]
-mod tests;

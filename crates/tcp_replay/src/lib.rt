@@ -12,6 +12,3 @@ pub use event::{Event, Side};
 pub use headline::every_run_is_safe;
 pub use outcome::{Outcome, StepError, WorldError};
 pub use world::World;
-
-#[cfg(test)]
-mod tests;

@@ -4,10 +4,6 @@ use Rattle.tcp_wire.specs.declared.fault.DecodeError.{DecodeError}
 use Rattle.tcp_wire.specs.Wire.{Content}
 use Rattle.tcp_wire.specs.Decoded.{decode_answer}
 use Rattle.tcp_conn.specs.declared.outcome.CallError.{CallError}
-use Rattle.tcp_conn.specs.declared.outcome.Received.{Received}
-use Rattle.tcp_conn.specs.declared.outcome.Received.TheVariants.{Bytes, Nothing, EndOfStream}
-use Rattle.tcp_conn.specs.declared.outcome.Arrival.{Arrival}
-use Rattle.tcp_conn.specs.declared.outcome.Arrival.TheVariants.{Malformed, NotMine, Dropped, Processed}
 use Rattle.tcp_conn.specs.declared.phase.Phase.{Phase}
 use Rattle.tcp_conn.specs.Refusals.{call_error_number}
 use Rattle.tcp_replay.specs.declared.event.Side.{Side}
@@ -16,37 +12,16 @@ use Rattle.tcp_replay.specs.declared.outcome.Outcome.TheVariants as outcomes
 use Rattle.tcp_replay.specs.declared.outcome.StepError.{StepError}
 use Rattle.tcp_replay.specs.Refusals.{step_error_number}
 use Rattle.tcp_replay.specs.World.{WorldState, party_of, other, segment_at}
-use Rattle.tcp_text.specs.Texts.{bytes_text}
-use Rattle.tcp_text.specs.Segments.{summary_text, fault_text}
-use Rattle.tcp_report.specs.Names.{phase_name, yes_or_no}
-
--- a call or a step that was refused
-abbrev pub refused_text : ℕ → List ℕ
-refused_text number = codes "refused " ++ decimal number
+use Rattle.tcp_answers.specs.Names.{phase_name}
+use Rattle.tcp_answers.specs.Answers.{refused_text, send_text, receive_text, segment_text, arrival_text}
+use Rattle.tcp_report.specs.Names.{yes_or_no}
 
 -- CALLS: with the phase that the side is in then
 abbrev pub call_text : Result (Unit {0}) CallError → Phase → List ℕ
 call_text (Ok done) phase = codes "ok " ++ phase_name phase
 call_text (Err e) phase = refused_text (call_error_number e)
 
-abbrev pub send_text : Result ℕ CallError → List ℕ
-send_text (Ok count) = codes "took " ++ decimal count
-send_text (Err e) = refused_text (call_error_number e)
-
--- with the bytes that were handed over
-abbrev pub receive_text : Result Received CallError → List ℕ → List ℕ
-receive_text (Ok (Bytes count)) bytes = codes "bytes " ++ bytes_text bytes
-receive_text (Ok Nothing) bytes = codes "nothing"
-receive_text (Ok EndOfStream) bytes = codes "end"
-receive_text (Err e) bytes = refused_text (call_error_number e)
-
--- EMISSIONS: a summary of what the segment's bytes say. Bytes that are no segment, which no end emits, are told
--- as those that arrive
-abbrev pub segment_text : Result Content DecodeError → List ℕ
-segment_text (Ok v) = summary_text v
-segment_text (Err e) = fault_text e
-
--- segment k of a side, between the true addresses
+-- EMISSIONS: segment k of a side, between the true addresses
 abbrev pub address_of_side : WorldState → Side → List ℕ
 address_of_side w side = (party_of w side).endpoint.config.addr.0
 
@@ -56,13 +31,6 @@ meaning_of_segment w side k = decode_answer (address_of_side w side) (address_of
 abbrev pub emission_text : WorldState → Side → Option ℕ → List ℕ
 emission_text w side None = codes "none"
 emission_text w side (Some k) = decimal k ++ (codes " " ++ segment_text (meaning_of_segment w side k))
-
--- ARRIVALS: with the phase that the other side is in then
-abbrev pub arrival_text : Arrival → List ℕ
-arrival_text (Malformed e) = fault_text e
-arrival_text NotMine = codes "not-mine"
-arrival_text Dropped = codes "dropped"
-arrival_text Processed = codes "processed"
 
 -- AN OUTCOME, by the world behind the event, the side that the event names, and how many bytes that side had been
 -- handed before it

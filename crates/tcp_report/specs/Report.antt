@@ -6,7 +6,8 @@ use Rattle.tcp_replay.specs.Events.{EventContent}
 use Rattle.tcp_replay.specs.World.{PartyState, WorldState, new_world, party_of, step_answer, world_behind, world_behind_all}
 use Rattle.tcp_script.specs.Names.{side_name}
 use Rattle.tcp_script.specs.Script.{ScriptContent}
-use Rattle.tcp_report.specs.Names.{phase_name, ending_name, yes_or_no}
+use Rattle.tcp_answers.specs.Names.{phase_name, ending_name}
+use Rattle.tcp_report.specs.Names.{yes_or_no}
 use Rattle.tcp_report.specs.Events.{event_words, event_text}
 use Rattle.tcp_report.specs.Outcomes.{answer_text, is_refused}
 

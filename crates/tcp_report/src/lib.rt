@@ -1,7 +1,6 @@
 //! The report of a script: what came of each event between two new ends, and how both stand at last.
 #![tactic(auto)]
 
-mod answers;
 mod error;
 mod events;
 mod names;

@@ -1,13 +1,12 @@
 //! What came of one event.
 ghost use Rattle.std.specs.Prelude.{◌≡◌, ◌++◌, drop, OnOk, string_bytes};
 ghost use Rattle.tcp_replay.specs.World.{party_of, other, segment_at};
-ghost use Rattle.tcp_report.specs.Outcomes.{address_of_side, emission_text, outcome_text, answer_text, is_refused};
+ghost use Rattle.tcp_report.specs.Outcomes.{call_text, address_of_side, emission_text, outcome_text, answer_text, is_refused};
 
-use crate::answers::{
-    push_arrival, push_call, push_receive, push_refused, push_segment, push_send,
-};
-use crate::names::{phase_name, yes_or_no};
+use crate::names::yes_or_no;
 use std::alloc::{AllocError, Global};
+use tcp_answers::{phase_name, push_arrival, push_receive, push_refused, push_segment, push_send};
+use tcp_conn::{CallError, Phase};
 use tcp_replay::{Outcome, Side, StepError, World};
 use tcp_wire::Addr;
 
@@ -34,6 +33,23 @@ fn segment_at(world: &World, side: Side, k: usize) -> &[u8]
     ensures { result.now ≡ segment_at (party_of world.now side) k }
 {
     world.sent(side, k).unwrap_or(&[])
+}
+
+/// With the phase that the side is in then.
+fn push_call(
+    text: &mut String,
+    answer: Result<(), CallError>,
+    phase: Phase,
+) -> Result<(), AllocError>
+    ensures { OnOk result (string_bytes text.new ≡ string_bytes text.old ++ call_text answer phase) }
+{
+    match answer {
+        Ok(()) => {
+            let phase = phase_name(phase);
+            write!(text, "ok {phase}")
+        }
+        Err(error) => push_refused(text, error.number()),
+    }
 }
 
 fn push_emission(

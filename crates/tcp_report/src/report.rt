@@ -9,9 +9,10 @@ ghost use Rattle.tcp_report.specs.Faults.{HasReportFault};
 
 use crate::error::ReportError;
 use crate::events::{push_event, side_of};
-use crate::names::{ending_name, phase_name, yes_or_no};
+use crate::names::yes_or_no;
 use crate::outcomes::{Answer, is_refused, push_answer};
 use std::alloc::{AllocError, Global};
+use tcp_answers::{ending_name, phase_name};
 use tcp_conn::ConfigError;
 use tcp_replay::{Event, Side, StepError, World, WorldError};
 use tcp_script::{Script, side_name};

@@ -9,7 +9,7 @@ mod settings;
 mod statement;
 
 pub use error::ScriptError;
-pub use names::{side_name, timer_name};
+pub use names::{read_timer, side_name, timer_name};
 pub use script::{Script, read_script, read_script_bytes};
 
 #[cfg(test)]

@@ -50,7 +50,7 @@ pub(crate) fn read_side(word: &[u8]) -> Option<Side>
 }
 
 /// The timer that a word names.
-pub(crate) fn read_timer(word: &[u8]) -> Option<Timer>
+pub fn read_timer(word: &[u8]) -> Option<Timer>
     ensures { result ≡ spec.timer_of word.now }
 {
     if word == RETRANSMIT {

@@ -1,4 +1,8 @@
 //! The program's words.
+ghost use Rattle.std.specs.Prelude.{◌≡◌, ◌≢◌, IfErr};
+ghost use Rattle.clap.specs.Values.{kind_of};
+ghost use Rattle.tcpkit.specs.Words.{words_error_of, path_of};
+
 use clap::error::ErrorKind;
 use clap::{Arg, ArgAction, ArgMatches, Command, Error as ParseError};
 use std::alloc::{AllocError, Global};
@@ -24,6 +28,18 @@ pub enum Job {
     Replay(String),
 }
 
+impl Job {
+    /// The path of its file.
+    pub(crate) fn path(&self) -> &str
+        ensures { result.now ≡ path_of self.now }
+    {
+        match self {
+            Job::Decode(path) => path,
+            Job::Replay(path) => path,
+        }
+    }
+}
+
 const DECODE: &str = "decode";
 
 const REPLAY: &str = "replay";
@@ -45,7 +61,9 @@ fn forms<'a>(alloc: Global) -> Result<Command<'a>, AllocError> {
 }
 
 /// Any refusal but want of memory is one of the words; so is a request for help.
-fn fault(error: &ParseError) -> WordsError {
+fn fault(error: &ParseError) -> WordsError
+    ensures { result ≡ words_error_of (kind_of error.now) }
+{
     match error.kind() {
         ErrorKind::OutOfMemory => WordsError::NoMemory,
         _ => WordsError::BadWords,

@@ -1,4 +1,7 @@
 //! The program: its words, its file, and its exit status.
+ghost use Rattle.std.specs.Prelude.{◌≡◌};
+ghost use Rattle.tcpkit.specs.Statuses.{status_of};
+
 use crate::command_line::{Job, WordsError, read_words};
 use std::fs::File;
 use std::rt::{Env, Files};
@@ -41,11 +44,7 @@ fn words(rt: &(impl Env + AllocGlobal)) -> Result<Vec<String>, WordsError> {
 
 /// Opens a file and does the job.
 fn work(rt: &(impl Files + Print + AllocGlobal), job: &Job) -> Result<bool, ToolError> {
-    let path = match job {
-        Job::Decode(path) => path,
-        Job::Replay(path) => path,
-    };
-    let Ok(file) = File::open(rt, path.as_str()) else {
+    let Ok(file) = File::open(rt, job.path()) else {
         return Err(ToolError::ReadFault);
     };
     let mut input = Counted::new(file);
@@ -62,14 +61,22 @@ fn work_by_words(rt: &(impl Env + Files + Print + AllocGlobal)) -> Result<bool, 
     work(rt, &job).map_err(Fault::Tool)
 }
 
-/// Does what the words ask for, and answers the exit status. A fault is told by one line on standard error.
-pub(crate) fn run(rt: &(impl Env + Files + Print + Eprint + AllocGlobal)) -> u8 {
-    match work_by_words(rt) {
+/// The exit status of an answer.
+fn status_of(answer: &Result<bool, Fault>) -> u8
+    ensures { result ≡ status_of answer.now }
+{
+    match answer {
         Ok(true) => WELL,
         Ok(false) => REFUSED,
-        Err(fault) => {
-            let _ = eprintln!(rt; "tcpkit: {fault}");
-            FAULT
-        }
+        Err(_) => FAULT,
     }
+}
+
+/// Does what the words ask for, and answers the exit status. A fault is told by one line on standard error.
+pub(crate) fn run(rt: &(impl Env + Files + Print + Eprint + AllocGlobal)) -> u8 {
+    let answer = work_by_words(rt);
+    if let Err(fault) = &answer {
+        let _ = eprintln!(rt; "tcpkit: {fault}");
+    }
+    status_of(&answer)
 }

@@ -1,41 +1,22 @@
 //! What a call answered, and what became of bytes.
 ghost use Rattle.std.specs.Prelude.{◌≡◌, ◌++◌, OnOk, string_bytes};
 ghost use Rattle.tcp_wire.specs.Decoded.{decode_answer};
-ghost use Rattle.tcp_report.specs.Outcomes.{refused_text, call_text, send_text, receive_text, segment_text, arrival_text};
+ghost use Rattle.tcp_answers.specs.Answers.{refused_text, send_text, receive_text, segment_text, arrival_text};
 
-use crate::names::phase_name;
 use std::alloc::{AllocError, Global};
-use tcp_conn::{Arrival, CallError, Phase, Received};
+use tcp_conn::{Arrival, CallError, Received};
 use tcp_text::{push_bytes, push_fault, push_summary};
 use tcp_wire::{Addr, decode};
 
-pub(crate) fn push_refused(text: &mut String, number: u8) -> Result<(), AllocError>
+/// Appends a refusal, with its number.
+pub fn push_refused(text: &mut String, number: u8) -> Result<(), AllocError>
     ensures { OnOk result (string_bytes text.new ≡ string_bytes text.old ++ refused_text number) }
 {
     write!(text, "refused {number}")
 }
 
-/// With the phase that the side is in then.
-pub(crate) fn push_call(
-    text: &mut String,
-    answer: Result<(), CallError>,
-    phase: Phase,
-) -> Result<(), AllocError>
-    ensures { OnOk result (string_bytes text.new ≡ string_bytes text.old ++ call_text answer phase) }
-{
-    match answer {
-        Ok(()) => {
-            let phase = phase_name(phase);
-            write!(text, "ok {phase}")
-        }
-        Err(error) => push_refused(text, error.number()),
-    }
-}
-
-pub(crate) fn push_send(
-    text: &mut String,
-    answer: Result<usize, CallError>,
-) -> Result<(), AllocError>
+/// Appends how many bytes were taken, or the refusal.
+pub fn push_send(text: &mut String, answer: Result<usize, CallError>) -> Result<(), AllocError>
     ensures { OnOk result (string_bytes text.new ≡ string_bytes text.old ++ send_text answer) }
 {
     match answer {
@@ -44,8 +25,8 @@ pub(crate) fn push_send(
     }
 }
 
-/// With the bytes that were handed over.
-pub(crate) fn push_receive(
+/// Appends the bytes that were handed over, if any, or the refusal.
+pub fn push_receive(
     alloc: Global,
     text: &mut String,
     answer: Result<Received, CallError>,
@@ -64,13 +45,8 @@ pub(crate) fn push_receive(
     }
 }
 
-/// What the bytes of a segment say.
-pub(crate) fn push_segment(
-    text: &mut String,
-    src: Addr,
-    dst: Addr,
-    bytes: &[u8],
-) -> Result<(), AllocError>
+/// Appends a summary of what the bytes of a segment say.
+pub fn push_segment(text: &mut String, src: Addr, dst: Addr, bytes: &[u8]) -> Result<(), AllocError>
     ensures { OnOk result (string_bytes text.new ≡ string_bytes text.old ++ segment_text (decode_answer src.0 dst.0 bytes.now)) }
 {
     match decode(src, dst, bytes) {
@@ -79,7 +55,8 @@ pub(crate) fn push_segment(
     }
 }
 
-pub(crate) fn push_arrival(text: &mut String, arrival: Arrival) -> Result<(), AllocError>
+/// Appends what became of bytes that arrived.
+pub fn push_arrival(text: &mut String, arrival: Arrival) -> Result<(), AllocError>
     ensures { OnOk result (string_bytes text.new ≡ string_bytes text.old ++ arrival_text arrival) }
 {
     match arrival {

@@ -1,0 +1,99 @@
+//! Two ends, and the segments between them.
+use crate::mode::Mode;
+use std::alloc::Global;
+use tcp_conn::{Config, ConfigError, EMIT_ROOM, Endpoint};
+use tcp_wire::{Addr, Seq};
+
+/// The text of a full segment, in bytes.
+const SEGMENT: usize = 1460;
+
+/// The greatest burst, in bytes.
+const BURST: usize = 40 * SEGMENT;
+
+static TEXT: [u8; BURST] = [b'a'; BURST];
+
+fn new_end(alloc: Global, host: u8, capacity: usize) -> Result<Endpoint, ConfigError> {
+    let config = Config {
+        addr: Addr([10, 0, 0, host]),
+        port: u16::from(host),
+        isn: Seq(1000),
+        mss: SEGMENT as u16,
+        send_capacity: capacity,
+        recv_capacity: capacity,
+        window_shift: Some(5),
+        sack: true,
+    };
+    Endpoint::new(alloc, config)
+}
+
+/// Carries the segment that is due, if one is.
+fn carry(from: &mut Endpoint, to: &mut Endpoint, room: &mut [u8; EMIT_ROOM]) {
+    if let Some((dst, len)) = from.emit(room) {
+        let src = from.config().addr;
+        to.arrive(src, dst, &room[..len]);
+    }
+}
+
+/// An end A that sends, and an end B that reads.
+#[derive(Drop)]
+pub(crate) struct Pair {
+    a: Endpoint,
+    b: Endpoint,
+    room: [u8; EMIT_ROOM],
+    late: [u8; EMIT_ROOM],
+    read: [u8; BURST],
+}
+
+impl Pair {
+    pub(crate) fn new(alloc: Global, capacity: usize) -> Result<Self, ConfigError> {
+        Ok(Pair {
+            a: new_end(alloc, 1, capacity)?,
+            b: new_end(alloc, 2, capacity)?,
+            room: [0; EMIT_ROOM],
+            late: [0; EMIT_ROOM],
+            read: [0; BURST],
+        })
+    }
+
+    /// The bytes that A's acknowledgements have released.
+    pub(crate) fn released(&self) -> u64 {
+        self.a.released()
+    }
+
+    /// The handshake.
+    pub(crate) fn open(&mut self) {
+        let _ = self.b.listen();
+        let _ = self.a.connect(Addr([10, 0, 0, 2]), 2);
+        carry(&mut self.a, &mut self.b, &mut self.room);
+        carry(&mut self.b, &mut self.a, &mut self.room);
+        carry(&mut self.a, &mut self.b, &mut self.room);
+    }
+
+    /// Carries the segments of a burst that aren't late, with an acknowledgement for each two.
+    fn carry_segments(&mut self, count: usize) {
+        for k in 0..count {
+            carry(&mut self.a, &mut self.b, &mut self.room);
+            if k % 2 == 1 {
+                carry(&mut self.b, &mut self.a, &mut self.room);
+            }
+        }
+    }
+
+    /// Sends a burst, carries it, reads it, and carries an acknowledgement.
+    pub(crate) fn move_burst(&mut self, mode: Mode) {
+        let count = mode.segments();
+        let _ = self.a.send(&TEXT[..count * SEGMENT]);
+        if mode.is_first_late() {
+            let late = self.a.emit(&mut self.late);
+            self.carry_segments(count - 1);
+            if let Some((dst, len)) = late {
+                let src = self.a.config().addr;
+                self.b.arrive(src, dst, &self.late[..len]);
+            }
+        } else {
+            self.carry_segments(count);
+        }
+        let _ = self.b.receive(&mut self.read);
+        carry(&mut self.b, &mut self.a, &mut self.room);
+    }
+}
