@@ -1,3 +1,4 @@
+pub mod Around
 pub mod Placing
 pub mod Blocks
 pub mod Segments

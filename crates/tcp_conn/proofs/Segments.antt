@@ -8,6 +8,7 @@ use Rattle.tcp_wire.specs.Flags.{fin, syn, rst, psh, ack}
 use Rattle.tcp_wire.specs.Checksum.{AreBytes}
 use Rattle.tcp_wire.specs.Options.{Mss, spellings, block_bytes, IsBlock, AreSpellable}
 use Rattle.tcp_wire.specs.Wire.{Content, IsValid, option_bytes, wire_length}
+use Rattle.tcp_wire.specs.View.{head_length}
 use Rattle.tcp_wire.proofs.OptionLaws.{blocks_bytes_length}
 use Rattle.tcp_reasm.specs.Reassembly.{Inbox, blocks}
 use Rattle.tcp_conn.specs.declared.due.Due.{Due}
@@ -46,6 +47,15 @@ length-sack_options [] = refl
 length-sack_options (b ∷ bs) =
     let inner : length (flat_map block_bytes (b ∷ bs)) ≡ 8 * length (b ∷ bs) = blocks_bytes_length (b ∷ bs) in
     omega (arith, inner, length-append (flat_map block_bytes (b ∷ bs)) [])
+
+pub told_spellable : (s : State) → AreSpellable (sack_options (told_blocks s))
+told_spellable s = sack-spellable (told_blocks s) (told_blocks-few s) (told_blocks-are_blocks s)
+
+-- the bytes in front of the text
+pub head_of_told : (s : State) → head_length (sack_options (told_blocks s)) 0 ≡ 20 + sack_length (told_blocks s)
+head_of_told s =
+    let options = spellings (sack_options (told_blocks s)) in
+    omega (arith, length-sack_options (told_blocks s), length-append options (replicate {A = ℕ} 0 0))
 
 -- without padding
 length-option_bytes : (v : Content) → v.pad ≡ 0 → length (option_bytes v) ≡ length (spellings v.options)

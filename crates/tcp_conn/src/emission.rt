@@ -1,7 +1,7 @@
 //! What an end emits (RFC 9293, 3.7, 3.8 and 3.10; RFC 2018, 4).
 ghost use Rattle.std.specs.Prelude.{◌≡◌, ◌<◌, ◌≤◌, ◌+◌, ◌^◌, ◌++◌, length, map, drop, IfSome, Some, option_map};
 ghost use Rattle.tcp_wire.specs.Checksum.{AreBytes};
-ghost use Rattle.tcp_wire.specs.View.{block, option_content, content};
+ghost use Rattle.tcp_wire.specs.View.{block, option_content, content, with_text, head_length};
 ghost use Rattle.tcp_wire.specs.Wire.{wire_length, encoded_bytes, IsValid};
 ghost use Rattle.tcp_conn.specs.State.{State, IsWithin};
 ghost use Rattle.tcp_conn.specs.Inside.{FitsFields};
@@ -13,13 +13,10 @@ use crate::fields::MAX_WINDOW;
 use crate::link::WaitingReset;
 use arrayvec::ArrayVec;
 use std::alloc::Allocator;
-use tcp_wire::{Addr, Flags, Segment, Seq, TcpOption, encode};
+use tcp_wire::{Addr, Flags, Header, Segment, Seq, TcpOption, encode, header_len, write_around};
 
 /// The bytes that `emit` asks room for: more than the longest segment that an end writes.
 pub const EMIT_ROOM: usize = 1520;
-
-/// The greatest text of a segment, in bytes.
-const MAX_TEXT: usize = 1460;
 
 /// The bytes of a segment without options and text (RFC 9293, 3.1).
 const HEADER_LEN: usize = 20;
@@ -247,14 +244,13 @@ impl<A: Allocator> Endpoint<A> {
         }
     }
 
-    /// Any other segment, with its text.
-    fn plain_segment<'a>(&self, due: Due, text: &'a [u8]) -> Segment<'a>
+    /// Any other segment, with the options that tell blocks, and without its text.
+    fn plain_header<'a, 'b: 'a>(&self, due: Due, options: &'a [TcpOption<'b>]) -> Header<'a>
         requires lies { Lies self.now.sending 1460 due }
-        requires text { text.now ≡ text_of self.now.sending due }
-        ensures value { content result ≡ plain_segment self.now due }
-        ensures bytes { AreBytes text.now }
+        requires options { map option_content options.now ≡ sack_options (told_blocks self.now) }
+        ensures { with_text result (text_of self.now.sending due) ≡ plain_segment self.now due }
     {
-        Segment {
+        Header {
             src_port: self.config.port,
             dst_port: self.peer.port,
             seq: self.number_of(self.sender.start_of(due)),
@@ -263,9 +259,8 @@ impl<A: Allocator> Endpoint<A> {
             flags: self.flags(due),
             window: self.told_window(),
             urgent: 0,
-            options: sack_options(self.told_blocks()),
+            options,
             pad: 0,
-            text,
         }
     }
 
@@ -290,8 +285,38 @@ impl<A: Allocator> Endpoint<A> {
         encode(&segment, self.config.addr, self.peer.addr, out)
     }
 
-    /// Writes a segment with text into the front of `out`, and answers its length.
-    #[tactic(auto, using(crate::proofs::Segments::plain_segment_short))]
+    /// Where the text of such a segment stands: behind the fixed header and these options.
+    #[tactic(auto, using(crate::proofs::Segments::told_spellable, crate::proofs::Segments::head_of_told, crate::proofs::Segments::plain_segment_due, crate::proofs::Segments::plain_segment_short))]
+    fn text_start(&self, due: Due, options: &[TcpOption<'_>]) -> usize
+        requires lies { Lies self.now.sending 1460 due }
+        requires options { map option_content options.now ≡ sack_options (told_blocks self.now) }
+        ensures behind { result ≡ head_length (sack_options (told_blocks self.now)) 0 }
+        ensures short { result + count_of due ≤ EMIT_ROOM }
+    {
+        let _ = due;
+        header_len(options, 0)
+    }
+
+    /// Writes a segment with text and these options into the front of `out`, and answers its length. The text goes from the
+    /// queue to its place in `out`, and the rest is written around it.
+    fn write_text(&self, due: Due, options: &[TcpOption<'_>], out: &mut [u8]) -> usize
+        requires lies { Lies self.now.sending 1460 due }
+        requires options { map option_content options.now ≡ sack_options (told_blocks self.now) }
+        requires room { EMIT_ROOM ≤ length out.old }
+        ensures len { result ≡ wire_length (plain_segment self.now due) }
+        ensures most { result ≤ EMIT_ROOM }
+        ensures bytes { out.new ≡ encoded_bytes self.now.config.addr.0 self.now.peer.addr.0 (plain_segment self.now due) ++ drop result out.old }
+    {
+        self.fits_fields();
+        let header = self.plain_header(due, options);
+        let start = self.text_start(due, options);
+        let count = due.count();
+        self.sender.copy(due, &mut out[start..start + count]);
+        write_around(&header, count, self.config.addr, self.peer.addr, out)
+    }
+
+    /// Writes a segment with text into the front of `out`, and answers its length. Where no block is told, no list of
+    /// options is made.
     fn write_plain(&self, due: Due, out: &mut [u8]) -> usize
         requires lies { Lies self.now.sending 1460 due }
         requires room { EMIT_ROOM ≤ length out.old }
@@ -299,12 +324,12 @@ impl<A: Allocator> Endpoint<A> {
         ensures most { result ≤ EMIT_ROOM }
         ensures bytes { out.new ≡ encoded_bytes self.now.config.addr.0 self.now.peer.addr.0 (plain_segment self.now due) ++ drop result out.old }
     {
-        self.fits_fields();
-        let mut buffer = [0u8; MAX_TEXT];
-        let text = &mut buffer[..due.count()];
-        self.sender.copy(due, text);
-        let segment = self.plain_segment(due, text);
-        encode(&segment, self.config.addr, self.peer.addr, out)
+        let blocks = self.told_blocks();
+        if blocks.is_empty() {
+            return self.write_text(due, &[], out);
+        }
+        let options = sack_options(blocks);
+        self.write_text(due, options.as_slice(), out)
     }
 
     /// Writes what is due into the front of `out`, and answers its length.

@@ -1,6 +1,7 @@
 //! What the sending half has to emit: text or FIN again, new text, the own FIN (RFC 9293, 3.7 and 3.8).
 ghost use Rattle.std.specs.Prelude.{◌≡◌, ◌<◌, ◌≤◌, ◌+◌, ℕ, max, length, IfSome};
 ghost use Rattle.std.specs.declared.ops.Range.{Range};
+ghost use Rattle.tcp_wire.specs.Checksum.{AreBytes};
 ghost use Rattle.tcp_conn.specs.State.{Sending};
 ghost use Rattle.tcp_conn.specs.Sender.{stream_limit};
 ghost use Rattle.tcp_conn.specs.Emission.{start_of, count_of, end_of, resent_text, resent_fin, resend_of, new_text_of, fin_of, text_of, pushes, sending_behind, Lies};
@@ -124,7 +125,8 @@ impl<A: Allocator> Sender<A> {
     pub(crate) fn copy(&self, due: Due, out: &mut [u8])
         requires lies { Lies self.now 1460 due }
         requires len { length out.old ≡ count_of due }
-        ensures { out.new ≡ text_of self.now due }
+        ensures text { out.new ≡ text_of self.now due }
+        ensures bytes { AreBytes out.new }
     {
         if !out.is_empty() {
             let place = self.place_of(self.start_of(due));

@@ -1,11 +1,15 @@
 pub mod Agreement
 pub mod Beginnings
-pub mod Keeping
+pub mod Choices
+pub mod Described
+mod Examples
+pub mod Joins
+pub mod Laying
 pub mod Maximal
 pub mod Newest
-pub mod Overlays
-pub mod Padding
 pub mod Placing
-mod Examples
+pub mod Rings
+pub mod Sorting
 pub mod Steps
+pub mod Turns
 pub mod Views

@@ -162,3 +162,25 @@ ends_at_missing q missing =
     at_behind q.unread (held_bytes q.held) (length q.unread) (omega arith)
     ∙ ap (λ n. get_or (held_bytes q.held) n None) first
     ∙ first_missing q.held missing
+
+settled_missing : (over : List (Option Cell)) → cell_at (drop (length (bytes_in_order over)) over) 0 ≡ None
+settled_missing [] = refl
+settled_missing (None ∷ places) = refl
+settled_missing (Some cell ∷ places) = settled_missing places
+
+ranked_missing : (all : List Run) (place : ℕ) (held : List (Option Cell)) → cell_at held 0 ≡ None → cell_at (with_ranks_from all place held) 0 ≡ None
+ranked_missing all place [] missing = refl
+ranked_missing all place (None ∷ places) missing = refl
+ranked_missing all place (Some cell ∷ places) missing = absurd cc
+
+overlay_missing : (over : List (Option Cell)) → cell_at (with_ranks (drop (length (bytes_in_order over)) over)) 0 ≡ None
+unfolding with_ranks
+overlay_missing over = ranked_missing (runs (drop (length (bytes_in_order over)) over)) 0 (drop (length (bytes_in_order over)) over) (settled_missing over)
+
+pub after_place-missing : (q : Inbox) (offset : ℤ) (text : List ℕ) → cell_at q.held 0 ≡ None → EndsAtMissing (after_place q offset text)
+unfolding after_place
+after_place-missing q offset text missing =
+    elim (is_refused q (piece offset text)) as (λ refused. EndsAtMissing (if refused then q else with_overlay q (overlay_of q (piece offset text)))) [
+      | true ↦ ends_at_missing q missing
+      | false ↦ ends_at_missing (with_overlay q (overlay_of q (piece offset text))) (overlay_missing (overlay_of q (piece offset text)))
+    ]

@@ -1,62 +1,128 @@
 -- How the store is seen, and what always holds of it.
-use Rattle.std.specs.Prelude.{ℕ, suc, Bool, ◌+◌, ◌-◌, ◌<◌, ◌≤◌, List, [], ◌∷◌, ◌++◌, length, map, replicate, Option, Some, None, nat_lt, ◌&&◌}
-use Rattle.tcp_reasm.specs.declared.cells.HeldByte.{HeldByte}
+use Rattle.std.specs.Prelude.{ℕ, zero, suc, min, max, ◌-◌, ◌<◌, ◌≤◌, ◌⊎◌, Bool, List, [], ◌∷◌, ◌++◌, length, map, take, drop, Option, Some, None, nat_lt, nat_le, ◌&&◌, if◌then◌else◌}
+use Rattle.std.specs.List.{AllByRecursion}
 use Rattle.tcp_reasm.specs.declared.table.Run.{Run as Entry}
-use Rattle.tcp_reasm.specs.Reassembly.{Cell, Inbox, Run, runs, greatest_stamp, max_runs, overlay}
-
-abbrev pub place_of : Option HeldByte → Option Cell
-place_of None = None
-place_of (Some held) = Some (record { byte = held.byte; stamp = held.stamp })
-
--- the places that a list of held bytes stands for
-abbrev pub places_of : List (Option HeldByte) → List (Option Cell)
-places_of cells = map place_of cells
-
--- Places are stored up to the last that is held. Behind them the window is empty.
-abbrev pub inbox_of : ℕ → List ℕ → List (Option HeldByte) → Inbox
-inbox_of capacity unread cells = record {
-  capacity = capacity;
-  unread = unread;
-  held = places_of cells ++ replicate (capacity - length unread - length cells) None;
-}
-
--- a place with another stamp, where it is held
-abbrev pub with_stamp : ℕ → Option Cell → Option Cell
-with_stamp stamp None = None
-with_stamp stamp (Some cell) = Some (record cell { stamp = stamp })
-
-abbrev pub run_of : Entry → Run
-run_of entry = record { from = entry.from; to = entry.to; stamp = entry.stamp }
-
-abbrev pub runs_in : List Entry → List Run
-runs_in table = map run_of table
-
--- whether the next byte in order is missing
-abbrev pub IsFrontMissing : List (Option Cell) → Type 0
-IsFrontMissing [] = Unit {0}
-IsFrontMissing (None ∷ places) = Unit {0}
-IsFrontMissing (Some cell ∷ places) = ⊥
+use Rattle.tcp_reasm.specs.Reassembly.{Cell, Inbox, Run, is_within, stamp_of_run, overlay, greatest_stamp, runs, max_runs}
 
 abbrev pub max_capacity : ℕ
 max_capacity = 1048576
 
--- What always holds of a capacity, of the unread bytes and the places of a window: at most sixteen runs, none of
--- them at the next byte in order, and stamps that are ranks of runs.
-pub record IsKept (capacity : ℕ) (unread : List ℕ) (held : List (Option Cell)) : Type 0 where
-  pub some : 0 < capacity
-  pub most : capacity ≤ max_capacity
-  pub fits : length unread + length held ≤ capacity
-  pub front : IsFrontMissing held
-  pub few : length (runs held) ≤ max_runs
-  pub ranks : greatest_stamp held ≤ max_runs
+-- ---- the view
 
--- a text laid over places, with the stamp above all others
-abbrev pub merge_of : ℕ → List ℕ → List (Option Cell) → List (Option Cell)
-merge_of start text places = overlay start text (suc (greatest_stamp places)) places
+-- a block of bytes seen from one of its places on, over its end
+abbrev pub turned : ℕ → List ℕ → List ℕ
+turned start bytes = drop start bytes ++ take start bytes
 
--- a text laid over the cells, which are first made to reach to its end
-abbrev pub cells_over : ℕ → List ℕ → List (Option HeldByte) → List (Option Cell)
-cells_over start text cells = merge_of start text (places_of cells ++ replicate (start + length text - length cells) None)
+abbrev pub run_of : Entry → Run
+run_of entry = record { from = entry.from; to = entry.to; stamp = 0 }
+
+abbrev pub runs_in : List Entry → List Run
+runs_in table = map run_of table
+
+-- Runs that stand by their latest news, the newest first: each takes its rank as its stamp, the oldest 1.
+abbrev pub ranked : List Run → List Run
+ranked [] = []
+ranked (run ∷ older) = record run { stamp = suc (length older) } ∷ ranked older
+
+-- what is held at a place, by its stamp and the byte that stands there: nothing at stamp 0
+abbrev pub cell_of : ℕ → ℕ → Option Cell
+cell_of zero byte = None
+cell_of (suc n) byte = Some (record { byte = byte; stamp = suc n })
+
+-- the places from one on, by their stamps and their bytes
+abbrev pub cells : (ℕ → ℕ) → ℕ → List ℕ → List (Option Cell)
+cells stamps place [] = []
+cells stamps place (byte ∷ bytes) = cell_of (stamps place) byte ∷ cells stamps (suc place) bytes
+
+-- the unread bytes stand first from the start on, and the window's places behind them
+abbrev pub inbox_of : List ℕ → ℕ → ℕ → List Entry → Inbox
+inbox_of block start unread table = record {
+  capacity = length block;
+  unread = take unread (turned start block);
+  held = cells (stamp_of_run (ranked (runs_in table))) 0 (drop unread (turned start block));
+}
+
+-- ---- what always holds
+
+-- a run of some places, none of them the next byte's, within the window
+abbrev pub IsInside : ℕ → Run → Type 0
+IsInside window run = (0 < run.from) × (run.from < run.to) × (run.to ≤ window)
+
+-- two runs that don't touch
+abbrev pub Away : Run → Run → Type 0
+Away run other = (run.to < other.from) ⊎ (other.to < run.from)
+
+abbrev pub AreAway : List Run → Type 0
+AreAway [] = Unit {0}
+AreAway (run ∷ others) = AllByRecursion (Away run) others × AreAway others
+
+pub record IsKept (block : List ℕ) (start unread : ℕ) (table : List Run) : Type 0 where
+  pub some : 0 < length block
+  pub most : length block ≤ max_capacity
+  pub starts : start < length block
+  pub fits : unread ≤ length block
+  pub inside : AllByRecursion (IsInside (length block - unread)) table
+  pub away : AreAway table
+
+-- ---- steps
+
+-- whether a run overlaps a piece or touches it
+abbrev pub touches : Run → Run → Bool
+touches piece run = nat_le run.from piece.to && nat_le piece.from run.to
+
+-- the runs that a piece leaves as they are
+abbrev pub rest_of : Run → List Run → List Run
+rest_of piece [] = []
+rest_of piece (run ∷ others) = if touches piece run then rest_of piece others else run ∷ rest_of piece others
+
+abbrev pub joined : Run → Run → Run
+joined union run = record { from = min union.from run.from; to = max union.to run.to; stamp = union.stamp }
+
+-- a union, with those runs that touch a piece
+abbrev pub union_of : Run → Run → List Run → Run
+union_of union piece [] = union
+union_of union piece (run ∷ others) = union_of (if touches piece run then joined union run else union) piece others
+
+-- a run after so many bytes came in order
+abbrev pub moved : ℕ → Run → Run
+moved count run = record run { from = run.from - count; to = run.to - count }
+
+-- where the run that a place lies in ends, or the place where none is held
+abbrev pub held_to : List Run → ℕ → ℕ
+held_to [] place = place
+held_to (run ∷ others) place = if is_within place run then run.to else held_to others place
+
+-- how far nothing of a run is held from a place on, up to an end
+abbrev pub gap_before : Run → ℕ → ℕ → ℕ
+gap_before run place end = if nat_lt place run.from then min run.from end else if nat_lt place run.to then place else end
+
+-- how far nothing is held from a place on, up to an end
+abbrev pub gap_to : List Run → ℕ → ℕ → ℕ
+gap_to [] place end = end
+gap_to (run ∷ others) place end = gap_to others place (gap_before run place end)
+
+-- bytes written over others from a place on
+abbrev pub put : ℕ → List ℕ → List ℕ → List ℕ
+put start text [] = []
+put zero [] (byte ∷ bytes) = byte ∷ bytes
+put zero (new ∷ text) (byte ∷ bytes) = new ∷ put zero text bytes
+put (suc start) text (byte ∷ bytes) = byte ∷ put start text bytes
+
+-- the new byte where the stamp says that none is held
+abbrev pub fresh_byte : ℕ → ℕ → ℕ → ℕ
+fresh_byte zero new old = new
+fresh_byte (suc n) new old = old
+
+-- a text laid over bytes, from `start` places behind the first of them on. What is held stays.
+abbrev pub laid : (ℕ → ℕ) → ℕ → ℕ → List ℕ → List ℕ → List ℕ
+laid stamps place start text [] = []
+laid stamps place zero [] (byte ∷ bytes) = byte ∷ bytes
+laid stamps place zero (new ∷ text) (byte ∷ bytes) = fresh_byte (stamps place) new byte ∷ laid stamps (suc place) zero text bytes
+laid stamps place (suc start) text (byte ∷ bytes) = byte ∷ laid stamps (suc place) start text bytes
+
+-- a piece laid over what is held, with the stamp above all others
+abbrev pub overlay_at : Inbox → ℕ → List ℕ → List (Option Cell)
+overlay_at q start text = overlay start text (suc (greatest_stamp q.held)) q.held
 
 -- whether a text that isn't in order makes too many runs
 abbrev pub has_too_many : ℕ → List (Option Cell) → Bool

@@ -6,13 +6,13 @@ pub use error::ReasmError;
 pub use placed::Placed;
 pub use reassembly::{MAX_CAPACITY, Reassembly};
 
-mod blocks;
-mod cells;
 mod error;
-mod keep;
 pub mod laws;
+mod lay;
+mod piece;
 mod placed;
 mod reassembly;
+mod ring;
 mod table;
 #[cfg(test)]
 mod tests;

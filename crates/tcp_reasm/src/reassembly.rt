@@ -1,11 +1,12 @@
-ghost use Rattle.std.specs.Prelude.{◌≡◌, ◌≢◌, ◌↔◌, ◌⊎◌, ◌<◌, ◌≤◌, ◌+◌, ◌++◌, ◌≤ℤ◌, ◌<ℤ◌, ℕ, ℤ, pos, negsuc, min, length, take, drop, OnErr, IfOk, None, vec_capacity};
-ghost use Rattle.tcp_reasm.specs.Reassembly.{Inbox, empty_inbox, window, piece, after_place, place_answer, after_read, without_held, blocks, runs, max_runs, max_text_len};
+ghost use Rattle.std.specs.Prelude.{◌≡◌, ◌≢◌, ◌↔◌, ◌⊎◌, ◌<◌, ◌≤◌, ◌+◌, ◌++◌, ◌≤ℤ◌, ◌<ℤ◌, ℕ, ℤ, pos, negsuc, min, length, take, drop, OnErr, IfOk, None, if◌then◌else◌, nat_le, []};
+ghost use Rattle.tcp_reasm.specs.Reassembly.{Inbox, empty_inbox, window, piece, after_place, place_answer, after_read, without_held, blocks, runs, max_runs, max_text_len, with_overlay, bytes_in_order, answer_for};
 ghost use Rattle.tcp_reasm.specs.Laws.{cell_at, KeepsBytes, TakesPiece, LeavesOthers, EndsAtMissing};
-ghost use Rattle.tcp_reasm.specs.Store.{inbox_of, places_of, max_capacity, IsKept, IsFrontMissing};
+ghost use Rattle.tcp_reasm.specs.Store.{inbox_of, runs_in, max_capacity, IsKept, overlay_at, has_too_many};
 
-use crate::blocks::newest_blocks;
-use crate::cells::{HeldByte, drop_front, piece_of};
-use crate::keep::keep;
+use crate::lay::lay;
+use crate::piece::piece_of;
+use crate::ring::copy;
+use crate::table::{MAX_RUNS, Run, edges_of, rest_of, union_of};
 use crate::{Placed, ReasmError};
 use arrayvec::ArrayVec;
 use std::alloc::{Allocator, Global};
@@ -14,26 +15,30 @@ use std::marker::Model;
 /// The greatest capacity, in bytes.
 pub const MAX_CAPACITY: usize = 1_048_576;
 
+/// The greatest number of blocks that are told at once.
+const MAX_BLOCKS: usize = 4;
+
 /// A peer's text: the bytes that came in order and wait for the user, and those that came early and are held until
-/// the bytes before them come. Only `new` takes memory.
+/// the bytes before them come. Only `new` takes memory, one block of the capacity: it is a ring, in which a byte is
+/// written once, at its place, and isn't moved when it comes in order.
 #[derive(Debug, Drop)]
 pub struct Reassembly<A: Allocator = Global> {
-    /// As many bytes are unread or have a place in the window; from 1 to [`MAX_CAPACITY`].
-    capacity: usize,
-    /// What came in order and wasn't read yet. Reserved for `capacity` bytes.
-    unread: Vec<u8, A>,
-    /// The places behind it, the next byte's first, up to the last that is held. Reserved for `capacity` places.
-    cells: Vec<Option<HeldByte>, A>,
+    /// As many bytes as are unread or have a place in the window; from 1 to [`MAX_CAPACITY`].
+    block: Vec<u8, A>,
+    /// Where the first unread byte stands in the block. The others follow, and the window behind them, over its end.
+    start: usize,
+    /// How many bytes came in order and weren't read yet.
+    unread: usize,
+    /// The runs of the window that are held, the newest first. None of them touch.
+    table: ArrayVec<Run, 16>,
 }
 
 impl<A: Allocator> Model for Reassembly<A> {
     ghost Value = { Inbox };
 
-    ghost view = { λ r. inbox_of r.capacity r.unread.items r.cells.items };
+    ghost view = { λ r. inbox_of r.block.items r.start r.unread r.table.items };
 
-    ghost invariant = { λ r. IsKept r.capacity r.unread.items (places_of r.cells.items)
-        × (r.capacity ≤ vec_capacity r.unread)
-        × (r.capacity ≤ vec_capacity r.cells) };
+    ghost invariant = { λ r. IsKept r.block.items r.start r.unread (runs_in r.table.items) };
 }
 
 impl Reassembly {
@@ -55,16 +60,14 @@ impl<A: Allocator + Copy> Reassembly<A> {
         if capacity < 1 || capacity > MAX_CAPACITY {
             return Err(ReasmError::BadCapacity);
         }
-        let Ok(unread) = Vec::with_capacity(alloc, capacity) else {
-            return Err(ReasmError::NoMemory);
-        };
-        let Ok(cells) = Vec::with_capacity(alloc, capacity) else {
+        let Ok(block) = vec![in alloc; 0; capacity] else {
             return Err(ReasmError::NoMemory);
         };
         Ok(Reassembly {
-            capacity,
-            unread,
-            cells,
+            block,
+            start: 0,
+            unread: 0,
+            table: ArrayVec::new(),
         })
     }
 }
@@ -76,7 +79,7 @@ impl<A: Allocator> Reassembly<A> {
         ensures some { 0 < result }
         ensures most { result ≤ max_capacity }
     {
-        self.capacity
+        self.block.len()
     }
 
     /// How many bytes came in order and wait to be read.
@@ -85,7 +88,7 @@ impl<A: Allocator> Reassembly<A> {
         ensures within { result ≤ self.now.capacity }
         ensures most { self.now.capacity ≤ max_capacity }
     {
-        self.unread.len()
+        self.unread
     }
 
     /// The receive window: how many bytes behind the unread ones would be taken or held (RFC 9293, 3.3.1).
@@ -95,7 +98,7 @@ impl<A: Allocator> Reassembly<A> {
         ensures places { length self.now.held ≡ result }
         ensures most { self.now.capacity ≤ max_capacity }
     {
-        (self.capacity - self.unread.len()) as u32
+        (self.block.len() - self.unread) as u32
     }
 
     /// Places a text whose first byte lies at `offset` from the next byte in order. What lies before that byte or
@@ -118,12 +121,84 @@ impl<A: Allocator> Reassembly<A> {
         ensures missing { EndsAtMissing self.new }
     {
         let (start, text) = piece_of(offset, text);
-        let window = self.capacity - self.unread.len();
+        let window = self.block.len() - self.unread;
         if text.is_empty() || window <= start {
             return Placed::NotKept;
         }
         let text = &text[..(window - start).min(text.len())];
-        keep(&mut self.unread, &mut self.cells, start, text)
+        self.keep(start, text)
+    }
+
+    /// Takes or holds a text that lies in the window.
+    fn keep(&mut self, start: usize, text: &[u8]) -> Placed
+        requires some { 0 < length text.now }
+        requires within { start + length text.now + length self.old.unread ≤ self.old.capacity }
+        requires most { self.old.capacity ≤ max_capacity }
+        ensures after { let over = overlay_at self.old start text.now in
+            self.new ≡ (if has_too_many start over then self.old else with_overlay self.old over) }
+        ensures answer { let over = overlay_at self.old start text.now in
+            result ≡ (if has_too_many start over then Placed.NotKept else answer_for (length (bytes_in_order over))) }
+    {
+        if start == 0 {
+            Placed::Advanced(self.advance(text))
+        } else if self.hold(start, text) {
+            Placed::Held
+        } else {
+            Placed::NotKept
+        }
+    }
+
+    /// Takes a text that begins at the next byte, and answers how many bytes came in order with it.
+    fn advance(&mut self, text: &[u8]) -> usize
+        requires some { 0 < length text.now }
+        requires within { length text.now + length self.old.unread ≤ self.old.capacity }
+        requires most { self.old.capacity ≤ max_capacity }
+        ensures { let over = overlay_at self.old 0 text.now in
+            (self.new ≡ with_overlay self.old over) × (result ≡ length (bytes_in_order over)) × (0 < result) }
+    {
+        let piece = Run {
+            from: 0,
+            to: text.len() as u32,
+        };
+        let count = union_of(&self.table, piece).to;
+        let unread = self.unread;
+        lay(&mut self.block, self.start, unread, &self.table, 0, text);
+        self.table = rest_of(&self.table, piece, count);
+        self.unread += count as usize;
+        count as usize
+    }
+
+    /// Holds a text that begins behind the next byte. A seventeenth run isn't kept: that is tested before a byte is
+    /// written.
+    fn hold(&mut self, start: usize, text: &[u8]) -> bool
+        requires gap { 0 < start }
+        requires some { 0 < length text.now }
+        requires within { start + length text.now + length self.old.unread ≤ self.old.capacity }
+        requires most { self.old.capacity ≤ max_capacity }
+        ensures kept { result ≡ nat_le (length (runs (overlay_at self.old start text.now))) max_runs }
+        ensures after { self.new ≡ (if result then with_overlay self.old (overlay_at self.old start text.now) else self.old) }
+        ensures none { bytes_in_order (overlay_at self.old start text.now) ≡ [] }
+    {
+        let piece = Run {
+            from: start as u32,
+            to: (start + text.len()) as u32,
+        };
+        let mut table = rest_of(&self.table, piece, 0);
+        if table.len() >= MAX_RUNS {
+            return false;
+        }
+        table.insert(0, union_of(&self.table, piece));
+        let unread = self.unread;
+        lay(
+            &mut self.block,
+            self.start,
+            unread,
+            &self.table,
+            start,
+            text,
+        );
+        self.table = table;
+        true
     }
 
     /// Hands over the first unread bytes, as many as there are and as `out` has room for, and answers their count.
@@ -132,9 +207,15 @@ impl<A: Allocator> Reassembly<A> {
         ensures bytes { out.new ≡ take result self.old.unread ++ drop result out.old }
         ensures after { self.new ≡ after_read self.old (length out.old) }
     {
-        let count = out.len().min(self.unread.len());
-        out[..count].copy_from_slice(&self.unread[..count]);
-        drop_front(&mut self.unread, count);
+        let count = out.len().min(self.unread);
+        copy(&self.block, self.start, &mut out[..count]);
+        let until_end = self.block.len() - self.start;
+        self.start = if count < until_end {
+            self.start + count
+        } else {
+            count - until_end
+        };
+        self.unread -= count;
         count
     }
 
@@ -147,7 +228,8 @@ impl<A: Allocator> Reassembly<A> {
         ensures few { length (runs self.now.held) ≤ max_runs }
         ensures missing { cell_at self.now.held 0 ≡ None }
     {
-        newest_blocks(&self.cells)
+        let count = self.table.len().min(MAX_BLOCKS);
+        edges_of(&self.table.as_slice()[..count])
     }
 
     /// Gives up what is unread and what is held, and leaves the whole window, as a reset and an abort do (RFC 9293,
@@ -155,7 +237,7 @@ impl<A: Allocator> Reassembly<A> {
     pub fn clear(&mut self)
         ensures { self.new ≡ empty_inbox self.old.capacity }
     {
-        self.unread.clear();
+        self.unread = 0;
         self.clear_held();
     }
 
@@ -163,6 +245,6 @@ impl<A: Allocator> Reassembly<A> {
     pub fn clear_held(&mut self)
         ensures { self.new ≡ without_held self.old }
     {
-        self.cells.clear();
+        self.table.clear();
     }
 }

@@ -355,3 +355,21 @@ fn clearing_leaves_the_whole_window(rt: HostRuntime) -> Result<(), Fail> {
     assert_eq!(rt; sut.place(0, b"x"), Placed::Advanced(1));
     Ok(())
 }
+
+#[test]
+fn pieces_go_round_the_block(rt: HostRuntime) -> Result<(), Fail> {
+    let mut sut = Reassembly::new(rt.alloc(), 8)?;
+    let mut next = 0u8;
+    for _ in 0..1000 {
+        let piece = [next, next.wrapping_add(1), next.wrapping_add(2)];
+        next = next.wrapping_add(3);
+        assert_eq!(rt; sut.place(1, &piece[1..]), Placed::Held);
+        assert_eq!(rt; sut.place(0, &piece), Placed::Advanced(3));
+        let mut out = [0; 3];
+        assert_eq!(rt; sut.read(&mut out), 3);
+        assert_eq!(rt; out, piece);
+    }
+    assert_eq!(rt; sut.unread(), 0);
+    assert_eq!(rt; sut.window(), 8);
+    Ok(())
+}

@@ -1,4 +1,8 @@
+pub mod Calls
+pub mod Intervals
+pub mod Joined
 pub mod Kept
+pub mod Lookups
 pub mod Places
 pub mod Runs
 mod Worked

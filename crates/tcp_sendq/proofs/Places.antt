@@ -1,6 +1,6 @@
 -- Lemmas on marked places.
-use Rattle.std.proofs.Common.{◌≡◌, ℕ, zero, suc, ◌+◌, ◌-◌, ◌<◌, ◌≤◌, ◌⊎◌, Bool, true, false, not, List, [], ◌∷◌, ◌++◌, length, take, drop, replicate, get_or, Some, None, slice_get, refl, sym, ap, subst, ◌∙◌, inl, inr, arith, length-append, length-drop, length-take}
-use Rattle.std.proofs.lemmas.List.{take_more, length-replicate}
+use Rattle.std.proofs.Common.{◌≡◌, ℕ, zero, suc, ◌+◌, ◌-◌, ◌<◌, ◌≤◌, ◌⊎◌, Bool, true, false, not, List, [], ◌∷◌, ◌++◌, length, take, drop, replicate, Some, None, slice_get, refl, sym, ap, subst, ◌∙◌, inl, inr, arith, length-append, length-drop, length-take}
+use Rattle.std.proofs.lemmas.List.{length-replicate}
 use Rattle.std.proofs.lemmas.Bool.Decides.{nat_tests}
 use Rattle.std.proofs.lemmas.Bool.{cases_lt}
 use Rattle.tcp_sendq.specs.SendQueue.{Queue, after_release, after_offer, count_taken, without_marks, marks_with, count_leading, first_unmarked, next_unmarked, IsNextUnmarked, AllMarkedFrom, end_of_marks, last_mark_end, IsLastMarkEnd, NoneMarkedFrom, IsMarked}
@@ -141,16 +141,16 @@ count_leading-positive false (true ∷ marks) h = cc
 count_leading-positive false (false ∷ marks) h = omega arith
 
 -- the same from a place on
-count_leading_between : (flag : Bool) (marks : List Bool) (at place : ℕ) → at ≤ place → place < at + count_leading flag (drop at marks) → slice_get marks place ≡ Some flag
+pub count_leading_between : (flag : Bool) (marks : List Bool) (at place : ℕ) → at ≤ place → place < at + count_leading flag (drop at marks) → slice_get marks place ≡ Some flag
 count_leading_between flag marks at place low high =
     let e : at + (place - at) ≡ place = omega arith in
     ap (slice_get marks) (sym e) ∙ (sym (slice_get-drop at marks (place - at)) ∙ count_leading-at flag (drop at marks) (place - at) (omega arith))
 
-count_leading_then : (flag : Bool) (marks : List Bool) (at : ℕ) → at + count_leading flag (drop at marks) < length marks → slice_get marks (at + count_leading flag (drop at marks)) ≡ Some (not flag)
+pub count_leading_then : (flag : Bool) (marks : List Bool) (at : ℕ) → at + count_leading flag (drop at marks) < length marks → slice_get marks (at + count_leading flag (drop at marks)) ≡ Some (not flag)
 count_leading_then flag marks at h =
     sym (slice_get-drop at marks (count_leading flag (drop at marks))) ∙ count_leading-stops flag (drop at marks) (omega (arith, length-drop at marks))
 
-count_leading_within : (flag : Bool) (marks : List Bool) (at : ℕ) → at ≤ length marks → at + count_leading flag (drop at marks) ≤ length marks
+pub count_leading_within : (flag : Bool) (marks : List Bool) (at : ℕ) → at ≤ length marks → at + count_leading flag (drop at marks) ≤ length marks
 count_leading_within flag marks at h = omega (arith, count_leading-le flag (drop at marks), length-drop at marks)
 
 -- ---- the next unmarked place
@@ -190,30 +190,6 @@ not_all_marked q at flags h all =
     cc
 
 -- ---- the end of the marks
-
-take_last : (marks : List Bool) (n : ℕ) → 0 < n → n ≤ length marks → take n marks ≡ take (n - 1) marks ++ get_or marks (n - 1) false ∷ []
-take_last marks n positive within =
-    let e : n ≡ n - 1 + 1 = omega arith in
-    ap (λ m. take m marks) e ∙ take_more marks (n - 1) false (omega arith)
-
-end_of_marks-push_marked : (marks : List Bool) → end_of_marks (marks ++ true ∷ []) ≡ suc (length marks)
-end_of_marks-push_marked [] = refl
-end_of_marks-push_marked (marked ∷ marks) = rw (end_of_marks-push_marked marks) (grind (arith, nat_tests))
-
-end_of_marks-push_unmarked : (marks : List Bool) → end_of_marks (marks ++ false ∷ []) ≡ end_of_marks marks
-end_of_marks-push_unmarked [] = refl
-end_of_marks-push_unmarked (marked ∷ marks) = rw (end_of_marks-push_unmarked marks) refl
-
--- a look from the end on
-pub end_at_marked : (marks : List Bool) (n : ℕ) → 0 < n → n ≤ length marks → get_or marks (n - 1) false ≡ true → end_of_marks (take n marks) ≡ n
-end_at_marked marks n positive within here =
-    let cut : take n marks ≡ take (n - 1) marks ++ get_or marks (n - 1) false ∷ [] = take_last marks n positive within in
-    rw (cut, here, end_of_marks-push_marked (take (n - 1) marks)) (omega (arith, length-take (n - 1) marks))
-
-pub end_at_unmarked : (marks : List Bool) (n : ℕ) → 0 < n → n ≤ length marks → get_or marks (n - 1) false ≡ false → end_of_marks (take n marks) ≡ end_of_marks (take (n - 1) marks)
-end_at_unmarked marks n positive within here =
-    let cut : take n marks ≡ take (n - 1) marks ++ get_or marks (n - 1) false ∷ [] = take_last marks n positive within in
-    rw (cut, here) (end_of_marks-push_unmarked (take (n - 1) marks))
 
 end_of_marks-later : (marked : Bool) (marks : List Bool) → 0 < end_of_marks marks → end_of_marks (marked ∷ marks) ≡ suc (end_of_marks marks)
 end_of_marks-later marked marks h = grind (arith, nat_tests)

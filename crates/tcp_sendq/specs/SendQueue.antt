@@ -146,10 +146,3 @@ pub record IsQueue (q : Queue) : Type 0 where
   -- one flag for each byte
   pub flags : length q.marks ≡ length q.bytes
   pub few_runs : count_runs false q.marks ≤ max_runs
-
--- A queue and the room that its two stores have reserved. As long as both can hold the capacity, no call
--- takes memory.
-pub record IsKept (queue : Queue) (room_for_bytes room_for_marks : ℕ) : Type 0 where
-  pub sound : IsQueue queue
-  pub bytes_reserved : queue.capacity ≤ room_for_bytes
-  pub marks_reserved : queue.capacity ≤ room_for_marks

@@ -6,6 +6,7 @@
 mod error;
 mod marks;
 mod queue;
+mod ring;
 
 pub use error::QueueError;
 pub use queue::{MAX_CAPACITY, SendQueue};

@@ -1,91 +1,143 @@
-//! Slices of flags, one for each byte of a queue.
-ghost use Rattle.std.specs.Prelude.{◌≡◌, ◌+◌, ◌<◌, ◌≤◌, ◌++◌, Bool, false, length, replicate, vec_len, vec_capacity};
-ghost use Rattle.tcp_sendq.specs.SendQueue.{count_runs, follows_mark, marks_with, count_leading, end_of_marks};
+//! The marked places of a queue, as a table of intervals.
+ghost use Rattle.std.specs.Prelude.{◌≡◌, ◌≤◌, [], ◌∷◌, take, drop, length, nat_le, if◌then◌else◌};
+ghost use Rattle.tcp_sendq.specs.SendQueue.{max_runs};
+ghost use Rattle.tcp_sendq.specs.Marks.{interval, moved_down, union, joined, joined_front, count_before, first_uncovered, next_start, last_end};
 
-use std::alloc::Allocator;
+use arrayvec::ArrayVec;
 
-/// How many runs of marked places begin in `marks`, where `before` tells whether the place before is marked.
-pub(crate) fn count_runs(mut before: bool, marks: &[bool]) -> usize
-    ensures value { result ≡ count_runs before marks.now }
-    ensures bound { result ≤ length marks.now }
-{
-    let mut runs = 0;
-    for &marked in marks {
-        if marked && !before {
-            runs += 1;
-        }
-        before = marked;
-    }
-    runs
+/// The greatest number of runs of marked bytes that are kept apart.
+const MAX_RUNS: usize = 16;
+
+/// A run of marked places.
+#[derive(Clone, Copy, Debug, Default)]
+struct Interval {
+    /// Its first place.
+    start: usize,
+    /// The place after its last.
+    end: usize,
 }
 
-/// Whether the place before `place` is marked, which the first place lacks.
-#[tactic(auto, using(crate::proofs::Runs::follows_mark_positive))]
-fn follows_mark(marks: &[bool], place: usize) -> bool
-    requires { place ≤ length marks.now }
-    ensures { result ≡ follows_mark marks.now place }
-{
-    place > 0 && marks[place - 1]
-}
-
-/// How many runs there would be, were the places from `from` on and below `to` marked.
-#[tactic(auto, using(crate::proofs::Runs::runs_joined, crate::proofs::Runs::runs_apart, std::proofs::lemmas::List::take_rest))]
-pub(crate) fn runs_with(marks: &[bool], from: usize, to: usize) -> usize
-    requires ordered { from < to }
-    requires within { to ≤ length marks.now }
-    ensures { result ≡ count_runs false (marks_with from to marks.now) }
-{
-    let earlier = count_runs(false, &marks[..from]);
-    let later = count_runs(true, &marks[to..]);
-    if follows_mark(marks, from) {
-        earlier + later
-    } else {
-        earlier + 1 + later
-    }
-}
-
-/// Marks the places from `from` on and below `to`.
-pub(crate) fn set_between(marks: &mut [bool], from: usize, to: usize)
-    requires ordered { from ≤ to }
-    requires within { to ≤ length marks.old }
-    ensures { marks.new ≡ marks_with from to marks.old }
-{
-    marks[from..to].fill(true);
-}
-
-/// Appends a flag for each of `count` unmarked bytes, for which there is room.
-pub(crate) fn append_unmarked<A: Allocator>(marks: &mut Vec<bool, A>, count: usize)
-    requires { vec_len marks.old + count ≤ vec_capacity marks.old }
-    ensures items { marks.new.items ≡ marks.old.items ++ replicate count false }
-    ensures reserved { vec_capacity marks.old ≤ vec_capacity marks.new }
-{
-    for _ in 0..count {
-        let _ = marks.push(false);
-    }
-}
-
-/// How many flags at the front are `flag`.
-pub(crate) fn count_leading(flag: bool, marks: &[bool]) -> usize
-    ensures value { result ≡ count_leading flag marks.now }
-    ensures bound { result ≤ length marks.now }
-{
-    for (i, &marked) in marks.iter().enumerate() {
-        if marked != flag {
-            return i;
+impl Interval {
+    /// The places of both, which overlap or touch.
+    fn union(self, other: Interval) -> Interval
+        ensures { result ≡ union self other }
+    {
+        Interval {
+            start: self.start.min(other.start),
+            end: self.end.max(other.end),
         }
     }
-    marks.len()
 }
 
-/// The place after the last that is marked, 0 where none is.
-#[tactic(auto, using(crate::proofs::Places::end_at_marked, crate::proofs::Places::end_at_unmarked))]
-pub(crate) fn end_of_marks(marks: &[bool]) -> usize
-    ensures { result ≡ end_of_marks marks.now }
-{
-    for i in (0..marks.len()).rev() {
-        if marks[i] {
-            return i + 1;
+/// The marked places of a queue.
+#[derive(Debug, Drop)]
+pub(crate) struct Marks {
+    /// The runs in order, none of them empty; between any two is a place that isn't marked.
+    table: ArrayVec<Interval, MAX_RUNS>,
+}
+
+impl Marks {
+    /// No place is marked.
+    pub(crate) fn new() -> Self
+        ensures { result.table.items ≡ [] }
+    {
+        Marks {
+            table: ArrayVec::new(),
         }
     }
-    0
+
+    /// Takes every mark away.
+    pub(crate) fn clear(&mut self)
+        ensures { self.new.table.items ≡ [] }
+    {
+        self.table.clear();
+    }
+
+    /// Takes the first `n` places away, so that the others move down.
+    pub(crate) fn release(&mut self, n: usize)
+        ensures { self.new.table.items ≡ moved_down n self.old.table.items }
+    {
+        self.table.retain(|run| {
+            run.start = run.start.saturating_sub(n);
+            run.end = run.end.saturating_sub(n);
+            run.end > 0
+        });
+    }
+
+    /// Marks the places from `from` on and below `to`, unless that makes one run too many: false, with nothing
+    /// changed.
+    pub(crate) fn mark(&mut self, from: usize, to: usize) -> bool
+        ensures value { result ≡ nat_le (length (joined (interval from to) self.old.table.items)) max_runs }
+        ensures state { self.new.table.items ≡ (if result then joined (interval from to) self.old.table.items else self.old.table.items) }
+    {
+        let place = self.count_before(from);
+        let run = self.absorb(
+            place,
+            Interval {
+                start: from,
+                end: to,
+            },
+        );
+        self.table.try_insert(place, run).is_ok()
+    }
+
+    /// How many runs end before the place `from`.
+    fn count_before(&self, from: usize) -> usize
+        ensures value { result ≡ count_before from self.now.table.items }
+        ensures within { result ≤ length self.now.table.items }
+        ensures few { length self.now.table.items ≤ max_runs }
+    {
+        let runs = self.table.as_slice();
+        for (i, run) in runs.iter().enumerate() {
+            if run.end >= from {
+                return i;
+            }
+        }
+        runs.len()
+    }
+
+    /// Takes the runs from the one at `place` on away that `run` overlaps or touches, and answers it joined with them.
+    fn absorb(&mut self, place: usize, mut run: Interval) -> Interval
+        requires { place ≤ length self.old.table.items }
+        ensures front { take place self.new.table.items ≡ take place self.old.table.items }
+        ensures rest { joined_front run (drop place self.old.table.items) ≡ result ∷ drop place self.new.table.items }
+        ensures within { place ≤ length self.new.table.items }
+        ensures unchanged { length self.old.table.items ≤ length self.new.table.items → self.new.table.items ≡ self.old.table.items }
+    {
+        while place < self.table.len() && self.table[place].start <= run.end {
+            run = run.union(self.table.remove(place));
+        }
+        run
+    }
+
+    /// The first place from `at` on that isn't marked.
+    pub(crate) fn first_unmarked(&self, at: usize) -> usize
+        ensures { result ≡ first_uncovered at self.now.table.items }
+    {
+        for run in self.table.as_slice() {
+            if run.start <= at && at < run.end {
+                return run.end;
+            }
+        }
+        at
+    }
+
+    /// Where the first run behind the place `from` begins.
+    pub(crate) fn next_start(&self, from: usize) -> Option<usize>
+        ensures { result ≡ next_start from self.now.table.items }
+    {
+        for run in self.table.as_slice() {
+            if from < run.start {
+                return Some(run.start);
+            }
+        }
+        None
+    }
+
+    /// The place after the last that is marked.
+    pub(crate) fn last_end(&self) -> Option<usize>
+        ensures { result ≡ last_end self.now.table.items }
+    {
+        self.table.last().map(|run| run.end)
+    }
 }

@@ -1,35 +1,34 @@
 //! The send queue.
-ghost use Rattle.std.specs.Prelude.{◌≡◌, ℕ, ◌+◌, ◌<◌, ◌≤◌, ◌↔◌, ◌⊎◌, length, take, drop, IsTrue, IsFalse, IsNone, IfSome, IfOk, vec_capacity};
-ghost use Rattle.tcp_sendq.specs.SendQueue.{Queue, IsQueue, IsKept, IsMarked, empty_queue, room, count_taken, after_offer, after_release, marks_with, runs_begun, max_runs, max_capacity, can_mark, after_mark, without_marks, next_unmarked, IsNextUnmarked, AllMarkedFrom, last_mark_end, IsLastMarkEnd, NoneMarkedFrom};
+ghost use Rattle.std.specs.Prelude.{◌≡◌, ℕ, ◌+◌, ◌<◌, ◌≤◌, ◌↔◌, ◌⊎◌, length, take, drop, IsTrue, IsFalse, IsNone, IfSome, IfOk};
+ghost use Rattle.tcp_sendq.specs.SendQueue.{Queue, IsQueue, IsMarked, empty_queue, room, count_taken, after_offer, after_release, marks_with, runs_begun, max_runs, max_capacity, can_mark, after_mark, without_marks, next_unmarked, IsNextUnmarked, AllMarkedFrom, last_mark_end, IsLastMarkEnd, NoneMarkedFrom};
+ghost use Rattle.tcp_sendq.specs.Marks.{queue_of, IsKept};
 
 use crate::error::QueueError;
-use crate::marks;
+use crate::marks::Marks;
+use crate::ring;
+use circular_buffer::HeapCircularBuffer;
 use std::alloc::{Allocator, Global};
 use std::marker::Model;
 
 /// The greatest capacity of a queue, in bytes.
 pub const MAX_CAPACITY: usize = 1_048_576;
 
-/// The greatest number of runs of marked bytes that are kept apart.
-const MAX_RUNS: usize = 16;
-
 /// The bytes offered and not yet released, oldest first, of which some are marked: the peer has told to
 /// hold them. A place is counted from the oldest byte, which stands at 0.
 #[derive(Debug, Drop)]
 pub struct SendQueue<A: Allocator = Global> {
-    /// From 1 to [`MAX_CAPACITY`]; both vectors have room for as many.
-    capacity: usize,
-    bytes: Vec<u8, A>,
-    /// For each byte, whether it is marked.
-    marks: Vec<bool, A>,
+    /// A ring, whose capacity is the queue's: from 1 to [`MAX_CAPACITY`].
+    bytes: HeapCircularBuffer<u8, A>,
+    /// The runs of marked places among those of `bytes`.
+    marks: Marks,
 }
 
 impl<A: Allocator> Model for SendQueue<A> {
     ghost Value = { Queue };
 
-    ghost view = { λ q. record { capacity = q.capacity; bytes = q.bytes.items; marks = q.marks.items } };
+    ghost view = { λ q. queue_of q.bytes.capacity q.bytes.items q.marks.table.items };
 
-    ghost invariant = { λ q. IsKept (record { capacity = q.capacity; bytes = q.bytes.items; marks = q.marks.items }) (vec_capacity q.bytes) (vec_capacity q.marks) };
+    ghost invariant = { λ q. IsKept q.bytes.capacity q.bytes.items q.marks.table.items };
 }
 
 impl SendQueue {
@@ -53,16 +52,12 @@ impl<A: Allocator + Copy> SendQueue<A> {
         if capacity < 1 || capacity > MAX_CAPACITY {
             return Err(QueueError::BadCapacity);
         }
-        let Ok(bytes) = Vec::with_capacity(alloc, capacity) else {
-            return Err(QueueError::NoMemory);
-        };
-        let Ok(marks) = Vec::with_capacity(alloc, capacity) else {
+        let Ok(bytes) = HeapCircularBuffer::with_capacity(alloc, capacity) else {
             return Err(QueueError::NoMemory);
         };
         Ok(SendQueue {
-            capacity,
             bytes,
-            marks,
+            marks: Marks::new(),
         })
     }
 }
@@ -89,7 +84,7 @@ impl<A: Allocator> SendQueue<A> {
         ensures value { result ≡ self.now.capacity }
         ensures sound { IsQueue self.now }
     {
-        self.capacity
+        self.bytes.capacity()
     }
 
     /// How many more bytes the queue takes.
@@ -97,7 +92,7 @@ impl<A: Allocator> SendQueue<A> {
         ensures value { result ≡ room self.now }
         ensures sound { IsQueue self.now }
     {
-        self.capacity - self.bytes.len()
+        self.bytes.capacity() - self.bytes.len()
     }
 
     /// Appends the front of `text` that fits, unmarked, and answers its length.
@@ -106,10 +101,7 @@ impl<A: Allocator> SendQueue<A> {
         ensures state { self.new ≡ after_offer self.old text.now }
         ensures sound { IsQueue self.new }
     {
-        let count = text.len().min(self.capacity - self.bytes.len());
-        let _ = self.bytes.extend_from_slice(&text[..count]);
-        marks::append_unmarked(&mut self.marks, count);
-        count
+        self.bytes.fill_from_slice(text)
     }
 
     /// Takes the oldest `n` bytes and their marks away (RFC 9293, 3.10.7.4).
@@ -119,10 +111,8 @@ impl<A: Allocator> SendQueue<A> {
         ensures sound { IsQueue self.new }
     {
         let rest = self.bytes.len() - n;
-        self.bytes.rotate_left(n);
-        self.bytes.truncate(rest);
-        self.marks.rotate_left(n);
-        self.marks.truncate(rest);
+        self.bytes.truncate_front(rest);
+        self.marks.release(n);
     }
 
     /// Fills `out` with the bytes from the place `at` on.
@@ -130,13 +120,12 @@ impl<A: Allocator> SendQueue<A> {
         requires { at + length out.old ≤ length self.now.bytes }
         ensures { out.new ≡ take (length out.old) (drop at self.now.bytes) }
     {
-        let rest = &self.bytes[at..];
-        out.copy_from_slice(&rest[..out.len()]);
+        let (front, back) = self.bytes.as_slices();
+        ring::copy_from(front, back, at, out);
     }
 
     /// Marks the places from `from` on and below `to`, unless more than 16 runs would then be marked:
     /// false, with nothing changed (RFC 2018, 5).
-    #[tactic(auto, using(crate::proofs::Runs::runs_begun_is), unfolding(crate::specs::SendQueue::can_mark, crate::specs::SendQueue::after_mark))]
     pub fn mark(&mut self, from: usize, to: usize) -> bool
         requires ordered { from < to }
         requires within { to ≤ length self.old.bytes }
@@ -147,53 +136,40 @@ impl<A: Allocator> SendQueue<A> {
         ensures places { IsTrue result → (place : ℕ) → IsMarked self.new place ↔ (IsMarked self.old place ⊎ ((from ≤ place) × (place < to))) }
         ensures sound { IsQueue self.new }
     {
-        if marks::runs_with(&self.marks, from, to) > MAX_RUNS {
-            return false;
-        }
-        marks::set_between(&mut self.marks, from, to);
-        true
+        self.marks.mark(from, to)
     }
 
     /// Takes every mark away (RFC 2018, 5).
-    #[tactic(auto, using(crate::proofs::Runs::runs), unfolding(crate::specs::SendQueue::without_marks))]
     pub fn forget_marks(&mut self)
         ensures state { self.new ≡ without_marks self.old }
         ensures sound { IsQueue self.new }
     {
-        self.marks.fill(false);
+        self.marks.clear();
     }
 
     /// The first unmarked place from `at` on, and the end of its run of unmarked places; none where every
     /// place from `at` on is marked.
-    #[tactic(auto, using(crate::proofs::Places::next_some, crate::proofs::Places::next_none, crate::proofs::Places::is_next_unmarked, crate::proofs::Places::all_marked, crate::proofs::Places::not_all_marked, std::proofs::lemmas::List::take_rest))]
     pub fn next_unmarked(&self, at: usize) -> Option<(usize, usize)>
         ensures value { result ≡ next_unmarked self.now at }
         ensures first { IfSome result (IsNextUnmarked self.now at) }
         ensures none { IsNone result ↔ AllMarkedFrom self.now at }
         ensures sound { IsQueue self.now }
     {
-        if at >= self.marks.len() {
+        let len = self.bytes.len();
+        let from = self.marks.first_unmarked(at);
+        if from >= len {
             return None;
         }
-        let from = at + marks::count_leading(true, &self.marks[at..]);
-        if from >= self.marks.len() {
-            return None;
-        }
-        Some((
-            from,
-            from + marks::count_leading(false, &self.marks[from..]),
-        ))
+        Some((from, self.marks.next_start(from).unwrap_or(len)))
     }
 
     /// The place after the last that is marked; none where no place is.
-    #[tactic(auto, using(crate::proofs::Places::last_some, crate::proofs::Places::last_none, crate::proofs::Places::is_last_mark_end, crate::proofs::Places::none_marked, crate::proofs::Places::not_none_marked))]
     pub fn last_mark_end(&self) -> Option<usize>
         ensures value { result ≡ last_mark_end self.now }
         ensures last { IfSome result (IsLastMarkEnd self.now) }
         ensures none { IsNone result ↔ NoneMarkedFrom self.now 0 }
         ensures sound { IsQueue self.now }
     {
-        let end = marks::end_of_marks(&self.marks);
-        if end > 0 { Some(end) } else { None }
+        self.marks.last_end()
     }
 }

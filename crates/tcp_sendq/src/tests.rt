@@ -206,6 +206,23 @@ fn offers_releases_and_copies(rt: HostRuntime) -> Result<(), Fail> {
 }
 
 #[test]
+fn finds_each_byte_once(rt: HostRuntime) -> Result<(), Fail> {
+    let mut queue = SendQueue::new(rt.alloc(), 4)?;
+    let mut next = 0u8;
+    for _ in 0..1000 {
+        let text = [next, next.wrapping_add(1), next.wrapping_add(2)];
+        assert_eq!(rt; queue.offer(&text), 3);
+        assert_eq!(rt; queue.len(), 3);
+        let mut out = [0; 3];
+        queue.copy(0, &mut out);
+        assert_eq!(rt; out, text);
+        queue.release(3);
+        next = next.wrapping_add(3);
+    }
+    Ok(())
+}
+
+#[test]
 fn marks_leave_with_their_bytes(rt: HostRuntime) -> Result<(), Fail> {
     let mut queue = SendQueue::new(rt.alloc(), 16)?;
     assert_eq!(rt; queue.offer(b"0123456789"), 10);

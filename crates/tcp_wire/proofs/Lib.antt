@@ -1,4 +1,5 @@
 pub mod WordSums
+pub mod LaneSums
 pub mod Bytes
 pub mod OptionLaws
 pub mod AreaLaws

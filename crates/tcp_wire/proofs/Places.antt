@@ -1,9 +1,11 @@
 -- What stands in `out` after a write behind what was written before.
-use Rattle.std.proofs.Common.{◌≡◌, ℕ, ◌+◌, ◌-◌, List, [], ◌++◌, length, take, drop, refl, sym, append_assoc, ap, ◌∙◌, arith}
-use Rattle.std.proofs.lemmas.List.{take_at, drop_at, drop-drop, take_rest, drop_all, append-nil, length-drop}
+use Rattle.std.proofs.Common.{◌≡◌, ℕ, ◌+◌, ◌-◌, ◌≤◌, List, [], ◌++◌, length, map, take, drop, refl, sym, append_assoc, length-append, ap, ◌∙◌, arith}
+use Rattle.std.proofs.lemmas.List.{take_at, drop_at, drop-drop, take_rest, drop_all, append-nil, length-drop, length-take-le, take-append-drop}
 use Rattle.byteorder.specs.Endian.{big_bytes}
 use Rattle.tcp_wire.specs.Checksum.{field}
 use Rattle.tcp_wire.specs.Wire.{Content, wire_length, segment_bytes, encoded_bytes}
+use Rattle.tcp_wire.specs.declared.header.Header.{Header}
+use Rattle.tcp_wire.specs.View.{option_content, with_text, head_length, around}
 use Rattle.tcp_wire.proofs.Writing.{length_segment_bytes}
 use borrow.Rule.Slice.PartMut.{put_mid}
 
@@ -24,12 +26,44 @@ written_behind a k n front old out part X is len klen part_is =
     ∙ ap (λ (xs : List ℕ). front ++ xs) (append-nil part ∙ part')
     ∙ sym (append_assoc front X (drop (a + n) old))
 
--- a part of its own length, behind a front
-pub filled_behind : (a k : ℕ) (front old out part : List ℕ) → out ≡ front ++ drop a old → length front ≡ a → put_mid a k out part ≡ (front ++ part) ++ drop (a + k) old
-filled_behind a k front old out part is len =
-    put_behind a k front (drop a old) out part is len
-    ∙ ap (λ (xs : List ℕ). front ++ (part ++ xs)) (drop-drop k a old)
-    ∙ sym (append_assoc front part (drop (a + k) old))
+-- a part of n places that is put behind the first `at`
+put_is : (at n k : ℕ) (old part : List ℕ) → at + n ≤ length old → k ≡ n → put_mid at k old part ≡ take at old ++ (part ++ drop n (drop at old))
+put_is at n k old part room k_is =
+    ap (λ (m : ℕ). put_mid at m old part) k_is ∙ put_behind at n (take at old) (drop at old) old part (sym (take-append-drop at old)) (length-take-le at old (omega arith))
+
+pub length_put : (at n k : ℕ) (old part : List ℕ) → at + n ≤ length old → k ≡ n → length part ≡ n → length (put_mid at k old part) ≡ length old
+length_put at n k old part room k_is len =
+    let rest : List ℕ = drop n (drop at old) in
+    omega (arith, ap length (put_is at n k old part room k_is), length-append (take at old) (part ++ rest), length-append part rest, length-take-le at old (omega arith), length-drop n (drop at old), length-drop at old)
+
+pub drop_put : (at n k : ℕ) (old part : List ℕ) → at + n ≤ length old → k ≡ n → length part ≡ n → drop at (put_mid at k old part) ≡ part ++ drop n (drop at old)
+drop_put at n k old part room k_is len =
+    ap (drop at) (put_is at n k old part room k_is) ∙ drop_at (take at old) (part ++ drop n (drop at old)) at (length-take-le at old (omega arith))
+
+-- a header around text that is put to its place says what the two say
+pub around_put : (fields : Header) (at n k : ℕ) (old part text : List ℕ) (v : Content) → at ≡ head_length (map option_content fields.options.now) fields.pad → at + n ≤ length old
+    → k ≡ n → length text ≡ n → part ≡ text → with_text fields text ≡ v → around fields n (put_mid at k old part) ≡ v
+around_put fields at n k old part text v at_is room k_is len part_is is =
+    let part_len : length part ≡ n = ap length part_is ∙ len in
+    let stands : take n (drop at (put_mid at k old part)) ≡ text =
+    ap (take n) (drop_put at n k old part room k_is part_len) ∙ take_at part (drop n (drop at old)) n part_len ∙ part_is in
+    ap (λ (m : ℕ). with_text fields (take n (drop m (put_mid at k old part)))) (sym at_is) ∙ ap (with_text fields) stands ∙ is
+
+-- what was written around the text, over what stood there before the text was put
+pub encoded_over : (src dst : List ℕ) (v w : Content) (at n k : ℕ) (new old part : List ℕ) → at + n ≤ length old → k ≡ n → length part ≡ n → wire_length w ≡ at + n → v ≡ w
+    → new ≡ encoded_bytes src dst v ++ drop (wire_length v) (put_mid at k old part) → new ≡ encoded_bytes src dst w ++ drop (wire_length w) old
+encoded_over src dst v w at n k new old part room k_is part_len whole same is =
+    let out : List ℕ = put_mid at k old part in
+    let behind : drop (at + n) out ≡ drop (at + n) old =
+    sym (drop-drop n at out) ∙ ap (drop n) (drop_put at n k old part room k_is part_len) ∙ drop_at part (drop n (drop at old)) n part_len ∙ drop-drop n at old in
+    is ∙ ap (λ (x : Content). encoded_bytes src dst x ++ drop (wire_length x) out) same
+    ∙ ap (λ (m : ℕ). encoded_bytes src dst w ++ drop m out) whole ∙ ap (λ (xs : List ℕ). encoded_bytes src dst w ++ xs) behind
+    ∙ ap (λ (m : ℕ). encoded_bytes src dst w ++ drop m old) (sym whole)
+
+-- the length of the whole, by where its text stands
+pub length_around : (fields : Header) (at n : ℕ) (text : List ℕ) (v : Content) → at ≡ head_length (map option_content fields.options.now) fields.pad → length text ≡ n
+    → with_text fields text ≡ v → wire_length v ≡ at + n
+length_around fields at n text v at_is len is = omega (arith, ap wire_length is)
 
 drop_past : (k : ℕ) (xs out : List ℕ) → xs ≡ drop 16 out → k ≡ length out - 16 → drop k xs ≡ []
 drop_past k xs out is len = drop_all k xs (omega (arith, ap length is, length-drop 16 out))

@@ -1,5 +1,5 @@
 -- The function `decoded` against the grammar and the first fault.
-use Rattle.std.proofs.Common.{◌≡◌, ℕ, ◌+◌, ◌-◌, ◌*◌, ◌%◌, ◌<◌, ◌≤◌, Bool, true, false, cond, ltb, eqb, ◌||◌, List, ◌++◌, length, take, drop, replicate, Result, Ok, Err, refl, sym, ap, ◌∙◌, ◌⊎◌, inl, inr, length-append, arith}
+use Rattle.std.proofs.Common.{◌≡◌, ℕ, ◌+◌, ◌-◌, ◌*◌, ◌%◌, ◌<◌, ◌≤◌, Bool, true, false, cond, ltb, eqb, ◌||◌, List, [], ◌++◌, length, take, drop, replicate, Result, Ok, Err, refl, sym, ap, ◌∙◌, ◌⊎◌, inl, inr, length-append, arith}
 use Rattle.std.proofs.lemmas.List.{take_at, drop_at, drop-drop, length-take, length-drop, take-append-drop}
 use Rattle.std.proofs.lemmas.Bool.{ltb-false, le-ltb}
 use Rattle.std.proofs.lemmas.Bool.Decides.{nat_tests}
@@ -9,7 +9,7 @@ use Rattle.tcp_wire.specs.Checksum.{AreBytes, segment_sum, Checks, DiffersInOneP
 use Rattle.tcp_wire.specs.Options.{OptionContent, spellings}
 use Rattle.tcp_wire.specs.Wire.{Content, HasHeader, IsWire, data_offset, option_bytes, option_area}
 use Rattle.tcp_wire.specs.Fault.{FirstFault, IsSized, HasOffset}
-use Rattle.tcp_wire.specs.Decoded.{content_at, options_in, with_options, layout_of, decode_answer}
+use Rattle.tcp_wire.specs.Decoded.{content_at, option_at, padding_at, options_in, with_options, layout_of, decode_answer}
 use Rattle.tcp_wire.proofs.Bytes.{bytes_take, bytes_drop}
 use Rattle.tcp_wire.proofs.AreaLaws.{Describes, options_described, options_complete, bad_option_read, bad_padding_read}
 use Rattle.tcp_wire.proofs.WordSums.{one_place, same_length}
@@ -150,6 +150,14 @@ layout_of_by_offset bytes has =
     let small : ltb (data_offset bytes) 5 ≡ false = le-ltb _ _ has.0 in
     let past : ltb (length bytes) (4 * data_offset bytes) ≡ false = le-ltb _ _ has.1 in
     rw (small, past) refl
+
+-- an offset of five words leaves no room for options
+pub plain_layout : (bytes : List ℕ) → 20 ≤ length bytes → data_offset bytes ≡ 5 → layout_of bytes ≡ Ok (content_at bytes [] 0)
+unfolding options_in option_at padding_at
+plain_layout bytes long five =
+    let has : HasOffset bytes = (omega arith, omega arith) in
+    let none : option_area bytes ≡ [] = ap (λ (words : ℕ). take (4 * words - 20) (drop 20 bytes)) five in
+    layout_of_by_offset bytes has ∙ ap (λ (area : List ℕ). with_options bytes (options_in 40 20 area)) none
 
 pub complete : (src dst : List ℕ) (v : Content) (bytes : List ℕ) → IsWire src dst v bytes → decode_answer src dst bytes ≡ Ok v
 complete src dst v bytes w =

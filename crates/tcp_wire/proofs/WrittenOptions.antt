@@ -1,14 +1,14 @@
 -- Options and blocks, written one behind the other.
 use Rattle.std.proofs.Common.{◌≡◌, ℕ, ◌+◌, ◌-◌, ◌*◌, ◌<◌, ◌≤◌, List, ◌++◌, length, take, drop, map, get_or, sym, ap, ◌∙◌, length-append, append_assoc, arith}
 use Rattle.std.specs.List.{flat_map}
-use Rattle.std.proofs.lemmas.List.{map_more, length-map, length-take-le, take-append-drop, drop_at}
+use Rattle.std.proofs.lemmas.List.{map_more, length-map, length-take-le, length-drop, take-append-drop, drop_at, drop-drop}
 use Rattle.tcp_wire.specs.declared.seq.Seq.{Seq}
 use Rattle.tcp_wire.specs.declared.option.TcpOption.{TcpOption}
 use Rattle.tcp_wire.specs.Options.{block_bytes, spelling, spellings}
 use Rattle.tcp_wire.specs.Wire.{Content, option_bytes, wire_length, header, segment_bytes}
 use Rattle.tcp_wire.specs.View.{block, option_content}
 use Rattle.tcp_wire.proofs.OptionLaws.{blocks_bytes_length, blocks_push, spellings_push}
-use Rattle.tcp_wire.proofs.Places.{written_behind, filled_behind}
+use Rattle.tcp_wire.proofs.Places.{written_behind}
 use borrow.Rule.Slice.PartMut.{put_mid}
 
 pub blocks_written : (blocks : List (Seq × Seq)) (i k : ℕ) (d : Seq × Seq) (old out part : List ℕ) → i < length blocks → k ≡ length out - 8 * i
@@ -42,23 +42,23 @@ options_written options i at k n o old out part inside is len n_is part_is befor
       omega (arith, before.1, n_is, ap length more, length-append front (spelling (option_content o))),
     )
 
--- the whole segment: options and padding, then the header in front, then the text
-pub whole_written : (v : Content) (len k kt : ℕ) (old one area two text : List ℕ) → 20 ≤ length old → k ≡ length old - 20 → len ≡ length (option_bytes v)
-    → area ≡ option_bytes v ++ drop (length (option_bytes v)) (take k (drop 20 old)) → one ≡ put_mid 20 k old area
-    → two ≡ header v 0 ++ drop 20 one → text ≡ v.text → kt ≡ length v.text
-    → put_mid (20 + len) kt two text ≡ segment_bytes v 0 ++ drop (wire_length v) old
-whole_written v len k kt old one area two text room klen len_is area_is one_is two_is text_is text_len =
+-- the whole segment: options and padding, then the header in front of them, around the text that stands there
+pub around_written : (v : Content) (len k n : ℕ) (old one area two : List ℕ) → k ≡ length old - 20 → len ≡ length (option_bytes v) → v.text ≡ take n (drop (20 + len) old)
+    → 20 + len + n ≤ length old → area ≡ option_bytes v ++ drop (length (option_bytes v)) (take k (drop 20 old)) → one ≡ put_mid 20 k old area
+    → two ≡ header v 0 ++ drop 20 one → two ≡ segment_bytes v 0 ++ drop (wire_length v) old
+around_written v len k n old one area two klen len_is text_is room area_is one_is two_is =
     let L : ℕ = length (option_bytes v) in
     let front : List ℕ = take 20 old in
-    let front_len : length front ≡ 20 = length-take-le 20 old room in
+    let front_len : length front ≡ 20 = length-take-le 20 old (omega arith) in
     let first : one ≡ (front ++ option_bytes v) ++ drop (20 + L) old =
     one_is ∙ written_behind 20 k L front old old area (option_bytes v) (sym (take-append-drop 20 old)) front_len klen area_is in
     let behind : drop 20 one ≡ option_bytes v ++ drop (20 + L) old =
     ap (drop 20) (first ∙ append_assoc front (option_bytes v) (drop (20 + L) old)) ∙ drop_at front (option_bytes v ++ drop (20 + L) old) 20 front_len in
-    let second : two ≡ (header v 0 ++ option_bytes v) ++ drop (20 + L) old =
-    two_is ∙ ap (λ (xs : List ℕ). header v 0 ++ xs) behind in
-    let second' : two ≡ (header v 0 ++ option_bytes v) ++ drop (20 + len) old = second ∙ ap (λ (n : ℕ). (header v 0 ++ option_bytes v) ++ drop (20 + n) old) (sym len_is) in
-    let total : 20 + len + kt ≡ wire_length v = omega arith in
-    filled_behind (20 + len) kt (header v 0 ++ option_bytes v) old two text second' (omega (arith, len_is))
-    ∙ ap (λ (n : ℕ). ((header v 0 ++ option_bytes v) ++ text) ++ drop n old) total
-    ∙ ap (λ (xs : List ℕ). ((header v 0 ++ option_bytes v) ++ xs) ++ drop (wire_length v) old) text_is
+    let second : two ≡ (header v 0 ++ option_bytes v) ++ drop (20 + len) old =
+    two_is ∙ ap (λ (xs : List ℕ). header v 0 ++ xs) behind ∙ ap (λ (m : ℕ). (header v 0 ++ option_bytes v) ++ drop (20 + m) old) (sym len_is) in
+    let rest : List ℕ = drop (20 + len) old in
+    let text_len : length v.text ≡ n = ap length text_is ∙ length-take-le n rest (omega (arith, length-drop (20 + len) old)) in
+    let parts : rest ≡ v.text ++ drop (wire_length v) old =
+    sym (take-append-drop n rest) ∙ ap (λ (xs : List ℕ). xs ++ drop n rest) (sym text_is) ∙ ap (λ (xs : List ℕ). v.text ++ xs) (drop-drop n (20 + len) old)
+    ∙ ap (λ (m : ℕ). v.text ++ drop m old) (omega (arith, len_is, text_len)) in
+    second ∙ ap (λ (xs : List ℕ). (header v 0 ++ option_bytes v) ++ xs) parts ∙ sym (append_assoc (header v 0 ++ option_bytes v) v.text (drop (wire_length v) old))

@@ -1,11 +1,12 @@
 -- What a segment of the code says (RFC 9293, 3.1).
-use Rattle.std.specs.Prelude.{◌≡◌, ℕ, ◌+◌, List, [], ◌∷◌, length, map}
+use Rattle.std.specs.Prelude.{◌≡◌, ℕ, ◌+◌, List, [], ◌∷◌, ◌++◌, length, map, take, drop, replicate}
 use Rattle.tcp_wire.specs.declared.seq.Seq.{Seq}
 use Rattle.tcp_wire.specs.declared.option.TcpOption.{TcpOption}
 use Rattle.tcp_wire.specs.declared.option.TcpOption.TheVariants as code
 use Rattle.tcp_wire.specs.declared.segment.Segment.{Segment}
-use Rattle.tcp_wire.specs.Options.{OptionContent, Nop, Mss, WindowScale, SackPermitted, Sack, Unknown, spelling}
-use Rattle.tcp_wire.specs.Wire.{Content}
+use Rattle.tcp_wire.specs.declared.header.Header.{Header}
+use Rattle.tcp_wire.specs.Options.{OptionContent, Nop, Mss, WindowScale, SackPermitted, Sack, Unknown, spelling, spellings}
+use Rattle.tcp_wire.specs.Wire.{Content, header_len}
 
 -- a block as its two numbers
 abbrev pub block : Seq × Seq → ℕ × ℕ
@@ -33,6 +34,31 @@ content segment = record {
   pad = segment.pad;
   text = segment.text.now;
 }
+
+-- a header with this text behind it
+abbrev pub with_text : Header → List ℕ → Content
+with_text header text = record {
+  src_port = header.src_port;
+  dst_port = header.dst_port;
+  seq = header.seq.0;
+  ack = header.ack.0;
+  reserved = header.reserved;
+  flags = header.flags.0;
+  window = header.window;
+  urgent = header.urgent;
+  options = map option_content header.options.now;
+  pad = header.pad;
+  text = text;
+}
+
+-- the bytes in front of the text: the fixed header, options and zeros
+abbrev pub head_length : List OptionContent → ℕ → ℕ
+head_length options pad = header_len + length (spellings options ++ replicate {A = ℕ} pad 0)
+
+-- a header with the text that stands in `out` behind its place
+abbrev pub around : Header → ℕ → List ℕ → Content
+around header text_len out =
+    with_text header (take text_len (drop (head_length (map option_content header.options.now) header.pad) out))
 
 -- an Unknown option's body is the slice that lies at this address
 abbrev pub BodyIs : ℕ × ℕ → TcpOption → Type 0

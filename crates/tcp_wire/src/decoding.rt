@@ -19,6 +19,7 @@ use byteorder::{BigEndian, ByteOrder};
 
 /// The fields of the fixed header with these options and this padding, and the text behind `offset`
 /// bytes.
+#[inline(always)]
 fn fields_of<'a>(
     bytes: &'a [u8],
     offset: usize,
@@ -48,7 +49,8 @@ fn fields_of<'a>(
 }
 
 /// What the bytes say, their length and checksum being right.
-#[tactic(auto, unfolding(crate::specs::Decoded::layout_of))]
+#[inline(always)]
+#[tactic(auto, using(crate::proofs::Reading::plain_layout), unfolding(crate::specs::Decoded::layout_of))]
 fn lay_out(bytes: &[u8]) -> Result<Segment<'_>, DecodeError>
     requires { header_len ≤ length bytes.now }
     ensures value { MatchResult result (λ s. layout_of bytes.now ≡ Ok (content s)) (λ e. layout_of bytes.now ≡ Err e) }
@@ -59,11 +61,16 @@ fn lay_out(bytes: &[u8]) -> Result<Segment<'_>, DecodeError>
     if offset < HEADER_LEN || bytes.len() < offset {
         return Err(DecodeError::BadOffset);
     }
+    // Most segments have no options: no list is moved for them.
+    if offset == HEADER_LEN {
+        return Ok(fields_of(bytes, HEADER_LEN, ArrayVec::new(), 0));
+    }
     let (options, pad) = read_options(&bytes[HEADER_LEN..offset])?;
     Ok(fields_of(bytes, offset, options, pad))
 }
 
 /// What the bytes say, or the first of their faults.
+#[inline(always)]
 #[tactic(auto, unfolding(crate::specs::Decoded::decode_answer))]
 fn read_segment(src: Addr, dst: Addr, bytes: &[u8]) -> Result<Segment<'_>, DecodeError>
     ensures computed { MatchResult result (λ s. decode_answer src.0 dst.0 bytes.now ≡ Ok (content s)) (λ e. decode_answer src.0 dst.0 bytes.now ≡ Err e) }
@@ -84,6 +91,7 @@ fn read_segment(src: Addr, dst: Addr, bytes: &[u8]) -> Result<Segment<'_>, Decod
 
 /// Reads a segment that came from `src` to `dst` (RFC 9293, 3.1). Text and the bodies of `Unknown`
 /// options are the slices of the input at their places.
+#[inline(always)]
 pub fn decode(src: Addr, dst: Addr, bytes: &[u8]) -> Result<Segment<'_>, DecodeError>
     // Ok exactly on the grammar, with what the segment says.
     ensures value { (v : Content) → (IsOkAnd result (λ s. content s ≡ v)) ↔ IsWire src.0 dst.0 v bytes.now }

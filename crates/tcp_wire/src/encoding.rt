@@ -1,55 +1,79 @@
-ghost use Rattle.std.specs.Prelude.{◌≡◌, ◌⊎◌, ◌+◌, ◌/◌, ◌++◌, ◌≤◌, ℕ, List, length, drop};
+ghost use Rattle.std.specs.Prelude.{◌≡◌, ◌⊎◌, ◌+◌, ◌/◌, ◌++◌, ◌≤◌, ℕ, List, [], length, map, drop};
+ghost use Rattle.tcp_wire.specs.Options.{AreSpellable};
 ghost use Rattle.tcp_wire.specs.Wire.{IsWire, IsValid, HasOtherZero, header_len, option_bytes, wire_length, encoded_bytes, segment_bytes, header};
-ghost use Rattle.tcp_wire.specs.View.{content};
+ghost use Rattle.tcp_wire.specs.View.{content, option_content, with_text, head_length, around};
 
 use crate::addr::Addr;
+use crate::header::{Header, header_len};
 use crate::option_writing::write_options;
 use crate::segment::{HEADER_LEN, Segment};
 use crate::sums::checksum;
 use byteorder::{BigEndian, ByteOrder};
 
 /// Writes the fixed header with a checksum field of zero.
-fn write_header(segment: &Segment<'_>, offset: u8, out: &mut [u8])
-    requires valid { IsValid (content segment.now) }
-    requires offset { offset ≡ 5 + length (option_bytes (content segment.now)) / 4 }
+fn write_header(fields: &Header<'_>, offset: u8, out: &mut [u8])
+    requires reserved { fields.now.reserved ≤ 15 }
+    requires offset { offset ≡ 5 + length (option_bytes (with_text fields.now [])) / 4 }
+    requires low { offset ≤ 15 }
     requires room { header_len ≤ length out.old }
-    ensures { out.new ≡ header (content segment.now) 0 ++ drop header_len out.old }
+    ensures { out.new ≡ header (with_text fields.now []) 0 ++ drop header_len out.old }
 {
-    BigEndian::write_u16(out, segment.src_port);
-    BigEndian::write_u16(&mut out[2..], segment.dst_port);
-    BigEndian::write_u32(&mut out[4..], segment.seq.0);
-    BigEndian::write_u32(&mut out[8..], segment.ack.0);
-    out[12] = 16 * offset + segment.reserved;
-    out[13] = segment.flags.0;
-    BigEndian::write_u16(&mut out[14..], segment.window);
+    BigEndian::write_u16(out, fields.src_port);
+    BigEndian::write_u16(&mut out[2..], fields.dst_port);
+    BigEndian::write_u32(&mut out[4..], fields.seq.0);
+    BigEndian::write_u32(&mut out[8..], fields.ack.0);
+    out[12] = 16 * offset + fields.reserved;
+    out[13] = fields.flags.0;
+    BigEndian::write_u16(&mut out[14..], fields.window);
     BigEndian::write_u16(&mut out[16..], 0);
-    BigEndian::write_u16(&mut out[18..], segment.urgent);
+    BigEndian::write_u16(&mut out[18..], fields.urgent);
 }
 
 /// Writes options and padding, and answers their length.
-fn write_area(segment: &Segment<'_>, out: &mut [u8]) -> usize
-    requires valid { IsValid (content segment.now) }
-    requires room { length (option_bytes (content segment.now)) ≤ length out.old }
-    ensures len { result ≡ length (option_bytes (content segment.now)) }
-    ensures written { out.new ≡ option_bytes (content segment.now) ++ drop (length (option_bytes (content segment.now))) out.old }
+fn write_area(fields: &Header<'_>, out: &mut [u8]) -> usize
+    requires spellable { AreSpellable (map option_content fields.now.options.now) }
+    requires room { length (option_bytes (with_text fields.now [])) ≤ length out.old }
+    ensures len { result ≡ length (option_bytes (with_text fields.now [])) }
+    ensures written { out.new ≡ option_bytes (with_text fields.now []) ++ drop (length (option_bytes (with_text fields.now []))) out.old }
 {
-    let spelled = write_options(segment.options.as_slice(), out);
-    let len = spelled + usize::from(segment.pad);
+    let spelled = write_options(fields.options, out);
+    let len = spelled + usize::from(fields.pad);
     out[spelled..len].fill(0);
     len
 }
 
-/// Writes the whole segment with a checksum field of zero, and answers its length.
-fn write_unsummed(segment: &Segment<'_>, out: &mut [u8]) -> usize
-    requires valid { IsValid (content segment.now) }
-    requires room { wire_length (content segment.now) ≤ length out.old }
-    ensures len { result ≡ wire_length (content segment.now) }
-    ensures written { out.new ≡ segment_bytes (content segment.now) 0 ++ drop (wire_length (content segment.now)) out.old }
+/// Writes all but the text, with a checksum field of zero, and answers the length of the whole.
+fn write_unsummed(fields: &Header<'_>, text_len: usize, out: &mut [u8]) -> usize
+    requires valid { IsValid (around fields.now text_len out.old) }
+    requires room { head_length (map option_content fields.now.options.now) fields.now.pad + text_len ≤ length out.old }
+    ensures len { result ≡ wire_length (around fields.now text_len out.old) }
+    ensures written { out.new ≡ segment_bytes (around fields.now text_len out.old) 0 ++ drop (wire_length (around fields.now text_len out.old)) out.old }
 {
-    let offset = HEADER_LEN + write_area(segment, &mut out[HEADER_LEN..]);
-    write_header(segment, (offset / 4) as u8, out);
-    let len = offset + segment.text.len();
-    out[offset..len].copy_from_slice(segment.text);
+    let offset = HEADER_LEN + write_area(fields, &mut out[HEADER_LEN..]);
+    write_header(fields, (offset / 4) as u8, out);
+    offset + text_len
+}
+
+/// Writes header, options and checksum around the text of a segment, which stands in `out` already, `header_len` bytes
+/// behind its front. Answers the length of the whole segment. The rest of `out` stays.
+pub fn write_around(
+    fields: &Header<'_>,
+    text_len: usize,
+    src: Addr,
+    dst: Addr,
+    out: &mut [u8],
+) -> usize
+    requires valid { IsValid (around fields.now text_len out.old) }
+    requires room { head_length (map option_content fields.now.options.now) fields.now.pad + text_len ≤ length out.old }
+    ensures len { result ≡ wire_length (around fields.now text_len out.old) }
+    ensures written { out.new ≡ encoded_bytes src.0 dst.0 (around fields.now text_len out.old) ++ drop (wire_length (around fields.now text_len out.old)) out.old }
+    ensures wire { IsWire src.0 dst.0 (around fields.now text_len out.old) (encoded_bytes src.0 dst.0 (around fields.now text_len out.old)) }
+    // Any other bytes for this segment differ in the checksum alone, 0000 against ffff.
+    ensures only { (other : List ℕ) → IsWire src.0 dst.0 (around fields.now text_len out.old) other → (other ≡ encoded_bytes src.0 dst.0 (around fields.now text_len out.old)) ⊎ HasOtherZero (encoded_bytes src.0 dst.0 (around fields.now text_len out.old)) other }
+{
+    let len = write_unsummed(fields, text_len, out);
+    let field = checksum(src, dst, &out[..len]);
+    BigEndian::write_u16(&mut out[16..], field);
     len
 }
 
@@ -64,8 +88,9 @@ pub fn encode(segment: &Segment<'_>, src: Addr, dst: Addr, out: &mut [u8]) -> us
     // Any other bytes for this segment differ in the checksum alone, 0000 against ffff.
     ensures only { (other : List ℕ) → IsWire src.0 dst.0 (content segment.now) other → (other ≡ encoded_bytes src.0 dst.0 (content segment.now)) ⊎ HasOtherZero (encoded_bytes src.0 dst.0 (content segment.now)) other }
 {
-    let len = write_unsummed(segment, out);
-    let field = checksum(src, dst, &out[..len]);
-    BigEndian::write_u16(&mut out[16..], field);
-    len
+    let fields = segment.header();
+    let at = header_len(fields.options, fields.pad);
+    let len = segment.text.len();
+    out[at..at + len].copy_from_slice(segment.text);
+    write_around(&fields, len, src, dst, out)
 }

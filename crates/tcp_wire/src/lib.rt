@@ -6,6 +6,8 @@ mod decoding;
 mod encoding;
 mod fault;
 mod flags;
+mod header;
+mod lanes;
 pub mod laws;
 mod option;
 mod option_reading;
@@ -16,13 +18,14 @@ mod sums;
 
 pub use addr::Addr;
 pub use decoding::decode;
-pub use encoding::encode;
+pub use encoding::{encode, write_around};
 pub use fault::DecodeError;
 pub use flags::Flags;
+pub use header::{Header, header_len};
 pub use option::TcpOption;
 pub use segment::Segment;
 pub use seq::Seq;
-pub use sums::{checks, checksum};
+pub use sums::{checks, checksum, word_sum};
 
 #[cfg(test)]
 mod tests;

@@ -2,9 +2,10 @@ ghost use Rattle.std.specs.Prelude.{◌≡◌, ◌↔◌, ◌+◌, ◌^◌, ◌<
 ghost use Rattle.tcp_wire.specs.Checksum.{AreBytes};
 ghost use Rattle.tcp_wire.specs.Wire.{IsValid, max_len, wire_length};
 ghost use Rattle.tcp_wire.specs.Options.{AreSpellable, spellings};
-ghost use Rattle.tcp_wire.specs.View.{content, option_content};
+ghost use Rattle.tcp_wire.specs.View.{content, option_content, with_text};
 
 use crate::flags::Flags;
+use crate::header::Header;
 use crate::option::TcpOption;
 use crate::seq::Seq;
 use arrayvec::ArrayVec;
@@ -36,7 +37,7 @@ pub struct Segment<'a> {
 }
 
 /// The bytes of these options and this padding, where each option can be written.
-fn area_len(options: &[TcpOption<'_>], pad: u8) -> Option<usize>
+pub(crate) fn area_len(options: &[TcpOption<'_>], pad: u8) -> Option<usize>
     requires { length options.now ≤ 40 }
     ensures some { IsSome result ↔ AreSpellable (map option_content options.now) }
     ensures len { IfSome result (λ n. n ≡ length (spellings (map option_content options.now)) + pad) }
@@ -59,6 +60,25 @@ fn fits_behind(front: usize, text: &[u8]) -> bool
 }
 
 impl Segment<'_> {
+    /// The segment without its text.
+    pub(crate) fn header(&self) -> Header<'_>
+        ensures same { with_text result self.now.text.now ≡ content self.now }
+        ensures few { length result.options.now ≤ 40 }
+    {
+        Header {
+            src_port: self.src_port,
+            dst_port: self.dst_port,
+            seq: self.seq,
+            ack: self.ack,
+            reserved: self.reserved,
+            flags: self.flags,
+            window: self.window,
+            urgent: self.urgent,
+            options: self.options.as_slice(),
+            pad: self.pad,
+        }
+    }
+
     /// Whether the segment can be written: `reserved` is at most 15; each option has a spelling (a
     /// `Sack` has 1 to 4 blocks; an `Unknown` has a kind of at least 2 and a body of at most 38 bytes,
     /// and its length isn't the own one of a known kind); options and padding are a multiple of 4

@@ -13,6 +13,12 @@ const SYN: [u8; 20] = [
     0x8b, 0xdd, 0x00, 0x00,
 ];
 
+/// The header of an acknowledgement from port 1 to port 2 with 65495 zero bytes behind it.
+const LONGEST_HEADER: [u8; 20] = [
+    0x00, 0x01, 0x00, 0x02, 0x00, 0x00, 0x00, 0x00, 0x00, 0x00, 0x00, 0x00, 0x50, 0x10, 0x10, 0x00,
+    0x8b, 0xf7, 0x00, 0x00,
+];
+
 /// Ports, sequence and acknowledgement number, reserved, flags, window, urgent, pad.
 fn numbers_of(segment: &Segment<'_>) -> [u32; 9] {
     [
@@ -102,12 +108,8 @@ fn lengths(rt: HostRuntime) -> Result<(), Fail> {
     assert_eq!(rt; fault_of(&[0; 19]), Some(DecodeError::TooShort));
     assert_eq!(rt; fault_of(&[]), Some(DecodeError::TooShort));
     let mut longest = vec![in rt.alloc(); 0u8; 65515]?;
-    let head = [
-        0x00, 0x01, 0x00, 0x02, 0x00, 0x00, 0x00, 0x00, 0x00, 0x00, 0x00, 0x00, 0x50, 0x10, 0x10,
-        0x00, 0x8b, 0xf7, 0x00, 0x00,
-    ];
     assert_eq!(rt; longest.len(), 65515);
-    longest[..20].copy_from_slice(&head);
+    longest[..20].copy_from_slice(&LONGEST_HEADER);
     let segment = decode(SRC, DST, &longest)?;
     assert_eq!(rt; segment.text.len(), 65495);
     assert_eq!(rt; segment.flags, Flags::ACK);
@@ -124,6 +126,59 @@ fn greatest_sum(rt: HostRuntime) -> Result<(), Fail> {
     // Every word is ffff but 0006, the length ffeb and the last, ff00.
     assert!(rt; !checks(all, all, &bytes));
     assert_eq!(rt; checksum(all, all, &bytes), 0x010d);
+    Ok(())
+}
+
+/// The sum of the words, one byte after the other.
+fn slow_sum(bytes: &[u8]) -> u32 {
+    let mut sum = 0u32;
+    for (i, byte) in bytes.iter().enumerate() {
+        let weight = if i % 2 == 0 { 256 } else { 1 };
+        sum = sum.wrapping_add(weight * u32::from(*byte));
+    }
+    sum
+}
+
+/// Whether the first `len` bytes have the sum that is found slowly.
+fn sums_agree(bytes: &[u8], len: usize) -> bool {
+    if len > 65515 || len > bytes.len() {
+        return false;
+    }
+    word_sum(&bytes[..len]) == slow_sum(&bytes[..len])
+}
+
+#[test]
+fn word_sum_of_each_length(rt: HostRuntime) -> Result<(), Fail> {
+    let mut bytes = Vec::new(rt.alloc());
+    for i in 0..65515u32 {
+        bytes.push((i * 7 % 127) as u8 + 129)?;
+    }
+    for len in 20..2101 {
+        assert!(rt; sums_agree(&bytes, len));
+    }
+    for len in [0, 65514, 65515] {
+        assert!(rt; sums_agree(&bytes, len));
+    }
+    Ok(())
+}
+
+/// The checksum of the longest segment's header and this many bytes `ff` behind it, or 0 where they are too many.
+fn checksum_before_ones(alloc: Global, count: usize) -> Result<u16, AllocError> {
+    let mut bytes = Vec::new(alloc);
+    bytes.extend_from_slice(&LONGEST_HEADER)?;
+    for _ in 0..count {
+        bytes.push(255)?;
+    }
+    if bytes.len() < 20 || bytes.len() > 65515 {
+        return Ok(0);
+    }
+    Ok(checksum(SRC, DST, &bytes))
+}
+
+#[test]
+fn checksums_of_long_texts(rt: HostRuntime) -> Result<(), Fail> {
+    assert_eq!(rt; checksum_before_ones(rt.alloc(), 65494)?, 0x8bf8);
+    assert_eq!(rt; checksum_before_ones(rt.alloc(), 65495)?, 0x8cf6);
     Ok(())
 }
 
@@ -154,6 +209,31 @@ fn odd_last_byte(rt: HostRuntime) -> Result<(), Fail> {
     assert_eq!(rt; write(&segment, &mut out), 21);
     assert_eq!(rt; out, bytes);
     Ok(())
+}
+
+#[test]
+fn text_that_stands_already(rt: HostRuntime) {
+    let fields = Header {
+        src_port: 1,
+        dst_port: 2,
+        seq: Seq(1),
+        ack: Seq(1),
+        reserved: 0,
+        flags: Flags::ACK,
+        window: 4096,
+        urgent: 0,
+        options: &[],
+        pad: 0,
+    };
+    let mut out = [0xaa; 22];
+    out[20] = 0x41;
+    assert_eq!(rt; header_len(&[], 0), 20);
+    assert_eq!(rt; write_around(&fields, 1, SRC, DST, &mut out), 21);
+    let expected = [
+        0x00, 0x01, 0x00, 0x02, 0x00, 0x00, 0x00, 0x01, 0x00, 0x00, 0x00, 0x01, 0x50, 0x10, 0x10,
+        0x00, 0x4a, 0xcc, 0x00, 0x00, 0x41, 0xaa,
+    ];
+    assert_eq!(rt; out, expected);
 }
 
 #[test]

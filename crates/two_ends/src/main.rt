@@ -1,4 +1,4 @@
-//! An example: two ends and every segment between them as one value, driven by lists of events. An orderly connection, a
+//! Two ends and every segment between them as one value, driven by lists of events: an orderly connection, a
 //! run that stops at a segment that nobody emitted, a call that is refused, and an end that can't be made.
 #![tactic(auto)]
 
@@ -33,15 +33,6 @@ fn config(host: u8, isn: u32, mss: u16) -> Config
     }
 }
 
-fn other_error() -> io::Error {
-    io::Error::from(io::ErrorKind::Other)
-}
-
-/// Two new ends.
-fn new_world(alloc: Global) -> io::Result<World> {
-    World::new(alloc, config(1, 1000, 1460), config(2, 5000, 1460)).map_err(|_| other_error())
-}
-
 /// Runs events, and prints where the run stops.
 fn print_run(rt: &impl Print, world: &mut World, events: &[Event]) -> io::Result<()> {
     let count = events.len();
@@ -51,12 +42,8 @@ fn print_run(rt: &impl Print, world: &mut World, events: &[Event]) -> io::Result
     }
 }
 
-/// Prints what a side had and did.
-fn print_side(rt: &impl Print, world: &World, side: Side) -> io::Result<()> {
-    let name = match side {
-        Side::A => "A",
-        Side::B => "B",
-    };
+/// Prints what the side of this name had and did.
+fn print_side(rt: &impl Print, name: &str, world: &World, side: Side) -> io::Result<()> {
     let accepted = str::from_utf8(world.accepted(side)).unwrap_or("?");
     let delivered = str::from_utf8(world.delivered(side)).unwrap_or("?");
     println!(rt; "{name} sent \"{accepted}\" and was handed \"{delivered}\"")?;
@@ -73,37 +60,66 @@ fn print_side(rt: &impl Print, world: &World, side: Side) -> io::Result<()> {
     )
 }
 
-/// A connection from its first segment to its last.
-fn print_orderly_connection(rt: &(impl Print + AllocGlobal)) -> io::Result<()> {
-    let alloc = rt.alloc();
-    let mut world = new_world(alloc)?;
-    print_run(rt, &mut world, &handshake_and(Event::Receive(Side::A, 0)))?;
-    let text = exchange(b"abc".to_vec(alloc)?, b"def".to_vec(alloc)?);
-    print_run(rt, &mut world, &text)?;
-    print_run(rt, &mut world, &orderly_close())?;
-    print_side(rt, &world, Side::A)?;
-    print_side(rt, &world, Side::B)
+/// The handshake, and one event more.
+fn run_handshake(rt: &impl Print, world: &mut World, event: Event) -> io::Result<()> {
+    print_run(rt, world, &handshake_and(event))
 }
 
-/// A run that stops, a call that is refused, and an end that can't be made.
-fn print_refusals(rt: &(impl Print + AllocGlobal)) -> io::Result<()> {
-    let mut world = new_world(rt.alloc())?;
-    print_run(rt, &mut world, &handshake_and(Event::Deliver(Side::A, 2)))?;
-    print_side(rt, &world, Side::A)?;
-    let mut world = new_world(rt.alloc())?;
-    if let Ok(Outcome::Call(Err(refusal))) = world.step(&Event::Close(Side::A)) {
-        println!(rt; "close: {refusal}")?;
+/// A text each way, behind the handshake.
+fn run_exchange(rt: &(impl Print + AllocGlobal), world: &mut World) -> io::Result<()> {
+    let a = b"abc".to_vec(rt.alloc())?;
+    let b = b"def".to_vec(rt.alloc())?;
+    print_run(rt, world, &exchange(a, b))
+}
+
+/// An orderly close behind them.
+fn run_close(rt: &impl Print, world: &mut World) -> io::Result<()> {
+    print_run(rt, world, &orderly_close())
+}
+
+/// A connection from its first segment to its last.
+fn print_orderly_connection(rt: &(impl Print + AllocGlobal), world: &mut World) -> io::Result<()> {
+    run_handshake(rt, world, Event::Receive(Side::A, 0))?;
+    run_exchange(rt, world)?;
+    run_close(rt, world)?;
+    print_side(rt, "A", world, Side::A)?;
+    print_side(rt, "B", world, Side::B)
+}
+
+/// A run that stops, and a call that is refused.
+fn print_refusals(rt: &impl Print, world: &mut World) -> io::Result<()> {
+    run_handshake(rt, world, Event::Deliver(Side::A, 2))?;
+    print_side(rt, "A", world, Side::A)?;
+    match world.step(&Event::Connect(Side::A)) {
+        Ok(Outcome::Call(Err(refusal))) => println!(rt; "connect: {refusal}"),
+        _ => Ok(()),
     }
+}
+
+/// An end that can't be made.
+fn print_fault(rt: &(impl Print + AllocGlobal)) -> io::Result<()> {
     match World::new(rt.alloc(), config(1, 1000, 1460), config(2, 5000, 63)) {
-        Ok(_) => println!(rt; "made"),
+        Ok(_) => Ok(()),
         Err(fault) => println!(rt; "{fault}"),
     }
 }
 
+/// Two new ends.
+fn new_world(alloc: Global) -> Option<World> {
+    World::new(alloc, config(1, 1000, 1460), config(2, 5000, 1460)).ok()
+}
+
 fn main(rt: HostRuntime) -> ExitCode {
     every_run_is_safe();
-    match print_orderly_connection(&rt).and_then(|()| print_refusals(&rt)) {
-        Ok(()) => ExitCode::SUCCESS,
-        Err(_) => ExitCode::FAILURE,
+    let (Some(mut orderly), Some(mut refused)) = (new_world(rt.alloc()), new_world(rt.alloc()))
+    else {
+        return ExitCode::FAILURE;
+    };
+    let connection = print_orderly_connection(&rt, &mut orderly);
+    let refusals = print_refusals(&rt, &mut refused);
+    let fault = print_fault(&rt);
+    if connection.is_err() || refusals.is_err() || fault.is_err() {
+        return ExitCode::FAILURE;
     }
+    ExitCode::SUCCESS
 }

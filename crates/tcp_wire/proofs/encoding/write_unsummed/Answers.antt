@@ -1,9 +1,9 @@
-use Rattle.std.proofs.Common.{refl, arith}
-use Rattle.tcp_wire.specs.View.{content}
-use Rattle.tcp_wire.proofs.WrittenOptions.{whole_written}
+use Rattle.std.proofs.Common.{ℕ, ◌+◌, take, drop, refl, sym, ap, arith}
+use Rattle.tcp_wire.specs.View.{around}
+use Rattle.tcp_wire.proofs.WrittenOptions.{around_written}
 use Rattle.tcp_wire.proofs.encoding.write_unsummed.Goals as goal
 
 pub returns-clause-written : goal.returns-clause-written
 returns-clause-written c =
-    whole_written (content c.args.segment.now) c.write_area-offset.result _ _ c.args.out.now _ c.write_area-offset.new.out c.write_header.new.out c.copy_from_slice.new.self
-    (omega arith) refl c.write_area-offset.ensures.len c.write_area-offset.ensures.written refl c.write_header.ensures c.copy_from_slice.ensures.after (omega arith)
+    around_written (around c.args.fields.now c.args.text_len c.args.out.now) (c.write_area-offset.result) _ c.args.text_len c.args.out.now _ c.write_area-offset.new.out c.write_header.new.out
+    refl c.write_area-offset.ensures.len (ap (λ (m : ℕ). take c.args.text_len (drop (20 + m) c.args.out.now)) (sym c.write_area-offset.ensures.len)) (omega arith) c.write_area-offset.ensures.written refl c.write_header.ensures

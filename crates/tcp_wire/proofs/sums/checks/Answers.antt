@@ -6,5 +6,5 @@ use Rattle.tcp_wire.proofs.sums.checks.Goals as goal
 
 pub returns-clause-one_place : goal.returns-clause-one_place
 returns-clause-one_place c = λ holds other differs.
-    let first : Checks c.args.src.0 c.args.dst.0 c.args.bytes.now = grind (arith, nat_tests, c.pseudo_sum.ensures.exact, c.sum_of.ensures.exact, holds) in
+    let first : Checks c.args.src.0 c.args.dst.0 c.args.bytes.now = grind (arith, nat_tests, c.pseudo_sum.ensures.exact, c.word_sum.ensures.exact, holds) in
     one_place c.args.src.0 c.args.dst.0 c.args.bytes.now other differs first

@@ -1,17 +1,12 @@
-use Rattle.std.proofs.Common.{◌≡◌, ◌⊎◌, ◌<◌, ◌≤◌, ◌+◌, ◌-◌, ℕ, List, arith, ap, sym, subst, ◌∙◌, inl, inr, take, length, length-take}
-use Rattle.std.specs.Prelude.{true, false, min, max, ◌==◌, Option}
+use Rattle.std.proofs.Common.{◌≡◌, ◌⊎◌, ◌<◌, ◌≤◌, ◌-◌, ℕ, List, w64, arith, ap, sym, subst, ◌∙◌, inl, inr, take, length}
+use Rattle.std.specs.Prelude.{true, false, min, ◌==◌}
 use Rattle.std.proofs.lemmas.Bool.Decides.{nat_tests}
-use Rattle.std.proofs.lemmas.List.{length-map}
 use Rattle.std.proofs.lemmas.Int.{to_z-of_z}
-use Rattle.std.proofs.Common.{w64}
-use Rattle.tcp_reasm.specs.declared.cells.HeldByte.{HeldByte}
-use Rattle.tcp_reasm.specs.Reassembly.{Inbox, piece, window, after_place, place_answer}
-use Rattle.tcp_reasm.specs.Laws.{KeepsBytes, TakesPiece, LeavesOthers}
-use Rattle.tcp_reasm.specs.Store.{place_of, places_of, inbox_of, has_too_many, cells_over}
-use Rattle.tcp_reasm.proofs.Keeping.{kept_fits}
-use Rattle.tcp_reasm.proofs.Padding.{missing_padded}
-use Rattle.tcp_reasm.proofs.Placing.{after_place-keeps, after_place-takes, after_place-leaves, ends_at_missing}
-use Rattle.tcp_reasm.proofs.Views.{outside_view, place_view, length_held, length_cells_over}
+use Rattle.tcp_reasm.specs.Reassembly.{Inbox, piece}
+use Rattle.tcp_reasm.specs.Laws.{cell_at, KeepsBytes, TakesPiece, LeavesOthers, EndsAtMissing}
+use Rattle.tcp_reasm.proofs.Choices.{outside_view, place_view}
+use Rattle.tcp_reasm.proofs.Placing.{after_place-keeps, after_place-takes, after_place-leaves, after_place-missing, ends_at_missing}
+use Rattle.tcp_reasm.proofs.Views.{seen_parts, seen_held, missing_view}
 use Rattle.tcp_reasm.proofs.reassembly.Reassembly.place.Goals as goal
 use Rattle.tcp_reasm.proofs.reassembly.Reassembly.place.Goals.{then-is_empty-via-then-is_empty, then-is_empty-via-else-is_empty+then-window-start}
 
@@ -23,85 +18,65 @@ is_zero n e = grind (arith, nat_tests)
 
 pub returns-then-is_empty-clause-after : goal.returns-then-is_empty-clause-after
 returns-then-is_empty-clause-after g c =
+    let q : Inbox = c.args.self.now in
     let same_offset = to_z-of_z w64 c.args.offset c.ranges.offset in
     let is_start : c.piece_of-start.result.0 ≡ (piece c.args.offset c.args.text.now).start = c.piece_of-start.ensures.start ∙ ap (λ o. (piece o c.args.text.now).start) same_offset in
     let is_rest : c.piece_of-start.result.1.now ≡ (piece c.args.offset c.args.text.now).text = c.piece_of-start.ensures.text ∙ ap (λ o. (piece o c.args.text.now).text) same_offset in
-    let q : Inbox = inbox_of c.self.inside.capacity c.self.inside.unread.items c.self.inside.cells.items in
-    let wide : length q.held ≡ c.self.inside.capacity - length c.self.inside.unread.items =
-    length_held c.self.inside.capacity c.self.inside.unread.items c.self.inside.cells.items (omega (arith, length-map c.self.inside.cells.items place_of)) in
+    let wide : length q.held ≡ length c.self.inside.block.items - c.self.inside.unread = seen_held c.self.inside.block.items c.self.inside.start c.self.inside.unread c.self.inside.table.items q c.self.view_is in
     let outside : (length (piece c.args.offset c.args.text.now).text ≡ 0) ⊎ (length q.held ≤ (piece c.args.offset c.args.text.now).start) =
     elim c.then-is_empty.branch [
       | then-is_empty-via-then-is_empty w ↦ inl (ap length (sym is_rest) ∙ is_zero (length c.piece_of-start.result.1.now) (sym c.is_empty.ensures ∙ w.if-is_empty.true))
       | then-is_empty-via-else-is_empty+then-window-start w ↦ inr (omega (arith, wide, w.if-window-start.true, is_start))
     ] in
-    sym c.self.view_is ∙ (outside_view q c.args.offset c.args.text.now outside).0 ∙ ap (λ r. after_place r c.args.offset c.args.text.now) c.self.view_is
+    (outside_view q c.args.offset c.args.text.now outside).0
 
 pub returns-then-is_empty-clause-answer : goal.returns-then-is_empty-clause-answer
 returns-then-is_empty-clause-answer g c =
+    let q : Inbox = c.args.self.now in
     let same_offset = to_z-of_z w64 c.args.offset c.ranges.offset in
     let is_start : c.piece_of-start.result.0 ≡ (piece c.args.offset c.args.text.now).start = c.piece_of-start.ensures.start ∙ ap (λ o. (piece o c.args.text.now).start) same_offset in
     let is_rest : c.piece_of-start.result.1.now ≡ (piece c.args.offset c.args.text.now).text = c.piece_of-start.ensures.text ∙ ap (λ o. (piece o c.args.text.now).text) same_offset in
-    let q : Inbox = inbox_of c.self.inside.capacity c.self.inside.unread.items c.self.inside.cells.items in
-    let wide : length q.held ≡ c.self.inside.capacity - length c.self.inside.unread.items =
-    length_held c.self.inside.capacity c.self.inside.unread.items c.self.inside.cells.items (omega (arith, length-map c.self.inside.cells.items place_of)) in
+    let wide : length q.held ≡ length c.self.inside.block.items - c.self.inside.unread = seen_held c.self.inside.block.items c.self.inside.start c.self.inside.unread c.self.inside.table.items q c.self.view_is in
     let outside : (length (piece c.args.offset c.args.text.now).text ≡ 0) ⊎ (length q.held ≤ (piece c.args.offset c.args.text.now).start) =
     elim c.then-is_empty.branch [
       | then-is_empty-via-then-is_empty w ↦ inl (ap length (sym is_rest) ∙ is_zero (length c.piece_of-start.result.1.now) (sym c.is_empty.ensures ∙ w.if-is_empty.true))
       | then-is_empty-via-else-is_empty+then-window-start w ↦ inr (omega (arith, wide, w.if-window-start.true, is_start))
     ] in
-    (outside_view q c.args.offset c.args.text.now outside).1 ∙ ap (λ r. place_answer r c.args.offset c.args.text.now) c.self.view_is
+    (outside_view q c.args.offset c.args.text.now outside).1
 
-pub invariant_of-self : goal.invariant_of-self
-invariant_of-self g c =
-    let rest : List ℕ = c.piece_of-start.result.1.now in
-    let start : ℕ = c.piece_of-start.result.0 in
-    let cut : List ℕ = take c.min.result rest in
-    let cells : List (Option HeldByte) = c.self.inside.cells.items in
-    let over = cells_over start cut cells in
-    let fits = kept_fits (has_too_many start over) c.self.inside.unread.items c.keep.new.unread.items (places_of cells) over (places_of c.keep.new.cells.items) (max (length cells) (start + length cut))
-    (omega (arith, length-map cells place_of)) (omega (arith, length_cells_over start cut cells)) c.keep.ensures.unread c.keep.ensures.places in
-    let short : length cut ≤ c.min.result = omega (arith, length-take c.min.result rest) in (
-      record {
-        some = c.self.invariant.0.some;
-        most = c.self.invariant.0.most;
-        fits = omega (arith, fits, length-map cells place_of);
-        front = c.keep.ensures.front;
-        few = c.keep.ensures.few;
-        ranks = c.keep.ensures.ranks;
-      },
-      omega arith,
-      omega arith,
-    )
+pub returns-then-is_empty-clause-missing : goal.returns-then-is_empty-clause-missing
+returns-then-is_empty-clause-missing g c =
+    ends_at_missing c.args.self.now
+    (sym (ap (λ (q : Inbox). cell_at q.held 0) c.self.view_is)
+    ∙ missing_view c.self.inside.block.items c.self.inside.start c.self.inside.unread c.self.inside.table.items c.self.invariant.inside)
 
 pub returns-clause-after : goal.returns-clause-after
 returns-clause-after g c =
+    let q : Inbox = c.args.self.now in
     let same_offset = to_z-of_z w64 c.args.offset c.ranges.offset in
-    let is_start : c.piece_of-start.result.0 ≡ (piece c.args.offset c.args.text.now).start = c.piece_of-start.ensures.start ∙ ap (λ o. (piece o c.args.text.now).start) same_offset in
-    let is_rest : c.piece_of-start.result.1.now ≡ (piece c.args.offset c.args.text.now).text = c.piece_of-start.ensures.text ∙ ap (λ o. (piece o c.args.text.now).text) same_offset in
+    let start : ℕ = c.piece_of-start.result.0 in
     let rest : List ℕ = c.piece_of-start.result.1.now in
-    let size : c.len.result ≡ length c.self.inside.unread.items = omega arith in
-    let is_cut : take c.min.result rest ≡ take (min (c.self.inside.capacity - length c.self.inside.unread.items - c.piece_of-start.result.0) (length rest)) rest =
-    ap (λ n. take n rest) (c.min.ensures ∙ ap (λ n. min (c.self.inside.capacity - n - c.piece_of-start.result.0) (length rest)) size) in
-    (place_view c.self.inside.capacity c.self.inside.unread.items c.keep.new.unread.items c.self.inside.cells.items c.keep.new.cells.items c.args.offset c.args.text.now
-    c.piece_of-start.result.0 rest (take c.min.result rest) c.keep.result
-    (omega (arith, length-map c.self.inside.cells.items place_of)) is_start is_rest is_cut (above_zero (length rest) (sym c.is_empty.ensures ∙ c.if-is_empty.false)) (omega arith)
-    c.keep.ensures.answer c.keep.ensures.unread c.keep.ensures.places).0
-    ∙ ap (λ q. after_place q c.args.offset c.args.text.now) c.self.view_is
+    let is_start : start ≡ (piece c.args.offset c.args.text.now).start = c.piece_of-start.ensures.start ∙ ap (λ o. (piece o c.args.text.now).start) same_offset in
+    let is_rest : rest ≡ (piece c.args.offset c.args.text.now).text = c.piece_of-start.ensures.text ∙ ap (λ o. (piece o c.args.text.now).text) same_offset in
+    let wide : length q.held ≡ length c.self.inside.block.items - c.self.inside.unread = seen_held c.self.inside.block.items c.self.inside.start c.self.inside.unread c.self.inside.table.items q c.self.view_is in
+    let is_count : c.min.result ≡ min (length q.held - start) (length rest) = omega (arith, wide, c.min.ensures) in
+    (place_view q c.keep.new.self c.args.offset c.args.text.now start rest (take c.min.result rest) c.keep.result is_start is_rest
+    (ap (λ n. take n rest) is_count) (above_zero (length rest) (sym c.is_empty.ensures ∙ c.if-is_empty.false)) (omega (arith, wide))
+    c.keep.ensures.after c.keep.ensures.answer).0
 
 pub returns-clause-answer : goal.returns-clause-answer
 returns-clause-answer g c =
+    let q : Inbox = c.args.self.now in
     let same_offset = to_z-of_z w64 c.args.offset c.ranges.offset in
-    let is_start : c.piece_of-start.result.0 ≡ (piece c.args.offset c.args.text.now).start = c.piece_of-start.ensures.start ∙ ap (λ o. (piece o c.args.text.now).start) same_offset in
-    let is_rest : c.piece_of-start.result.1.now ≡ (piece c.args.offset c.args.text.now).text = c.piece_of-start.ensures.text ∙ ap (λ o. (piece o c.args.text.now).text) same_offset in
+    let start : ℕ = c.piece_of-start.result.0 in
     let rest : List ℕ = c.piece_of-start.result.1.now in
-    let size : c.len.result ≡ length c.self.inside.unread.items = omega arith in
-    let is_cut : take c.min.result rest ≡ take (min (c.self.inside.capacity - length c.self.inside.unread.items - c.piece_of-start.result.0) (length rest)) rest =
-    ap (λ n. take n rest) (c.min.ensures ∙ ap (λ n. min (c.self.inside.capacity - n - c.piece_of-start.result.0) (length rest)) size) in
-    (place_view c.self.inside.capacity c.self.inside.unread.items c.keep.new.unread.items c.self.inside.cells.items c.keep.new.cells.items c.args.offset c.args.text.now
-    c.piece_of-start.result.0 rest (take c.min.result rest) c.keep.result
-    (omega (arith, length-map c.self.inside.cells.items place_of)) is_start is_rest is_cut (above_zero (length rest) (sym c.is_empty.ensures ∙ c.if-is_empty.false)) (omega arith)
-    c.keep.ensures.answer c.keep.ensures.unread c.keep.ensures.places).1
-    ∙ ap (λ q. place_answer q c.args.offset c.args.text.now) c.self.view_is
+    let is_start : start ≡ (piece c.args.offset c.args.text.now).start = c.piece_of-start.ensures.start ∙ ap (λ o. (piece o c.args.text.now).start) same_offset in
+    let is_rest : rest ≡ (piece c.args.offset c.args.text.now).text = c.piece_of-start.ensures.text ∙ ap (λ o. (piece o c.args.text.now).text) same_offset in
+    let wide : length q.held ≡ length c.self.inside.block.items - c.self.inside.unread = seen_held c.self.inside.block.items c.self.inside.start c.self.inside.unread c.self.inside.table.items q c.self.view_is in
+    let is_count : c.min.result ≡ min (length q.held - start) (length rest) = omega (arith, wide, c.min.ensures) in
+    (place_view q c.keep.new.self c.args.offset c.args.text.now start rest (take c.min.result rest) c.keep.result is_start is_rest
+    (ap (λ n. take n rest) is_count) (above_zero (length rest) (sym c.is_empty.ensures ∙ c.if-is_empty.false)) (omega (arith, wide))
+    c.keep.ensures.after c.keep.ensures.answer).1
 
 pub returns-clause-kept : goal.returns-clause-kept
 returns-clause-kept g c =
@@ -109,11 +84,11 @@ returns-clause-kept g c =
 
 pub returns-clause-taken : goal.returns-clause-taken
 returns-clause-taken g c =
-    let wide : length c.args.self.now.held ≡ window c.args.self.now =
-    subst (λ (q : Inbox). length q.held ≡ window q) c.self.view_is
-    (length_held c.self.inside.capacity c.self.inside.unread.items c.self.inside.cells.items (omega (arith, length-map c.self.inside.cells.items place_of))) in
-    λ kept. subst (λ (new : Inbox). TakesPiece c.args.self.now new (piece c.args.offset c.args.text.now)) (sym (returns-clause-after g c))
-    (after_place-takes c.args.self.now c.args.offset c.args.text.now wide (λ refused. kept (returns-clause-answer g c ∙ refused)))
+    let q : Inbox = c.args.self.now in
+    let wide : length q.held ≡ length c.self.inside.block.items - c.self.inside.unread = seen_held c.self.inside.block.items c.self.inside.start c.self.inside.unread c.self.inside.table.items q c.self.view_is in
+    let seen = seen_parts c.self.inside.block.items c.self.inside.start c.self.inside.unread c.self.inside.table.items q c.self.view_is c.self.invariant.fits in
+    λ kept. subst (λ (new : Inbox). TakesPiece q new (piece c.args.offset c.args.text.now)) (sym (returns-clause-after g c))
+    (after_place-takes q c.args.offset c.args.text.now (omega (arith, wide, seen.0, seen.1)) (λ refused. kept (returns-clause-answer g c ∙ refused)))
 
 pub returns-clause-others : goal.returns-clause-others
 returns-clause-others g c =
@@ -122,5 +97,7 @@ returns-clause-others g c =
 
 pub returns-clause-missing : goal.returns-clause-missing
 returns-clause-missing g c =
-    ends_at_missing (inbox_of c.self.inside.capacity c.keep.new.unread.items c.keep.new.cells.items)
-    (missing_padded (places_of c.keep.new.cells.items) (c.self.inside.capacity - length c.keep.new.unread.items - length c.keep.new.cells.items) c.keep.ensures.front)
+    subst (λ (new : Inbox). EndsAtMissing new) (sym (returns-clause-after g c))
+    (after_place-missing c.args.self.now c.args.offset c.args.text.now
+    (sym (ap (λ (q : Inbox). cell_at q.held 0) c.self.view_is)
+    ∙ missing_view c.self.inside.block.items c.self.inside.start c.self.inside.unread c.self.inside.table.items c.self.invariant.inside))

@@ -1,12 +1,17 @@
-use Rattle.std.proofs.Common.{◌≡◌, length, arith}
-use Rattle.std.proofs.lemmas.Grind.{common_steps}
-use Rattle.tcp_sendq.specs.SendQueue.{end_of_marks}
-use Rattle.tcp_sendq.proofs.Places.{is_last_mark_end}
+use Rattle.std.proofs.Common.{subst, ap, ◌∙◌}
+use Rattle.tcp_sendq.specs.SendQueue.{IsQueue, last_mark_end}
+use Rattle.tcp_sendq.proofs.Calls.{last_mark_end-queue_of, last_mark_end-last, last_mark_end-none}
 use Rattle.tcp_sendq.proofs.queue.SendQueue.last_mark_end.Goals as goal
 
-pub returns-then-end-gt0-clause-last : goal.returns-then-end-gt0-clause-last
-returns-then-end-gt0-clause-last g c =
-    let q = c.args.self.now in
-    let end : c.end_of_marks-end.result ≡ end_of_marks q.marks = grind (arith, common_steps) in
-    let flags : length q.marks ≡ length q.bytes = grind (arith, common_steps) in
-    rw end (is_last_mark_end q flags (omega arith))
+pub returns-clause-value : goal.returns-clause-value
+returns-clause-value g c =
+    c.last_end.ensures
+    ∙ (last_mark_end-queue_of c.self.inside.bytes.capacity c.self.inside.bytes.items c.self.inside.marks.table.items c.self.invariant ∙ ap last_mark_end c.self.view_is)
+
+pub returns-clause-last : goal.returns-clause-last
+returns-clause-last g c =
+    last_mark_end-last c.args.self.now c.last_end.result (subst IsQueue c.self.view_is c.self.invariant.sound) (returns-clause-value g c)
+
+pub returns-clause-none : goal.returns-clause-none
+returns-clause-none g c =
+    last_mark_end-none c.args.self.now c.last_end.result (subst IsQueue c.self.view_is c.self.invariant.sound) (returns-clause-value g c)

@@ -1,24 +1,38 @@
-use Rattle.std.proofs.Common.{◌≡◌, ◌≤◌, false, length, slice_get, sym, ap, ◌∙◌, arith}
+use Rattle.std.proofs.Common.{◌≡◌, ◌≤◌, length, arith, ap, sym, subst, ◌∙◌, if◌then◌else◌}
 use Rattle.std.proofs.lemmas.Grind.{common_steps}
-use Rattle.std.proofs.lemmas.List.{with_items_is}
-use Rattle.std.specs.Vec.{with_items}
-use Rattle.tcp_sendq.specs.SendQueue.{count_runs, marks_with}
-use Rattle.tcp_sendq.proofs.Places.{marks_with-only, marks_with-all}
-use Rattle.tcp_sendq.proofs.Runs.{runs_begun_is}
+use Rattle.tcp_sendq.specs.SendQueue.{after_mark, can_mark, IsQueue}
+use Rattle.tcp_sendq.specs.Marks.{interval, joined}
+use Rattle.tcp_sendq.proofs.Calls.{marked, can_mark-queue_of, marked_runs, marked_places}
 use Rattle.tcp_sendq.proofs.queue.SendQueue.mark.Goals as goal
 
-pub returns-then-runs_with-gt-MAX_RUNS-clause-runs : goal.returns-then-runs_with-gt-MAX_RUNS-clause-runs
-returns-then-runs_with-gt-MAX_RUNS-clause-runs g c =
-    let more = marks_with c.args.from c.args.to c.args.self.now.marks in
-    let runs : c.runs_with.result ≡ count_runs false more = grind (arith, common_steps) in
-    (λ h. grind arith, λ few. absurd (omega (arith, runs_begun_is more)))
+pub invariant_of-self : goal.invariant_of-self
+invariant_of-self g c =
+    let table : c.mark.new.self.table.items ≡ (if c.mark.result then joined (interval c.args.from c.args.to) c.self.inside.marks.table.items else c.self.inside.marks.table.items) = grind (arith, common_steps) in
+    let within : c.args.to ≤ length c.self.inside.bytes.items = grind (arith, common_steps) in
+    rw (table) (marked c.args.from c.args.to c.mark.result c.requires.ordered within c.self.invariant c.mark.ensures.value).kept
+
+pub returns-clause-state : goal.returns-clause-state
+returns-clause-state g c =
+    let table : c.mark.new.self.table.items ≡ (if c.mark.result then joined (interval c.args.from c.args.to) c.self.inside.marks.table.items else c.self.inside.marks.table.items) = grind (arith, common_steps) in
+    let within : c.args.to ≤ length c.self.inside.bytes.items = grind (arith, common_steps) in
+    rw (table) ((marked c.args.from c.args.to c.mark.result c.requires.ordered within c.self.invariant c.mark.ensures.value).state ∙ ap (λ q. after_mark q c.args.from c.args.to) c.self.view_is)
+
+pub returns-clause-sound : goal.returns-clause-sound
+returns-clause-sound g c =
+    let table : c.mark.new.self.table.items ≡ (if c.mark.result then joined (interval c.args.from c.args.to) c.self.inside.marks.table.items else c.self.inside.marks.table.items) = grind (arith, common_steps) in
+    let within : c.args.to ≤ length c.self.inside.bytes.items = grind (arith, common_steps) in
+    rw (table) (marked c.args.from c.args.to c.mark.result c.requires.ordered within c.self.invariant c.mark.ensures.value).kept.sound
+
+pub returns-clause-value : goal.returns-clause-value
+returns-clause-value g c =
+    let within : c.args.to ≤ length c.self.inside.bytes.items = grind (arith, common_steps) in
+    c.mark.ensures.value
+    ∙ (sym (can_mark-queue_of c.self.inside.bytes.capacity c.self.inside.bytes.items c.self.inside.marks.table.items c.args.from c.args.to c.requires.ordered within c.self.invariant)
+    ∙ ap (λ q. can_mark q c.args.from c.args.to) c.self.view_is)
+
+pub returns-clause-runs : goal.returns-clause-runs
+returns-clause-runs g c = marked_runs c.args.self.now c.args.from c.args.to c.mark.result (returns-clause-value g c)
 
 pub returns-clause-places : goal.returns-clause-places
 returns-clause-places g c =
-    let marks = c.args.self.now.marks in
-    let now : (with_items c.self.inside.marks c.set_between.new.marks).items ≡ marks_with c.args.from c.args.to marks = grind (arith, common_steps, with_items_is) in
-    let within : c.args.to ≤ length marks = grind (arith, common_steps) in
-    λ h place. (
-      λ holds. marks_with-only c.args.from c.args.to marks place (omega arith) within (ap (λ flags. slice_get flags place) (sym now) ∙ holds),
-      λ either. ap (λ flags. slice_get flags place) now ∙ marks_with-all c.args.from c.args.to marks place (omega arith) within either,
-    )
+    marked_places c.args.self.now _ c.args.from c.args.to c.mark.result (returns-clause-state g c) (returns-clause-value g c) c.requires.ordered c.requires.within (subst IsQueue c.self.view_is c.self.invariant.sound)

@@ -1,16 +1,33 @@
-use Rattle.std.proofs.Common.{◌≡◌, ◌+◌, ◌<◌, length, drop, false, arith}
+use Rattle.std.proofs.Common.{◌≡◌, ◌<◌, ◌≤◌, length, Some, None, subst, ap, ◌∙◌, arith}
+use Rattle.std.specs.Prelude.{unwrap_or}
 use Rattle.std.proofs.lemmas.Grind.{common_steps}
-use Rattle.std.proofs.lemmas.List.{take_rest}
-use Rattle.tcp_sendq.specs.SendQueue.{first_unmarked, count_leading}
-use Rattle.tcp_sendq.proofs.Places.{is_next_unmarked}
+use Rattle.tcp_sendq.specs.SendQueue.{IsQueue, next_unmarked}
+use Rattle.tcp_sendq.specs.Marks.{first_uncovered, next_start}
+use Rattle.tcp_sendq.proofs.Calls.{next_unmarked-queue_of_none, next_unmarked-queue_of_some, next_unmarked-first, next_unmarked-none}
 use Rattle.tcp_sendq.proofs.queue.SendQueue.next_unmarked.Goals as goal
+
+pub returns-then-from-len-clause-value : goal.returns-then-from-len-clause-value
+returns-then-from-len-clause-value g c =
+    let past : length c.self.inside.bytes.items ≤ first_uncovered c.args.at c.self.inside.marks.table.items = grind (arith, common_steps) in
+    next_unmarked-queue_of_none c.self.inside.bytes.capacity c.self.inside.bytes.items c.self.inside.marks.table.items c.args.at c.self.invariant past
+    ∙ ap (λ q. next_unmarked q c.args.at) c.self.view_is
+
+pub returns-then-from-len-clause-none : goal.returns-then-from-len-clause-none
+returns-then-from-len-clause-none g c =
+    next_unmarked-none c.args.self.now c.args.at None (subst IsQueue c.self.view_is c.self.invariant.sound) (returns-then-from-len-clause-value g c)
+
+pub returns-clause-value : goal.returns-clause-value
+returns-clause-value g c =
+    let table = c.self.inside.marks.table.items in
+    let first : c.first_unmarked-from.result ≡ first_uncovered c.args.at table = grind (arith, common_steps) in
+    let next : c.unwrap_or.result ≡ unwrap_or (next_start (first_uncovered c.args.at table) table) (length c.self.inside.bytes.items) = grind (arith, common_steps) in
+    let within : first_uncovered c.args.at table < length c.self.inside.bytes.items = grind (arith, common_steps) in
+    rw (first, next) (next_unmarked-queue_of_some c.self.inside.bytes.capacity c.self.inside.bytes.items table c.args.at c.self.invariant within ∙ ap (λ q. next_unmarked q c.args.at) c.self.view_is)
 
 pub returns-clause-first : goal.returns-clause-first
 returns-clause-first g c =
-    let q = c.args.self.now in
-    let first : c.args.at + c.count_leading.result ≡ first_unmarked q c.args.at = grind (arith, common_steps, take_rest) in
-    let rest : c.count_leading-2.result ≡ count_leading false (drop (first_unmarked q c.args.at) q.marks) =
-    grind (arith, common_steps, take_rest) in
-    let flags : length q.marks ≡ length q.bytes = grind (arith, common_steps) in
-    let below : first_unmarked q c.args.at < length q.marks = grind (arith, common_steps) in
-    rw (first, rest) (is_next_unmarked q c.args.at flags below)
+    next_unmarked-first c.args.self.now c.args.at (Some (c.first_unmarked-from.result, c.unwrap_or.result)) (subst IsQueue c.self.view_is c.self.invariant.sound) (returns-clause-value g c)
+
+pub returns-clause-none : goal.returns-clause-none
+returns-clause-none g c =
+    next_unmarked-none c.args.self.now c.args.at (Some (c.first_unmarked-from.result, c.unwrap_or.result)) (subst IsQueue c.self.view_is c.self.invariant.sound) (returns-clause-value g c)

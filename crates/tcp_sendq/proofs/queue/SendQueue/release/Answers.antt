@@ -1,20 +1,30 @@
-use Rattle.std.proofs.Common.{◌≡◌, drop, arith}
+use Rattle.std.proofs.Common.{◌≡◌, ◌≤◌, length, drop, arith, ap, ◌∙◌}
 use Rattle.std.proofs.lemmas.Grind.{common_steps}
-use Rattle.tcp_sendq.proofs.Kept.{IsQueue-after_release}
+use Rattle.tcp_sendq.specs.SendQueue.{after_release}
+use Rattle.tcp_sendq.specs.Marks.{moved_down}
+use Rattle.tcp_sendq.proofs.Calls.{released}
 use Rattle.tcp_sendq.proofs.queue.SendQueue.release.Goals as goal
 
 pub invariant_of-self : goal.invariant_of-self
 invariant_of-self g c =
-    let bytes : c.truncate.new.self.items ≡ drop c.args.n c.self.inside.bytes.items = grind (arith, common_steps) in
-    let marks : c.truncate-2.new.self.items ≡ drop c.args.n c.self.inside.marks.items = grind (arith, common_steps) in
-    record {
-      sound = rw (bytes, marks) (IsQueue-after_release c.args.n c.self.invariant.sound);
-      bytes_reserved = grind (arith, common_steps);
-      marks_reserved = grind (arith, common_steps);
-    }
+    let capacity : c.truncate_front.new.self.capacity ≡ c.self.inside.bytes.capacity = grind (arith, common_steps) in
+    let bytes : c.truncate_front.new.self.items ≡ drop c.args.n c.self.inside.bytes.items = grind (arith, common_steps) in
+    let table : c.release.new.self.table.items ≡ moved_down c.args.n c.self.inside.marks.table.items = grind (arith, common_steps) in
+    let within : c.args.n ≤ length c.self.inside.bytes.items = grind (arith, common_steps) in
+    rw (capacity, bytes, table) (released c.args.n within c.self.invariant).kept
+
+pub returns-clause-state : goal.returns-clause-state
+returns-clause-state g c =
+    let capacity : c.truncate_front.new.self.capacity ≡ c.self.inside.bytes.capacity = grind (arith, common_steps) in
+    let bytes : c.truncate_front.new.self.items ≡ drop c.args.n c.self.inside.bytes.items = grind (arith, common_steps) in
+    let table : c.release.new.self.table.items ≡ moved_down c.args.n c.self.inside.marks.table.items = grind (arith, common_steps) in
+    let within : c.args.n ≤ length c.self.inside.bytes.items = grind (arith, common_steps) in
+    rw (capacity, bytes, table) ((released c.args.n within c.self.invariant).state ∙ ap (λ q. after_release q c.args.n) c.self.view_is)
 
 pub returns-clause-sound : goal.returns-clause-sound
 returns-clause-sound g c =
-    let bytes : c.truncate.new.self.items ≡ drop c.args.n c.self.inside.bytes.items = grind (arith, common_steps) in
-    let marks : c.truncate-2.new.self.items ≡ drop c.args.n c.self.inside.marks.items = grind (arith, common_steps) in
-    rw (bytes, marks) (IsQueue-after_release c.args.n c.self.invariant.sound)
+    let capacity : c.truncate_front.new.self.capacity ≡ c.self.inside.bytes.capacity = grind (arith, common_steps) in
+    let bytes : c.truncate_front.new.self.items ≡ drop c.args.n c.self.inside.bytes.items = grind (arith, common_steps) in
+    let table : c.release.new.self.table.items ≡ moved_down c.args.n c.self.inside.marks.table.items = grind (arith, common_steps) in
+    let within : c.args.n ≤ length c.self.inside.bytes.items = grind (arith, common_steps) in
+    rw (capacity, bytes, table) (released c.args.n within c.self.invariant).kept.sound

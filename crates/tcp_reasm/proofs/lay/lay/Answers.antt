@@ -1,0 +1,50 @@
+use Rattle.std.proofs.Common.{◌≡◌, ◌+◌, ◌-◌, ℕ, List, arith, ap, sym, refl, ◌∙◌, length, take, drop}
+use Rattle.std.specs.Prelude.{min}
+use Rattle.tcp_reasm.specs.Reassembly.{Run, stamp_of_run}
+use Rattle.tcp_reasm.specs.Store.{runs_in, ranked, laid, turned, held_to, gap_to}
+use Rattle.tcp_reasm.proofs.Joins.{turn_goes_on}
+use Rattle.std.proofs.lemmas.List.{drop_all}
+use Rattle.tcp_reasm.proofs.Rings.{laid_nothing}
+use Rattle.tcp_reasm.proofs.Turns.{turn_laid, turn_unread}
+use Rattle.tcp_reasm.proofs.lay.lay.Goals as goal
+
+pub loop-next-preserved : goal.loop-next-preserved
+loop-next-preserved c =
+    let all : List Run = runs_in c.args.table.now in
+    let text : List ℕ = c.args.text.now in
+    let place : ℕ = c.args.place in
+    let next : ℕ = c.loop-next.next in
+    let end : ℕ = place + length text in
+    let from : ℕ = c.min-from.result in
+    let to : ℕ = c.gap_to-to.result in
+    let size : to - place - (from - place) ≡ to - from = omega arith in
+    let middle : List ℕ = take (to - place - (from - place)) (drop (from - place) text) in
+    let is_from : from ≡ min (held_to all next) end = c.min-from.ensures ∙ ap (λ n. min n end) c.held_to.ensures.value in
+    let is_middle : middle ≡ take (to - from) (drop (from - place) text) = ap (λ n. take n (drop (from - place) text)) size in
+    record {
+      least = omega arith;
+      most = omega arith;
+      size = omega arith;
+      unread = turn_unread c.args.unread from c.args.start middle c.loop-next.block c.write.new.block c.write.ensures.bytes ∙ c.loop-next.invariant.unread;
+      window =
+          turn_laid all place next from to end c.args.start c.args.unread text middle c.loop-next.block c.write.new.block (omega arith) (omega arith) refl is_from c.gap_to-to.ensures.value is_middle c.write.ensures.bytes
+          ∙ c.loop-next.invariant.window;
+    }
+
+pub loop-next-smaller : goal.loop-next-smaller
+loop-next-smaller c =
+    let all : List Run = runs_in c.args.table.now in
+    let end : ℕ = c.args.place + length c.args.text.now in
+    let from : c.min-from.result ≡ min (held_to all c.loop-next.next) end = c.min-from.ensures ∙ ap (λ n. min n end) c.held_to.ensures.value in
+    let further = turn_goes_on all c.loop-next.next end (omega arith) in
+    let to : c.gap_to-to.result ≡ gap_to all (min (held_to all c.loop-next.next) end) end = c.gap_to-to.ensures.value ∙ ap (λ n. gap_to all n end) from in
+    omega (arith, further, to)
+
+pub returns-clause-window : goal.returns-clause-window
+returns-clause-window c =
+    let stamps = stamp_of_run (ranked (runs_in c.args.table.now)) in
+    let next : ℕ = c.loop-next.next in
+    let bytes : List ℕ = drop c.args.unread (turned c.args.start c.loop-next.block) in
+    sym (laid_nothing stamps 0 next bytes)
+    ∙ ap (λ (rest : List ℕ). laid stamps 0 next rest bytes) (sym (drop_all (next - c.args.place) c.args.text.now (omega arith)))
+    ∙ c.loop-next.invariant.window

@@ -1,0 +1,85 @@
+-- The marked places of a queue as a table of intervals.
+use Rattle.std.specs.Prelude.{ℕ, suc, ◌+◌, ◌-◌, ◌<◌, ◌≤◌, min, max, Bool, false, ◌&&◌, ◌||◌, nat_lt, nat_le, if◌then◌else◌, List, [], ◌∷◌, map, length, slice_get, Option, Some, None}
+use Rattle.std.specs.Option.{option_map}
+use Rattle.std.specs.List.{range_with_len}
+use Rattle.tcp_sendq.specs.SendQueue.{Queue, IsQueue}
+use Rattle.tcp_sendq.specs.declared.marks.Interval.{Interval}
+
+abbrev pub interval : ℕ → ℕ → Interval
+interval start end = record { start = start; end = end }
+
+abbrev pub has_place : Interval → ℕ → Bool
+has_place one place = nat_le one.start place && nat_lt place one.end
+
+-- whether some interval has the place
+abbrev pub covers : List Interval → ℕ → Bool
+covers [] place = false
+covers (one ∷ rest) place = has_place one place || covers rest place
+
+-- the marks that a table gives the first `count` places
+abbrev pub marks_of : List Interval → ℕ → List Bool
+marks_of table count = map (covers table) (range_with_len 0 count)
+
+-- The intervals lie in order between two places, and between any two of them is a place that neither has.
+abbrev pub IsTableFrom : ℕ → ℕ → List Interval → Type 0
+IsTableFrom low high [] = Unit {0}
+IsTableFrom low high (one ∷ rest) = (low ≤ one.start) × (one.start < one.end) × (one.end ≤ high) × IsTableFrom (one.end + 1) high rest
+
+-- a table of marks of the first `count` places
+abbrev pub IsTable : ℕ → List Interval → Type 0
+IsTable count table = IsTableFrom 0 count table
+
+-- ---- what the calls leave
+
+-- without the first n places: what lies behind them moves down
+abbrev pub moved_down : ℕ → List Interval → List Interval
+moved_down n [] = []
+moved_down n (one ∷ rest) =
+    if nat_lt 0 (one.end - n) then interval (one.start - n) (one.end - n) ∷ moved_down n rest else moved_down n rest
+
+-- both intervals as one
+abbrev pub union : Interval → Interval → Interval
+union one other = interval (min one.start other.start) (max one.end other.end)
+
+-- the table with another interval in front, which is joined with those at the front that it overlaps or touches
+abbrev pub joined_front : Interval → List Interval → List Interval
+joined_front one [] = one ∷ []
+joined_front one (next ∷ rest) =
+    if nat_lt one.end next.start then one ∷ next ∷ rest else joined_front (union one next) rest
+
+-- the table with another interval behind those that end before it begins
+abbrev pub joined : Interval → List Interval → List Interval
+joined one [] = one ∷ []
+joined one (next ∷ rest) =
+    if nat_lt next.end one.start then next ∷ joined one rest else joined_front one (next ∷ rest)
+
+-- how many intervals at the front end before the place
+abbrev pub count_before : ℕ → List Interval → ℕ
+count_before place [] = 0
+count_before place (one ∷ rest) = if nat_lt one.end place then suc (count_before place rest) else 0
+
+-- ---- what the calls answer
+
+-- the first place from this one on that no interval has
+abbrev pub first_uncovered : ℕ → List Interval → ℕ
+first_uncovered at [] = at
+first_uncovered at (one ∷ rest) = if has_place one at then one.end else first_uncovered at rest
+
+-- the first start of an interval behind the place
+abbrev pub next_start : ℕ → List Interval → Option ℕ
+next_start from [] = None
+next_start from (one ∷ rest) = if nat_lt from one.start then Some one.start else next_start from rest
+
+-- the end of the last interval
+abbrev pub last_end : List Interval → Option ℕ
+last_end table = option_map (λ one. one.end) (slice_get table (length table - 1))
+
+-- ---- the queue as it is kept
+
+-- a queue whose marks are given by a table
+abbrev pub queue_of : ℕ → List ℕ → List Interval → Queue
+queue_of capacity bytes table = record { capacity = capacity; bytes = bytes; marks = marks_of table (length bytes) }
+
+pub record IsKept (capacity : ℕ) (bytes : List ℕ) (table : List Interval) : Type 0 where
+  pub sound : IsQueue (queue_of capacity bytes table)
+  pub in_order : IsTable (length bytes) table

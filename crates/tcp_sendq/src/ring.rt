@@ -1,0 +1,16 @@
+//! Reading what a ring holds in two slices.
+ghost use Rattle.std.specs.Prelude.{◌≡◌, ◌+◌, ◌≤◌, ◌++◌, length, take, drop};
+
+/// Fills `out` with the bytes from the place `at` on of those in `front`, which go on in `back`.
+#[tactic(auto, using(crate::proofs::Joined::joined, std::proofs::lemmas::List::drop_min, std::proofs::lemmas::List::take_min))]
+pub(crate) fn copy_from(front: &[u8], back: &[u8], at: usize, out: &mut [u8])
+    requires { at + length out.old ≤ length front.now + length back.now }
+    ensures { out.new ≡ take (length out.old) (drop at (front.now ++ back.now)) }
+{
+    let first = &front[at.min(front.len())..];
+    let second = &back[at.saturating_sub(front.len())..];
+    let count = first.len().min(out.len());
+    let rest = out.len() - count;
+    out[..count].copy_from_slice(&first[..count]);
+    out[count..].copy_from_slice(&second[..rest]);
+}
