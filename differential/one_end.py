@@ -149,7 +149,7 @@ def one(rng, note):
         "sack": rng.random() < 0.8,
     }
     end = End(config, note)
-    shift = "-" if config["shift"] is None else config["shift"]
+    shift = "none" if config["shift"] is None else config["shift"]
     lines = [f"new {config['isn']} {config['mss']} {config['send']} {config['recv']} {shift} {int(config['sack'])}"]
     told = []
     if rng.random() < 0.95:

@@ -35,7 +35,7 @@ class Row:
     def __init__(self, name, isn=ISN, own_mss=1460, send=65536, recv=65536, shift=None, sack=True):
         config = {"addr": OWN[0], "port": OWN[1], "isn": isn, "mss": own_mss, "send": send, "recv": recv, "shift": shift, "sack": sack}
         self.end = End(config)
-        settings = f"{isn} {own_mss} {send} {recv} {'-' if shift is None else shift} {int(sack)}"
+        settings = f"{isn} {own_mss} {send} {recv} {'none' if shift is None else shift} {int(sack)}"
         self.lines, self.told = [f"# {name}", f"new {settings}"], []
         self.own, self.peer = (isn + 1) % SPACE, PEER_ISN + 1
 
@@ -278,7 +278,7 @@ def config_rows():
         (63, 65536, 0, 15, 21), (63, 65536, 65536, 15, 23),
     ):
         name = f"# MSS {mss_size}, capacities {send} and {recv}, shift {shift}: {'taken' if refusal is None else 'refused'}"
-        line = f"new 5000 {mss_size} {send} {recv} {'-' if shift is None else shift} 1"
+        line = f"new 5000 {mss_size} {send} {recv} {'none' if shift is None else shift} 1"
         if refusal is None:
             yield [name, line, "emit"], ["none CLOSED not-ended unread 0 released 0 ordered 0"]
         else:

@@ -1,5 +1,5 @@
 //! One end alone, for tests: reads calls and arriving segments, a line each, and tells each answer, each emission and
-//! the phase behind it. A line is `new ISN MSS SEND RECV SHIFT SACK` (a shift of `-` is none, SACK is 0 or 1), which
+//! the phase behind it. A line is `new ISN MSS SEND RECV SHIFT SACK` (a shift of `none` offers none, SACK is 0 or 1), which
 //! begins with another end, or tells why there is none; `connect`, `listen`, `close`, `abort`, `emit`, `timers`; `send HEX`, `receive N`, `timer NAME`;
 //! or `arrive SOURCE DESTINATION HEX`. The end is 10.0.0.2, port 2; it connects to 10.0.0.1, port 1.
 #![tactic(auto)]

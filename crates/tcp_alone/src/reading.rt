@@ -1,27 +1,16 @@
 //! What a line asks for.
 ghost use Rattle.std.specs.Prelude.{◌≡◌, option_map};
 ghost use Rattle.tcp_text.specs.Words.{number_of};
-ghost use Rattle.tcp_alone.specs.Words.{shift_of};
 
 use tcp_conn::Config;
+use tcp_script::read_shift;
 use tcp_text::{SPACE, cut, read_number};
 use tcp_wire::{Addr, Seq};
-
-const NO_SHIFT: &[u8] = b"-";
 
 fn read_seq(word: &[u8]) -> Option<Seq>
     ensures { option_map (λ seq. seq.0) result ≡ number_of 4294967295 word.now }
 {
     Some(Seq(read_number(word, 4_294_967_295)? as u32))
-}
-
-fn read_shift(word: &[u8]) -> Option<Option<u8>>
-    ensures { result ≡ shift_of word.now }
-{
-    if word == NO_SHIFT {
-        return Some(None);
-    }
-    Some(Some(read_number(word, 255)? as u8))
 }
 
 /// The settings behind the initial number and the MSS.

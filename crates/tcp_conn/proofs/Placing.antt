@@ -5,10 +5,7 @@ use Rattle.std.specs.Prelude.{ℤ, Option, None, Bool, true, false, if◌then◌
 use Rattle.tcp_reasm.specs.declared.placed.Placed.TheVariants.{NotKept}
 use Rattle.tcp_reasm.specs.Reassembly.{Cell, Inbox, piece, is_refused, with_overlay, overlay_of, bytes_in_order, answer_for, after_place, place_answer, after_read, without_held, empty_inbox, window}
 use Rattle.tcp_reasm.specs.Agreement.{advance_of}
-
-advance_of-answer_for : (n : ℕ) → advance_of (answer_for n) ≡ n
-advance_of-answer_for zero = refl
-advance_of-answer_for (suc n) = refl
+use Rattle.tcp_reasm.proofs.Agreement.{advance_of-answer_for}
 
 length-placed_by : (refused : Bool) (q : Inbox) (over : List (Option Cell)) → length (if refused then q else with_overlay q over).unread ≡ length q.unread + advance_of (if refused then NotKept else answer_for (length (bytes_in_order over)))
 length-placed_by true q over = omega arith

@@ -8,7 +8,7 @@ use Rattle.tcp_wire.specs.Flags.{fin, syn, rst, psh, ack}
 use Rattle.tcp_wire.specs.Checksum.{AreBytes}
 use Rattle.tcp_wire.specs.Options.{Mss, spellings, block_bytes, IsBlock, AreSpellable}
 use Rattle.tcp_wire.specs.Wire.{Content, IsValid, option_bytes, wire_length}
-use Rattle.tcp_wire.specs.View.{head_length}
+use Rattle.tcp_wire.specs.View.{data_offset}
 use Rattle.tcp_wire.proofs.OptionLaws.{blocks_bytes_length}
 use Rattle.tcp_reasm.specs.Reassembly.{Inbox, blocks}
 use Rattle.tcp_conn.specs.declared.due.Due.{Due}
@@ -51,9 +51,9 @@ length-sack_options (b ∷ bs) =
 pub told_spellable : (s : State) → AreSpellable (sack_options (told_blocks s))
 told_spellable s = sack-spellable (told_blocks s) (told_blocks-few s) (told_blocks-are_blocks s)
 
--- the bytes in front of the text
-pub head_of_told : (s : State) → head_length (sack_options (told_blocks s)) 0 ≡ 20 + sack_length (told_blocks s)
-head_of_told s =
+-- where their text begins
+pub offset_of_told : (s : State) → data_offset (sack_options (told_blocks s)) 0 ≡ 20 + sack_length (told_blocks s)
+offset_of_told s =
     let options = spellings (sack_options (told_blocks s)) in
     omega (arith, length-sack_options (told_blocks s), length-append options (replicate {A = ℕ} 0 0))
 
@@ -73,6 +73,9 @@ flags-fit false false = omega arith
 pub sack_length-fits : (bs : List (ℕ × ℕ)) → length bs ≤ 4 → (sack_length bs ≤ 36)
 sack_length-fits [] few = omega arith
 sack_length-fits (b ∷ bs) few = omega arith
+
+pub told_options_short : (s : State) → sack_length (told_blocks s) ≤ 36
+told_options_short s = sack_length-fits (told_blocks s) (told_blocks-few s)
 
 sack_length-whole : (bs : List (ℕ × ℕ)) → sack_length bs % 4 ≡ 0
 sack_length-whole [] = refl

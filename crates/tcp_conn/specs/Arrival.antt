@@ -88,6 +88,9 @@ after_blocks iss s [] = s
 after_blocks iss s (block ∷ blocks) =
     after_blocks iss (after_block s (position_of iss s.una block.0) (position_of iss s.una block.1)) blocks
 
+abbrev pub after_told_blocks : State → Content → State
+after_told_blocks s v = record s { sending = after_blocks s.config.isn.0 s.sending (blocks_told v.options) }
+
 -- WINDOW UPDATE (3.10.7.4, fifth), then the blocks: not from an acknowledgement that is older than one before
 abbrev pub blocks_used : State → Content → List (ℕ × ℕ)
 blocks_used s v = if s.link.sack then blocks_told v.options else []

@@ -88,9 +88,3 @@ IsWithin s = KeepsWithin s.config.send_capacity s.sending.queue × HoldsWithin s
 
 abbrev pub with_ack_owed : State → State
 with_ack_owed s = record s { owed = record s.owed { ack = true } }
-
-abbrev pub with_sending : State → Sending → State
-with_sending s sending = record s { sending = sending }
-
-abbrev pub with_receiving : State → Receiving → State
-with_receiving s receiving = record s { receiving = receiving }

@@ -1,8 +1,8 @@
 //! What an arrival does (RFC 9293, 3.10.7): each judgement's effect, a method for each rule.
 ghost use Rattle.std.specs.Prelude.{◌≡◌, ◌≤◌, length};
-ghost use Rattle.tcp_wire.specs.View.{content};
+ghost use Rattle.tcp_wire.specs.View.{raw_content};
 ghost use Rattle.tcp_conn.specs.State.{State, IsWithin, with_ack_owed};
-ghost use Rattle.tcp_conn.specs.Arrival.{with_reset, reset_at_ack, reset_of_stray, after_opening, after_acceptance, after_own_syn, after_acked_text, after_news, after_own_fin, after_its_ack, after_its_text, after_fin, after_taking, after_taking_shut, with_ack_owed_unless_closed, after_judgement, arrival_answer, after_arrival};
+ghost use Rattle.tcp_conn.specs.Arrival.{with_reset, reset_at_ack, reset_of_stray, after_opening, after_acceptance, after_own_syn, after_acked_text, after_told_blocks, after_news, after_own_fin, after_its_ack, after_its_text, after_fin, after_taking, after_taking_shut, with_ack_owed_unless_closed, after_judgement, arrival_answer, after_arrival};
 
 use crate::endpoint::Endpoint;
 use crate::judgement::Judgement;
@@ -12,11 +12,11 @@ use crate::options::link_of;
 use crate::outcome::Arrival;
 use crate::phase::{Ending, Phase};
 use std::alloc::Allocator;
-use tcp_wire::{Addr, Segment, Seq, decode};
+use tcp_wire::{Addr, RawSegment, Seq};
 
 /// A reset at the number that a segment acknowledges (RFC 9293, 3.10.7.1).
-fn reset_at_ack(src: Addr, segment: &Segment<'_>) -> WaitingReset
-    ensures { result ≡ reset_at_ack src.0 (content segment.now) }
+fn reset_at_ack(src: Addr, segment: &RawSegment<'_>) -> WaitingReset
+    ensures { result ≡ reset_at_ack src.0 (raw_content segment.now) }
 {
     WaitingReset {
         to: Peer {
@@ -29,9 +29,9 @@ fn reset_at_ack(src: Addr, segment: &Segment<'_>) -> WaitingReset
 }
 
 /// The reset that answers a segment which comes to no connection (RFC 9293, 3.10.7.1).
-fn reset_of_stray(src: Addr, segment: &Segment<'_>) -> WaitingReset
-    requires { length (content segment.now).text ≤ 65495 }
-    ensures { result ≡ reset_of_stray src.0 (content segment.now) }
+fn reset_of_stray(src: Addr, segment: &RawSegment<'_>) -> WaitingReset
+    requires { length (raw_content segment.now).text ≤ 65495 }
+    ensures { result ≡ reset_of_stray src.0 (raw_content segment.now) }
 {
     if segment.flags.is_ack() {
         return reset_at_ack(src, segment);
@@ -54,7 +54,7 @@ impl<A: Allocator> Endpoint<A> {
         ensures state { self.new ≡ after_arrival self.old src.0 dst.0 bytes.now }
         ensures within { IsWithin self.new }
     {
-        let answer = match decode(src, dst, bytes) {
+        let answer = match RawSegment::parse(src, dst, bytes) {
             Ok(segment) => {
                 let judgement = self.judge(src, dst, &segment);
                 self.follow(judgement, src, &segment);
@@ -67,9 +67,10 @@ impl<A: Allocator> Endpoint<A> {
     }
 
     /// What a judgement does.
-    fn follow(&mut self, judgement: Judgement, src: Addr, segment: &Segment<'_>)
-        requires { length (content segment.now).text ≤ 65495 }
-        ensures { self.new ≡ after_judgement judgement self.old src.0 (content segment.now) }
+    fn follow(&mut self, judgement: Judgement, src: Addr, segment: &RawSegment<'_>)
+        requires text { length (raw_content segment.now).text ≤ 65495 }
+        requires area { length segment.now.area.now ≤ 40 }
+        ensures { self.new ≡ after_judgement judgement self.old src.0 (raw_content segment.now) }
     {
         match judgement {
             Judgement::Foreign | Judgement::ResetIgnored | Judgement::NoSyn | Judgement::NoAck => {}
@@ -103,28 +104,34 @@ impl<A: Allocator> Endpoint<A> {
     }
 
     /// The peer opens by a SYN in LISTEN (RFC 9293, 3.10.7.2, third).
+    #[inline(never)]
     #[tactic(auto, unfolding(crate::specs::Arrival::after_opening))]
-    fn open(&mut self, src: Addr, segment: &Segment<'_>)
-        ensures { self.new ≡ after_opening self.old src.0 (content segment.now) }
+    fn open(&mut self, src: Addr, segment: &RawSegment<'_>)
+        requires { length segment.now.area.now ≤ 40 }
+        ensures { self.new ≡ after_opening self.old src.0 (raw_content segment.now) }
     {
         self.phase = Phase::SynReceived;
         self.peer = Peer {
             addr: src,
             port: segment.src_port,
         };
-        self.link = link_of(&self.config, segment.options.as_slice());
+        let options = segment.options();
+        self.link = link_of(&self.config, options.as_slice());
         self.sender.send_syn();
         self.receiver.take_syn(segment.seq);
         self.owed.syn = true;
     }
 
     /// The peer accepts by a SYN with an acknowledgement in SYN-SENT; its window isn't scaled (RFC 9293, 3.10.7.3, fourth).
+    #[inline(never)]
     #[tactic(auto, unfolding(crate::specs::Arrival::after_acceptance))]
-    fn accept(&mut self, segment: &Segment<'_>)
-        ensures { self.new ≡ after_acceptance self.old (content segment.now) }
+    fn accept(&mut self, segment: &RawSegment<'_>)
+        requires { length segment.now.area.now ≤ 40 }
+        ensures { self.new ≡ after_acceptance self.old (raw_content segment.now) }
     {
         self.phase = Phase::Established;
-        self.link = link_of(&self.config, segment.options.as_slice());
+        let options = segment.options();
+        self.link = link_of(&self.config, options.as_slice());
         self.sender
             .take_syn_ack(segment.seq, segment.ack, u32::from(segment.window));
         self.receiver.take_syn(segment.seq);
@@ -134,9 +141,10 @@ impl<A: Allocator> Endpoint<A> {
 
     /// All of a segment is taken (RFC 9293, 3.10.7.4, fifth to eighth).
     #[tactic(auto, unfolding(crate::specs::Arrival::after_taking))]
-    fn take(&mut self, segment: &Segment<'_>)
-        requires { length (content segment.now).text ≤ 65495 }
-        ensures { self.new ≡ after_taking self.old (content segment.now) }
+    fn take(&mut self, segment: &RawSegment<'_>)
+        requires text { length (raw_content segment.now).text ≤ 65495 }
+        requires area { length segment.now.area.now ≤ 40 }
+        ensures { self.new ≡ after_taking self.old (raw_content segment.now) }
     {
         self.take_ack(segment);
         self.take_text(segment);
@@ -145,8 +153,9 @@ impl<A: Allocator> Endpoint<A> {
 
     /// The window is shut: text and FIN are dropped, and an acknowledgement tells where the window stands.
     #[tactic(auto, unfolding(crate::specs::Arrival::after_taking_shut))]
-    fn take_shut(&mut self, segment: &Segment<'_>)
-        ensures { self.new ≡ after_taking_shut self.old (content segment.now) }
+    fn take_shut(&mut self, segment: &RawSegment<'_>)
+        requires { length segment.now.area.now ≤ 40 }
+        ensures { self.new ≡ after_taking_shut self.old (raw_content segment.now) }
     {
         self.take_ack(segment);
         self.owed.ack = self.owed.ack || !self.phase.is_closed();
@@ -154,8 +163,9 @@ impl<A: Allocator> Endpoint<A> {
 
     /// Its acknowledgement, window and blocks (RFC 9293, 3.10.7.4, fifth).
     #[tactic(auto, unfolding(crate::specs::Arrival::after_its_ack))]
-    fn take_ack(&mut self, segment: &Segment<'_>)
-        ensures { self.new ≡ after_its_ack self.old (content segment.now) }
+    fn take_ack(&mut self, segment: &RawSegment<'_>)
+        requires { length segment.now.area.now ≤ 40 }
+        ensures { self.new ≡ after_its_ack self.old (raw_content segment.now) }
     {
         self.take_own_syn(segment);
         self.take_acked_text(segment);
@@ -165,8 +175,8 @@ impl<A: Allocator> Endpoint<A> {
 
     /// The own SYN is acknowledged in SYN-RECEIVED; a waiting close acts (RFC 9293, 3.10.7.4, fifth).
     #[tactic(auto, unfolding(crate::specs::Arrival::after_own_syn))]
-    fn take_own_syn(&mut self, segment: &Segment<'_>)
-        ensures { self.new ≡ after_own_syn self.old (content segment.now) }
+    fn take_own_syn(&mut self, segment: &RawSegment<'_>)
+        ensures { self.new ≡ after_own_syn self.old (raw_content segment.now) }
     {
         if self.phase.is_syn_received() {
             self.phase = if self.closing {
@@ -182,27 +192,39 @@ impl<A: Allocator> Endpoint<A> {
 
     /// Text is acknowledged (RFC 9293, 3.10.7.4, fifth).
     #[tactic(auto, unfolding(crate::specs::Arrival::after_acked_text))]
-    fn take_acked_text(&mut self, segment: &Segment<'_>)
-        ensures { self.new ≡ after_acked_text self.old (content segment.now) }
+    fn take_acked_text(&mut self, segment: &RawSegment<'_>)
+        ensures { self.new ≡ after_acked_text self.old (raw_content segment.now) }
     {
         let ack = self.position_near(segment.ack);
         self.sender.take_ack(ack);
     }
 
     /// Window update, then each block: not from an old acknowledgement (RFC 9293, 3.10.7.4, fifth; RFC 2018, 5).
-    #[tactic(auto, unfolding(crate::specs::Arrival::after_news))]
-    fn take_news(&mut self, segment: &Segment<'_>)
-        ensures { self.new ≡ after_news self.old (content segment.now) }
+    #[tactic(auto, using(tcp_wire::proofs::Reading::no_options), unfolding(crate::specs::Arrival::after_news))]
+    fn take_news(&mut self, segment: &RawSegment<'_>)
+        requires { length segment.now.area.now ≤ 40 }
+        ensures { self.new ≡ after_news self.old (raw_content segment.now) }
     {
         if !self.sender.is_una(self.position_near(segment.ack)) {
             return;
         }
         let window = self.window_from(segment.window);
         self.sender.update_window(segment.seq, segment.ack, window);
-        if self.link.sack {
-            let iss = self.config.isn;
-            self.sender.mark_told(iss, segment.options.as_slice());
+        // Most segments have no options: no list is made for them.
+        if self.link.sack && segment.has_area() {
+            self.take_blocks(segment);
         }
+    }
+
+    /// The blocks of all options (RFC 2018, 5).
+    #[inline(never)]
+    fn take_blocks(&mut self, segment: &RawSegment<'_>)
+        requires { length segment.now.area.now ≤ 40 }
+        ensures { self.new ≡ after_told_blocks self.old (raw_content segment.now) }
+    {
+        let iss = self.config.isn;
+        let options = segment.options();
+        self.sender.mark_told(iss, options.as_slice());
     }
 
     /// The own FIN is acknowledged (RFC 9293, 3.10.7.4, fifth).
@@ -223,9 +245,9 @@ impl<A: Allocator> Endpoint<A> {
 
     /// Its text is placed, where there is any, and an acknowledgement is owed for it (RFC 9293, 3.10.7.4, seventh).
     #[tactic(auto, unfolding(crate::specs::Arrival::after_its_text))]
-    fn take_text(&mut self, segment: &Segment<'_>)
-        requires { length (content segment.now).text ≤ 65495 }
-        ensures { self.new ≡ after_its_text self.old (content segment.now) }
+    fn take_text(&mut self, segment: &RawSegment<'_>)
+        requires { length (raw_content segment.now).text ≤ 65495 }
+        ensures { self.new ≡ after_its_text self.old (raw_content segment.now) }
     {
         if self.phase.takes_text() && !segment.text.is_empty() {
             self.receiver.place(segment.seq, segment.text);
@@ -235,9 +257,9 @@ impl<A: Allocator> Endpoint<A> {
 
     /// The peer's FIN is acknowledged, and taken where its number is the next one (RFC 9293, 3.10.7.4, eighth).
     #[tactic(auto, unfolding(crate::specs::Arrival::after_fin))]
-    fn take_fin(&mut self, segment: &Segment<'_>)
-        requires { length (content segment.now).text ≤ 65495 }
-        ensures { self.new ≡ after_fin self.old (content segment.now) }
+    fn take_fin(&mut self, segment: &RawSegment<'_>)
+        requires { length (raw_content segment.now).text ≤ 65495 }
+        ensures { self.new ≡ after_fin self.old (raw_content segment.now) }
     {
         if !self.phase.takes_text() || !segment.flags.is_fin() {
             return;

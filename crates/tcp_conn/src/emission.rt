@@ -1,7 +1,7 @@
 //! What an end emits (RFC 9293, 3.7, 3.8 and 3.10; RFC 2018, 4).
 ghost use Rattle.std.specs.Prelude.{◌≡◌, ◌<◌, ◌≤◌, ◌+◌, ◌^◌, ◌++◌, length, map, drop, IfSome, Some, option_map};
 ghost use Rattle.tcp_wire.specs.Checksum.{AreBytes};
-ghost use Rattle.tcp_wire.specs.View.{block, option_content, content, with_text, head_length};
+ghost use Rattle.tcp_wire.specs.View.{block, option_content, content, with_text, data_offset};
 ghost use Rattle.tcp_wire.specs.Wire.{wire_length, encoded_bytes, IsValid};
 ghost use Rattle.tcp_conn.specs.State.{State, IsWithin};
 ghost use Rattle.tcp_conn.specs.Inside.{FitsFields};
@@ -13,7 +13,7 @@ use crate::fields::MAX_WINDOW;
 use crate::link::WaitingReset;
 use arrayvec::ArrayVec;
 use std::alloc::Allocator;
-use tcp_wire::{Addr, Flags, Header, Segment, Seq, TcpOption, encode, header_len, write_around};
+use tcp_wire::{Addr, Flags, Header, Segment, Seq, TcpOption, data_offset, encode, write_around};
 
 /// The bytes that `emit` asks room for: more than the longest segment that an end writes.
 pub const EMIT_ROOM: usize = 1520;
@@ -273,6 +273,7 @@ impl<A: Allocator> Endpoint<A> {
     }
 
     /// Writes the own SYN into the front of `out`, and answers its length.
+    #[inline(never)]
     #[tactic(auto, using(crate::proofs::Segments::length_syn_segment))]
     fn write_syn(&self, out: &mut [u8]) -> usize
         requires { EMIT_ROOM ≤ length out.old }
@@ -285,16 +286,14 @@ impl<A: Allocator> Endpoint<A> {
         encode(&segment, self.config.addr, self.peer.addr, out)
     }
 
-    /// Where the text of such a segment stands: behind the fixed header and these options.
-    #[tactic(auto, using(crate::proofs::Segments::told_spellable, crate::proofs::Segments::head_of_told, crate::proofs::Segments::plain_segment_due, crate::proofs::Segments::plain_segment_short))]
-    fn text_start(&self, due: Due, options: &[TcpOption<'_>]) -> usize
-        requires lies { Lies self.now.sending 1460 due }
-        requires options { map option_content options.now ≡ sack_options (told_blocks self.now) }
-        ensures behind { result ≡ head_length (sack_options (told_blocks self.now)) 0 }
-        ensures short { result + count_of due ≤ EMIT_ROOM }
+    /// Where the text of such a segment begins, behind the options that tell blocks (RFC 9293, 3.1, Data Offset).
+    #[tactic(auto, using(crate::proofs::Segments::told_spellable, crate::proofs::Segments::offset_of_told, crate::proofs::Segments::told_options_short))]
+    fn text_start(&self, options: &[TcpOption<'_>]) -> usize
+        requires { map option_content options.now ≡ sack_options (told_blocks self.now) }
+        ensures offset { result ≡ data_offset (sack_options (told_blocks self.now)) 0 }
+        ensures most { result ≤ 60 }
     {
-        let _ = due;
-        header_len(options, 0)
+        data_offset(options, 0)
     }
 
     /// Writes a segment with text and these options into the front of `out`, and answers its length. The text goes from the
@@ -309,10 +308,24 @@ impl<A: Allocator> Endpoint<A> {
     {
         self.fits_fields();
         let header = self.plain_header(due, options);
-        let start = self.text_start(due, options);
+        let start = self.text_start(options);
         let count = due.count();
         self.sender.copy(due, &mut out[start..start + count]);
         write_around(&header, count, self.config.addr, self.peer.addr, out)
+    }
+
+    /// Writes a segment with text and the options that tell these blocks.
+    #[inline(never)]
+    fn write_blocks(&self, due: Due, blocks: ArrayVec<(Seq, Seq), 4>, out: &mut [u8]) -> usize
+        requires lies { Lies self.now.sending 1460 due }
+        requires blocks { map block blocks.items ≡ told_blocks self.now }
+        requires room { EMIT_ROOM ≤ length out.old }
+        ensures len { result ≡ wire_length (plain_segment self.now due) }
+        ensures most { result ≤ EMIT_ROOM }
+        ensures bytes { out.new ≡ encoded_bytes self.now.config.addr.0 self.now.peer.addr.0 (plain_segment self.now due) ++ drop result out.old }
+    {
+        let options = sack_options(blocks);
+        self.write_text(due, options.as_slice(), out)
     }
 
     /// Writes a segment with text into the front of `out`, and answers its length. Where no block is told, no list of
@@ -328,8 +341,19 @@ impl<A: Allocator> Endpoint<A> {
         if blocks.is_empty() {
             return self.write_text(due, &[], out);
         }
-        let options = sack_options(blocks);
-        self.write_text(due, options.as_slice(), out)
+        self.write_blocks(due, blocks, out)
+    }
+
+    /// Writes a waiting reset into the front of `out`, and answers its length.
+    #[inline(never)]
+    fn write_reset(&self, reset: WaitingReset, out: &mut [u8]) -> usize
+        requires { EMIT_ROOM ≤ length out.old }
+        ensures len { result ≡ wire_length (reset_segment self.now reset) }
+        ensures most { result ≤ EMIT_ROOM }
+        ensures bytes { out.new ≡ encoded_bytes self.now.config.addr.0 reset.to.addr.0 (reset_segment self.now reset) ++ drop result out.old }
+    {
+        let segment = self.reset_segment(reset);
+        encode(&segment, self.config.addr, reset.to.addr, out)
     }
 
     /// Writes what is due into the front of `out`, and answers its length.
@@ -342,10 +366,7 @@ impl<A: Allocator> Endpoint<A> {
         ensures bytes { out.new ≡ bytes_of self.now due ++ drop result out.old }
     {
         match due {
-            Due::Reset(reset) => {
-                let segment = self.reset_segment(reset);
-                encode(&segment, self.config.addr, reset.to.addr, out)
-            }
+            Due::Reset(reset) => self.write_reset(reset, out),
             Due::Syn => self.write_syn(out),
             Due::Resend(..)
             | Due::NewText(..)

@@ -77,7 +77,7 @@ with_overlay-advances q over rest h =
 unchanged-advances : (q : Inbox) (rest : List ℕ) → Agrees q.held rest → Advances q q rest 0
 unchanged-advances q rest h = record { within = omega arith; unread = sym (append-nil q.unread); held = h; capacity = refl }
 
-advance_of-answer_for : (n : ℕ) → advance_of (answer_for n) ≡ n
+pub advance_of-answer_for : (n : ℕ) → advance_of (answer_for n) ≡ n
 advance_of-answer_for zero = refl
 advance_of-answer_for (suc n) = refl
 

@@ -29,7 +29,7 @@ pub record Described (stamps : ℕ → ℕ) (size : ℕ) (all : List Run) : Type
 
 -- ---- places by stamps and bytes
 
-stamp_cell_of : (s byte : ℕ) → stamp_at (cell_of s byte) ≡ s
+pub stamp_cell_of : (s byte : ℕ) → stamp_at (cell_of s byte) ≡ s
 stamp_cell_of zero byte = refl
 stamp_cell_of (suc n) byte = refl
 
@@ -80,7 +80,7 @@ beside i from to first end some (inl before) (inr at) low high = omega arith
 beside i from to first end some (inr behind) (inl at) low high = omega arith
 beside i from to first end some (inr behind) (inr at) low high = omega arith
 
-away_swap : (a b : Run) → Away a b → Away b a
+pub away_swap : (a b : Run) → Away a b → Away b a
 away_swap a b (inl h) = inr h
 away_swap a b (inr h) = inl h
 
@@ -191,7 +191,7 @@ described_count stamps bytes all d = sym (length_newest (runs (cells stamps 0 by
 within_yes : (i from to : ℕ) → from ≤ i → i < to → (nat_le from i && nat_lt i to) ≡ true
 within_yes i from to low high = grind (arith, nat_tests)
 
-within_tells : (i from to : ℕ) → (nat_le from i && nat_lt i to) ≡ true → (from ≤ i) × (i < to)
+pub within_tells : (i from to : ℕ) → (nat_le from i && nat_lt i to) ≡ true → (from ≤ i) × (i < to)
 within_tells i from to e = (grind (arith, nat_tests), grind (arith, nat_tests))
 
 pub stamp_first : (run : Run) (others : List Run) (i : ℕ) → run.from ≤ i → i < run.to → stamp_of_run (run ∷ others) i ≡ run.stamp

@@ -9,7 +9,7 @@ use Rattle.tcp_reasm.specs.Reassembly.{Run, is_within, stamp_of_run}
 use Rattle.tcp_reasm.specs.Laws.{SomeCovers}
 use Rattle.tcp_reasm.specs.Store.{ranked, IsInside, Away, AreAway, touches, rest_of, joined, union_of, moved, held_to, gap_before, gap_to}
 use Rattle.tcp_reasm.proofs.Sorting.{Among, FallsFrom, all_among}
-use Rattle.tcp_reasm.proofs.Described.{Described, Lies, Top, stamp_first, stamp_or, stamp_covers, stamp_all, ranked_above}
+use Rattle.tcp_reasm.proofs.Described.{Described, Lies, Top, away_swap, within_tells, stamp_first, stamp_or, stamp_covers, stamp_all, ranked_above}
 
 -- ---- all of some runs
 
@@ -65,10 +65,6 @@ untouched piece run e =
       | inl h ↦ inl h
       | inr h ↦ elim (cases_lt piece.to run.from) [ inl k ↦ inr k | inr k ↦ absurd (no_touch piece run e h k) ]
     ]
-
-away_swap : (a b : Run) → Away a b → Away b a
-away_swap a b (inl h) = inr h
-away_swap a b (inr h) = inl h
 
 -- no place lies in two
 away_place : (a b : Run) (i : ℕ) → Away a b → a.from ≤ i → i < a.to → b.from ≤ i → i < b.to → ⊥
@@ -476,9 +472,6 @@ length_rest start end n m all =
 
 -- ---- stretches of a text
 
-within_tells : (place : ℕ) (run : Run) → is_within place run ≡ true → (run.from ≤ place) × (place < run.to)
-within_tells place run e = (grind (arith, nat_tests), grind (arith, nat_tests))
-
 within_not : (place : ℕ) (run : Run) → is_within place run ≡ false → run.from ≤ place → place < run.to → ⊥
 within_not place run e low high = grind (arith, nat_tests)
 
@@ -486,7 +479,7 @@ pub held_to_least : (all : List Run) (place : ℕ) → place ≤ held_to all pla
 held_to_least [] place = omega arith
 held_to_least (run ∷ others) place =
     (elim (is_within place run) as (λ b. is_within place run ≡ b → place ≤ (if b then run.to else held_to others place)) [
-      | true ↦ λ e. let h = within_tells place run e in omega (arith, h.1)
+      | true ↦ λ e. let h = within_tells place run.from run.to e in omega (arith, h.1)
       | false ↦ λ e. held_to_least others place
     ]) refl
 
@@ -494,7 +487,7 @@ pub held_to_held : (all : List Run) (place i : ℕ) → place ≤ i → i < held
 held_to_held [] place i low high = absurd (omega arith)
 held_to_held (run ∷ others) place i low high =
     (elim (is_within place run) as (λ b. is_within place run ≡ b → i < (if b then run.to else held_to others place) → SomeCovers (run ∷ others) i) [
-      | true ↦ λ e h. let is = within_tells place run e in inl (omega (arith, is.0), h)
+      | true ↦ λ e h. let is = within_tells place run.from run.to e in inl (omega (arith, is.0), h)
       | false ↦ λ e h. inr (held_to_held others place i low h)
     ]) refl high
 
@@ -502,7 +495,7 @@ pub held_to_none : (all : List Run) (place : ℕ) → held_to all place ≡ plac
 held_to_none [] place same c = c
 held_to_none (run ∷ others) place same c =
     (elim (is_within place run) as (λ b. is_within place run ≡ b → (if b then run.to else held_to others place) ≡ place → ⊥) [
-      | true ↦ λ e s. let is = within_tells place run e in omega (arith, is.1)
+      | true ↦ λ e s. let is = within_tells place run.from run.to e in omega (arith, is.1)
       | false ↦ λ e s. elim c [ inl h ↦ within_not place run e h.0 h.1 | inr d ↦ held_to_none others place s d ]
     ]) refl same
 

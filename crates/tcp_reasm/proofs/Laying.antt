@@ -5,7 +5,7 @@ use Rattle.std.specs.List.{AllByRecursion}
 use Rattle.tcp_reasm.specs.Reassembly.{Cell, Run, first_byte, overlay, stamp_at, greatest_stamp, bytes_in_order, stamp_of_run}
 use Rattle.tcp_reasm.specs.Laws.{SomeCovers, cell_at}
 use Rattle.tcp_reasm.specs.Store.{ranked, cell_of, cells, IsInside, fresh_byte, laid}
-use Rattle.tcp_reasm.proofs.Described.{stamp_first, stamp_or, stamp_none}
+use Rattle.tcp_reasm.proofs.Described.{stamp_cell_of, stamp_first, stamp_or, stamp_none}
 use Rattle.tcp_reasm.proofs.Joins.{piece_of, inside_ranked}
 
 pub length_cells : (stamps : ℕ → ℕ) (place : ℕ) (bytes : List ℕ) → length (cells stamps place bytes) ≡ length bytes
@@ -101,19 +101,15 @@ none_in_order stamps bytes none = in_order_cells stamps 0 bytes (omega arith) (�
 
 -- ---- the greatest stamp
 
-stamp_cell : (stamp byte : ℕ) → stamp_at (cell_of stamp byte) ≡ stamp
-stamp_cell zero byte = refl
-stamp_cell (suc n) byte = refl
-
 greatest_most : (stamps : ℕ → ℕ) (most place : ℕ) (bytes : List ℕ) → ((i : ℕ) → stamps i ≤ most) → greatest_stamp (cells stamps place bytes) ≤ most
 greatest_most stamps most place [] h = omega arith
 greatest_most stamps most place (byte ∷ bytes) h =
-    omega (arith, stamp_cell (stamps place) byte, h place, greatest_most stamps most (suc place) bytes h)
+    omega (arith, stamp_cell_of (stamps place) byte, h place, greatest_most stamps most (suc place) bytes h)
 
 greatest_least : (stamps : ℕ → ℕ) (place i at : ℕ) (bytes : List ℕ) → place + i ≡ at → i < length bytes → stamps at ≤ greatest_stamp (cells stamps place bytes)
 greatest_least stamps place i at [] e h = absurd (omega arith)
 greatest_least stamps place zero at (byte ∷ bytes) e h =
-    let same : place ≡ at = omega arith in omega (arith, stamp_cell (stamps place) byte, ap stamps same)
+    let same : place ≡ at = omega arith in omega (arith, stamp_cell_of (stamps place) byte, ap stamps same)
 greatest_least stamps place (suc i) at (byte ∷ bytes) e h = omega (arith, greatest_least stamps (suc place) i at bytes (omega arith) (omega arith))
 
 ranked_most : (all : List Run) (i : ℕ) → stamp_of_run (ranked all) i ≤ length all

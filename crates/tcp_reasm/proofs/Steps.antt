@@ -10,9 +10,6 @@ use Rattle.tcp_reasm.specs.Store.{run_of, runs_in, touches, joined, union_of, re
 pub runs_drop : (table : List Entry) (i : ℕ) (d : Entry) → i < length table → drop i (runs_in table) ≡ run_of (get_or table i d) ∷ drop (i + 1) (runs_in table)
 runs_drop table i d h = drop-map run_of i table ∙ ap runs_in (drop_more table i d h) ∙ ap (λ rest. run_of (get_or table i d) ∷ rest) (sym (drop-map run_of (i + 1) table))
 
-pub runs_end : (table : List Entry) (i : ℕ) → length table ≤ i → drop i (runs_in table) ≡ []
-runs_end table i h = drop-map run_of i table ∙ ap runs_in (drop_all i table h)
-
 -- a union
 pub union_touched : (table : List Entry) (i : ℕ) (d : Entry) (union piece : Run) → i < length table → touches piece (run_of (get_or table i d)) ≡ true →
     union_of union piece (drop i (runs_in table)) ≡ union_of (joined union (run_of (get_or table i d))) piece (drop (i + 1) (runs_in table))

@@ -1,4 +1,4 @@
--- How the store is seen, and what always holds of it.
+-- How the store is seen (RFC 9293, 3.10.7.4; RFC 2018, 4), what always holds of it, and what the private steps do.
 use Rattle.std.specs.Prelude.{ℕ, zero, suc, min, max, ◌-◌, ◌<◌, ◌≤◌, ◌⊎◌, Bool, List, [], ◌∷◌, ◌++◌, length, map, take, drop, Option, Some, None, nat_lt, nat_le, ◌&&◌, if◌then◌else◌}
 use Rattle.std.specs.List.{AllByRecursion}
 use Rattle.tcp_reasm.specs.declared.table.Run.{Run as Entry}

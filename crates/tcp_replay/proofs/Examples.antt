@@ -21,10 +21,10 @@ use Rattle.tcp_replay.specs.declared.event.Side.TheVariants.{A, B}
 use Rattle.tcp_replay.specs.Events.{EventContent, Connect, Listen, Send, Receive, Close, Timer, Emit, Deliver}
 use Rattle.tcp_replay.specs.World.{WorldState, new_world, party_after_connect, party_after_listen, party_after_send, party_after_receive, party_after_close, party_after_timer, party_after_emission, party_after_arrival, effect_of, world_behind_all, stop_of}
 
-a : Config
+unfoldable pub a : Config
 a = record { addr = record { 0 = 10 ∷ 0 ∷ 0 ∷ 1 ∷ [] }; port = 1; isn = record { 0 = 1000 }; mss = 1460; send_capacity = 40; recv_capacity = 40; window_shift = None; sack = true }
 
-b : Config
+unfoldable pub b : Config
 b = record { addr = record { 0 = 10 ∷ 0 ∷ 0 ∷ 2 ∷ [] }; port = 2; isn = record { 0 = 5000 }; mss = 1460; send_capacity = 40; recv_capacity = 40; window_shift = None; sack = true }
 
 handshake : List EventContent

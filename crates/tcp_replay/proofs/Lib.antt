@@ -21,4 +21,4 @@ pub mod HintEvents
 pub mod HintWorlds
 pub mod Runs
 pub mod Sounds
-mod Examples
+pub mod Examples

@@ -1,11 +1,10 @@
 -- The report of a short script computed on its definition, the numbers left as `decimal` writes them: two ends are opened, and a
 -- SYN is sent and taken.
 use Rattle.std.proofs.Common.{◌≡◌, ℕ, [], ◌∷◌, ◌++◌, List, length, refl}
-use Rattle.std.specs.Prelude.{true, None, codes, decimal}
+use Rattle.std.specs.Prelude.{true, codes, decimal}
 use Rattle.tcp_wire.specs.Position.{position_of, offset}
 use Rattle.tcp_wire.specs.Wire.{encoded_bytes}
 use Rattle.tcp_wire.specs.Decoded.{decode_answer, layout_of, options_in, option_at, padding_at}
-use Rattle.tcp_conn.specs.declared.config.Config.{Config}
 use Rattle.tcp_conn.specs.Acceptable.{is_acceptable}
 use Rattle.tcp_conn.specs.Link.{link_of}
 use Rattle.tcp_conn.specs.Sender.{after_ack, after_window_update, after_block}
@@ -16,6 +15,7 @@ use Rattle.tcp_conn.specs.Arrival.{after_opening, after_acceptance, after_own_sy
 use Rattle.tcp_conn.specs.Emission.{resend_of, new_text_of, due_of, segment_of, bytes_of, emitted_bytes, after_emission}
 use Rattle.tcp_replay.specs.declared.event.Side.TheVariants.{A, B}
 use Rattle.tcp_replay.specs.Events.{Connect, Listen, Emit, Deliver}
+use Rattle.tcp_replay.proofs.Examples.{a, b}
 use Rattle.tcp_replay.specs.World.{new_world, party_after_connect, party_after_listen, party_after_send, party_after_receive, party_after_close, party_after_timer, party_after_emission, party_after_arrival, effect_of, world_behind_all}
 use Rattle.tcp_text.specs.Texts.{flags_text, blocks_text}
 use Rattle.tcp_text.specs.Segments.{summary_text}
@@ -23,12 +23,6 @@ use Rattle.tcp_script.specs.Script.{ScriptContent}
 use Rattle.tcp_report.specs.Events.{event_text}
 use Rattle.tcp_report.specs.Outcomes.{outcome_text}
 use Rattle.tcp_report.specs.Report.{event_line, event_lines, is_well, counts_text, end_line, report_text, report_is_well}
-
-a : Config
-a = record { addr = record { 0 = 10 ∷ 0 ∷ 0 ∷ 1 ∷ [] }; port = 1; isn = record { 0 = 1000 }; mss = 1460; send_capacity = 40; recv_capacity = 40; window_shift = None; sack = true }
-
-b : Config
-b = record { addr = record { 0 = 10 ∷ 0 ∷ 0 ∷ 2 ∷ [] }; port = 2; isn = record { 0 = 5000 }; mss = 1460; send_capacity = 40; recv_capacity = 40; window_shift = None; sack = true }
 
 script : ScriptContent
 script = record { a = a; b = b; events = Listen B ∷ Connect A ∷ Emit A ∷ Deliver A 0 ∷ [] }

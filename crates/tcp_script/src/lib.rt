@@ -11,6 +11,7 @@ mod statement;
 pub use error::ScriptError;
 pub use names::{read_timer, side_name, timer_name};
 pub use script::{Script, read_script, read_script_bytes};
+pub use settings::read_shift;
 
 #[cfg(test)]
 mod tests;

@@ -35,8 +35,8 @@ pub(crate) enum Setting {
     Sack(bool),
 }
 
-/// A shift, or that none is offered.
-fn read_shift(value: &[u8]) -> Option<Option<u8>>
+/// The shift that a word says, or that none is offered (RFC 7323, 2.2).
+pub fn read_shift(value: &[u8]) -> Option<Option<u8>>
     ensures { result ≡ shift_of value.now }
 {
     if value == NONE {

@@ -292,15 +292,15 @@ flag_after-unmarked false zero some = refl
 flag_after-unmarked before (suc zero) some = refl
 flag_after-unmarked before (suc (suc n)) some = flag_after-unmarked false (suc n) (λ h. omega arith)
 
-runs_from : (before : Bool) (from low high : ℕ) (table : List Interval) → from ≤ low → (before ≡ true → from < low) → IsTableFrom low high table
+count_runs_from : (before : Bool) (from low high : ℕ) (table : List Interval) → from ≤ low → (before ≡ true → from < low) → IsTableFrom low high table
     → count_runs before (map (covers table) (range_with_len from (high - from))) ≡ length table
-runs_from before from low high [] early apart h =
+count_runs_from before from low high [] early apart h =
     ap (count_runs before) (map-range_with_len-flag false from (high - from)) ∙ count_runs-unmarked before (high - from)
-runs_from before from low high (one ∷ rest) early apart h =
+count_runs_from before from low high (one ∷ rest) early apart h =
     let gap : List Bool = replicate (one.start - from) false in
     let own : List Bool = replicate (one.end - one.start) true in
     let behind : List Bool = map (covers rest) (range_with_len one.end (high - one.end)) in
-    let later : count_runs true behind ≡ length rest = runs_from true one.end (one.end + 1) high rest (omega arith) (λ _. omega arith) h.3 in
+    let later : count_runs true behind ≡ length rest = count_runs_from true one.end (one.end + 1) high rest (omega arith) (λ _. omega arith) h.3 in
     let unmarked : flag_after before gap ≡ false = flag_after-unmarked before (one.start - from) (λ holds. omega (arith, h.0, apart holds)) in
     let marked : flag_after before (gap ++ own) ≡ true =
     flag_after-append before gap own ∙ flag_after-marked (flag_after before gap) (one.end - one.start) (omega (arith, h.1)) in
@@ -316,4 +316,4 @@ pub count_runs-marks_of : (table : List Interval) (count : ℕ) → IsTable coun
 count_runs-marks_of table count h =
     let all : count ≡ count - 0 = omega arith in
     ap (λ n. count_runs false (map (covers table) (range_with_len 0 n))) all
-    ∙ runs_from false 0 0 count table (omega arith) (λ impossible. absurd (false≢true impossible)) h
+    ∙ count_runs_from false 0 0 count table (omega arith) (λ impossible. absurd (false≢true impossible)) h

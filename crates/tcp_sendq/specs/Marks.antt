@@ -1,4 +1,4 @@
--- The marked places of a queue as a table of intervals.
+-- The marked places of a queue (RFC 2018, 5) as a table of intervals: its view, and what the private calls on the table do.
 use Rattle.std.specs.Prelude.{ℕ, suc, ◌+◌, ◌-◌, ◌<◌, ◌≤◌, min, max, Bool, false, ◌&&◌, ◌||◌, nat_lt, nat_le, if◌then◌else◌, List, [], ◌∷◌, map, length, slice_get, Option, Some, None}
 use Rattle.std.specs.Option.{option_map}
 use Rattle.std.specs.List.{range_with_len}

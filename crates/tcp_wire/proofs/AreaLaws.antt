@@ -199,7 +199,7 @@ options_few [] = omega arith
 options_few (o ∷ os) = omega (arith, options_few os, spelling_length o, length-append (spelling o) (spellings os))
 
 -- where no option stands in front, the rest is padding or a fault
-options_in_none : (n place : ℕ) (rest : List ℕ) → option_at rest ≡ None → options_in n place rest ≡ padding_at place rest
+pub options_in_none : (n place : ℕ) (rest : List ℕ) → option_at rest ≡ None → options_in n place rest ≡ padding_at place rest
 unfolding options_in
 options_in_none zero place rest none = refl
 options_in_none (suc n) place rest none = rw none refl

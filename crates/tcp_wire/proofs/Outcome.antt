@@ -64,6 +64,7 @@ pub text_fits : (src dst : List ℕ) (v : Content) (bytes : List ℕ) → IsWire
 text_fits src dst v bytes w =
     omega (arith, w.least, w.most, ap length w.behind, length-append (option_bytes v) v.text, length-drop 20 bytes)
 
-pub short_of : (src dst bytes : List ℕ) (r : Result Segment DecodeError) → AreBytes bytes → Computes (decode_answer src dst bytes) r → IfOk r (λ s. length s.text.now ≤ max_text_len)
-short_of src dst bytes (Ok s) fits read = text_fits src dst (content s) bytes (subst (Explains src dst bytes) read (explained src dst bytes fits))
-short_of src dst bytes (Err e) fits read = tt
+pub short_of : {A : Type 0} (says : A → Content) (src dst bytes : List ℕ) (r : Result A DecodeError) → AreBytes bytes
+    → MatchResult r (λ s. decode_answer src dst bytes ≡ Ok (says s)) (λ e. decode_answer src dst bytes ≡ Err e) → IfOk r (λ s. length (says s).text ≤ max_text_len)
+short_of says src dst bytes (Ok s) fits read = text_fits src dst (says s) bytes (subst (Explains src dst bytes) read (explained src dst bytes fits))
+short_of says src dst bytes (Err e) fits read = tt

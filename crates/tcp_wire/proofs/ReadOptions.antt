@@ -1,13 +1,13 @@
 -- Options, read one behind the other.
-use Rattle.std.proofs.Common.{◌≡◌, ℕ, suc, ◌+◌, ◌-◌, ◌≤◌, List, [], ◌∷◌, ◌++◌, length, map, Some, None, Ok, Err, sym, ap, subst, ◌∙◌, add-zero, arith}
+use Rattle.std.proofs.Common.{◌≡◌, ℕ, suc, ◌+◌, ◌-◌, ◌≤◌, List, [], ◌∷◌, ◌++◌, length, map, Option, Some, None, Result, Ok, Err, MatchResult, refl, sym, ap, subst, ◌∙◌, add-zero, arith}
 use Rattle.std.proofs.lemmas.List.{map_push, length-append}
 use Rattle.tcp_wire.specs.declared.fault.DecodeError.{DecodeError}
 use Rattle.tcp_wire.specs.declared.option.TcpOption.{TcpOption}
 use Rattle.tcp_wire.specs.Options.{OptionContent, spelling, spellings}
-use Rattle.tcp_wire.specs.Decoded.{option_at, padding_at, options_in}
-use Rattle.tcp_wire.specs.View.{option_content, BodyIs, BodiesLie}
+use Rattle.tcp_wire.specs.Decoded.{with_option, option_at, padding_at, with_first, options_in}
+use Rattle.tcp_wire.specs.View.{option_content, listed_or_none, BodyIs, BodiesLie}
 use Rattle.tcp_wire.proofs.OptionLaws.{option_length, spelling_length, spellings_push}
-use Rattle.tcp_wire.proofs.AreaLaws.{with_all, with_all-nil, options_more, options_end, options_padded, options_failed}
+use Rattle.tcp_wire.proofs.AreaLaws.{with_all, with_all-nil, options_in_none, options_more, options_end, options_padded, options_failed}
 
 -- what was read and what is still to be read give the whole, and there is room for an option a byte
 abbrev pub OptionsRead : List TcpOption → List ℕ → List ℕ → Type 0
@@ -91,3 +91,29 @@ pub read_up_to_start : (start : ℕ × ℕ) (options : List TcpOption) → optio
 read_up_to_start start options none =
     let place : start.1 ≡ start.1 + length (spellings (map option_content options)) = omega (arith, ap (λ (os : List TcpOption). length (spellings (map option_content os))) none) in
     (subst (λ (os : List TcpOption). BodiesLie start os) (sym none) tt, ap (λ (n : ℕ). (start.0, n)) place)
+
+-- ---- the same without a list
+
+pub checked_none : (at : ℕ) (bytes : List ℕ) → options_in 0 at bytes ≡ padding_at at bytes
+unfolding options_in
+checked_none at bytes = refl
+
+pub checked_end : (n at : ℕ) (bytes : List ℕ) → option_at bytes ≡ None → options_in n at bytes ≡ padding_at at bytes
+checked_end n at bytes none = options_in_none n at bytes none
+
+pub checked_more : (n at : ℕ) (bytes behind : List ℕ) (o : OptionContent) → 1 ≤ n → option_at bytes ≡ Some (o, behind)
+    → options_in n at bytes ≡ with_first o (options_in (n - 1) (at + (length bytes - length behind)) behind)
+unfolding options_in
+checked_more n at bytes behind o some found =
+    let count : n ≡ suc (n - 1) = omega arith in
+    let len = option_length bytes o behind found in
+    let place : at + length (spelling o) ≡ at + (length bytes - length behind) = omega (arith, len) in
+    ap (λ (k : ℕ). options_in k at bytes) count
+    ∙ ap (λ (r : Option (OptionContent × List ℕ)). with_option r (padding_at at bytes) (λ x. with_first x.0 (options_in (n - 1) (at + length (spelling x.0)) x.1))) found
+    ∙ ap (λ (p : ℕ). with_first o (options_in (n - 1) p behind)) place
+
+pub checked_first : {A : Type 0} (r : Result A DecodeError) (o : OptionContent) (inner outer : Result (List OptionContent × ℕ) DecodeError) → outer ≡ with_first o inner
+    → MatchResult r (λ u. inner ≡ Ok (listed_or_none inner)) (λ e. inner ≡ Err e) → MatchResult r (λ u. outer ≡ Ok (listed_or_none outer)) (λ e. outer ≡ Err e)
+checked_first (Ok u) o (Ok listed) outer is inside = is ∙ sym (ap (λ (r : Result (List OptionContent × ℕ) DecodeError). Ok (listed_or_none r)) is)
+checked_first (Ok u) o (Err e) outer is inside = absurd cc
+checked_first (Err e) o inner outer is fails = is ∙ ap (with_first o) fails

@@ -151,13 +151,10 @@ layout_of_by_offset bytes has =
     let past : ltb (length bytes) (4 * data_offset bytes) ≡ false = le-ltb _ _ has.1 in
     rw (small, past) refl
 
--- an offset of five words leaves no room for options
-pub plain_layout : (bytes : List ℕ) → 20 ≤ length bytes → data_offset bytes ≡ 5 → layout_of bytes ≡ Ok (content_at bytes [] 0)
+-- no byte behind the fixed header is no option and no zero
+pub no_options : options_in 40 20 [] ≡ Ok ([], 0)
 unfolding options_in option_at padding_at
-plain_layout bytes long five =
-    let has : HasOffset bytes = (omega arith, omega arith) in
-    let none : option_area bytes ≡ [] = ap (λ (words : ℕ). take (4 * words - 20) (drop 20 bytes)) five in
-    layout_of_by_offset bytes has ∙ ap (λ (area : List ℕ). with_options bytes (options_in 40 20 area)) none
+no_options = refl
 
 pub complete : (src dst : List ℕ) (v : Content) (bytes : List ℕ) → IsWire src dst v bytes → decode_answer src dst bytes ≡ Ok v
 complete src dst v bytes w =

@@ -1,12 +1,15 @@
 -- What a segment of the code says (RFC 9293, 3.1).
-use Rattle.std.specs.Prelude.{◌≡◌, ℕ, ◌+◌, List, [], ◌∷◌, ◌++◌, length, map, take, drop, replicate}
+use Rattle.std.specs.Prelude.{◌≡◌, ℕ, ◌+◌, List, [], ◌∷◌, ◌++◌, length, map, take, drop, replicate, Result, Ok, Err}
 use Rattle.tcp_wire.specs.declared.seq.Seq.{Seq}
 use Rattle.tcp_wire.specs.declared.option.TcpOption.{TcpOption}
 use Rattle.tcp_wire.specs.declared.option.TcpOption.TheVariants as code
 use Rattle.tcp_wire.specs.declared.segment.Segment.{Segment}
 use Rattle.tcp_wire.specs.declared.header.Header.{Header}
+use Rattle.tcp_wire.specs.declared.raw.RawSegment.{RawSegment}
+use Rattle.tcp_wire.specs.declared.fault.DecodeError.{DecodeError}
 use Rattle.tcp_wire.specs.Options.{OptionContent, Nop, Mss, WindowScale, SackPermitted, Sack, Unknown, spelling, spellings}
 use Rattle.tcp_wire.specs.Wire.{Content, header_len}
+use Rattle.tcp_wire.specs.Decoded.{options_in}
 
 -- a block as its two numbers
 abbrev pub block : Seq × Seq → ℕ × ℕ
@@ -35,6 +38,30 @@ content segment = record {
   text = segment.text.now;
 }
 
+-- the options in an area behind the fixed header and the count of zeros behind them; none where it can't be read
+abbrev pub listed_or_none : Result (List OptionContent × ℕ) DecodeError → List OptionContent × ℕ
+listed_or_none (Ok listed) = listed
+listed_or_none (Err e) = ([], 0)
+
+abbrev pub options_of : List ℕ → List OptionContent × ℕ
+options_of area = listed_or_none (options_in 40 header_len area)
+
+-- what a segment says whose options stand in its area
+abbrev pub raw_content : RawSegment → Content
+raw_content segment = record {
+  src_port = segment.src_port;
+  dst_port = segment.dst_port;
+  seq = segment.seq.0;
+  ack = segment.ack.0;
+  reserved = segment.reserved;
+  flags = segment.flags.0;
+  window = segment.window;
+  urgent = segment.urgent;
+  options = (options_of segment.area.now).0;
+  pad = (options_of segment.area.now).1;
+  text = segment.text.now;
+}
+
 -- a header with this text behind it
 abbrev pub with_text : Header → List ℕ → Content
 with_text header text = record {
@@ -51,14 +78,14 @@ with_text header text = record {
   text = text;
 }
 
--- the bytes in front of the text: the fixed header, options and zeros
-abbrev pub head_length : List OptionContent → ℕ → ℕ
-head_length options pad = header_len + length (spellings options ++ replicate {A = ℕ} pad 0)
+-- the Data Offset in bytes, where the text begins: behind the fixed header, options and zeros
+abbrev pub data_offset : List OptionContent → ℕ → ℕ
+data_offset options pad = header_len + length (spellings options ++ replicate {A = ℕ} pad 0)
 
 -- a header with the text that stands in `out` behind its place
 abbrev pub around : Header → ℕ → List ℕ → Content
 around header text_len out =
-    with_text header (take text_len (drop (head_length (map option_content header.options.now) header.pad) out))
+    with_text header (take text_len (drop (data_offset (map option_content header.options.now) header.pad) out))
 
 -- an Unknown option's body is the slice that lies at this address
 abbrev pub BodyIs : ℕ × ℕ → TcpOption → Type 0

@@ -1,39 +1,33 @@
 ghost use Rattle.std.specs.Prelude.{◌≡◌, ◌↔◌, ◌+◌, ◌*◌, ◌<◌, ◌≤◌, List, ℕ, length, map, Ok, Err, IfOk, IsOkAnd, MatchResult, Result};
 ghost use Rattle.tcp_wire.specs.declared.fault.DecodeError.{DecodeError};
 ghost use Rattle.tcp_wire.specs.Checksum.{DiffersInOnePlace};
-ghost use Rattle.tcp_wire.specs.Wire.{Content, IsWire, header_len, max_text_len, data_offset};
+ghost use Rattle.tcp_wire.specs.Wire.{Content, IsWire, header_len, max_text_len, data_offset, option_area};
 ghost use Rattle.tcp_wire.specs.Fault.{FirstFault};
 ghost use Rattle.tcp_wire.specs.Decoded.{decode_answer, content_at, layout_of};
-ghost use Rattle.tcp_wire.specs.View.{content, option_content, BodiesLie};
+ghost use Rattle.tcp_wire.specs.View.{content, raw_content, options_of, BodiesLie};
 
 use crate::addr::Addr;
 use crate::fault::DecodeError;
 use crate::flags::Flags;
-use crate::option::TcpOption;
-use crate::option_reading::read_options;
-use crate::segment::{HEADER_LEN, MAX_LEN, Segment};
+use crate::option_reading::check_options;
+use crate::raw::RawSegment;
+use crate::segment::{HEADER_LEN, MAX_LEN, MAX_OPTIONS, Segment};
 use crate::seq::Seq;
 use crate::sums::checks;
-use arrayvec::ArrayVec;
 use byteorder::{BigEndian, ByteOrder};
 
-/// The fields of the fixed header with these options and this padding, and the text behind `offset`
-/// bytes.
+/// The fields of the fixed header, and what stands behind it up to `offset` and from there on.
 #[inline(always)]
-fn fields_of<'a>(
-    bytes: &'a [u8],
-    offset: usize,
-    options: ArrayVec<TcpOption<'a>, 40>,
-    pad: u8,
-) -> Segment<'a>
-    requires header { header_len ≤ length bytes.now }
+fn fields_of(bytes: &[u8], offset: usize) -> RawSegment<'_>
+    requires header { header_len ≤ offset }
     requires inside { offset ≤ length bytes.now }
     requires offset { offset ≡ 4 * data_offset bytes.now }
-    ensures value { content result ≡ content_at bytes.now (map option_content options.entry.items) pad }
+    ensures value { raw_content result ≡ content_at bytes.now (options_of (option_area bytes.now)).0 (options_of (option_area bytes.now)).1 }
+    ensures area { result.area.now ≡ option_area bytes.now }
     ensures place { result.text.ref_ptr ≡ (bytes.entry.ref_ptr.0, bytes.entry.ref_ptr.1 + offset) }
-    ensures options { result.options.items ≡ options.entry.items }
+    ensures area_place { result.area.ref_ptr ≡ (bytes.entry.ref_ptr.0, bytes.entry.ref_ptr.1 + header_len) }
 {
-    Segment {
+    RawSegment {
         src_port: BigEndian::read_u16(bytes),
         dst_port: BigEndian::read_u16(&bytes[2..]),
         seq: Seq(BigEndian::read_u32(&bytes[4..])),
@@ -42,40 +36,40 @@ fn fields_of<'a>(
         flags: Flags(bytes[13]),
         window: BigEndian::read_u16(&bytes[14..]),
         urgent: BigEndian::read_u16(&bytes[18..]),
-        options,
-        pad,
+        area: &bytes[HEADER_LEN..offset],
         text: &bytes[offset..],
     }
 }
 
 /// What the bytes say, their length and checksum being right.
 #[inline(always)]
-#[tactic(auto, using(crate::proofs::Reading::plain_layout), unfolding(crate::specs::Decoded::layout_of))]
-fn lay_out(bytes: &[u8]) -> Result<Segment<'_>, DecodeError>
+#[tactic(auto, using(crate::proofs::Reading::no_options), unfolding(crate::specs::Decoded::layout_of))]
+fn lay_out(bytes: &[u8]) -> Result<RawSegment<'_>, DecodeError>
     requires { header_len ≤ length bytes.now }
-    ensures value { MatchResult result (λ s. layout_of bytes.now ≡ Ok (content s)) (λ e. layout_of bytes.now ≡ Err e) }
+    ensures value { MatchResult result (λ s. layout_of bytes.now ≡ Ok (raw_content s)) (λ e. layout_of bytes.now ≡ Err e) }
+    ensures area { IfOk result (λ s. length s.area.now ≤ 40) }
     ensures place { IfOk result (λ s. s.text.ref_ptr ≡ (bytes.entry.ref_ptr.0, bytes.entry.ref_ptr.1 + 4 * data_offset bytes.now)) }
-    ensures bodies { IfOk result (λ s. BodiesLie (bytes.entry.ref_ptr.0, bytes.entry.ref_ptr.1 + header_len) s.options.items) }
+    ensures area_place { IfOk result (λ s. s.area.ref_ptr ≡ (bytes.entry.ref_ptr.0, bytes.entry.ref_ptr.1 + header_len)) }
 {
     let offset = 4 * usize::from(bytes[12] / 16);
     if offset < HEADER_LEN || bytes.len() < offset {
         return Err(DecodeError::BadOffset);
     }
-    // Most segments have no options: no list is moved for them.
-    if offset == HEADER_LEN {
-        return Ok(fields_of(bytes, HEADER_LEN, ArrayVec::new(), 0));
+    // Most segments have no options to look at.
+    if offset > HEADER_LEN {
+        check_options(&bytes[HEADER_LEN..offset], HEADER_LEN, MAX_OPTIONS)?;
     }
-    let (options, pad) = read_options(&bytes[HEADER_LEN..offset])?;
-    Ok(fields_of(bytes, offset, options, pad))
+    Ok(fields_of(bytes, offset))
 }
 
 /// What the bytes say, or the first of their faults.
 #[inline(always)]
 #[tactic(auto, unfolding(crate::specs::Decoded::decode_answer))]
-fn read_segment(src: Addr, dst: Addr, bytes: &[u8]) -> Result<Segment<'_>, DecodeError>
-    ensures computed { MatchResult result (λ s. decode_answer src.0 dst.0 bytes.now ≡ Ok (content s)) (λ e. decode_answer src.0 dst.0 bytes.now ≡ Err e) }
+fn read_raw(src: Addr, dst: Addr, bytes: &[u8]) -> Result<RawSegment<'_>, DecodeError>
+    ensures computed { MatchResult result (λ s. decode_answer src.0 dst.0 bytes.now ≡ Ok (raw_content s)) (λ e. decode_answer src.0 dst.0 bytes.now ≡ Err e) }
+    ensures area { IfOk result (λ s. length s.area.now ≤ 40) }
     ensures place { IfOk result (λ s. s.text.ref_ptr ≡ (bytes.entry.ref_ptr.0, bytes.entry.ref_ptr.1 + 4 * data_offset bytes.now)) }
-    ensures bodies { IfOk result (λ s. BodiesLie (bytes.entry.ref_ptr.0, bytes.entry.ref_ptr.1 + header_len) s.options.items) }
+    ensures area_place { IfOk result (λ s. s.area.ref_ptr ≡ (bytes.entry.ref_ptr.0, bytes.entry.ref_ptr.1 + header_len)) }
 {
     if bytes.len() < HEADER_LEN {
         return Err(DecodeError::TooShort);
@@ -87,6 +81,33 @@ fn read_segment(src: Addr, dst: Addr, bytes: &[u8]) -> Result<Segment<'_>, Decod
         return Err(DecodeError::BadChecksum);
     }
     lay_out(bytes)
+}
+
+/// The same with the options listed.
+#[inline(always)]
+fn read_segment(src: Addr, dst: Addr, bytes: &[u8]) -> Result<Segment<'_>, DecodeError>
+    ensures computed { MatchResult result (λ s. decode_answer src.0 dst.0 bytes.now ≡ Ok (content s)) (λ e. decode_answer src.0 dst.0 bytes.now ≡ Err e) }
+    ensures place { IfOk result (λ s. s.text.ref_ptr ≡ (bytes.entry.ref_ptr.0, bytes.entry.ref_ptr.1 + 4 * data_offset bytes.now)) }
+    ensures bodies { IfOk result (λ s. BodiesLie (bytes.entry.ref_ptr.0, bytes.entry.ref_ptr.1 + header_len) s.options.items) }
+{
+    match read_raw(src, dst, bytes) {
+        Ok(raw) => Ok(raw.segment()),
+        Err(fault) => Err(fault),
+    }
+}
+
+impl<'a> RawSegment<'a> {
+    /// Reads a segment that came from `src` to `dst`, as [`decode`] does, and leaves its options where they stand.
+    #[inline(always)]
+    pub fn parse(src: Addr, dst: Addr, bytes: &'a [u8]) -> Result<RawSegment<'a>, DecodeError>
+        ensures computed { MatchResult result (λ s. decode_answer src.0 dst.0 bytes.now ≡ Ok (raw_content s)) (λ e. decode_answer src.0 dst.0 bytes.now ≡ Err e) }
+        ensures short { IfOk result (λ s. length s.text.now ≤ max_text_len) }
+        ensures area { IfOk result (λ s. length s.area.now ≤ 40) }
+        ensures place { IfOk result (λ s. s.text.ref_ptr ≡ (bytes.entry.ref_ptr.0, bytes.entry.ref_ptr.1 + 4 * data_offset bytes.now)) }
+        ensures area_place { IfOk result (λ s. s.area.ref_ptr ≡ (bytes.entry.ref_ptr.0, bytes.entry.ref_ptr.1 + header_len)) }
+    {
+        read_raw(src, dst, bytes)
+    }
 }
 
 /// Reads a segment that came from `src` to `dst` (RFC 9293, 3.1). Text and the bodies of `Unknown`

@@ -1,6 +1,6 @@
 ghost use Rattle.std.specs.Prelude.{◌≡◌, ◌+◌, ◌≤◌, length, map};
 ghost use Rattle.tcp_wire.specs.Options.{AreSpellable};
-ghost use Rattle.tcp_wire.specs.View.{option_content, head_length};
+ghost use Rattle.tcp_wire.specs.View.{option_content, data_offset};
 
 use crate::flags::Flags;
 use crate::option::TcpOption;
@@ -9,7 +9,7 @@ use crate::seq::Seq;
 
 /// A segment (RFC 9293, 3.1) without its text and its checksum. It holds no room for options, as
 /// `Segment` does, so it is cheap to make.
-#[derive(Clone, Copy)]
+#[derive(Clone, Copy, Debug)]
 pub struct Header<'a> {
     pub src_port: u16,
     pub dst_port: u16,
@@ -28,12 +28,12 @@ pub struct Header<'a> {
     pub pad: u8,
 }
 
-/// The bytes in front of the text of a segment with these options, at most 40 of which each can be written, and this
-/// padding: the fixed header, options and zeros.
-pub fn header_len(options: &[TcpOption<'_>], pad: u8) -> usize
+/// The Data Offset (RFC 9293, 3.1) in bytes, where the text of a segment with these options and this padding begins: behind
+/// the fixed header, the options, at most 40 of which each can be written, and the zeros.
+pub fn data_offset(options: &[TcpOption<'_>], pad: u8) -> usize
     requires few { length options.now ≤ 40 }
     requires spellable { AreSpellable (map option_content options.now) }
-    ensures { result ≡ head_length (map option_content options.now) pad }
+    ensures { result ≡ data_offset (map option_content options.now) pad }
 {
     match area_len(options, pad) {
         None => 0,

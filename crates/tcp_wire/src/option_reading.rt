@@ -2,7 +2,7 @@ ghost use Rattle.std.specs.Prelude.{◌≡◌, ◌↔◌, ◌+◌, ◌*◌, ◌/
 ghost use Rattle.tcp_wire.specs.Options.{has_own_length, spelling};
 ghost use Rattle.tcp_wire.specs.Decoded.{blocks_in, known_option, option_of, option_at, count_zeros, padding_at, options_in};
 ghost use Rattle.tcp_wire.specs.Wire.{header_len};
-ghost use Rattle.tcp_wire.specs.View.{block, option_content, BodyIs, BodiesLie};
+ghost use Rattle.tcp_wire.specs.View.{block, option_content, listed_or_none, BodyIs, BodiesLie};
 
 use crate::fault::DecodeError;
 use crate::option::{TcpOption, has_own_length};
@@ -85,6 +85,18 @@ fn read_padding(bytes: &[u8], at: usize) -> Result<u8, DecodeError>
     Ok(bytes.len() as u8)
 }
 
+/// Whether these bytes are zeros.
+fn check_padding(bytes: &[u8], at: usize) -> Result<(), DecodeError>
+    requires most { length bytes.now ≤ 40 }
+    requires low { at ≤ 60 }
+    ensures { MatchResult result (λ r. padding_at at bytes.now ≡ Ok (listed_or_none (padding_at at bytes.now))) (λ e. padding_at at bytes.now ≡ Err e) }
+{
+    match read_padding(bytes, at) {
+        Ok(_) => Ok(()),
+        Err(fault) => Err(fault),
+    }
+}
+
 /// What is still to be read.
 struct Unread<'a>(&'a [u8]);
 
@@ -103,4 +115,24 @@ pub(crate) fn read_options(area: &[u8]) -> Result<(ArrayVec<TcpOption<'_>, 40>, 
     let Unread(rest) = unread;
     let pad = read_padding(rest, HEADER_LEN + (area.len() - rest.len()))?;
     Ok((options, pad))
+}
+
+/// Whether at most `left` options stand in these bytes, which begin at place `at` of the segment, and zeros alone behind
+/// them. No list is made.
+#[tactic(auto, using(crate::proofs::ReadOptions::checked_none, crate::proofs::ReadOptions::checked_end))]
+pub(crate) fn check_options(bytes: &[u8], at: usize, left: usize) -> Result<(), DecodeError>
+    requires short { length bytes.now ≤ 40 }
+    requires place { at + length bytes.now ≤ 60 }
+    ensures { MatchResult result (λ r. options_in left at bytes.now ≡ Ok (listed_or_none (options_in left at bytes.now))) (λ e. options_in left at bytes.now ≡ Err e) }
+{
+    if left == 0 {
+        return check_padding(bytes, at);
+    }
+    match read_option(bytes) {
+        Some((_, behind)) => {
+            let behind_at = at + (bytes.len() - behind.len());
+            check_options(behind, behind_at, left - 1)
+        }
+        None => check_padding(bytes, at),
+    }
 }

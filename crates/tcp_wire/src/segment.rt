@@ -12,6 +12,8 @@ use arrayvec::ArrayVec;
 
 /// The bytes of the fixed header.
 pub(crate) const HEADER_LEN: usize = 20;
+/// The most options of a segment: one for each byte of their area.
+pub(crate) const MAX_OPTIONS: usize = 40;
 /// The bytes of the longest segment: what an IPv4 packet holds behind its own header.
 pub(crate) const MAX_LEN: usize = 65515;
 

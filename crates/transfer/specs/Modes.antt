@@ -2,6 +2,8 @@
 use Rattle.std.specs.Prelude.{ℕ, Bool, true, false, if◌then◌else◌, List, bytes_eq, codes, Option, Some, None}
 use Rattle.transfer.specs.declared.mode.Mode.{Mode}
 use Rattle.transfer.specs.declared.mode.Mode.TheVariants.{InOrder, Late, Early}
+use Rattle.transfer.specs.declared.calls.Call.{Call}
+use Rattle.transfer.specs.declared.calls.Call.TheVariants.{Checksum, Decode, Encode}
 
 abbrev pub mode_of : List ℕ → Option Mode
 mode_of name =
@@ -20,3 +22,11 @@ abbrev pub is_first_late : Mode → Bool
 is_first_late InOrder = false
 is_first_late Late = true
 is_first_late Early = true
+
+-- the calls by their names
+abbrev pub call_of : List ℕ → Option Call
+call_of name =
+    if bytes_eq name (codes "checksum") then Some Checksum
+    else (if bytes_eq name (codes "decode") then Some Decode
+    else (if bytes_eq name (codes "encode") then Some Encode
+    else None))

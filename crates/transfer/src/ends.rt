@@ -7,10 +7,8 @@ use tcp_wire::{Addr, Seq};
 /// The text of a full segment, in bytes.
 const SEGMENT: usize = 1460;
 
-/// The greatest burst, in bytes.
-const BURST: usize = 40 * SEGMENT;
-
-static TEXT: [u8; BURST] = [b'a'; BURST];
+/// What a user writes or reads at once: the text of two segments, in bytes.
+const PIECE: usize = 2 * SEGMENT;
 
 fn new_end(alloc: Global, host: u8, capacity: usize) -> Result<Endpoint, ConfigError> {
     let config = Config {
@@ -41,7 +39,8 @@ pub(crate) struct Pair {
     b: Endpoint,
     room: [u8; EMIT_ROOM],
     late: [u8; EMIT_ROOM],
-    read: [u8; BURST],
+    text: [u8; PIECE],
+    read: [u8; PIECE],
 }
 
 impl Pair {
@@ -51,7 +50,8 @@ impl Pair {
             b: new_end(alloc, 2, capacity)?,
             room: [0; EMIT_ROOM],
             late: [0; EMIT_ROOM],
-            read: [0; BURST],
+            text: [b'a'; PIECE],
+            read: [0; PIECE],
         })
     }
 
@@ -79,10 +79,24 @@ impl Pair {
         }
     }
 
-    /// Sends a burst, carries it, reads it, and carries an acknowledgement.
+    /// A's user writes the text of so many segments.
+    fn write_text(&mut self, count: usize) {
+        for _ in 0..count / 2 {
+            let _ = self.a.send(&self.text);
+        }
+    }
+
+    /// B's user reads the text of so many segments.
+    fn read_text(&mut self, count: usize) {
+        for _ in 0..count / 2 {
+            let _ = self.b.receive(&mut self.read);
+        }
+    }
+
+    /// Writes a burst, carries it, reads it, and carries an acknowledgement.
     pub(crate) fn move_burst(&mut self, mode: Mode) {
         let count = mode.segments();
-        let _ = self.a.send(&TEXT[..count * SEGMENT]);
+        self.write_text(count);
         if mode.is_first_late() {
             let late = self.a.emit(&mut self.late);
             self.carry_segments(count - 1);
@@ -93,7 +107,7 @@ impl Pair {
         } else {
             self.carry_segments(count);
         }
-        let _ = self.b.receive(&mut self.read);
+        self.read_text(count);
         carry(&mut self.b, &mut self.a, &mut self.room);
     }
 }
