@@ -587,6 +587,23 @@ fn accepted_options(rt: HostRuntime) -> Result<(), Fail> {
 }
 
 #[test]
+fn options_left_in_their_bytes(rt: HostRuntime) -> Result<(), Fail> {
+    let bytes = [
+        0x00, 0x02, 0x00, 0x01, 0x00, 0x00, 0x13, 0x88, 0x00, 0x00, 0x03, 0xe9, 0x70, 0x12, 0xff,
+        0xff, 0x57, 0x99, 0x00, 0x00, 0x02, 0x04, 0x05, 0xb4, 0x01, 0x01, 0x04, 0x02,
+    ];
+    let raw = RawSegment::parse(DST, SRC, &bytes)?;
+    assert!(rt; raw.has_area());
+    assert_eq!(rt; raw.area, &bytes[20..]);
+    assert_eq!(rt; raw.options().len(), 4);
+    assert_eq!(rt;
+        numbers_of(&raw.segment()),
+        [2, 1, 5000, 1001, 0, 0x12, 65535, 0, 0]
+    );
+    Ok(())
+}
+
+#[test]
 fn options_that_have_no_spelling(rt: HostRuntime) {
     let empty = ArrayVec::new();
     assert!(rt; !writes(TcpOption::Sack(empty), 3));

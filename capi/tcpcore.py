@@ -1,0 +1,178 @@
+"""libtcpcore.so for Python, over ctypes: class End is one end of one TCP connection. tcpcore.h says what each call does."""
+
+import ctypes
+import os
+from collections import namedtuple
+
+DONE, NOT_OPEN, ALREADY_OPEN, CLOSING, ENDED = 0, 11, 12, 13, 14
+NO_END, IN_USE, ROOM, NO_TIMER, NULL, LENGTH, COPIED, OVERLAP = range(31, 39)
+NOTHING, END_OF_STREAM, NOT_DUE, NO_RULE, DROPPED, NOT_MINE = range(51, 57)
+PHASES = (
+    "CLOSED LISTEN SYN-SENT SYN-RECEIVED ESTABLISHED FIN-WAIT-1 FIN-WAIT-2 CLOSE-WAIT CLOSING LAST-ACK TIME-WAIT".split()
+)
+ENDINGS = ("not-ended", "orderly", "reset", "aborted")
+RETRANSMIT, REORDER, TIME_WAIT = range(3)
+EMIT_ROOM = 1520
+
+Status = namedtuple("Status", "phase ending unread released ordered")
+
+
+class Config(namedtuple("Config", "addr port mss isn send_capacity recv_capacity window_shift sack")):
+    """What an end is made from; `window_shift` is None where windows aren't scaled."""
+
+
+class Refused(Exception):
+    """A call was refused with this answer."""
+
+
+class EndStruct(ctypes.Structure):
+    _fields_ = [("opaque", ctypes.c_uint64 * 3)]
+
+
+class AddrStruct(ctypes.Structure):
+    _fields_ = [("byte", ctypes.c_uint8 * 4)]
+
+
+class ConfigStruct(ctypes.Structure):
+    _fields_ = [
+        ("addr", AddrStruct),
+        ("port", ctypes.c_uint16),
+        ("mss", ctypes.c_uint16),
+        ("isn", ctypes.c_uint32),
+        ("send_capacity", ctypes.c_size_t),
+        ("recv_capacity", ctypes.c_size_t),
+        ("window_shift", ctypes.c_uint8),
+        ("scales", ctypes.c_uint8),
+        ("sack", ctypes.c_uint8),
+    ]
+
+
+class StatusStruct(ctypes.Structure):
+    _fields_ = [
+        ("phase", ctypes.c_uint32),
+        ("ending", ctypes.c_uint32),
+        ("unread", ctypes.c_uint64),
+        ("released", ctypes.c_uint64),
+        ("ordered", ctypes.c_uint64),
+    ]
+
+
+END, SIZE, OUT = ctypes.POINTER(EndStruct), ctypes.c_size_t, ctypes.POINTER(ctypes.c_size_t)
+CALLS = {
+    "new": [END, ctypes.POINTER(ConfigStruct)],
+    "free": [END],
+    "connect": [END, AddrStruct, ctypes.c_uint16],
+    "listen": [END],
+    "send": [END, ctypes.c_char_p, SIZE, OUT],
+    "receive": [END, ctypes.c_char_p, SIZE, OUT],
+    "close": [END],
+    "abort": [END],
+    "timer": [END, ctypes.c_uint32],
+    "arrive": [END, AddrStruct, AddrStruct, ctypes.c_char_p, SIZE],
+    "emit": [END, ctypes.c_char_p, SIZE, ctypes.POINTER(AddrStruct), OUT],
+    "timers": [END, ctypes.POINTER(ctypes.c_uint32)],
+    "status": [END, ctypes.POINTER(StatusStruct)],
+}
+
+
+def load(path):
+    """The library's calls by their names, without the prefix."""
+    library = ctypes.CDLL(path)
+    calls = {}
+    for name, types in CALLS.items():
+        call = getattr(library, f"tcpcore_{name}")
+        call.argtypes, call.restype = types, ctypes.c_uint32
+        calls[name] = call
+    return calls
+
+
+class End:
+    """One end. A refusal of a user's call is raised as `Refused`."""
+
+    library = None
+
+    def __init__(self, config, room=1 << 16):
+        if End.library is None:
+            here = os.path.dirname(os.path.realpath(__file__))
+            End.library = load(os.environ.get("LIBTCPCORE", f"{here}/out/libtcpcore.so"))
+        self.struct, self.calls = EndStruct(), End.library
+        self.end = ctypes.pointer(self.struct)
+        self.count, self.due, self.to = ctypes.c_size_t(), ctypes.c_uint32(), AddrStruct()
+        self.told = StatusStruct()
+        self.segment = ctypes.create_string_buffer(EMIT_ROOM)
+        self.text, self.room = ctypes.create_string_buffer(room), room
+        shift = config.window_shift
+        self.ask(
+            "new",
+            ConfigStruct(
+                AddrStruct.from_buffer_copy(config.addr),
+                config.port,
+                config.mss,
+                config.isn,
+                config.send_capacity,
+                config.recv_capacity,
+                shift or 0,
+                shift is not None,
+                config.sack,
+            ),
+        )
+
+    def ask(self, name, *args):
+        """A call that is done or refused."""
+        answer = self.calls[name](self.end, *args)
+        if answer != DONE:
+            raise Refused(answer)
+
+    def free(self):
+        self.ask("free")
+
+    def connect(self, addr, port):
+        self.ask("connect", AddrStruct.from_buffer_copy(addr), port)
+
+    def listen(self):
+        self.ask("listen")
+
+    def send(self, text):
+        """How many bytes were taken."""
+        self.ask("send", text, len(text), self.count)
+        return self.count.value
+
+    def receive(self):
+        """Bytes, b"" at the end of the stream, None where there is nothing yet."""
+        answer = self.calls["receive"](self.end, self.text, self.room, self.count)
+        if answer in (NOTHING, END_OF_STREAM):
+            return b"" if answer == END_OF_STREAM else None
+        if answer != DONE:
+            raise Refused(answer)
+        return ctypes.string_at(self.text, self.count.value)
+
+    def close(self):
+        self.ask("close")
+
+    def abort(self):
+        self.ask("abort")
+
+    def timer(self, timer):
+        """Whether the timer's rule was applied."""
+        return self.calls["timer"](self.end, timer) == DONE
+
+    def arrive(self, src, dst, data):
+        """The answer's number."""
+        source, destination = AddrStruct.from_buffer_copy(src), AddrStruct.from_buffer_copy(dst)
+        return self.calls["arrive"](self.end, source, destination, data, len(data))
+
+    def emit(self):
+        """The address and the bytes of a segment, or None."""
+        if self.calls["emit"](self.end, self.segment, EMIT_ROOM, self.to, self.count) != DONE:
+            return None
+        return bytes(self.to.byte), ctypes.string_at(self.segment, self.count.value)
+
+    def timers(self):
+        """Bit 1 << t where timer t has to run."""
+        self.ask("timers", self.due)
+        return self.due.value
+
+    def status(self):
+        self.ask("status", self.told)
+        told = self.told
+        return Status(PHASES[told.phase], ENDINGS[told.ending], told.unread, told.released, told.ordered)

@@ -1,0 +1,101 @@
+#!/usr/bin/env bash
+# Builds the C layer, the examples and the tests with gcc and clang over a static library (the first argument, or crates/tcp_c's own),
+# and compares what they print with expected/. Stops at the first failure. What Debian has and this machine lacks it installs; where
+# that fails it says what it left out.
+set -euo pipefail
+cd "$(dirname "$0")"
+library=${1:-../crates/tcp_c/out/libtcp_c.a}
+heap=$(dirname "$(rt doc)")/c/liblibc_c.a
+warnings="-std=c11 -g -Wall -Wextra -Wpedantic -Werror"
+sanitizers="-O1 -fsanitize=address,undefined -fno-sanitize-recover=all"
+calls=$(printf '%s\n' abort arrive close connect emit free listen new receive send status timer timers)
+passed=0
+
+pass() { passed=$((passed + 1)); }
+
+# The command works, once the package is installed if need be.
+has() {
+    local package=$1
+    shift
+    "$@" >/dev/null 2>&1 && return
+    apt-get install -y "$package" >/dev/null 2>&1 || true
+    "$@" >/dev/null 2>&1 && return
+    echo "capi: left out: no $package"
+    return 1
+}
+
+# The command's output has to be expected/NAME.
+prints() {
+    local name=$1
+    shift
+    if ! "$@" >out/found 2>out/errors || ! cmp -s out/found "expected/$name"; then
+        echo "capi: '$*' failed, or didn't print expected/$name:"
+        diff out/found "expected/$name" || true
+        cat out/errors
+        exit 1
+    fi
+    pass
+}
+
+# The program of this name, built with the words behind it and run.
+runs() {
+    local name=$1 compiler=$2
+    shift 2
+    "$compiler" $warnings "$@" "$name.c" tcpcore.c "$library" "$heap" -o "out/$name.$compiler"
+    prints "$name" "out/$name.$compiler"
+}
+
+# The names that others can link to.
+exports() { nm "$@" --defined-only | awk '$2 ~ /[A-TV-Z]/ { print $NF }' | sort; }
+
+same() {
+    if [[ $2 != "$3" ]]; then
+        printf 'capi: %s: found\n%s\nwanted\n%s\n' "$1" "$2" "$3"
+        exit 1
+    fi
+    pass
+}
+
+# Everything but valgrind, with one compiler.
+check_with() {
+    local compiler=$1 package=$2 name level
+    "$compiler" $warnings -fsyntax-only -x c-header tcpcore.h
+    "$compiler" -std=c++11 -Wall -Wextra -Wpedantic -Werror -fsyntax-only -x c++-header tcpcore.h
+    pass
+    for level in -O0 -O2; do
+        runs two_ends "$compiler" "$level"
+        runs misuse "$compiler" "$level"
+        runs stack "$compiler" "$level" -static
+    done
+    # No C library: the functions that are needed come from the program.
+    "$compiler" $warnings -O2 -ffreestanding -fno-stack-protector -nostdlib -static static_block.c tcpcore.c "$library" \
+        -o "out/static_block.$compiler"
+    prints static_block "out/static_block.$compiler"
+    # The shared library: the header's calls and no other name.
+    "$compiler" $warnings -O2 -shared -fPIC tcpcore.c "$library" "$heap" -Wl,--exclude-libs,ALL -Wl,-z,defs \
+        -o "out/libtcpcore.$compiler.so"
+    same "exported names" "$(exports -D "out/libtcpcore.$compiler.so")" "$(sed 's/^/tcpcore_/' <<<"$calls")"
+    prints two_ends env LIBTCPCORE="$PWD/out/libtcpcore.$compiler.so" python3 two_ends.py
+    if has "$package" "$compiler" $sanitizers misuse.c tcpcore.c "$library" "$heap" -o out/sanitized; then
+        runs two_ends "$compiler" $sanitizers
+        runs misuse "$compiler" $sanitizers
+    fi
+}
+
+[[ -e $library ]] || { echo "capi: no $library: run 'rt lib' in crates/tcp_c"; exit 1; }
+mkdir -p out
+same "names of the static library" "$(exports "$library")" "$(sed 's/^/tcp_c_/' <<<"$calls")"
+needs=$(nm "$library" --undefined-only | awk 'NF == 2 { print $2 }' | sort)
+same "names that it needs" "$needs" "$(printf '%s\n' memcpy memmove memset rattle_alloc rattle_dealloc)"
+check_with gcc libasan8
+ln -sf libtcpcore.gcc.so out/libtcpcore.so
+if has clang clang --version; then
+    check_with clang libclang-rt-14-dev
+fi
+if has valgrind valgrind --version; then
+    for name in two_ends misuse; do
+        gcc $warnings -O1 "$name.c" tcpcore.c "$library" "$heap" -o "out/$name"
+        prints "$name" valgrind --quiet --error-exitcode=1 --leak-check=full --errors-for-leak-kinds=all "out/$name"
+    done
+fi
+echo "capi: $passed passed"

@@ -1,0 +1,81 @@
+-- The table of answers, one for all calls. A refusal of the end has its own number: 1 to 6 bytes that are no
+-- segment, 11 to 16 a call, 21 to 24 a config.
+use Rattle.std.specs.Prelude.{ℕ, Option, Some, None, Result, Ok, Err}
+use Rattle.tcp_wire.specs.Refusals.{decode_error_number}
+use Rattle.tcp_conn.specs.declared.outcome.CallError.{CallError}
+use Rattle.tcp_conn.specs.declared.outcome.Received.{Received}
+use Rattle.tcp_conn.specs.declared.outcome.Received.TheVariants.{Bytes, Nothing, EndOfStream}
+use Rattle.tcp_conn.specs.declared.outcome.Arrival.{Arrival}
+use Rattle.tcp_conn.specs.declared.outcome.Arrival.TheVariants.{Malformed, NotMine, Dropped, Processed}
+use Rattle.tcp_conn.specs.Refusals.{call_error_number}
+use Rattle.tcp_conn.specs.State.{State}
+
+-- the call did what it is for
+abbrev pub done : ℕ
+done = 0
+
+-- the handle holds no end
+abbrev pub no_end : ℕ
+no_end = 31
+
+-- the handle holds an end already
+abbrev pub in_use : ℕ
+in_use = 32
+
+-- less room than a segment may take
+abbrev pub little_room : ℕ
+little_room = 33
+
+-- no timer has this number
+abbrev pub no_timer : ℕ
+no_timer = 34
+
+-- no byte is unread, and more may come
+abbrev pub nothing_unread : ℕ
+nothing_unread = 51
+
+-- the peer closed, and all its bytes were handed over
+abbrev pub end_of_stream : ℕ
+end_of_stream = 52
+
+-- no segment is due
+abbrev pub nothing_due : ℕ
+nothing_due = 53
+
+-- the timer's rule doesn't apply
+abbrev pub no_rule : ℕ
+no_rule = 54
+
+-- the segment was passed over
+abbrev pub segment_dropped : ℕ
+segment_dropped = 55
+
+-- the segment is for another end, or from another peer
+abbrev pub segment_not_mine : ℕ
+segment_not_mine = 56
+
+-- what a call answers: of the end that is held, or that there is none
+abbrev pub answer_of : (State → ℕ) → Option State → ℕ
+answer_of answer None = no_end
+answer_of answer (Some s) = answer s
+
+-- a number that is told of the end that is held; 0 where there is none
+abbrev pub number_told : (State → ℕ) → Option State → ℕ
+number_told number None = 0
+number_told number (Some s) = number s
+
+abbrev pub call_number : {A : Type 0} → Result A CallError → ℕ
+call_number (Ok value) = done
+call_number (Err error) = call_error_number error
+
+abbrev pub received_number : Result Received CallError → ℕ
+received_number (Ok (Bytes count)) = done
+received_number (Ok Nothing) = nothing_unread
+received_number (Ok EndOfStream) = end_of_stream
+received_number (Err error) = call_error_number error
+
+abbrev pub arrival_number : Arrival → ℕ
+arrival_number Processed = done
+arrival_number Dropped = segment_dropped
+arrival_number NotMine = segment_not_mine
+arrival_number (Malformed fault) = decode_error_number fault

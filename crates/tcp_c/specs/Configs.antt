@@ -1,0 +1,17 @@
+-- What C tells of a new end.
+use Rattle.std.specs.Prelude.{not, ◌==◌, if◌then◌else◌, Some, None}
+use Rattle.tcp_conn.specs.declared.config.Config.{Config}
+use Rattle.tcp_c.specs.declared.records.CConfig.{CConfig}
+
+-- the config that C's record says
+abbrev pub config_of : CConfig → Config
+config_of c = record {
+  addr = record { 0 = c.addr.byte };
+  port = c.port;
+  isn = record { 0 = c.isn };
+  mss = c.mss;
+  send_capacity = c.send_capacity;
+  recv_capacity = c.recv_capacity;
+  window_shift = if c.scales == 0 then None else Some c.window_shift;
+  sack = not (c.sack == 0);
+}

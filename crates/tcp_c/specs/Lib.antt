@@ -1,0 +1,6 @@
+pub mod Answers
+pub mod Calls
+pub mod Configs
+pub mod Held
+pub mod Segments
+pub mod Status

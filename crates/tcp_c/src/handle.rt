@@ -1,0 +1,64 @@
+ghost use Rattle.std.specs.Prelude.{◌≡◌, ◌↔◌, IsSome, None, Some, option_map};
+ghost use Rattle.tcp_c.specs.declared.handle.TheConstants.{MARK_OF_LIVE};
+
+use crate::held::Held;
+use crate::loose::Loose;
+use std::alloc::Global;
+use std::mem;
+use tcp_conn::Endpoint;
+
+/// The first word of a handle that holds an end. Any other stands in one that holds none.
+pub const MARK_OF_LIVE: u64 = 0x7443_5052_6174_746c;
+
+/// What C places, zeroes and hands to each call: an end, or none.
+#[repr(C)]
+pub struct Handle {
+    mark: u64,
+    pub held: Held,
+    pub ghost agrees: { (mark ≡ MARK_OF_LIVE) ↔ IsSome held.end },
+}
+
+impl Handle {
+    /// All zero: none.
+    fn empty(heap: Global) -> Handle
+        ensures { result.held.end ≡ None }
+    {
+        Handle {
+            mark: 0,
+            held: Held::empty(heap),
+        }
+    }
+
+    /// Takes the end out, if there is one.
+    pub(crate) fn take(&mut self, heap: Global) -> Option<Box<Endpoint>>
+        ensures taken { option_map (λ end. end.value) result ≡ self.old.held.end }
+        ensures empty { self.new.held.end ≡ None }
+    {
+        let Handle { mark, held } = mem::replace(self, Handle::empty(heap));
+        if mark != MARK_OF_LIVE {
+            held.discard();
+            return None;
+        }
+        Some(held.into_loose().into_box())
+    }
+
+    /// Puts an end in, where there is none.
+    pub(crate) fn put(&mut self, end: Box<Endpoint>)
+        requires { self.old.held.end ≡ None }
+        ensures { self.new.held.end ≡ Some end.value }
+    {
+        let live = Handle {
+            mark: MARK_OF_LIVE,
+            held: Held::of(Loose::of(end)),
+        };
+        mem::replace(self, live).discard();
+    }
+
+    /// Lets go of a handle that holds no end.
+    fn discard(self)
+        requires { self.held.end ≡ None }
+    {
+        let Handle { mark: _, held } = self;
+        held.discard();
+    }
+}

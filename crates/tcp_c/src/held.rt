@@ -1,0 +1,68 @@
+//! An end that C holds.
+ghost use Rattle.std.specs.Prelude.{◌≡◌, IsSome, IsNone, Option, Some, None};
+ghost use Rattle.tcp_conn.specs.State.{State};
+
+use crate::loose::Loose;
+use std::alloc::Global;
+use std::marker::Model;
+use std::ptr::null_mut;
+use tcp_conn::Endpoint;
+
+/// An end behind a pointer that C can hold, or none. It isn't `Drop`: an end can't be lost by mistake.
+#[repr(C)]
+pub struct Held {
+    at: *mut u8,
+    heap: Global,
+    pub ghost end: { Option State },
+}
+
+impl Model for Held {
+    ghost use Rattle.tcp_c.specs.Held.{held};
+
+    ghost also_owns = { λ h. held h.heap h.at h.end };
+}
+
+// It owns the box that it points to, which may go to another thread.
+unsafe impl Send for Held {}
+
+impl Held {
+    /// None.
+    pub(crate) fn empty(heap: Global) -> Held
+        ensures { result.end ≡ None }
+    {
+        Held {
+            at: null_mut(),
+            heap,
+        }
+    }
+
+    /// The end of this box.
+    pub(crate) fn of(end: Loose<Endpoint<Global>, Global>) -> Held
+        ensures { result.end ≡ Some end.value }
+    {
+        let Loose { at, alloc } = end;
+        Held {
+            at: at as *mut u8,
+            heap: alloc,
+        }
+    }
+
+    /// The end as a box.
+    pub(crate) fn into_loose(self) -> Loose<Endpoint<Global>, Global>
+        requires { IsSome self.end }
+        ensures { self.end ≡ Some result.value }
+    {
+        let Held { at, heap } = self;
+        Loose {
+            at: at as *mut Endpoint<Global>,
+            alloc: heap,
+        }
+    }
+
+    /// There is none: nothing is lost.
+    pub(crate) fn discard(self)
+        requires { IsNone self.end }
+    {
+        let Held { at: _, heap: _ } = self;
+    }
+}

@@ -1,0 +1,70 @@
+//! One end of TCP for C, a static library: each exported function is a call of [`tcp_conn::Endpoint`] and nothing more.
+//!
+//! ```c
+//! typedef struct { uint64_t mark; void *at; } tcp_c_handle;
+//! typedef struct { uint8_t byte[4]; } tcp_c_addr;
+//! typedef struct {
+//!     tcp_c_addr addr;
+//!     uint16_t port, mss;
+//!     uint32_t isn;
+//!     size_t send_capacity, recv_capacity;
+//!     uint8_t window_shift, scales, sack;
+//! } tcp_c_config;
+//! typedef struct {
+//!     uint32_t phase, ending;
+//!     size_t unread;
+//!     uint64_t released, ordered;
+//! } tcp_c_status_record;
+//!
+//! uint32_t tcp_c_new(tcp_c_handle *handle, const tcp_c_config *config);
+//! uint32_t tcp_c_free(tcp_c_handle *handle);
+//! uint32_t tcp_c_connect(tcp_c_handle *handle, const tcp_c_addr *addr, uint16_t port);
+//! uint32_t tcp_c_listen(tcp_c_handle *handle);
+//! uint32_t tcp_c_send(tcp_c_handle *handle, const uint8_t *text, size_t text_length, size_t *taken);
+//! uint32_t tcp_c_receive(tcp_c_handle *handle, uint8_t *out, size_t out_length, size_t *count);
+//! uint32_t tcp_c_close(tcp_c_handle *handle);
+//! uint32_t tcp_c_abort(tcp_c_handle *handle);
+//! uint32_t tcp_c_timer(tcp_c_handle *handle, uint32_t timer);
+//! uint32_t tcp_c_arrive(tcp_c_handle *handle, const tcp_c_addr *src, const tcp_c_addr *dst, const uint8_t *bytes, size_t bytes_length);
+//! uint32_t tcp_c_emit(tcp_c_handle *handle, uint8_t *out, size_t out_length, tcp_c_addr *to, size_t *count);
+//! uint32_t tcp_c_timers(tcp_c_handle *handle, uint32_t *running);
+//! uint32_t tcp_c_status(tcp_c_handle *handle, tcp_c_status_record *status);
+//! ```
+//!
+//! Each answers a number of the table in `answers`, or a refusal's own: 1 to 6 bytes that are no segment
+//! ([`tcp_wire::DecodeError`]), 11 to 16 a call ([`tcp_conn::CallError`]), 21 to 24 a config
+//! ([`tcp_conn::ConfigError`]). That the handle holds no end is found before anything else. What is told through a
+//! pointer is written at each answer: 0 where there is nothing to tell.
+//!
+//! The caller owes what no code here can test. No pointer is null, also not that of no bytes. What a call writes
+//! overlaps nothing else that it is passed. A length is at most `PTRDIFF_MAX`. And a handle that holds an end is changed by
+//! these functions alone, one call at a time, and a copy of it is never passed; it may go to another thread, ordered by
+//! a lock or by the thread's start or join. Any other bytes are a handle that holds no end, if their first word isn't
+//! [`MARK_OF_LIVE`].
+//!
+//! Memory is taken by `tcp_c_new` alone and given back by `tcp_c_free`.
+#![tactic(auto)]
+
+mod answers;
+mod handle;
+mod held;
+mod loose;
+mod making;
+mod records;
+mod segments;
+mod status;
+mod timing;
+mod user;
+
+pub use answers::{
+    DONE, END_OF_STREAM, IN_USE, LITTLE_ROOM, NO_END, NO_RULE, NO_TIMER, NOTHING_DUE,
+    NOTHING_UNREAD, SEGMENT_DROPPED, SEGMENT_NOT_MINE,
+};
+pub use handle::{Handle, MARK_OF_LIVE};
+pub use held::Held;
+pub use making::{tcp_c_free, tcp_c_new};
+pub use records::{CAddr, CConfig, CStatus};
+pub use segments::{tcp_c_arrive, tcp_c_emit};
+pub use status::tcp_c_status;
+pub use timing::{tcp_c_timer, tcp_c_timers};
+pub use user::{tcp_c_abort, tcp_c_close, tcp_c_connect, tcp_c_listen, tcp_c_receive, tcp_c_send};

@@ -1,0 +1,92 @@
+//! An end is made, and let go.
+ghost use Rattle.std.specs.Prelude.{◌≡◌, ◌≢◌, ◌↔◌, ◌⊎◌, IsSome, IsNone, Some, None, Ok, Err, IfOk};
+ghost use Rattle.tcp_conn.specs.Calls.{new_end};
+ghost use Rattle.tcp_conn.specs.Refusals.{config_error_number};
+ghost use Rattle.tcp_conn.specs.Configs.{HasBadCapacity, HasBadMss, HasBadShift, IsGoodConfig};
+ghost use Rattle.tcp_c.specs.Answers.{done, in_use, answer_of};
+ghost use Rattle.tcp_c.specs.Configs.{config_of};
+
+use crate::answers::{DONE, IN_USE, NO_END};
+use crate::handle::Handle;
+use crate::records::CConfig;
+use std::alloc::Global;
+use tcp_conn::{Config, ConfigError, Endpoint};
+use tcp_wire::{Addr, Seq};
+
+/// The config that C's record says.
+fn config_of(config: &CConfig) -> Config
+    ensures { result ≡ config_of config.now }
+{
+    Config {
+        addr: Addr(config.addr.byte),
+        port: config.port,
+        isn: Seq(config.isn),
+        mss: config.mss,
+        send_capacity: config.send_capacity,
+        recv_capacity: config.recv_capacity,
+        window_shift: if config.scales == 0 {
+            None
+        } else {
+            Some(config.window_shift)
+        },
+        sack: config.sack != 0,
+    }
+}
+
+/// A new end in a box.
+fn boxed_end(heap: Global, config: Config) -> Result<Box<Endpoint>, ConfigError>
+    ensures new { IfOk result (λ end. end.value ≡ new_end config) }
+    ensures bad_capacity { (result ≡ Err ConfigError.BadCapacity) ↔ HasBadCapacity config }
+    ensures bad_mss { (result ≡ Err ConfigError.BadMss) ↔ HasBadMss config }
+    ensures bad_shift { (result ≡ Err ConfigError.BadShift) ↔ HasBadShift config }
+    ensures good { (result ≡ Err ConfigError.NoMemory) → IsGoodConfig config }
+{
+    let end = match Endpoint::new(heap, config) {
+        Ok(end) => end,
+        Err(error) => return Err(error),
+    };
+    match Box::new(heap, end) {
+        Ok(end) => Ok(end),
+        Err(_) => Err(ConfigError::NoMemory),
+    }
+}
+
+/// Makes an end, CLOSED and empty, where the handle holds none; its memory is taken now. 32 where it holds one, else 21,
+/// 23 or 24 for a fault of the config, and 22 where there is no memory.
+#[unsafe(no_mangle)]
+pub extern "C" fn tcp_c_new(heap: Global, handle: &mut Handle, config: &CConfig) -> u32
+    ensures in_use { (result ≡ in_use) ↔ IsSome handle.old.held.end }
+    ensures bad_capacity { (result ≡ config_error_number ConfigError.BadCapacity) ↔ (IsNone handle.old.held.end × HasBadCapacity (config_of config.now)) }
+    ensures bad_mss { (result ≡ config_error_number ConfigError.BadMss) ↔ (IsNone handle.old.held.end × HasBadMss (config_of config.now)) }
+    ensures bad_shift { (result ≡ config_error_number ConfigError.BadShift) ↔ (IsNone handle.old.held.end × HasBadShift (config_of config.now)) }
+    ensures good { (IsNone handle.old.held.end × IsGoodConfig (config_of config.now)) ↔ ((result ≡ done) ⊎ (result ≡ config_error_number ConfigError.NoMemory)) }
+    ensures made { result ≡ done → handle.new.held.end ≡ Some (new_end (config_of config.now)) }
+    ensures kept { result ≢ done → handle.new.held.end ≡ handle.old.held.end }
+{
+    if let Some(held) = handle.take(heap) {
+        handle.put(held);
+        return IN_USE;
+    }
+    match boxed_end(heap, config_of(config)) {
+        Ok(end) => {
+            handle.put(end);
+            DONE
+        }
+        Err(error) => u32::from(error.number()),
+    }
+}
+
+/// Lets the end go, and gives its memory back.
+#[unsafe(no_mangle)]
+pub extern "C" fn tcp_c_free(heap: Global, handle: &mut Handle) -> u32
+    ensures answer { result ≡ answer_of (λ _. done) handle.old.held.end }
+    ensures state { handle.new.held.end ≡ None }
+{
+    match handle.take(heap) {
+        Some(end) => {
+            drop(end);
+            DONE
+        }
+        None => NO_END,
+    }
+}

@@ -1,0 +1,48 @@
+//! What C passes by reference, laid out as C does.
+
+/// An IPv4 address, its bytes in network order.
+#[repr(C)]
+#[derive(Clone, Copy)]
+pub struct CAddr {
+    pub byte: [u8; 4],
+}
+
+/// What one end is made from.
+#[repr(C)]
+#[derive(Clone, Copy)]
+pub struct CConfig {
+    /// The own address.
+    pub addr: CAddr,
+    /// The own port.
+    pub port: u16,
+    /// The own maximum segment size in bytes, from 64 to 1460.
+    pub mss: u16,
+    /// The initial sequence number.
+    pub isn: u32,
+    /// The most bytes that are kept for the peer, from 1 to 1,048,576.
+    pub send_capacity: usize,
+    /// The most bytes that are kept for the user, from 1 to 1,048,576.
+    pub recv_capacity: usize,
+    /// The shift of the windows that this end tells, from 0 to 14. Nothing reads it where `scales` is 0.
+    pub window_shift: u8,
+    /// Whether this end offers to scale windows: 0 is no, anything else yes.
+    pub scales: u8,
+    /// Whether this end permits selective acknowledgement: 0 is no, anything else yes.
+    pub sack: u8,
+}
+
+/// What is told of an end.
+#[repr(C)]
+#[derive(Clone, Copy)]
+pub struct CStatus {
+    /// The state of the connection, from 0, CLOSED, to 10, TIME-WAIT, in the order of RFC 9293, 3.3.2.
+    pub phase: u32,
+    /// 0 not ended, 1 orderly, 2 reset, 3 aborted.
+    pub ending: u32,
+    /// The bytes that came in order and wait for the user.
+    pub unread: usize,
+    /// The text bytes that acknowledgements have released.
+    pub released: u64,
+    /// The text bytes that came in order up to now.
+    pub ordered: u64,
+}
