@@ -1,5 +1,5 @@
 -- Placing a text: how many bytes come in order, and how long a segment's text can be.
-use Rattle.std.proofs.Common.{◌≡◌, ℕ, zero, suc, ◌+◌, ◌-◌, min, List, ◌++◌, length, drop, replicate, refl, sym, ◌∙◌, ap, arith, length-append, length-drop}
+use Rattle.std.proofs.Common.{◌≡◌, ℕ, ◌+◌, ◌-◌, min, List, ◌++◌, length, drop, replicate, refl, sym, ◌∙◌, ap, arith, length-append, length-drop}
 use Rattle.std.proofs.lemmas.List.{length-replicate}
 use Rattle.std.specs.Prelude.{ℤ, Option, None, Bool, true, false, if◌then◌else◌}
 use Rattle.tcp_reasm.specs.declared.placed.Placed.TheVariants.{NotKept}

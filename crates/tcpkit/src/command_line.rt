@@ -1,7 +1,8 @@
 //! The program's words.
-ghost use Rattle.std.specs.Prelude.{◌≡◌, ◌≢◌, IfErr};
-ghost use Rattle.clap.specs.Values.{kind_of};
-ghost use Rattle.tcpkit.specs.Words.{words_error_of, path_of};
+ghost use Rattle.std.specs.Prelude.{◌≡◌, IfOk, Some, None, Err, codes, map, string_bytes};
+ghost use Rattle.clap.specs.Words.{app_of, first_value, found_of, kind_of};
+ghost use Rattle.tcpkit.specs.Forms.{form_app, forms_app};
+ghost use Rattle.tcpkit.specs.Words.{asked_by, name_of, path_of, words_error_of};
 
 use clap::error::ErrorKind;
 use clap::{Arg, ArgAction, ArgMatches, Command, Error as ParseError};
@@ -45,7 +46,9 @@ const DECODE: &str = "decode";
 const REPLAY: &str = "replay";
 
 /// A form of this name, with one file.
-fn form<'a>(alloc: Global, name: &'a str) -> Result<Command<'a>, AllocError> {
+fn form<'a>(alloc: Global, name: &'a str) -> Result<Command<'a>, AllocError>
+    ensures { IfOk result (λ form. app_of form ≡ form_app name.entry.now) }
+{
     let file = Arg::new(alloc, "FILE")
         .required(true)
         .action(ArgAction::Set);
@@ -53,7 +56,9 @@ fn form<'a>(alloc: Global, name: &'a str) -> Result<Command<'a>, AllocError> {
 }
 
 /// The forms that the program has.
-fn forms<'a>(alloc: Global) -> Result<Command<'a>, AllocError> {
+fn forms<'a>(alloc: Global) -> Result<Command<'a>, AllocError>
+    ensures { IfOk result (λ forms. app_of forms ≡ forms_app) }
+{
     Command::new(alloc, "tcpkit")
         .subcommand_required(true)
         .subcommand(form(alloc, DECODE)?)?
@@ -70,8 +75,13 @@ fn fault(error: &ParseError) -> WordsError
     }
 }
 
-/// The path of the form that has this name.
-fn file(alloc: Global, form: &ArgMatches) -> Result<String, WordsError> {
+/// The path of the file that a form was given.
+fn file(alloc: Global, form: &ArgMatches) -> Result<String, WordsError>
+    ensures found { IfOk result (λ path.
+        first_value (found_of form.now) (codes "FILE") ≡ Some (string_bytes path)) }
+    ensures none { result ≡ Err WordsError.BadWords
+        → first_value (found_of form.now) (codes "FILE") ≡ None }
+{
     let Some(file) = form.get_str("FILE") else {
         return Err(WordsError::BadWords);
     };
@@ -81,8 +91,17 @@ fn file(alloc: Global, form: &ArgMatches) -> Result<String, WordsError> {
     }
 }
 
-/// Reads the program's words, its own name first.
-pub fn read_words(alloc: Global, words: Vec<String>) -> Result<Job, WordsError> {
+/// Reads the program's words, its own name first: `decode FILE` or `replay FILE`. A FILE that begins with a
+/// hyphen, but for `-` alone, has to stand behind `--`, and any other may.
+///
+/// # Errors
+/// `BadWords` only where the words ask for no job, and `NoMemory` at any words.
+pub fn read_words(alloc: Global, words: Vec<String>) -> Result<Job, WordsError>
+    ensures asked { IfOk result (λ job.
+        asked_by (map string_bytes words.items) ≡ Some (name_of job, path_of job)) }
+    ensures refused { result ≡ Err WordsError.BadWords
+        → asked_by (map string_bytes words.items) ≡ None }
+{
     let Ok(command) = forms(alloc) else {
         return Err(WordsError::NoMemory);
     };

@@ -1,4 +1,4 @@
-//! What the program's words mean, which no clause says.
+//! That the program's words are read: by its clauses `read_words` may refuse any of them for want of memory.
 use crate::command_line::{Job, WordsError, read_words};
 use std::alloc::{AllocError, Global};
 use std::test::Fail;

@@ -1,0 +1,3 @@
+pub mod ParsedWords
+mod WordsExamples
+pub mod WordsLemmas
