@@ -88,7 +88,9 @@ same "names of the static library" "$(exports "$library")" "$(sed 's/^/tcp_c_/' 
 needs=$(nm "$library" --undefined-only | awk 'NF == 2 { print $2 }' | sort)
 same "names that it needs" "$needs" "$(printf '%s\n' memcpy memmove memset rattle_alloc rattle_dealloc)"
 check_with gcc libasan8
-ln -sf libtcpcore.gcc.so out/libtcpcore.so
+# A new file: one that a running program has mapped is left as it is.
+cp out/libtcpcore.gcc.so out/new.so
+mv -f out/new.so out/libtcpcore.so
 if has clang clang --version; then
     check_with clang libclang-rt-14-dev
 fi
