@@ -18,7 +18,7 @@ has() {
     local package=$1
     shift
     "$@" >/dev/null 2>&1 && return
-    apt-get install -y "$package" >/dev/null 2>&1 || true
+    { apt-get update && apt-get install -y "$package"; } >/dev/null 2>&1 || true
     "$@" >/dev/null 2>&1 && return
     echo "capi: left out: no $package"
     return 1
