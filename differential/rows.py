@@ -6,7 +6,7 @@ met with every kind of segment; behind these stand rows for single rules.
 
 import struct
 
-from end import ACK, FIN, HALF, PSH, RST, SPACE, SYN, End, Segment
+from end import ACK, FIN, PSH, RST, SPACE, SYN, End, Segment
 from program import TOP, hexadecimal, with_checksum
 
 OWN, PEER = (bytes([10, 0, 0, 2]), 2), (bytes([10, 0, 0, 1]), 1)

@@ -1,7 +1,6 @@
 """What is run against the kernel. Each case is a function of the lab: it raises where something differs, else answers its session."""
 
 import random
-import socket
 
 import kernel as kernel_side
 from host import Traffic
