@@ -34,7 +34,8 @@
  *   define your own, as static_block.c does.
  *
  * STACK
- *   A call takes at most TCPCORE_STACK bytes, beside what the memory functions that you link take.
+ *   A call takes less than TCPCORE_STACK bytes, beside what the memory functions that you link take. That is measured by the tests
+ *   (stack.c), not proved.
  *
  * THREADS
  *   None is started. One end is used by one thread at a time; two ends have nothing in common. Not for signal handlers.

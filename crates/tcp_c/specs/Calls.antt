@@ -1,4 +1,4 @@
--- What the calls of the user and the timers tell and do.
+-- What the calls of the user (RFC 9293, 3.10.1 to 3.10.5) and the timers (3.10.8) tell and do.
 use Rattle.std.specs.Prelude.{ℕ, ◌+◌, ◌==◌, if◌then◌else◌, List, [], Option, Some, None, Result, Ok, Err}
 use Rattle.tcp_conn.specs.declared.outcome.CallError.{CallError}
 use Rattle.tcp_conn.specs.declared.outcome.Received.{Received}

@@ -1,4 +1,4 @@
--- What C tells of a new end.
+-- What C tells of a new end (RFC 9293, 3.4.1 and 3.7.1; RFC 7323, 2.2; RFC 2018, 2).
 use Rattle.std.specs.Prelude.{not, ◌==◌, if◌then◌else◌, Some, None}
 use Rattle.tcp_conn.specs.declared.config.Config.{Config}
 use Rattle.tcp_c.specs.declared.records.CConfig.{CConfig}

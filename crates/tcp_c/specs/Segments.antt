@@ -1,4 +1,4 @@
--- What an emission into a buffer of any length tells and does.
+-- What an emission (RFC 9293, 3.7, 3.8 and 3.10) into a buffer of any length tells and does.
 use Rattle.std.specs.Prelude.{ℕ, nat_lt, if◌then◌else◌, List, [], ◌∷◌, length, is_some, unwrap_or, Option, Some, None}
 use Rattle.tcp_conn.specs.declared.emission.TheConstants.{EMIT_ROOM}
 use Rattle.tcp_conn.specs.State.{State}

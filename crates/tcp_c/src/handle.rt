@@ -13,7 +13,8 @@ pub const MARK_OF_LIVE: u64 = 0x7443_5052_6174_746c;
 /// What C places, zeroes and hands to each call: an end, or none.
 #[repr(C)]
 pub struct Handle {
-    mark: u64,
+    /// `MARK_OF_LIVE` exactly where it holds an end.
+    pub mark: u64,
     pub held: Held,
     pub ghost agrees: { (mark ≡ MARK_OF_LIVE) ↔ IsSome held.end },
 }

@@ -88,6 +88,7 @@ after_blocks iss s [] = s
 after_blocks iss s (block ∷ blocks) =
     after_blocks iss (after_block s (position_of iss s.una block.0) (position_of iss s.una block.1)) blocks
 
+-- the blocks of all options (RFC 2018, 3 and 5)
 abbrev pub after_told_blocks : State → Content → State
 after_told_blocks s v = record s { sending = after_blocks s.config.isn.0 s.sending (blocks_told v.options) }
 

@@ -216,7 +216,8 @@ impl<A: Allocator> Endpoint<A> {
         }
     }
 
-    /// The blocks of all options (RFC 2018, 5).
+    /// The blocks of all options (RFC 2018, 5). It stands apart, as `open` and `accept` do: a list of options among the locals
+    /// of a plain arrival would be zeroed each time.
     #[inline(never)]
     fn take_blocks(&mut self, segment: &RawSegment<'_>)
         requires { length segment.now.area.now ≤ 40 }

@@ -314,7 +314,8 @@ impl<A: Allocator> Endpoint<A> {
         write_around(&header, count, self.config.addr, self.peer.addr, out)
     }
 
-    /// Writes a segment with text and the options that tell these blocks.
+    /// Writes a segment with text and the options that tell these blocks. It stands apart, as the writing of a SYN and a reset
+    /// does, so that a plain segment has no list of options among its locals.
     #[inline(never)]
     fn write_blocks(&self, due: Due, blocks: ArrayVec<(Seq, Seq), 4>, out: &mut [u8]) -> usize
         requires lies { Lies self.now.sending 1460 due }

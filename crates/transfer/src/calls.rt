@@ -94,7 +94,7 @@ fn write_often(count: u32, segment: &Segment<'_>, out: &mut [u8; LEN]) -> u32
 }
 
 /// Makes so many calls, and answers a number that hangs on each of them; none where the segments couldn't be written.
-pub fn repeat(call: Call, count: u32) -> Option<u32> {
+pub(crate) fn repeat(call: Call, count: u32) -> Option<u32> {
     let text_of_first = [b'a'; TEXT];
     let text_of_second = [b'b'; TEXT];
     let first = segment_of(&text_of_first);
