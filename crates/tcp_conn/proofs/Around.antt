@@ -2,7 +2,7 @@
 use Rattle.std.proofs.Common.{◌≡◌, ℕ, ◌+◌, ◌-◌, ◌≤◌, List, length, map, sym, ◌∙◌, ap, arith}
 use Rattle.tcp_wire.specs.declared.header.Header.{Header}
 use Rattle.tcp_wire.specs.Wire.{Content, wire_length}
-use Rattle.tcp_wire.specs.View.{option_content, with_text, data_offset, around}
+use Rattle.tcp_wire.specs.View.{option_content, with_text, text_offset, around}
 use borrow.Rule.Slice.PartMut.{put_mid}
 use Rattle.tcp_wire.proofs.Places.{around_put, length_around}
 use Rattle.tcp_conn.specs.declared.due.Due.{Due}
@@ -19,9 +19,9 @@ pub record IsAround (s : State) (due : Due) (header : Header) (at n : ℕ) (old 
   pub same : around header n (put_mid at (at + n - at) old part) ≡ plain_segment s due
 
 pub is_around : (s : State) (due : Due) (header : Header) (at n : ℕ) (old part : List ℕ) → Lies s.sending 1460 due → with_text header (text_of s.sending due) ≡ plain_segment s due
-    → at ≡ data_offset (sack_options (told_blocks s)) 0 → n ≡ count_of due → part ≡ text_of s.sending due → 1520 ≤ length old → IsAround s due header at n old part
+    → at ≡ text_offset (sack_options (told_blocks s)) 0 → n ≡ count_of due → part ≡ text_of s.sending due → 1520 ≤ length old → IsAround s due header at n old part
 is_around s due header at n old part lies says at_is n_is part_is room =
-    let placed : at ≡ data_offset (map option_content header.options.now) header.pad = at_is ∙ sym (ap (λ (v : Content). data_offset v.options v.pad) says) in
+    let placed : at ≡ text_offset (map option_content header.options.now) header.pad = at_is ∙ sym (ap (λ (v : Content). text_offset v.options v.pad) says) in
     let long : length (text_of s.sending due) ≡ n = text_as_long s.sending due lies ∙ sym n_is in
     let whole : wire_length (plain_segment s due) ≡ at + n = length_around header at n (text_of s.sending due) (plain_segment s due) placed long says in
     let fits : at + n ≤ length old = omega (arith, whole, plain_segment_short s due lies, room) in

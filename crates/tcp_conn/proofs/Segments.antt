@@ -8,7 +8,7 @@ use Rattle.tcp_wire.specs.Flags.{fin, syn, rst, psh, ack}
 use Rattle.tcp_wire.specs.Checksum.{AreBytes}
 use Rattle.tcp_wire.specs.Options.{Mss, spellings, block_bytes, IsBlock, AreSpellable}
 use Rattle.tcp_wire.specs.Wire.{Content, IsValid, option_bytes, wire_length}
-use Rattle.tcp_wire.specs.View.{data_offset}
+use Rattle.tcp_wire.specs.View.{text_offset}
 use Rattle.tcp_wire.proofs.OptionLaws.{blocks_bytes_length}
 use Rattle.tcp_reasm.specs.Reassembly.{Inbox, blocks}
 use Rattle.tcp_conn.specs.declared.due.Due.{Due}
@@ -52,7 +52,7 @@ pub told_spellable : (s : State) → AreSpellable (sack_options (told_blocks s))
 told_spellable s = sack-spellable (told_blocks s) (told_blocks-few s) (told_blocks-are_blocks s)
 
 -- where their text begins
-pub offset_of_told : (s : State) → data_offset (sack_options (told_blocks s)) 0 ≡ 20 + sack_length (told_blocks s)
+pub offset_of_told : (s : State) → text_offset (sack_options (told_blocks s)) 0 ≡ 20 + sack_length (told_blocks s)
 offset_of_told s =
     let options = spellings (sack_options (told_blocks s)) in
     omega (arith, length-sack_options (told_blocks s), length-append options (replicate {A = ℕ} 0 0))

@@ -1,7 +1,7 @@
 //! What an end emits (RFC 9293, 3.7, 3.8 and 3.10; RFC 2018, 4).
 ghost use Rattle.std.specs.Prelude.{◌≡◌, ◌<◌, ◌≤◌, ◌+◌, ◌^◌, ◌++◌, length, map, drop, IfSome, Some, option_map};
 ghost use Rattle.tcp_wire.specs.Checksum.{AreBytes};
-ghost use Rattle.tcp_wire.specs.View.{block, option_content, content, with_text, data_offset};
+ghost use Rattle.tcp_wire.specs.View.{block, option_content, content, with_text, text_offset};
 ghost use Rattle.tcp_wire.specs.Wire.{wire_length, encoded_bytes, IsValid};
 ghost use Rattle.tcp_conn.specs.State.{State, IsWithin};
 ghost use Rattle.tcp_conn.specs.Inside.{FitsFields};
@@ -13,7 +13,7 @@ use crate::fields::MAX_WINDOW;
 use crate::link::WaitingReset;
 use arrayvec::ArrayVec;
 use std::alloc::Allocator;
-use tcp_wire::{Addr, Flags, Header, Segment, Seq, TcpOption, data_offset, encode, write_around};
+use tcp_wire::{Addr, Flags, Header, Segment, Seq, TcpOption, encode, text_offset, write_around};
 
 /// The bytes that `emit` asks room for: more than the longest segment that an end writes.
 pub const EMIT_ROOM: usize = 1520;
@@ -290,10 +290,10 @@ impl<A: Allocator> Endpoint<A> {
     #[tactic(auto, using(crate::proofs::Segments::told_spellable, crate::proofs::Segments::offset_of_told, crate::proofs::Segments::told_options_short))]
     fn text_start(&self, options: &[TcpOption<'_>]) -> usize
         requires { map option_content options.now ≡ sack_options (told_blocks self.now) }
-        ensures offset { result ≡ data_offset (sack_options (told_blocks self.now)) 0 }
+        ensures offset { result ≡ text_offset (sack_options (told_blocks self.now)) 0 }
         ensures most { result ≤ 60 }
     {
-        data_offset(options, 0)
+        text_offset(options, 0)
     }
 
     /// Writes a segment with text and these options into the front of `out`, and answers its length. The text goes from the

@@ -5,7 +5,7 @@ use Rattle.byteorder.specs.Endian.{big_bytes}
 use Rattle.tcp_wire.specs.Checksum.{field}
 use Rattle.tcp_wire.specs.Wire.{Content, wire_length, segment_bytes, encoded_bytes}
 use Rattle.tcp_wire.specs.declared.header.Header.{Header}
-use Rattle.tcp_wire.specs.View.{option_content, with_text, data_offset, around}
+use Rattle.tcp_wire.specs.View.{option_content, with_text, text_offset, around}
 use Rattle.tcp_wire.proofs.Writing.{length_segment_bytes}
 use borrow.Rule.Slice.PartMut.{put_mid}
 
@@ -41,7 +41,7 @@ drop_put at n k old part room k_is len =
     ap (drop at) (put_is at n k old part room k_is) ∙ drop_at (take at old) (part ++ drop n (drop at old)) at (length-take-le at old (omega arith))
 
 -- a header around text that is put to its place says what the two say
-pub around_put : (fields : Header) (at n k : ℕ) (old part text : List ℕ) (v : Content) → at ≡ data_offset (map option_content fields.options.now) fields.pad → at + n ≤ length old
+pub around_put : (fields : Header) (at n k : ℕ) (old part text : List ℕ) (v : Content) → at ≡ text_offset (map option_content fields.options.now) fields.pad → at + n ≤ length old
     → k ≡ n → length text ≡ n → part ≡ text → with_text fields text ≡ v → around fields n (put_mid at k old part) ≡ v
 around_put fields at n k old part text v at_is room k_is len part_is is =
     let part_len : length part ≡ n = ap length part_is ∙ len in
@@ -61,7 +61,7 @@ encoded_over src dst v w at n k new old part room k_is part_len whole same is =
     ∙ ap (λ (m : ℕ). encoded_bytes src dst w ++ drop m old) (sym whole)
 
 -- the length of the whole, by where its text stands
-pub length_around : (fields : Header) (at n : ℕ) (text : List ℕ) (v : Content) → at ≡ data_offset (map option_content fields.options.now) fields.pad → length text ≡ n
+pub length_around : (fields : Header) (at n : ℕ) (text : List ℕ) (v : Content) → at ≡ text_offset (map option_content fields.options.now) fields.pad → length text ≡ n
     → with_text fields text ≡ v → wire_length v ≡ at + n
 length_around fields at n text v at_is len is = omega (arith, ap wire_length is)
 

@@ -38,11 +38,12 @@ content segment = record {
   text = segment.text.now;
 }
 
--- the options in an area behind the fixed header and the count of zeros behind them; none where it can't be read
+-- what was read of an area; no options and no zeros where it can't be read
 abbrev pub listed_or_none : Result (List OptionContent × ℕ) DecodeError → List OptionContent × ℕ
 listed_or_none (Ok listed) = listed
 listed_or_none (Err e) = ([], 0)
 
+-- the options in the area behind the fixed header and the count of zeros behind them (RFC 9293, 3.1)
 abbrev pub options_of : List ℕ → List OptionContent × ℕ
 options_of area = listed_or_none (options_in 40 header_len area)
 
@@ -79,13 +80,13 @@ with_text header text = record {
 }
 
 -- the Data Offset in bytes, where the text begins: behind the fixed header, options and zeros
-abbrev pub data_offset : List OptionContent → ℕ → ℕ
-data_offset options pad = header_len + length (spellings options ++ replicate {A = ℕ} pad 0)
+abbrev pub text_offset : List OptionContent → ℕ → ℕ
+text_offset options pad = header_len + length (spellings options ++ replicate {A = ℕ} pad 0)
 
 -- a header with the text that stands in `out` behind its place
 abbrev pub around : Header → ℕ → List ℕ → Content
 around header text_len out =
-    with_text header (take text_len (drop (data_offset (map option_content header.options.now) header.pad) out))
+    with_text header (take text_len (drop (text_offset (map option_content header.options.now) header.pad) out))
 
 -- an Unknown option's body is the slice that lies at this address
 abbrev pub BodyIs : ℕ × ℕ → TcpOption → Type 0

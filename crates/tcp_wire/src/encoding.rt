@@ -1,10 +1,10 @@
 ghost use Rattle.std.specs.Prelude.{◌≡◌, ◌⊎◌, ◌+◌, ◌/◌, ◌++◌, ◌≤◌, ℕ, List, [], length, map, drop};
 ghost use Rattle.tcp_wire.specs.Options.{AreSpellable};
 ghost use Rattle.tcp_wire.specs.Wire.{IsWire, IsValid, HasOtherZero, header_len, option_bytes, wire_length, encoded_bytes, segment_bytes, header};
-ghost use Rattle.tcp_wire.specs.View.{content, option_content, with_text, data_offset, around};
+ghost use Rattle.tcp_wire.specs.View.{content, option_content, with_text, text_offset, around};
 
 use crate::addr::Addr;
-use crate::header::{Header, data_offset};
+use crate::header::{Header, text_offset};
 use crate::option_writing::write_options;
 use crate::segment::{HEADER_LEN, Segment};
 use crate::sums::checksum;
@@ -45,7 +45,7 @@ fn write_area(fields: &Header<'_>, out: &mut [u8]) -> usize
 /// Writes all but the text, with a checksum field of zero, and answers the length of the whole.
 fn write_unsummed(fields: &Header<'_>, text_len: usize, out: &mut [u8]) -> usize
     requires valid { IsValid (around fields.now text_len out.old) }
-    requires room { data_offset (map option_content fields.now.options.now) fields.now.pad + text_len ≤ length out.old }
+    requires room { text_offset (map option_content fields.now.options.now) fields.now.pad + text_len ≤ length out.old }
     ensures len { result ≡ wire_length (around fields.now text_len out.old) }
     ensures written { out.new ≡ segment_bytes (around fields.now text_len out.old) 0 ++ drop (wire_length (around fields.now text_len out.old)) out.old }
 {
@@ -54,7 +54,7 @@ fn write_unsummed(fields: &Header<'_>, text_len: usize, out: &mut [u8]) -> usize
     offset + text_len
 }
 
-/// Writes header, options and checksum around the text of a segment, which stands in `out` already, `data_offset` bytes
+/// Writes header, options and checksum around the text of a segment, which stands in `out` already, `text_offset` bytes
 /// behind its front. Answers the length of the whole segment. The rest of `out` stays.
 pub fn write_around(
     fields: &Header<'_>,
@@ -64,7 +64,7 @@ pub fn write_around(
     out: &mut [u8],
 ) -> usize
     requires valid { IsValid (around fields.now text_len out.old) }
-    requires room { data_offset (map option_content fields.now.options.now) fields.now.pad + text_len ≤ length out.old }
+    requires room { text_offset (map option_content fields.now.options.now) fields.now.pad + text_len ≤ length out.old }
     ensures len { result ≡ wire_length (around fields.now text_len out.old) }
     ensures written { out.new ≡ encoded_bytes src.0 dst.0 (around fields.now text_len out.old) ++ drop (wire_length (around fields.now text_len out.old)) out.old }
     ensures wire { IsWire src.0 dst.0 (around fields.now text_len out.old) (encoded_bytes src.0 dst.0 (around fields.now text_len out.old)) }
@@ -89,7 +89,7 @@ pub fn encode(segment: &Segment<'_>, src: Addr, dst: Addr, out: &mut [u8]) -> us
     ensures only { (other : List ℕ) → IsWire src.0 dst.0 (content segment.now) other → (other ≡ encoded_bytes src.0 dst.0 (content segment.now)) ⊎ HasOtherZero (encoded_bytes src.0 dst.0 (content segment.now)) other }
 {
     let fields = segment.header();
-    let at = data_offset(fields.options, fields.pad);
+    let at = text_offset(fields.options, fields.pad);
     let len = segment.text.len();
     out[at..at + len].copy_from_slice(segment.text);
     write_around(&fields, len, src, dst, out)

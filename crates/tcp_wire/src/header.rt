@@ -1,6 +1,6 @@
 ghost use Rattle.std.specs.Prelude.{◌≡◌, ◌+◌, ◌≤◌, length, map};
 ghost use Rattle.tcp_wire.specs.Options.{AreSpellable};
-ghost use Rattle.tcp_wire.specs.View.{option_content, data_offset};
+ghost use Rattle.tcp_wire.specs.View.{option_content, text_offset};
 
 use crate::flags::Flags;
 use crate::option::TcpOption;
@@ -30,10 +30,10 @@ pub struct Header<'a> {
 
 /// The Data Offset (RFC 9293, 3.1) in bytes, where the text of a segment with these options and this padding begins: behind
 /// the fixed header, the options, at most 40 of which each can be written, and the zeros.
-pub fn data_offset(options: &[TcpOption<'_>], pad: u8) -> usize
+pub fn text_offset(options: &[TcpOption<'_>], pad: u8) -> usize
     requires few { length options.now ≤ 40 }
     requires spellable { AreSpellable (map option_content options.now) }
-    ensures { result ≡ data_offset (map option_content options.now) pad }
+    ensures { result ≡ text_offset (map option_content options.now) pad }
 {
     match area_len(options, pad) {
         None => 0,

@@ -22,7 +22,7 @@ pub use decoding::decode;
 pub use encoding::{encode, write_around};
 pub use fault::DecodeError;
 pub use flags::Flags;
-pub use header::{Header, data_offset};
+pub use header::{Header, text_offset};
 pub use option::TcpOption;
 pub use raw::RawSegment;
 pub use segment::Segment;

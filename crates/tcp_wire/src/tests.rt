@@ -227,7 +227,7 @@ fn text_that_stands_already(rt: HostRuntime) {
     };
     let mut out = [0xaa; 22];
     out[20] = 0x41;
-    assert_eq!(rt; data_offset(&[], 0), 20);
+    assert_eq!(rt; text_offset(&[], 0), 20);
     assert_eq!(rt; write_around(&fields, 1, SRC, DST, &mut out), 21);
     let expected = [
         0x00, 0x01, 0x00, 0x02, 0x00, 0x00, 0x00, 0x01, 0x00, 0x00, 0x00, 0x01, 0x50, 0x10, 0x10,
