@@ -6,12 +6,12 @@
 set -eu
 
 top=$(cd "$(dirname "$0")/.." && pwd)
-program=${1:-$top/crates/transfer/out/transfer}
+program=${1:-$top/crates/bench_transfer/out/bench_transfer}
 short=200
 long=400
 
 if [ ! -x "$program" ]; then
-    (cd "$top/crates/transfer" && rt run -- in_order 1 65536 >/dev/null)
+    (cd "$top/crates/bench_transfer" && rt run -- in_order 1 65536 >/dev/null)
 fi
 
 # The instructions of a run with these words.

@@ -5,7 +5,7 @@
 set -eu
 
 top=$(cd "$(dirname "$0")/.." && pwd)
-ours=${1:-$top/crates/transfer/out/transfer}
+ours=${1:-$top/crates/bench_transfer/out/bench_transfer}
 out=$top/bench/out
 short=200
 long=400
@@ -42,7 +42,7 @@ segment() {
 
 [ -d "$out/lwip-2.1.3" ] || fetch
 if [ ! -x "$ours" ]; then
-    (cd "$top/crates/transfer" && rt run -- in_order 1 65536 >/dev/null)
+    (cd "$top/crates/bench_transfer" && rt run -- in_order 1 65536 >/dev/null)
 fi
 build shipped -O2
 build best -O3 -flto -march=x86-64-v2 -DBEST

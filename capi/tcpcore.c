@@ -1,8 +1,10 @@
 /*
- * The thin layer between C and the proved library: NULL, lengths, copied structs and buffers over the struct, then the library's own
- * call. What it tells goes to a local first: the library rests on pointers of which no two are to the same bytes.
+ * The thin layer between C and the proved library: NULL, lengths, copied structs, and buffers or places over the struct, then the
+ * library's own call. What that finds goes to a local first: the library rests on pointers of which no two are to the same bytes.
  */
 #include "tcpcore.h"
+
+#include <string.h>
 
 /* The struct's first two words are the library's handle; the third is the struct's own address while it holds an end. */
 struct handle {
@@ -43,21 +45,40 @@ static uint32_t refusal(const tcpcore_end *end)
     return empty || end->opaque[OWNER] == (uintptr_t)end ? TCPCORE_DONE : TCPCORE_COPIED;
 }
 
-/* Whether the struct and a buffer have a byte in common. */
-static int overlaps(const tcpcore_end *end, const void *bytes, size_t length)
+/* Whether two stretches of memory have a byte in common. */
+static int overlap(const void *one, size_t size, const void *other, size_t length)
 {
-    uintptr_t place = (uintptr_t)end, first = (uintptr_t)bytes;
-    return length > 0 && first < place + sizeof *end && place < first + length;
+    uintptr_t first = (uintptr_t)one, second = (uintptr_t)other;
+    return first < second ? second - first < size && length > 0 : first - second < length && size > 0;
 }
 
-/* The same with a buffer beside it, and a pointer through which something is told. */
-static uint32_t refusal_with(const tcpcore_end *end, const void *bytes, size_t length, const void *told)
+/* Where a call writes what it has found: a count, an address, the timers, a status. */
+struct place {
+    void *at;
+    size_t size;
+};
+
+/* Whether it may be written there: not over the struct, and not over the buffer of the same call. */
+static int is_apart(struct place place, const tcpcore_end *end, const void *bytes, size_t length)
 {
-    if (!end || !told || (!bytes && length > 0))
+    return !overlap(place.at, place.size, end, sizeof *end) && !overlap(place.at, place.size, bytes, length);
+}
+
+/* The same with a buffer beside the struct, and a place for what the call finds. */
+static uint32_t refusal_with(const tcpcore_end *end, const void *bytes, size_t length, struct place place)
+{
+    if (!end || !place.at || (!bytes && length > 0))
         return TCPCORE_NULL;
     if (length > PTRDIFF_MAX)
         return TCPCORE_LENGTH;
-    return overlaps(end, bytes, length) ? TCPCORE_OVERLAP : refusal(end);
+    return overlap(end, sizeof *end, bytes, length) || !is_apart(place, end, bytes, length) ? TCPCORE_OVERLAP : refusal(end);
+}
+
+/* Writes what a call has found, but over the struct or the buffer. */
+static void put(struct place place, const tcpcore_end *end, const void *bytes, size_t length, const void *found)
+{
+    if (place.at && is_apart(place, end, bytes, length > PTRDIFF_MAX ? 0 : length))
+        memcpy(place.at, found, place.size);
 }
 
 /* A slice is never at NULL, even an empty one. */
@@ -103,23 +124,23 @@ uint32_t tcpcore_listen(tcpcore_end *end)
 
 uint32_t tcpcore_send(tcpcore_end *end, const void *text, size_t length, size_t *taken)
 {
-    size_t told = 0;
-    uint32_t answer = refusal_with(end, text, length, taken);
+    size_t found = 0;
+    struct place place = {taken, sizeof *taken};
+    uint32_t answer = refusal_with(end, text, length, place);
     if (answer == TCPCORE_DONE)
-        answer = tcp_c_send(handle(end), start(text), length, &told);
-    if (taken)
-        *taken = told;
+        answer = tcp_c_send(handle(end), start(text), length, &found);
+    put(place, end, text, length, &found);
     return answer;
 }
 
 uint32_t tcpcore_receive(tcpcore_end *end, void *out, size_t room, size_t *count)
 {
-    size_t told = 0;
-    uint32_t answer = refusal_with(end, out, room, count);
+    size_t found = 0;
+    struct place place = {count, sizeof *count};
+    uint32_t answer = refusal_with(end, out, room, place);
     if (answer == TCPCORE_DONE)
-        answer = tcp_c_receive(handle(end), start(out), room, &told);
-    if (count)
-        *count = told;
+        answer = tcp_c_receive(handle(end), start(out), room, &found);
+    put(place, end, out, room, &found);
     return answer;
 }
 
@@ -143,42 +164,44 @@ uint32_t tcpcore_timer(tcpcore_end *end, uint32_t timer)
 
 uint32_t tcpcore_arrive(tcpcore_end *end, tcpcore_addr src, tcpcore_addr dst, const void *bytes, size_t length)
 {
-    uint32_t answer = refusal_with(end, bytes, length, end);
+    static uint8_t nothing;
+    uint32_t answer = refusal_with(end, bytes, length, (struct place){&nothing, 0});
     return answer != TCPCORE_DONE ? answer : tcp_c_arrive(handle(end), &src, &dst, start(bytes), length);
 }
 
 uint32_t tcpcore_emit(tcpcore_end *end, void *out, size_t room, tcpcore_addr *to, size_t *length)
 {
     tcpcore_addr address = {{0, 0, 0, 0}};
-    size_t told = 0;
-    uint32_t answer = to ? refusal_with(end, out, room, length) : TCPCORE_NULL;
+    size_t found = 0;
+    struct place where = {to, sizeof *to}, place = {length, sizeof *length};
+    uint32_t answer = to ? refusal_with(end, out, room, place) : TCPCORE_NULL;
+    if (answer == TCPCORE_DONE && (!is_apart(where, end, out, room) || overlap(to, sizeof *to, length, sizeof *length)))
+        answer = TCPCORE_OVERLAP;
     if (answer == TCPCORE_DONE)
-        answer = tcp_c_emit(handle(end), start(out), room, &address, &told);
-    if (to)
-        *to = address;
-    if (length)
-        *length = told;
+        answer = tcp_c_emit(handle(end), start(out), room, &address, &found);
+    put(where, end, out, room, &address);
+    put(place, end, out, room, &found);
     return answer;
 }
 
 uint32_t tcpcore_timers(tcpcore_end *end, uint32_t *due)
 {
-    uint32_t told = 0;
-    uint32_t answer = refusal_with(end, NULL, 0, due);
+    uint32_t found = 0;
+    struct place place = {due, sizeof *due};
+    uint32_t answer = refusal_with(end, NULL, 0, place);
     if (answer == TCPCORE_DONE)
-        answer = tcp_c_timers(handle(end), &told);
-    if (due)
-        *due = told;
+        answer = tcp_c_timers(handle(end), &found);
+    put(place, end, NULL, 0, &found);
     return answer;
 }
 
 uint32_t tcpcore_status(tcpcore_end *end, struct tcpcore_status *status)
 {
-    struct tcpcore_status told = {0, 0, 0, 0, 0};
-    uint32_t answer = refusal_with(end, NULL, 0, status);
+    struct tcpcore_status found = {0, 0, 0, 0, 0};
+    struct place place = {status, sizeof *status};
+    uint32_t answer = refusal_with(end, NULL, 0, place);
     if (answer == TCPCORE_DONE)
-        answer = tcp_c_status(handle(end), &told);
-    if (status)
-        *status = told;
+        answer = tcp_c_status(handle(end), &found);
+    put(place, end, NULL, 0, &found);
     return answer;
 }

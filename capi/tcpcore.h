@@ -31,24 +31,25 @@
  *   tcpcore_new takes three blocks: the send capacity, the receive capacity, and the end itself, aligned to 8 bytes.
  *   TCPCORE_MEMORY(send, receive) is their sum in bytes. No other call takes any, and tcpcore_free gives all of it back. Blocks
  *   come from rattle_alloc and go back to rattle_dealloc: liblibc_c.a of the toolchain has them over malloc and free, or
- *   define your own, as static_block.c does.
+ *   define your own, as examples/static_block.c does.
  *
  * STACK
  *   A call takes less than TCPCORE_STACK bytes, beside what the memory functions that you link take. That is measured by the tests
- *   (stack.c), not proved.
+ *   (tests/stack.c), not proved.
  *
  * THREADS
  *   None is started. One end is used by one thread at a time; two ends have nothing in common. Not for signal handlers.
  *
  * WHO OWNS WHAT
  *   The caller places the struct tcpcore_end, sets it to TCPCORE_END_INIT, and frees what tcpcore_new put into it. The struct
- *   isn't copied or moved while it holds an end: a copy is refused (TCPCORE_COPIED). Buffers belong to the caller; no call
- *   keeps a pointer to one.
+ *   isn't copied or moved while it holds an end: a copy is refused (TCPCORE_COPIED). A struct whose bytes were saved, and put back
+ *   to the same place after its end was freed, can't be found out. Buffers belong to the caller; no call keeps a pointer to one.
  *
  * ANSWERS
- *   Each function answers one number of the table below. A refusal changes no end. What a call tells through a pointer (a count, an
- *   address, timers, a status) is written at every answer, and is all 0 unless the answer is TCPCORE_DONE; buffers stay as they
- *   are then. A buffer may be NULL where its length is 0.
+ *   Each function answers one number of the table below. A refusal changes no end. What a call writes through a pointer (a count,
+ *   an address, timers, a status) is written at every answer, and is all 0 unless the answer is TCPCORE_DONE; buffers stay as they
+ *   are then. Such a pointer may not be over the struct, over the buffer of the same call, or over another such pointer: the answer
+ *   is TCPCORE_OVERLAP, and nothing is written there. A buffer may be NULL where its length is 0.
  *
  * WHAT IS TRUSTED
  *   What a call does to an end is proved of the library. Not proved: that this header agrees with it, tcpcore.c, the C compiler,
@@ -96,7 +97,7 @@ enum {
     TCPCORE_NULL = 35,      /* a pointer is NULL */
     TCPCORE_LENGTH = 36,    /* a length is above PTRDIFF_MAX */
     TCPCORE_COPIED = 37,    /* the struct was copied or moved, or never set */
-    TCPCORE_OVERLAP = 38,   /* a buffer lies over the struct */
+    TCPCORE_OVERLAP = 38,   /* a buffer or a pointer that is written through lies over the struct, or over the buffer */
     /* The call was made and found this. */
     TCPCORE_NOTHING = 51,       /* tcpcore_receive: nothing to read yet */
     TCPCORE_END_OF_STREAM = 52, /* tcpcore_receive: the peer closed, and all its bytes were handed over */

@@ -1,6 +1,6 @@
 #!/usr/bin/env bash
 # Builds the C layer, the examples and the tests with gcc and clang over a static library (the first argument, or crates/tcp_c's own),
-# and compares what they print with expected/. Stops at the first failure. What Debian has and this machine lacks it installs; where
+# and compares what they print with tests/expected/. Stops at the first failure. What Debian has and this machine lacks it installs; where
 # that fails it says what it left out.
 set -euo pipefail
 cd "$(dirname "$0")"
@@ -24,24 +24,24 @@ has() {
     return 1
 }
 
-# The command's output has to be expected/NAME.
+# The command's output has to be tests/expected/NAME.
 prints() {
     local name=$1
     shift
-    if ! "$@" >out/found 2>out/errors || ! cmp -s out/found "expected/$name"; then
-        echo "capi: '$*' failed, or didn't print expected/$name:"
-        diff out/found "expected/$name" || true
+    if ! "$@" >out/found 2>out/errors || ! cmp -s out/found "tests/expected/$name"; then
+        echo "capi: '$*' failed, or didn't print tests/expected/$name:"
+        diff out/found "tests/expected/$name" || true
         cat out/errors
         exit 1
     fi
     pass
 }
 
-# The program of this name, built with the words behind it and run.
+# The program FOLDER/NAME.c, built with the words after the compiler and run.
 runs() {
-    local name=$1 compiler=$2
+    local source=$1 name=${1#*/} compiler=$2
     shift 2
-    "$compiler" $warnings "$@" "$name.c" tcpcore.c "$library" "$heap" -o "out/$name.$compiler"
+    "$compiler" $warnings -I. "$@" "$source.c" tcpcore.c "$library" "$heap" -o "out/$name.$compiler"
     prints "$name" "out/$name.$compiler"
 }
 
@@ -63,22 +63,22 @@ check_with() {
     "$compiler" -std=c++11 -Wall -Wextra -Wpedantic -Werror -fsyntax-only -x c++-header tcpcore.h
     pass
     for level in -O0 -O2; do
-        runs two_ends "$compiler" "$level"
-        runs misuse "$compiler" "$level"
-        runs stack "$compiler" "$level" -static
+        runs examples/two_ends "$compiler" "$level"
+        runs tests/misuse "$compiler" "$level"
+        runs tests/stack "$compiler" "$level" -static
     done
     # No C library: the functions that are needed come from the program.
-    "$compiler" $warnings -O2 -ffreestanding -fno-stack-protector -nostdlib -static static_block.c tcpcore.c "$library" \
+    "$compiler" $warnings -O2 -ffreestanding -fno-stack-protector -nostdlib -static -I. examples/static_block.c tcpcore.c "$library" \
         -o "out/static_block.$compiler"
     prints static_block "out/static_block.$compiler"
     # The shared library: the header's calls and no other name.
     "$compiler" $warnings -O2 -shared -fPIC tcpcore.c "$library" "$heap" -Wl,--exclude-libs,ALL -Wl,-z,defs \
         -o "out/libtcpcore.$compiler.so"
     same "exported names" "$(exports -D "out/libtcpcore.$compiler.so")" "$(sed 's/^/tcpcore_/' <<<"$calls")"
-    prints two_ends env LIBTCPCORE="$PWD/out/libtcpcore.$compiler.so" python3 two_ends.py
-    if has "$package" "$compiler" $sanitizers misuse.c tcpcore.c "$library" "$heap" -o out/sanitized; then
-        runs two_ends "$compiler" $sanitizers
-        runs misuse "$compiler" $sanitizers
+    prints two_ends env LIBTCPCORE="$PWD/out/libtcpcore.$compiler.so" python3 examples/two_ends.py
+    if has "$package" "$compiler" $sanitizers -I. tests/misuse.c tcpcore.c "$library" "$heap" -o out/sanitized; then
+        runs examples/two_ends "$compiler" $sanitizers
+        runs tests/misuse "$compiler" $sanitizers
     fi
 }
 
@@ -95,8 +95,9 @@ if has clang clang --version; then
     check_with clang libclang-rt-14-dev
 fi
 if has valgrind valgrind --version; then
-    for name in two_ends misuse; do
-        gcc $warnings -O1 "$name.c" tcpcore.c "$library" "$heap" -o "out/$name"
+    for source in examples/two_ends tests/misuse; do
+        name=${source#*/}
+        gcc $warnings -O1 -I. "$source.c" tcpcore.c "$library" "$heap" -o "out/$name"
         prints "$name" valgrind --quiet --error-exitcode=1 --leak-check=full --errors-for-leak-kinds=all "out/$name"
     done
 fi

@@ -1,7 +1,7 @@
 """Compares one end alone with the second program, on random calls and on segments that no end of ours sent:
 python3 differential/one_end.py [COUNT]
 
-Each case is a batch of ends for `crates/tcp_alone`, whose lines its main.rt tells.
+Each case is a batch of ends for `crates/test_one_end`, whose lines its main.rt describes. `rt run < stdin` there builds it.
 """
 
 import collections
@@ -14,7 +14,7 @@ import sys
 from end import ACK, FIN, HALF, PSH, RST, SPACE, SYN, End, Segment
 from program import TOP, hexadecimal, with_checksum
 
-PROGRAM = f"{TOP}/crates/tcp_alone/out/tcp_alone"
+PROGRAM = f"{TOP}/crates/test_one_end/out/test_one_end"
 OWN, PEER = (bytes([10, 0, 0, 2]), 2), (bytes([10, 0, 0, 1]), 1)
 BATCH = 50
 
@@ -165,7 +165,7 @@ def one(rng, note):
 
 def main():
     if not os.path.exists(PROGRAM):
-        sys.exit("build the program first: cd crates/tcp_alone && rt run < stdin")
+        sys.exit("build the program first: cd crates/test_one_end && rt run < stdin")
     count = int(sys.argv[1]) if len(sys.argv) > 1 else 100
     seen = collections.Counter()
     for seed in range(0, count, BATCH):

@@ -1,6 +1,6 @@
-"""Writes the stored run of `crates/tcp_alone`: rows on one end, with what the second program tells of them.
+"""Writes the stored run of `crates/test_one_end`: rows on one end, with what the second program tells of them.
 
-python3 differential/rows.py writes crates/tcp_alone/stdin and stdout. Each row is named by a comment in stdin. Every phase is
+python3 differential/rows.py writes crates/test_one_end/stdin and stdout. Each row is named by a comment in stdin. Every phase is
 met with every kind of segment; behind these stand rows for single rules.
 """
 
@@ -293,7 +293,7 @@ def main():
     for row in rows():
         lines += row.lines
         told += row.told
-    folder = f"{TOP}/crates/tcp_alone"
+    folder = f"{TOP}/crates/test_one_end"
     with open(f"{folder}/stdin", "w") as file:
         file.write("\n".join(lines) + "\n")
     with open(f"{folder}/stdout", "w") as file:

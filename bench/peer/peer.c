@@ -1,5 +1,5 @@
 /*
- * peer MODE BURSTS: two ends of lwIP over a wire in memory, moved as crates/transfer moves two of ours, for counting what that costs.
+ * peer MODE BURSTS: two ends of lwIP over a wire in memory, moved as crates/bench_transfer moves two of ours, for counting what that costs.
  * In mode in_order a burst is two segments; in late ten and in early forty, of which the first arrives last. Its end acknowledges every
  * second segment by itself; in late and early all acknowledgements of a burst but the last are lost, since a third one would make
  * it send again.

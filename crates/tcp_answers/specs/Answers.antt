@@ -7,7 +7,7 @@ use Rattle.tcp_conn.specs.declared.outcome.Received.{Received}
 use Rattle.tcp_conn.specs.declared.outcome.Received.TheVariants.{Bytes, Nothing, EndOfStream}
 use Rattle.tcp_conn.specs.declared.outcome.Arrival.{Arrival}
 use Rattle.tcp_conn.specs.declared.outcome.Arrival.TheVariants.{Malformed, NotMine, Dropped, Processed}
-use Rattle.tcp_conn.specs.Refusals.{call_error_number}
+use Rattle.tcp_conn.specs.Outcome.{call_error_number}
 use Rattle.tcp_text.specs.Texts.{bytes_text}
 use Rattle.tcp_text.specs.Segments.{summary_text, fault_text}
 

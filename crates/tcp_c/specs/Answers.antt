@@ -7,7 +7,7 @@ use Rattle.tcp_conn.specs.declared.outcome.Received.{Received}
 use Rattle.tcp_conn.specs.declared.outcome.Received.TheVariants.{Bytes, Nothing, EndOfStream}
 use Rattle.tcp_conn.specs.declared.outcome.Arrival.{Arrival}
 use Rattle.tcp_conn.specs.declared.outcome.Arrival.TheVariants.{Malformed, NotMine, Dropped, Processed}
-use Rattle.tcp_conn.specs.Refusals.{call_error_number}
+use Rattle.tcp_conn.specs.Outcome.{call_error_number}
 use Rattle.tcp_conn.specs.State.{State}
 
 -- the call did what it is for
@@ -59,10 +59,10 @@ abbrev pub answer_of : (State → ℕ) → Option State → ℕ
 answer_of answer None = no_end
 answer_of answer (Some s) = answer s
 
--- a number that is told of the end that is held; 0 where there is none
-abbrev pub number_told : (State → ℕ) → Option State → ℕ
-number_told number None = 0
-number_told number (Some s) = number s
+-- a number that is said of the end that is held; 0 where there is none
+abbrev pub number_written : (State → ℕ) → Option State → ℕ
+number_written number None = 0
+number_written number (Some s) = number s
 
 abbrev pub call_number : {A : Type 0} → Result A CallError → ℕ
 call_number (Ok value) = done

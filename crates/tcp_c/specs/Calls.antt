@@ -6,7 +6,8 @@ use Rattle.tcp_conn.specs.declared.outcome.Received.TheVariants.{Bytes, Nothing,
 use Rattle.tcp_conn.specs.declared.phase.Timer.{Timer}
 use Rattle.tcp_conn.specs.declared.phase.Timer.TheVariants.{Retransmit, Reorder, TimeWait}
 use Rattle.tcp_conn.specs.State.{State}
-use Rattle.tcp_conn.specs.Calls.{received_bytes, timer_answer, after_timer}
+use Rattle.tcp_conn.specs.Calls.{received_bytes}
+use Rattle.tcp_conn.specs.Timers.{timer_answer, after_timer}
 use Rattle.tcp_c.specs.Answers.{done, no_timer, no_rule}
 
 -- how many bytes `send` took

@@ -1,4 +1,4 @@
--- What is told of an end: its phase (RFC 9293, 3.3.2, in that order) and its ending by number, and its counts.
+-- What is said of an end: its phase (RFC 9293, 3.3.2, in that order) and its ending by number, and its counts.
 use Rattle.std.specs.Prelude.{ℕ, length, Option, Some, None}
 use Rattle.tcp_conn.specs.declared.phase.Phase.{Phase}
 use Rattle.tcp_conn.specs.declared.phase.Phase.TheVariants as phases

@@ -1,8 +1,7 @@
 //! An end is made, and let go.
 ghost use Rattle.std.specs.Prelude.{◌≡◌, ◌≢◌, ◌↔◌, ◌⊎◌, IsSome, IsNone, Some, None, Ok, Err, IfOk};
-ghost use Rattle.tcp_conn.specs.Calls.{new_end};
-ghost use Rattle.tcp_conn.specs.Refusals.{config_error_number};
-ghost use Rattle.tcp_conn.specs.Configs.{HasBadCapacity, HasBadMss, HasBadShift, IsGoodConfig};
+ghost use Rattle.tcp_conn.specs.NewEnd.{new_end};
+ghost use Rattle.tcp_conn.specs.Config.{config_error_number, HasBadCapacity, HasBadMss, HasBadShift, IsGoodConfig};
 ghost use Rattle.tcp_c.specs.Answers.{done, in_use, answer_of};
 ghost use Rattle.tcp_c.specs.Configs.{config_of};
 

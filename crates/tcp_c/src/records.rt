@@ -31,7 +31,7 @@ pub struct CConfig {
     pub sack: u8,
 }
 
-/// What is told of an end.
+/// What is said of an end.
 #[repr(C)]
 #[derive(Clone, Copy)]
 pub struct CStatus {

@@ -1,7 +1,7 @@
 //! Segments in and out.
 ghost use Rattle.std.specs.Prelude.{◌≡◌, length, option_map};
 ghost use Rattle.tcp_conn.specs.Arrival.{arrival_answer, after_arrival};
-ghost use Rattle.tcp_c.specs.Answers.{answer_of, number_told, arrival_number};
+ghost use Rattle.tcp_c.specs.Answers.{answer_of, number_written, arrival_number};
 ghost use Rattle.tcp_c.specs.Segments.{emission_number, after_emission_within, written_length, written_destination, written_buffer};
 
 use crate::answers::{DONE, LITTLE_ROOM, NO_END, NOTHING_DUE, arrival_number};
@@ -45,7 +45,7 @@ pub extern "C" fn tcp_c_emit(
     ensures answer { result ≡ answer_of (emission_number (length out.old)) handle.old.held.end }
     ensures bytes { out.new ≡ written_buffer out.old handle.old.held.end }
     ensures destination { to.new.byte ≡ written_destination (length out.old) handle.old.held.end }
-    ensures count { count.new ≡ number_told (written_length (length out.old)) handle.old.held.end }
+    ensures count { count.new ≡ number_written (written_length (length out.old)) handle.old.held.end }
     ensures state { handle.new.held.end ≡ option_map (after_emission_within (length out.old)) handle.old.held.end }
 {
     to.byte = [0; 4];

@@ -1,4 +1,4 @@
-//! What is told of an end.
+//! What is said of an end.
 ghost use Rattle.std.specs.Prelude.{◌≡◌};
 ghost use Rattle.tcp_c.specs.Answers.{done, answer_of};
 ghost use Rattle.tcp_c.specs.Status.{phase_number, ending_number, status_of};

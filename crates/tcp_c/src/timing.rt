@@ -1,6 +1,6 @@
 //! The timers. The caller keeps the times (RFC 9293, 3.10.8).
 ghost use Rattle.std.specs.Prelude.{◌≡◌, option_map};
-ghost use Rattle.tcp_c.specs.Answers.{done, answer_of, number_told};
+ghost use Rattle.tcp_c.specs.Answers.{done, answer_of, number_written};
 ghost use Rattle.tcp_c.specs.Calls.{timer_of, timer_number, after_any_timer, running_timers};
 
 use crate::answers::{DONE, NO_END, NO_RULE, NO_TIMER};
@@ -43,7 +43,7 @@ pub extern "C" fn tcp_c_timer(heap: Global, handle: &mut Handle, timer: u32) -> 
 #[unsafe(no_mangle)]
 pub extern "C" fn tcp_c_timers(heap: Global, handle: &mut Handle, running: &mut u32) -> u32
     ensures answer { result ≡ answer_of (λ _. done) handle.old.held.end }
-    ensures running { running.new ≡ number_told running_timers handle.old.held.end }
+    ensures running { running.new ≡ number_written running_timers handle.old.held.end }
     ensures state { handle.new.held.end ≡ handle.old.held.end }
 {
     *running = 0;

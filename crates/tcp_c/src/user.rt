@@ -1,7 +1,7 @@
 //! The calls of the user (RFC 9293, 3.10.1 to 3.10.5).
 ghost use Rattle.std.specs.Prelude.{◌≡◌, ◌++◌, length, drop, option_map};
 ghost use Rattle.tcp_conn.specs.Calls.{opening_answer, after_connect, after_listen, send_answer, after_send, receive_answer, after_receive, close_answer, after_close, abort_answer, after_abort};
-ghost use Rattle.tcp_c.specs.Answers.{answer_of, number_told, call_number, received_number};
+ghost use Rattle.tcp_c.specs.Answers.{answer_of, number_written, call_number, received_number};
 ghost use Rattle.tcp_c.specs.Calls.{taken_count, received_count, handed_bytes};
 
 use crate::answers::{NO_END, call_number, received_number};
@@ -51,7 +51,7 @@ fn taken_count(answer: &Result<usize, CallError>) -> usize
 }
 
 /// Takes the front of `text` that fits the send capacity and the limit of the direction, and tells its length, 0 where
-/// the call is refused (RFC 9293, 3.10.2). Refused with 14 or 11 where there is no connection, 16 in LISTEN, 13 behind a
+/// the call is refused (RFC 9293, 3.10.2). Refused with 14 or 11 where there is no connection, 16 in LISTEN, 13 after a
 /// `tcp_c_close`, and 15 where the direction has carried all that it may.
 #[unsafe(no_mangle)]
 pub extern "C" fn tcp_c_send(
@@ -61,7 +61,7 @@ pub extern "C" fn tcp_c_send(
     taken: &mut usize,
 ) -> u32
     ensures answer { result ≡ answer_of (λ s. call_number (send_answer s text.now)) handle.old.held.end }
-    ensures taken { taken.new ≡ number_told (λ s. taken_count (send_answer s text.now)) handle.old.held.end }
+    ensures taken { taken.new ≡ number_written (λ s. taken_count (send_answer s text.now)) handle.old.held.end }
     ensures state { handle.new.held.end ≡ option_map (λ s. after_send s text.now) handle.old.held.end }
 {
     *taken = 0;
@@ -85,7 +85,7 @@ fn received_count(answer: &Result<Received, CallError>) -> usize
 }
 
 /// Hands over the front of the unread bytes that fits `out`, and tells its length; the rest of `out` stays (RFC 9293,
-/// 3.10.3). 51 where no byte is unread, 52 behind all bytes of a peer that closed. Refused with 14 behind a reset or an
+/// 3.10.3). 51 where no byte is unread, 52 after all bytes of a peer that closed. Refused with 14 after a reset or an
 /// abort, and 11 where nothing was opened.
 #[unsafe(no_mangle)]
 pub extern "C" fn tcp_c_receive(
@@ -95,7 +95,7 @@ pub extern "C" fn tcp_c_receive(
     count: &mut usize,
 ) -> u32
     ensures answer { result ≡ answer_of (λ s. received_number (receive_answer s (length out.old))) handle.old.held.end }
-    ensures count { count.new ≡ number_told (λ s. received_count (receive_answer s (length out.old))) handle.old.held.end }
+    ensures count { count.new ≡ number_written (λ s. received_count (receive_answer s (length out.old))) handle.old.held.end }
     ensures bytes { let bytes = handed_bytes (length out.old) handle.old.held.end in out.new ≡ bytes ++ drop (length bytes) out.old }
     ensures state { handle.new.held.end ≡ option_map (λ s. after_receive s (length out.old)) handle.old.held.end }
 {
@@ -109,7 +109,7 @@ pub extern "C" fn tcp_c_receive(
     received_number(answer)
 }
 
-/// The user has no more to send (RFC 9293, 3.10.4). Refused with 14 or 11 where there is no connection, 13 behind an
+/// The user has no more to send (RFC 9293, 3.10.4). Refused with 14 or 11 where there is no connection, 13 after an
 /// earlier `tcp_c_close`.
 #[unsafe(no_mangle)]
 pub extern "C" fn tcp_c_close(heap: Global, handle: &mut Handle) -> u32

@@ -1,4 +1,5 @@
 pub mod Around
 pub mod Placing
-pub mod Blocks
+pub mod Reported
 pub mod Segments
+pub mod PhaseRows

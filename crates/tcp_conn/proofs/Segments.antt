@@ -7,15 +7,19 @@ use Rattle.std.proofs.lemmas.Bool.{cond_both, cases_lt}
 use Rattle.tcp_wire.specs.Flags.{fin, syn, rst, psh, ack}
 use Rattle.tcp_wire.specs.Checksum.{AreBytes}
 use Rattle.tcp_wire.specs.Options.{Mss, spellings, block_bytes, IsBlock, AreSpellable}
-use Rattle.tcp_wire.specs.Wire.{Content, IsValid, option_bytes, wire_length}
+use Rattle.tcp_wire.specs.Wire.{Content, IsValid, header_len, option_bytes, wire_length}
 use Rattle.tcp_wire.specs.View.{text_offset}
-use Rattle.tcp_wire.proofs.OptionLaws.{blocks_bytes_length}
+use Rattle.tcp_wire.proofs.Lemmas.{blocks_bytes_length}
 use Rattle.tcp_reasm.specs.Reassembly.{Inbox, blocks}
 use Rattle.tcp_conn.specs.declared.due.Due.{Due}
 use Rattle.tcp_conn.specs.declared.link.WaitingReset.{WaitingReset}
+use Rattle.tcp_conn.specs.declared.emission.TheConstants.{EMIT_ROOM}
+use Rattle.tcp_conn.specs.Config.{max_mss, max_shift}
 use Rattle.tcp_conn.specs.State.{State, Sending, place_of}
-use Rattle.tcp_conn.specs.Inside.{FitsFields}
-use Rattle.tcp_conn.specs.Emission.{Lies, start_of, count_of, block_numbers, told_blocks, sack_options, sack_length, reset_ack, reset_segment, shift_offered, is_sack_offered, scale_options, permission_options, syn_segment, text_of, pushes, is_fin, plain_segment}
+use Rattle.tcp_conn.specs.Endpoint.{FitsFields}
+use Rattle.tcp_conn.specs.Due.{Lies, start_of, count_of, is_fin}
+use Rattle.tcp_conn.specs.Blocks.{block_numbers, blocks_to_report, sack_options, sack_length}
+use Rattle.tcp_conn.specs.Forms.{reset_ack, reset_segment, shift_offered, is_sack_offered, scale_options, permission_options, syn_segment, text_of, pushes, plain_segment}
 
 -- BLOCKS: at most four, each a pair of numbers
 few-blocks : (q : Inbox) → length (blocks q) ≤ 4
@@ -29,12 +33,12 @@ numbers-are_blocks : (next : ℕ) (bs : List (ℕ × ℕ)) → AllByRecursion Is
 numbers-are_blocks next [] = tt
 numbers-are_blocks next (b ∷ bs) = ((omega arith, omega arith), numbers-are_blocks next bs)
 
-pub told_blocks-few : (s : State) → length (told_blocks s) ≤ 4
-told_blocks-few s = cond_both s.link.sack (map (block_numbers s.receiving.next) (blocks s.receiving.inbox)) [] (λ bs. length bs ≤ 4)
+pub blocks_to_report-few : (s : State) → length (blocks_to_report s) ≤ 4
+blocks_to_report-few s = cond_both s.link.sack (map (block_numbers s.receiving.next) (blocks s.receiving.inbox)) [] (λ bs. length bs ≤ 4)
     (λ _. numbers-few s.receiving.next (blocks s.receiving.inbox) (few-blocks s.receiving.inbox)) (λ _. omega arith)
 
-pub told_blocks-are_blocks : (s : State) → AllByRecursion IsBlock (told_blocks s)
-told_blocks-are_blocks s = cond_both s.link.sack (map (block_numbers s.receiving.next) (blocks s.receiving.inbox)) [] (λ bs. AllByRecursion IsBlock bs)
+pub blocks_to_report-are_blocks : (s : State) → AllByRecursion IsBlock (blocks_to_report s)
+blocks_to_report-are_blocks s = cond_both s.link.sack (map (block_numbers s.receiving.next) (blocks s.receiving.inbox)) [] (λ bs. AllByRecursion IsBlock bs)
     (λ _. numbers-are_blocks s.receiving.next (blocks s.receiving.inbox)) (λ _. tt)
 
 -- OPTIONS that tell them
@@ -48,14 +52,14 @@ length-sack_options (b ∷ bs) =
     let inner : length (flat_map block_bytes (b ∷ bs)) ≡ 8 * length (b ∷ bs) = blocks_bytes_length (b ∷ bs) in
     omega (arith, inner, length-append (flat_map block_bytes (b ∷ bs)) [])
 
-pub told_spellable : (s : State) → AreSpellable (sack_options (told_blocks s))
-told_spellable s = sack-spellable (told_blocks s) (told_blocks-few s) (told_blocks-are_blocks s)
+pub report_spellable : (s : State) → AreSpellable (sack_options (blocks_to_report s))
+report_spellable s = sack-spellable (blocks_to_report s) (blocks_to_report-few s) (blocks_to_report-are_blocks s)
 
 -- where their text begins
-pub offset_of_told : (s : State) → text_offset (sack_options (told_blocks s)) 0 ≡ 20 + sack_length (told_blocks s)
-offset_of_told s =
-    let options = spellings (sack_options (told_blocks s)) in
-    omega (arith, length-sack_options (told_blocks s), length-append options (replicate {A = ℕ} 0 0))
+pub offset_of_report : (s : State) → text_offset (sack_options (blocks_to_report s)) 0 ≡ header_len + sack_length (blocks_to_report s)
+offset_of_report s =
+    let options = spellings (sack_options (blocks_to_report s)) in
+    omega (arith, length-sack_options (blocks_to_report s), length-append options (replicate {A = ℕ} 0 0))
 
 -- without padding
 length-option_bytes : (v : Content) → v.pad ≡ 0 → length (option_bytes v) ≡ length (spellings v.options)
@@ -74,16 +78,16 @@ pub sack_length-fits : (bs : List (ℕ × ℕ)) → length bs ≤ 4 → (sack_le
 sack_length-fits [] few = omega arith
 sack_length-fits (b ∷ bs) few = omega arith
 
-pub told_options_short : (s : State) → sack_length (told_blocks s) ≤ 36
-told_options_short s = sack_length-fits (told_blocks s) (told_blocks-few s)
+pub report_options_short : (s : State) → sack_length (blocks_to_report s) ≤ 36
+report_options_short s = sack_length-fits (blocks_to_report s) (blocks_to_report-few s)
 
 sack_length-whole : (bs : List (ℕ × ℕ)) → sack_length bs % 4 ≡ 0
 sack_length-whole [] = refl
 sack_length-whole (b ∷ bs) = omega arith
 
-pub length_plain_segment : (s : State) (due : Due) → wire_length (plain_segment s due) ≡ 20 + sack_length (told_blocks s) + length (text_of s.sending due)
+pub length_plain_segment : (s : State) (due : Due) → wire_length (plain_segment s due) ≡ header_len + sack_length (blocks_to_report s) + length (text_of s.sending due)
 length_plain_segment s due =
-    let area : length (option_bytes (plain_segment s due)) ≡ sack_length (told_blocks s) = length-option_bytes (plain_segment s due) refl ∙ length-sack_options (told_blocks s) in
+    let area : length (option_bytes (plain_segment s due)) ≡ sack_length (blocks_to_report s) = length-option_bytes (plain_segment s due) refl ∙ length-sack_options (blocks_to_report s) in
     omega (arith, area)
 
 text-as_long : (queue : List ℕ) (place count : ℕ) → (0 < count → place + count ≤ length queue) → length (take count (drop place queue)) ≡ count
@@ -93,19 +97,19 @@ text-as_long queue place count inside = ⊎_elim
     (cases_lt count 1)
 
 -- a text that is due is as long as it is told
-pub text_as_long : (s : Sending) (due : Due) → Lies s 1460 due → length (text_of s due) ≡ count_of due
+pub text_as_long : (s : Sending) (due : Due) → Lies s max_mss due → length (text_of s due) ≡ count_of due
 text_as_long s due lies = text-as_long s.queue.bytes (place_of s (start_of s due)) (count_of due) lies.inside
 
-pub plain_segment_due : (s : State) (due : Due) → Lies s.sending 1460 due → wire_length (plain_segment s due) ≡ 20 + sack_length (told_blocks s) + count_of due
+pub plain_segment_due : (s : State) (due : Due) → Lies s.sending max_mss due → wire_length (plain_segment s due) ≡ header_len + sack_length (blocks_to_report s) + count_of due
 plain_segment_due s due lies = omega (arith, length_plain_segment s due, text_as_long s.sending due lies)
 
-pub plain_segment_short : (s : State) (due : Due) → Lies s.sending 1460 due → wire_length (plain_segment s due) ≤ 1520
-plain_segment_short s due lies = omega (arith, plain_segment_due s due lies, sack_length-fits (told_blocks s) (told_blocks-few s), lies.short)
+pub plain_segment_short : (s : State) (due : Due) → Lies s.sending max_mss due → wire_length (plain_segment s due) ≤ EMIT_ROOM
+plain_segment_short s due lies = omega (arith, plain_segment_due s due lies, sack_length-fits (blocks_to_report s) (blocks_to_report-few s), lies.short)
 
-pub plain_segment_valid : (s : State) (due : Due) → FitsFields s → AreBytes (text_of s.sending due) → length (text_of s.sending due) ≤ 1460 → IsValid (plain_segment s due)
+pub plain_segment_valid : (s : State) (due : Due) → FitsFields s → AreBytes (text_of s.sending due) → length (text_of s.sending due) ≤ max_mss → IsValid (plain_segment s due)
 plain_segment_valid s due fits_fields bytes short =
-    let area : length (option_bytes (plain_segment s due)) ≡ sack_length (told_blocks s) = length-option_bytes (plain_segment s due) refl ∙ length-sack_options (told_blocks s) in
-    let fits : sack_length (told_blocks s) ≤ 36 = sack_length-fits (told_blocks s) (told_blocks-few s) in
+    let area : length (option_bytes (plain_segment s due)) ≡ sack_length (blocks_to_report s) = length-option_bytes (plain_segment s due) refl ∙ length-sack_options (blocks_to_report s) in
+    let fits : sack_length (blocks_to_report s) ≤ 36 = sack_length-fits (blocks_to_report s) (blocks_to_report-few s) in
     record {
       src_port = fits_fields.port;
       dst_port = fits_fields.peer_port;
@@ -115,8 +119,8 @@ plain_segment_valid s due fits_fields bytes short =
       flags = flags-fit (pushes s.sending due) (is_fin due);
       window = omega arith;
       urgent = omega arith;
-      options = sack-spellable (told_blocks s) (told_blocks-few s) (told_blocks-are_blocks s);
-      whole_words = ap (λ n. n % 4) area ∙ sack_length-whole (told_blocks s);
+      options = sack-spellable (blocks_to_report s) (blocks_to_report-few s) (blocks_to_report-are_blocks s);
+      whole_words = ap (λ n. n % 4) area ∙ sack_length-whole (blocks_to_report s);
       room = omega (arith, area, fits);
       text = bytes;
       most = omega (arith, area, fits, short);
@@ -171,7 +175,7 @@ length_syn_segment s =
     length-option_bytes (syn_segment s) refl ∙ length-syn_area s.config.mss (shift_offered s) (is_sack_offered s) in
     omega (arith, area)
 
-shift_offered-fits : (s : State) → unwrap_or s.config.window_shift 0 ≤ 14 → unwrap_or (shift_offered s) 0 < 2 ^ 8
+shift_offered-fits : (s : State) → unwrap_or s.config.window_shift 0 ≤ max_shift → unwrap_or (shift_offered s) 0 < 2 ^ 8
 shift_offered-fits s fits = cond_both (s.receiving.opened && not s.link.scaling) None s.config.window_shift (λ shift. unwrap_or shift 0 < 2 ^ 8) (λ _. omega arith) (λ _. omega (arith, fits))
 
 pub syn_segment_valid : (s : State) → FitsFields s → IsValid (syn_segment s)

@@ -2,6 +2,7 @@
 -- that lie nearest to the next one that is wanted.
 use Rattle.std.specs.Prelude.{ℕ, ◌-◌, pos, ◌+ℤ◌, Bool, false, ◌||◌, ◌==◌, if◌then◌else◌}
 use Rattle.tcp_wire.specs.Position.{near, is_inside}
+use Rattle.tcp_reasm.specs.Reassembly.{window}
 
 -- A segment without numbers of its own has to begin inside the window, or, where the window is shut, right
 -- at the next position. One with numbers needs an open window that holds its first or its last.

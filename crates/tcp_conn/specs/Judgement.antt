@@ -1,15 +1,17 @@
--- Which rule applies to a segment that arrives (RFC 9293, 3.10.7). The tests stand here, once each; what a
--- rule does is told in Arrival.
-use Rattle.std.specs.Prelude.{ℕ, ◌+◌, Bool, not, ◌&&◌, ◌||◌, ◌==◌, if◌then◌else◌, bytes_eq, List, length}
+-- Which rule applies to a segment that arrives (RFC 9293, 3.10.7), each test once, and what it is answered by; what a
+-- rule does is in Arrival.
+use Rattle.std.specs.Prelude.{ℕ, Bool, ◌||◌, ◌==◌, if◌then◌else◌, not, ◌&&◌, List, length, ◌+◌, bytes_eq}
+use Rattle.tcp_wire.specs.Flags.{fin, ack, has, syn, rst}
 use Rattle.tcp_wire.specs.Position.{position_of}
-use Rattle.tcp_wire.specs.Flags.{fin, syn, rst, ack, has}
 use Rattle.tcp_wire.specs.Wire.{Content}
 use Rattle.tcp_reasm.specs.Reassembly.{window}
 use Rattle.tcp_conn.specs.declared.judgement.Judgement.{Judgement}
-use Rattle.tcp_conn.specs.declared.judgement.Judgement.TheVariants.{Foreign, ResetIgnored, Stray, AckOfListen, NoSyn, PeerOpens, AckOfNoSyn, PeerRefuses, PeerAccepts, Unacceptable, PeerResets, ResetElsewhere, SynInWindow, NoAck, AcksUnsent, HandshakeRefused, HandshakeRefusedShut, Taken, TakenShut}
-use Rattle.tcp_conn.specs.Phases.{is_closed, is_listening, is_syn_sent, is_syn_received}
-use Rattle.tcp_conn.specs.State.{State}
+use Rattle.tcp_conn.specs.declared.judgement.Judgement.TheVariants.{Foreign, ResetIgnored, Stray, AckOfListen, OpensNothing, PeerOpens, AckOfNoSyn, PeerRefuses, PeerAccepts, Unacceptable, PeerResets, ResetElsewhere, SynInWindow, NoAck, AcksUnsent, HandshakeRefused, HandshakeRefusedShut, Taken, TakenShut}
+use Rattle.tcp_conn.specs.declared.outcome.Arrival.{Arrival}
+use Rattle.tcp_conn.specs.declared.outcome.Arrival.TheVariants.{NotMine, Dropped, Processed}
 use Rattle.tcp_conn.specs.Acceptable.{is_acceptable}
+use Rattle.tcp_conn.specs.Phase.{is_listening, is_syn_received, is_closed, is_syn_sent, has_peer}
+use Rattle.tcp_conn.specs.State.{State}
 use Rattle.tcp_conn.specs.Sender.{acks_unsent}
 
 -- the position that an acknowledgement number means: the nearest to SND.UNA
@@ -27,11 +29,8 @@ is_for_other s dst v = not (bytes_eq dst s.config.addr.0) || not (v.dst_port == 
 abbrev pub is_from_other : State → List ℕ → Content → Bool
 is_from_other s src v = not (bytes_eq src s.peer.addr.0) || not (v.src_port == s.peer.port)
 
-abbrev pub has_peer : State → Bool
-has_peer s = not (is_closed s.phase) && not (is_listening s.phase)
-
 unfoldable pub is_foreign : State → List ℕ → List ℕ → Content → Bool
-is_foreign s src dst v = is_for_other s dst v || (has_peer s && is_from_other s src v)
+is_foreign s src dst v = is_for_other s dst v || (has_peer s.phase && is_from_other s src v)
 
 -- ARRIVAL IN CLOSED (3.10.7.1): a reset answers all but a reset
 unfoldable pub closed_judgement : Content → Judgement
@@ -43,7 +42,7 @@ listen_judgement v =
     if has rst v.flags then ResetIgnored
     else (if has ack v.flags then AckOfListen
     else (if has syn v.flags then PeerOpens
-    else NoSyn))
+    else OpensNothing))
 
 -- it acknowledges the own SYN, and nothing else was sent
 abbrev pub acks_syn : State → Content → Bool
@@ -55,13 +54,13 @@ syn_sent_judgement s v =
     if has ack v.flags && not (acks_syn s v) then (if has rst v.flags then ResetIgnored else AckOfNoSyn)
     else (if has rst v.flags then (if has ack v.flags then PeerRefuses else ResetIgnored)
     else (if has syn v.flags && has ack v.flags then PeerAccepts
-    else NoSyn))
+    else OpensNothing))
 
 -- ACCEPTABILITY in the other states (3.10.7.4, first)
-abbrev pub is_wanted : State → Content → Bool
-is_wanted s v = is_acceptable s.receiving.next (window s.receiving.inbox) v.seq (count_numbers v)
+abbrev pub is_acceptable_segment : State → Content → Bool
+is_acceptable_segment s v = is_acceptable s.receiving.next (window s.receiving.inbox) v.seq (count_numbers v)
 
--- ACKNOWLEDGEMENT (3.10.7.4, fifth): of the own SYN in SYN-RECEIVED, of nothing unsent behind it
+-- ACKNOWLEDGEMENT (3.10.7.4, fifth): of the own SYN in SYN-RECEIVED, of nothing that wasn't sent
 unfoldable pub ack_judgement : State → Content → Judgement → Judgement → Judgement
 ack_judgement s v good refused =
     if is_syn_received s.phase then (if acks_syn s v then good else refused)
@@ -87,7 +86,7 @@ acceptable_judgement s v =
     else ack_judgement s v Taken HandshakeRefused))
 
 unfoldable pub present_judgement : State → Content → Judgement
-present_judgement s v = if is_wanted s v then acceptable_judgement s v else unacceptable_judgement s v
+present_judgement s v = if is_acceptable_segment s v then acceptable_judgement s v else unacceptable_judgement s v
 
 -- THE ORDER
 unfoldable pub phase_judgement : State → Content → Judgement
@@ -99,3 +98,25 @@ phase_judgement s v =
 
 unfoldable pub judgement : State → List ℕ → List ℕ → Content → Judgement
 judgement s src dst v = if is_foreign s src dst v then Foreign else phase_judgement s v
+
+-- WHAT EACH JUDGEMENT ANSWERS
+abbrev pub answer_of : Judgement → Arrival
+answer_of Foreign = NotMine
+answer_of ResetIgnored = Dropped
+answer_of Stray = Dropped
+answer_of AckOfListen = Dropped
+answer_of OpensNothing = Dropped
+answer_of PeerOpens = Processed
+answer_of AckOfNoSyn = Dropped
+answer_of PeerRefuses = Processed
+answer_of PeerAccepts = Processed
+answer_of Unacceptable = Dropped
+answer_of PeerResets = Processed
+answer_of ResetElsewhere = Dropped
+answer_of SynInWindow = Dropped
+answer_of NoAck = Dropped
+answer_of AcksUnsent = Dropped
+answer_of HandshakeRefused = Dropped
+answer_of HandshakeRefusedShut = Dropped
+answer_of Taken = Processed
+answer_of TakenShut = Processed

@@ -1,8 +1,8 @@
 -- The half that receives (RFC 9293, 3.4 and 3.10.7.4).
-use Rattle.std.specs.Prelude.{ℕ, ◌+◌, ◌-◌, ◌%◌, ◌^◌, min, Bool, true, false, ◌&&◌, ◌==◌, nat_lt, List}
+use Rattle.std.specs.Prelude.{ℕ, ◌-◌, Bool, false, ◌==◌, true, ◌&&◌, List, min, nat_lt, ◌^◌, ◌+◌, ◌%◌}
 use Rattle.tcp_wire.specs.Position.{number, offset}
-use Rattle.tcp_reasm.specs.Reassembly.{Inbox, window, empty_inbox, after_place, place_answer, after_read, without_held}
 use Rattle.tcp_reasm.specs.Agreement.{advance_of}
+use Rattle.tcp_reasm.specs.Reassembly.{Inbox, window, after_read, empty_inbox, after_place, place_answer, without_held}
 use Rattle.tcp_conn.specs.State.{Receiving}
 
 -- the greatest count that is kept

@@ -1,9 +1,11 @@
 -- The half that sends (RFC 9293, 3.3.1, 3.8 and 3.10.7.4): what acknowledgements, windows, blocks and timers
 -- do to it. Acknowledgements and edges of blocks are spoken of as positions here.
-use Rattle.std.specs.Prelude.{ℕ, ◌+◌, ◌-◌, ◌^◌, ◌<◌, ◌≤◌, min, Bool, ◌&&◌, ◌||◌, ◌==◌, nat_lt, nat_le, if◌then◌else◌, List, length, take, Some, None}
+use Rattle.std.specs.Prelude.{ℕ, ◌-◌, Bool, ◌||◌, ◌==◌, if◌then◌else◌, ◌&&◌, List, length, Some, None, min, nat_lt, take, ◌<◌, ◌≤◌, ◌^◌, ◌+◌, nat_le}
+use Rattle.tcp_wire.specs.Flags.{ack}
 use Rattle.tcp_wire.specs.Position.{is_before}
 use Rattle.tcp_sendq.specs.SendQueue as queues
-use Rattle.tcp_conn.specs.State.{Sending, accepted_count, place_of, position_at, end_of_text}
+use Rattle.tcp_reasm.specs.Reassembly.{window}
+use Rattle.tcp_conn.specs.State.{position_at, Sending, accepted_count, end_of_text, place_of}
 
 -- a direction carries at most this many bytes, so that any two of its positions differ by less than 2^31
 abbrev pub stream_limit : ℕ
@@ -22,7 +24,7 @@ new_sending capacity = record {
   wl2 = 0;
 }
 
--- the SYN is on its way: SND.UNA = ISS, SND.NXT = ISS + 1 (RFC 9293, 3.10.1)
+-- the SYN is sent: SND.UNA = ISS, SND.NXT = ISS + 1 (RFC 9293, 3.10.1)
 abbrev pub with_syn_sent : Sending → Sending
 with_syn_sent s = record s { una = 0; nxt = 1 }
 
@@ -38,7 +40,7 @@ acks_unsent s ack = nat_lt s.nxt ack
 abbrev pub acks_more : Sending → ℕ → Bool
 acks_more s ack = nat_lt s.una ack && nat_le ack s.nxt
 
--- how many queued bytes stand below a position
+-- how many queued bytes lie before a position
 abbrev pub count_below : Sending → ℕ → ℕ
 count_below s position = min (place_of s position) (length s.queue.bytes)
 
@@ -53,7 +55,7 @@ with_acked s ack = record s {
 unfoldable pub after_ack : Sending → ℕ → Sending
 after_ack s ack = if acks_more s ack then with_acked s ack else s
 
--- WINDOW UPDATE (RFC 9293, 3.10.7.4, fifth): not from a segment older than the one that told the window last
+-- WINDOW UPDATE (RFC 9293, 3.10.7.4, fifth): not from a segment older than the last that was used
 abbrev pub is_newer : Sending → ℕ → ℕ → Bool
 is_newer s seq ack = is_before s.wl1 seq || ((s.wl1 == seq) && (is_before s.wl2 ack || (s.wl2 == ack)))
 
@@ -63,19 +65,6 @@ with_window s seq ack window = record s { wnd = window; wl1 = seq; wl2 = ack }
 unfoldable pub after_window_update : Sending → ℕ → ℕ → ℕ → Sending
 after_window_update s seq ack window = if is_newer s seq ack then with_window s seq ack window else s
 
--- MARKS (RFC 2018, 5): a block of what was sent and isn't acknowledged. Its text is marked, never the FIN
-abbrev pub is_of_flight : Sending → ℕ → ℕ → Bool
-is_of_flight s left right = nat_lt s.una left && (nat_lt left right && nat_le right s.nxt)
-
-abbrev pub marks_text : Sending → ℕ → ℕ → Bool
-marks_text s left right = is_of_flight s left right && nat_lt (place_of s left) (count_below s right)
-
-abbrev pub with_marks : Sending → ℕ → ℕ → Sending
-with_marks s left right = record s { queue = queues.after_mark s.queue (place_of s left) (count_below s right) }
-
-unfoldable pub after_block : Sending → ℕ → ℕ → Sending
-after_block s left right = if marks_text s left right then with_marks s left right else s
-
 -- RETRANSMISSION TIMEOUT (RFC 9293, 3.8.1; RFC 2018, 5): all that is in flight goes out again, and every mark is
 -- forgotten
 abbrev pub is_in_flight : Sending → Bool
@@ -84,11 +73,11 @@ is_in_flight s = nat_lt s.una s.nxt
 abbrev pub with_all_resent : Sending → Sending
 with_all_resent s = record s { resend = Some (record { start = s.una; end = s.nxt }); queue = queues.without_marks s.queue }
 
--- REORDERING TIMEOUT (RFC 2018, 5): what stands below the last mark goes out again
+-- REORDERING TIMEOUT (RFC 2018, 5): what lies before the last mark goes out again
 abbrev pub with_gaps_resent : Sending → ℕ → Sending
 with_gaps_resent s end = record s { resend = Some (record { start = s.una; end = position_at s end }) }
 
--- how many bytes of a text the direction takes: the front that fits the queue and the limit
+-- how many bytes of a text the direction takes: the longest prefix that fits the queue and the limit
 abbrev pub count_sendable : Sending → List ℕ → ℕ
 count_sendable s text = min (queues.count_taken s.queue text) (stream_limit - accepted_count s)
 
@@ -99,7 +88,11 @@ with_text s text = record s { queue = queues.after_offer s.queue (take (count_se
 abbrev pub count_unsent : Sending → ℕ
 count_unsent s = length s.queue.bytes - place_of s s.nxt
 
--- the own FIN was sent: SND.NXT lies behind the end of text
+-- a probe is needed: nothing is in flight, text is unsent, and the window is shut (RFC 9293, 3.8.6.1)
+abbrev pub is_probe_needed : Sending → Bool
+is_probe_needed s = (s.una == s.nxt) && (nat_lt 0 (count_unsent s) && (s.wnd == 0))
+
+-- the own FIN was sent: SND.NXT is after the end of text
 abbrev pub is_fin_sent : Sending → Bool
 is_fin_sent s = nat_lt (end_of_text s) s.nxt
 

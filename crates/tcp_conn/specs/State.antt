@@ -1,15 +1,15 @@
 -- What one end is: data alone (RFC 9293, 3.3.1). Positions count from the first number of a direction: the
--- SYN is at 0, byte i of the stream at 1 + i, the FIN behind the last byte.
-use Rattle.std.specs.Prelude.{◌≡◌, ℕ, ◌+◌, ◌-◌, ◌≤◌, Bool, true, length, Option}
+-- SYN is at 0, byte i of the stream at 1 + i, the FIN after the last byte.
+use Rattle.std.specs.Prelude.{ℕ, ◌-◌, Bool, true, length, Option, ◌≡◌, ◌≤◌, ◌+◌}
+use Rattle.std.specs.declared.ops.Range.{Range}
 use Rattle.tcp_sendq.specs.SendQueue.{Queue}
 use Rattle.tcp_reasm.specs.Reassembly.{Inbox}
-use Rattle.std.specs.declared.ops.Range.{Range}
 use Rattle.tcp_conn.specs.declared.config.Config.{Config}
-use Rattle.tcp_conn.specs.declared.phase.Phase.{Phase}
-use Rattle.tcp_conn.specs.declared.phase.Ending.{Ending}
-use Rattle.tcp_conn.specs.declared.link.Peer.{Peer}
 use Rattle.tcp_conn.specs.declared.link.Link.{Link}
 use Rattle.tcp_conn.specs.declared.link.Owed.{Owed}
+use Rattle.tcp_conn.specs.declared.link.Peer.{Peer}
+use Rattle.tcp_conn.specs.declared.phase.Ending.{Ending}
+use Rattle.tcp_conn.specs.declared.phase.Phase.{Phase}
 
 -- the half that sends
 pub record Sending : Type 0 where
@@ -22,7 +22,7 @@ pub record Sending : Type 0 where
   pub queue : Queue
   -- what a retransmission has still to send again
   pub resend : Option (Range ℕ)
-  -- SND.WND, and the two numbers of the segment that told it, SND.WL1 and SND.WL2
+  -- SND.WND, and the two numbers of the segment that it was taken from, SND.WL1 and SND.WL2
   pub wnd : ℕ
   pub wl1 : ℕ
   pub wl2 : ℕ
@@ -66,7 +66,7 @@ place_of s position = position - (1 + s.released)
 abbrev pub position_at : Sending → ℕ → ℕ
 position_at s place = 1 + s.released + place
 
--- the position behind the last byte that was accepted, where the FIN stands
+-- the position after the last byte that was accepted: the FIN's
 abbrev pub end_of_text : Sending → ℕ
 end_of_text s = 1 + accepted_count s
 
@@ -83,8 +83,6 @@ pub record HoldsWithin (capacity : ℕ) (inbox : Inbox) : Type 0 where
 -- an end keeps no more than its Config allows
 abbrev pub IsWithin : State → Type 0
 IsWithin s = KeepsWithin s.config.send_capacity s.sending.queue × HoldsWithin s.config.recv_capacity s.receiving.inbox
-
--- ---- parts of an end, changed
 
 abbrev pub with_ack_owed : State → State
 with_ack_owed s = record s { owed = record s.owed { ack = true } }

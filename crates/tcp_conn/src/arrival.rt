@@ -1,12 +1,12 @@
 //! What an arrival does (RFC 9293, 3.10.7): each judgement's effect, a method for each rule.
-ghost use Rattle.std.specs.Prelude.{◌≡◌, ◌≤◌, length};
+ghost use Rattle.std.specs.Prelude.{◌≡◌};
 ghost use Rattle.tcp_wire.specs.View.{raw_content};
-ghost use Rattle.tcp_conn.specs.State.{State, IsWithin, with_ack_owed};
-ghost use Rattle.tcp_conn.specs.Arrival.{with_reset, reset_at_ack, reset_of_stray, after_opening, after_acceptance, after_own_syn, after_acked_text, after_told_blocks, after_news, after_own_fin, after_its_ack, after_its_text, after_fin, after_taking, after_taking_shut, with_ack_owed_unless_closed, after_judgement, arrival_answer, after_arrival};
+ghost use Rattle.tcp_conn.specs.Arrival.{after_acked_text, after_arrival, after_fin, after_its_ack, after_its_text, after_judgement, after_news, after_own_fin, after_own_syn, after_peer_accepts, after_peer_opens, after_reported_blocks, after_taking, after_taking_shut, arrival_answer, reset_at_ack, reset_of_stray, with_reset};
+ghost use Rattle.tcp_conn.specs.Judgement.{judgement};
+ghost use Rattle.tcp_conn.specs.State.{IsWithin};
 
 use crate::endpoint::Endpoint;
-use crate::judgement::Judgement;
-use crate::judging::count_numbers;
+use crate::judgement::{Judgement, count_numbers};
 use crate::link::{Peer, WaitingReset};
 use crate::options::link_of;
 use crate::outcome::Arrival;
@@ -21,28 +21,27 @@ fn reset_at_ack(src: Addr, segment: &RawSegment<'_>) -> WaitingReset
     WaitingReset {
         to: Peer {
             addr: src,
-            port: segment.src_port,
+            port: segment.header.src_port,
         },
-        seq: segment.ack,
+        seq: segment.header.ack,
         ack: None,
     }
 }
 
 /// The reset that answers a segment which comes to no connection (RFC 9293, 3.10.7.1).
 fn reset_of_stray(src: Addr, segment: &RawSegment<'_>) -> WaitingReset
-    requires { length (raw_content segment.now).text ≤ 65495 }
     ensures { result ≡ reset_of_stray src.0 (raw_content segment.now) }
 {
-    if segment.flags.is_ack() {
+    if segment.header.flags.is_ack() {
         return reset_at_ack(src, segment);
     }
     WaitingReset {
         to: Peer {
             addr: src,
-            port: segment.src_port,
+            port: segment.header.src_port,
         },
         seq: Seq(0),
-        ack: Some(segment.seq.plus(count_numbers(segment))),
+        ack: Some(segment.header.seq.plus(count_numbers(segment))),
     }
 }
 
@@ -62,18 +61,20 @@ impl<A: Allocator> Endpoint<A> {
             }
             Err(fault) => Arrival::Malformed(fault),
         };
+        // So that the proof knows what always holds of an end.
         let _ = &self.config;
         answer
     }
 
     /// What a judgement does.
     fn follow(&mut self, judgement: Judgement, src: Addr, segment: &RawSegment<'_>)
-        requires text { length (raw_content segment.now).text ≤ 65495 }
-        requires area { length segment.now.area.now ≤ 40 }
         ensures { self.new ≡ after_judgement judgement self.old src.0 (raw_content segment.now) }
     {
         match judgement {
-            Judgement::Foreign | Judgement::ResetIgnored | Judgement::NoSyn | Judgement::NoAck => {}
+            Judgement::Foreign
+            | Judgement::ResetIgnored
+            | Judgement::OpensNothing
+            | Judgement::NoAck => {}
             Judgement::Stray => self.record_reset(reset_of_stray(src, segment)),
             Judgement::AckOfListen | Judgement::AckOfNoSyn | Judgement::HandshakeRefused => {
                 self.record_reset(reset_at_ack(src, segment));
@@ -82,8 +83,8 @@ impl<A: Allocator> Endpoint<A> {
                 self.record_reset(reset_at_ack(src, segment));
                 self.owed.ack = true;
             }
-            Judgement::PeerOpens => self.open(src, segment),
-            Judgement::PeerAccepts => self.accept(segment),
+            Judgement::PeerOpens => self.peer_opens(src, segment),
+            Judgement::PeerAccepts => self.peer_accepts(segment),
             Judgement::PeerRefuses | Judgement::PeerResets => self.end_by(Ending::Reset),
             Judgement::Unacceptable
             | Judgement::ResetElsewhere
@@ -105,36 +106,37 @@ impl<A: Allocator> Endpoint<A> {
 
     /// The peer opens by a SYN in LISTEN (RFC 9293, 3.10.7.2, third).
     #[inline(never)]
-    #[tactic(auto, unfolding(crate::specs::Arrival::after_opening))]
-    fn open(&mut self, src: Addr, segment: &RawSegment<'_>)
-        requires { length segment.now.area.now ≤ 40 }
-        ensures { self.new ≡ after_opening self.old src.0 (raw_content segment.now) }
+    #[tactic(auto, unfolding(crate::specs::Arrival::after_peer_opens))]
+    fn peer_opens(&mut self, src: Addr, segment: &RawSegment<'_>)
+        ensures { self.new ≡ after_peer_opens self.old src.0 (raw_content segment.now) }
     {
         self.phase = Phase::SynReceived;
         self.peer = Peer {
             addr: src,
-            port: segment.src_port,
+            port: segment.header.src_port,
         };
         let options = segment.options();
         self.link = link_of(&self.config, options.as_slice());
         self.sender.send_syn();
-        self.receiver.take_syn(segment.seq);
+        self.receiver.take_syn(segment.header.seq);
         self.owed.syn = true;
     }
 
     /// The peer accepts by a SYN with an acknowledgement in SYN-SENT; its window isn't scaled (RFC 9293, 3.10.7.3, fourth).
     #[inline(never)]
-    #[tactic(auto, unfolding(crate::specs::Arrival::after_acceptance))]
-    fn accept(&mut self, segment: &RawSegment<'_>)
-        requires { length segment.now.area.now ≤ 40 }
-        ensures { self.new ≡ after_acceptance self.old (raw_content segment.now) }
+    #[tactic(auto, unfolding(crate::specs::Arrival::after_peer_accepts))]
+    fn peer_accepts(&mut self, segment: &RawSegment<'_>)
+        ensures { self.new ≡ after_peer_accepts self.old (raw_content segment.now) }
     {
         self.phase = Phase::Established;
         let options = segment.options();
         self.link = link_of(&self.config, options.as_slice());
-        self.sender
-            .take_syn_ack(segment.seq, segment.ack, u32::from(segment.window));
-        self.receiver.take_syn(segment.seq);
+        self.sender.take_syn_ack(
+            segment.header.seq,
+            segment.header.ack,
+            u32::from(segment.header.window),
+        );
+        self.receiver.take_syn(segment.header.seq);
         self.owed.syn = false;
         self.owed.ack = true;
     }
@@ -142,29 +144,25 @@ impl<A: Allocator> Endpoint<A> {
     /// All of a segment is taken (RFC 9293, 3.10.7.4, fifth to eighth).
     #[tactic(auto, unfolding(crate::specs::Arrival::after_taking))]
     fn take(&mut self, segment: &RawSegment<'_>)
-        requires text { length (raw_content segment.now).text ≤ 65495 }
-        requires area { length segment.now.area.now ≤ 40 }
         ensures { self.new ≡ after_taking self.old (raw_content segment.now) }
     {
-        self.take_ack(segment);
-        self.take_text(segment);
+        self.take_its_ack(segment);
+        self.take_its_text(segment);
         self.take_fin(segment);
     }
 
-    /// The window is shut: text and FIN are dropped, and an acknowledgement tells where the window stands.
+    /// The window is shut: text and FIN are dropped, and an acknowledgement shows where the window lies.
     #[tactic(auto, unfolding(crate::specs::Arrival::after_taking_shut))]
     fn take_shut(&mut self, segment: &RawSegment<'_>)
-        requires { length segment.now.area.now ≤ 40 }
         ensures { self.new ≡ after_taking_shut self.old (raw_content segment.now) }
     {
-        self.take_ack(segment);
+        self.take_its_ack(segment);
         self.owed.ack = self.owed.ack || !self.phase.is_closed();
     }
 
     /// Its acknowledgement, window and blocks (RFC 9293, 3.10.7.4, fifth).
     #[tactic(auto, unfolding(crate::specs::Arrival::after_its_ack))]
-    fn take_ack(&mut self, segment: &RawSegment<'_>)
-        requires { length segment.now.area.now ≤ 40 }
+    fn take_its_ack(&mut self, segment: &RawSegment<'_>)
         ensures { self.new ≡ after_its_ack self.old (raw_content segment.now) }
     {
         self.take_own_syn(segment);
@@ -184,8 +182,9 @@ impl<A: Allocator> Endpoint<A> {
             } else {
                 Phase::Established
             };
-            let window = self.window_from(segment.window);
-            self.sender.take_syn_ack(segment.seq, segment.ack, window);
+            let window = self.window_from(segment.header.window);
+            self.sender
+                .take_syn_ack(segment.header.seq, segment.header.ack, window);
             self.owed.syn = false;
         }
     }
@@ -195,37 +194,38 @@ impl<A: Allocator> Endpoint<A> {
     fn take_acked_text(&mut self, segment: &RawSegment<'_>)
         ensures { self.new ≡ after_acked_text self.old (raw_content segment.now) }
     {
-        let ack = self.position_near(segment.ack);
+        let ack = self.position_near(segment.header.ack);
         self.sender.take_ack(ack);
     }
 
-    /// Window update, then each block: not from an old acknowledgement (RFC 9293, 3.10.7.4, fifth; RFC 2018, 5).
-    #[tactic(auto, using(tcp_wire::proofs::Reading::no_options), unfolding(crate::specs::Arrival::after_news))]
+    /// Window update, then each block: not from an acknowledgement that is older than SND.UNA (RFC 9293, 3.10.7.4, fifth;
+    /// RFC 2018, 5).
+    #[tactic(auto, unfolding(crate::specs::Arrival::after_news))]
     fn take_news(&mut self, segment: &RawSegment<'_>)
-        requires { length segment.now.area.now ≤ 40 }
         ensures { self.new ≡ after_news self.old (raw_content segment.now) }
     {
-        if !self.sender.is_una(self.position_near(segment.ack)) {
+        let ack = self.position_near(segment.header.ack);
+        if !self.sender.is_current(ack) {
             return;
         }
-        let window = self.window_from(segment.window);
-        self.sender.update_window(segment.seq, segment.ack, window);
+        let window = self.window_from(segment.header.window);
+        self.sender
+            .update_window(segment.header.seq, segment.header.ack, window);
         // Most segments have no options: no list is made for them.
         if self.link.sack && segment.has_area() {
             self.take_blocks(segment);
         }
     }
 
-    /// The blocks of all options (RFC 2018, 5). It stands apart, as `open` and `accept` do: a list of options among the locals
+    /// The blocks of all options (RFC 2018, 5). It is a function of its own, as `peer_opens` and `peer_accepts` do: a list of options among the locals
     /// of a plain arrival would be zeroed each time.
     #[inline(never)]
     fn take_blocks(&mut self, segment: &RawSegment<'_>)
-        requires { length segment.now.area.now ≤ 40 }
-        ensures { self.new ≡ after_told_blocks self.old (raw_content segment.now) }
+        ensures { self.new ≡ after_reported_blocks self.old (raw_content segment.now) }
     {
         let iss = self.config.isn;
         let options = segment.options();
-        self.sender.mark_told(iss, options.as_slice());
+        self.sender.mark_reported(iss, options.as_slice());
     }
 
     /// The own FIN is acknowledged (RFC 9293, 3.10.7.4, fifth).
@@ -246,12 +246,11 @@ impl<A: Allocator> Endpoint<A> {
 
     /// Its text is placed, where there is any, and an acknowledgement is owed for it (RFC 9293, 3.10.7.4, seventh).
     #[tactic(auto, unfolding(crate::specs::Arrival::after_its_text))]
-    fn take_text(&mut self, segment: &RawSegment<'_>)
-        requires { length (raw_content segment.now).text ≤ 65495 }
+    fn take_its_text(&mut self, segment: &RawSegment<'_>)
         ensures { self.new ≡ after_its_text self.old (raw_content segment.now) }
     {
         if self.phase.takes_text() && !segment.text.is_empty() {
-            self.receiver.place(segment.seq, segment.text);
+            self.receiver.place(segment.header.seq, segment.text);
             self.owed.ack = true;
         }
     }
@@ -259,17 +258,16 @@ impl<A: Allocator> Endpoint<A> {
     /// The peer's FIN is acknowledged, and taken where its number is the next one (RFC 9293, 3.10.7.4, eighth).
     #[tactic(auto, unfolding(crate::specs::Arrival::after_fin))]
     fn take_fin(&mut self, segment: &RawSegment<'_>)
-        requires { length (raw_content segment.now).text ≤ 65495 }
         ensures { self.new ≡ after_fin self.old (raw_content segment.now) }
     {
-        if !self.phase.takes_text() || !segment.flags.is_fin() {
+        if !self.phase.takes_text() || !segment.header.flags.is_fin() {
             return;
         }
         self.owed.ack = true;
-        let number = segment.seq.plus(segment.text.len() as u32);
+        let number = segment.header.seq.plus(segment.text.len() as u32);
         if self.receiver.is_fin_due(number) {
             self.receiver.take_fin();
-            self.phase = self.phase.behind_fin();
+            self.phase = self.phase.after_fin();
         }
     }
 }

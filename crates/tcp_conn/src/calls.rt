@@ -1,6 +1,6 @@
-ghost use Rattle.std.specs.Prelude.{◌≡◌, ◌++◌, ◌≤◌, ◌||◌, length, take, drop};
-ghost use Rattle.tcp_conn.specs.State.{State, IsWithin};
-ghost use Rattle.tcp_conn.specs.Calls.{opening_refusal, opening_answer, after_connect, after_listen, open_refusal, send_refusal, send_answer, after_send, receive_refusal, receive_answer, received_bytes, told_window, after_receive, close_refusal, close_answer, after_closing, after_close, abort_answer, with_abort, after_abort, after_orderly_end, after_giving_up};
+ghost use Rattle.std.specs.Prelude.{◌≡◌, ◌++◌, drop, length};
+ghost use Rattle.tcp_conn.specs.Calls.{abort_answer, after_abort, after_close, after_closing, after_connect, after_listen, after_receive, after_send, close_answer, close_refusal, open_refusal, opening_answer, opening_refusal, receive_answer, receive_refusal, received_bytes, send_answer, send_refusal, with_abort};
+ghost use Rattle.tcp_conn.specs.State.{IsWithin};
 
 use crate::endpoint::Endpoint;
 use crate::link::{Peer, WaitingReset};
@@ -19,6 +19,7 @@ impl<A: Allocator> Endpoint<A> {
         ensures state { self.new ≡ after_connect self.old (record { addr = addr; port = port }) }
         ensures within { IsWithin self.new }
     {
+        // So that the proof knows what always holds of an end.
         let _ = &self.config;
         if let Some(refusal) = self.opening_refusal() {
             return Err(refusal);
@@ -37,6 +38,7 @@ impl<A: Allocator> Endpoint<A> {
         ensures state { self.new ≡ after_listen self.old }
         ensures within { IsWithin self.new }
     {
+        // So that the proof knows what always holds of an end.
         let _ = &self.config;
         if let Some(refusal) = self.opening_refusal() {
             return Err(refusal);
@@ -71,9 +73,9 @@ impl<A: Allocator> Endpoint<A> {
         None
     }
 
-    /// Takes the front of `text` that fits the send queue and the limit of the direction, and answers its length; before
+    /// Takes the longest prefix of `text` that fits the send queue and the limit of the direction, and answers its length; before
     /// ESTABLISHED the bytes wait (RFC 9293, 3.10.2). `Ended` or `NotOpen` where there is no connection, `NotConnected` in
-    /// LISTEN, `Closing` behind a `close`, and `StreamFull` where the direction has carried 2,147,483,632 bytes and `text`
+    /// LISTEN, `Closing` after a `close`, and `StreamFull` where the direction has carried 2,147,483,632 bytes and `text`
     /// isn't empty.
     #[tactic(auto, unfolding(crate::specs::Calls::after_send))]
     pub fn send(&mut self, text: &[u8]) -> Result<usize, CallError>
@@ -81,6 +83,7 @@ impl<A: Allocator> Endpoint<A> {
         ensures state { self.new ≡ after_send self.old text.now }
         ensures within { IsWithin self.new }
     {
+        // So that the proof knows what always holds of an end.
         let _ = &self.config;
         if let Some(refusal) = self.send_refusal(text) {
             return Err(refusal);
@@ -107,9 +110,9 @@ impl<A: Allocator> Endpoint<A> {
         None
     }
 
-    /// Hands over the front of the unread bytes that fits `out`, which it fills from its front; the rest of `out` stays
-    /// (RFC 9293, 3.10.3). `EndOfStream` behind all bytes of a peer that closed, as often as asked, `Nothing` before. `Ended`
-    /// behind a reset or an abort, `NotOpen` where nothing was opened.
+    /// Hands over the longest prefix of the unread bytes that fits `out`, at the start of `out`; the rest of `out` stays
+    /// (RFC 9293, 3.10.3). `EndOfStream` after all bytes of a peer that closed, as often as asked, `Nothing` before. `Ended`
+    /// after a reset or an abort, `NotOpen` where nothing was opened.
     #[tactic(auto, unfolding(crate::specs::Calls::after_receive))]
     pub fn receive(&mut self, out: &mut [u8]) -> Result<Received, CallError>
         ensures answer { result ≡ receive_answer self.old (length out.old) }
@@ -117,14 +120,15 @@ impl<A: Allocator> Endpoint<A> {
         ensures state { self.new ≡ after_receive self.old (length out.old) }
         ensures within { IsWithin self.new }
     {
+        // So that the proof knows what always holds of an end.
         let _ = &self.config;
         if let Some(refusal) = self.receive_refusal() {
             return Err(refusal);
         }
         let nothing = self.receiver.unread() == 0;
-        let was_shut = self.told_window() == 0;
+        let was_shut = self.advertised_window() == 0;
         let count = self.receiver.read(out);
-        let opens = self.phase.takes_text() && was_shut && self.told_window() > 0;
+        let opens = self.phase.takes_text() && was_shut && self.advertised_window() > 0;
         self.owed.ack = self.owed.ack || opens;
         if !nothing {
             return Ok(Received::Bytes(count));
@@ -150,13 +154,14 @@ impl<A: Allocator> Endpoint<A> {
     }
 
     /// The user has no more to send (RFC 9293, 3.10.4). Before the handshake has an answer the connection ends as aborted; in
-    /// SYN-RECEIVED the close waits. `Ended` or `NotOpen` where there is no connection, `Closing` behind an earlier `close`.
+    /// SYN-RECEIVED the close waits. `Ended` or `NotOpen` where there is no connection, `Closing` after an earlier `close`.
     #[tactic(auto, unfolding(crate::specs::Calls::after_close))]
     pub fn close(&mut self) -> Result<(), CallError>
         ensures answer { result ≡ close_answer self.old }
         ensures state { self.new ≡ after_close self.old }
         ensures within { IsWithin self.new }
     {
+        // So that the proof knows what always holds of an end.
         let _ = &self.config;
         if let Some(refusal) = self.close_refusal() {
             return Err(refusal);
@@ -199,6 +204,7 @@ impl<A: Allocator> Endpoint<A> {
         ensures state { self.new ≡ after_abort self.old }
         ensures within { IsWithin self.new }
     {
+        // So that the proof knows what always holds of an end.
         let _ = &self.config;
         if let Some(refusal) = self.open_refusal() {
             return Err(refusal);
@@ -211,7 +217,7 @@ impl<A: Allocator> Endpoint<A> {
     fn take_abort(&mut self)
         ensures { self.new ≡ with_abort self.old }
     {
-        if self.phase.is_synchronized_open() {
+        if self.phase.resets_on_abort() {
             self.owed.reset = Some(WaitingReset {
                 to: self.peer,
                 seq: self.number_of(self.sender.nxt()),
@@ -219,27 +225,5 @@ impl<A: Allocator> Endpoint<A> {
             });
         }
         self.end_by(Ending::Aborted);
-    }
-
-    /// The connection ends by a reset or an abort: what is queued, held and unread is given up, and nothing is owed but a waiting
-    /// reset.
-    pub(crate) fn end_by(&mut self, ending: Ending)
-        ensures { self.new ≡ after_giving_up self.old ending }
-    {
-        self.phase = Phase::Closed;
-        self.ending = ending;
-        self.sender.give_up();
-        self.receiver.give_up();
-        self.owed.clear_debts();
-    }
-
-    /// The connection ends in order: what is unread can still be read.
-    pub(crate) fn end_in_order(&mut self)
-        ensures { self.new ≡ after_orderly_end self.old }
-    {
-        self.phase = Phase::Closed;
-        self.ending = Ending::Orderly;
-        self.sender.stop();
-        self.owed.clear_debts();
     }
 }

@@ -1,19 +1,16 @@
-ghost use Rattle.std.specs.Prelude.{◌≡◌, ◌↔◌, ◌<◌, IsTrue, Some};
-ghost use Rattle.tcp_conn.specs.Configs.{HasGoodCapacities, HasGoodMss, HasGoodShift};
-ghost use Rattle.tcp_conn.specs.Refusals.{config_error_number, config_error_text};
+ghost use Rattle.std.specs.Prelude.{◌≡◌, ◌↔◌, IsTrue, Some};
+ghost use Rattle.tcp_conn.specs.Config.{HasGoodCapacities, HasBadCapacity, HasGoodMss, HasBadMss, HasGoodShift, HasBadShift, IsGoodConfig, config_error_number, config_error_text};
 
 use std::error::Error;
 use std::fmt;
+use tcp_sendq::MAX_CAPACITY;
 use tcp_wire::{Addr, Seq};
 
-/// The least MSS, in bytes: that of a [`Config`], and the one that is used where a peer tells less.
+/// The least MSS, in bytes: that of a [`Config`], and the one that is used where a peer gives less.
 pub const MIN_MSS: u16 = 64;
 
 /// The greatest own MSS that a [`Config`] may have, in bytes: what an Ethernet frame carries.
 pub const MAX_MSS: u16 = 1460;
-
-/// The greatest capacity of a buffer, in bytes.
-pub const MAX_CAPACITY: usize = 1_048_576;
 
 /// The greatest window shift (RFC 7323, 2.3).
 pub const MAX_SHIFT: u8 = 14;
@@ -33,32 +30,50 @@ pub struct Config {
     pub send_capacity: usize,
     /// The most bytes that are kept for the user, and the greatest receive window, from 1 to 1,048,576.
     pub recv_capacity: usize,
-    /// The shift of the windows that this end tells, from 0 to 14, where it offers to scale them (RFC 7323, 2.2).
+    /// The shift of the windows that this end advertises, from 0 to 14, where it offers to scale them (RFC 7323, 2.2).
     pub window_shift: Option<u8>,
     /// Whether this end permits selective acknowledgement (RFC 2018, 2).
     pub sack: bool,
 }
 
 impl Config {
+    /// The first fault, in the order of [`ConfigError`].
+    pub(crate) fn fault(&self) -> Option<ConfigError>
+        ensures bad_capacity { (result ≡ Some ConfigError.BadCapacity) ↔ HasBadCapacity self.now }
+        ensures bad_mss { (result ≡ Some ConfigError.BadMss) ↔ HasBadMss self.now }
+        ensures bad_shift { (result ≡ Some ConfigError.BadShift) ↔ HasBadShift self.now }
+        ensures none { (result ≡ None) ↔ IsGoodConfig self.now }
+    {
+        if !self.has_good_capacities() {
+            return Some(ConfigError::BadCapacity);
+        }
+        if !self.has_good_mss() {
+            return Some(ConfigError::BadMss);
+        }
+        if !self.has_good_shift() {
+            return Some(ConfigError::BadShift);
+        }
+        None
+    }
+
     /// Whether both capacities are from 1 to 1,048,576.
-    pub(crate) fn has_good_capacities(&self) -> bool
+    fn has_good_capacities(&self) -> bool
         ensures { IsTrue result ↔ HasGoodCapacities self.now }
     {
-        self.send_capacity >= 1
-            && self.send_capacity <= MAX_CAPACITY
-            && self.recv_capacity >= 1
-            && self.recv_capacity <= MAX_CAPACITY
+        let send = self.send_capacity;
+        let recv = self.recv_capacity;
+        send >= 1 && send <= MAX_CAPACITY && recv >= 1 && recv <= MAX_CAPACITY
     }
 
     /// Whether the MSS is from 64 to 1460.
-    pub(crate) fn has_good_mss(&self) -> bool
+    fn has_good_mss(&self) -> bool
         ensures { IsTrue result ↔ HasGoodMss self.now }
     {
         MIN_MSS <= self.mss && self.mss <= MAX_MSS
     }
 
     /// Whether the shift, if there is one, is at most 14.
-    pub(crate) fn has_good_shift(&self) -> bool
+    fn has_good_shift(&self) -> bool
         ensures { IsTrue result ↔ HasGoodShift self.now }
     {
         self.window_shift.unwrap_or(0) <= MAX_SHIFT

@@ -1,17 +1,12 @@
-ghost use Rattle.std.specs.Prelude.{◌≡◌, ◌↔◌, ◌<◌, ◌≤◌, length, IfOk, OnOk};
-ghost use Rattle.tcp_conn.specs.State.{State, IsWithin};
-ghost use Rattle.tcp_conn.specs.Calls.{new_end};
-ghost use Rattle.tcp_conn.specs.Configs.{HasBadCapacity, HasBadMss, HasBadShift, IsGoodConfig, IsConfig};
+ghost use Rattle.std.specs.Prelude.{◌≡◌, length};
 
-use crate::config::{Config, ConfigError};
+use crate::config::Config;
 use crate::link::{Link, Owed, Peer};
-use crate::options::DEFAULT_MSS;
 use crate::phase::{Ending, Phase};
 use crate::receiver::Receiver;
 use crate::sender::Sender;
 use std::alloc::{Allocator, Global};
 use std::marker::Model;
-use tcp_wire::Addr;
 
 /// One end of a TCP connection (RFC 9293, 3.3). After it was made no call of it takes memory.
 #[derive(Debug, Drop)]
@@ -37,80 +32,11 @@ impl<A: Allocator> Model for Endpoint<A> {
 
     ghost Value = { State };
 
-    ghost use Rattle.tcp_conn.specs.Inside.{IsEndpoint};
+    ghost use Rattle.tcp_conn.specs.Endpoint.{IsEndpoint};
 
     ghost view = { λ e. record { config = e.config; phase = e.phase; ending = e.ending; closing = e.closing; peer = e.peer; link = e.link; sending = e.sender; receiving = e.receiver; owed = e.owed } };
 
     ghost invariant = { λ e. IsEndpoint e.config e.link e.sender.queue e.receiver.inbox };
-}
-
-impl Endpoint {
-    /// A new end: CLOSED, empty, with nothing owed. Its memory is taken now.
-    pub fn new(alloc: Global, config: Config) -> Result<Self, ConfigError>
-        ensures new { IfOk result (λ e. e ≡ new_end config) }
-        ensures bad_capacity { (result ≡ Err ConfigError.BadCapacity) ↔ HasBadCapacity config }
-        ensures bad_mss { (result ≡ Err ConfigError.BadMss) ↔ HasBadMss config }
-        ensures bad_shift { (result ≡ Err ConfigError.BadShift) ↔ HasBadShift config }
-        ensures good { (result ≡ Err ConfigError.NoMemory) → IsGoodConfig config }
-        ensures made { OnOk result (IsConfig config) }
-        ensures within { IfOk result IsWithin }
-    {
-        Self::new_in(alloc, config)
-    }
-}
-
-impl<A: Allocator + Copy> Endpoint<A> {
-    /// The same with memory of this allocator.
-    pub fn new_in(alloc: A, config: Config) -> Result<Self, ConfigError>
-        ensures new { IfOk result (λ e. e ≡ new_end config) }
-        ensures bad_capacity { (result ≡ Err ConfigError.BadCapacity) ↔ HasBadCapacity config }
-        ensures bad_mss { (result ≡ Err ConfigError.BadMss) ↔ HasBadMss config }
-        ensures bad_shift { (result ≡ Err ConfigError.BadShift) ↔ HasBadShift config }
-        ensures good { (result ≡ Err ConfigError.NoMemory) → IsGoodConfig config }
-        ensures made { OnOk result (IsConfig config) }
-        ensures within { IfOk result IsWithin }
-    {
-        let Addr(_in_range) = config.addr;
-        if !config.has_good_capacities() {
-            return Err(ConfigError::BadCapacity);
-        }
-        if !config.has_good_mss() {
-            return Err(ConfigError::BadMss);
-        }
-        if !config.has_good_shift() {
-            return Err(ConfigError::BadShift);
-        }
-        let Ok(sender) = Sender::new_in(alloc, &config) else {
-            return Err(ConfigError::NoMemory);
-        };
-        let Ok(receiver) = Receiver::new_in(alloc, &config) else {
-            return Err(ConfigError::NoMemory);
-        };
-        Ok(Endpoint {
-            config,
-            phase: Phase::Closed,
-            ending: Ending::NotEnded,
-            closing: false,
-            peer: Peer {
-                addr: Addr([0, 0, 0, 0]),
-                port: 0,
-            },
-            link: Link {
-                peer_mss: DEFAULT_MSS,
-                scaling: false,
-                peer_shift: 0,
-                sack: false,
-            },
-            sender,
-            receiver,
-            owed: Owed {
-                syn: false,
-                ack: false,
-                probe: false,
-                reset: None,
-            },
-        })
-    }
 }
 
 impl<A: Allocator> Endpoint<A> {

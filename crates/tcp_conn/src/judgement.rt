@@ -1,6 +1,15 @@
-ghost use Rattle.std.specs.Prelude.{◌≡◌};
+//! Which rule applies to a segment that arrives: the tests of an arrival, once each (RFC 9293, 3.10.7).
+ghost use Rattle.std.specs.Prelude.{◌≡◌, ◌≤◌, ◌+◌};
+ghost use Rattle.tcp_wire.specs.Position.{number};
+ghost use Rattle.tcp_wire.specs.View.{raw_content};
+ghost use Rattle.tcp_wire.specs.Wire.{max_text_len};
+ghost use Rattle.tcp_conn.specs.Judgement.{acceptable_judgement, ack_judgement, acks_syn, answer_of, closed_judgement, count_numbers, is_foreign, judgement, listen_judgement, phase_judgement, position_near, present_judgement, syn_sent_judgement, unacceptable_judgement};
 
+use crate::endpoint::Endpoint;
 use crate::outcome::Arrival;
+use crate::phase::Phase;
+use std::alloc::Allocator;
+use tcp_wire::{Addr, RawSegment, Seq};
 
 /// Which rule applies to a segment that arrives (RFC 9293, 3.10.7): one case for each, also where two do the same.
 #[derive(Clone, Copy, Debug, PartialEq, Eq)]
@@ -13,8 +22,8 @@ pub enum Judgement {
     Stray,
     /// LISTEN has sent nothing that could be acknowledged: a reset answers it.
     AckOfListen,
-    /// It doesn't open a connection.
-    NoSyn,
+    /// In LISTEN and SYN-SENT: nothing follows from it, as from a SYN without an acknowledgement in SYN-SENT.
+    OpensNothing,
     /// A SYN in LISTEN.
     PeerOpens,
     /// In SYN-SENT it acknowledges something else than the SYN: a reset answers it.
@@ -23,7 +32,7 @@ pub enum Judgement {
     PeerRefuses,
     /// The SYN is answered by a SYN.
     PeerAccepts,
-    /// It lies outside the window: an acknowledgement tells where that stands.
+    /// It lies outside the window: an acknowledgement shows where that lies.
     Unacceptable,
     /// A reset at exactly RCV.NXT.
     PeerResets,
@@ -46,8 +55,6 @@ pub enum Judgement {
 }
 
 impl Judgement {
-    ghost use Rattle.tcp_conn.specs.Arrival.{answer_of};
-
     /// What `arrive` answers.
     pub(crate) fn answer(self) -> Arrival
         ensures { result ≡ answer_of self }
@@ -63,7 +70,7 @@ impl Judgement {
             Judgement::ResetIgnored
             | Judgement::Stray
             | Judgement::AckOfListen
-            | Judgement::NoSyn
+            | Judgement::OpensNothing
             | Judgement::AckOfNoSyn
             | Judgement::Unacceptable
             | Judgement::ResetElsewhere
@@ -72,6 +79,197 @@ impl Judgement {
             | Judgement::AcksUnsent
             | Judgement::HandshakeRefused
             | Judgement::HandshakeRefusedShut => Arrival::Dropped,
+        }
+    }
+}
+
+/// How many numbers a segment takes: SYN and FIN take one each (RFC 9293, 3.4).
+pub(crate) fn count_numbers(segment: &RawSegment<'_>) -> u32
+    ensures value { result ≡ count_numbers (raw_content segment.now) }
+    ensures most { result ≤ max_text_len + 2 }
+{
+    let syn = u32::from(segment.header.flags.is_syn());
+    let fin = u32::from(segment.header.flags.is_fin());
+    segment.text.len() as u32 + syn + fin
+}
+
+/// Arrival in CLOSED (RFC 9293, 3.10.7.1).
+#[tactic(auto, unfolding(crate::specs::Judgement::closed_judgement))]
+fn judge_closed(segment: &RawSegment<'_>) -> Judgement
+    ensures { result ≡ closed_judgement (raw_content segment.now) }
+{
+    if segment.header.flags.is_rst() {
+        Judgement::ResetIgnored
+    } else {
+        Judgement::Stray
+    }
+}
+
+/// Arrival in LISTEN (RFC 9293, 3.10.7.2).
+#[tactic(auto, unfolding(crate::specs::Judgement::listen_judgement))]
+fn judge_listen(segment: &RawSegment<'_>) -> Judgement
+    ensures { result ≡ listen_judgement (raw_content segment.now) }
+{
+    if segment.header.flags.is_rst() {
+        Judgement::ResetIgnored
+    } else if segment.header.flags.is_ack() {
+        Judgement::AckOfListen
+    } else if segment.header.flags.is_syn() {
+        Judgement::PeerOpens
+    } else {
+        Judgement::OpensNothing
+    }
+}
+
+impl<A: Allocator> Endpoint<A> {
+    /// Which rule applies to a segment that came from `src` to `dst`.
+    #[tactic(auto, unfolding(crate::specs::Judgement::judgement))]
+    pub(crate) fn judge(&self, src: Addr, dst: Addr, segment: &RawSegment<'_>) -> Judgement
+        ensures { result ≡ judgement self.now src.0 dst.0 (raw_content segment.now) }
+    {
+        if self.is_foreign(src, dst, segment) {
+            return Judgement::Foreign;
+        }
+        self.judge_by_phase(segment)
+    }
+
+    /// Foreign: for another end; or, where the peer is known, from another (RFC 9293, 3.10.7).
+    #[tactic(auto, unfolding(crate::specs::Judgement::is_foreign))]
+    fn is_foreign(&self, src: Addr, dst: Addr, segment: &RawSegment<'_>) -> bool
+        ensures { result ≡ is_foreign self.now src.0 dst.0 (raw_content segment.now) }
+    {
+        let for_other = dst != self.config.addr || segment.header.dst_port != self.config.port;
+        let from_other = src != self.peer.addr || segment.header.src_port != self.peer.port;
+        for_other || self.phase.has_peer() && from_other
+    }
+
+    /// The rules of its phase.
+    #[tactic(auto, unfolding(crate::specs::Judgement::phase_judgement))]
+    fn judge_by_phase(&self, segment: &RawSegment<'_>) -> Judgement
+        ensures { result ≡ phase_judgement self.now (raw_content segment.now) }
+    {
+        match self.phase {
+            Phase::Closed => judge_closed(segment),
+            Phase::Listen => judge_listen(segment),
+            Phase::SynSent => self.judge_syn_sent(segment),
+            _ => self.judge_present(segment),
+        }
+    }
+
+    /// The position that a number means: the nearest to SND.UNA (RFC 9293, 3.4).
+    pub(crate) fn position_near(&self, number: Seq) -> u64
+        ensures { result ≡ position_near self.now number.0 }
+    {
+        self.sender.position_of(self.config.isn, number)
+    }
+
+    /// Whether it acknowledges the own SYN, and nothing else was sent.
+    fn acks_syn(&self, segment: &RawSegment<'_>) -> bool
+        ensures { result ≡ acks_syn self.now (raw_content segment.now) }
+    {
+        self.sender.is_nxt(self.position_near(segment.header.ack))
+    }
+
+    /// Arrival in SYN-SENT (RFC 9293, 3.10.7.3).
+    #[tactic(auto, unfolding(crate::specs::Judgement::syn_sent_judgement))]
+    fn judge_syn_sent(&self, segment: &RawSegment<'_>) -> Judgement
+        ensures { result ≡ syn_sent_judgement self.now (raw_content segment.now) }
+    {
+        let rst = segment.header.flags.is_rst();
+        let ack = segment.header.flags.is_ack();
+        if ack && !self.acks_syn(segment) {
+            return if rst {
+                Judgement::ResetIgnored
+            } else {
+                Judgement::AckOfNoSyn
+            };
+        }
+        if rst {
+            return if ack {
+                Judgement::PeerRefuses
+            } else {
+                Judgement::ResetIgnored
+            };
+        }
+        if segment.header.flags.is_syn() && ack {
+            Judgement::PeerAccepts
+        } else {
+            Judgement::OpensNothing
+        }
+    }
+
+    /// Arrival in any other phase (RFC 9293, 3.10.7.4).
+    #[tactic(auto, unfolding(crate::specs::Judgement::present_judgement))]
+    fn judge_present(&self, segment: &RawSegment<'_>) -> Judgement
+        ensures { result ≡ present_judgement self.now (raw_content segment.now) }
+    {
+        let count = count_numbers(segment);
+        if self.receiver.is_acceptable(segment.header.seq, count) {
+            self.judge_acceptable(segment)
+        } else {
+            self.judge_unacceptable(segment)
+        }
+    }
+
+    /// Reset check, SYN check, then the acknowledgement (RFC 9293, 3.10.7.4, second, fourth and fifth).
+    #[tactic(auto, unfolding(crate::specs::Judgement::acceptable_judgement))]
+    fn judge_acceptable(&self, segment: &RawSegment<'_>) -> Judgement
+        ensures { result ≡ acceptable_judgement self.now (raw_content segment.now) }
+    {
+        if segment.header.flags.is_rst() {
+            return if segment.header.seq == self.receiver.next() {
+                Judgement::PeerResets
+            } else {
+                Judgement::ResetElsewhere
+            };
+        }
+        if segment.header.flags.is_syn() {
+            return Judgement::SynInWindow;
+        }
+        if !segment.header.flags.is_ack() {
+            return Judgement::NoAck;
+        }
+        self.judge_ack(segment, Judgement::Taken, Judgement::HandshakeRefused)
+    }
+
+    /// Outside the window: with the window shut an acknowledgement still counts (RFC 9293, 3.10.7.4, first).
+    #[tactic(auto, unfolding(crate::specs::Judgement::unacceptable_judgement))]
+    fn judge_unacceptable(&self, segment: &RawSegment<'_>) -> Judgement
+        ensures { result ≡ unacceptable_judgement self.now (raw_content segment.now) }
+    {
+        if segment.header.flags.is_rst() {
+            return Judgement::ResetIgnored;
+        }
+        let shut = self.receiver.window() == 0;
+        if shut && segment.header.flags.is_ack() && !segment.header.flags.is_syn() {
+            return self.judge_ack(
+                segment,
+                Judgement::TakenShut,
+                Judgement::HandshakeRefusedShut,
+            );
+        }
+        Judgement::Unacceptable
+    }
+
+    /// The acknowledgement: of the own SYN in SYN-RECEIVED, of nothing that wasn't sent (RFC 9293, 3.10.7.4, fifth).
+    #[tactic(auto, unfolding(crate::specs::Judgement::ack_judgement))]
+    fn judge_ack(&self, segment: &RawSegment<'_>, good: Judgement, refused: Judgement) -> Judgement
+        ensures { result ≡ ack_judgement self.now (raw_content segment.now) good refused }
+    {
+        if self.phase.is_syn_received() {
+            return if self.acks_syn(segment) {
+                good
+            } else {
+                refused
+            };
+        }
+        if self
+            .sender
+            .acks_unsent(self.position_near(segment.header.ack))
+        {
+            Judgement::AcksUnsent
+        } else {
+            good
         }
     }
 }

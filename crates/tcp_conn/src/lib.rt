@@ -2,28 +2,33 @@
 //! bytes go in, segments and bytes for the user come out.
 #![tactic(auto)]
 
+mod acceptable;
 mod arrival;
+mod blocks;
 mod calls;
 mod config;
 mod due;
 mod emission;
+mod endings;
 mod endpoint;
-mod fields;
+mod forms;
 mod judgement;
-mod judging;
+pub mod laws;
 mod link;
-mod marking;
+mod new_end;
 mod options;
 mod outcome;
 mod phase;
 mod receiver;
 mod sender;
-mod sending;
 mod timers;
+mod windows;
+mod writing;
 
-pub use config::{Config, ConfigError, MAX_CAPACITY, MAX_MSS, MAX_SHIFT, MIN_MSS};
+pub use config::{Config, ConfigError, MAX_MSS, MAX_SHIFT, MIN_MSS};
 pub use emission::EMIT_ROOM;
 pub use endpoint::Endpoint;
 pub use outcome::{Arrival, CallError, Received};
 pub use phase::{Ending, Phase, Timer};
 pub use sender::STREAM_LIMIT;
+pub use tcp_sendq::MAX_CAPACITY;

@@ -14,7 +14,7 @@ pub struct Link {
     pub peer_mss: u16,
     /// Whether both SYNs offered to scale windows.
     pub scaling: bool,
-    /// The shift of the windows that the peer tells, at most 14; 0 without scaling.
+    /// The shift of the windows that the peer advertises, at most 14; 0 without scaling.
     pub peer_shift: u8,
     /// Whether both SYNs permitted selective acknowledgement.
     pub sack: bool,
@@ -44,11 +44,11 @@ pub struct Owed {
 
 impl Owed {
     ghost use Rattle.std.specs.Prelude.{◌≡◌};
-    ghost use Rattle.tcp_conn.specs.Calls.{without_debts};
+    ghost use Rattle.tcp_conn.specs.Link.{only_reset_owed};
 
     /// The connection has ended: nothing is owed but a waiting reset.
-    pub(crate) fn clear_debts(&mut self)
-        ensures { self.new ≡ without_debts self.old }
+    pub(crate) fn keep_only_reset(&mut self)
+        ensures { self.new ≡ only_reset_owed self.old }
     {
         self.syn = false;
         self.ack = false;

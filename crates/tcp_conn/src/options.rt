@@ -1,37 +1,38 @@
-//! What the options of a peer's SYN tell, and the blocks of its segments.
+//! What the options of the peer's SYN offer.
 ghost use Rattle.std.specs.Prelude.{◌≡◌, ◌≤◌, map};
-ghost use Rattle.tcp_wire.specs.View.{block, option_content};
-ghost use Rattle.tcp_conn.specs.Link.{mss_told, shift_told, permits_sack, link_of, max_shift};
+ghost use Rattle.tcp_wire.specs.View.{option_content};
+ghost use Rattle.tcp_conn.specs.Options.{mss_option, shift_option, permits_sack, link_of};
+ghost use Rattle.tcp_conn.specs.Config.{max_shift};
 
 use crate::config::{Config, MAX_SHIFT, MIN_MSS};
 use crate::link::Link;
 use tcp_wire::TcpOption;
 
-/// The MSS of a peer that tells none (RFC 9293, 3.7.1).
+/// The MSS of a peer that gives none (RFC 9293, 3.7.1).
 pub(crate) const DEFAULT_MSS: u16 = 536;
 
-/// The first maximum segment size that is told (RFC 9293, 3.7.1).
-fn mss_told(options: &[TcpOption<'_>]) -> Option<u16>
-    ensures { result ≡ mss_told (map option_content options.now) }
+/// The first maximum segment size (RFC 9293, 3.7.1).
+fn mss_option(options: &[TcpOption<'_>]) -> Option<u16>
+    ensures { result ≡ mss_option (map option_content options.now) }
 {
     match options {
         [] => None,
         [first, rest @ ..] => match first {
             TcpOption::Mss(size) => Some(*size),
-            _ => mss_told(rest),
+            _ => mss_option(rest),
         },
     }
 }
 
-/// The first shift that is told (RFC 7323, 2.2).
-fn shift_told(options: &[TcpOption<'_>]) -> Option<u8>
-    ensures { result ≡ shift_told (map option_content options.now) }
+/// The first shift (RFC 7323, 2.2).
+fn shift_option(options: &[TcpOption<'_>]) -> Option<u8>
+    ensures { result ≡ shift_option (map option_content options.now) }
 {
     match options {
         [] => None,
         [first, rest @ ..] => match first {
             TcpOption::WindowScale(shift) => Some(*shift),
-            _ => shift_told(rest),
+            _ => shift_option(rest),
         },
     }
 }
@@ -50,14 +51,14 @@ fn permits_sack(options: &[TcpOption<'_>]) -> bool
 }
 
 /// What the own Config and the options of the peer's SYN agree on.
-#[tactic(auto, unfolding(crate::specs::Link::link_of))]
+#[tactic(auto, unfolding(crate::specs::Options::link_of))]
 pub(crate) fn link_of(config: &Config, options: &[TcpOption<'_>]) -> Link
     ensures value { result ≡ link_of config.now (map option_content options.now) }
     ensures shift { result.peer_shift ≤ max_shift }
 {
-    let shift = shift_told(options);
+    let shift = shift_option(options);
     Link {
-        peer_mss: mss_told(options).unwrap_or(DEFAULT_MSS).max(MIN_MSS),
+        peer_mss: mss_option(options).unwrap_or(DEFAULT_MSS).max(MIN_MSS),
         scaling: config.window_shift.is_some() && shift.is_some(),
         peer_shift: if config.window_shift.is_some() {
             shift.unwrap_or(0).min(MAX_SHIFT)

@@ -1,5 +1,5 @@
 ghost use Rattle.std.specs.Prelude.{◌≡◌, Some};
-ghost use Rattle.tcp_conn.specs.Refusals.{call_error_number, call_error_text};
+ghost use Rattle.tcp_conn.specs.Outcome.{call_error_number, call_error_text};
 
 use crate::Ending;
 use std::error::Error;
@@ -59,7 +59,7 @@ impl Error for CallError {}
 /// What `receive` handed over.
 #[derive(Clone, Copy, Debug, PartialEq, Eq)]
 pub enum Received {
-    /// So many bytes, at the front of the caller's buffer.
+    /// So many bytes, at the start of the caller's buffer.
     Bytes(usize),
     /// No byte is unread, and more may come.
     Nothing,

@@ -16,7 +16,7 @@ pub enum Phase {
 
 impl Phase {
     ghost use Rattle.std.specs.Prelude.{◌≡◌};
-    ghost use Rattle.tcp_conn.specs.Phases.{is_closed, is_listening, is_syn_received, is_last_ack, is_time_wait, is_handshake, takes_text, is_synchronized_open, sends_text, phase_behind_fin};
+    ghost use Rattle.tcp_conn.specs.Phase.{is_closed, is_listening, has_peer, is_syn_received, is_last_ack, is_time_wait, is_handshake, takes_text, resets_on_abort, sends_text, phase_after_fin};
 
     /// Whether there is no connection.
     pub(crate) fn is_closed(self) -> bool
@@ -30,6 +30,13 @@ impl Phase {
         ensures { result ≡ is_listening self }
     {
         matches!(self, Phase::Listen)
+    }
+
+    /// Whether the peer is known.
+    pub(crate) fn has_peer(self) -> bool
+        ensures { result ≡ has_peer self }
+    {
+        !self.is_closed() && !self.is_listening()
     }
 
     /// Whether the own answer to the peer's SYN waits for its acknowledgement.
@@ -68,8 +75,8 @@ impl Phase {
     }
 
     /// Whether an abort owes the peer a reset (RFC 9293, 3.10.5).
-    pub(crate) fn is_synchronized_open(self) -> bool
-        ensures { result ≡ is_synchronized_open self }
+    pub(crate) fn resets_on_abort(self) -> bool
+        ensures { result ≡ resets_on_abort self }
     {
         matches!(
             self,
@@ -81,9 +88,9 @@ impl Phase {
         )
     }
 
-    /// The phase behind the peer's FIN (RFC 9293, 3.10.7.4, eighth).
-    pub(crate) fn behind_fin(self) -> Phase
-        ensures { result ≡ phase_behind_fin self }
+    /// The phase after the peer's FIN (RFC 9293, 3.10.7.4, eighth).
+    pub(crate) fn after_fin(self) -> Phase
+        ensures { result ≡ phase_after_fin self }
     {
         match self {
             Phase::Established => Phase::CloseWait,
@@ -123,7 +130,7 @@ pub enum Ending {
 
 impl Ending {
     ghost use Rattle.std.specs.Prelude.{◌≡◌};
-    ghost use Rattle.tcp_conn.specs.Phases.{is_ended, gives_up};
+    ghost use Rattle.tcp_conn.specs.Phase.{is_ended, gives_up};
 
     /// Whether the connection has ended.
     pub(crate) fn is_ended(self) -> bool

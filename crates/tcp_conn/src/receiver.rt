@@ -1,10 +1,9 @@
 ghost use Rattle.std.specs.Prelude.{◌≡◌, ◌+◌, ◌^◌, ◌<◌, ◌≤◌, ◌≤ℤ◌, ◌<ℤ◌, pos, negsuc, length, take, drop, min, ◌++◌, IfOk};
-ghost use Rattle.tcp_reasm.specs.Reassembly.{window, blocks};
+ghost use Rattle.tcp_reasm.specs.Reassembly.{max_capacity, window, blocks};
 ghost use Rattle.tcp_conn.specs.State.{Receiving};
 ghost use Rattle.tcp_wire.specs.Position.{offset};
-ghost use Rattle.tcp_conn.specs.Acceptable.{is_acceptable};
+ghost use Rattle.tcp_wire.specs.Wire.{max_text_len};
 ghost use Rattle.tcp_conn.specs.Receiver.{new_receiving, with_syn, after_text, is_fin_due, with_fin, after_handing, without_bytes};
-ghost use Rattle.tcp_conn.specs.Configs.{max_capacity};
 
 use crate::config::Config;
 use arrayvec::ArrayVec;
@@ -118,25 +117,8 @@ impl<A: Allocator> Receiver<A> {
         self.next = seq.plus(1);
     }
 
-    /// Whether a segment with so many numbers of its own is acceptable (RFC 9293, 3.10.7.4).
-    #[tactic(auto, using(tcp_wire::proofs::Positions::first_inside, tcp_wire::proofs::Positions::last_inside), unfolding(crate::specs::Acceptable::is_acceptable))]
-    pub(crate) fn accepts(&self, seq: Seq, count: u32) -> bool
-        requires { count ≤ 65515 }
-        ensures { result ≡ is_acceptable self.now.next (window self.now.inbox) seq.0 count }
-    {
-        let window = self.window();
-        let next = self.next;
-        if count == 0 && window == 0 {
-            return seq == next;
-        }
-        if count == 0 {
-            return seq.in_window(next, window);
-        }
-        window > 0 && (seq.in_window(next, window) || seq.plus(count - 1).in_window(next, window))
-    }
-
-    /// How far ahead of RCV.NXT a number lies, behind it being below 0.
-    #[tactic(auto, using(tcp_wire::proofs::Positions::offset_ahead, tcp_wire::proofs::Positions::offset_behind))]
+    /// How far ahead of RCV.NXT a number lies; below 0 where it comes before it.
+    #[tactic(auto, using(tcp_wire::proofs::Lemmas::offset_ahead, tcp_wire::proofs::Lemmas::offset_behind))]
     fn offset_of(&self, seq: Seq) -> i64
         ensures value { result ≡ offset self.now.next seq.0 }
         ensures least { negsuc 2147483647 ≤ℤ result }
@@ -153,7 +135,7 @@ impl<A: Allocator> Receiver<A> {
     /// Places text whose first byte has this number (RFC 9293, 3.10.7.4, seventh).
     #[tactic(auto, using(crate::proofs::Placing::length_placed, crate::proofs::Placing::capacity_placed), unfolding(crate::specs::Receiver::after_text))]
     pub(crate) fn place(&mut self, seq: Seq, text: &[u8])
-        requires { length text.now ≤ 65495 }
+        requires { length text.now ≤ max_text_len }
         ensures state { self.new ≡ after_text self.old seq.0 text.now }
         ensures capacity { self.new.inbox.capacity ≡ self.old.inbox.capacity }
         ensures whole { length self.new.inbox.unread + length self.new.inbox.held ≡ self.new.inbox.capacity }
@@ -185,7 +167,7 @@ impl<A: Allocator> Receiver<A> {
         self.inbox.clear_held();
     }
 
-    /// Hands over the front of the unread bytes that fits `out`, and answers its length.
+    /// Hands over the longest prefix of the unread bytes that fits `out`, and answers its length.
     #[tactic(auto, using(crate::proofs::Placing::whole_read, crate::proofs::Placing::capacity_read))]
     pub(crate) fn read(&mut self, out: &mut [u8]) -> usize
         ensures count { result ≡ min (length out.old) (length self.old.inbox.unread) }

@@ -1,9 +1,8 @@
-ghost use Rattle.std.specs.Prelude.{◌≡◌, ◌<◌, ◌≤◌, ◌==◌, ◌&&◌, nat_lt, length, IfOk, IfSome};
+ghost use Rattle.std.specs.Prelude.{◌≡◌, ◌≤◌, ◌==◌, nat_le, length, IfOk, IfSome};
 ghost use Rattle.tcp_sendq.specs.SendQueue.{last_mark_end};
-ghost use Rattle.tcp_wire.specs.Position.{number, distance, position_of};
+ghost use Rattle.tcp_wire.specs.Position.{number, position_of};
 ghost use Rattle.tcp_conn.specs.State.{Sending, accepted_count, place_of, end_of_text};
-ghost use Rattle.tcp_conn.specs.Sender.{stream_limit, new_sending, with_syn_sent, with_syn_acked, acks_unsent, acks_more, count_below, with_acked, after_ack, is_newer, with_window, after_window_update, is_of_flight, marks_text, with_marks, after_block, is_in_flight, with_all_resent, with_gaps_resent, count_sendable, with_text, count_unsent, is_fin_sent, is_fin_acked, without_resend, without_text, IsSender};
-ghost use Rattle.tcp_conn.specs.Calls.{after_gaps};
+ghost use Rattle.tcp_conn.specs.Sender.{stream_limit, new_sending, with_syn_sent, with_syn_acked, acks_unsent, count_below, after_ack, with_window, after_window_update, is_in_flight, with_all_resent, with_gaps_resent, count_sendable, with_text, count_unsent, is_probe_needed, is_fin_acked, without_resend, without_text, IsSender};
 
 use crate::config::Config;
 use std::alloc::{Allocator, Global};
@@ -16,23 +15,23 @@ use tcp_wire::Seq;
 /// 2^31 apart.
 pub const STREAM_LIMIT: u64 = 2_147_483_632;
 
-/// The half of an end that sends (RFC 9293, 3.3.1). Positions count from the SYN, which stands at 0; byte i of
-/// the queue stands at `1 + released + i`, the FIN behind the last byte.
+/// The half of an end that sends (RFC 9293, 3.3.1). Positions count from the SYN, which is at 0; byte i of
+/// the queue is at `1 + released + i`, the FIN after the last byte.
 #[derive(Debug, Drop)]
 pub(crate) struct Sender<A: Allocator = Global> {
     /// SND.UNA, the oldest position that isn't acknowledged; at most `nxt`.
     pub(crate) una: u64,
-    /// SND.NXT, the next position to be sent; at most that behind the FIN of a full direction.
+    /// SND.NXT, the next position to be sent; at most that after the FIN of a full direction.
     pub(crate) nxt: u64,
     /// The text bytes that were released by acknowledgement.
     pub(crate) released: u64,
-    /// The text behind them.
+    /// The text after them.
     pub(crate) queue: SendQueue<A>,
     /// What a retransmission has still to send again.
     pub(crate) resend: Option<Range<u64>>,
     /// SND.WND, in bytes.
     pub(crate) wnd: u32,
-    /// SND.WL1 and SND.WL2, the numbers of the segment that told the window.
+    /// SND.WL1 and SND.WL2, the numbers of the segment that the window was taken from.
     pub(crate) wl1: Seq,
     pub(crate) wl2: Seq,
 }
@@ -91,7 +90,7 @@ impl<A: Allocator> Sender<A> {
         self.nxt
     }
 
-    /// The position behind the last byte that was accepted.
+    /// The position after the last byte that was accepted.
     pub(crate) fn end_of_text(&self) -> u64
         ensures { result ≡ end_of_text self.now }
     {
@@ -102,19 +101,18 @@ impl<A: Allocator> Sender<A> {
     pub(crate) fn place_of(&self, position: u64) -> u64
         ensures { result ≡ place_of self.now position }
     {
-        let _ = &self.una;
         position.saturating_sub(1 + self.released)
     }
 
-    /// How many queued bytes stand below a position.
-    fn count_below(&self, position: u64) -> usize
+    /// How many queued bytes lie before a position.
+    pub(crate) fn count_below(&self, position: u64) -> usize
         ensures { result ≡ count_below self.now position }
     {
         self.place_of(position).min(self.queue.len() as u64) as usize
     }
 
     /// The position that a number means: the nearest to SND.UNA (RFC 9293, 3.4).
-    #[tactic(auto, using(tcp_wire::proofs::Positions::position_of_ahead, tcp_wire::proofs::Positions::position_of_behind))]
+    #[tactic(auto, using(tcp_wire::proofs::Lemmas::position_of_ahead, tcp_wire::proofs::Lemmas::position_of_behind))]
     pub(crate) fn position_of(&self, iss: Seq, number: Seq) -> u64
         ensures { result ≡ position_of iss.0 self.now.una number.0 }
     {
@@ -126,7 +124,7 @@ impl<A: Allocator> Sender<A> {
         }
     }
 
-    /// The own SYN is on its way (RFC 9293, 3.10.1).
+    /// The own SYN is sent (RFC 9293, 3.10.1).
     pub(crate) fn send_syn(&mut self)
         ensures state { self.new ≡ with_syn_sent self.old }
         ensures capacity { self.new.queue.capacity ≡ self.old.queue.capacity }
@@ -136,7 +134,7 @@ impl<A: Allocator> Sender<A> {
         self.nxt = 1;
     }
 
-    /// The own SYN is acknowledged, by a segment that tells a window (RFC 9293, 3.10.7.3 and 3.10.7.4).
+    /// The own SYN is acknowledged, by a segment that advertises a window (RFC 9293, 3.10.7.3 and 3.10.7.4).
     pub(crate) fn take_syn_ack(&mut self, seq: Seq, ack: Seq, window: u32)
         ensures state { self.new ≡ with_window (with_syn_acked self.old) seq.0 ack.0 window }
         ensures capacity { self.new.queue.capacity ≡ self.old.queue.capacity }
@@ -162,11 +160,11 @@ impl<A: Allocator> Sender<A> {
         self.nxt < ack
     }
 
-    /// Whether it acknowledges SND.UNA, and no less.
-    pub(crate) fn is_una(&self, ack: u64) -> bool
-        ensures { result ≡ (ack == self.now.una) }
+    /// Whether it acknowledges SND.UNA or more.
+    pub(crate) fn is_current(&self, ack: u64) -> bool
+        ensures { result ≡ nat_le self.now.una ack }
     {
-        ack == self.una
+        self.una <= ack
     }
 
     /// Releases the text below an acknowledgement of what was sent and not acknowledged before (RFC 9293, 3.10.7.4).
@@ -184,7 +182,7 @@ impl<A: Allocator> Sender<A> {
         }
     }
 
-    /// Takes a window, unless a newer segment told one (RFC 9293, 3.10.7.4).
+    /// Takes a window, unless the last was taken from a newer segment (RFC 9293, 3.10.7.4).
     #[tactic(auto, unfolding(crate::specs::Sender::after_window_update))]
     pub(crate) fn update_window(&mut self, seq: Seq, ack: Seq, window: u32)
         ensures state { self.new ≡ after_window_update self.old seq.0 ack.0 window }
@@ -199,22 +197,6 @@ impl<A: Allocator> Sender<A> {
         }
     }
 
-    /// Marks the text of a block of what is in flight (RFC 2018, 5). The FIN is never marked.
-    #[tactic(auto, unfolding(crate::specs::Sender::after_block, tcp_sendq::specs::SendQueue::after_mark))]
-    pub(crate) fn mark(&mut self, left: u64, right: u64)
-        ensures state { self.new ≡ after_block self.old left right }
-        ensures una { self.new.una ≡ self.old.una }
-        ensures capacity { self.new.queue.capacity ≡ self.old.queue.capacity }
-        ensures queued { length self.new.queue.bytes ≤ self.new.queue.capacity }
-    {
-        let from = self.place_of(left);
-        let to = self.count_below(right);
-        let of_flight = self.una < left && left < right && right <= self.nxt;
-        if of_flight && from < to as u64 {
-            self.queue.mark(from as usize, to);
-        }
-    }
-
     /// Whether anything that was sent isn't acknowledged.
     pub(crate) fn is_in_flight(&self) -> bool
         ensures { result ≡ is_in_flight self.now }
@@ -222,7 +204,7 @@ impl<A: Allocator> Sender<A> {
         self.una < self.nxt
     }
 
-    /// Sends all that is in flight again, and forgets what the peer told of it (RFC 9293, 3.8.1; RFC 2018, 5).
+    /// Sends all that is in flight again, and forgets what the peer reported of it (RFC 9293, 3.8.1; RFC 2018, 5).
     #[tactic(auto, unfolding(tcp_sendq::specs::SendQueue::without_marks))]
     pub(crate) fn resend_all(&mut self)
         ensures state { self.new ≡ with_all_resent self.old }
@@ -233,7 +215,7 @@ impl<A: Allocator> Sender<A> {
         self.resend = Some(self.una..self.nxt);
     }
 
-    /// The place behind the last marked byte, if one is marked.
+    /// The place after the last marked byte, if one is marked.
     pub(crate) fn marks_end(&self) -> Option<usize>
         ensures value { result ≡ last_mark_end self.now.queue }
         ensures inside { IfSome result (λ end. end ≤ length self.now.queue.bytes) }
@@ -241,7 +223,7 @@ impl<A: Allocator> Sender<A> {
         self.queue.last_mark_end()
     }
 
-    /// Sends what stands below the place `end` again (RFC 2018, 5).
+    /// Sends what lies before the place `end` again (RFC 2018, 5).
     pub(crate) fn resend_gaps(&mut self, end: usize)
         requires { end ≤ length self.old.queue.bytes }
         ensures state { self.new ≡ with_gaps_resent self.old end }
@@ -251,15 +233,14 @@ impl<A: Allocator> Sender<A> {
         self.resend = Some(self.una..1 + self.released + end as u64);
     }
 
-    /// Whether the retransmission timeout asks for a probe: nothing is in flight, text is unsent, and the window is
-    /// shut (RFC 9293, 3.8.6.1).
-    pub(crate) fn needs_probe(&self) -> bool
-        ensures { result ≡ ((self.now.una == self.now.nxt) && (nat_lt 0 (count_unsent self.now) && (self.now.wnd == 0))) }
+    /// Whether a probe is needed: nothing is in flight, text is unsent, and the window is shut (RFC 9293, 3.8.6.1).
+    pub(crate) fn is_probe_needed(&self) -> bool
+        ensures { result ≡ is_probe_needed self.now }
     {
         self.una == self.nxt && self.count_unsent() > 0 && self.wnd == 0
     }
 
-    /// Takes the front of `text` that fits the queue and the limit, and answers its length.
+    /// Takes the longest prefix of `text` that fits the queue and the limit, and answers its length.
     pub(crate) fn send(&mut self, text: &[u8]) -> usize
         ensures count { result ≡ count_sendable self.old text.now }
         ensures state { self.new ≡ with_text self.old text.now }

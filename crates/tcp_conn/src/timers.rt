@@ -1,7 +1,7 @@
 ghost use Rattle.std.specs.Prelude.{◌≡◌};
-ghost use Rattle.tcp_conn.specs.State.{State, IsWithin};
-ghost use Rattle.tcp_conn.specs.Calls.{timer_answer, after_timer, after_retransmit, after_reorder, after_time_wait, sends_again, needs_probe};
-ghost use Rattle.tcp_conn.specs.declared.phase.Timer.TheVariants.{Retransmit, Reorder, TimeWait};
+ghost use Rattle.tcp_conn.specs.State.{IsWithin};
+ghost use Rattle.tcp_conn.specs.Timers.{after_reorder, after_retransmit, after_time_wait, after_timer, needs_probe, sends_again, timer_answer};
+ghost use Rattle.tcp_conn.specs.declared.phase.Timer.TheVariants.{Reorder, Retransmit, TimeWait};
 
 use crate::endpoint::Endpoint;
 use crate::phase::Timer;
@@ -19,6 +19,7 @@ impl<A: Allocator> Endpoint<A> {
             Timer::Reorder => self.reorder(),
             Timer::TimeWait => self.leave_time_wait(),
         };
+        // So that the proof knows what always holds of an end.
         let _ = &self.config;
         applies
     }
@@ -43,11 +44,11 @@ impl<A: Allocator> Endpoint<A> {
     fn needs_probe(&self) -> bool
         ensures { result ≡ needs_probe self.now }
     {
-        self.phase.sends_text() && self.sender.needs_probe()
+        self.phase.sends_text() && self.sender.is_probe_needed()
     }
 
     /// The retransmission timeout (RFC 9293, 3.8.1 and 3.8.6.1).
-    #[tactic(auto, unfolding(crate::specs::Calls::after_retransmit))]
+    #[tactic(auto, unfolding(crate::specs::Timers::after_retransmit))]
     fn retransmit(&mut self) -> bool
         ensures answer { result ≡ timer_answer self.old Retransmit }
         ensures state { self.new ≡ after_retransmit self.old }
@@ -63,8 +64,8 @@ impl<A: Allocator> Endpoint<A> {
         handshake || again || probe
     }
 
-    /// The reordering timeout: what stands below the last mark is taken for lost (RFC 2018, 5).
-    #[tactic(auto, unfolding(crate::specs::Calls::after_reorder))]
+    /// The reordering timeout: what lies before the last mark is taken for lost (RFC 2018, 5).
+    #[tactic(auto, unfolding(crate::specs::Timers::after_reorder))]
     fn reorder(&mut self) -> bool
         ensures answer { result ≡ timer_answer self.old Reorder }
         ensures state { self.new ≡ after_reorder self.old }
@@ -80,7 +81,7 @@ impl<A: Allocator> Endpoint<A> {
     }
 
     /// The TIME-WAIT timeout (RFC 9293, 3.10.8).
-    #[tactic(auto, unfolding(crate::specs::Calls::after_time_wait))]
+    #[tactic(auto, unfolding(crate::specs::Timers::after_time_wait))]
     fn leave_time_wait(&mut self) -> bool
         ensures answer { result ≡ timer_answer self.old TimeWait }
         ensures state { self.new ≡ after_time_wait self.old }

@@ -226,7 +226,7 @@ stamp_all P (run ∷ others) i h (inr c) =
     ]
 
 -- of runs that are all maximal, that of the run that it lies in
-stamp_maximal : (held : List (Option Cell)) (all : List Run) (run : Run) (i : ℕ) → IsMaximal held run → run.from ≤ i → i < run.to → AllByRecursion (IsMaximal held) all → SomeCovers all i → stamp_of_run all i ≡ run.stamp
+pub stamp_maximal : (held : List (Option Cell)) (all : List Run) (run : Run) (i : ℕ) → IsMaximal held run → run.from ≤ i → i < run.to → AllByRecursion (IsMaximal held) all → SomeCovers all i → stamp_of_run all i ≡ run.stamp
 stamp_maximal held [] run i is low high maximal c = absurd c
 stamp_maximal held (other ∷ others) run i is low high maximal c =
     elim (stamp_or other others i) [

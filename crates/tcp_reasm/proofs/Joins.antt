@@ -137,12 +137,12 @@ union_within window union piece (run ∷ others) fits h =
       | false ↦ union_within window union piece others fits h.1
     ]
 
-pub union_behind : (low : ℕ) (window : ℕ) (union piece : Run) (all : List Run) → low < union.from → low ≡ 0 → AllByRecursion (IsInside window) all → low < (union_of union piece all).from
-union_behind low window union piece [] above e h = above
-union_behind low window union piece (run ∷ others) above e h =
+pub union_after : (low : ℕ) (window : ℕ) (union piece : Run) (all : List Run) → low < union.from → low ≡ 0 → AllByRecursion (IsInside window) all → low < (union_of union piece all).from
+union_after low window union piece [] above e h = above
+union_after low window union piece (run ∷ others) above e h =
     elim (touches piece run) as (λ b. low < (union_of (if b then joined union run else union) piece others).from) [
-      | true ↦ union_behind low window (joined union run) piece others (omega (arith, h.0.0)) e h.1
-      | false ↦ union_behind low window union piece others above e h.1
+      | true ↦ union_after low window (joined union run) piece others (omega (arith, h.0.0)) e h.1
+      | false ↦ union_after low window union piece others above e h.1
     ]
 
 union_inside : (union piece : Run) (all : List Run) (i : ℕ) → union.from ≤ piece.from → piece.to ≤ union.to → (union_of union piece all).from ≤ i → i < (union_of union piece all).to →
@@ -331,13 +331,13 @@ top_moved stamps count run low top =
     }
 
 -- runs behind one that begins at the first place
-pub behind_first : (union : Run) (rest : List Run) (count : ℕ) → union.from ≡ 0 → union.to ≡ count → AllByRecursion (Away union) rest → AllByRecursion (λ (run : Run). count < run.from) rest
-behind_first union rest count from to away =
+pub after_first : (union : Run) (rest : List Run) (count : ℕ) → union.from ≡ 0 → union.to ≡ count → AllByRecursion (Away union) rest → AllByRecursion (λ (run : Run). count < run.from) rest
+after_first union rest count from to away =
     all_map (Away union) (λ run. count < run.from) rest (λ run h. elim h [ inl k ↦ omega arith | inr k ↦ absurd (omega arith) ]) away
 
 pub moved_described : (stamps : ℕ → ℕ) (size count : ℕ) (union : Run) (rest : List Run) → Described stamps size (union ∷ rest) → union.from ≡ 0 → union.to ≡ count → Described (λ i. stamps (count + i)) (size - count) (map (moved count) rest)
 moved_described stamps size count union rest d from to =
-    let behind : AllByRecursion (λ (run : Run). count < run.from) rest = behind_first union rest count from to d.away.0 in
+    let behind : AllByRecursion (λ (run : Run). count < run.from) rest = after_first union rest count from to d.away.0 in
     let lie : AllByRecursion (Lies size) rest = d.lie.1 in
     let both = both_all (λ run. count < run.from) (Lies size) rest behind lie in
     record {
@@ -440,27 +440,27 @@ joined_away window piece all inside away =
 pub joined_inside : (window : ℕ) (piece : Run) (all : List Run) → IsInside window piece → AllByRecursion (IsInside window) all → AllByRecursion (IsInside window) (union_of piece piece all ∷ rest_of piece all)
 joined_inside window piece all own inside =
     let wide = union_wraps piece piece all in
-    ((union_behind 0 window piece piece all own.0 refl inside, omega (arith, wide.0, wide.1, own.1), union_within window piece piece all own.2 inside), rest_all (IsInside window) piece all inside)
+    ((union_after 0 window piece piece all own.0 refl inside, omega (arith, wide.0, wide.1, own.1), union_within window piece piece all own.2 inside), rest_all (IsInside window) piece all inside)
 
 pub joined_are_away : (window : ℕ) (piece : Run) (all : List Run) → AllByRecursion (IsInside window) all → AreAway all → AreAway (union_of piece piece all ∷ rest_of piece all)
 joined_are_away window piece all inside away = (joined_away window piece all inside away, away_rest piece all away)
 
 -- the rest behind a piece that begins at the next byte
-rest_behind : (window : ℕ) (piece : Run) (all : List Run) → piece.from ≡ 0 → AllByRecursion (IsInside window) all → AreAway all → AllByRecursion (λ (run : Run). (union_of piece piece all).to < run.from) (rest_of piece all)
-rest_behind window piece all from inside away =
-    behind_first (union_of piece piece all) (rest_of piece all) (union_of piece piece all).to (omega (arith, (union_wraps piece piece all).0)) refl (joined_away window piece all inside away)
+rest_after : (window : ℕ) (piece : Run) (all : List Run) → piece.from ≡ 0 → AllByRecursion (IsInside window) all → AreAway all → AllByRecursion (λ (run : Run). (union_of piece piece all).to < run.from) (rest_of piece all)
+rest_after window piece all from inside away =
+    after_first (union_of piece piece all) (rest_of piece all) (union_of piece piece all).to (omega (arith, (union_wraps piece piece all).0)) refl (joined_away window piece all inside away)
 
 pub moved_inside : (window : ℕ) (piece : Run) (all : List Run) → piece.from ≡ 0 → AllByRecursion (IsInside window) all → AreAway all →
     let count = (union_of piece piece all).to in AllByRecursion (IsInside (window - count)) (map (moved count) (rest_of piece all))
 moved_inside window piece all from inside away =
     let count = (union_of piece piece all).to in
     all_moved (λ run. (count < run.from) × IsInside window run) (IsInside (window - count)) count (rest_of piece all) (λ run h. (omega (arith, h.0), omega (arith, h.0, h.1.1), omega (arith, h.1.2)))
-    (both_all (λ run. count < run.from) (IsInside window) (rest_of piece all) (rest_behind window piece all from inside away) (rest_all (IsInside window) piece all inside))
+    (both_all (λ run. count < run.from) (IsInside window) (rest_of piece all) (rest_after window piece all from inside away) (rest_all (IsInside window) piece all inside))
 
 pub moved_away : (window : ℕ) (piece : Run) (all : List Run) → piece.from ≡ 0 → AllByRecursion (IsInside window) all → AreAway all →
     AreAway (map (moved (union_of piece piece all).to) (rest_of piece all))
 moved_away window piece all from inside away =
-    away_moved (union_of piece piece all).to (rest_of piece all) (rest_behind window piece all from inside away)
+    away_moved (union_of piece piece all).to (rest_of piece all) (rest_after window piece all from inside away)
     (all_map (IsInside window) Some (rest_of piece all) (λ run h. h.1) (rest_all (IsInside window) piece all inside)) (away_rest piece all away)
 
 pub union_count : (start end n m : ℕ) (all : List Run) → (union_of (piece_of start end n) (piece_of start end n) (ranked all)).to ≡ (union_of (piece_of start end m) (piece_of start end m) all).to

@@ -2,7 +2,7 @@
 use Rattle.std.proofs.Common.{◌≡◌, ℕ, zero, suc, ◌+◌, ◌<◌, ◌≤◌, ◌⊎◌, inl, inr, List, [], ◌∷◌, ◌++◌, length, take, drop, refl, sym, ◌∙◌, ap, arith}
 use Rattle.std.specs.Prelude.{replicate, Option, Some, None}
 use Rattle.std.specs.List.{AllByRecursion}
-use Rattle.tcp_reasm.specs.Reassembly.{Cell, Run, first_byte, overlay, stamp_at, greatest_stamp, bytes_in_order, stamp_of_run}
+use Rattle.tcp_reasm.specs.Reassembly.{Cell, Run, first_byte, overlay, greatest_stamp, bytes_in_order, stamp_of_run}
 use Rattle.tcp_reasm.specs.Laws.{SomeCovers, cell_at}
 use Rattle.tcp_reasm.specs.Store.{ranked, cell_of, cells, IsInside, fresh_byte, laid}
 use Rattle.tcp_reasm.proofs.Described.{stamp_cell_of, stamp_first, stamp_or, stamp_none}

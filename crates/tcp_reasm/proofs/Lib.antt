@@ -8,6 +8,7 @@ pub mod Laying
 pub mod Maximal
 pub mod Newest
 pub mod Placing
+pub mod Ranks
 pub mod Rings
 pub mod Sorting
 pub mod Steps

@@ -81,8 +81,8 @@ length-read_bytes bytes = length-map bytes (λ (byte : ℕ). Some byte)
 at_unread : (bytes : List ℕ) (known : Known) (place : ℕ) → place < length bytes → get_or (read_bytes bytes ++ known) place None ≡ get_or (read_bytes bytes) place None
 at_unread bytes known place inside = get_or_append_left (read_bytes bytes) known None place (omega (arith, length-read_bytes bytes))
 
-at_behind : (bytes : List ℕ) (known : Known) (place : ℕ) → length bytes ≤ place → get_or (read_bytes bytes ++ known) place None ≡ get_or known (place - length bytes) None
-at_behind bytes known place behind = get_or-append_right (read_bytes bytes) known (length bytes) place None (length-read_bytes bytes) behind
+at_after : (bytes : List ℕ) (known : Known) (place : ℕ) → length bytes ≤ place → get_or (read_bytes bytes ++ known) place None ≡ get_or known (place - length bytes) None
+at_after bytes known place behind = get_or-append_right (read_bytes bytes) known (length bytes) place None (length-read_bytes bytes) behind
 
 -- where the overlay is taken in
 taken_keeps : (q : Inbox) (p : Piece) → KeepsBytes q (with_overlay q (overlay_of q p))
@@ -92,8 +92,8 @@ taken_keeps q p place byte there =
     ∙ elim (cases_lt place (length q.unread)) [
       | inl unread ↦ at_unread q.unread (held_bytes over) place unread ∙ sym (at_unread q.unread (held_bytes q.held) place unread) ∙ there
       | inr behind ↦
-          at_behind q.unread (held_bytes over) place behind
-          ∙ overlay_keeps p.start p.text (suc (greatest_stamp q.held)) q.held (place - length q.unread) byte (sym (at_behind q.unread (held_bytes q.held) place behind) ∙ there)
+          at_after q.unread (held_bytes over) place behind
+          ∙ overlay_keeps p.start p.text (suc (greatest_stamp q.held)) q.held (place - length q.unread) byte (sym (at_after q.unread (held_bytes q.held) place behind) ∙ there)
     ]
 
 taken_takes : (q : Inbox) (p : Piece) → length q.held ≡ window q → TakesPiece q (with_overlay q (overlay_of q p)) p
@@ -103,8 +103,8 @@ taken_takes q p wide i byte is inside missing =
     let behind : length q.unread ≤ place = omega arith in
     let same : place - length q.unread ≡ p.start + i = omega arith in
     ap (λ (known : Known). get_or known place None) (bytes_by_place-with_overlay q over)
-    ∙ at_behind q.unread (held_bytes over) place behind
-    ∙ overlay_takes p.start p.text (suc (greatest_stamp q.held)) q.held i (place - length q.unread) byte same is (omega (arith, wide, inside, same)) (sym (at_behind q.unread (held_bytes q.held) place behind) ∙ missing)
+    ∙ at_after q.unread (held_bytes over) place behind
+    ∙ overlay_takes p.start p.text (suc (greatest_stamp q.held)) q.held i (place - length q.unread) byte same is (omega (arith, wide, inside, same)) (sym (at_after q.unread (held_bytes q.held) place behind) ∙ missing)
 
 taken_leaves : (q : Inbox) (p : Piece) → LeavesOthers q (with_overlay q (overlay_of q p)) p
 taken_leaves q p place outside =
@@ -117,9 +117,9 @@ taken_leaves q p place outside =
             | inl before ↦ inl (omega arith)
             | inr later ↦ inr (omega arith)
           ] in
-          at_behind q.unread (held_bytes over) place behind
+          at_after q.unread (held_bytes over) place behind
           ∙ overlay_leaves p.start p.text (suc (greatest_stamp q.held)) q.held (place - length q.unread) covered
-          ∙ sym (at_behind q.unread (held_bytes q.held) place behind)
+          ∙ sym (at_after q.unread (held_bytes q.held) place behind)
     ]
 
 -- ---- placing
@@ -159,7 +159,7 @@ first_missing (Some cell ∷ places) missing = absurd cc
 pub ends_at_missing : (q : Inbox) → cell_at q.held 0 ≡ None → EndsAtMissing q
 ends_at_missing q missing =
     let first : length q.unread - length q.unread ≡ 0 = omega arith in
-    at_behind q.unread (held_bytes q.held) (length q.unread) (omega arith)
+    at_after q.unread (held_bytes q.held) (length q.unread) (omega arith)
     ∙ ap (λ n. get_or (held_bytes q.held) n None) first
     ∙ first_missing q.held missing
 

@@ -51,10 +51,10 @@ put_append zero (suc room) (new ∷ text) (byte ∷ bytes) others e = ap (λ res
 put_append (suc start) room text (byte ∷ bytes) others e = ap (λ rest. byte ∷ rest) (put_append start room text bytes others (omega arith))
 
 -- behind a list
-pub put_behind : (start at : ℕ) (text bytes others : List ℕ) → length bytes + at ≡ start → put start text (bytes ++ others) ≡ bytes ++ put at text others
-put_behind start at text [] others e = let same : start ≡ at = omega arith in ap (λ n. put n text others) same
-put_behind zero at text (byte ∷ bytes) others e = absurd (omega arith)
-put_behind (suc start) at text (byte ∷ bytes) others e = ap (λ rest. byte ∷ rest) (put_behind start at text bytes others (omega arith))
+pub put_after : (start at : ℕ) (text bytes others : List ℕ) → length bytes + at ≡ start → put start text (bytes ++ others) ≡ bytes ++ put at text others
+put_after start at text [] others e = let same : start ≡ at = omega arith in ap (λ n. put n text others) same
+put_after zero at text (byte ∷ bytes) others e = absurd (omega arith)
+put_after (suc start) at text (byte ∷ bytes) others e = ap (λ rest. byte ∷ rest) (put_after start at text bytes others (omega arith))
 
 pub drop_put : (n start at : ℕ) (text bytes : List ℕ) → n + start ≡ at → drop n (put at text bytes) ≡ put start text (drop n bytes)
 drop_put zero start at text bytes e = let same : at ≡ start = omega arith in ap (λ m. put m text bytes) same
@@ -104,14 +104,14 @@ turned_put_split start place room text block middle after e starts fits m a =
     ∙ sym (put_append place room text (drop start block) (take start block) (omega (arith, length-drop start block)))
 
 -- a text that begins behind the block's end
-pub turned_put_behind : (start place at : ℕ) (text block after : List ℕ) → (length block - start) + at ≡ place → start ≤ length block → place + length text ≤ length block →
+pub turned_put_after : (start place at : ℕ) (text block after : List ℕ) → (length block - start) + at ≡ place → start ≤ length block → place + length text ≤ length block →
     after ≡ put at text block → turned start after ≡ put place text (turned start block)
-turned_put_behind start place at text block after e starts fits a =
+turned_put_after start place at text block after e starts fits a =
     let before : at + length text ≤ start = omega arith in
     ap (turned start) a
     ∙ ap (λ (back : List ℕ). back ++ take start (put at text block)) (drop_put_before start at text block before)
     ∙ ap (λ (front : List ℕ). drop start block ++ front) (take_put_before start at text block before)
-    ∙ sym (put_behind place at text (drop start block) (take start block) (omega (arith, length-drop start block)))
+    ∙ sym (put_after place at text (drop start block) (take start block) (omega (arith, length-drop start block)))
 
 -- ---- laying stretch by stretch
 

@@ -1,7 +1,7 @@
 -- One step of each recursion over a table, at a run of it.
-use Rattle.std.proofs.Common.{◌≡◌, ℕ, ◌+◌, ◌-◌, ◌<◌, ◌≤◌, List, [], ◌∷◌, ◌++◌, length, get_or, drop, sym, ◌∙◌, ap, append_assoc}
+use Rattle.std.proofs.Common.{◌≡◌, ℕ, ◌+◌, ◌-◌, ◌<◌, List, [], ◌∷◌, ◌++◌, length, get_or, drop, sym, ◌∙◌, ap, append_assoc}
 use Rattle.std.specs.Prelude.{true, false, map, if◌then◌else◌}
-use Rattle.std.proofs.lemmas.List.{drop_more, drop_all, drop-map, map-append}
+use Rattle.std.proofs.lemmas.List.{drop_more, drop-map, map-append}
 use Rattle.tcp_reasm.specs.declared.table.Run.{Run as Entry}
 use Rattle.tcp_reasm.specs.Reassembly.{Run, is_within}
 use Rattle.tcp_reasm.specs.Store.{run_of, runs_in, touches, joined, union_of, rest_of, moved, held_to, gap_before, gap_to}

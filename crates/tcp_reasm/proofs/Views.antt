@@ -1,15 +1,15 @@
 -- What a call makes of the block and the table is seen as what the definitions make of an inbox.
 use Rattle.std.proofs.Common.{◌≡◌, ℕ, suc, ◌+◌, ◌-◌, ◌<◌, ◌≤◌, ◌⊎◌, inl, inr, List, [], ◌∷◌, ◌++◌, length, take, drop, refl, sym, ◌∙◌, ap, arith, length-drop, length-take, append-nil}
-use Rattle.std.specs.Prelude.{min, map, replicate, Option, None}
+use Rattle.std.specs.Prelude.{min, map, replicate, Option, Some, None}
 use Rattle.std.specs.List.{AllByRecursion}
 use Rattle.std.proofs.lemmas.Bool.{cases_lt}
 use Rattle.std.proofs.lemmas.List.{drop-drop, drop-append-le, take-append-le, drop-take, drop_min, take_min, take-map}
 use Rattle.tcp_reasm.specs.declared.table.Run.{Run as Entry}
-use Rattle.tcp_reasm.specs.Reassembly.{Cell, Inbox, Run, overlay, greatest_stamp, bytes_in_order, runs, runs_newest_first, with_ranks, with_overlay, stamp_of_run, after_read, without_held, empty_inbox, blocks, max_blocks}
+use Rattle.tcp_reasm.specs.Reassembly.{Cell, Inbox, IsInbox, Run, max_runs, overlay, greatest_stamp, bytes_in_order, runs, runs_newest_first, with_ranks, with_overlay, stamp_of_run, after_read, without_held, empty_inbox, blocks, max_blocks}
 use Rattle.tcp_reasm.specs.Laws.{SomeCovers, cell_at}
 use Rattle.tcp_reasm.specs.Store.{turned, run_of, runs_in, ranked, cells, inbox_of, IsInside, AreAway, IsKept, rest_of, union_of, moved, laid, overlay_at}
 use Rattle.tcp_reasm.proofs.Described.{Described, described_newest, described_count, described_ranks, stamp_or}
-use Rattle.tcp_reasm.proofs.Joins.{piece_of, joined_described, moved_described, kept_described, behind_first, ranked_joined, ranked_moved, union_count, length_rest, union_wraps, union_within, length_ranked, moved_inside, moved_away, joined_inside, joined_are_away}
+use Rattle.tcp_reasm.proofs.Joins.{piece_of, joined_described, moved_described, kept_described, after_first, ranked_joined, ranked_moved, union_count, length_rest, union_wraps, union_within, length_ranked, moved_inside, moved_away, joined_inside, joined_are_away}
 use Rattle.tcp_reasm.proofs.Laying.{length_cells, length_laid, cells_none, cells_append, overlay_cells, drop_cells, in_order_cells, none_in_order, greatest_cells, stamp_missing, stamp_beyond, first_missing}
 use Rattle.tcp_reasm.proofs.Rings.{length_turned, take_further, turned_before, turned_over}
 
@@ -105,7 +105,7 @@ ends_at : (stamps : ℕ → ℕ) (size : ℕ) (union : Run) (rest : List Run) �
 ends_at stamps size union rest d from below held =
     elim (d.covers union.to below held) [
       | inl h ↦ omega (arith, h.1)
-      | inr c ↦ nothing_first union.to rest (behind_first union rest union.to from refl d.away.0) c
+      | inr c ↦ nothing_first union.to rest (after_first union rest union.to from refl d.away.0) c
     ]
 
 -- a piece that begins at the next byte: what is in order with it
@@ -129,12 +129,12 @@ in_order_over bytes text end n all e some fits inside away =
     ])
     ∙ ap (λ k. take k after) (union_count 0 end (suc (length all)) n all)
 
-ranks_behind : (bytes text : List ℕ) (end n count : ℕ) (all : List Run) → length text ≡ end → 0 < end → end ≤ length bytes → AllByRecursion (IsInside (length bytes)) all → AreAway all →
+ranks_after : (bytes text : List ℕ) (end n count : ℕ) (all : List Run) → length text ≡ end → 0 < end → end ≤ length bytes → AllByRecursion (IsInside (length bytes)) all → AreAway all →
     let held = cells (stamp_of_run (ranked all)) 0 bytes in
     let piece = piece_of 0 end n in
     count ≡ (union_of piece piece all).to →
     with_ranks (drop count (overlay 0 text (suc (greatest_stamp held)) held)) ≡ cells (stamp_of_run (ranked (map (moved count) (rest_of piece all)))) 0 (drop count (laid (stamp_of_run (ranked all)) 0 0 text bytes))
-ranks_behind bytes text end n count all e some fits inside away is_count =
+ranks_after bytes text end n count all e some fits inside away is_count =
     let piece = piece_of 0 end (suc (length all)) in
     let stamps = stamp_of_run (piece ∷ ranked all) in
     let after = laid (stamp_of_run (ranked all)) 0 0 text bytes in
@@ -177,7 +177,7 @@ advanced_view block after start unread count table table' end n text e some room
     let held_same : cells (stamp_of_run (ranked (runs_in table'))) 0 (drop (unread + count) (turned start after)) ≡ with_ranks (drop (length (bytes_in_order over)) over) =
     ap (λ (rs : List Run). cells (stamp_of_run (ranked rs)) 0 (drop (unread + count) (turned start after))) moved_up
     ∙ ap (cells (stamp_of_run (ranked (map (moved count) (rest_of piece all)))) 0) (sym (drop-drop count unread (turned start after)) ∙ ap (drop count) behind)
-    ∙ sym (ranks_behind bytes text end n count all e some (omega arith) are_inside away is_count)
+    ∙ sym (ranks_after bytes text end n count all e some (omega arith) are_inside away is_count)
     ∙ ap (λ k. with_ranks (drop k over)) (sym counted) in (
       inbox_parts (length after) (length block) (take (unread + count) (turned start after)) (take unread (turned start block) ++ bytes_in_order over) (cells (stamp_of_run (ranked (runs_in table'))) 0 (drop (unread + count) (turned start after))) (with_ranks (drop (length (bytes_in_order over)) over))
           size unread_same held_same,
@@ -331,9 +331,9 @@ blocks_are block start unread count table c inside away =
 
 pub advanced_kept : (block after : List ℕ) (start unread count end n : ℕ) (table table' : List Entry) → IsKept block start unread (runs_in table) → length after ≡ length block → 0 < end → end ≤ length block - unread →
     (let piece = piece_of 0 end n in count ≡ (union_of piece piece (runs_in table)).to) →
-    (let piece = piece_of 0 end n in runs_in table' ≡ map (moved count) (rest_of piece (runs_in table))) →
+    (let piece = piece_of 0 end n in runs_in table' ≡ map (moved count) (rest_of piece (runs_in table))) → length (runs_in table') ≤ max_runs →
     IsKept after start (unread + count) (runs_in table')
-advanced_kept block after start unread count end n table table' kept size some fits is_count moved_up =
+advanced_kept block after start unread count end n table table' kept size some fits is_count moved_up few =
     let piece = piece_of 0 end n in
     let all = runs_in table in
     let room = length block - unread in
@@ -347,12 +347,13 @@ advanced_kept block after start unread count end n table table' kept size some f
       fits = omega (arith, kept.fits);
       inside = rw (left, rest_is) (moved_inside room piece all refl kept.inside kept.away);
       away = rw rest_is (moved_away room piece all refl kept.inside kept.away);
+      few = few;
     }
 
 pub held_kept : (block after : List ℕ) (start unread place end n : ℕ) (table table' : List Entry) → IsKept block start unread (runs_in table) → length after ≡ length block → 0 < place → place < end → end ≤ length block - unread →
-    (let piece = piece_of place end n in runs_in table' ≡ union_of piece piece (runs_in table) ∷ rest_of piece (runs_in table)) →
+    (let piece = piece_of place end n in runs_in table' ≡ union_of piece piece (runs_in table) ∷ rest_of piece (runs_in table)) → length (runs_in table') ≤ max_runs →
     IsKept after start unread (runs_in table')
-held_kept block after start unread place end n table table' kept size gap some fits joined_up =
+held_kept block after start unread place end n table table' kept size gap some fits joined_up few =
     let piece = piece_of place end n in
     let all = runs_in table in
     let room = length block - unread in
@@ -364,7 +365,30 @@ held_kept block after start unread place end n table table' kept size gap some f
       fits = omega (arith, kept.fits);
       inside = rw (left, joined_up) (joined_inside room piece all (gap, some, fits) kept.inside);
       away = rw joined_up (joined_are_away room piece all kept.inside kept.away);
+      few = few;
     }
 
 pub seen_held : (block : List ℕ) (start unread : ℕ) (table : List Entry) (q : Inbox) → inbox_of block start unread table ≡ q → length q.held ≡ length block - unread
 seen_held block start unread table q e = ap (λ (p : Inbox). length p.held) (sym e) ∙ length_held block start unread table
+
+-- ---- what always holds
+
+pub inside_more : (low high : ℕ) (all : List Run) → low ≤ high → AllByRecursion (IsInside low) all → AllByRecursion (IsInside high) all
+inside_more low high [] h inside = tt
+inside_more low high (run ∷ others) h inside = ((inside.0.0, inside.0.1, omega (arith, inside.0.2)), inside_more low high others h inside.1)
+
+none_first : (held : List (Option Cell)) → cell_at held 0 ≡ None → bytes_in_order held ≡ []
+none_first [] e = refl
+none_first (None ∷ places) e = refl
+none_first (Some cell ∷ places) e = absurd (cc)
+
+pub kept_sound : (block : List ℕ) (start unread : ℕ) (table : List Entry) → IsKept block start unread (runs_in table) → IsInbox (inbox_of block start unread table)
+kept_sound block start unread table kept =
+    let parts = seen_parts block start unread table (inbox_of block start unread table) refl kept.fits in
+    record {
+      least = omega (arith, kept.some);
+      most = kept.most;
+      whole = omega (arith, length_held block start unread table, parts.0, kept.fits);
+      few = omega (arith, count_view block start unread table kept.inside kept.away, kept.few);
+      missing = none_first (inbox_of block start unread table).held (missing_view block start unread table kept.inside);
+    }

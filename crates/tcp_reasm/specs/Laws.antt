@@ -3,7 +3,7 @@
 use Rattle.std.specs.Prelude.{◌≡◌, ℕ, zero, suc, ◌+◌, ◌<◌, ◌≤◌, ◌⊎◌, Bool, true, false, List, [], ◌∷◌, ◌++◌, length, map, slice_get, slice_index_or, Option, Some, None, IsSome}
 use Rattle.std.specs.List.{AllByRecursion}
 use Rattle.std.specs.List.Sorted.{IsPermutation}
-use Rattle.tcp_reasm.specs.Reassembly.{Cell, Inbox, Piece, Run, window, runs, stamp_at, runs_newest_first}
+use Rattle.tcp_reasm.specs.Reassembly.{Cell, Inbox, Piece, Run, window, runs, stamp_at, runs_newest_first, with_ranks, blocks}
 
 -- what is held at a place
 abbrev pub cell_at : List (Option Cell) → ℕ → Option Cell
@@ -43,7 +43,7 @@ StandApart (run ∷ others) = AllByRecursion (λ later. run.to < later.from) oth
 abbrev pub RunsStandApart : Type 0
 RunsStandApart = (held : List (Option Cell)) → StandApart (runs held)
 
--- how many held places have none held right before them, of places behind one that is held or not
+-- how many held places have none held right before them, of places after one that is held or not
 abbrev pub beginnings : Bool → List (Option Cell) → ℕ
 beginnings before [] = 0
 beginnings before (None ∷ places) = beginnings false places
@@ -61,6 +61,10 @@ Falls (run ∷ others) = AllByRecursion (λ other. other.stamp ≤ run.stamp) ot
 -- newest first: the same runs, with falling stamps
 abbrev pub NewestComeFirst : Type 0
 NewestComeFirst = (all : List Run) → IsPermutation all (runs_newest_first all) × Falls (runs_newest_first all)
+
+-- Renumbered stamps change no block: only the order of stamps is ever seen.
+abbrev pub RanksKeepBlocks : Type 0
+RanksKeepBlocks = (q : Inbox) → blocks (record q { held = with_ranks q.held }) ≡ blocks q
 
 -- ---- placing, place by place
 

@@ -1,7 +1,7 @@
 -- What one end has of its peer's text (RFC 9293, 3.4 and 3.10.7.4): the bytes that came in order and are
 -- not read yet, and a map from place to byte and stamp for those that came early. Place 0 is the next byte
 -- in order. The map is a list as long as the window, so that what lies beyond the window has no place.
-use Rattle.std.specs.Prelude.{ℕ, zero, suc, ◌-◌, min, max, ℤ, pos, negsuc, Bool, ◌&&◌, ◌||◌, ◌==◌, nat_lt, nat_le, if◌then◌else◌, List, [], ◌∷◌, ◌++◌, length, take, drop, map, replicate, Option, Some, None}
+use Rattle.std.specs.Prelude.{◌≡◌, ◌≤◌, ◌+◌, ℕ, zero, suc, ◌-◌, min, max, ℤ, pos, negsuc, Bool, ◌&&◌, ◌||◌, ◌==◌, nat_lt, nat_le, if◌then◌else◌, List, [], ◌∷◌, ◌++◌, length, take, drop, map, replicate, Option, Some, None}
 use Rattle.std.specs.List.{count_by}
 use Rattle.tcp_reasm.specs.declared.placed.Placed.{Placed}
 use Rattle.tcp_reasm.specs.declared.placed.Placed.TheVariants.{Advanced, Held, NotKept}
@@ -16,6 +16,10 @@ pub record Inbox : Type 0 where
   pub unread : List ℕ
   -- one place for each byte of the window
   pub held : List (Option Cell)
+
+-- the greatest capacity, in bytes
+abbrev pub max_capacity : ℕ
+max_capacity = 1048576
 
 -- the receive window (RFC 9293, 3.3.1)
 abbrev pub window : Inbox → ℕ
@@ -66,7 +70,7 @@ pub record Run : Type 0 where
   pub to : ℕ
   pub stamp : ℕ
 
--- a held place before some runs begins a run of its own, or joins the one that begins right behind it
+-- a held place before some runs begins a run of its own, or joins the one that begins right after it
 abbrev pub with_place : ℕ → ℕ → List Run → List Run
 with_place place stamp [] = record { from = place; to = suc place; stamp = stamp } ∷ []
 with_place place stamp (run ∷ runs) =
@@ -133,7 +137,7 @@ abbrev pub answer_for : ℕ → Placed
 answer_for zero = Held
 answer_for (suc n) = Advanced (suc n)
 
--- the longest text of a segment, in bytes (RFC 9293, 3.1: what an IPv4 packet holds behind both headers)
+-- the longest text of a segment, in bytes (RFC 9293, 3.1: what an IPv4 packet holds after both headers)
 abbrev pub max_text_len : ℕ
 max_text_len = 65495
 
@@ -170,3 +174,11 @@ max_blocks = 4
 
 unfoldable pub blocks : Inbox → List (ℕ × ℕ)
 blocks q = map (λ (run : Run). (run.from, run.to)) (take max_blocks (runs_newest_first (runs q.held)))
+
+-- WHAT ALWAYS HOLDS: what is unread and the window make up the capacity, at most sixteen runs are held, and place 0 is missing
+pub record IsInbox (q : Inbox) : Type 0 where
+  pub least : 1 ≤ q.capacity
+  pub most : q.capacity ≤ max_capacity
+  pub whole : length q.unread + length q.held ≡ q.capacity
+  pub few : length (runs q.held) ≤ max_runs
+  pub missing : bytes_in_order q.held ≡ []

@@ -2,10 +2,7 @@
 use Rattle.std.specs.Prelude.{ℕ, zero, suc, min, max, ◌-◌, ◌<◌, ◌≤◌, ◌⊎◌, Bool, List, [], ◌∷◌, ◌++◌, length, map, take, drop, Option, Some, None, nat_lt, nat_le, ◌&&◌, if◌then◌else◌}
 use Rattle.std.specs.List.{AllByRecursion}
 use Rattle.tcp_reasm.specs.declared.table.Run.{Run as Entry}
-use Rattle.tcp_reasm.specs.Reassembly.{Cell, Inbox, Run, is_within, stamp_of_run, overlay, greatest_stamp, runs, max_runs}
-
-abbrev pub max_capacity : ℕ
-max_capacity = 1048576
+use Rattle.tcp_reasm.specs.Reassembly.{Cell, Inbox, Run, is_within, stamp_of_run, overlay, greatest_stamp, runs, max_runs, max_capacity}
 
 -- ---- the view
 
@@ -34,7 +31,7 @@ abbrev pub cells : (ℕ → ℕ) → ℕ → List ℕ → List (Option Cell)
 cells stamps place [] = []
 cells stamps place (byte ∷ bytes) = cell_of (stamps place) byte ∷ cells stamps (suc place) bytes
 
--- the unread bytes stand first from the start on, and the window's places behind them
+-- the unread bytes stand first from the start on, and the window's places after them
 abbrev pub inbox_of : List ℕ → ℕ → ℕ → List Entry → Inbox
 inbox_of block start unread table = record {
   capacity = length block;
@@ -63,6 +60,7 @@ pub record IsKept (block : List ℕ) (start unread : ℕ) (table : List Run) : T
   pub fits : unread ≤ length block
   pub inside : AllByRecursion (IsInside (length block - unread)) table
   pub away : AreAway table
+  pub few : length table ≤ max_runs
 
 -- ---- steps
 
@@ -113,7 +111,7 @@ abbrev pub fresh_byte : ℕ → ℕ → ℕ → ℕ
 fresh_byte zero new old = new
 fresh_byte (suc n) new old = old
 
--- a text laid over bytes, from `start` places behind the first of them on. What is held stays.
+-- a text laid over bytes, from `start` places after the first of them on. What is held stays.
 abbrev pub laid : (ℕ → ℕ) → ℕ → ℕ → List ℕ → List ℕ → List ℕ
 laid stamps place start text [] = []
 laid stamps place zero [] (byte ∷ bytes) = byte ∷ bytes

@@ -1,6 +1,6 @@
 //! What a reader can believe of runs and blocks apart from the recursion that defines them (RFC 2018, 3 and 4). These
 //! do nothing when they run: each is there for the law that it ensures.
-ghost use Rattle.tcp_reasm.specs.Laws.{RunsAreMaximal, RunsCover, RunsStandApart, RunsAreCounted, NewestComeFirst};
+ghost use Rattle.tcp_reasm.specs.Laws.{RunsAreMaximal, RunsCover, RunsStandApart, RunsAreCounted, NewestComeFirst, RanksKeepBlocks};
 
 /// Each run is a maximal interval of held places, and its stamp is the greatest in it.
 pub fn runs_are_maximal()
@@ -25,4 +25,9 @@ pub fn runs_are_counted()
 /// The runs in the order of blocks are the same runs, with stamps that fall.
 pub fn newest_come_first()
     ensures { NewestComeFirst }
+{}
+
+/// Stamps that are numbered anew, in the order that they have, change no block.
+pub fn ranks_keep_blocks()
+    ensures { RanksKeepBlocks }
 {}

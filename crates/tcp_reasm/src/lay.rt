@@ -1,6 +1,6 @@
 ghost use Rattle.std.specs.Prelude.{◌≡◌, ◌+◌, ◌≤◌, length, take, drop};
-ghost use Rattle.tcp_reasm.specs.Reassembly.{stamp_of_run};
-ghost use Rattle.tcp_reasm.specs.Store.{max_capacity, turned, ranked, runs_in, laid};
+ghost use Rattle.tcp_reasm.specs.Reassembly.{max_capacity, stamp_of_run};
+ghost use Rattle.tcp_reasm.specs.Store.{turned, ranked, runs_in, laid};
 
 use crate::ring::write;
 use crate::table::{Run, gap_to, held_to};

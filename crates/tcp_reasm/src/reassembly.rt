@@ -1,7 +1,7 @@
 ghost use Rattle.std.specs.Prelude.{◌≡◌, ◌≢◌, ◌↔◌, ◌⊎◌, ◌<◌, ◌≤◌, ◌+◌, ◌++◌, ◌≤ℤ◌, ◌<ℤ◌, ℕ, ℤ, pos, negsuc, min, length, take, drop, OnErr, IfOk, None, if◌then◌else◌, nat_le, []};
-ghost use Rattle.tcp_reasm.specs.Reassembly.{Inbox, empty_inbox, window, piece, after_place, place_answer, after_read, without_held, blocks, runs, max_runs, max_text_len, with_overlay, bytes_in_order, answer_for};
+ghost use Rattle.tcp_reasm.specs.Reassembly.{max_capacity, IsInbox, Inbox, empty_inbox, window, piece, after_place, place_answer, after_read, without_held, blocks, runs, max_runs, max_text_len, with_overlay, bytes_in_order, answer_for};
 ghost use Rattle.tcp_reasm.specs.Laws.{cell_at, KeepsBytes, TakesPiece, LeavesOthers, EndsAtMissing};
-ghost use Rattle.tcp_reasm.specs.Store.{inbox_of, runs_in, max_capacity, IsKept, overlay_at, has_too_many};
+ghost use Rattle.tcp_reasm.specs.Store.{inbox_of, runs_in, IsKept, overlay_at, has_too_many};
 
 use crate::lay::lay;
 use crate::piece::piece_of;
@@ -15,7 +15,7 @@ use std::marker::Model;
 /// The greatest capacity, in bytes.
 pub const MAX_CAPACITY: usize = 1_048_576;
 
-/// The greatest number of blocks that are told at once.
+/// The greatest number of blocks that are reported at once.
 const MAX_BLOCKS: usize = 4;
 
 /// A peer's text: the bytes that came in order and wait for the user, and those that came early and are held until
@@ -25,7 +25,7 @@ const MAX_BLOCKS: usize = 4;
 pub struct Reassembly<A: Allocator = Global> {
     /// As many bytes as are unread or have a place in the window; from 1 to [`MAX_CAPACITY`].
     block: Vec<u8, A>,
-    /// Where the first unread byte stands in the block. The others follow, and the window behind them, over its end.
+    /// Where the first unread byte stands in the block. The others follow, and the window after them, over its end.
     start: usize,
     /// How many bytes came in order and weren't read yet.
     unread: usize,
@@ -45,6 +45,7 @@ impl Reassembly {
     /// An empty reassembly of so many bytes, on the global allocator.
     pub fn new(alloc: Global, capacity: usize) -> Result<Self, ReasmError>
         ensures ok { IfOk result (λ q. q ≡ empty_inbox capacity) }
+        ensures sound { IfOk result IsInbox }
         ensures bad { (result ≡ Err ReasmError.BadCapacity) ↔ ((capacity < 1) ⊎ (max_capacity < capacity)) }
     {
         Self::new_in(alloc, capacity)
@@ -55,6 +56,7 @@ impl<A: Allocator + Copy> Reassembly<A> {
     /// An empty reassembly of so many bytes.
     pub fn new_in(alloc: A, capacity: usize) -> Result<Self, ReasmError>
         ensures ok { IfOk result (λ q. q ≡ empty_inbox capacity) }
+        ensures sound { IfOk result IsInbox }
         ensures bad { (result ≡ Err ReasmError.BadCapacity) ↔ ((capacity < 1) ⊎ (max_capacity < capacity)) }
     {
         if capacity < 1 || capacity > MAX_CAPACITY {
@@ -76,6 +78,7 @@ impl<A: Allocator> Reassembly<A> {
     /// How many bytes may be unread or held.
     pub fn capacity(&self) -> usize
         ensures value { result ≡ self.now.capacity }
+        ensures sound { IsInbox self.now }
         ensures some { 0 < result }
         ensures most { result ≤ max_capacity }
     {
@@ -85,15 +88,17 @@ impl<A: Allocator> Reassembly<A> {
     /// How many bytes came in order and wait to be read.
     pub fn unread(&self) -> usize
         ensures value { result ≡ length self.now.unread }
+        ensures sound { IsInbox self.now }
         ensures within { result ≤ self.now.capacity }
         ensures most { self.now.capacity ≤ max_capacity }
     {
         self.unread
     }
 
-    /// The receive window: how many bytes behind the unread ones would be taken or held (RFC 9293, 3.3.1).
+    /// The receive window: how many bytes after the unread ones would be taken or held (RFC 9293, 3.3.1).
     pub fn window(&self) -> u32
         ensures value { result ≡ window self.now }
+        ensures sound { IsInbox self.now }
         ensures unread { result + length self.now.unread ≡ self.now.capacity }
         ensures places { length self.now.held ≡ result }
         ensures most { self.now.capacity ≤ max_capacity }
@@ -109,6 +114,7 @@ impl<A: Allocator> Reassembly<A> {
         requires short { length text.now ≤ max_text_len }
         ensures after { self.new ≡ after_place self.old offset text.now }
         ensures answer { result ≡ place_answer self.old offset text.now }
+        ensures sound { IsInbox self.new }
         ensures not_kept { result ≡ Placed.NotKept → self.new ≡ self.old }
         ensures held { result ≡ Placed.Held → self.new.unread ≡ self.old.unread }
         ensures some { (n : ℕ) → result ≡ Placed.Advanced n → 0 < n }
@@ -138,6 +144,7 @@ impl<A: Allocator> Reassembly<A> {
             self.new ≡ (if has_too_many start over then self.old else with_overlay self.old over) }
         ensures answer { let over = overlay_at self.old start text.now in
             result ≡ (if has_too_many start over then Placed.NotKept else answer_for (length (bytes_in_order over))) }
+        ensures sound { IsInbox self.new }
     {
         if start == 0 {
             Placed::Advanced(self.advance(text))
@@ -153,8 +160,9 @@ impl<A: Allocator> Reassembly<A> {
         requires some { 0 < length text.now }
         requires within { length text.now + length self.old.unread ≤ self.old.capacity }
         requires most { self.old.capacity ≤ max_capacity }
-        ensures { let over = overlay_at self.old 0 text.now in
+        ensures after { let over = overlay_at self.old 0 text.now in
             (self.new ≡ with_overlay self.old over) × (result ≡ length (bytes_in_order over)) × (0 < result) }
+        ensures sound { IsInbox self.new }
     {
         let piece = Run {
             from: 0,
@@ -168,7 +176,7 @@ impl<A: Allocator> Reassembly<A> {
         count as usize
     }
 
-    /// Holds a text that begins behind the next byte. A seventeenth run isn't kept: that is tested before a byte is
+    /// Holds a text that begins after the next byte. A seventeenth run isn't kept: that is tested before a byte is
     /// written.
     fn hold(&mut self, start: usize, text: &[u8]) -> bool
         requires gap { 0 < start }
@@ -178,6 +186,7 @@ impl<A: Allocator> Reassembly<A> {
         ensures kept { result ≡ nat_le (length (runs (overlay_at self.old start text.now))) max_runs }
         ensures after { self.new ≡ (if result then with_overlay self.old (overlay_at self.old start text.now) else self.old) }
         ensures none { bytes_in_order (overlay_at self.old start text.now) ≡ [] }
+        ensures sound { IsInbox self.new }
     {
         let piece = Run {
             from: start as u32,
@@ -205,6 +214,7 @@ impl<A: Allocator> Reassembly<A> {
     pub fn read(&mut self, out: &mut [u8]) -> usize
         ensures count { result ≡ min (length out.old) (length self.old.unread) }
         ensures bytes { out.new ≡ take result self.old.unread ++ drop result out.old }
+        ensures sound { IsInbox self.new }
         ensures after { self.new ≡ after_read self.old (length out.old) }
     {
         let count = out.len().min(self.unread);
@@ -223,6 +233,7 @@ impl<A: Allocator> Reassembly<A> {
     /// after its last, counted from the next byte in order (RFC 2018, 4).
     pub fn blocks(&self) -> ArrayVec<(u32, u32), 4>
         ensures value { result.items ≡ blocks self.now }
+        ensures sound { IsInbox self.now }
 
         // So many runs are held at most, and none at the next byte in order.
         ensures few { length (runs self.now.held) ≤ max_runs }
@@ -235,7 +246,8 @@ impl<A: Allocator> Reassembly<A> {
     /// Gives up what is unread and what is held, and leaves the whole window, as a reset and an abort do (RFC 9293,
     /// 3.10.5 and 3.10.7.4).
     pub fn clear(&mut self)
-        ensures { self.new ≡ empty_inbox self.old.capacity }
+        ensures state { self.new ≡ empty_inbox self.old.capacity }
+        ensures sound { IsInbox self.new }
     {
         self.unread = 0;
         self.clear_held();
@@ -243,7 +255,8 @@ impl<A: Allocator> Reassembly<A> {
 
     /// Gives up what is held. Unread bytes stay.
     pub fn clear_held(&mut self)
-        ensures { self.new ≡ without_held self.old }
+        ensures state { self.new ≡ without_held self.old }
+        ensures sound { IsInbox self.new }
     {
         self.table.clear();
     }

@@ -2,7 +2,7 @@
 ghost use Rattle.std.specs.Prelude.{◌≡◌, ◌+◌, ◌≤◌, length, take};
 ghost use Rattle.tcp_reasm.specs.Store.{turned, put};
 
-/// Writes a text over the bytes of a block from a place behind the start on.
+/// Writes a text over the bytes of a block from a place after the start on.
 pub(crate) fn write(block: &mut [u8], start: usize, place: usize, text: &[u8])
     requires starts { start ≤ length block.old }
     requires fits { place + length text.now ≤ length block.old }

@@ -50,7 +50,8 @@ pub(crate) fn union_of(table: &[Run], piece: Run) -> Run
 /// The runs that a piece leaves as they are, after so many bytes came in order.
 pub(crate) fn rest_of(table: &[Run], piece: Run, count: u32) -> ArrayVec<Run, 16>
     requires { length table.now ≤ max_runs }
-    ensures { runs_in result.items ≡ map (moved count) (others_of (run_of piece) (runs_in table.now)) }
+    ensures items { runs_in result.items ≡ map (moved count) (others_of (run_of piece) (runs_in table.now)) }
+    ensures few { length result.items ≤ max_runs }
 {
     let mut rest = ArrayVec::new();
     for run in table {

@@ -10,13 +10,15 @@ use Rattle.tcp_wire.specs.Wire.{Content, IsWire}
 use Rattle.tcp_wire.specs.Decoded.{decode_answer}
 use Rattle.tcp_wire.specs.declared.fault.DecodeError.{DecodeError}
 use Rattle.tcp_wire.specs.declared.fault.DecodeError.TheVariants.{BadChecksum}
-use Rattle.tcp_wire.proofs.RoundTrip.{decoded_encoded, IsWire_encoded, decoded_damaged, differs_set}
+use Rattle.tcp_wire.proofs.Lemmas.{decoded_encoded, IsWire_encoded, decoded_damaged, differs_set}
 use Rattle.tcp_conn.specs.declared.due.Due.{Due}
 use Rattle.tcp_conn.specs.declared.outcome.Arrival.TheVariants.{Malformed}
 use Rattle.tcp_conn.specs.State.{State}
 use Rattle.tcp_conn.specs.Judgement.{judgement}
 use Rattle.tcp_conn.specs.Arrival.{after_judgement, after_reading, after_arrival, answer_to_reading, arrival_answer}
-use Rattle.tcp_conn.specs.Emission.{due_of, bytes_of, emitted_bytes, after_due, after_emission}
+use Rattle.tcp_conn.specs.Due.{due_of}
+use Rattle.tcp_conn.specs.Writing.{bytes_of}
+use Rattle.tcp_conn.specs.Emission.{emitted_bytes, after_due, after_emission}
 use Rattle.tcp_replay.specs.declared.outcome.StepError.{StepError}
 use Rattle.tcp_replay.specs.declared.outcome.StepError.TheVariants.{NoSuchSegment, NoChange, PlaceOutside}
 use Rattle.tcp_replay.specs.declared.outcome.Outcome.TheVariants as outcomes
@@ -37,7 +39,7 @@ emitted-due : (p q : PartyState) (due : Option Due) → IfSome due (GoesOut p q)
 emitted-due p q None goes h = subst (λ (sent : List (List ℕ)). IsSoundPair (record p { sent = sent }) q) (sym (append-nil p.sent)) h
 emitted-due p q (Some due) goes h =
     let here = goes.kept.here in
-    pair-from-move p _ q (record { here = record { stays = here.stays; sends = here.sends; takes = here.takes; between = here.between }; config = goes.kept.config; grows = goes.kept.grows })
+    pair-from-move p _ q (record { here = record { alone = here.alone; speaks = here.speaks; takes = here.takes; hands = here.hands; between = here.between }; config = goes.kept.config; grows = goes.kept.grows })
     (record { new = Some (bytes_of p.endpoint due); sent = refl; own = λ bytes is. subst (λ (bytes : List ℕ). IsOwn p q bytes) (some-is is) (own-due p q due goes) }) h
 
 pub pair-emitted : (p q : PartyState) → IsSoundPair p q → IsSoundPair (party_after_emission p) q
@@ -60,8 +62,8 @@ pub comes : (p q : PartyState) (bytes : List ℕ) → IsSoundPair p q → (own :
 comes p q bytes h own = record {
   valid = own.valid;
   truthful = own.truthful;
-  near = omega (arith, one_if-most q.endpoint.receiving.finished, h.back.takes.order, h.there.sends.limit);
-  limit = h.back.sends.limit;
+  near = omega (arith, one_if-most q.endpoint.receiving.finished, h.back.takes.order, h.there.alone.sends.limit);
+  limit = h.back.alone.sends.limit;
 }
 
 pair-arrived : (p q : PartyState) (bytes : List ℕ) → IsSoundPair p q → IsOwn q p bytes → IsSoundPair (party_after_arrival p q bytes) q
@@ -78,9 +80,9 @@ unmoved : (p q : PartyState) (bytes : List ℕ) (fault : DecodeError) → decode
 unfolding party_after_arrival
 unmoved p q bytes fault e = ap (λ (s : State). record p { endpoint = s }) (arrival-err p.endpoint q.endpoint.config.addr.0 p.endpoint.config.addr.0 bytes fault e)
 
-told-malformed : (p q : PartyState) (bytes : List ℕ) (fault : DecodeError) → decode_answer q.endpoint.config.addr.0 p.endpoint.config.addr.0 bytes ≡ Err fault → arrival_outcome p q bytes ≡ outcomes.Arrived (Malformed fault)
+answers-malformed : (p q : PartyState) (bytes : List ℕ) (fault : DecodeError) → decode_answer q.endpoint.config.addr.0 p.endpoint.config.addr.0 bytes ≡ Err fault → arrival_outcome p q bytes ≡ outcomes.Arrived (Malformed fault)
 unfolding arrival_answer
-told-malformed p q bytes fault e = ap (λ r. outcomes.Arrived (answer_to_reading p.endpoint q.endpoint.config.addr.0 p.endpoint.config.addr.0 r)) e
+answers-malformed p q bytes fault e = ap (λ r. outcomes.Arrived (answer_to_reading p.endpoint q.endpoint.config.addr.0 p.endpoint.config.addr.0 r)) e
 
 -- a segment that was emitted, by its number
 pub segment-sent : (q : PartyState) (k : ℕ) → is_missing q k ≡ false → slice_get q.sent k ≡ Some (segment_at q k)
@@ -96,7 +98,7 @@ pub delivered-there : (q : PartyState) (k : ℕ) → delivery_refusal q k ≡ No
 delivered-there q k e = (refusal-none (is_missing q k) NoSuchSegment None e).0
 
 pub pair-delivered : (p q : PartyState) (k : ℕ) → delivery_refusal q k ≡ None → IsSoundPair p q → IsSoundPair (party_after_arrival p q (segment_at q k)) q
-pair-delivered p q k e h = pair-arrived p q (segment_at q k) h (h.answered k (segment_at q k) (segment-sent q k (delivered-there q k e)))
+pair-delivered p q k e h = pair-arrived p q (segment_at q k) h (h.own_back k (segment_at q k) (segment-sent q k (delivered-there q k e)))
 
 -- DAMAGE: one byte of it differs, and is always found
 xor-changes : (x value : ℕ) → value ≢ 0 → bit_xor x value ≢ x
@@ -105,30 +107,30 @@ xor-changes x value some e =
 
 damage-found : (p q : PartyState) (k place value : ℕ) → value < 256 → AreOwn q p → damage_refusal q k place value ≡ None
     → decode_answer q.endpoint.config.addr.0 p.endpoint.config.addr.0 (bytes_with_damage (segment_at q k) place value) ≡ Err BadChecksum
-damage-found p q k place value fits told e =
+damage-found p q k place value fits owns e =
     let src = q.endpoint.config.addr.0 in
     let dst = p.endpoint.config.addr.0 in
     let bytes = segment_at q k in
     let first = refusal-none (is_missing q k) NoSuchSegment _ e in
     let second = refusal-none (value == 0) NoChange _ first.1 in
     let third = refusal-none (nat_le (length bytes) place) PlaceOutside None second.1 in
-    let own = told k bytes (segment-sent q k first.0) in
+    let own = owns k bytes (segment-sent q k first.0) in
     let wire : IsWire src dst own.content bytes = subst (λ (sent : List ℕ). IsWire src dst own.content sent) (sym own.spelled) (IsWire_encoded src dst own.content own.valid) in
     let differs : DiffersInOnePlace bytes (bytes_with_damage bytes place value) =
     differs_set bytes place (bit_xor (slice_index bytes place) value) wire.are_bytes (leb-false (length bytes) place third.0) (xor_of_8 (slice_index bytes place) value (wire.are_bytes place) fits)
     (λ same. xor-changes (slice_index bytes place) value (eqb-false value 0 second.0) (sym same)) in
     decoded_damaged src dst own.content bytes (bytes_with_damage bytes place value) wire differs
 
--- it changes nothing, and is told
-pub record FindsDamage (p q : PartyState) (k place value : ℕ) : Type 0 where
+-- it changes nothing, and is answered
+pub record IsFoundDamage (p q : PartyState) (k place value : ℕ) : Type 0 where
   pub same : party_after_arrival p q (bytes_with_damage (segment_at q k) place value) ≡ p
-  pub told : arrival_outcome p q (bytes_with_damage (segment_at q k) place value) ≡ outcomes.Arrived (Malformed BadChecksum)
+  pub answer : arrival_outcome p q (bytes_with_damage (segment_at q k) place value) ≡ outcomes.Arrived (Malformed BadChecksum)
 
-pub finds-damage : (p q : PartyState) (k place value : ℕ) → value < 256 → damage_refusal q k place value ≡ None → IsSoundPair p q → FindsDamage p q k place value
+pub finds-damage : (p q : PartyState) (k place value : ℕ) → value < 256 → damage_refusal q k place value ≡ None → IsSoundPair p q → IsFoundDamage p q k place value
 finds-damage p q k place value fits e h =
     let bytes = bytes_with_damage (segment_at q k) place value in
-    let found = damage-found p q k place value fits h.answered e in
-    record { same = unmoved p q bytes BadChecksum found; told = told-malformed p q bytes BadChecksum found }
+    let found = damage-found p q k place value fits h.own_back e in
+    record { same = unmoved p q bytes BadChecksum found; answer = answers-malformed p q bytes BadChecksum found }
 
 pub pair-damaged : (p q : PartyState) (k place value : ℕ) → value < 256 → damage_refusal q k place value ≡ None → IsSoundPair p q → IsSoundPair (party_after_arrival p q (bytes_with_damage (segment_at q k) place value)) q
 pair-damaged p q k place value fits e h = subst (λ (p' : PartyState). IsSoundPair p' q) (sym (finds-damage p q k place value fits e h).same) h

@@ -1,24 +1,25 @@
--- What is due: where it stands, and that it is what may go out.
+-- What is due: its position, and that it is what may go out.
 use Rattle.std.proofs.Common.{◌≡◌, ℕ, ◌+◌, ◌-◌, ◌<◌, ◌≤◌, List, length, refl, sym, ◌∙◌, ap, arith, length-drop}
 use Rattle.std.specs.Prelude.{min, max, Bool, true, false, ◌&&◌, ◌==◌, nat_lt, nat_le, Option, Some, None, IfSome}
 use Rattle.std.proofs.lemmas.Bool.{cond_both, ltb-true, eqb-true, and_parts}
 use Rattle.std.specs.declared.ops.Range.{Range}
 use Rattle.tcp_sendq.specs.SendQueue.{next_unmarked}
+use Rattle.std.specs.Option.{option_or}
 use Rattle.tcp_conn.specs.declared.due.Due.{Due}
 use Rattle.tcp_conn.specs.declared.due.Due.TheVariants.{Reset, Syn, Resend, NewText, Fin, ResentFin, Acknowledgement}
-use Rattle.tcp_conn.specs.Phases.{sends_text, gives_up}
+use Rattle.tcp_conn.specs.Phase.{sends_text, gives_up}
 use Rattle.tcp_conn.specs.State.{State, Sending, place_of, position_at, end_of_text}
 use Rattle.tcp_conn.specs.Sender.{count_unsent}
-use Rattle.tcp_conn.specs.Emission.{or_else, resend_start, resent_text, resent_fin, resent_run, resend_of, new_count, new_text_of, fin_of, text_limit, text_due}
-use Rattle.tcp_replay.specs.Sound.{Sends}
+use Rattle.tcp_conn.specs.Due.{resend_start, resent_text, resent_fin, resent_run, resend_of, new_count, new_text_of, fin_of, text_limit, text_due}
+use Rattle.tcp_replay.specs.Alone.{Sends}
 
--- text that may go out: it begins behind what was released, and ends within what was accepted, or was sent
+-- text that may go out: it begins after what was released, and ends within what was accepted, or was sent
 pub record IsText (d : Sending) (accepted : List ℕ) (start count : ℕ) : Type 0 where
   pub least : 1 + d.released ≤ start
   pub most : start + count ≤ max d.nxt (1 + length accepted)
   pub short : count ≤ 1460
 
--- the FIN, behind a close
+-- the FIN, after a close
 pub record IsFin (accepted : List ℕ) (closed : Bool) (start : ℕ) : Type 0 where
   pub place : start ≡ 1 + length accepted
   pub is_closed : closed ≡ true
@@ -34,9 +35,9 @@ IsOut d accepted closed (ResentFin start) = IsFin accepted closed start
 IsOut d accepted closed Acknowledgement = ⊥
 
 -- what holds of each that may be due holds of the first
-pub or_else-both : (P : Due → Type 0) (first rest : Option Due) → IfSome first P → IfSome rest P → IfSome (or_else first rest) P
-or_else-both P None rest h h' = h'
-or_else-both P (Some due) rest h h' = h
+pub option_or-both : (P : Due → Type 0) (first rest : Option Due) → IfSome first P → IfSome rest P → IfSome (option_or first rest) P
+option_or-both P None rest h h' = h'
+option_or-both P (Some due) rest h h' = h
 
 -- where the queue ends, the accepted bytes do
 pub end-is : (d : Sending) (accepted : List ℕ) (closed : Bool) → Sends d accepted closed false → end_of_text d ≡ 1 + length accepted
@@ -44,7 +45,7 @@ end-is d accepted closed h =
     let count : length d.queue.bytes ≡ length accepted - d.released = ap length (h.queue refl) ∙ length-drop d.released accepted in
     omega (arith, count, h.released)
 
--- what was sent behind all text is the FIN
+-- what was sent after all text is the FIN
 sent-fin : (d : Sending) (accepted : List ℕ) (closed gone : Bool) → Sends d accepted closed gone → 1 + length accepted < d.nxt → closed ≡ true
 sent-fin d accepted true gone h more = refl
 sent-fin d accepted false gone h more = absurd (omega (arith, h.most))
@@ -106,14 +107,14 @@ if-some-map P P' None further h = tt
 if-some-map P P' (Some due) further h = further due h
 
 out-due : (s : State) (accepted : List ℕ) (closed : Bool) → s.config.mss ≤ 1460 → s.closing ≡ closed → 1 ≤ s.sending.una → Sends s.sending accepted closed false
-    → IfSome (or_else (resend_of s.sending (text_limit s) s.sending.resend) (or_else (new_text_of s.sending (text_limit s) s.owed.probe) (fin_of s.sending s.closing))) (IsOut s.sending accepted closed)
+    → IfSome (option_or (resend_of s.sending (text_limit s) s.sending.resend) (option_or (new_text_of s.sending (text_limit s) s.owed.probe) (fin_of s.sending s.closing))) (IsOut s.sending accepted closed)
 out-due s accepted closed small same least h =
     let d = s.sending in
     let limit = text_limit s in
     let short = limit-short s small in
-    or_else-both (IsOut d accepted closed) (resend_of d limit d.resend) (or_else (new_text_of d limit s.owed.probe) (fin_of d s.closing))
+    option_or-both (IsOut d accepted closed) (resend_of d limit d.resend) (option_or (new_text_of d limit s.owed.probe) (fin_of d s.closing))
     (resent d accepted closed limit d.resend short h.range h)
-    (or_else-both (IsOut d accepted closed) (new_text_of d limit s.owed.probe) (fin_of d s.closing) (new d accepted closed limit s.owed.probe short least h) (fin-new d accepted s.closing closed same h))
+    (option_or-both (IsOut d accepted closed) (new_text_of d limit s.owed.probe) (fin_of d s.closing) (new d accepted closed limit s.owed.probe short least h) (fin-new d accepted s.closing closed same h))
 
 -- text or FIN is due in the phases that send any
 pub text-due : (s : State) (accepted : List ℕ) (closed : Bool) → s.config.mss ≤ 1460 → s.closing ≡ closed → (sends_text s.phase ≡ true → (1 ≤ s.sending.una) × (gives_up s.ending ≡ false))
@@ -121,7 +122,7 @@ pub text-due : (s : State) (accepted : List ℕ) (closed : Bool) → s.config.ms
 text-due s accepted closed small same going h =
     let d = s.sending in
     let P : Due → Type 0 = λ due. (sends_text s.phase ≡ true) × IsOut d accepted closed due in
-    let out = or_else (resend_of d (text_limit s) d.resend) (or_else (new_text_of d (text_limit s) s.owed.probe) (fin_of d s.closing)) in
+    let out = option_or (resend_of d (text_limit s) d.resend) (option_or (new_text_of d (text_limit s) s.owed.probe) (fin_of d s.closing)) in
     cond_both (sends_text s.phase) out None (λ (o : Option Due). IfSome o P)
     (λ e.
     let sends : Sends d accepted closed false = rw (going e).1 at h in

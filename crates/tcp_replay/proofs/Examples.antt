@@ -10,16 +10,21 @@ use Rattle.tcp_conn.specs.declared.config.Config.{Config}
 use Rattle.tcp_conn.specs.declared.phase.Ending.TheVariants.{Orderly}
 use Rattle.tcp_conn.specs.declared.phase.Timer.TheVariants.{TimeWait}
 use Rattle.tcp_conn.specs.Acceptable.{is_acceptable}
-use Rattle.tcp_conn.specs.Link.{link_of}
-use Rattle.tcp_conn.specs.Sender.{after_ack, after_window_update, after_block}
+use Rattle.tcp_conn.specs.Options.{link_of}
+use Rattle.tcp_conn.specs.Sender.{after_ack, after_window_update}
+use Rattle.tcp_conn.specs.Blocks.{after_block}
 use Rattle.tcp_conn.specs.Receiver.{after_text}
-use Rattle.tcp_conn.specs.Calls.{after_connect, after_listen, after_send, after_receive, after_close, after_time_wait}
+use Rattle.tcp_conn.specs.Calls.{after_connect, after_listen, after_send, after_receive, after_close}
+use Rattle.tcp_conn.specs.Timers.{after_time_wait}
 use Rattle.tcp_conn.specs.Judgement.{is_foreign, closed_judgement, listen_judgement, syn_sent_judgement, ack_judgement, unacceptable_judgement, acceptable_judgement, present_judgement, phase_judgement, judgement}
-use Rattle.tcp_conn.specs.Arrival.{after_opening, after_acceptance, after_own_syn, after_acked_text, after_news, after_own_fin, after_its_ack, after_its_text, after_fin, after_taking, arrival_answer, after_arrival}
-use Rattle.tcp_conn.specs.Emission.{resend_of, new_text_of, due_of, segment_of, bytes_of, emitted_bytes, after_emission}
+use Rattle.tcp_conn.specs.Arrival.{after_peer_opens, after_peer_accepts, after_own_syn, after_acked_text, after_news, after_own_fin, after_its_ack, after_its_text, after_fin, after_taking, arrival_answer, after_arrival}
+use Rattle.tcp_conn.specs.Due.{resend_of, new_text_of, due_of}
+use Rattle.tcp_conn.specs.Forms.{segment_of}
+use Rattle.tcp_conn.specs.Writing.{bytes_of}
+use Rattle.tcp_conn.specs.Emission.{emitted_bytes, after_emission}
 use Rattle.tcp_replay.specs.declared.event.Side.TheVariants.{A, B}
 use Rattle.tcp_replay.specs.Events.{EventContent, Connect, Listen, Send, Receive, Close, Timer, Emit, Deliver}
-use Rattle.tcp_replay.specs.World.{WorldState, new_world, party_after_connect, party_after_listen, party_after_send, party_after_receive, party_after_close, party_after_timer, party_after_emission, party_after_arrival, effect_of, world_behind_all, stop_of}
+use Rattle.tcp_replay.specs.World.{WorldState, new_world, party_after_connect, party_after_listen, party_after_send, party_after_receive, party_after_close, party_after_timer, party_after_emission, party_after_arrival, effect_of, world_after_all, stop_of}
 
 unfoldable pub a : Config
 a = record { addr = record { 0 = 10 ∷ 0 ∷ 0 ∷ 1 ∷ [] }; port = 1; isn = record { 0 = 1000 }; mss = 1460; send_capacity = 40; recv_capacity = 40; window_shift = None; sack = true }
@@ -36,40 +41,40 @@ events =
     ++ Send A (97 ∷ 98 ∷ 99 ∷ []) ∷ Send B (100 ∷ 101 ∷ 102 ∷ []) ∷ Emit A ∷ Deliver A 2 ∷ Emit B ∷ Deliver B 1 ∷ Receive B 10 ∷ Receive A 10 ∷ Emit A ∷ Deliver A 3
     ∷ Close A ∷ Emit A ∷ Deliver A 4 ∷ Emit B ∷ Deliver B 2 ∷ Receive B 10 ∷ Close B ∷ Emit B ∷ Deliver B 3 ∷ Emit A ∷ Deliver A 5 ∷ Timer A TimeWait ∷ []
 
-behind : WorldState
-behind = world_behind_all (new_world a b) events
+at_end : WorldState
+at_end = world_after_all (new_world a b) events
 
 -- each has what the other sent, both ended in order, and nothing was refused
 record IsWhole : Type 0 where
-  at_b : behind.b.delivered ≡ 97 ∷ 98 ∷ 99 ∷ []
-  at_a : behind.a.delivered ≡ 100 ∷ 101 ∷ 102 ∷ []
-  a_ended : behind.a.endpoint.ending ≡ Orderly
-  b_ended : behind.b.endpoint.ending ≡ Orderly
-  b_told : behind.b.ended ≡ true
-  a_untold : behind.a.ended ≡ false
-  a_sent : length behind.a.sent ≡ 6
-  b_sent : length behind.b.sent ≡ 4
+  at_b : at_end.b.delivered ≡ 97 ∷ 98 ∷ 99 ∷ []
+  at_a : at_end.a.delivered ≡ 100 ∷ 101 ∷ 102 ∷ []
+  a_ended : at_end.a.endpoint.ending ≡ Orderly
+  b_ended : at_end.b.endpoint.ending ≡ Orderly
+  b_had_all : at_end.b.ended ≡ true
+  a_had_not_all : at_end.a.ended ≡ false
+  a_sent : length at_end.a.sent ≡ 6
+  b_sent : length at_end.b.sent ≡ 4
   none_refused : stop_of (new_world a b) events ≡ None
 
 whole : IsWhole
-unfolding a b handshake events behind stop_of world_behind_all effect_of party_after_connect party_after_listen party_after_send party_after_receive party_after_close party_after_timer party_after_emission party_after_arrival after_connect after_listen after_send after_receive after_close after_time_wait encoded_bytes decode_answer layout_of options_in option_at padding_at position_of offset next_unmarked without_marks after_place place_answer with_ranks after_read blocks runs_newest_first is_acceptable link_of after_ack after_window_update after_block after_text is_foreign closed_judgement listen_judgement syn_sent_judgement ack_judgement unacceptable_judgement acceptable_judgement present_judgement phase_judgement judgement after_opening after_acceptance after_own_syn after_acked_text after_news after_own_fin after_its_ack after_its_text after_fin after_taking arrival_answer after_arrival resend_of new_text_of due_of segment_of bytes_of emitted_bytes after_emission
-whole = record { at_b = refl; at_a = refl; a_ended = refl; b_ended = refl; b_told = refl; a_untold = refl; a_sent = refl; b_sent = refl; none_refused = refl }
+unfolding a b handshake events at_end stop_of world_after_all effect_of party_after_connect party_after_listen party_after_send party_after_receive party_after_close party_after_timer party_after_emission party_after_arrival after_connect after_listen after_send after_receive after_close after_time_wait encoded_bytes decode_answer layout_of options_in option_at padding_at position_of offset next_unmarked without_marks after_place place_answer with_ranks after_read blocks runs_newest_first is_acceptable link_of after_ack after_window_update after_block after_text is_foreign closed_judgement listen_judgement syn_sent_judgement ack_judgement unacceptable_judgement acceptable_judgement present_judgement phase_judgement judgement after_peer_opens after_peer_accepts after_own_syn after_acked_text after_news after_own_fin after_its_ack after_its_text after_fin after_taking arrival_answer after_arrival resend_of new_text_of due_of segment_of bytes_of emitted_bytes after_emission
+whole = record { at_b = refl; at_a = refl; a_ended = refl; b_ended = refl; b_had_all = refl; a_had_not_all = refl; a_sent = refl; b_sent = refl; none_refused = refl }
 
--- a text that came early is held, told as a block, and comes in order behind the one before it
-behind_gap : WorldState
-behind_gap = world_behind_all (new_world a b) (handshake ++ Send A (97 ∷ []) ∷ Emit A ∷ Send A (98 ∷ []) ∷ Emit A ∷ Deliver A 3 ∷ Emit B ∷ Deliver B 1 ∷ [])
+-- a text that came early is held, reported as a block, and comes in order after the one before it
+after_gap : WorldState
+after_gap = world_after_all (new_world a b) (handshake ++ Send A (97 ∷ []) ∷ Emit A ∷ Send A (98 ∷ []) ∷ Emit A ∷ Deliver A 3 ∷ Emit B ∷ Deliver B 1 ∷ [])
 
-behind_both : WorldState
-behind_both = world_behind_all behind_gap (Deliver A 2 ∷ Emit B ∷ Deliver B 2 ∷ [])
+after_both : WorldState
+after_both = world_after_all after_gap (Deliver A 2 ∷ Emit B ∷ Deliver B 2 ∷ [])
 
 record IsFilled : Type 0 where
-  none_unread : behind_gap.b.endpoint.receiving.inbox.unread ≡ []
-  one_held : blocks behind_gap.b.endpoint.receiving.inbox ≡ (1, 2) ∷ []
-  one_marked : behind_gap.a.endpoint.sending.queue.marks ≡ false ∷ true ∷ []
-  none_released : behind_gap.a.endpoint.sending.released ≡ 0
-  both_unread : behind_both.b.endpoint.receiving.inbox.unread ≡ 97 ∷ 98 ∷ []
-  both_released : behind_both.a.endpoint.sending.released ≡ 2
+  none_unread : after_gap.b.endpoint.receiving.inbox.unread ≡ []
+  one_held : blocks after_gap.b.endpoint.receiving.inbox ≡ (1, 2) ∷ []
+  one_marked : after_gap.a.endpoint.sending.queue.marks ≡ false ∷ true ∷ []
+  none_released : after_gap.a.endpoint.sending.released ≡ 0
+  both_unread : after_both.b.endpoint.receiving.inbox.unread ≡ 97 ∷ 98 ∷ []
+  both_released : after_both.a.endpoint.sending.released ≡ 2
 
 filled : IsFilled
-unfolding a b handshake behind_gap behind_both world_behind_all effect_of party_after_connect party_after_listen party_after_send party_after_receive party_after_close party_after_timer party_after_emission party_after_arrival after_connect after_listen after_send after_receive after_close after_time_wait encoded_bytes decode_answer layout_of options_in option_at padding_at position_of offset next_unmarked without_marks after_mark can_mark after_place place_answer with_ranks after_read blocks runs_newest_first is_acceptable link_of after_ack after_window_update after_block after_text is_foreign closed_judgement listen_judgement syn_sent_judgement ack_judgement unacceptable_judgement acceptable_judgement present_judgement phase_judgement judgement after_opening after_acceptance after_own_syn after_acked_text after_news after_own_fin after_its_ack after_its_text after_fin after_taking arrival_answer after_arrival resend_of new_text_of due_of segment_of bytes_of emitted_bytes after_emission
+unfolding a b handshake after_gap after_both world_after_all effect_of party_after_connect party_after_listen party_after_send party_after_receive party_after_close party_after_timer party_after_emission party_after_arrival after_connect after_listen after_send after_receive after_close after_time_wait encoded_bytes decode_answer layout_of options_in option_at padding_at position_of offset next_unmarked without_marks after_mark can_mark after_place place_answer with_ranks after_read blocks runs_newest_first is_acceptable link_of after_ack after_window_update after_block after_text is_foreign closed_judgement listen_judgement syn_sent_judgement ack_judgement unacceptable_judgement acceptable_judgement present_judgement phase_judgement judgement after_peer_opens after_peer_accepts after_own_syn after_acked_text after_news after_own_fin after_its_ack after_its_text after_fin after_taking arrival_answer after_arrival resend_of new_text_of due_of segment_of bytes_of emitted_bytes after_emission
 filled = record { none_unread = refl; one_held = refl; one_marked = refl; none_released = refl; both_unread = refl; both_released = refl }

@@ -14,7 +14,8 @@ use Rattle.std.specs.declared.ops.Range.{Range}
 use Rattle.tcp_conn.specs.State.{Sending, Receiving}
 use Rattle.tcp_conn.specs.Receiver.{max_ordered, with_inbox, with_fin, with_syn, after_handing, without_bytes}
 use Rattle.tcp_conn.specs.Sender.{stream_limit, count_sendable, with_text, with_syn_sent, with_acked, count_below, without_text}
-use Rattle.tcp_replay.specs.Sound.{Sends, Takes}
+use Rattle.tcp_replay.specs.Alone.{Sends}
+use Rattle.tcp_replay.specs.Sound.{Takes, HandsOver}
 use Rattle.tcp_replay.proofs.Lists.{one_if, one_if-false, AreBytes-append, AreBytes-take, Agrees-more, take-none, take-further, front-is, nothing-follows}
 use Rattle.tcp_replay.proofs.Positions.{number-further}
 
@@ -55,7 +56,7 @@ sends-more s accepted text bytes h =
       range = range-more (max s.nxt (1 + length accepted)) (max s.nxt (1 + length (accepted ++ more))) s.resend (omega (arith, longer)) h.range;
     }
 
--- the SYN is on its way
+-- the SYN is sent
 pub sends-syn : (s : Sending) (accepted : List ℕ) (closed gone : Bool) → s.nxt ≡ 0 → Sends s accepted closed gone → Sends (with_syn_sent s) accepted closed gone
 sends-syn s accepted closed gone none h = record {
   order = omega arith;
@@ -87,7 +88,7 @@ pub sends-closed : (s : Sending) (accepted : List ℕ) (closed gone : Bool) → 
 sends-closed s accepted true gone h = h
 sends-closed s accepted false gone h = record { order = h.order; most = omega (arith, h.most); limit = h.limit; bytes = h.bytes; released = h.released; queue = h.queue; flags = h.flags; range = h.range }
 
--- a position that was sent is acknowledged, and what stands below it released
+-- a position that was sent is acknowledged, and the text below it released
 pub sends-acked : (s : Sending) (accepted : List ℕ) (closed : Bool) (a : ℕ) → s.una < a → a ≤ s.nxt → Sends s accepted closed false → Sends (with_acked s a) accepted closed false
 sends-acked s accepted closed a new sent h =
     let inside : s.released ≤ length accepted = omega (arith, h.released) in
@@ -123,141 +124,124 @@ sends-sent s accepted closed gone n resend further within range h =
     record { order = omega (arith, h.order); most = within; limit = h.limit; bytes = h.bytes; released = h.released; queue = h.queue; flags = h.flags; range = range }
 
 -- THE HALF THAT RECEIVES. More is accepted at the other end, or it closes.
-pub takes-more : (r : Receiving) (irs : ℕ) (accepted : List ℕ) (closed closed' : Bool) (delivered more : List ℕ) (ended gone : Bool) → (closed ≡ true → (more ≡ []) × (closed' ≡ true))
-    → Takes r irs accepted closed delivered ended gone → Takes r irs (accepted ++ more) closed' delivered ended gone
-takes-more r irs accepted closed closed' delivered more ended gone fixed h =
-    let same : closed ≡ true → accepted ≡ accepted ++ more = λ e. sym (ap (λ xs. accepted ++ xs) (fixed e).0 ∙ append-nil accepted) in
-    record {
-      next = h.next;
-      unopened = h.unopened;
-      order = omega (arith, h.order, length-append accepted more);
-      fin = λ e. ((fixed (h.fin e).0).1, (h.fin e).1 ∙ ap length (same (h.fin e).0));
-      count = h.count;
-      handed = h.handed ∙ sym (take-append-le h.count accepted more (omega (arith, h.least, h.order)));
-      least = h.least;
-      whole = h.whole;
-      held = rw (drop-append-le r.ordered accepted more h.order) (Agrees-more r.inbox.held (drop r.ordered accepted) more h.held);
-      told = λ e. ((fixed (h.told e).0).1, (h.told e).1 ∙ same (h.told e).0);
-    }
+same-accepted : (accepted more : List ℕ) (closed closed' : Bool) → (closed ≡ true → (more ≡ []) × (closed' ≡ true)) → closed ≡ true → accepted ≡ accepted ++ more
+same-accepted accepted more closed closed' fixed e = sym (ap (λ xs. accepted ++ xs) (fixed e).0 ∙ append-nil accepted)
+
+pub takes-more : (r : Receiving) (irs : ℕ) (accepted : List ℕ) (closed closed' : Bool) (more : List ℕ) → (closed ≡ true → (more ≡ []) × (closed' ≡ true))
+    → Takes r irs accepted closed → Takes r irs (accepted ++ more) closed'
+takes-more r irs accepted closed closed' more fixed h = record {
+  next = h.next;
+  unopened = h.unopened;
+  order = omega (arith, h.order, length-append accepted more);
+  fin = λ e. ((fixed (h.fin e).0).1, (h.fin e).1 ∙ ap length (same-accepted accepted more closed closed' fixed (h.fin e).0));
+  held = rw (drop-append-le r.ordered accepted more h.order) (Agrees-more r.inbox.held (drop r.ordered accepted) more h.held);
+}
+
+pub hands-more : (r : Receiving) (accepted : List ℕ) (closed closed' : Bool) (delivered more : List ℕ) (ended gone : Bool) → (closed ≡ true → (more ≡ []) × (closed' ≡ true)) → r.ordered ≤ length accepted
+    → HandsOver r.inbox.unread r.ordered accepted closed delivered ended gone → HandsOver r.inbox.unread r.ordered (accepted ++ more) closed' delivered ended gone
+hands-more r accepted closed closed' delivered more ended gone fixed order h = record {
+  count = h.count;
+  handed = h.handed ∙ sym (take-append-le h.count accepted more (omega (arith, h.least, order)));
+  least = h.least;
+  whole = h.whole;
+  all_handed = λ e. ((fixed (h.all_handed e).0).1, (h.all_handed e).1 ∙ same-accepted accepted more closed closed' fixed (h.all_handed e).0);
+}
 
 -- the peer's SYN is taken
-pub takes-syn : (r : Receiving) (irs seq : ℕ) (accepted : List ℕ) (closed : Bool) (delivered : List ℕ) (ended gone : Bool) → r.opened ≡ false → seq ≡ number irs 0
-    → Takes r irs accepted closed delivered ended gone → Takes (with_syn r seq) irs accepted closed delivered ended gone
-takes-syn r irs seq accepted closed delivered ended gone e is h =
+pub takes-syn : (r : Receiving) (irs seq : ℕ) (accepted : List ℕ) (closed : Bool) → r.opened ≡ false → seq ≡ number irs 0 → Takes r irs accepted closed → Takes (with_syn r seq) irs accepted closed
+takes-syn r irs seq accepted closed e is h =
     let none = h.unopened e in
     let fin : one_if r.finished ≡ 0 = one_if-false r.finished none.2 in
-    record {
-      next = λ _. omega (arith, is, none.1, fin);
-      unopened = λ never. absurd (cc);
-      order = h.order;
-      fin = h.fin;
-      count = h.count;
-      handed = h.handed;
-      least = h.least;
-      whole = h.whole;
-      held = h.held;
-      told = h.told;
-    }
+    record { next = λ _. omega (arith, is, none.1, fin); unopened = λ never. absurd (cc); order = h.order; fin = h.fin; held = h.held }
 
 -- the user reads
-pub takes-read : (r : Receiving) (irs : ℕ) (accepted : List ℕ) (closed : Bool) (delivered : List ℕ) (ended gone : Bool) (n : ℕ)
-    → Takes r irs accepted closed delivered ended gone → Takes (after_handing r n) irs accepted closed (delivered ++ take (min n (length r.inbox.unread)) r.inbox.unread) ended gone
+pub takes-read : (r : Receiving) (irs : ℕ) (accepted : List ℕ) (closed : Bool) (n : ℕ) → Takes r irs accepted closed → Takes (after_handing r n) irs accepted closed
 unfolding after_read
-takes-read r irs accepted closed delivered ended gone n h =
+takes-read r irs accepted closed n h = record { next = h.next; unopened = h.unopened; order = h.order; fin = h.fin; held = after_read-agrees r.inbox n (drop r.ordered accepted) h.held }
+
+pub hands-read : (r : Receiving) (accepted : List ℕ) (closed : Bool) (delivered : List ℕ) (ended gone : Bool) (n : ℕ)
+    → HandsOver r.inbox.unread r.ordered accepted closed delivered ended gone → HandsOver (after_handing r n).inbox.unread (after_handing r n).ordered accepted closed (delivered ++ take (min n (length r.inbox.unread)) r.inbox.unread) ended gone
+unfolding after_read
+hands-read r accepted closed delivered ended gone n h =
     let unread = r.inbox.unread in
     record {
-      next = h.next;
-      unopened = h.unopened;
-      order = h.order;
-      fin = h.fin;
       count = h.count;
       handed = append_assoc delivered (take (min n (length unread)) unread) (drop n unread)
           ∙ ap (λ xs. delivered ++ xs) (ap (λ xs. xs ++ drop n unread) (take_min n unread) ∙ take-append-drop n unread) ∙ h.handed;
       least = h.least;
       whole = h.whole;
-      held = after_read-agrees r.inbox n (drop r.ordered accepted) h.held;
-      told = λ e.
-          let none : unread ≡ [] = nothing-follows delivered unread accepted h.count h.handed (h.told e).1 in
-          ((h.told e).0, ap (λ xs. delivered ++ xs) (ap (take (min n (length unread))) none ∙ take-none (min n (length unread))) ∙ append-nil delivered ∙ (h.told e).1);
+      all_handed = λ e.
+          let none : unread ≡ [] = nothing-follows delivered unread accepted h.count h.handed (h.all_handed e).1 in
+          ((h.all_handed e).0, ap (λ xs. delivered ++ xs) (ap (take (min n (length unread))) none ∙ take-none (min n (length unread))) ∙ append-nil delivered ∙ (h.all_handed e).1);
     }
 
--- the end of the stream is told, behind the FIN, where nothing is unread
-pub takes-told : (r : Receiving) (irs : ℕ) (accepted : List ℕ) (closed : Bool) (delivered : List ℕ) (ended gone tells : Bool) → (tells ≡ true → (r.finished ≡ true) × (r.inbox.unread ≡ [])) → gone ≡ false
-    → Takes r irs accepted closed delivered ended gone → Takes r irs accepted closed delivered (ended || tells) gone
-takes-told r irs accepted closed delivered ended gone tells only stays h =
-    record {
-      next = h.next;
-      unopened = h.unopened;
-      order = h.order;
-      fin = h.fin;
-      count = h.count;
-      handed = h.handed;
-      least = h.least;
-      whole = h.whole;
-      held = h.held;
-      told = λ e. ⊎_elim h.told (λ (told : tells ≡ true).
-          let all = only told in (
-            (h.fin all.0).0,
-            sym (append-nil delivered) ∙ ap (λ xs. delivered ++ xs) (sym all.1) ∙ h.handed ∙ take_all h.count accepted (omega (arith, h.whole stays, (h.fin all.0).1)),
-          ))
-          (or_cases ended tells e);
-    }
+-- the end of the stream is handed over, after the FIN, where nothing is unread
+pub hands-ended : (r : Receiving) (irs : ℕ) (accepted : List ℕ) (closed : Bool) (delivered : List ℕ) (ended gone ends : Bool) → (ends ≡ true → (r.finished ≡ true) × (r.inbox.unread ≡ [])) → gone ≡ false
+    → Takes r irs accepted closed → HandsOver r.inbox.unread r.ordered accepted closed delivered ended gone → HandsOver r.inbox.unread r.ordered accepted closed delivered (ended || ends) gone
+hands-ended r irs accepted closed delivered ended gone ends only stays takes h = record {
+  count = h.count;
+  handed = h.handed;
+  least = h.least;
+  whole = h.whole;
+  all_handed = λ e. ⊎_elim h.all_handed (λ (last : ends ≡ true).
+      let all = only last in (
+        (takes.fin all.0).0,
+        sym (append-nil delivered) ∙ ap (λ xs. delivered ++ xs) (sym all.1) ∙ h.handed ∙ take_all h.count accepted (omega (arith, h.whole stays, (takes.fin all.0).1)),
+      ))
+      (or_cases ended ends e);
+}
 
 -- text of the stream is placed: so many bytes more are in order
-pub takes-advance : (r : Receiving) (irs : ℕ) (accepted : List ℕ) (closed : Bool) (delivered : List ℕ) (ended gone : Bool) (inbox : Inbox) (n : ℕ) → length accepted ≤ stream_limit
-    → r.opened ≡ true → r.finished ≡ false → gone ≡ false → Takes r irs accepted closed delivered ended gone → Advances r.inbox inbox (drop r.ordered accepted) n
-    → Takes (with_inbox r inbox n) irs accepted closed delivered ended gone
-takes-advance r irs accepted closed delivered ended gone inbox n limit opened unfinished stays h steps =
-    let room : length (drop r.ordered accepted) ≡ length accepted - r.ordered = length-drop r.ordered accepted in
-    let further : min max_ordered (r.ordered + n) ≡ r.ordered + n = omega (arith, h.order, limit, steps.within, room) in
+further-ordered : (r : Receiving) (inbox : Inbox) (accepted : List ℕ) (n : ℕ) → length accepted ≤ stream_limit → r.ordered ≤ length accepted → Advances r.inbox inbox (drop r.ordered accepted) n
+    → min max_ordered (r.ordered + n) ≡ r.ordered + n
+further-ordered r inbox accepted n limit order steps = omega (arith, order, limit, steps.within, length-drop r.ordered accepted)
+
+pub takes-advance : (r : Receiving) (irs : ℕ) (accepted : List ℕ) (closed : Bool) (inbox : Inbox) (n : ℕ) → length accepted ≤ stream_limit → r.opened ≡ true → r.finished ≡ false
+    → Takes r irs accepted closed → Advances r.inbox inbox (drop r.ordered accepted) n → Takes (with_inbox r inbox n) irs accepted closed
+takes-advance r irs accepted closed inbox n limit opened unfinished h steps =
+    let further = further-ordered r inbox accepted n limit h.order steps in
     let fin : one_if r.finished ≡ 0 = one_if-false r.finished unfinished in
     record {
       next = λ _. number-further irs (1 + r.ordered + one_if r.finished) n r.next (h.next opened) ∙ ap (number irs) (omega (arith, further));
       unopened = λ never. absurd (cc);
-      order = omega (arith, further, h.order, steps.within, room);
+      order = omega (arith, further, h.order, steps.within, length-drop r.ordered accepted);
       fin = λ never. absurd (cc);
+      held = rw further (rw (← drop-drop n r.ordered accepted) steps.held);
+    }
+
+pub hands-advance : (r : Receiving) (irs : ℕ) (accepted : List ℕ) (closed : Bool) (delivered : List ℕ) (ended gone : Bool) (inbox : Inbox) (n : ℕ) → length accepted ≤ stream_limit → gone ≡ false
+    → Takes r irs accepted closed → HandsOver r.inbox.unread r.ordered accepted closed delivered ended gone → Advances r.inbox inbox (drop r.ordered accepted) n → HandsOver (with_inbox r inbox n).inbox.unread (with_inbox r inbox n).ordered accepted closed delivered ended gone
+hands-advance r irs accepted closed delivered ended gone inbox n limit stays takes h steps =
+    let further = further-ordered r inbox accepted n limit takes.order steps in
+    record {
       count = r.ordered + n;
       handed = ap (λ xs. delivered ++ xs) steps.unread ∙ sym (append_assoc delivered r.inbox.unread (take n (drop r.ordered accepted)))
           ∙ ap (λ xs. xs ++ take n (drop r.ordered accepted)) (h.handed ∙ ap (λ k. take k accepted) (h.whole stays)) ∙ take-further r.ordered n accepted;
       least = omega (arith, further);
       whole = λ _. sym further;
-      held = rw further (rw (← drop-drop n r.ordered accepted) steps.held);
-      told = λ e. h.told e;
+      all_handed = h.all_handed;
     }
 
 -- the FIN is taken in its turn
-pub takes-fin : (r : Receiving) (irs : ℕ) (accepted : List ℕ) (closed : Bool) (delivered : List ℕ) (ended gone : Bool) → r.opened ≡ true → r.finished ≡ false → closed ≡ true → r.ordered ≡ length accepted
-    → Takes r irs accepted closed delivered ended gone → Takes (with_fin r) irs accepted closed delivered ended gone
-takes-fin r irs accepted closed delivered ended gone opened unfinished is_closed all h =
+pub takes-fin : (r : Receiving) (irs : ℕ) (accepted : List ℕ) (closed : Bool) → r.opened ≡ true → r.finished ≡ false → closed ≡ true → r.ordered ≡ length accepted
+    → Takes r irs accepted closed → Takes (with_fin r) irs accepted closed
+takes-fin r irs accepted closed opened unfinished is_closed all h =
     let fin : one_if r.finished ≡ 0 = one_if-false r.finished unfinished in
     record {
       next = λ _. number-further irs (1 + r.ordered + one_if r.finished) 1 r.next (h.next opened) ∙ ap (number irs) (omega (arith, fin));
       unopened = λ never. absurd (cc);
       order = h.order;
       fin = λ _. (is_closed, all);
-      count = h.count;
-      handed = h.handed;
-      least = h.least;
-      whole = h.whole;
       held = without_held-agrees r.inbox (drop r.ordered accepted);
-      told = h.told;
     }
 
 -- a reset or an abort gives up what is unread and held
-pub takes-given_up : (r : Receiving) (irs : ℕ) (accepted : List ℕ) (closed : Bool) (delivered : List ℕ) (ended gone : Bool)
-    → Takes r irs accepted closed delivered ended gone → Takes (without_bytes r) irs accepted closed delivered ended true
-takes-given_up r irs accepted closed delivered ended gone h =
+pub takes-given_up : (r : Receiving) (irs : ℕ) (accepted : List ℕ) (closed : Bool) → Takes r irs accepted closed → Takes (without_bytes r) irs accepted closed
+takes-given_up r irs accepted closed h =
+    record { next = h.next; unopened = h.unopened; order = h.order; fin = h.fin; held = empty_inbox-agrees r.inbox.capacity (drop r.ordered accepted) }
+
+pub hands-given_up : (r : Receiving) (accepted : List ℕ) (closed : Bool) (delivered : List ℕ) (ended gone : Bool) → HandsOver r.inbox.unread r.ordered accepted closed delivered ended gone → HandsOver (without_bytes r).inbox.unread (without_bytes r).ordered accepted closed delivered ended true
+hands-given_up r accepted closed delivered ended gone h =
     let front : delivered ≡ take (length delivered) accepted = front-is delivered r.inbox.unread accepted h.count h.handed in
     let short : length delivered ≤ h.count = omega (arith, ap length h.handed, length-append delivered r.inbox.unread, length-take h.count accepted) in
-    record {
-      next = h.next;
-      unopened = h.unopened;
-      order = h.order;
-      fin = h.fin;
-      count = length delivered;
-      handed = append-nil delivered ∙ front;
-      least = omega (arith, short, h.least);
-      whole = λ never. absurd (cc);
-      held = empty_inbox-agrees r.inbox.capacity (drop r.ordered accepted);
-      told = h.told;
-    }
+    record { count = length delivered; handed = append-nil delivered ∙ front; least = omega (arith, short, h.least); whole = λ never. absurd (cc); all_handed = h.all_handed }

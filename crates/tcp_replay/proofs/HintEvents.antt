@@ -15,20 +15,24 @@ use Rattle.tcp_conn.specs.declared.due.Due.TheVariants.{Reset, Syn, Resend, NewT
 use Rattle.tcp_conn.specs.declared.phase.Ending.TheVariants.{Aborted}
 use Rattle.tcp_conn.specs.declared.phase.Timer.{Timer}
 use Rattle.tcp_conn.specs.declared.phase.Timer.TheVariants.{Retransmit, Reorder, TimeWait}
-use Rattle.tcp_conn.specs.Phases.{is_time_wait}
+use Rattle.tcp_conn.specs.Phase.{is_time_wait}
 use Rattle.tcp_conn.specs.State.{State, Sending}
-use Rattle.tcp_conn.specs.Link.{blocks_told}
+use Rattle.tcp_conn.specs.Blocks.{reported_blocks, block_numbers, blocks_to_report, sack_options}
 use Rattle.tcp_conn.specs.Sender.{with_text, with_all_resent}
 use Rattle.tcp_conn.specs.Receiver.{after_handing}
-use Rattle.tcp_conn.specs.Calls.{opening_refusal, with_connection, after_connect, after_listen, send_refusal, after_send, receive_refusal, with_bytes_received, after_receive, is_unanswered, phase_behind_close, after_giving_up, close_refusal, after_closing, after_close, open_refusal, reset_behind_abort, with_abort, after_abort, sends_again, after_retransmit, marks_end, after_gaps, after_reorder, after_orderly_end, after_time_wait, after_timer}
-use Rattle.tcp_conn.specs.Emission.{is_fin, pushes, plain_segment, block_numbers, told_blocks, sack_options, shift_offered, is_sack_offered, scale_options, permission_options, segment_of, after_due, due_of, after_emission}
+use Rattle.tcp_conn.specs.Calls.{opening_refusal, with_connection, after_connect, after_listen, send_refusal, after_send, receive_refusal, with_bytes_received, after_receive, is_unanswered, phase_after_close, close_refusal, after_closing, after_close, open_refusal, reset_after_abort, with_abort, after_abort}
+use Rattle.tcp_conn.specs.Endings.{after_giving_up, after_orderly_end}
+use Rattle.tcp_conn.specs.Timers.{sends_again, after_retransmit, marks_end, after_gaps, after_reorder, after_time_wait, after_timer}
+use Rattle.tcp_conn.specs.Due.{is_fin, due_of}
+use Rattle.tcp_conn.specs.Forms.{pushes, plain_segment, shift_offered, is_sack_offered, scale_options, permission_options, segment_of}
+use Rattle.tcp_conn.specs.Emission.{after_due, after_emission}
 use Rattle.tcp_replay.specs.World.{PartyState, address_of}
 use Rattle.tcp_replay.specs.Truthful.{IsTrueBlock, AreTrueBlocks, HasTrueBlocks}
 use Rattle.tcp_replay.specs.Safe.{witness_of, next_position}
 use Rattle.tcp_replay.specs.Sound.{IsSoundPair}
 use Rattle.tcp_replay.proofs.Positions.{number-further}
-use Rattle.tcp_replay.proofs.Stands.{gives_up-not_ended, at-synchronized, time_wait-synchronized}
-use Rattle.tcp_replay.proofs.Users.{unless-kept}
+use Rattle.tcp_replay.proofs.Phases.{gives_up-not_ended, at-synchronized, time_wait-synchronized}
+use Rattle.tcp_replay.proofs.AloneCalls.{unless-kept}
 use Rattle.tcp_replay.proofs.Emissions.{GoesOut, plain-bits}
 use Rattle.tcp_replay.proofs.Holdings.{has-read}
 use Rattle.tcp_replay.proofs.Marks.{AreTrueMarks, marks-text, marks-none}
@@ -61,8 +65,8 @@ keeps-received p q room h =
 keeps-closing : (p q : PartyState) → IsSoundPair p q → Keeps p q p.endpoint → Keeps p q (after_closing p.endpoint)
 keeps-closing p q pair h =
     let s = p.endpoint in
-    let gone = keeps-given_up p q s Aborted refl pair.there.sends.flags h in
-    cond_both (is_unanswered s.phase) (record (after_giving_up s Aborted) { closing = true }) (record s { closing = true; phase = phase_behind_close s.phase }) (λ (x : State). Keeps p q x)
+    let gone = keeps-given_up p q s Aborted refl pair.there.alone.sends.flags h in
+    cond_both (is_unanswered s.phase) (record (after_giving_up s Aborted) { closing = true }) (record s { closing = true; phase = phase_after_close s.phase }) (λ (x : State). Keeps p q x)
     (λ _. record { config = gone.config; had = gone.had; marks = gone.marks }) (λ _. record { config = h.config; had = h.had; marks = h.marks })
 
 pub keeps-closed : (p q : PartyState) → IsSoundPair p q → Keeps p q p.endpoint → Keeps p q (after_close p.endpoint)
@@ -74,7 +78,7 @@ unfolding after_abort
 keeps-aborted p q pair h =
     let s = p.endpoint in
     unless-kept (Keeps p q) (open_refusal s) s (with_abort s) h
-    (λ _. keeps-given_up p q (record s { owed = record s.owed { reset = reset_behind_abort s } }) Aborted refl pair.there.sends.flags (record { config = h.config; had = h.had; marks = h.marks }))
+    (λ _. keeps-given_up p q (record s { owed = record s.owed { reset = reset_after_abort s } }) Aborted refl pair.there.alone.sends.flags (record { config = h.config; had = h.had; marks = h.marks }))
 
 -- TIMERS
 keeps-retransmit : (p q : PartyState) → Keeps p q p.endpoint → Keeps p q (after_retransmit p.endpoint)
@@ -102,7 +106,7 @@ keeps-time_wait p q pair h =
     let s = p.endpoint in
     cond_both (is_time_wait s.phase) (after_orderly_end s) s (λ (x : State). Keeps p q x)
     (λ e.
-    let at = at-synchronized s.phase s.ending s.sending.una s.sending.nxt s.receiving.opened s.receiving.finished (time_wait-synchronized s.phase e) pair.there.stays.stands in
+    let at = at-synchronized s.phase s.ending s.sending.una s.sending.nxt s.receiving.opened s.receiving.finished (time_wait-synchronized s.phase e) pair.there.alone.progress in
     keeps-orderly p q s (gives_up-not_ended s.ending at.0) h)
     (λ _. h)
 
@@ -120,7 +124,7 @@ pub keeps-emitted : (p q : PartyState) → Keeps p q p.endpoint → Keeps p q (a
 unfolding after_emission
 keeps-emitted p q h = keeps-due p q (due_of p.endpoint) h
 
--- ---- the blocks that are told
+-- ---- the blocks that are reported
 all-map : {X Y : Type 0} (f : X → Y) (P : Y → Type 0) (xs : List X) → AllByRecursion (λ x. P (f x)) xs → AllByRecursion P (map f xs)
 all-map f P [] h = tt
 all-map f P (x ∷ xs) h = (h.0, all-map f P xs h.1)
@@ -155,7 +159,7 @@ cell-held (None ∷ held) zero h = absurd (cc)
 cell-held (Some cell ∷ held) zero h = (cell, refl)
 cell-held (place ∷ held) (suc k) h = cell-held held k h
 
--- a maximal run of held places tells of positions that the end has
+-- a maximal run of held places is of positions that the end has
 block-true : (p q : PartyState) (run : Run) → p.endpoint.receiving.next ≡ number q.endpoint.config.isn.0 (next_position p) → IsMaximal p.endpoint.receiving.inbox.held run
     → IsTrueBlock (witness_of p q) (block_numbers p.endpoint.receiving.next (run.from, run.to))
 block-true p q run next is =
@@ -172,9 +176,9 @@ block-true p q run next is =
           inr (cell.0, omega arith, cell.1),
     )
 
-told-true : (p q : PartyState) → p.endpoint.receiving.opened ≡ true → IsSoundPair p q → AreTrueBlocks (witness_of p q) (told_blocks p.endpoint)
+reported-true : (p q : PartyState) → p.endpoint.receiving.opened ≡ true → IsSoundPair p q → AreTrueBlocks (witness_of p q) (blocks_to_report p.endpoint)
 unfolding blocks
-told-true p q opened h =
+reported-true p q opened h =
     let r = p.endpoint.receiving in
     let P : ℕ × ℕ → Type 0 = IsTrueBlock (witness_of p q) in
     let Q : Run → Type 0 = λ run. P (block_numbers r.next (run.from, run.to)) in
@@ -187,35 +191,35 @@ told-true p q opened h =
     (λ _ k block e. all-at P (map (block_numbers r.next) (blocks r.inbox)) k block told e)
     (λ _ k block e. absurd (cc))
 
--- which options tell blocks
-blocks-of_syn : (mss : ℕ) (shift : Option ℕ) (sack : Bool) → blocks_told (Mss mss ∷ (scale_options shift ++ permission_options sack)) ≡ []
+-- which options report blocks
+blocks-of_syn : (mss : ℕ) (shift : Option ℕ) (sack : Bool) → reported_blocks (Mss mss ∷ (scale_options shift ++ permission_options sack)) ≡ []
 blocks-of_syn mss None true = refl
 blocks-of_syn mss None false = refl
 blocks-of_syn mss (Some shift) true = refl
 blocks-of_syn mss (Some shift) false = refl
 
-blocks-of_sack : (list : List (ℕ × ℕ)) → blocks_told (sack_options list) ≡ list
+blocks-of_sack : (list : List (ℕ × ℕ)) → reported_blocks (sack_options list) ≡ list
 blocks-of_sack [] = refl
 blocks-of_sack (block ∷ list) = append-nil (block ∷ list)
 
 none-true : (p q : PartyState) (list : List (ℕ × ℕ)) → list ≡ [] → AreTrueBlocks (witness_of p q) list
 none-true p q list e k block is = let never : slice_get {X = ℕ × ℕ} [] k ≡ Some block = subst (λ (list : List (ℕ × ℕ)). slice_get list k ≡ Some block) e is in absurd (cc)
 
--- an end that tells blocks has taken the peer's SYN
-plain-told : (p q : PartyState) (due : Due) → segment_of p.endpoint due ≡ plain_segment p.endpoint due → IsSoundPair p q → GoesOut p q due → HasTrueBlocks (witness_of p q) (segment_of p.endpoint due)
-plain-told p q due is h goes stays =
+-- an end that reports blocks has taken the peer's SYN
+plain-reports : (p q : PartyState) (due : Due) → segment_of p.endpoint due ≡ plain_segment p.endpoint due → IsSoundPair p q → GoesOut p q due → HasTrueBlocks (witness_of p q) (segment_of p.endpoint due)
+plain-reports p q due is h goes stays =
     let s = p.endpoint in
     let bits = plain-bits (pushes s.sending due) (is_fin due) in
     let opened = ((goes.truthful (ap (λ (v : Content). has rst v.flags) is ∙ bits.2)).has_ack (ap (λ (v : Content). has ack v.flags) is ∙ bits.3)).opened in
-    let list : blocks_told (segment_of s due).options ≡ told_blocks s = ap (λ (v : Content). blocks_told v.options) is ∙ blocks-of_sack (told_blocks s) in
-    rw list (told-true p q opened h)
+    let list : reported_blocks (segment_of s due).options ≡ blocks_to_report s = ap (λ (v : Content). reported_blocks v.options) is ∙ blocks-of_sack (blocks_to_report s) in
+    rw list (reported-true p q opened h)
 
-pub due-told : (p q : PartyState) (due : Due) → IsSoundPair p q → GoesOut p q due → HasTrueBlocks (witness_of p q) (segment_of p.endpoint due)
+pub blocks-of_due : (p q : PartyState) (due : Due) → IsSoundPair p q → GoesOut p q due → HasTrueBlocks (witness_of p q) (segment_of p.endpoint due)
 unfolding segment_of
-due-told p q (Reset reset) h goes stays = none-true p q [] refl
-due-told p q Syn h goes stays = none-true p q _ (blocks-of_syn p.endpoint.config.mss (shift_offered p.endpoint) (is_sack_offered p.endpoint))
-due-told p q (Resend start count) h goes stays = plain-told p q (Resend start count) refl h goes stays
-due-told p q (NewText start count) h goes stays = plain-told p q (NewText start count) refl h goes stays
-due-told p q (Fin start) h goes stays = plain-told p q (Fin start) refl h goes stays
-due-told p q (ResentFin start) h goes stays = plain-told p q (ResentFin start) refl h goes stays
-due-told p q Acknowledgement h goes stays = plain-told p q Acknowledgement refl h goes stays
+blocks-of_due p q (Reset reset) h goes stays = none-true p q [] refl
+blocks-of_due p q Syn h goes stays = none-true p q _ (blocks-of_syn p.endpoint.config.mss (shift_offered p.endpoint) (is_sack_offered p.endpoint))
+blocks-of_due p q (Resend start count) h goes stays = plain-reports p q (Resend start count) refl h goes stays
+blocks-of_due p q (NewText start count) h goes stays = plain-reports p q (NewText start count) refl h goes stays
+blocks-of_due p q (Fin start) h goes stays = plain-reports p q (Fin start) refl h goes stays
+blocks-of_due p q (ResentFin start) h goes stays = plain-reports p q (ResentFin start) refl h goes stays
+blocks-of_due p q Acknowledgement h goes stays = plain-reports p q Acknowledgement refl h goes stays

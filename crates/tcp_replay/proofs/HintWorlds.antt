@@ -10,10 +10,14 @@ use Rattle.tcp_conn.specs.declared.due.Due.{Due}
 use Rattle.tcp_conn.specs.declared.phase.Timer.{Timer as Which}
 use Rattle.tcp_conn.specs.Judgement.{judgement}
 use Rattle.tcp_conn.specs.Arrival.{after_judgement, after_arrival}
-use Rattle.tcp_conn.specs.Emission.{segment_of, bytes_of, due_of, emitted_bytes}
+use Rattle.tcp_conn.specs.Forms.{segment_of}
+use Rattle.tcp_conn.specs.Writing.{bytes_of}
+use Rattle.tcp_conn.specs.Due.{due_of}
+use Rattle.tcp_conn.specs.Emission.{emitted_bytes}
+use Rattle.tcp_replay.specs.declared.event.Side.{Side}
 use Rattle.tcp_replay.specs.declared.event.Side.TheVariants.{A, B}
-use Rattle.tcp_replay.specs.Events.{EventContent, HasBytes, Connect, Listen, Send, Receive, Close, Abort, Timer, Emit, Deliver, Damage}
-use Rattle.tcp_replay.specs.World.{WorldState, PartyState, new_party, new_world, effect_of, refusal_of, world_after, both, address_of, segment_at, bytes_with_damage, delivery_refusal, damage_refusal, party_after_connect, party_after_listen, party_after_send, party_after_receive, party_after_close, party_after_abort, party_after_timer, party_after_emission, party_after_arrival}
+use Rattle.tcp_replay.specs.Events.{EventContent, side_of, HasBytes, Connect, Listen, Send, Receive, Close, Abort, Timer, Emit, Deliver, Damage}
+use Rattle.tcp_replay.specs.World.{WorldState, PartyState, new_party, new_world, party_of, other, world_from, effect_of, refusal_of, world_with_effect, both, address_of, segment_at, bytes_with_damage, delivery_refusal, damage_refusal, party_after_connect, party_after_listen, party_after_send, party_after_receive, party_after_close, party_after_abort, party_after_timer, party_after_emission, party_after_arrival}
 use Rattle.tcp_replay.specs.Truthful.{Witness, HasPosition, IsTrueBlock, HasTrueBlocks}
 use Rattle.tcp_replay.specs.Safe.{witness_of, IsSent, HasTrueHints, HintsAreTrue}
 use Rattle.tcp_replay.specs.Sound.{IsSoundPair, AreSoundEnds}
@@ -21,7 +25,7 @@ use Rattle.tcp_replay.proofs.Steps.{slice_get-more, kept-same, pair-swapped}
 use Rattle.tcp_replay.proofs.Emissions.{GoesOut, due-decodes, due-goes}
 use Rattle.tcp_replay.proofs.Deliveries.{arrival-ok, own-decodes, comes, segment-sent, delivered-there, finds-damage}
 use Rattle.tcp_replay.proofs.Hints.{Keeps, keeps-same, keeps-judgement}
-use Rattle.tcp_replay.proofs.HintEvents.{keeps-connected, keeps-listening, keeps-sent, keeps-received, keeps-closed, keeps-aborted, keeps-timer, keeps-emitted, due-told}
+use Rattle.tcp_replay.proofs.HintEvents.{keeps-connected, keeps-listening, keeps-sent, keeps-received, keeps-closed, keeps-aborted, keeps-timer, keeps-emitted, blocks-of_due}
 
 -- a block stays true of an end that has as many positions or more
 block-more : (x x' : Witness) (block : ℕ × ℕ) → x'.irs ≡ x.irs → ((n : ℕ) → HasPosition x n → HasPosition x' n) → IsTrueBlock x block → IsTrueBlock x' block
@@ -34,11 +38,11 @@ record Tells (p p' q : PartyState) : Type 0 where
   sent : p'.sent ≡ p.sent ++ option_to_list new
   told : (bytes : List ℕ) (v : Content) → new ≡ Some bytes → decode_answer p.endpoint.config.addr.0 q.endpoint.config.addr.0 bytes ≡ Ok v → HasTrueBlocks (witness_of p q) v
 
-tells-nothing : (p p' q : PartyState) → p'.sent ≡ p.sent → Tells p p' q
-tells-nothing p p' q same = record { new = None; sent = same ∙ sym (append-nil p.sent); told = λ bytes v none. absurd (cc) }
+reports-nothing : (p p' q : PartyState) → p'.sent ≡ p.sent → Tells p p' q
+reports-nothing p p' q same = record { new = None; sent = same ∙ sym (append-nil p.sent); told = λ bytes v none. absurd (cc) }
 
-told-before : (p p' q : PartyState) (v : Content) → p'.endpoint.config ≡ p.endpoint.config → Tells p p' q → HasTrueHints p q → IsSent p' q v → HasTrueBlocks (witness_of p q) v
-told-before p p' q v config tells h sent =
+reported-before : (p p' q : PartyState) (v : Content) → p'.endpoint.config ≡ p.endpoint.config → Tells p p' q → HasTrueHints p q → IsSent p' q v → HasTrueBlocks (witness_of p q) v
+reported-before p p' q v config tells h sent =
     let k = sent.0 in
     let bytes = sent.1 in
     let read : decode_answer p.endpoint.config.addr.0 q.endpoint.config.addr.0 bytes ≡ Ok v = subst (λ (c : Config). decode_answer c.addr.0 q.endpoint.config.addr.0 bytes ≡ Ok v) config sent.3 in
@@ -49,7 +53,7 @@ hints-there : (p p' q : PartyState) → Keeps p q p'.endpoint → Tells p p' q �
 hints-there p p' q keeps tells h = record {
   blocks = λ v sent stays k block is.
       let had = keeps.had stays in
-      block-more (witness_of p q) (witness_of p' q) block refl had.1 (told-before p p' q v keeps.config tells h sent had.0 k block is);
+      block-more (witness_of p q) (witness_of p' q) block refl had.1 (reported-before p p' q v keeps.config tells h sent had.0 k block is);
   marks = keeps.marks;
 }
 
@@ -69,7 +73,7 @@ hints-swapped p q h = record { there = h.back; back = h.there }
 
 -- an event that emits nothing
 hints-quiet : (p p' q : PartyState) → p'.sent ≡ p.sent → (Keeps p q p.endpoint → Keeps p q p'.endpoint) → HintsAreTrue (both p q) → HintsAreTrue (both p' q)
-hints-quiet p p' q sent keeps h = hints-from-keeps p p' q (keeps (keeps-same p q h.there.marks)) (tells-nothing p p' q sent) h
+hints-quiet p p' q sent keeps h = hints-from-keeps p p' q (keeps (keeps-same p q h.there.marks)) (reports-nothing p p' q sent) h
 
 -- ---- event by event
 pub hints-connected : (p q : PartyState) → HintsAreTrue (both p q) → HintsAreTrue (both (party_after_connect p (address_of q)) q)
@@ -100,27 +104,27 @@ pub hints-timer : (p q : PartyState) (timer : Which) → IsSoundPair p q → Hin
 unfolding party_after_timer
 hints-timer p q timer pair h = hints-quiet p _ q refl (keeps-timer p q timer pair) h
 
--- what is emitted tells true blocks
+-- what is emitted reports true blocks
 some-is : {x y : List ℕ} → Some x ≡ Some y → x ≡ y
 some-is e = cc
 
 same-content : (v v' : Content) (r : Result Content DecodeError) → r ≡ Ok v → r ≡ Ok v' → v ≡ v'
 same-content v v' r e e' = cc
 
-due-tells : (p q : PartyState) (due : Option Due) → IfSome due (GoesOut p q) → IsSoundPair p q → (bytes : List ℕ) (v : Content) → option_map (bytes_of p.endpoint) due ≡ Some bytes
+due-reports : (p q : PartyState) (due : Option Due) → IfSome due (GoesOut p q) → IsSoundPair p q → (bytes : List ℕ) (v : Content) → option_map (bytes_of p.endpoint) due ≡ Some bytes
     → decode_answer p.endpoint.config.addr.0 q.endpoint.config.addr.0 bytes ≡ Ok v → HasTrueBlocks (witness_of p q) v
-due-tells p q None goes pair bytes v e read = absurd (cc)
-due-tells p q (Some due) goes pair bytes v e read =
+due-reports p q None goes pair bytes v e read = absurd (cc)
+due-reports p q (Some due) goes pair bytes v e read =
     let src = p.endpoint.config.addr.0 in
     let dst = q.endpoint.config.addr.0 in
     let own : decode_answer src dst bytes ≡ Ok (segment_of p.endpoint due) = ap (decode_answer src dst) (sym (some-is e)) ∙ due-decodes p q due goes in
-    subst (λ (v : Content). HasTrueBlocks (witness_of p q) v) (same-content (segment_of p.endpoint due) v (decode_answer src dst bytes) own read) (due-told p q due pair goes)
+    subst (λ (v : Content). HasTrueBlocks (witness_of p q) v) (same-content (segment_of p.endpoint due) v (decode_answer src dst bytes) own read) (blocks-of_due p q due pair goes)
 
 pub hints-emitted : (p q : PartyState) → IsSoundPair p q → HintsAreTrue (both p q) → HintsAreTrue (both (party_after_emission p) q)
 unfolding party_after_emission emitted_bytes
 hints-emitted p q pair h =
     hints-from-keeps p _ q (keeps-emitted p q (keeps-same p q h.there.marks))
-    (record { new = option_map (bytes_of p.endpoint) (due_of p.endpoint); sent = refl; told = due-tells p q (due_of p.endpoint) (due-goes p q pair) pair }) h
+    (record { new = option_map (bytes_of p.endpoint) (due_of p.endpoint); sent = refl; told = due-reports p q (due_of p.endpoint) (due-goes p q pair) pair }) h
 
 -- a segment that the peer emitted arrives
 pub hints-delivered : (p q : PartyState) (k : ℕ) → delivery_refusal q k ≡ None → IsSoundPair p q → HintsAreTrue (both p q) → HintsAreTrue (both (party_after_arrival p q (segment_at q k)) q)
@@ -130,7 +134,7 @@ hints-delivered p q k e pair h =
     let dst = p.endpoint.config.addr.0 in
     let bytes = segment_at q k in
     let sent = segment-sent q k (delivered-there q k e) in
-    let own = pair.answered k bytes sent in
+    let own = pair.own_back k bytes sent in
     let read = own-decodes q p bytes own in
     let s = after_judgement (judgement p.endpoint src dst own.content) p.endpoint src own.content in
     let keeps : Keeps p q s = keeps-judgement p q dst own.content pair (comes p q bytes pair own) (h.back.blocks own.content (k, bytes, sent, read)) (kept-same p q pair) (keeps-same p q h.there.marks) in
@@ -141,30 +145,28 @@ pub hints-damaged : (p q : PartyState) (k place value : ℕ) → value < 256 →
 hints-damaged p q k place value fits e pair h = subst (λ (p' : PartyState). HintsAreTrue (both p' q)) (sym (finds-damage p q k place value fits e pair).same) h
 
 -- ---- in the world
-pub hints-after : (w : WorldState) (event : EventContent) → HasBytes event → refusal_of w event ≡ None → AreSoundEnds w → HintsAreTrue w → HintsAreTrue (world_after w event)
+hints-effect : (p q : PartyState) (event : EventContent) → HasBytes event → (effect_of p q event).refusal ≡ None → IsSoundPair p q → HintsAreTrue (both p q) → HintsAreTrue (both (effect_of p q event).here (effect_of p q event).there)
 unfolding effect_of
-hints-after w (Connect A) fits e ends h = hints-connected w.a w.b h
-hints-after w (Connect B) fits e ends h = hints-swapped _ _ (hints-connected w.b w.a (hints-swapped _ _ h))
-hints-after w (Listen A) fits e ends h = hints-listening w.a w.b h
-hints-after w (Listen B) fits e ends h = hints-swapped _ _ (hints-listening w.b w.a (hints-swapped _ _ h))
-hints-after w (Send A bytes) fits e ends h = hints-sent w.a w.b bytes h
-hints-after w (Send B bytes) fits e ends h = hints-swapped _ _ (hints-sent w.b w.a bytes (hints-swapped _ _ h))
-hints-after w (Receive A room) fits e ends h = hints-received w.a w.b room h
-hints-after w (Receive B room) fits e ends h = hints-swapped _ _ (hints-received w.b w.a room (hints-swapped _ _ h))
-hints-after w (Close A) fits e ends h = hints-closed w.a w.b ends h
-hints-after w (Close B) fits e ends h = hints-swapped _ _ (hints-closed w.b w.a (pair-swapped _ _ ends) (hints-swapped _ _ h))
-hints-after w (Abort A) fits e ends h = hints-aborted w.a w.b ends h
-hints-after w (Abort B) fits e ends h = hints-swapped _ _ (hints-aborted w.b w.a (pair-swapped _ _ ends) (hints-swapped _ _ h))
-hints-after w (Timer A which) fits e ends h = hints-timer w.a w.b which ends h
-hints-after w (Timer B which) fits e ends h = hints-swapped _ _ (hints-timer w.b w.a which (pair-swapped _ _ ends) (hints-swapped _ _ h))
-hints-after w (Emit A) fits e ends h = hints-emitted w.a w.b ends h
-hints-after w (Emit B) fits e ends h = hints-swapped _ _ (hints-emitted w.b w.a (pair-swapped _ _ ends) (hints-swapped _ _ h))
-hints-after w (Deliver A k) fits e ends h = hints-swapped _ _ (hints-delivered w.b w.a k e (pair-swapped _ _ ends) (hints-swapped _ _ h))
-hints-after w (Deliver B k) fits e ends h = hints-delivered w.a w.b k e ends h
-hints-after w (Damage A k place value) fits e ends h = hints-swapped _ _ (hints-damaged w.b w.a k place value fits e (pair-swapped _ _ ends) (hints-swapped _ _ h))
-hints-after w (Damage B k place value) fits e ends h = hints-damaged w.a w.b k place value fits e ends h
+hints-effect p q (Connect side) fits e pair h = hints-connected p q h
+hints-effect p q (Listen side) fits e pair h = hints-listening p q h
+hints-effect p q (Send side bytes) fits e pair h = hints-sent p q bytes h
+hints-effect p q (Receive side room) fits e pair h = hints-received p q room h
+hints-effect p q (Close side) fits e pair h = hints-closed p q pair h
+hints-effect p q (Abort side) fits e pair h = hints-aborted p q pair h
+hints-effect p q (Timer side which) fits e pair h = hints-timer p q which pair h
+hints-effect p q (Emit side) fits e pair h = hints-emitted p q pair h
+hints-effect p q (Deliver from k) fits e pair h = hints-swapped _ _ (hints-delivered q p k e (pair-swapped _ _ pair) (hints-swapped _ _ h))
+hints-effect p q (Damage from k place value) fits e pair h = hints-swapped _ _ (hints-damaged q p k place value fits e (pair-swapped _ _ pair) (hints-swapped _ _ h))
 
--- nothing is marked or told yet
+hints-from : (w : WorldState) (side : Side) (event : EventContent) → HasBytes event → (effect_of (party_of w side) (party_of w (other side)) event).refusal ≡ None → AreSoundEnds w → HintsAreTrue w
+    → HintsAreTrue (world_from side (effect_of (party_of w side) (party_of w (other side)) event).here (effect_of (party_of w side) (party_of w (other side)) event).there)
+hints-from w A event fits e ends h = hints-effect w.a w.b event fits e ends h
+hints-from w B event fits e ends h = hints-swapped _ _ (hints-effect w.b w.a event fits e (pair-swapped _ _ ends) (hints-swapped _ _ h))
+
+pub hints-after : (w : WorldState) (event : EventContent) → HasBytes event → refusal_of w event ≡ None → AreSoundEnds w → HintsAreTrue w → HintsAreTrue (world_with_effect w event)
+hints-after w event fits e ends h = hints-from w (side_of event) event fits e ends h
+
+-- nothing is marked or reported yet
 new-hints : (a b : Config) → HasTrueHints (new_party a) (new_party b)
 new-hints a b = record { blocks = λ v sent. absurd (let never = sent.2 in cc); marks = λ stays place never. absurd (cc) }
 

@@ -8,22 +8,24 @@ use Rattle.tcp_reasm.specs.Reassembly.{after_place}
 use Rattle.tcp_reasm.proofs.Placing.{after_place-keeps}
 use Rattle.tcp_conn.specs.declared.phase.Ending.{Ending}
 use Rattle.tcp_conn.specs.declared.phase.Ending.TheVariants.{Reset}
-use Rattle.tcp_conn.specs.Phases.{is_syn_received, is_last_ack, takes_text, gives_up, phase_behind_own_fin}
+use Rattle.tcp_conn.specs.Phase.{is_syn_received, is_last_ack, takes_text, gives_up, phase_after_own_fin}
 use Rattle.tcp_conn.specs.State.{State, Sending, Receiving}
-use Rattle.tcp_conn.specs.Link.{window_from, blocks_told}
+use Rattle.tcp_conn.specs.Windows.{window_from}
+use Rattle.tcp_conn.specs.Blocks.{reported_blocks, after_blocks}
 use Rattle.tcp_conn.specs.Sender.{stream_limit, with_syn_acked, with_window, after_window_update, is_fin_acked}
 use Rattle.tcp_conn.specs.Receiver.{after_text, with_fin}
-use Rattle.tcp_conn.specs.Calls.{after_orderly_end, after_giving_up}
+use Rattle.tcp_conn.specs.Endings.{after_orderly_end, after_giving_up}
 use Rattle.tcp_conn.specs.Judgement.{position_near, judgement}
-use Rattle.tcp_conn.specs.Arrival.{after_own_syn, after_acked_text, after_blocks, blocks_used, after_news, after_own_fin, after_its_ack, takes_text_of, after_its_text, takes_fin, after_fin, after_taking, after_taking_shut, after_opening, after_acceptance, after_judgement}
+use Rattle.tcp_conn.specs.Arrival.{after_own_syn, after_acked_text, blocks_used, is_current, after_news, after_own_fin, after_its_ack, takes_text_of, after_its_text, takes_fin, after_fin, after_taking, after_taking_shut, after_peer_opens, after_peer_accepts, after_judgement}
 use Rattle.tcp_replay.specs.World.{PartyState}
 use Rattle.tcp_replay.specs.Truthful.{IsTruthful, AreTrueBlocks}
 use Rattle.tcp_replay.specs.Safe.{witness_of, gave_up, next_position}
 use Rattle.tcp_replay.specs.Sound.{IsSoundPair}
 use Rattle.tcp_replay.proofs.Steps.{Kept}
-use Rattle.tcp_replay.proofs.Stands.{gives_up-not_ended, at-synchronized}
+use Rattle.tcp_replay.proofs.Phases.{gives_up-not_ended, at-synchronized}
 use Rattle.tcp_replay.proofs.Judgements.{IsPresent, judged}
-use Rattle.tcp_replay.proofs.Stages.{Synced, IsAck, text_advance, text-advances, placed, fin-in_turn, same-window, own_syn-near, kept-own_syn, kept-acked_text, kept-news, kept-its_ack, kept-its_text}
+use Rattle.tcp_replay.proofs.AloneStages.{same-window}
+use Rattle.tcp_replay.proofs.Stages.{Synced, IsAck, text_advance, text-advances, placed, fin-in_turn, own_syn-near, kept-own_syn, kept-acked_text, kept-news, kept-its_ack, kept-its_text}
 use Rattle.tcp_replay.proofs.Arrivals.{Comes, ack-is}
 use Rattle.tcp_replay.proofs.Holdings.{Has, HasMore, has-inside, has-text, has-fin}
 use Rattle.tcp_replay.proofs.Marks.{AreTrueMarks, marks-after_ack, marks-given_up, marks-window, marks-blocks}
@@ -73,47 +75,47 @@ keeps-acked_text p q s v h = keeps-sending p q s _ (marks-after_ack s.sending q.
 has-small : (p q : PartyState) → IsSoundPair p q → (n : ℕ) → Has q.endpoint.receiving n → n ≤ 1 + stream_limit
 has-small p q h n has =
     let takes = h.back.takes in
-    omega (arith, has-inside q.endpoint.receiving p.accepted n takes.order takes.held has, h.there.sends.limit)
+    omega (arith, has-inside q.endpoint.receiving p.accepted n takes.order takes.held has, h.there.alone.sends.limit)
 
-keeps-news : (p q : PartyState) (s : State) (v : Content) → IsSoundPair p q → next_position q ≤ 2 + stream_limit → (gave_up q ≡ false → AreTrueBlocks (witness_of q p) (blocks_told v.options)) → Synced p q s → Keeps p q s → Keeps p q (after_news s v)
+keeps-news : (p q : PartyState) (s : State) (v : Content) → IsSoundPair p q → next_position q ≤ 2 + stream_limit → (gave_up q ≡ false → AreTrueBlocks (witness_of q p) (reported_blocks v.options)) → Synced p q s → Keeps p q s → Keeps p q (after_news s v)
 unfolding after_news
 keeps-news p q s v pair near true_ones at h =
     let d = s.sending in
     let r = q.endpoint.receiving in
     let told = window_from s.link v.window in
-    let sends = at.kept.here.sends in
+    let sends = at.kept.here.alone.sends in
     let iss : s.config.isn.0 ≡ p.endpoint.config.isn.0 = at.kept.grows.iss in
     let up = after_window_update d v.seq v.ack told in
     let window = same-window d v.seq v.ack told p.accepted p.closed (gives_up s.ending) sends in
-    let began = at-synchronized s.phase s.ending d.una d.nxt s.receiving.opened s.receiving.finished at.synced at.kept.here.stays.stands in
+    let began = at-synchronized s.phase s.ending d.una d.nxt s.receiving.opened s.receiving.finished at.synced at.kept.here.alone.progress in
     let blocks : gave_up q ≡ false → AreTrueBlocks (witness_of q p) (blocks_used s v) =
-    λ stays. cond_both s.link.sack (blocks_told v.options) [] (λ (blocks : List (ℕ × ℕ)). AreTrueBlocks (witness_of q p) blocks) (λ _. true_ones stays) (λ _ k block none. absurd (cc)) in
+    λ stays. cond_both s.link.sack (reported_blocks v.options) [] (λ (blocks : List (ℕ × ℕ)). AreTrueBlocks (witness_of q p) blocks) (λ _. true_ones stays) (λ _ k block none. absurd (cc)) in
     let news : gave_up q ≡ false → AreTrueMarks (after_blocks s.config.isn.0 up (blocks_used s v)) r =
-    λ stays. rw iss (marks-blocks (witness_of q p) r up (blocks_used s v) p.accepted p.closed (gives_up s.ending) pair.there.stays.config.isn (omega (arith, window.una, at.kept.here.between)) (omega (arith, window.una, began.1.least))
+    λ stays. rw iss (marks-blocks (witness_of q p) r up (blocks_used s v) p.accepted p.closed (gives_up s.ending) pair.there.alone.config.isn (omega (arith, window.una, at.kept.here.between)) (omega (arith, window.una, began.1.least))
     (has-small p q pair) (λ n has. has) (blocks stays) window.sends (marks-window d r v.seq v.ack told (h.marks stays))) in
     record {
       config = h.config;
       had = h.had;
-      marks = λ stays. cond_both (position_near s v.ack == d.una) (after_blocks s.config.isn.0 up (blocks_used s v)) d (λ (x : Sending). AreTrueMarks x r) (λ _. news stays) (λ _. h.marks stays);
+      marks = λ stays. cond_both (is_current s v) (after_blocks s.config.isn.0 up (blocks_used s v)) d (λ (x : Sending). AreTrueMarks x r) (λ _. news stays) (λ _. h.marks stays);
     }
 
 keeps-own_fin : (p q : PartyState) (s : State) → gives_up s.ending ≡ false → Keeps p q s → Keeps p q (after_own_fin s)
 unfolding after_own_fin
 keeps-own_fin p q s going h =
-    cond_both (is_fin_acked s.sending) (if is_last_ack s.phase then after_orderly_end s else record s { phase = phase_behind_own_fin s.phase }) s (λ (x : State). Keeps p q x)
-    (λ _. cond_both (is_last_ack s.phase) (after_orderly_end s) (record s { phase = phase_behind_own_fin s.phase }) (λ (x : State). Keeps p q x)
+    cond_both (is_fin_acked s.sending) (if is_last_ack s.phase then after_orderly_end s else record s { phase = phase_after_own_fin s.phase }) s (λ (x : State). Keeps p q x)
+    (λ _. cond_both (is_last_ack s.phase) (after_orderly_end s) (record s { phase = phase_after_own_fin s.phase }) (λ (x : State). Keeps p q x)
     (λ _. keeps-orderly p q s going h) (λ _. record { config = h.config; had = h.had; marks = h.marks }))
     (λ _. h)
 
 keeps-its_ack : (p q : PartyState) (s : State) (v : Content) (a : ℕ) → IsSoundPair p q → IsAck s v a → a ≤ next_position q → next_position q ≤ 2 + stream_limit
-    → (gave_up q ≡ false → AreTrueBlocks (witness_of q p) (blocks_told v.options)) → IsPresent s → Kept p q s → Keeps p q s → Keeps p q (after_its_ack s v)
+    → (gave_up q ≡ false → AreTrueBlocks (witness_of q p) (reported_blocks v.options)) → IsPresent s → Kept p q s → Keeps p q s → Keeps p q (after_its_ack s v)
 unfolding after_its_ack
 keeps-its_ack p q s v a pair told had near blocks present kept h =
     let first = kept-own_syn p q s v present kept in
     let second = kept-acked_text p q (after_own_syn s v) v a (own_syn-near p q s v a told near present kept) had first in
     let third = kept-news p q (after_acked_text (after_own_syn s v) v) v second in
     let x = after_news (after_acked_text (after_own_syn s v) v) v in
-    let at = at-synchronized x.phase x.ending x.sending.una x.sending.nxt x.receiving.opened x.receiving.finished third.synced third.kept.here.stays.stands in
+    let at = at-synchronized x.phase x.ending x.sending.una x.sending.nxt x.receiving.opened x.receiving.finished third.synced third.kept.here.alone.progress in
     keeps-own_fin p q x (gives_up-not_ended x.ending at.0)
     (keeps-news p q (after_acked_text (after_own_syn s v) v) v pair near blocks second (keeps-acked_text p q (after_own_syn s v) v (keeps-own_syn p q s v h)))
 
@@ -145,29 +147,29 @@ keeps-fin p q s v limit truth kept h =
     record { config = after.config; had = after.had; marks = after.marks }
 
 keeps-taking : (p q : PartyState) (s : State) (v : Content) (a : ℕ) → IsSoundPair p q → IsAck s v a → a ≤ next_position q → next_position q ≤ 2 + stream_limit → length q.accepted ≤ stream_limit
-    → (gave_up q ≡ false → AreTrueBlocks (witness_of q p) (blocks_told v.options)) → IsTruthful (witness_of q p) v → IsPresent s → Kept p q s → Keeps p q s → Keeps p q (after_taking s v)
+    → (gave_up q ≡ false → AreTrueBlocks (witness_of q p) (reported_blocks v.options)) → IsTruthful (witness_of q p) v → IsPresent s → Kept p q s → Keeps p q s → Keeps p q (after_taking s v)
 unfolding after_taking
 keeps-taking p q s v a pair told had near limit blocks truth present kept h =
     let first = kept-its_ack p q s v a told had near present kept in
     let x = after_its_ack s v in
-    keeps-fin p q (after_its_text x v) v limit truth (kept-its_text p q x v limit truth first.kept)
-    (keeps-its_text p q x v limit truth first.kept (keeps-its_ack p q s v a pair told had near blocks present kept h))
+    keeps-fin p q (after_its_text x v) v limit truth (kept-its_text p q x v limit truth first)
+    (keeps-its_text p q x v limit truth first (keeps-its_ack p q s v a pair told had near blocks present kept h))
 
 keeps-taking_shut : (p q : PartyState) (s : State) (v : Content) (a : ℕ) → IsSoundPair p q → IsAck s v a → a ≤ next_position q → next_position q ≤ 2 + stream_limit
-    → (gave_up q ≡ false → AreTrueBlocks (witness_of q p) (blocks_told v.options)) → IsPresent s → Kept p q s → Keeps p q s → Keeps p q (after_taking_shut s v)
+    → (gave_up q ≡ false → AreTrueBlocks (witness_of q p) (reported_blocks v.options)) → IsPresent s → Kept p q s → Keeps p q s → Keeps p q (after_taking_shut s v)
 unfolding after_taking_shut
 keeps-taking_shut p q s v a pair told had near blocks present kept h =
     let after = keeps-its_ack p q s v a pair told had near blocks present kept h in
     record { config = after.config; had = after.had; marks = after.marks }
 
 -- WHAT ARRIVES, with blocks that are true
-pub keeps-judgement : (p q : PartyState) (dst : List ℕ) (v : Content) → IsSoundPair p q → Comes p q v → (gave_up q ≡ false → AreTrueBlocks (witness_of q p) (blocks_told v.options)) → Kept p q p.endpoint → Keeps p q p.endpoint
+pub keeps-judgement : (p q : PartyState) (dst : List ℕ) (v : Content) → IsSoundPair p q → Comes p q v → (gave_up q ≡ false → AreTrueBlocks (witness_of q p) (reported_blocks v.options)) → Kept p q p.endpoint → Keeps p q p.endpoint
     → Keeps p q (after_judgement (judgement p.endpoint q.endpoint.config.addr.0 dst v) p.endpoint q.endpoint.config.addr.0 v)
-unfolding after_opening after_acceptance
+unfolding after_peer_opens after_peer_accepts
 keeps-judgement p q dst v pair c blocks kept h =
     let s = p.endpoint in
     let src = q.endpoint.config.addr.0 in
-    let flags = pair.there.sends.flags in
+    let flags = pair.there.alone.sends.flags in
     let gone : Keeps p q (after_giving_up s Reset) = keeps-given_up p q s Reset refl flags h in
     judged s v (λ j. Keeps p q (after_judgement j s src v)) (record {
       foreign = h;
@@ -189,9 +191,9 @@ keeps-judgement p q dst v pair c blocks kept h =
       handshake_refused_shut = λ present. record { config = h.config; had = h.had; marks = h.marks };
       taken = λ present told.
           let truth = c.truthful told.plain in
-          let a = truth.has_ack told.told in
+          let a = truth.has_ack told.is_ack in
           keeps-taking p q s v a.position pair (ack-is p q s v kept c told) a.most c.near c.limit blocks truth present kept h;
       taken_shut = λ present told.
-          let a = (c.truthful told.plain).has_ack told.told in
+          let a = (c.truthful told.plain).has_ack told.is_ack in
           keeps-taking_shut p q s v a.position pair (ack-is p q s v kept c told) a.most c.near blocks present kept h;
     }) src dst

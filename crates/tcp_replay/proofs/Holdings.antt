@@ -13,7 +13,7 @@ use Rattle.tcp_conn.specs.Sender.{stream_limit}
 use Rattle.tcp_replay.proofs.Lists.{one_if, one_if-false, one_if-most}
 use Rattle.tcp_replay.proofs.Moves.{next_of}
 
--- a position that is held: so many places behind the next one
+-- a position that is held: so many places after the next one
 abbrev pub IsHeldAt : Receiving → ℕ → Type 0
 IsHeldAt r n = (cell : Cell) × (next_of r ≤ n) × (slice_get r.inbox.held (n - next_of r) ≡ Some (Some cell))
 
@@ -58,7 +58,7 @@ unfolding after_read
 has-read r n position (inl below) = inl below
 has-read r n position (inr is) = inr (is.0, is.1, slice_get-before r.inbox.held (replicate (min n (length r.inbox.unread)) None) (position - next_of r) (Some is.0) is.2)
 
--- the FIN is taken where nothing is held behind it
+-- the FIN is taken where nothing is held after it
 pub has-fin : (r : Receiving) (accepted : List ℕ) → r.finished ≡ false → r.ordered ≡ length accepted → Agrees r.inbox.held (drop r.ordered accepted) → HasMore r (with_fin r)
 has-fin r accepted unfinished all held position (inl below) = inl (omega (arith, below, one_if-false r.finished unfinished))
 has-fin r accepted unfinished all held position (inr is) =
@@ -78,8 +78,8 @@ held-byte (Some cell ∷ held) zero byte e = (cell, refl)
 held-byte (place ∷ held) (suc k) byte e = held-byte held k byte e
 
 -- places are counted from the first unread byte there
-behind-unread : (q : Inbox) (k : ℕ) → byte_at q (length q.unread + k) ≡ get_or (map byte_of q.held) k None
-behind-unread q k =
+after-unread : (q : Inbox) (k : ℕ) → byte_at q (length q.unread + k) ≡ get_or (map byte_of q.held) k None
+after-unread q k =
     let read = map (λ (byte : ℕ). Some byte) q.unread in
     let count : length read ≡ length q.unread = length-map q.unread (λ (byte : ℕ). Some byte) in
     ap (λ n. get_or (read ++ map byte_of q.held) (n + k) None) (sym count) ∙ get_or-append-add read (map byte_of q.held) k None
@@ -87,9 +87,9 @@ behind-unread q k =
 stays-held : (q q' : Inbox) (n k : ℕ) (cell : Cell) → KeepsBytes q q' → length q'.unread ≡ length q.unread + n → n ≤ k → slice_get q.held k ≡ Some (Some cell)
     → (cell : Cell) × (slice_get q'.held (k - n) ≡ Some (Some cell))
 stays-held q q' n k cell keeps longer further e =
-    let there : byte_at q (length q.unread + k) ≡ Some cell.byte = behind-unread q k ∙ byte-held q.held k cell e in
+    let there : byte_at q (length q.unread + k) ≡ Some cell.byte = after-unread q k ∙ byte-held q.held k cell e in
     let place : length q.unread + k ≡ length q'.unread + (k - n) = omega (arith, longer) in
-    held-byte q'.held (k - n) cell.byte (sym (behind-unread q' (k - n)) ∙ ap (byte_at q') (sym place) ∙ keeps (length q.unread + k) cell.byte there)
+    held-byte q'.held (k - n) cell.byte (sym (after-unread q' (k - n)) ∙ ap (byte_at q') (sym place) ∙ keeps (length q.unread + k) cell.byte there)
 
 pub has-text : (r : Receiving) (q' : Inbox) (accepted : List ℕ) (n : ℕ) → r.ordered ≤ length accepted → length accepted ≤ stream_limit → KeepsBytes r.inbox q' → Advances r.inbox q' (drop r.ordered accepted) n → HasMore r (with_inbox r q' n)
 has-text r q' accepted n order limit keeps steps position had =

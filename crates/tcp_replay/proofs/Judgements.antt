@@ -6,11 +6,11 @@ use Rattle.tcp_wire.specs.Flags.{syn, rst, ack, has}
 use Rattle.tcp_wire.specs.Wire.{Content}
 use Rattle.tcp_reasm.specs.Reassembly.{window}
 use Rattle.tcp_conn.specs.declared.judgement.Judgement.{Judgement}
-use Rattle.tcp_conn.specs.declared.judgement.Judgement.TheVariants.{Foreign, ResetIgnored, Stray, AckOfListen, NoSyn, PeerOpens, AckOfNoSyn, PeerRefuses, PeerAccepts, Unacceptable, PeerResets, ResetElsewhere, SynInWindow, NoAck, AcksUnsent, HandshakeRefused, HandshakeRefusedShut, Taken, TakenShut}
-use Rattle.tcp_conn.specs.Phases.{is_closed, is_listening, is_syn_sent, is_syn_received}
+use Rattle.tcp_conn.specs.declared.judgement.Judgement.TheVariants.{Foreign, ResetIgnored, Stray, AckOfListen, OpensNothing, PeerOpens, AckOfNoSyn, PeerRefuses, PeerAccepts, Unacceptable, PeerResets, ResetElsewhere, SynInWindow, NoAck, AcksUnsent, HandshakeRefused, HandshakeRefusedShut, Taken, TakenShut}
+use Rattle.tcp_conn.specs.Phase.{is_closed, is_listening, is_syn_sent, is_syn_received}
 use Rattle.tcp_conn.specs.State.{State}
 use Rattle.tcp_conn.specs.Sender.{acks_unsent}
-use Rattle.tcp_conn.specs.Judgement.{position_near, is_foreign, closed_judgement, listen_judgement, acks_syn, syn_sent_judgement, is_wanted, ack_judgement, is_allowed_shut, unacceptable_judgement, acceptable_judgement, present_judgement, phase_judgement, judgement}
+use Rattle.tcp_conn.specs.Judgement.{position_near, is_foreign, closed_judgement, listen_judgement, acks_syn, syn_sent_judgement, is_acceptable_segment, ack_judgement, is_allowed_shut, unacceptable_judgement, acceptable_judgement, present_judgement, phase_judgement, judgement}
 
 -- the phases that are tested first are none of them
 pub record IsPresent (s : State) : Type 0 where
@@ -21,11 +21,11 @@ pub record IsPresent (s : State) : Type 0 where
 -- a SYN without RST, and an acknowledgement without
 pub record IsSyn (v : Content) : Type 0 where
   pub plain : has rst v.flags ≡ false
-  pub told : has syn v.flags ≡ true
+  pub is_syn : has syn v.flags ≡ true
 
 pub record IsAckOnly (v : Content) : Type 0 where
   pub plain : has rst v.flags ≡ false
-  pub told : has ack v.flags ≡ true
+  pub is_ack : has ack v.flags ≡ true
 
 -- something holds under each judgement, where it is passed
 pub record Cases (s : State) (v : Content) (P : Judgement → Type 0) : Type 0 where
@@ -33,7 +33,7 @@ pub record Cases (s : State) (v : Content) (P : Judgement → Type 0) : Type 0 w
   pub reset_ignored : P ResetIgnored
   pub stray : P Stray
   pub ack_of_listen : P AckOfListen
-  pub no_syn : P NoSyn
+  pub no_syn : P OpensNothing
   pub peer_opens : is_listening s.phase ≡ true → IsSyn v → P PeerOpens
   pub ack_of_no_syn : P AckOfNoSyn
   pub peer_refuses : P PeerRefuses
@@ -57,21 +57,21 @@ module _ (s : State) (v : Content) (P : Judgement → Type 0) (c : Cases s v P) 
   in-listen : is_listening s.phase ≡ true → P (listen_judgement v)
   unfolding listen_judgement
   in-listen listening =
-      cond_both (has rst v.flags) ResetIgnored (if has ack v.flags then AckOfListen else (if has syn v.flags then PeerOpens else NoSyn)) P (λ _. c.reset_ignored)
-      (λ plain. cond_both (has ack v.flags) AckOfListen (if has syn v.flags then PeerOpens else NoSyn) P (λ _. c.ack_of_listen)
-      (λ _. cond_both (has syn v.flags) PeerOpens NoSyn P (λ told. c.peer_opens listening (record { plain = plain; told = told })) (λ _. c.no_syn)))
+      cond_both (has rst v.flags) ResetIgnored (if has ack v.flags then AckOfListen else (if has syn v.flags then PeerOpens else OpensNothing)) P (λ _. c.reset_ignored)
+      (λ plain. cond_both (has ack v.flags) AckOfListen (if has syn v.flags then PeerOpens else OpensNothing) P (λ _. c.ack_of_listen)
+      (λ _. cond_both (has syn v.flags) PeerOpens OpensNothing P (λ told. c.peer_opens listening (record { plain = plain; is_syn = told })) (λ _. c.no_syn)))
 
   in-syn_sent : is_syn_sent s.phase ≡ true → P (syn_sent_judgement s v)
   unfolding syn_sent_judgement
   in-syn_sent sent =
-      let answers = if has syn v.flags && has ack v.flags then PeerAccepts else NoSyn in
+      let answers = if has syn v.flags && has ack v.flags then PeerAccepts else OpensNothing in
       let resets = if has ack v.flags then PeerRefuses else ResetIgnored in
       cond_both (has ack v.flags && not (acks_syn s v)) (if has rst v.flags then ResetIgnored else AckOfNoSyn) (if has rst v.flags then resets else answers) P
       (λ _. cond_both (has rst v.flags) ResetIgnored AckOfNoSyn P (λ _. c.reset_ignored) (λ _. c.ack_of_no_syn))
       (λ _. cond_both (has rst v.flags) resets answers P
       (λ _. cond_both (has ack v.flags) PeerRefuses ResetIgnored P (λ _. c.peer_refuses) (λ _. c.reset_ignored))
-      (λ plain. cond_both (has syn v.flags && has ack v.flags) PeerAccepts NoSyn P
-      (λ e. c.peer_accepts sent (record { plain = plain; told = (and_parts (has syn v.flags) (has ack v.flags) e).0 })) (λ _. c.no_syn)))
+      (λ plain. cond_both (has syn v.flags && has ack v.flags) PeerAccepts OpensNothing P
+      (λ e. c.peer_accepts sent (record { plain = plain; is_syn = (and_parts (has syn v.flags) (has ack v.flags) e).0 })) (λ _. c.no_syn)))
 
   by-ack : (good refused : Judgement) → IsPresent s → P good → P refused → P (ack_judgement s v good refused)
   unfolding ack_judgement
@@ -88,7 +88,7 @@ module _ (s : State) (v : Content) (P : Judgement → Type 0) (c : Cases s v P) 
       (λ plain. cond_both (is_allowed_shut s v) allowed Unacceptable P
       (λ e.
       let told = and_parts (has ack v.flags) (not (has syn v.flags)) (and_parts (window s.receiving.inbox == 0) (has ack v.flags && not (has syn v.flags)) e).1 in
-      by-ack TakenShut HandshakeRefusedShut present (c.taken_shut present (record { plain = plain; told = told.0 })) (c.handshake_refused_shut present))
+      by-ack TakenShut HandshakeRefusedShut present (c.taken_shut present (record { plain = plain; is_ack = told.0 })) (c.handshake_refused_shut present))
       (λ _. c.unacceptable present))
 
   in-acceptable : IsPresent s → P (acceptable_judgement s v)
@@ -100,11 +100,11 @@ module _ (s : State) (v : Content) (P : Judgement → Type 0) (c : Cases s v P) 
       (λ _. cond_both (v.seq == s.receiving.next) PeerResets ResetElsewhere P (λ _. c.peer_resets) (λ _. c.reset_elsewhere present))
       (λ plain. cond_both (has syn v.flags) SynInWindow (if not (has ack v.flags) then NoAck else acks) P (λ _. c.syn_in_window present)
       (λ _. cond_both (not (has ack v.flags)) NoAck acks P (λ _. c.no_ack)
-      (λ told. by-ack Taken HandshakeRefused present (c.taken present (record { plain = plain; told = not-false (has ack v.flags) told })) c.handshake_refused)))
+      (λ told. by-ack Taken HandshakeRefused present (c.taken present (record { plain = plain; is_ack = not-false (has ack v.flags) told })) c.handshake_refused)))
 
   in-present : IsPresent s → P (present_judgement s v)
   unfolding present_judgement
-  in-present present = cond_both (is_wanted s v) (acceptable_judgement s v) (unacceptable_judgement s v) P (λ _. in-acceptable present) (λ _. in-unacceptable present)
+  in-present present = cond_both (is_acceptable_segment s v) (acceptable_judgement s v) (unacceptable_judgement s v) P (λ _. in-acceptable present) (λ _. in-unacceptable present)
 
   in-phase : P (phase_judgement s v)
   unfolding phase_judgement

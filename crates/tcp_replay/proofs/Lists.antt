@@ -1,4 +1,4 @@
--- Cases by a test, fronts of lists, and bytes.
+-- Cases by a test, prefixes of lists, and bytes.
 use Rattle.std.proofs.Common.{◌≡◌, ℕ, zero, suc, ◌+◌, ◌-◌, ◌≤◌, List, [], ◌∷◌, ◌++◌, length, take, drop, refl, sym, ◌∙◌, ap, ⊎_elim, arith, length-append, length-take}
 use Rattle.std.specs.Prelude.{Bool, true, false, if◌then◌else◌, Option, Some, None}
 use Rattle.std.proofs.lemmas.List.{nil_from_length, get_or-take, get_or-drop, get_or_past, get_or_append_left, get_or-append_right}
@@ -53,7 +53,7 @@ pub take-none : (n : ℕ) → take {A = ℕ} n [] ≡ []
 take-none zero = refl
 take-none (suc n) = refl
 
--- a front, and what follows it
+-- a prefix, and what follows it
 pub take-further : (m n : ℕ) (xs : List ℕ) → take m xs ++ take n (drop m xs) ≡ take (m + n) xs
 take-further zero n xs = let e : n ≡ zero + n = omega arith in ap (λ k. take k xs) e
 take-further (suc m) zero [] = sym (take-none (suc m + 0))
@@ -66,14 +66,14 @@ drop-take_sub (suc k) zero xs = let e : zero ≡ zero - suc k = omega arith in a
 drop-take_sub (suc k) (suc n) [] = sym (take-none (suc n - suc k))
 drop-take_sub (suc k) (suc n) (x ∷ xs) = drop-take_sub k n xs ∙ (let e : n - k ≡ suc n - suc k = omega arith in ap (λ m. take m (drop k xs)) e)
 
--- what stands in front of another list in a front
+-- a list that comes before another one in a prefix is a prefix
 pub front-is : (front more whole : List ℕ) (n : ℕ) → front ++ more ≡ take n whole → front ≡ take (length front) whole
 front-is [] more whole n e = refl
 front-is (x ∷ front) more whole zero e = absurd (cc)
 front-is (x ∷ front) more [] (suc n) e = absurd (cc)
 front-is (x ∷ front) more (w ∷ whole) (suc n) e = let rest = front-is front more whole n (cc) in cc
 
--- behind all of a list nothing more of it follows
+-- after all of a list nothing more of it follows
 pub nothing-follows : (front more whole : List ℕ) (n : ℕ) → front ++ more ≡ take n whole → front ≡ whole → more ≡ []
 nothing-follows front more whole n e is =
     nil_from_length more (omega (arith, length-append front more, ap length e, length-take n whole, ap length is))

@@ -4,16 +4,16 @@ use Rattle.std.specs.Prelude.{Bool, true, ◌&&◌, nat_lt, nat_le}
 use Rattle.std.proofs.lemmas.Bool.{cond_both, ltb-true, and_parts}
 use Rattle.std.proofs.lemmas.Option.{slice_get_within}
 use Rattle.tcp_wire.specs.Position.{position_of}
-use Rattle.tcp_wire.proofs.Positions.{position_of_number}
+use Rattle.tcp_wire.proofs.Lemmas.{position_of_number}
 use Rattle.tcp_sendq.specs.SendQueue.{Queue, IsMarked, marks_with, can_mark, after_mark, without_marks}
 use Rattle.tcp_sendq.proofs.Places.{marks_with-only, IsMarked-without_marks, IsMarked-after_release, IsMarked-after_offer}
 use Rattle.tcp_conn.specs.State.{Sending, Receiving, place_of, position_at}
-use Rattle.tcp_conn.specs.Sender.{stream_limit, with_text, count_below, acks_more, with_acked, after_ack, is_newer, with_window, after_window_update, is_of_flight, marks_text, with_marks, after_block, without_text}
-use Rattle.tcp_conn.specs.Arrival.{after_blocks}
+use Rattle.tcp_conn.specs.Sender.{stream_limit, with_text, count_below, acks_more, with_acked, after_ack, is_newer, with_window, after_window_update, without_text}
+use Rattle.tcp_conn.specs.Blocks.{is_of_flight, marks_text, with_marks, after_block, after_blocks}
 use Rattle.tcp_replay.specs.Truthful.{Witness, HasPosition, IsTrueBlock, AreTrueBlocks}
-use Rattle.tcp_replay.specs.Sound.{Sends}
+use Rattle.tcp_replay.specs.Alone.{Sends}
 use Rattle.tcp_replay.proofs.Holdings.{Has, HasMore}
-use Rattle.tcp_replay.proofs.Stages.{same-marks}
+use Rattle.tcp_replay.proofs.AloneStages.{same-marks}
 
 abbrev pub AreTrueMarks : Sending → Receiving → Type 0
 AreTrueMarks d r = (place : ℕ) → IsMarked d.queue place → Has r (position_at d place)
@@ -36,7 +36,7 @@ marks-after_ack d r a h = cond_both (acks_more d a) (with_acked d a) d (λ (x : 
 pub marks-text : (d : Sending) (r : Receiving) (text : List ℕ) → AreTrueMarks d r → AreTrueMarks (with_text d text) r
 marks-text d r text h place is = h place (IsMarked-after_offer d.queue _ place is)
 
--- nothing is, behind a timeout or a reset
+-- nothing is, after a timeout or a reset
 pub marks-none : (d d' : Sending) (r : Receiving) → d'.queue ≡ without_marks d.queue → AreTrueMarks d' r
 marks-none d d' r e place is = absurd (IsMarked-without_marks d.queue place (subst (λ (q : Queue). IsMarked q place) e is))
 

@@ -2,7 +2,7 @@
 use Rattle.std.proofs.Common.{◌≡◌, ℕ, ◌+◌, ◌%◌, ◌^◌, ◌<◌, arith}
 use Rattle.tcp_wire.specs.Position.{number}
 
--- the number behind some text
+-- the number after some text
 pub number-further : (s p n w : ℕ) → w ≡ number s p → (w + n) % 2 ^ 32 ≡ number s (p + n)
 number-further s p n w e = omega arith
 

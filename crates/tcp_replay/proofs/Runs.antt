@@ -8,8 +8,8 @@ use Rattle.tcp_replay.specs.declared.event.Event.{Event}
 use Rattle.tcp_replay.specs.declared.outcome.Outcome.{Outcome}
 use Rattle.tcp_replay.specs.declared.outcome.StepError.TheVariants.{NoSuchSegment, NoChange, PlaceOutside, NoMemory}
 use Rattle.tcp_replay.specs.declared.outcome.StepError.{StepError}
-use Rattle.tcp_replay.specs.Events.{EventContent, event_content, Deliver, Damage}
-use Rattle.tcp_replay.specs.World.{WorldState, PartyState, party_of, is_missing, segment_at, delivery_refusal, damage_refusal, effect_of, world_after, refusal_of, grows_for, stop_of, run_of, stop_or, stay_or, later, StopsForMemory}
+use Rattle.tcp_replay.specs.Events.{EventContent, event_content, side_of, Deliver, Damage}
+use Rattle.tcp_replay.specs.World.{WorldState, PartyState, party_of, other, is_missing, segment_at, delivery_refusal, damage_refusal, effect_of, world_with_effect, refusal_of, grows_for, stop_of, run_of, stop_or, stay_or, later, StopsForMemory}
 
 -- where nothing was refused, the first event wasn't, nor any of the rest
 record Goes (refused : Option StepError) (rest : Option (ℕ × StepError)) : Type 0 where
@@ -26,16 +26,16 @@ pub record GoesOn (w : WorldState) (list : List EventContent) (next : WorldState
   pub stop : stop_of w list ≡ None
   pub end : run_of w list ≡ next
 
-pub run-more : (w : WorldState) (list : List EventContent) (event : EventContent) → stop_of w list ≡ None → refusal_of (run_of w list) event ≡ None → GoesOn w (list ++ event ∷ []) (world_after (run_of w list) event)
+pub run-more : (w : WorldState) (list : List EventContent) (event : EventContent) → stop_of w list ≡ None → refusal_of (run_of w list) event ≡ None → GoesOn w (list ++ event ∷ []) (world_with_effect (run_of w list) event)
 unfolding stop_of run_of
-run-more w [] event e f = record { stop = ap (λ r. stop_or r None) f; end = ap (λ r. stay_or r w (world_after w event)) f }
+run-more w [] event e f = record { stop = ap (λ r. stop_or r None) f; end = ap (λ r. stay_or r w (world_with_effect w event)) f }
 run-more w (first ∷ list) event e f =
-    let both = goes (refusal_of w first) (stop_of (world_after w first) list) e in
-    let here : stay_or (refusal_of w first) w (run_of (world_after w first) list) ≡ run_of (world_after w first) list = ap (λ r. stay_or r w (run_of (world_after w first) list)) both.first in
-    let more = run-more (world_after w first) list event both.others (ap (λ v. refusal_of v event) (sym here) ∙ f) in
+    let both = goes (refusal_of w first) (stop_of (world_with_effect w first) list) e in
+    let here : stay_or (refusal_of w first) w (run_of (world_with_effect w first) list) ≡ run_of (world_with_effect w first) list = ap (λ r. stay_or r w (run_of (world_with_effect w first) list)) both.first in
+    let more = run-more (world_with_effect w first) list event both.others (ap (λ v. refusal_of v event) (sym here) ∙ f) in
     record {
-      stop = ap (λ r. stop_or r (stop_of (world_after w first) (list ++ event ∷ []))) both.first ∙ ap later more.stop;
-      end = ap (λ r. stay_or r w (run_of (world_after w first) (list ++ event ∷ []))) both.first ∙ more.end ∙ ap (λ v. world_after v event) (sym here);
+      stop = ap (λ r. stop_or r (stop_of (world_with_effect w first) (list ++ event ∷ []))) both.first ∙ ap later more.stop;
+      end = ap (λ r. stay_or r w (run_of (world_with_effect w first) (list ++ event ∷ []))) both.first ∙ more.end ∙ ap (λ v. world_with_effect v event) (sym here);
     }
 
 -- the run stops at one
@@ -46,14 +46,14 @@ pub record Stops (w : WorldState) (list : List EventContent) (index : ℕ) (erro
 pub run-stop : (w : WorldState) (list rest : List EventContent) (event : EventContent) (error : StepError) → stop_of w list ≡ None → refusal_of (run_of w list) event ≡ Some error
     → Stops w (list ++ event ∷ rest) (length list) error (run_of w list)
 unfolding stop_of run_of
-run-stop w [] rest event error e f = record { stop = ap (λ r. stop_or r (stop_of (world_after w event) rest)) f; stays = ap (λ r. stay_or r w (run_of (world_after w event) rest)) f }
+run-stop w [] rest event error e f = record { stop = ap (λ r. stop_or r (stop_of (world_with_effect w event) rest)) f; stays = ap (λ r. stay_or r w (run_of (world_with_effect w event) rest)) f }
 run-stop w (first ∷ list) rest event error e f =
-    let both = goes (refusal_of w first) (stop_of (world_after w first) list) e in
-    let here : stay_or (refusal_of w first) w (run_of (world_after w first) list) ≡ run_of (world_after w first) list = ap (λ r. stay_or r w (run_of (world_after w first) list)) both.first in
-    let more = run-stop (world_after w first) list rest event error both.others (ap (λ v. refusal_of v event) (sym here) ∙ f) in
+    let both = goes (refusal_of w first) (stop_of (world_with_effect w first) list) e in
+    let here : stay_or (refusal_of w first) w (run_of (world_with_effect w first) list) ≡ run_of (world_with_effect w first) list = ap (λ r. stay_or r w (run_of (world_with_effect w first) list)) both.first in
+    let more = run-stop (world_with_effect w first) list rest event error both.others (ap (λ v. refusal_of v event) (sym here) ∙ f) in
     record {
-      stop = ap (λ r. stop_or r (stop_of (world_after w first) (list ++ event ∷ rest))) both.first ∙ ap later more.stop;
-      stays = ap (λ r. stay_or r w (run_of (world_after w first) (list ++ event ∷ rest))) both.first ∙ more.stays ∙ sym here;
+      stop = ap (λ r. stop_or r (stop_of (world_with_effect w first) (list ++ event ∷ rest))) both.first ∙ ap later more.stop;
+      stays = ap (λ r. stay_or r w (run_of (world_with_effect w first) (list ++ event ∷ rest))) both.first ∙ more.stays ∙ sym here;
     }
 
 -- want of memory is no reason of the definitions
@@ -66,11 +66,14 @@ damage-not_memory p k place value =
 delivery-not_memory : (p : PartyState) (k : ℕ) → delivery_refusal p k ≡ Some NoMemory → ⊥
 delivery-not_memory p k = cond_both (is_missing p k) (Some NoSuchSegment) None (λ r. r ≡ Some NoMemory → ⊥) (λ _ e. absurd (cc)) (λ _ e. absurd (cc))
 
-refusal-not_memory : (w : WorldState) (event : EventContent) → refusal_of w event ≡ Some NoMemory → ⊥
+effect-not_memory : (p q : PartyState) (event : EventContent) → (effect_of p q event).refusal ≡ Some NoMemory → ⊥
 unfolding effect_of
-refusal-not_memory w (Deliver side k) e = delivery-not_memory (party_of w side) k e
-refusal-not_memory w (Damage side k place value) e = damage-not_memory (party_of w side) k place value e
-refusal-not_memory w other e = absurd (cc)
+effect-not_memory p q (Deliver from k) e = delivery-not_memory p k e
+effect-not_memory p q (Damage from k place value) e = damage-not_memory p k place value e
+effect-not_memory p q other e = absurd (cc)
+
+refusal-not_memory : (w : WorldState) (event : EventContent) → refusal_of w event ≡ Some NoMemory → ⊥
+refusal-not_memory w event e = effect-not_memory (party_of w (side_of event)) (party_of w (other (side_of event))) event e
 
 -- what a step answers, with its type
 abbrev pub answered : Outcome → Result Outcome StepError
@@ -140,13 +143,13 @@ run_out_of_memory w here new list i event error inside is so_far h m same memory
     }
 
 pub run_goes_on : (w here new : WorldState) (list : List EventContent) (i : ℕ) (event : EventContent) (o : Outcome) → i < length list → event ≡ get_or list i event
-    → RunsTo w here list i → IfSome (refusal_of here event) (λ e. answered o ≡ Err e) → new ≡ world_after here event → RunsTo w new list (i + 1)
+    → RunsTo w here list i → IfSome (refusal_of here event) (λ e. answered o ≡ Err e) → new ≡ world_with_effect here event → RunsTo w new list (i + 1)
 run_goes_on w here new list i event o inside is so_far h state =
     let fine : refusal_of (run_of w (take i list)) event ≡ None = ap (λ v. refusal_of v event) (sym so_far.now) ∙ not-refused (refusal_of here event) o h in
     let more = run-more w (take i list) event so_far.going fine in
     record {
       going = ap (λ all. stop_of w all) (sym (next-front list i event inside is)) ∙ more.stop;
-      now = state ∙ ap (λ v. world_after v event) so_far.now ∙ sym more.end ∙ ap (λ all. run_of w all) (next-front list i event inside is);
+      now = state ∙ ap (λ v. world_with_effect v event) so_far.now ∙ sym more.end ∙ ap (λ all. run_of w all) (next-front list i event inside is);
     }
 
 pub run_begins : (w : WorldState) (list : List EventContent) → RunsTo w w list 0

@@ -6,32 +6,32 @@ use Rattle.std.specs.List.{AllByRecursion}
 use Rattle.tcp_wire.specs.declared.fault.DecodeError.TheVariants.{BadChecksum}
 use Rattle.tcp_conn.specs.declared.config.Config.{Config}
 use Rattle.tcp_conn.specs.declared.outcome.Arrival.TheVariants.{Malformed}
-use Rattle.tcp_conn.specs.Configs.{IsConfig}
+use Rattle.tcp_conn.specs.Config.{IsConfig}
 use Rattle.tcp_replay.specs.declared.outcome.Outcome.{Outcome}
 use Rattle.tcp_replay.specs.declared.outcome.Outcome.TheVariants.{Arrived}
 use Rattle.tcp_replay.specs.declared.outcome.StepError.{StepError}
 use Rattle.tcp_replay.specs.Events.{EventContent, HasBytes, IsDamage}
-use Rattle.tcp_replay.specs.World.{WorldState, new_world, refusal_of, outcome_of, world_after, world_behind, run_of, world_behind_all}
-use Rattle.tcp_replay.specs.Safe.{IsSafe, HintsAreTrue, EveryRunIsSafe}
+use Rattle.tcp_replay.specs.World.{WorldState, new_world, refusal_of, outcome_of, world_with_effect, world_after, run_of, world_after_all}
+use Rattle.tcp_replay.specs.Safe.{IsSafe, HintsAreTrue, FindsDamage, EveryRunIsSafe}
 use Rattle.tcp_replay.specs.Sound.{IsSound}
-use Rattle.tcp_replay.proofs.Worlds.{ends-new, ends-after, damage-told, safe-ends, kept-behind, kept-run, kept-behind_all}
+use Rattle.tcp_replay.proofs.Worlds.{ends-new, ends-after, damage-refused, safe-ends, kept-after, kept-run, kept-after_all}
 use Rattle.tcp_replay.proofs.HintWorlds.{hints-new, hints-after}
 use Rattle.tcp_replay.proofs.Runs.{not-refused}
 
 pub sound-new : (a b : Config) → IsConfig a → IsConfig b → IsSound (new_world a b)
 sound-new a b one two = record { ends = ends-new a b one two; hints = hints-new a b }
 
-pub sound-after : (w : WorldState) (event : EventContent) → HasBytes event → refusal_of w event ≡ None → IsSound w → IsSound (world_after w event)
+pub sound-after : (w : WorldState) (event : EventContent) → HasBytes event → refusal_of w event ≡ None → IsSound w → IsSound (world_with_effect w event)
 sound-after w event fits e h = record { ends = ends-after w event fits e h.ends; hints = hints-after w event fits e h.ends h.hints }
 
-pub sound-behind : (w : WorldState) (event : EventContent) → HasBytes event → IsSound w → IsSound (world_behind w event)
-sound-behind w event fits h = kept-behind IsSound sound-after w event fits h
+pub sound-step : (w : WorldState) (event : EventContent) → HasBytes event → IsSound w → IsSound (world_after w event)
+sound-step w event fits h = kept-after IsSound sound-after w event fits h
 
 pub sound-run : (w : WorldState) (list : List EventContent) → AllByRecursion HasBytes list → IsSound w → IsSound (run_of w list)
 sound-run w list fits h = kept-run IsSound sound-after w list fits h
 
-pub sound-behind_all : (w : WorldState) (list : List EventContent) → AllByRecursion HasBytes list → IsSound w → IsSound (world_behind_all w list)
-sound-behind_all w list fits h = kept-behind_all IsSound sound-after w list fits h
+pub sound-after_all : (w : WorldState) (list : List EventContent) → AllByRecursion HasBytes list → IsSound w → IsSound (world_after_all w list)
+sound-after_all w list fits h = kept-after_all IsSound sound-after w list fits h
 
 pub safe-sound : (w : WorldState) → IsSound w → IsSafe w
 safe-sound w h = safe-ends w h.ends
@@ -39,23 +39,26 @@ safe-sound w h = safe-ends w h.ends
 pub hints-sound : (w : WorldState) → IsSound w → HintsAreTrue w
 hints-sound w h = h.hints
 
+damage-sound : (w : WorldState) → IsSound w → FindsDamage w
+damage-sound w h event is fits e = damage-refused w event is fits e h.ends
+
 pub every_run_is_safe_lem : EveryRunIsSafe
 every_run_is_safe_lem a b list one two fits =
     let start = sound-new a b one two in
     let stops = sound-run (new_world a b) list fits start in
-    let goes_on = sound-behind_all (new_world a b) list fits start in
-    (safe-sound _ stops, safe-sound _ goes_on, hints-sound _ stops, hints-sound _ goes_on)
+    let goes_on = sound-after_all (new_world a b) list fits start in
+    (safe-sound _ stops, safe-sound _ goes_on, hints-sound _ stops, hints-sound _ goes_on, damage-sound _ stops, damage-sound _ goes_on)
 
 -- ONE STEP of the code: what it did if it answered Ok, and nothing if it didn't
-pub sound_step : (r : Result Outcome StepError) (w new : WorldState) (event : EventContent) → IsSound w → OnOk r (new ≡ world_after w event) → OnOk r (HasBytes event)
+pub sound_step : (r : Result Outcome StepError) (w new : WorldState) (event : EventContent) → IsSound w → OnOk r (new ≡ world_with_effect w event) → OnOk r (HasBytes event)
     → IfSome (refusal_of w event) (λ e. r ≡ Err e) → OnErr r (new ≡ w) → IsSound new
 sound_step (Ok o) w new event sound state bytes refused kept =
     subst (λ (w : WorldState). IsSound w) (sym state) (sound-after w event bytes (not-refused (refusal_of w event) o refused) sound)
 sound_step (Err e) w new event sound state bytes refused kept = subst (λ (w : WorldState). IsSound w) (sym kept) sound
 
-pub damage_step : (r : Result Outcome StepError) (w new : WorldState) (event : EventContent) → IsSound w → OnOk r (new ≡ world_after w event) → IfOk r (λ o. o ≡ outcome_of w event) → OnOk r (HasBytes event)
+pub damage_step : (r : Result Outcome StepError) (w new : WorldState) (event : EventContent) → IsSound w → OnOk r (new ≡ world_with_effect w event) → IfOk r (λ o. o ≡ outcome_of w event) → OnOk r (HasBytes event)
     → IfSome (refusal_of w event) (λ e. r ≡ Err e) → IsDamage event → IfOk r (λ o. (o ≡ Arrived (Malformed BadChecksum)) × (new ≡ w))
 damage_step (Ok o) w new event sound state outcome bytes refused is =
-    let told = damage-told w event is bytes (not-refused (refusal_of w event) o refused) sound.ends in
+    let told = damage-refused w event is bytes (not-refused (refusal_of w event) o refused) sound.ends in
     (outcome ∙ told.0, state ∙ told.1)
 damage_step (Err e) w new event sound state outcome bytes refused is = tt

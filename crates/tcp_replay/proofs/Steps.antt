@@ -5,8 +5,8 @@ use Rattle.tcp_conn.specs.declared.config.Config.{Config}
 use Rattle.tcp_conn.specs.State.{State}
 use Rattle.tcp_replay.specs.World.{PartyState}
 use Rattle.tcp_replay.specs.Safe.{witness_of, gave_up}
-use Rattle.tcp_replay.specs.Sound.{Stays, Takes, IsSoundEnd, IsOwn, AreOwn, IsSoundPair}
-use Rattle.tcp_replay.proofs.Halves.{takes-more}
+use Rattle.tcp_replay.specs.Sound.{SpeaksTo, Takes, HandsOver, IsSoundEnd, IsOwn, AreOwn, IsSoundPair}
+use Rattle.tcp_replay.proofs.Halves.{takes-more, hands-more}
 use Rattle.tcp_replay.proofs.Truths.{Grows, grows-same, own-grows}
 
 -- Party p became p', while its peer q stayed.
@@ -53,19 +53,21 @@ grows-of_peer p p' q config = record {
 }
 
 there-from-move : (p p' q : PartyState) → Moved p p' q → Emitted p p' q → AreOwn p q → AreOwn p' q
-there-from-move p p' q h e told k bytes is =
+there-from-move p p' q h e own k bytes is =
     let addr : p'.endpoint.config.addr.0 ≡ p.endpoint.config.addr.0 = ap (λ (c : Config). c.addr.0) h.config in
     own-grows p q p' q bytes addr refl h.grows
-    (⊎_elim (λ (old : slice_get p.sent k ≡ Some bytes). told k bytes old) (λ (last : e.new ≡ Some bytes). e.own bytes last)
+    (⊎_elim (λ (old : slice_get p.sent k ≡ Some bytes). own k bytes old) (λ (last : e.new ≡ Some bytes). e.own bytes last)
     (slice_get-more p.sent e.new k bytes (subst (λ (sent : List (List ℕ)). slice_get sent k ≡ Some bytes) e.sent is)))
 
 back-from-move : (p p' q : PartyState) → Moved p p' q → IsSoundEnd q p → IsSoundEnd q p'
 back-from-move p p' q h back = record {
-  stays = subst (λ (c : Config). Stays q.endpoint q.closed c.addr.0) (sym h.config) back.stays;
-  sends = back.sends;
-  takes = subst (λ (c : Config). Takes q.endpoint.receiving c.isn.0 p'.accepted p'.closed q.delivered q.ended (gave_up q)) (sym h.config)
-      (subst (λ (accepted : List ℕ). Takes q.endpoint.receiving p.endpoint.config.isn.0 accepted p'.closed q.delivered q.ended (gave_up q)) (sym h.grows.accepted)
-      (takes-more q.endpoint.receiving p.endpoint.config.isn.0 p.accepted p.closed p'.closed q.delivered h.grows.more q.ended (gave_up q) h.grows.closed back.takes));
+  alone = back.alone;
+  speaks = subst (λ (c : Config). SpeaksTo q.endpoint c.addr.0) (sym h.config) back.speaks;
+  takes = subst (λ (c : Config). Takes q.endpoint.receiving c.isn.0 p'.accepted p'.closed) (sym h.config)
+      (subst (λ (accepted : List ℕ). Takes q.endpoint.receiving p.endpoint.config.isn.0 accepted p'.closed) (sym h.grows.accepted)
+      (takes-more q.endpoint.receiving p.endpoint.config.isn.0 p.accepted p.closed p'.closed h.grows.more h.grows.closed back.takes));
+  hands = subst (λ (accepted : List ℕ). HandsOver q.endpoint.receiving.inbox.unread q.endpoint.receiving.ordered accepted p'.closed q.delivered q.ended (gave_up q)) (sym h.grows.accepted)
+      (hands-more q.endpoint.receiving p.accepted p.closed p'.closed q.delivered h.grows.more q.ended (gave_up q) h.grows.closed back.takes.order back.hands);
   between = omega (arith, back.between, h.grows.next);
 }
 
@@ -74,9 +76,9 @@ pub pair-from-move : (p p' q : PartyState) → Moved p p' q → Emitted p p' q �
 pair-from-move p p' q h e pair = record {
   there = h.here;
   back = back-from-move p p' q h pair.back;
-  told = there-from-move p p' q h e pair.told;
-  answered = λ k bytes is. own-grows q p q p' bytes refl (ap (λ (c : Config). c.addr.0) h.config) (grows-of_peer p p' q h.config) (pair.answered k bytes is);
+  own_there = there-from-move p p' q h e pair.own_there;
+  own_back = λ k bytes is. own-grows q p q p' bytes refl (ap (λ (c : Config). c.addr.0) h.config) (grows-of_peer p p' q h.config) (pair.own_back k bytes is);
 }
 
 pub pair-swapped : (p q : PartyState) → IsSoundPair p q → IsSoundPair q p
-pair-swapped p q h = record { there = h.back; back = h.there; told = h.answered; answered = h.told }
+pair-swapped p q h = record { there = h.back; back = h.there; own_there = h.own_back; own_back = h.own_there }

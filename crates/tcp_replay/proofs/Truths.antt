@@ -16,7 +16,7 @@ pub record Grows (x x' : Witness) : Type 0 where
   pub irs : x'.irs ≡ x.irs
   pub more : List ℕ
   pub accepted : x'.accepted ≡ x.accepted ++ more
-  -- behind a close nothing more is accepted
+  -- after a close nothing more is accepted
   pub closed : x.closed ≡ true → (more ≡ []) × (x'.closed ≡ true)
   pub opened : x.opened ≡ true → x'.opened ≡ true
   pub next : x.next ≤ x'.next
@@ -41,7 +41,7 @@ pub positive : (n : ℕ) → (n ≡ 0 → ⊥) → 1 ≤ n
 positive zero h = absurd (h refl)
 positive (suc n) h = omega arith
 
--- a segment with text doesn't stand at the SYN's position
+-- a segment with text isn't at the SYN's position
 pub position-of_text : (x : Witness) (v : Content) → (h : IsTruthful x v) → 0 < length v.text → 1 ≤ h.position
 position-of_text x v h some = positive h.position (λ none. let empty : length v.text ≡ 0 = ap length (h.bare none).0 in omega (arith, some, empty))
 

@@ -6,135 +6,133 @@ use Rattle.tcp_wire.specs.declared.fault.DecodeError.TheVariants.{BadChecksum}
 use Rattle.tcp_reasm.proofs.Agreement.{empty_inbox-agrees}
 use Rattle.tcp_conn.specs.declared.config.Config.{Config}
 use Rattle.tcp_conn.specs.declared.outcome.Arrival.TheVariants.{Malformed}
-use Rattle.tcp_conn.specs.Configs.{IsConfig}
+use Rattle.tcp_conn.specs.Config.{IsConfig}
+use Rattle.tcp_replay.specs.declared.event.Side.{Side}
 use Rattle.tcp_replay.specs.declared.event.Side.TheVariants.{A, B}
 use Rattle.tcp_replay.specs.declared.outcome.Outcome.TheVariants as outcomes
 use Rattle.tcp_replay.specs.declared.outcome.StepError.{StepError}
-use Rattle.tcp_replay.specs.Events.{EventContent, HasBytes, IsDamage, Connect, Listen, Send, Receive, Close, Abort, Timer, Emit, Deliver, Damage}
-use Rattle.tcp_replay.specs.World.{WorldState, PartyState, new_party, new_world, effect_of, refusal_of, outcome_of, world_after, stay_or, world_behind, run_of, world_behind_all}
-use Rattle.tcp_replay.specs.Safe.{IsSafeWay, TellsTruth, IsSafe}
-use Rattle.tcp_replay.specs.Sound.{IsSoundEnd, AreOwn, AreSoundEnds}
+use Rattle.tcp_replay.specs.Events.{EventContent, side_of, HasBytes, IsDamage, Connect, Listen, Send, Receive, Close, Abort, Timer, Emit, Deliver, Damage}
+use Rattle.tcp_replay.specs.World.{WorldState, PartyState, both, new_party, new_world, party_of, other, world_from, Effect, effect_of, refusal_of, outcome_of, world_with_effect, stay_or, world_after, run_of, world_after_all}
+use Rattle.tcp_replay.specs.Safe.{IsSafeDirection, EmitsTruth, IsSafe}
+use Rattle.tcp_replay.specs.Sound.{IsSoundEnd, AreOwn, IsSoundPair, AreSoundEnds}
 use Rattle.tcp_replay.proofs.Lists.{one_if}
+use Rattle.tcp_replay.proofs.Alone.{alone-new}
 use Rattle.tcp_replay.proofs.Steps.{pair-swapped}
 use Rattle.tcp_replay.proofs.Users.{pair-connected, pair-listening, pair-sent, pair-received, pair-close, pair-aborted, pair-timer}
 use Rattle.tcp_replay.proofs.Deliveries.{own-decodes, pair-emitted, pair-delivered, pair-damaged, finds-damage}
 
--- ANY EVENT that isn't refused
-pub ends-after : (w : WorldState) (event : EventContent) → HasBytes event → refusal_of w event ≡ None → AreSoundEnds w → AreSoundEnds (world_after w event)
+-- ANY EVENT that isn't refused, at the party whose side it names
+ends-effect : (p q : PartyState) (event : EventContent) → HasBytes event → (effect_of p q event).refusal ≡ None → IsSoundPair p q → IsSoundPair (effect_of p q event).here (effect_of p q event).there
 unfolding effect_of
-ends-after w (Connect A) fits e h = pair-connected w.a w.b h
-ends-after w (Connect B) fits e h = pair-swapped _ _ (pair-connected w.b w.a (pair-swapped _ _ h))
-ends-after w (Listen A) fits e h = pair-listening w.a w.b h
-ends-after w (Listen B) fits e h = pair-swapped _ _ (pair-listening w.b w.a (pair-swapped _ _ h))
-ends-after w (Send A bytes) fits e h = pair-sent w.a w.b bytes fits h
-ends-after w (Send B bytes) fits e h = pair-swapped _ _ (pair-sent w.b w.a bytes fits (pair-swapped _ _ h))
-ends-after w (Receive A room) fits e h = pair-received w.a w.b room h
-ends-after w (Receive B room) fits e h = pair-swapped _ _ (pair-received w.b w.a room (pair-swapped _ _ h))
-ends-after w (Close A) fits e h = pair-close w.a w.b h
-ends-after w (Close B) fits e h = pair-swapped _ _ (pair-close w.b w.a (pair-swapped _ _ h))
-ends-after w (Abort A) fits e h = pair-aborted w.a w.b h
-ends-after w (Abort B) fits e h = pair-swapped _ _ (pair-aborted w.b w.a (pair-swapped _ _ h))
-ends-after w (Timer A which) fits e h = pair-timer w.a w.b which h
-ends-after w (Timer B which) fits e h = pair-swapped _ _ (pair-timer w.b w.a which (pair-swapped _ _ h))
-ends-after w (Emit A) fits e h = pair-emitted w.a w.b h
-ends-after w (Emit B) fits e h = pair-swapped _ _ (pair-emitted w.b w.a (pair-swapped _ _ h))
-ends-after w (Deliver A k) fits e h = pair-swapped _ _ (pair-delivered w.b w.a k e (pair-swapped _ _ h))
-ends-after w (Deliver B k) fits e h = pair-delivered w.a w.b k e h
-ends-after w (Damage A k place value) fits e h = pair-swapped _ _ (pair-damaged w.b w.a k place value fits e (pair-swapped _ _ h))
-ends-after w (Damage B k place value) fits e h = pair-damaged w.a w.b k place value fits e h
+ends-effect p q (Connect side) fits e h = pair-connected p q h
+ends-effect p q (Listen side) fits e h = pair-listening p q h
+ends-effect p q (Send side bytes) fits e h = pair-sent p q bytes fits h
+ends-effect p q (Receive side room) fits e h = pair-received p q room h
+ends-effect p q (Close side) fits e h = pair-close p q h
+ends-effect p q (Abort side) fits e h = pair-aborted p q h
+ends-effect p q (Timer side which) fits e h = pair-timer p q which h
+ends-effect p q (Emit side) fits e h = pair-emitted p q h
+ends-effect p q (Deliver from k) fits e h = pair-swapped _ _ (pair-delivered q p k e (pair-swapped _ _ h))
+ends-effect p q (Damage from k place value) fits e h = pair-swapped _ _ (pair-damaged q p k place value fits e (pair-swapped _ _ h))
+
+ends-from : (w : WorldState) (side : Side) (event : EventContent) → HasBytes event → (effect_of (party_of w side) (party_of w (other side)) event).refusal ≡ None → AreSoundEnds w
+    → AreSoundEnds (world_from side (effect_of (party_of w side) (party_of w (other side)) event).here (effect_of (party_of w side) (party_of w (other side)) event).there)
+ends-from w A event fits e h = ends-effect w.a w.b event fits e h
+ends-from w B event fits e h = pair-swapped _ _ (ends-effect w.b w.a event fits e (pair-swapped _ _ h))
+
+pub ends-after : (w : WorldState) (event : EventContent) → HasBytes event → refusal_of w event ≡ None → AreSoundEnds w → AreSoundEnds (world_with_effect w event)
+ends-after w event fits e h = ends-from w (side_of event) event fits e h
 
 -- DAMAGE that isn't refused is found, and changes nothing
-pub damage-told : (w : WorldState) (event : EventContent) → IsDamage event → HasBytes event → refusal_of w event ≡ None → AreSoundEnds w
-    → (outcome_of w event ≡ outcomes.Arrived (Malformed BadChecksum)) × (world_after w event ≡ w)
+record IsFound (p q : PartyState) (effect : Effect) : Type 0 where
+  outcome : effect.outcome ≡ outcomes.Arrived (Malformed BadChecksum)
+  here : effect.here ≡ p
+  there : effect.there ≡ q
+
+damage-found : (p q : PartyState) (event : EventContent) → IsDamage event → HasBytes event → (effect_of p q event).refusal ≡ None → IsSoundPair p q → IsFound p q (effect_of p q event)
 unfolding effect_of
-damage-told w (Damage A k place value) is fits e h =
-    let found = finds-damage w.b w.a k place value fits e (pair-swapped _ _ h) in
-    (found.told, ap (λ (p : PartyState). record w { b = p }) found.same)
-damage-told w (Damage B k place value) is fits e h =
-    let found = finds-damage w.a w.b k place value fits e h in
-    (found.told, ap (λ (p : PartyState). record w { a = p }) found.same)
-damage-told w other is fits e h = absurd is
+damage-found p q (Damage from k place value) is fits e h =
+    let found = finds-damage q p k place value fits e (pair-swapped _ _ h) in
+    record { outcome = found.answer; here = refl; there = found.same }
+damage-found p q other is fits e h = absurd is
+
+damage-from : (w : WorldState) (side : Side) (event : EventContent) → IsDamage event → HasBytes event → (effect_of (party_of w side) (party_of w (other side)) event).refusal ≡ None → AreSoundEnds w
+    → ((effect_of (party_of w side) (party_of w (other side)) event).outcome ≡ outcomes.Arrived (Malformed BadChecksum))
+    × (world_from side (effect_of (party_of w side) (party_of w (other side)) event).here (effect_of (party_of w side) (party_of w (other side)) event).there ≡ w)
+damage-from w A event is fits e h =
+    let found = damage-found w.a w.b event is fits e h in
+    (found.outcome, ap (λ (p : PartyState). both p (effect_of w.a w.b event).there) found.here ∙ ap (both w.a) found.there)
+damage-from w B event is fits e h =
+    let found = damage-found w.b w.a event is fits e (pair-swapped _ _ h) in
+    (found.outcome, ap (λ (p : PartyState). both (effect_of w.b w.a event).there p) found.here ∙ ap (λ (q : PartyState). both q w.b) found.there)
+
+pub damage-refused : (w : WorldState) (event : EventContent) → IsDamage event → HasBytes event → refusal_of w event ≡ None → AreSoundEnds w
+    → (outcome_of w event ≡ outcomes.Arrived (Malformed BadChecksum)) × (world_with_effect w event ≡ w)
+damage-refused w event is fits e h = damage-from w (side_of event) event is fits e h
 
 -- SOUND ENDS ARE SAFE
 released-ordered : (una released whole ordered : ℕ) (finished : Bool) → released ≡ min (una - 1) whole → una ≤ 1 + ordered + one_if finished → (finished ≡ true → ordered ≡ whole) → released ≤ ordered
 released-ordered una released whole ordered true is had fin = omega (arith, fin refl)
 released-ordered una released whole ordered false is had fin = omega arith
 
-safe-way : (x y : PartyState) → IsSoundEnd x y → IsSoundEnd y x → IsSafeWay x y
-safe-way x y h h' =
+safe-direction : (x y : PartyState) → IsSoundEnd x y → IsSoundEnd y x → IsSafeDirection x y
+safe-direction x y h h' =
     let takes = h'.takes in
-    let sends = h.sends in
+    let hands = h'.hands in
+    let sends = h.alone.sends in
     let r = y.endpoint.receiving in
-    let front : y.delivered ++ r.inbox.unread ≡ take takes.count x.accepted = takes.handed in
+    let front : y.delivered ++ r.inbox.unread ≡ take hands.count x.accepted = hands.handed in
     let fin : r.finished ≡ true → r.ordered ≡ length x.accepted = λ e. (takes.fin e).1 in
     record {
-      handed = (drop takes.count x.accepted, sym (take-append-drop takes.count x.accepted) ∙ ap (λ xs. xs ++ drop takes.count x.accepted) (sym front));
-      whole = λ goes. omega (arith, ap length front, length-take takes.count x.accepted, takes.whole goes, takes.order);
-      ended = takes.told;
+      handed = (drop hands.count x.accepted, sym (take-append-drop hands.count x.accepted) ∙ ap (λ xs. xs ++ drop hands.count x.accepted) (sym front));
+      whole = λ goes. omega (arith, ap length front, length-take hands.count x.accepted, hands.whole goes, takes.order);
+      ended = hands.all_handed;
       released = released-ordered x.endpoint.sending.una x.endpoint.sending.released (length x.accepted) r.ordered r.finished sends.released h.between fin;
       ordered = takes.order;
       queued = sends.queue;
     }
 
-tells-truth : (x y : PartyState) → AreOwn x y → TellsTruth x y
-tells-truth x y told k bytes e =
+emits-truth : (x y : PartyState) → AreOwn x y → EmitsTruth x y
+emits-truth x y told k bytes e =
     let own = told k bytes e in
     (own.content, own-decodes x y bytes own, own.truthful)
 
 pub safe-ends : (w : WorldState) → AreSoundEnds w → IsSafe w
 safe-ends w h = record {
-  there = safe-way w.a w.b h.there h.back;
-  back = safe-way w.b w.a h.back h.there;
-  told = tells-truth w.a w.b h.told;
-  answered = tells-truth w.b w.a h.answered;
+  there = safe-direction w.a w.b h.there h.back;
+  back = safe-direction w.b w.a h.back h.there;
+  emitted_there = emits-truth w.a w.b h.own_there;
+  emitted_back = emits-truth w.b w.a h.own_back;
 }
 
 -- TWO NEW ENDS are sound
-new-end : (a b : Config) → IsConfig a → IsConfig b → IsSoundEnd (new_party a) (new_party b)
-new-end a b one two = record {
-  stays = record {
-    config = one;
-    closing = refl;
-    stands = λ _. record { nxt_is = refl; not_opened = refl };
-    peer = λ never. absurd (cc);
-    syn = λ never. absurd (cc);
-    ack = λ never. absurd (cc);
-    reset = tt;
-  };
-  sends = record { order = omega arith; most = omega arith; limit = omega arith; bytes = λ i. omega arith; released = refl; queue = λ _. refl; flags = refl; range = tt };
-  takes = record {
-    next = λ never. absurd (cc);
-    unopened = λ _. (refl, refl, refl);
-    order = omega arith;
-    fin = λ never. absurd (cc);
-    count = 0;
-    handed = refl;
-    least = omega arith;
-    whole = λ _. refl;
-    held = empty_inbox-agrees a.recv_capacity [];
-    told = λ never. absurd (cc);
-  };
+new-end : (a b : Config) → IsConfig a → IsSoundEnd (new_party a) (new_party b)
+new-end a b one = record {
+  alone = alone-new a one;
+  speaks = record { peer = λ never. absurd (cc); reset = tt };
+  takes = record { next = λ never. absurd (cc); unopened = λ _. (refl, refl, refl); order = omega arith; fin = λ never. absurd (cc); held = empty_inbox-agrees a.recv_capacity [] };
+  hands = record { count = 0; handed = refl; least = omega arith; whole = λ _. refl; all_handed = λ never. absurd (cc) };
   between = omega arith;
 }
 
 pub ends-new : (a b : Config) → IsConfig a → IsConfig b → AreSoundEnds (new_world a b)
-ends-new a b one two = record { there = new-end a b one two; back = new-end b a two one; told = λ k bytes none. absurd (cc); answered = λ k bytes none. absurd (cc) }
+ends-new a b one two = record { there = new-end a b one; back = new-end b a two; own_there = λ k bytes none. absurd (cc); own_back = λ k bytes none. absurd (cc) }
 
 -- ANY RUN keeps what each event that isn't refused keeps
-module _ (P : WorldState → Type 0) (keeps : (w : WorldState) (event : EventContent) → HasBytes event → refusal_of w event ≡ None → P w → P (world_after w event)) where
+module _ (P : WorldState → Type 0) (keeps : (w : WorldState) (event : EventContent) → HasBytes event → refusal_of w event ≡ None → P w → P (world_with_effect w event)) where
   stays-or-goes : (refusal : Option StepError) (here there : WorldState) → P here → (refusal ≡ None → P there) → P (stay_or refusal here there)
   stays-or-goes None here there h next = next refl
   stays-or-goes (Some error) here there h next = h
 
-  pub kept-behind : (w : WorldState) (event : EventContent) → HasBytes event → P w → P (world_behind w event)
-  kept-behind w event fits h = stays-or-goes (refusal_of w event) w (world_after w event) h (λ e. keeps w event fits e h)
+  pub kept-after : (w : WorldState) (event : EventContent) → HasBytes event → P w → P (world_after w event)
+  kept-after w event fits h = stays-or-goes (refusal_of w event) w (world_with_effect w event) h (λ e. keeps w event fits e h)
 
   pub kept-run : (w : WorldState) (list : List EventContent) → AllByRecursion HasBytes list → P w → P (run_of w list)
   unfolding run_of
   kept-run w [] fits h = h
-  kept-run w (event ∷ list) fits h = stays-or-goes (refusal_of w event) w (run_of (world_after w event) list) h (λ e. kept-run (world_after w event) list fits.1 (keeps w event fits.0 e h))
+  kept-run w (event ∷ list) fits h = stays-or-goes (refusal_of w event) w (run_of (world_with_effect w event) list) h (λ e. kept-run (world_with_effect w event) list fits.1 (keeps w event fits.0 e h))
 
-  pub kept-behind_all : (w : WorldState) (list : List EventContent) → AllByRecursion HasBytes list → P w → P (world_behind_all w list)
-  unfolding world_behind_all
-  kept-behind_all w [] fits h = h
-  kept-behind_all w (event ∷ list) fits h = kept-behind_all (world_behind w event) list fits.1 (kept-behind w event fits.0 h)
+  pub kept-after_all : (w : WorldState) (list : List EventContent) → AllByRecursion HasBytes list → P w → P (world_after_all w list)
+  unfolding world_after_all
+  kept-after_all w [] fits h = h
+  kept-after_all w (event ∷ list) fits h = kept-after_all (world_after w event) list fits.1 (kept-after w event fits.0 h)

@@ -31,6 +31,19 @@ event_content (code.Emit side) = Emit side
 event_content (code.Deliver from k) = Deliver from k
 event_content (code.Damage from k place value) = Damage from k place value
 
+-- the side that an event names
+abbrev pub side_of : EventContent → Side
+side_of (Connect side) = side
+side_of (Listen side) = side
+side_of (Send side bytes) = side
+side_of (Receive side room) = side
+side_of (Close side) = side
+side_of (Abort side) = side
+side_of (Timer side which) = side
+side_of (Emit side) = side
+side_of (Deliver from k) = from
+side_of (Damage from k place value) = from
+
 -- what an event brings along are bytes
 abbrev pub HasBytes : EventContent → Type 0
 HasBytes (Send side bytes) = AreBytes bytes

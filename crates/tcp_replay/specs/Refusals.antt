@@ -1,6 +1,6 @@
 -- The numbers under which refusals are reported, and their texts.
 use Rattle.std.specs.Prelude.{ℕ, List, ◌++◌, codes}
-use Rattle.tcp_conn.specs.Refusals.{config_error_text}
+use Rattle.tcp_conn.specs.Config.{config_error_text}
 use Rattle.tcp_replay.specs.declared.event.Side.TheVariants.{A, B}
 use Rattle.tcp_replay.specs.declared.outcome.WorldError.{WorldError}
 use Rattle.tcp_replay.specs.declared.outcome.WorldError.TheVariants.{Config}
@@ -16,7 +16,7 @@ step_error_number NoMemory = 34
 abbrev pub step_error_text : StepError → List ℕ
 step_error_text NoSuchSegment = codes "no segment of this number was emitted"
 step_error_text NoChange = codes "the damage changes nothing"
-step_error_text PlaceOutside = codes "the place lies behind the segment's end"
+step_error_text PlaceOutside = codes "the place lies past the segment's end"
 step_error_text NoMemory = codes "no memory for the event"
 
 abbrev pub world_error_text : WorldError → List ℕ

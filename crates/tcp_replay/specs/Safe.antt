@@ -1,16 +1,19 @@
 -- THE HEADLINE: what holds of two ends after every list of events (RFC 9293, 3.3.1 and 3.4).
-use Rattle.std.specs.Prelude.{◌≡◌, ℕ, ◌+◌, ◌≤◌, Bool, true, false, if◌then◌else◌, List, ◌++◌, length, drop, Some, slice_get, Ok}
+use Rattle.std.specs.Prelude.{◌≡◌, ℕ, ◌+◌, ◌≤◌, Bool, true, false, if◌then◌else◌, List, ◌++◌, length, drop, Some, None, slice_get, Ok}
 use Rattle.tcp_wire.specs.Flags.{rst, has}
 use Rattle.tcp_wire.specs.Wire.{Content}
 use Rattle.tcp_wire.specs.Decoded.{decode_answer}
 use Rattle.tcp_sendq.specs.SendQueue.{IsMarked}
 use Rattle.std.specs.List.{AllByRecursion}
+use Rattle.tcp_wire.specs.declared.fault.DecodeError.TheVariants.{BadChecksum}
 use Rattle.tcp_conn.specs.declared.config.Config.{Config}
-use Rattle.tcp_conn.specs.Configs.{IsConfig}
-use Rattle.tcp_conn.specs.Phases.{gives_up}
+use Rattle.tcp_conn.specs.declared.outcome.Arrival.TheVariants.{Malformed}
+use Rattle.tcp_conn.specs.Config.{IsConfig}
+use Rattle.tcp_conn.specs.Phase.{gives_up}
 use Rattle.tcp_conn.specs.State.{position_at}
-use Rattle.tcp_replay.specs.Events.{EventContent, HasBytes}
-use Rattle.tcp_replay.specs.World.{WorldState, PartyState, new_world, run_of, world_behind_all}
+use Rattle.tcp_replay.specs.declared.outcome.Outcome.TheVariants as outcomes
+use Rattle.tcp_replay.specs.Events.{EventContent, HasBytes, IsDamage}
+use Rattle.tcp_replay.specs.World.{WorldState, PartyState, new_world, refusal_of, outcome_of, world_with_effect, run_of, world_after_all}
 use Rattle.tcp_replay.specs.Truthful.{Witness, HasPosition, IsTruthful, HasTrueBlocks}
 
 abbrev pub unread_of : PartyState → List ℕ
@@ -28,19 +31,19 @@ queue_of p = p.endpoint.sending.queue.bytes
 abbrev pub gave_up : PartyState → Bool
 gave_up p = gives_up p.endpoint.ending
 
--- the next position that it wants: behind what came in order, and behind the peer's FIN once it was taken
+-- the next position that it wants: after what came in order, and after the peer's FIN once it was taken
 abbrev pub next_position : PartyState → ℕ
 next_position p = 1 + p.endpoint.receiving.ordered + (if p.endpoint.receiving.finished then 1 else 0)
 
--- the first list is how the second begins
-abbrev pub IsBeginning : List ℕ → List ℕ → Type 0
-IsBeginning front whole = (rest : List ℕ) × (whole ≡ front ++ rest)
+-- the first list is a prefix of the second
+abbrev pub IsPrefix : List ℕ → List ℕ → Type 0
+IsPrefix front whole = (rest : List ℕ) × (whole ≡ front ++ rest)
 
 -- the direction from x to y
-pub record IsSafeWay (x y : PartyState) : Type 0 where
-  -- what y was handed, and what it has unread behind that, is a beginning of what x accepted, as long as
-  -- what came in order
-  pub handed : IsBeginning (y.delivered ++ unread_of y) x.accepted
+pub record IsSafeDirection (x y : PartyState) : Type 0 where
+  -- what y was handed, and what it has unread after that, is a prefix of what x accepted, as long as what came
+  -- in order
+  pub handed : IsPrefix (y.delivered ++ unread_of y) x.accepted
   pub whole : gave_up y ≡ false → length (y.delivered ++ unread_of y) ≡ count_ordered y
   -- end of stream comes only after a close, and after all
   pub ended : y.ended ≡ true → (x.closed ≡ true) × (y.delivered ≡ x.accepted)
@@ -69,18 +72,18 @@ IsSent x y v =
     (k : ℕ) × (bytes : List ℕ) × (slice_get x.sent k ≡ Some bytes) × (decode_answer x.endpoint.config.addr.0 y.endpoint.config.addr.0 bytes ≡ Ok v)
 
 -- every segment that x emitted can be read, and what it says is true, unless it is a reset
-abbrev pub TellsTruth : PartyState → PartyState → Type 0
-TellsTruth x y =
+abbrev pub EmitsTruth : PartyState → PartyState → Type 0
+EmitsTruth x y =
     (k : ℕ) (bytes : List ℕ) → slice_get x.sent k ≡ Some bytes
     → (v : Content) × (decode_answer x.endpoint.config.addr.0 y.endpoint.config.addr.0 bytes ≡ Ok v) × (has rst v.flags ≡ false → IsTruthful (witness_of x y) v)
 
 pub record IsSafe (w : WorldState) : Type 0 where
-  pub there : IsSafeWay w.a w.b
-  pub back : IsSafeWay w.b w.a
-  pub told : TellsTruth w.a w.b
-  pub answered : TellsTruth w.b w.a
+  pub there : IsSafeDirection w.a w.b
+  pub back : IsSafeDirection w.b w.a
+  pub emitted_there : EmitsTruth w.a w.b
+  pub emitted_back : EmitsTruth w.b w.a
 
--- SELECTIVE ACKNOWLEDGEMENT (RFC 2018, 3 to 5) tells nothing but the truth, though nothing rests on it: each block that
+-- SELECTIVE ACKNOWLEDGEMENT (RFC 2018, 3 to 5) reports nothing but the truth, though nothing rests on it: each block that
 -- x emitted is of positions that x has, and each byte that y's blocks marked at x is one that y has, unless it gave up.
 pub record HasTrueHints (x y : PartyState) : Type 0 where
   pub blocks : (v : Content) → IsSent x y v → HasTrueBlocks (witness_of x y) v
@@ -90,10 +93,17 @@ pub record HintsAreTrue (w : WorldState) : Type 0 where
   pub there : HasTrueHints w.a w.b
   pub back : HasTrueHints w.b w.a
 
+-- DAMAGE that isn't refused is found at the checksum, and changes neither end (RFC 9293, 3.1)
+abbrev pub FindsDamage : WorldState → Type 0
+FindsDamage w =
+    (event : EventContent) → IsDamage event → HasBytes event → refusal_of w event ≡ None
+    → (outcome_of w event ≡ outcomes.Arrived (Malformed BadChecksum)) × (world_with_effect w event ≡ w)
+
 -- THE HEADLINE, over every list of events: whatever two Configs the ends were made from, however a run ended, and
 -- whether it stops at a refusal or goes on
 abbrev pub EveryRunIsSafe : Type 0
 EveryRunIsSafe =
     (a b : Config) (list : List EventContent) → IsConfig a → IsConfig b → AllByRecursion HasBytes list
-    → IsSafe (run_of (new_world a b) list) × IsSafe (world_behind_all (new_world a b) list)
-    × HintsAreTrue (run_of (new_world a b) list) × HintsAreTrue (world_behind_all (new_world a b) list)
+    → IsSafe (run_of (new_world a b) list) × IsSafe (world_after_all (new_world a b) list)
+    × HintsAreTrue (run_of (new_world a b) list) × HintsAreTrue (world_after_all (new_world a b) list)
+    × FindsDamage (run_of (new_world a b) list) × FindsDamage (world_after_all (new_world a b) list)

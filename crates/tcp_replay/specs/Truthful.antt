@@ -5,7 +5,7 @@ use Rattle.tcp_wire.specs.Position.{number}
 use Rattle.tcp_wire.specs.Flags.{fin, syn, ack, has}
 use Rattle.tcp_wire.specs.Wire.{Content}
 use Rattle.tcp_reasm.specs.Reassembly.{Cell}
-use Rattle.tcp_conn.specs.Link.{blocks_told}
+use Rattle.tcp_conn.specs.Blocks.{reported_blocks}
 
 -- what one end can show when it speaks
 pub record Witness : Type 0 where
@@ -26,7 +26,7 @@ pub record Witness : Type 0 where
 abbrev pub HasPosition : Witness → ℕ → Type 0
 HasPosition x p = (p < x.next) ⊎ ((cell : Cell) × (x.next ≤ p) × (slice_get x.held (p - x.next) ≡ Some (Some cell)))
 
--- a block tells of positions that the end has: from one up to another, whose numbers are its edges
+-- a block is of positions that the end has: from one up to another, whose numbers are its edges
 abbrev pub IsTrueBlock : Witness → ℕ × ℕ → Type 0
 IsTrueBlock x block =
     (from : ℕ) × (to : ℕ) × (from < to) × (block.0 ≡ number x.irs from) × (block.1 ≡ number x.irs to) × ((p : ℕ) → from ≤ p → p < to → HasPosition x p)
@@ -36,7 +36,7 @@ AreTrueBlocks x blocks = (k : ℕ) (block : ℕ × ℕ) → slice_get blocks k �
 
 -- the blocks of a segment, unless the end gave up what it held
 abbrev pub HasTrueBlocks : Witness → Content → Type 0
-HasTrueBlocks x v = x.gave_up ≡ false → AreTrueBlocks x (blocks_told v.options)
+HasTrueBlocks x v = x.gave_up ≡ false → AreTrueBlocks x (reported_blocks v.options)
 
 -- an acknowledgement is the number of a position up to the next one that the end wants
 pub record IsTrueAck (x : Witness) (ack : ℕ) : Type 0 where
@@ -52,12 +52,12 @@ pub record IsTruthful (x : Witness) (v : Content) : Type 0 where
   pub seq : v.seq ≡ number x.iss position
   -- it lies within what was accepted, the FIN's position included
   pub within : position ≤ 1 + length x.accepted + (if x.closed then 1 else 0)
-  -- SYN stands at position 0 alone, and stands there alone
+  -- SYN is at position 0 alone, and is there alone
   pub has_syn : has syn v.flags ≡ (position == 0)
   pub bare : position ≡ 0 → (v.text ≡ []) × (has fin v.flags ≡ false)
   -- its text is what was accepted, from its position on
   pub fits : 0 < length v.text → position + length v.text ≤ 1 + length x.accepted
   pub text : 0 < length v.text → v.text ≡ take (length v.text) (drop (position - 1) x.accepted)
-  -- FIN stands right behind all that was accepted, and only after a close
+  -- FIN comes right after all that was accepted, and only after a close
   pub has_fin : has fin v.flags ≡ true → (x.closed ≡ true) × (position + length v.text ≡ 1 + length x.accepted)
   pub has_ack : has ack v.flags ≡ true → IsTrueAck x v.ack

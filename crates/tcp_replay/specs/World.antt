@@ -1,5 +1,5 @@
 -- Two ends and all that they emitted, what happens to them at an event (RFC 9293, 3.10), and runs of events.
-use Rattle.std.specs.Prelude.{◌≡◌, ℕ, suc, Bool, true, false, ◌||◌, ◌==◌, nat_le, bit_xor, if◌then◌else◌, is_ok, List, [], ◌∷◌, ◌++◌, length, take, Option, Some, None, unwrap_or, option_to_list, option_map, slice_get, slice_set, slice_index, Result, Ok, Err}
+use Rattle.std.specs.Prelude.{◌≡◌, ℕ, suc, Bool, true, false, ◌||◌, ◌==◌, nat_le, bit_xor, if◌then◌else◌, is_ok, List, [], ◌∷◌, ◌++◌, length, take, Option, Some, None, unwrap_or, option_to_list, option_map, slice_get, slice_set, slice_index, Result, Ok, Err, IfErr, ◌↔◌}
 use Rattle.tcp_conn.specs.declared.config.Config.{Config}
 use Rattle.tcp_conn.specs.declared.config.ConfigError.{ConfigError}
 use Rattle.tcp_conn.specs.declared.config.ConfigError.TheVariants as faults
@@ -9,8 +9,10 @@ use Rattle.tcp_conn.specs.declared.outcome.Received.{Received}
 use Rattle.tcp_conn.specs.declared.outcome.Received.TheVariants.{Bytes, EndOfStream}
 use Rattle.tcp_conn.specs.declared.phase.Timer.{Timer as Which}
 use Rattle.tcp_conn.specs.State.{State}
-use Rattle.tcp_conn.specs.Configs.{HasBadCapacity, HasBadMss, HasBadShift, IsGoodConfig}
-use Rattle.tcp_conn.specs.Calls.{new_end, opening_answer, after_connect, after_listen, send_answer, after_send, receive_answer, after_receive, received_bytes, close_answer, after_close, abort_answer, after_abort, timer_answer, after_timer}
+use Rattle.tcp_conn.specs.Config.{HasBadCapacity, HasBadMss, HasBadShift, IsGoodConfig}
+use Rattle.tcp_conn.specs.NewEnd.{new_end}
+use Rattle.tcp_conn.specs.Calls.{opening_answer, after_connect, after_listen, send_answer, after_send, receive_answer, after_receive, received_bytes, close_answer, after_close, abort_answer, after_abort}
+use Rattle.tcp_conn.specs.Timers.{timer_answer, after_timer}
 use Rattle.tcp_conn.specs.Emission.{emitted_bytes, after_emission}
 use Rattle.tcp_conn.specs.Arrival.{arrival_answer, after_arrival}
 use Rattle.tcp_replay.specs.declared.event.Side.{Side}
@@ -21,7 +23,7 @@ use Rattle.tcp_replay.specs.declared.outcome.WorldError.{WorldError}
 use Rattle.tcp_replay.specs.declared.outcome.WorldError.TheVariants as worlds
 use Rattle.tcp_replay.specs.declared.outcome.StepError.{StepError}
 use Rattle.tcp_replay.specs.declared.outcome.StepError.TheVariants.{NoSuchSegment, NoChange, PlaceOutside}
-use Rattle.tcp_replay.specs.Events.{EventContent, Connect, Listen, Send, Receive, Close, Abort, Timer, Emit, Deliver, Damage}
+use Rattle.tcp_replay.specs.Events.{EventContent, side_of, Connect, Listen, Send, Receive, Close, Abort, Timer, Emit, Deliver, Damage}
 
 -- one end, with what its user did and had, and every segment that it emitted
 pub record PartyState : Type 0 where
@@ -142,63 +144,68 @@ abbrev pub party_of : WorldState → Side → PartyState
 party_of w A = w.a
 party_of w B = w.b
 
-abbrev pub with_party : WorldState → Side → PartyState → WorldState
-with_party w A p = record w { a = p }
-with_party w B p = record w { b = p }
+-- the world in which one side's party is the first of two
+abbrev pub world_from : Side → PartyState → PartyState → WorldState
+world_from A p q = both p q
+world_from B p q = both q p
 
--- What comes of an event: why it is refused, want of memory aside; where it isn't, the side at which it happens, the
--- party there after it, and what is answered; and whether the world has to grow for it.
+-- What comes of an event at the party whose side it names, here, and at the other one, there: why it is refused, want
+-- of memory aside; where it isn't, both parties after it, and what is answered; and whether the world has to grow for it.
 pub record Effect : Type 0 where
   pub refusal : Option StepError
-  pub side : Side
-  pub party : PartyState
+  pub here : PartyState
+  pub there : PartyState
   pub outcome : Outcome
   pub grows : Bool
 
-abbrev pub effect_at : Side → PartyState → Outcome → Bool → Effect
-effect_at side party outcome grows = record { refusal = None; side = side; party = party; outcome = outcome; grows = grows }
+abbrev pub effect_here : PartyState → PartyState → Outcome → Bool → Effect
+effect_here here there outcome grows = record { refusal = None; here = here; there = there; outcome = outcome; grows = grows }
 
--- bytes come to the side that isn't this one
-abbrev pub effect_of_arrival : WorldState → Side → List ℕ → Option StepError → Bool → Effect
-effect_of_arrival w from bytes refusal grows = record {
+-- bytes come from here to the other side
+abbrev pub effect_there : PartyState → PartyState → List ℕ → Option StepError → Bool → Effect
+effect_there here there bytes refusal grows = record {
   refusal = refusal;
-  side = other from;
-  party = party_after_arrival (party_of w (other from)) (party_of w from) bytes;
-  outcome = arrival_outcome (party_of w (other from)) (party_of w from) bytes;
+  here = here;
+  there = party_after_arrival there here bytes;
+  outcome = arrival_outcome there here bytes;
   grows = grows;
 }
 
 -- THE TABLE OF EVENTS
-unfoldable pub effect_of : WorldState → EventContent → Effect
-effect_of w (Connect side) = effect_at side (party_after_connect (party_of w side) (address_of (party_of w (other side)))) (outcomes.Call (opening_answer (party_of w side).endpoint)) false
-effect_of w (Listen side) = effect_at side (party_after_listen (party_of w side)) (outcomes.Call (opening_answer (party_of w side).endpoint)) false
-effect_of w (Send side bytes) = effect_at side (party_after_send (party_of w side) bytes) (outcomes.Sent (send_answer (party_of w side).endpoint bytes)) true
-effect_of w (Receive side room) = effect_at side (party_after_receive (party_of w side) room) (outcomes.Got (receive_answer (party_of w side).endpoint room)) true
-effect_of w (Close side) = effect_at side (party_after_close (party_of w side)) (outcomes.Call (close_answer (party_of w side).endpoint)) false
-effect_of w (Abort side) = effect_at side (party_after_abort (party_of w side)) (outcomes.Call (abort_answer (party_of w side).endpoint)) false
-effect_of w (Timer side which) = effect_at side (party_after_timer (party_of w side) which) (outcomes.Timer (timer_answer (party_of w side).endpoint which)) false
-effect_of w (Emit side) = effect_at side (party_after_emission (party_of w side)) (emission_outcome (party_of w side)) true
-effect_of w (Deliver from k) = effect_of_arrival w from (segment_at (party_of w from) k) (delivery_refusal (party_of w from) k) false
-effect_of w (Damage from k place value) = effect_of_arrival w from (bytes_with_damage (segment_at (party_of w from) k) place value) (damage_refusal (party_of w from) k place value) true
+unfoldable pub effect_of : PartyState → PartyState → EventContent → Effect
+effect_of p q (Connect side) = effect_here (party_after_connect p (address_of q)) q (outcomes.Call (opening_answer p.endpoint)) false
+effect_of p q (Listen side) = effect_here (party_after_listen p) q (outcomes.Call (opening_answer p.endpoint)) false
+effect_of p q (Send side bytes) = effect_here (party_after_send p bytes) q (outcomes.Sent (send_answer p.endpoint bytes)) true
+effect_of p q (Receive side room) = effect_here (party_after_receive p room) q (outcomes.Got (receive_answer p.endpoint room)) true
+effect_of p q (Close side) = effect_here (party_after_close p) q (outcomes.Call (close_answer p.endpoint)) false
+effect_of p q (Abort side) = effect_here (party_after_abort p) q (outcomes.Call (abort_answer p.endpoint)) false
+effect_of p q (Timer side which) = effect_here (party_after_timer p which) q (outcomes.Timer (timer_answer p.endpoint which)) false
+effect_of p q (Emit side) = effect_here (party_after_emission p) q (emission_outcome p) true
+effect_of p q (Deliver from k) = effect_there p q (segment_at p k) (delivery_refusal p k) false
+effect_of p q (Damage from k place value) = effect_there p q (bytes_with_damage (segment_at p k) place value) (damage_refusal p k place value) true
+
+-- in a world, for the side that the event names
+abbrev pub effect_in : WorldState → EventContent → Effect
+effect_in w e = effect_of (party_of w (side_of e)) (party_of w (other (side_of e))) e
 
 -- why an event is refused, want of memory aside
 abbrev pub refusal_of : WorldState → EventContent → Option StepError
-refusal_of w e = (effect_of w e).refusal
+refusal_of w e = (effect_in w e).refusal
 
 -- the world after one that isn't, and what is answered
-abbrev pub world_after : WorldState → EventContent → WorldState
-world_after w e = with_party w (effect_of w e).side (effect_of w e).party
+abbrev pub world_with_effect : WorldState → EventContent → WorldState
+world_with_effect w e = world_from (side_of e) (effect_in w e).here (effect_in w e).there
 
 abbrev pub outcome_of : WorldState → EventContent → Outcome
-outcome_of w e = (effect_of w e).outcome
+outcome_of w e = (effect_in w e).outcome
 
 -- whether the world has to grow for it
 abbrev pub grows_for : WorldState → EventContent → Bool
-grows_for w e = (effect_of w e).grows
+grows_for w e = (effect_in w e).grows
 
 -- ---- runs
 
--- ONE EVENT, refused or not: what is answered, and the world behind it
+-- ONE EVENT, refused or not: what is answered, and the world after it
 abbrev pub answer_or : Option StepError → Outcome → Result Outcome StepError
 answer_or None outcome = Ok outcome
 answer_or (Some error) outcome = Err error
@@ -210,13 +217,13 @@ abbrev pub stay_or : Option StepError → WorldState → WorldState → WorldSta
 stay_or (Some error) here there = here
 stay_or None here there = there
 
-abbrev pub world_behind : WorldState → EventContent → WorldState
-world_behind w e = stay_or (refusal_of w e) w (world_after w e)
+abbrev pub world_after : WorldState → EventContent → WorldState
+world_after w e = stay_or (refusal_of w e) w (world_with_effect w e)
 
--- A RUN THAT GOES ON takes all its events in turn, refused ones too: the world behind all of them
-unfoldable pub world_behind_all : WorldState → List EventContent → WorldState
-world_behind_all w [] = w
-world_behind_all w (event ∷ events) = world_behind_all (world_behind w event) events
+-- A RUN THAT GOES ON takes all its events in turn, refused ones too: the world after all of them
+unfoldable pub world_after_all : WorldState → List EventContent → WorldState
+world_after_all w [] = w
+world_after_all w (event ∷ events) = world_after_all (world_after w event) events
 
 -- A RUN THAT STOPS at the first event that is refused: whether one is, its index and why
 abbrev pub later : Option (ℕ × StepError) → Option (ℕ × StepError)
@@ -229,12 +236,12 @@ stop_or None rest = later rest
 
 unfoldable pub stop_of : WorldState → List EventContent → Option (ℕ × StepError)
 stop_of w [] = None
-stop_of w (event ∷ events) = stop_or (refusal_of w event) (stop_of (world_after w event) events)
+stop_of w (event ∷ events) = stop_or (refusal_of w event) (stop_of (world_with_effect w event) events)
 
 -- the world in which it ends
 unfoldable pub run_of : WorldState → List EventContent → WorldState
 run_of w [] = w
-run_of w (event ∷ events) = stay_or (refusal_of w event) w (run_of (world_after w event) events)
+run_of w (event ∷ events) = stay_or (refusal_of w event) w (run_of (world_with_effect w event) events)
 
 -- Want of memory stops a run before an event for which the world has to grow: none before it is refused, nor it
 -- itself, and all before it stay done.
@@ -259,3 +266,10 @@ HasFault c faults.NoMemory = IsGoodConfig c
 abbrev pub HasNamedFault : Config → Config → WorldError → Type 0
 HasNamedFault a b (worlds.Config A fault) = HasFault a fault
 HasNamedFault a b (worlds.Config B fault) = IsGoodConfig a × HasFault b fault
+
+-- WHICH FAULT is answered: one that is there, and each of the first Config's as what it is
+pub record NamesFault (a b : Config) (result : Result WorldState WorldError) : Type 0 where
+  pub named : IfErr result (HasNamedFault a b)
+  pub bad_capacity_of_a : (result ≡ Err (worlds.Config A faults.BadCapacity)) ↔ HasBadCapacity a
+  pub bad_mss_of_a : (result ≡ Err (worlds.Config A faults.BadMss)) ↔ HasBadMss a
+  pub bad_shift_of_a : (result ≡ Err (worlds.Config A faults.BadShift)) ↔ HasBadShift a

@@ -1,3 +1,6 @@
+ghost use Rattle.std.specs.Prelude.{◌≡◌};
+ghost use Rattle.tcp_replay.specs.Events.{event_content, side_of};
+
 use tcp_conn::Timer;
 
 /// One of the two ends.
@@ -31,4 +34,24 @@ pub enum Event {
     /// It arrives with the byte at a place combined with a value by exclusive or: side, number, place and
     /// value.
     Damage(Side, usize, usize, u8),
+}
+
+impl Event {
+    /// The side whose user, timer or segment it names.
+    pub(crate) fn side(&self) -> Side
+        ensures { result ≡ side_of (event_content self.now) }
+    {
+        match self {
+            Event::Connect(side)
+            | Event::Listen(side)
+            | Event::Send(side, _)
+            | Event::Receive(side, _)
+            | Event::Close(side)
+            | Event::Abort(side)
+            | Event::Timer(side, _)
+            | Event::Emit(side)
+            | Event::Deliver(side, _)
+            | Event::Damage(side, _, _, _) => *side,
+        }
+    }
 }

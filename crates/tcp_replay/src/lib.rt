@@ -1,5 +1,5 @@
 //! Two ends of one TCP connection and every segment that either emitted, as one value: events go in, and
-//! after every list of them each user has been handed a beginning of what the other one sent.
+//! after every list of them each user has been handed a prefix of what the other one sent.
 #![tactic(auto)]
 
 mod event;

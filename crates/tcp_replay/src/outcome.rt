@@ -32,7 +32,7 @@ pub enum StepError {
     NoSuchSegment,
     /// The value of a damage is 0.
     NoChange,
-    /// The place of a damage lies behind the segment's end.
+    /// The place of a damage lies past the segment's end.
     PlaceOutside,
     /// A growth of the world found no memory.
     NoMemory,
@@ -59,7 +59,7 @@ impl fmt::Display for StepError {
         f.write_str(match self {
             StepError::NoSuchSegment => "no segment of this number was emitted",
             StepError::NoChange => "the damage changes nothing",
-            StepError::PlaceOutside => "the place lies behind the segment's end",
+            StepError::PlaceOutside => "the place lies past the segment's end",
             StepError::NoMemory => "no memory for the event",
         })
     }

@@ -1,12 +1,13 @@
-ghost use Rattle.std.specs.Prelude.{◌≡◌, ◌↔◌, ◌||◌, length, OnOk, OnErr, IfOk, IfErr, IfSome, IfNone, IsOk};
+ghost use Rattle.std.specs.Prelude.{◌≡◌, ◌<◌, ◌↔◌, ◌||◌, length, OnOk, OnErr, IfOk, IfErr, IfSome, IfNone, IsOk};
 ghost use Rattle.tcp_wire.specs.Checksum.{AreBytes};
-ghost use Rattle.tcp_conn.specs.Configs.{HasBadCapacity, HasBadMss, HasBadShift, IsGoodConfig, IsConfig};
-ghost use Rattle.tcp_conn.specs.Calls.{opening_answer, send_answer, receive_answer, close_answer, abort_answer, timer_answer};
+ghost use Rattle.tcp_conn.specs.Config.{HasBadCapacity, HasBadMss, HasBadShift, IsGoodConfig, IsConfig};
+ghost use Rattle.tcp_conn.specs.Calls.{opening_answer, send_answer, receive_answer, close_answer, abort_answer};
+ghost use Rattle.tcp_conn.specs.Timers.{timer_answer};
 ghost use Rattle.tcp_conn.specs.Arrival.{arrival_answer};
 ghost use Rattle.tcp_replay.specs.World.{PartyState, new_party, address_of, party_after_connect, party_after_listen, party_after_send, count_handed, is_end_of_stream, party_after_receive, party_after_close, party_after_abort, party_after_timer, party_after_emission, emission_outcome, party_after_arrival, arrival_outcome, segment_at, bytes_with_damage, delivery_refusal, damage_refusal};
 
 use crate::outcome::{Outcome, StepError};
-use std::alloc::{Allocator, Global};
+use std::alloc::{AllocError, Allocator, Global};
 use std::marker::Model;
 use tcp_conn::{Arrival, CallError, Config, ConfigError, EMIT_ROOM, Endpoint, Received, Timer};
 
@@ -108,8 +109,8 @@ impl<A: Allocator + Copy> Party<A> {
         ensures memory { IfErr result (λ e. e ≡ StepError.NoMemory) }
     {
         let count = room.min(self.endpoint.unread());
-        let mut out = vec![in alloc; 0u8; count]?;
         self.delivered.reserve(count)?;
+        let mut out = vec![in alloc; 0u8; count]?;
         let answer = self.endpoint.receive(&mut out);
         let _ = self
             .delivered
@@ -168,6 +169,14 @@ impl<A: Allocator + Copy> Party<A> {
         Ok(Outcome::Emitted(Some(number)))
     }
 
+    /// Segment `k` of those that it emitted.
+    fn segment(&self, k: usize) -> &[u8]
+        requires { k < length self.now.sent }
+        ensures { result.now ≡ segment_at self.now k }
+    {
+        self.sent[k].as_slice()
+    }
+
     /// Bytes arrive from another party, with the true addresses.
     #[tactic(auto, unfolding(crate::specs::World::party_after_arrival))]
     fn take_in(&mut self, from: &Party<A>, bytes: &[u8]) -> Arrival
@@ -205,7 +214,22 @@ pub(crate) fn deliver<A: Allocator + Copy>(
     if k >= from.sent.len() {
         return Err(StepError::NoSuchSegment);
     }
-    Ok(Outcome::Arrived(to.take_in(from, &from.sent[k])))
+    Ok(Outcome::Arrived(to.take_in(from, from.segment(k))))
+}
+
+/// A copy of these bytes with the one at a place combined with a value by exclusive or.
+fn damaged<A: Allocator>(
+    alloc: A,
+    bytes: &[u8],
+    place: usize,
+    value: u8,
+) -> Result<Vec<u8, A>, AllocError>
+    requires { place < length bytes.now }
+    ensures { IfOk result (λ copy. copy.items ≡ bytes_with_damage bytes.now place value) }
+{
+    let mut copy = Vec::from_slice(alloc, bytes)?;
+    copy[place] ^= value;
+    Ok(copy)
 }
 
 /// Segment `k` of `from` arrives at `to` with the byte at a place combined with a value by exclusive or.
@@ -230,11 +254,10 @@ pub(crate) fn damage<A: Allocator + Copy>(
     if value == 0 {
         return Err(StepError::NoChange);
     }
-    let segment = from.sent[k].as_slice();
+    let segment = from.segment(k);
     if place >= segment.len() {
         return Err(StepError::PlaceOutside);
     }
-    let mut bytes = Vec::from_slice(alloc, segment)?;
-    bytes[place] ^= value;
+    let bytes = damaged(alloc, segment, place, value)?;
     Ok(Outcome::Arrived(to.take_in(from, &bytes)))
 }

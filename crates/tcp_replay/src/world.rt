@@ -1,7 +1,7 @@
 ghost use Rattle.std.specs.Prelude.{◌≡◌, ◌≢◌, ◌↔◌, true, length, None, Some, OnOk, OnErr, IfOk, IfErr, IfSome, IfNone, map, option_map, slice_get};
-ghost use Rattle.tcp_conn.specs.Configs.{HasBadCapacity, HasBadMss, HasBadShift, IsConfig};
+ghost use Rattle.tcp_conn.specs.Config.{IsConfig};
 ghost use Rattle.tcp_replay.specs.Events.{event_content, HasBytes, IsDamage};
-ghost use Rattle.tcp_replay.specs.World.{WorldState, new_world, both, party_of, world_after, refusal_of, outcome_of, grows_for, step_answer, world_behind, run_of, stop_of, StopsForMemory, HasGoodConfigs, HasNamedFault};
+ghost use Rattle.tcp_replay.specs.World.{WorldState, new_world, both, party_of, effect_of, world_with_effect, refusal_of, outcome_of, grows_for, step_answer, world_after, run_of, stop_of, StopsForMemory, HasGoodConfigs, NamesFault};
 ghost use Rattle.tcp_replay.specs.Safe.{IsSafe, HintsAreTrue};
 
 use crate::event::{Event, Side};
@@ -31,42 +31,53 @@ impl<A: Allocator> Model for World<A> {
     ghost invariant = { λ w. IsSound (both w.a w.b) };
 }
 
-/// One event at the two parties.
+/// One event at the party whose side it names, and at the other one.
 #[tactic(auto, unfolding(crate::specs::World::effect_of))]
+fn step_at<A: Allocator + Copy>(
+    alloc: A,
+    here: &mut Party<A>,
+    there: &mut Party<A>,
+    event: &Event,
+) -> Result<Outcome, StepError>
+    ensures here { OnOk result (here.new ≡ (effect_of here.old there.old (event_content event.now)).here) }
+    ensures there { OnOk result (there.new ≡ (effect_of here.old there.old (event_content event.now)).there) }
+    ensures outcome { IfOk result (λ o. o ≡ (effect_of here.old there.old (event_content event.now)).outcome) }
+    ensures bytes { OnOk result (HasBytes (event_content event.now)) }
+    ensures refused { IfSome (effect_of here.old there.old (event_content event.now)).refusal (λ e. result ≡ Err e) }
+    ensures memory { IfNone (effect_of here.old there.old (event_content event.now)).refusal (IfErr result (λ e. (e ≡ StepError.NoMemory) × ((effect_of here.old there.old (event_content event.now)).grows ≡ true))) }
+    ensures err { OnErr result ((here.new ≡ here.old) × (there.new ≡ there.old)) }
+{
+    match event {
+        Event::Connect(_) => Ok(connect(here, there)),
+        Event::Listen(_) => Ok(here.listen()),
+        Event::Send(_, bytes) => here.send(bytes),
+        Event::Receive(_, room) => here.receive(alloc, *room),
+        Event::Close(_) => Ok(here.close()),
+        Event::Abort(_) => Ok(here.abort()),
+        Event::Timer(_, timer) => Ok(here.timer(*timer)),
+        Event::Emit(_) => here.emit(alloc),
+        Event::Deliver(_, k) => deliver(here, *k, there),
+        Event::Damage(_, k, place, value) => damage(alloc, here, *k, *place, *value, there),
+    }
+}
+
+/// One event at the two parties.
 fn step_parties<A: Allocator + Copy>(
     alloc: A,
     a: &mut Party<A>,
     b: &mut Party<A>,
     event: &Event,
 ) -> Result<Outcome, StepError>
-    ensures state { OnOk result (both a.new b.new ≡ world_after (both a.old b.old) (event_content event.now)) }
+    ensures state { OnOk result (both a.new b.new ≡ world_with_effect (both a.old b.old) (event_content event.now)) }
     ensures outcome { IfOk result (λ o. o ≡ outcome_of (both a.old b.old) (event_content event.now)) }
     ensures bytes { OnOk result (HasBytes (event_content event.now)) }
     ensures refused { IfSome (refusal_of (both a.old b.old) (event_content event.now)) (λ e. result ≡ Err e) }
     ensures memory { IfNone (refusal_of (both a.old b.old) (event_content event.now)) (IfErr result (λ e. (e ≡ StepError.NoMemory) × (grows_for (both a.old b.old) (event_content event.now) ≡ true))) }
     ensures err { OnErr result (both a.new b.new ≡ both a.old b.old) }
 {
-    match event {
-        Event::Connect(Side::A) => Ok(connect(a, b)),
-        Event::Connect(Side::B) => Ok(connect(b, a)),
-        Event::Listen(Side::A) => Ok(a.listen()),
-        Event::Listen(Side::B) => Ok(b.listen()),
-        Event::Send(Side::A, bytes) => a.send(bytes),
-        Event::Send(Side::B, bytes) => b.send(bytes),
-        Event::Receive(Side::A, room) => a.receive(alloc, *room),
-        Event::Receive(Side::B, room) => b.receive(alloc, *room),
-        Event::Close(Side::A) => Ok(a.close()),
-        Event::Close(Side::B) => Ok(b.close()),
-        Event::Abort(Side::A) => Ok(a.abort()),
-        Event::Abort(Side::B) => Ok(b.abort()),
-        Event::Timer(Side::A, timer) => Ok(a.timer(*timer)),
-        Event::Timer(Side::B, timer) => Ok(b.timer(*timer)),
-        Event::Emit(Side::A) => a.emit(alloc),
-        Event::Emit(Side::B) => b.emit(alloc),
-        Event::Deliver(Side::A, k) => deliver(a, *k, b),
-        Event::Deliver(Side::B, k) => deliver(b, *k, a),
-        Event::Damage(Side::A, k, place, value) => damage(alloc, a, *k, *place, *value, b),
-        Event::Damage(Side::B, k, place, value) => damage(alloc, b, *k, *place, *value, a),
+    match event.side() {
+        Side::A => step_at(alloc, a, b, event),
+        Side::B => step_at(alloc, b, a, event),
     }
 }
 
@@ -78,10 +89,7 @@ impl World {
         ensures hints { IfOk result HintsAreTrue }
         ensures good { OnOk result (HasGoodConfigs a b) }
         ensures made { OnOk result (IsConfig a × IsConfig b) }
-        ensures bad_capacity_of_a { (result ≡ Err (WorldError.Config Side.A ConfigError.BadCapacity)) ↔ HasBadCapacity a }
-        ensures bad_mss_of_a { (result ≡ Err (WorldError.Config Side.A ConfigError.BadMss)) ↔ HasBadMss a }
-        ensures bad_shift_of_a { (result ≡ Err (WorldError.Config Side.A ConfigError.BadShift)) ↔ HasBadShift a }
-        ensures fault { IfErr result (HasNamedFault a b) }
+        ensures fault { NamesFault a b result }
     {
         Self::new_in(alloc, a, b)
     }
@@ -95,10 +103,7 @@ impl<A: Allocator + Copy> World<A> {
         ensures hints { IfOk result HintsAreTrue }
         ensures good { OnOk result (HasGoodConfigs a b) }
         ensures made { OnOk result (IsConfig a × IsConfig b) }
-        ensures bad_capacity_of_a { (result ≡ Err (WorldError.Config Side.A ConfigError.BadCapacity)) ↔ HasBadCapacity a }
-        ensures bad_mss_of_a { (result ≡ Err (WorldError.Config Side.A ConfigError.BadMss)) ↔ HasBadMss a }
-        ensures bad_shift_of_a { (result ≡ Err (WorldError.Config Side.A ConfigError.BadShift)) ↔ HasBadShift a }
-        ensures fault { IfErr result (HasNamedFault a b) }
+        ensures fault { NamesFault a b result }
     {
         let first = match Party::new_in(alloc, a) {
             Ok(party) => party,
@@ -118,14 +123,14 @@ impl<A: Allocator + Copy> World<A> {
     /// Applies one event. Whatever is refused changes nothing; what the world needs to grow for an event it
     /// takes before anything else.
     pub fn step(&mut self, event: &Event) -> Result<Outcome, StepError>
-        ensures state { OnOk result (self.new ≡ world_after self.old (event_content event.now)) }
+        ensures state { OnOk result (self.new ≡ world_with_effect self.old (event_content event.now)) }
         ensures outcome { IfOk result (λ o. o ≡ outcome_of self.old (event_content event.now)) }
         ensures bytes { OnOk result (HasBytes (event_content event.now)) }
         ensures refused { IfSome (refusal_of self.old (event_content event.now)) (λ e. result ≡ Err e) }
         ensures memory { IfNone (refusal_of self.old (event_content event.now)) (IfErr result (λ e. (e ≡ StepError.NoMemory) × (grows_for self.old (event_content event.now) ≡ true))) }
         ensures unchanged { OnErr result (self.new ≡ self.old) }
         // Where memory was found, the definitions tell all.
-        ensures behind { result ≢ Err StepError.NoMemory → (result ≡ step_answer self.old (event_content event.now)) × (self.new ≡ world_behind self.old (event_content event.now)) }
+        ensures exact { result ≢ Err StepError.NoMemory → (result ≡ step_answer self.old (event_content event.now)) × (self.new ≡ world_after self.old (event_content event.now)) }
         // One changed byte is found at the checksum, and no end takes anything from it.
         ensures damaged { IsDamage (event_content event.now) → IfOk result (λ o. (o ≡ Outcome.Arrived (Arrival.Malformed DecodeError.BadChecksum)) × (self.new ≡ self.old)) }
         ensures safe { IsSafe self.new }

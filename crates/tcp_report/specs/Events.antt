@@ -2,29 +2,28 @@
 use Rattle.std.specs.Prelude.{ℕ, List, [], ◌++◌, codes, decimal}
 use Rattle.tcp_replay.specs.declared.event.Side.{Side}
 use Rattle.tcp_replay.specs.Events.{EventContent, Connect, Listen, Send, Receive, Close, Abort, Timer, Emit, Deliver, Damage}
-use Rattle.tcp_script.specs.Names.{side_name, timer_name}
+use Rattle.tcp_script.specs.Names.{kind_of, kind_name, side_name, timer_name}
 
--- its kind, the side that it names, and the words behind the side; the bytes that are sent aren't repeated
-pub record EventWords : Type 0 where
-  pub kind : List ℕ
-  pub side : Side
-  pub others : List ℕ
+-- the side that it names
+abbrev pub side_of : EventContent → Side
+side_of (Connect side) = side
+side_of (Listen side) = side
+side_of (Send side bytes) = side
+side_of (Receive side room) = side
+side_of (Close side) = side
+side_of (Abort side) = side
+side_of (Timer side timer) = side
+side_of (Emit side) = side
+side_of (Deliver from k) = from
+side_of (Damage from k place value) = from
 
-abbrev pub event_words : EventContent → EventWords
-event_words (Connect side) = record { kind = codes "connect"; side = side; others = [] }
-event_words (Listen side) = record { kind = codes "listen"; side = side; others = [] }
-event_words (Send side bytes) = record { kind = codes "send"; side = side; others = [] }
-event_words (Receive side room) = record { kind = codes "receive"; side = side; others = codes " " ++ decimal room }
-event_words (Close side) = record { kind = codes "close"; side = side; others = [] }
-event_words (Abort side) = record { kind = codes "abort"; side = side; others = [] }
-event_words (Timer side which) = record { kind = codes "timer"; side = side; others = codes " " ++ timer_name which }
-event_words (Emit side) = record { kind = codes "emit"; side = side; others = [] }
-event_words (Deliver from k) = record { kind = codes "deliver"; side = from; others = codes " " ++ decimal k }
-event_words (Damage from k place value) = record {
-  kind = codes "damage";
-  side = from;
-  others = codes " " ++ (decimal k ++ (codes " " ++ (decimal place ++ (codes " " ++ decimal value))));
-}
+-- the words after the side; the bytes that are sent aren't repeated
+abbrev pub others_text : EventContent → List ℕ
+others_text (Receive side room) = codes " " ++ decimal room
+others_text (Timer side timer) = codes " " ++ timer_name timer
+others_text (Deliver from k) = codes " " ++ decimal k
+others_text (Damage from k place value) = codes " " ++ (decimal k ++ (codes " " ++ (decimal place ++ (codes " " ++ decimal value))))
+others_text other = []
 
 unfoldable pub event_text : EventContent → List ℕ
-event_text e = (event_words e).kind ++ (codes " " ++ (side_name (event_words e).side ++ (event_words e).others))
+event_text e = kind_name (kind_of e) ++ (codes " " ++ (side_name (side_of e) ++ others_text e))

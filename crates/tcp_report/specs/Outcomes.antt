@@ -5,7 +5,7 @@ use Rattle.tcp_wire.specs.Wire.{Content}
 use Rattle.tcp_wire.specs.Decoded.{decode_answer}
 use Rattle.tcp_conn.specs.declared.outcome.CallError.{CallError}
 use Rattle.tcp_conn.specs.declared.phase.Phase.{Phase}
-use Rattle.tcp_conn.specs.Refusals.{call_error_number}
+use Rattle.tcp_conn.specs.Outcome.{call_error_number}
 use Rattle.tcp_replay.specs.declared.event.Side.{Side}
 use Rattle.tcp_replay.specs.declared.outcome.Outcome.{Outcome}
 use Rattle.tcp_replay.specs.declared.outcome.Outcome.TheVariants as outcomes
@@ -32,7 +32,7 @@ abbrev pub emission_text : WorldState → Side → Option ℕ → List ℕ
 emission_text w side None = codes "none"
 emission_text w side (Some k) = decimal k ++ (codes " " ++ segment_text (meaning_of_segment w side k))
 
--- AN OUTCOME, by the world behind the event, the side that the event names, and how many bytes that side had been
+-- AN OUTCOME, by the world after the event, the side that the event names, and how many bytes that side had been
 -- handed before it
 unfoldable pub outcome_text : WorldState → Side → ℕ → Outcome → List ℕ
 outcome_text w side had (outcomes.Call answer) = call_text answer (party_of w side).endpoint.phase

@@ -3,18 +3,18 @@ use Rattle.std.specs.Prelude.{ℕ, ◌+◌, ◌&&◌, Bool, true, not, List, [],
 use Rattle.tcp_replay.specs.declared.event.Side.{Side}
 use Rattle.tcp_replay.specs.declared.event.Side.TheVariants.{A, B}
 use Rattle.tcp_replay.specs.Events.{EventContent}
-use Rattle.tcp_replay.specs.World.{PartyState, WorldState, new_world, party_of, step_answer, world_behind, world_behind_all}
+use Rattle.tcp_replay.specs.World.{PartyState, WorldState, new_world, party_of, step_answer, world_after, world_after_all}
 use Rattle.tcp_script.specs.Names.{side_name}
 use Rattle.tcp_script.specs.Script.{ScriptContent}
 use Rattle.tcp_answers.specs.Names.{phase_name, ending_name}
 use Rattle.tcp_report.specs.Names.{yes_or_no}
-use Rattle.tcp_report.specs.Events.{event_words, event_text}
+use Rattle.tcp_report.specs.Events.{side_of, event_text}
 use Rattle.tcp_report.specs.Outcomes.{answer_text, is_refused}
 
 -- ONE EVENT, with its number: the event, and what came of it
 abbrev pub outcome_text_at : WorldState → EventContent → List ℕ
 outcome_text_at w e =
-    answer_text (world_behind w e) (event_words e).side (length (party_of w (event_words e).side).delivered) (step_answer w e)
+    answer_text (world_after w e) (side_of e) (length (party_of w (side_of e)).delivered) (step_answer w e)
 
 unfoldable pub event_line : ℕ → WorldState → EventContent → List ℕ
 event_line n w e = decimal n ++ (codes " " ++ (event_text e ++ (codes " " ++ (outcome_text_at w e ++ (10 ∷ [])))))
@@ -22,11 +22,11 @@ event_line n w e = decimal n ++ (codes " " ++ (event_text e ++ (codes " " ++ (ou
 -- ALL EVENTS in turn, refused ones too: their lines, the first with this number; whether none was refused
 unfoldable pub event_lines : ℕ → WorldState → List EventContent → List ℕ
 event_lines n w [] = []
-event_lines n w (e ∷ es) = event_line n w e ++ event_lines (n + 1) (world_behind w e) es
+event_lines n w (e ∷ es) = event_line n w e ++ event_lines (n + 1) (world_after w e) es
 
 unfoldable pub is_well : WorldState → List EventContent → Bool
 is_well w [] = true
-is_well w (e ∷ es) = not (is_refused (step_answer w e)) && is_well (world_behind w e) es
+is_well w (e ∷ es) = not (is_refused (step_answer w e)) && is_well (world_after w e) es
 
 -- THE LAST LINES, one for each side
 unfoldable pub counts_text : PartyState → List ℕ
@@ -46,7 +46,7 @@ end_lines w = end_line A w.a ++ end_line B w.b
 
 -- THE REPORT
 unfoldable pub report_text : ScriptContent → List ℕ
-report_text s = event_lines 1 (new_world s.a s.b) s.events ++ end_lines (world_behind_all (new_world s.a s.b) s.events)
+report_text s = event_lines 1 (new_world s.a s.b) s.events ++ end_lines (world_after_all (new_world s.a s.b) s.events)
 
 -- and whether all was well
 unfoldable pub report_is_well : ScriptContent → Bool

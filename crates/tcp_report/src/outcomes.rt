@@ -11,7 +11,7 @@ use tcp_replay::{Outcome, Side, StepError, World};
 use tcp_wire::Addr;
 
 /// What a step answered.
-pub(crate) type Answer = Result<Outcome, StepError>;
+pub(crate) type StepResult = Result<Outcome, StepError>;
 
 fn other(side: Side) -> Side
     ensures { result ≡ other side }
@@ -69,8 +69,8 @@ fn push_emission(
     push_segment(text, src, dst, segment_at(world, side, k))
 }
 
-/// What is behind the first `count` bytes.
-fn behind(bytes: &[u8], count: usize) -> &[u8]
+/// What follows the first `count` bytes.
+fn after(bytes: &[u8], count: usize) -> &[u8]
     ensures { result.now ≡ drop count bytes.now }
 {
     if count > bytes.len() {
@@ -95,7 +95,7 @@ fn push_outcome(
         Outcome::Call(answer) => push_call(text, answer, world.endpoint(side).phase()),
         Outcome::Sent(answer) => push_send(text, answer),
         Outcome::Got(answer) => {
-            push_receive(alloc, text, answer, behind(world.delivered(side), had))
+            push_receive(alloc, text, answer, after(world.delivered(side), had))
         }
         Outcome::Timer(applied) => text.push_str(yes_or_no(applied)),
         Outcome::Emitted(k) => push_emission(text, world, side, k),
@@ -108,13 +108,13 @@ fn push_outcome(
 }
 
 /// The same, or why the event was refused.
-pub(crate) fn push_answer(
+pub(crate) fn push_step_result(
     alloc: Global,
     text: &mut String,
     world: &World,
     side: Side,
     had: usize,
-    answer: Answer,
+    answer: StepResult,
 ) -> Result<(), AllocError>
     ensures { OnOk result (string_bytes text.new ≡ string_bytes text.old ++ answer_text world.now side had answer) }
 {
@@ -125,7 +125,7 @@ pub(crate) fn push_answer(
 }
 
 /// Whether a call or a step was refused.
-pub(crate) fn is_refused(answer: Answer) -> bool
+pub(crate) fn is_refused(answer: StepResult) -> bool
     ensures { result ≡ is_refused answer }
 {
     match answer {

@@ -1,7 +1,7 @@
 //! The report of a script.
 ghost use Rattle.std.specs.Prelude.{◌≡◌, ◌+◌, ◌++◌, ◌<◌, map, IfOk, IfErr, OnOk, string_bytes};
 ghost use Rattle.tcp_replay.specs.Events.{event_content};
-ghost use Rattle.tcp_replay.specs.World.{new_world, party_of, step_answer, world_behind, world_behind_all, HasGoodConfigs};
+ghost use Rattle.tcp_replay.specs.World.{new_world, party_of, step_answer, world_after, world_after_all, HasGoodConfigs};
 ghost use Rattle.tcp_script.specs.Script.{script_content};
 ghost use Rattle.tcp_report.specs.Outcomes.{is_refused};
 ghost use Rattle.tcp_report.specs.Report.{event_line, event_lines, is_well, counts_text, end_line, end_lines, report_text, report_is_well};
@@ -10,7 +10,7 @@ ghost use Rattle.tcp_report.specs.Faults.{HasReportFault};
 use crate::error::ReportError;
 use crate::events::{push_event, side_of};
 use crate::names::yes_or_no;
-use crate::outcomes::{Answer, is_refused, push_answer};
+use crate::outcomes::{StepResult, is_refused, push_step_result};
 use std::alloc::{AllocError, Global};
 use tcp_answers::{ending_name, phase_name};
 use tcp_conn::ConfigError;
@@ -27,9 +27,9 @@ pub struct Report {
 }
 
 /// One event, refused or not. Where memory is refused the world is as it was.
-fn apply(world: &mut World, event: &Event) -> Result<Answer, AllocError>
+fn apply(world: &mut World, event: &Event) -> Result<StepResult, AllocError>
     ensures answer { IfOk result (λ answer. answer ≡ step_answer world.old (event_content event.now)) }
-    ensures state { OnOk result (world.new ≡ world_behind world.old (event_content event.now)) }
+    ensures state { OnOk result (world.new ≡ world_after world.old (event_content event.now)) }
 {
     match world.step(event) {
         Err(StepError::NoMemory) => Err(AllocError),
@@ -48,7 +48,7 @@ fn push_event_line(
 ) -> Result<bool, AllocError>
     ensures line { OnOk result (string_bytes text.new ≡ string_bytes text.old ++ event_line number world.old (event_content event.now)) }
     ensures refused { IfOk result (λ refused. refused ≡ is_refused (step_answer world.old (event_content event.now))) }
-    ensures state { OnOk result (world.new ≡ world_behind world.old (event_content event.now)) }
+    ensures state { OnOk result (world.new ≡ world_after world.old (event_content event.now)) }
 {
     let side = side_of(event);
     let had = world.delivered(side).len();
@@ -56,13 +56,13 @@ fn push_event_line(
     write!(text, "{number} ")?;
     push_event(text, event)?;
     text.push_str(" ")?;
-    push_answer(alloc, text, world, side, had, answer)?;
+    push_step_result(alloc, text, world, side, had, answer)?;
     text.push_str("\n")?;
     Ok(is_refused(answer))
 }
 
 /// Applies all events in turn, refused ones too, and appends their lines; answers whether none was refused.
-#[tactic(auto, unfolding(crate::specs::Report::event_lines, crate::specs::Report::is_well, tcp_replay::specs::World::world_behind_all))]
+#[tactic(auto, unfolding(crate::specs::Report::event_lines, crate::specs::Report::is_well, tcp_replay::specs::World::world_after_all))]
 fn push_event_lines(
     alloc: Global,
     text: &mut String,
@@ -71,7 +71,7 @@ fn push_event_lines(
 ) -> Result<bool, AllocError>
     ensures lines { OnOk result (string_bytes text.new ≡ string_bytes text.old ++ event_lines 1 world.old (map event_content events.now)) }
     ensures well { IfOk result (λ well. well ≡ is_well world.old (map event_content events.now)) }
-    ensures state { OnOk result (world.new ≡ world_behind_all world.old (map event_content events.now)) }
+    ensures state { OnOk result (world.new ≡ world_after_all world.old (map event_content events.now)) }
 {
     let mut is_well = true;
     for (i, event) in events.iter().enumerate() {
@@ -121,7 +121,7 @@ fn push_report(
     world: &mut World,
     events: &[Event],
 ) -> Result<bool, AllocError>
-    ensures lines { OnOk result (string_bytes text.new ≡ string_bytes text.old ++ (event_lines 1 world.old (map event_content events.now) ++ end_lines (world_behind_all world.old (map event_content events.now)))) }
+    ensures lines { OnOk result (string_bytes text.new ≡ string_bytes text.old ++ (event_lines 1 world.old (map event_content events.now) ++ end_lines (world_after_all world.old (map event_content events.now)))) }
     ensures well { IfOk result (λ well. well ≡ is_well world.old (map event_content events.now)) }
 {
     let is_well = push_event_lines(alloc, text, world, events)?;
@@ -143,6 +143,16 @@ fn new_world(alloc: Global, script: &Script) -> Result<World, ReportError>
     }
 }
 
+/// The report of events that happen in turn to the ends of a world.
+fn report_from(alloc: Global, world: &mut World, events: &[Event]) -> Result<Report, AllocError>
+    ensures text { IfOk result (λ report. string_bytes report.text ≡ event_lines 1 world.old (map event_content events.now) ++ end_lines (world_after_all world.old (map event_content events.now))) }
+    ensures well { IfOk result (λ report. report.is_well ≡ is_well world.old (map event_content events.now)) }
+{
+    let mut text = String::new(alloc);
+    let is_well = push_report(alloc, &mut text, world, events)?;
+    Ok(Report { text, is_well })
+}
+
 /// The report of a script whose events happen in turn to two new ends. Want of memory can come at any event.
 #[tactic(auto, unfolding(crate::specs::Report::report_text, crate::specs::Report::report_is_well))]
 pub fn make_report(alloc: Global, script: &Script) -> Result<Report, ReportError>
@@ -152,7 +162,6 @@ pub fn make_report(alloc: Global, script: &Script) -> Result<Report, ReportError
     ensures fault { IfErr result (HasReportFault (script_content script.now)) }
 {
     let mut world = new_world(alloc, script)?;
-    let mut text = String::new(alloc);
-    let is_well = push_report(alloc, &mut text, &mut world, &script.events)?;
-    Ok(Report { text, is_well })
+    let report = report_from(alloc, &mut world, &script.events)?;
+    Ok(report)
 }

@@ -1,6 +1,7 @@
--- A short script computed on its definition: a comment, a setting, an empty line, and events; and the first bad line of another.
+-- Scripts computed on their definition: a comment, a setting, an empty line, and events; settings of one key; the empty
+-- script; and a first bad line.
 use Rattle.std.proofs.Common.{◌≡◌, ℕ, [], ◌∷◌, ◌++◌, List, refl}
-use Rattle.std.specs.Prelude.{codes, Ok, Err}
+use Rattle.std.specs.Prelude.{codes, Ok, Err, None, Some, true, false}
 use Rattle.tcp_conn.specs.declared.phase.Timer.TheVariants.{Retransmit}
 use Rattle.tcp_replay.specs.declared.event.Side.TheVariants.{A, B}
 use Rattle.tcp_replay.specs.Events.{Listen, Connect, Receive, Timer, Deliver}
@@ -25,10 +26,58 @@ reads : script_of text ≡ Ok says
 unfolding text says script_of script_from statement_of numbered_from
 reads = refl
 
--- a setting behind an event has no form
+-- a setting after an event has no form
 late : List ℕ
 late = codes "listen B" ++ 10 ∷ codes "config A isn 7" ++ 10 ∷ []
 
 refuses : script_of late ≡ Err 2
 unfolding late script_of script_from statement_of numbered_from
 refuses = refl
+
+-- a later setting of the same key wins
+settings : List ℕ
+settings =
+    codes "config A mss 1" ++ 10 ∷ codes "config B mss 200" ++ 10 ∷ codes "config A mss 100" ++ 10 ∷ codes "config A send 7" ++ 10
+    ∷ codes "config B recv 9" ++ 10 ∷ codes "config B isn 0" ++ 10 ∷ codes "config A shift 14" ++ 10 ∷ codes "config B shift 3" ++ 10
+    ∷ codes "config B shift none" ++ 10 ∷ codes "config B sack on" ++ 10 ∷ codes "config B sack off"
+
+sets : ScriptContent
+sets = record {
+  a = record default_a { mss = 100; send_capacity = 7; window_shift = Some 14 };
+  b = record default_b { isn = record { 0 = 0 }; mss = 200; recv_capacity = 9; sack = false };
+  events = [];
+}
+
+last_wins : script_of settings ≡ Ok sets
+unfolding settings sets script_of script_from statement_of numbered_from
+last_wins = refl
+
+-- the ends of the empty script
+ends : ScriptContent
+ends = record {
+  a = record {
+    addr = record { 0 = 10 ∷ 0 ∷ 0 ∷ 1 ∷ [] };
+    port = 1;
+    isn = record { 0 = 1000 };
+    mss = 1460;
+    send_capacity = 65536;
+    recv_capacity = 65536;
+    window_shift = None;
+    sack = true;
+  };
+  b = record {
+    addr = record { 0 = 10 ∷ 0 ∷ 0 ∷ 2 ∷ [] };
+    port = 2;
+    isn = record { 0 = 5000 };
+    mss = 1460;
+    send_capacity = 65536;
+    recv_capacity = 65536;
+    window_shift = None;
+    sack = true;
+  };
+  events = [];
+}
+
+empty : script_of [] ≡ Ok ends
+unfolding ends script_of script_from statement_of numbered_from
+empty = refl

@@ -4,13 +4,14 @@ use Rattle.std.specs.Borrow.{Bor}
 use Rattle.std.proofs.lemmas.List.Splits.{length-slice_split}
 use Rattle.tcp_replay.specs.declared.event.Side.{Side}
 use Rattle.tcp_text.specs.Words.{further_pieces}
+use Rattle.tcp_script.specs.declared.names.Kind.{Kind}
 use Rattle.tcp_script.specs.Statements.{event_of, setting_of_words}
 
-event_of-more : (kind : List ℕ) (side : Side) (k place value : List ℕ) (more : List (List ℕ)) → 0 < length more → event_of kind side (k ∷ place ∷ value ∷ more) ≡ None
+event_of-more : (kind : Kind) (side : Side) (k place value : List ℕ) (more : List (List ℕ)) → 0 < length more → event_of kind side (k ∷ place ∷ value ∷ more) ≡ None
 event_of-more kind side k place value [] some = absurd (omega arith)
 event_of-more kind side k place value (word ∷ words) some = refl
 
-pub event_of-four : (kind : List ℕ) (side : Side) (k place value : List ℕ) (rest : Option (Bor (List ℕ))) → is_some rest ≡ true → event_of kind side (k ∷ place ∷ value ∷ further_pieces 32 rest) ≡ None
+pub event_of-four : (kind : Kind) (side : Side) (k place value : List ℕ) (rest : Option (Bor (List ℕ))) → is_some rest ≡ true → event_of kind side (k ∷ place ∷ value ∷ further_pieces 32 rest) ≡ None
 event_of-four kind side k place value None some = cc
 event_of-four kind side k place value (Some rest) some = event_of-more kind side k place value _ (omega (arith, length-slice_split (λ b. b == 32) rest.now))
 

@@ -33,7 +33,7 @@ abbrev pub with_side_setting : ScriptContent → Side → Setting → ScriptCont
 with_side_setting s A x = record s { a = with_setting s.a x }
 with_side_setting s B x = record s { b = with_setting s.b x }
 
--- ONE LINE MORE. A setting behind an event has no form; a later one of the same key wins
+-- ONE LINE MORE. A setting after an event has no form; a later one of the same key wins
 abbrev pub with_statement : ScriptContent → StatementContent → Option ScriptContent
 with_statement s (setting side x) = if length s.events == 0 then Some (with_side_setting s side x) else None
 with_statement s (event e) = Some (record s { events = s.events ++ e ∷ [] })

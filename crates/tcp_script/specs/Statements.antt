@@ -7,47 +7,50 @@ use Rattle.tcp_text.specs.Words.{words_of, number_of, bytes_of}
 use Rattle.tcp_script.specs.declared.settings.Setting.{Setting}
 use Rattle.tcp_script.specs.declared.statement.Statement.{Statement}
 use Rattle.tcp_script.specs.declared.statement.Statement.TheVariants as code
-use Rattle.tcp_script.specs.Names.{side_of, timer_of}
+use Rattle.tcp_script.specs.Names.{kind_named, side_named, timer_named}
+use Rattle.tcp_script.specs.declared.names.Kind.{Kind}
+use Rattle.tcp_script.specs.declared.names.Kind.TheVariants as kinds
 use Rattle.tcp_script.specs.Settings.{setting_of}
 
--- EVENTS, by the words behind the side. `KIND SIDE`
-abbrev pub bare_event : List ℕ → Side → Option EventContent
-bare_event kind side =
-    if bytes_eq kind (codes "connect") then Some (Connect side)
-    else (if bytes_eq kind (codes "listen") then Some (Listen side)
-    else (if bytes_eq kind (codes "close") then Some (Close side)
-    else (if bytes_eq kind (codes "abort") then Some (Abort side)
-    else (if bytes_eq kind (codes "emit") then Some (Emit side)
-    else None))))
+-- EVENTS, by their kind and the words after the side. `KIND SIDE`
+abbrev pub bare_event : Kind → Side → Option EventContent
+bare_event kinds.Connect side = Some (Connect side)
+bare_event kinds.Listen side = Some (Listen side)
+bare_event kinds.Close side = Some (Close side)
+bare_event kinds.Abort side = Some (Abort side)
+bare_event kinds.Emit side = Some (Emit side)
+bare_event other side = None
 
 -- `KIND SIDE WORD`
-abbrev pub event_with_word : List ℕ → Side → List ℕ → Option EventContent
-event_with_word kind side word =
-    if bytes_eq kind (codes "send") then option_map (Send side) (bytes_of word)
-    else (if bytes_eq kind (codes "receive") then option_map (Receive side) (number_of 1048576 word)
-    else (if bytes_eq kind (codes "timer") then option_map (Timer side) (timer_of word)
-    else (if bytes_eq kind (codes "deliver") then option_map (Deliver side) (number_of 4294967295 word)
-    else None)))
+abbrev pub event_with_word : Kind → Side → List ℕ → Option EventContent
+event_with_word kinds.Send side word = option_map (Send side) (bytes_of word)
+event_with_word kinds.Receive side word = option_map (Receive side) (number_of 1048576 word)
+event_with_word kinds.Timer side word = option_map (Timer side) (timer_named word)
+event_with_word kinds.Deliver side word = option_map (Deliver side) (number_of 4294967295 word)
+event_with_word other side word = None
 
 -- `damage SIDE K PLACE XOR`
-abbrev pub event_with_three : List ℕ → Side → List ℕ → List ℕ → List ℕ → Option EventContent
-event_with_three kind side k place value =
-    if bytes_eq kind (codes "damage") then
+abbrev pub event_with_three : Kind → Side → List ℕ → List ℕ → List ℕ → Option EventContent
+event_with_three kinds.Damage side k place value =
     option_and_then (λ k'. option_and_then (λ p. option_map (Damage side k' p) (number_of 255 value)) (number_of 4294967295 place))
     (number_of 4294967295 k)
-    else None
+event_with_three other side k place value = None
 
-abbrev pub event_of : List ℕ → Side → List (List ℕ) → Option EventContent
+abbrev pub event_of : Kind → Side → List (List ℕ) → Option EventContent
 event_of kind side [] = bare_event kind side
 event_of kind side (word ∷ []) = event_with_word kind side word
 event_of kind side (k ∷ place ∷ []) = None
 event_of kind side (k ∷ place ∷ value ∷ []) = event_with_three kind side k place value
 event_of kind side (k ∷ place ∷ value ∷ more ∷ rest) = None
 
--- by the words behind the kind
+-- by the words after the kind's
+abbrev pub event_after_kind : Kind → List (List ℕ) → Option EventContent
+event_after_kind kind [] = None
+event_after_kind kind (side ∷ rest) = option_and_then (λ s. event_of kind s rest) (side_named side)
+
+-- by all words
 abbrev pub event_of_words : List ℕ → List (List ℕ) → Option EventContent
-event_of_words kind [] = None
-event_of_words kind (side ∷ rest) = option_and_then (λ s. event_of kind s rest) (side_of side)
+event_of_words word rest = option_and_then (λ kind. event_after_kind kind rest) (kind_named word)
 
 -- A STATEMENT is a setting of one side, or an event
 pub data StatementContent : Type 0 where
@@ -58,12 +61,12 @@ abbrev pub statement_content : Statement → StatementContent
 statement_content (code.Setting side x) = setting side x
 statement_content (code.Event e) = event (event_content e)
 
--- by the words behind `config`
+-- by the words after `config`
 abbrev pub setting_of_words : List (List ℕ) → Option StatementContent
 setting_of_words [] = None
 setting_of_words (side ∷ []) = None
 setting_of_words (side ∷ key ∷ []) = None
-setting_of_words (side ∷ key ∷ value ∷ []) = option_and_then (λ s. option_map (setting s) (setting_of key value)) (side_of side)
+setting_of_words (side ∷ key ∷ value ∷ []) = option_and_then (λ s. option_map (setting s) (setting_of key value)) (side_named side)
 setting_of_words (side ∷ key ∷ value ∷ more ∷ rest) = None
 
 abbrev pub statement_of_words : List (List ℕ) → Option StatementContent

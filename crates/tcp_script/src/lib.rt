@@ -1,4 +1,5 @@
-//! Scripts of what happens to the two ends of one connection, read from their texts.
+//! Scripts of what happens to the two ends of one connection, read from their texts, and the words that reports share
+//! with them.
 #![tactic(auto)]
 
 mod error;
@@ -9,9 +10,6 @@ mod settings;
 mod statement;
 
 pub use error::ScriptError;
-pub use names::{read_timer, side_name, timer_name};
+pub use names::{Kind, kind_name, kind_of, read_timer, side_name, timer_name};
 pub use script::{Script, read_script, read_script_bytes};
 pub use settings::read_shift;
-
-#[cfg(test)]
-mod tests;

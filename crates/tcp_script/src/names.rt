@@ -1,19 +1,61 @@
-//! The names that scripts and reports share.
+//! The words that scripts and reports share: kinds of events, sides and timers.
 ghost use Rattle.std.specs.Prelude.{◌≡◌};
+ghost use Rattle.tcp_replay.specs.Events.{event_content};
 ghost use Rattle.tcp_script.specs.Names as spec;
 
 use tcp_conn::Timer;
-use tcp_replay::Side;
+use tcp_replay::{Event, Side};
 
-const A: &[u8] = b"A";
+/// What happens in an event, whatever it names.
+#[derive(Clone, Copy, Debug, PartialEq, Eq)]
+pub enum Kind {
+    Connect,
+    Listen,
+    Send,
+    Receive,
+    Close,
+    Abort,
+    Timer,
+    Emit,
+    Deliver,
+    Damage,
+}
 
-const B: &[u8] = b"B";
+/// The kind of an event.
+pub fn kind_of(event: &Event) -> Kind
+    ensures { result ≡ spec.kind_of (event_content event.now) }
+{
+    match event {
+        Event::Connect(_) => Kind::Connect,
+        Event::Listen(_) => Kind::Listen,
+        Event::Send(_, _) => Kind::Send,
+        Event::Receive(_, _) => Kind::Receive,
+        Event::Close(_) => Kind::Close,
+        Event::Abort(_) => Kind::Abort,
+        Event::Timer(_, _) => Kind::Timer,
+        Event::Emit(_) => Kind::Emit,
+        Event::Deliver(_, _) => Kind::Deliver,
+        Event::Damage(_, _, _, _) => Kind::Damage,
+    }
+}
 
-const RETRANSMIT: &[u8] = b"retransmit";
-
-const REORDER: &[u8] = b"reorder";
-
-const TIME_WAIT: &[u8] = b"timewait";
+/// The name of a kind.
+pub fn kind_name(kind: Kind) -> &'static str
+    ensures { result.now ≡ spec.kind_name kind }
+{
+    match kind {
+        Kind::Connect => "connect",
+        Kind::Listen => "listen",
+        Kind::Send => "send",
+        Kind::Receive => "receive",
+        Kind::Close => "close",
+        Kind::Abort => "abort",
+        Kind::Timer => "timer",
+        Kind::Emit => "emit",
+        Kind::Deliver => "deliver",
+        Kind::Damage => "damage",
+    }
+}
 
 /// The name of a side.
 pub fn side_name(side: Side) -> &'static str
@@ -36,14 +78,51 @@ pub fn timer_name(timer: Timer) -> &'static str
     }
 }
 
+/// The kind that a word names.
+pub(crate) fn read_kind(word: &[u8]) -> Option<Kind>
+    ensures { result ≡ spec.kind_named word.now }
+{
+    if word == kind_name(Kind::Connect).as_bytes() {
+        return Some(Kind::Connect);
+    }
+    if word == kind_name(Kind::Listen).as_bytes() {
+        return Some(Kind::Listen);
+    }
+    if word == kind_name(Kind::Send).as_bytes() {
+        return Some(Kind::Send);
+    }
+    if word == kind_name(Kind::Receive).as_bytes() {
+        return Some(Kind::Receive);
+    }
+    if word == kind_name(Kind::Close).as_bytes() {
+        return Some(Kind::Close);
+    }
+    if word == kind_name(Kind::Abort).as_bytes() {
+        return Some(Kind::Abort);
+    }
+    if word == kind_name(Kind::Timer).as_bytes() {
+        return Some(Kind::Timer);
+    }
+    if word == kind_name(Kind::Emit).as_bytes() {
+        return Some(Kind::Emit);
+    }
+    if word == kind_name(Kind::Deliver).as_bytes() {
+        return Some(Kind::Deliver);
+    }
+    if word == kind_name(Kind::Damage).as_bytes() {
+        return Some(Kind::Damage);
+    }
+    None
+}
+
 /// The side that a word names.
 pub(crate) fn read_side(word: &[u8]) -> Option<Side>
-    ensures { result ≡ spec.side_of word.now }
+    ensures { result ≡ spec.side_named word.now }
 {
-    if word == A {
+    if word == side_name(Side::A).as_bytes() {
         return Some(Side::A);
     }
-    if word == B {
+    if word == side_name(Side::B).as_bytes() {
         return Some(Side::B);
     }
     None
@@ -51,15 +130,15 @@ pub(crate) fn read_side(word: &[u8]) -> Option<Side>
 
 /// The timer that a word names.
 pub fn read_timer(word: &[u8]) -> Option<Timer>
-    ensures { result ≡ spec.timer_of word.now }
+    ensures { result ≡ spec.timer_named word.now }
 {
-    if word == RETRANSMIT {
+    if word == timer_name(Timer::Retransmit).as_bytes() {
         return Some(Timer::Retransmit);
     }
-    if word == REORDER {
+    if word == timer_name(Timer::Reorder).as_bytes() {
         return Some(Timer::Reorder);
     }
-    if word == TIME_WAIT {
+    if word == timer_name(Timer::TimeWait).as_bytes() {
         return Some(Timer::TimeWait);
     }
     None

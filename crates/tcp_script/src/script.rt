@@ -49,7 +49,7 @@ impl Script {
         }
     }
 
-    /// Goes on by a statement. A setting behind an event is refused.
+    /// Goes on by a statement. A setting after an event is refused.
     fn add(&mut self, statement: Statement) -> Result<(), LineError>
         ensures { GoesOn result (with_statement (script_content self.old) (statement_content statement)) (script_content self.new) }
     {

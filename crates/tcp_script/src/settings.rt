@@ -10,9 +10,9 @@ const ISN: &[u8] = b"isn";
 
 const MSS: &[u8] = b"mss";
 
-const SEND: &[u8] = b"send";
+const SEND_CAPACITY: &[u8] = b"send";
 
-const RECV: &[u8] = b"recv";
+const RECV_CAPACITY: &[u8] = b"recv";
 
 const SHIFT: &[u8] = b"shift";
 
@@ -67,10 +67,10 @@ pub(crate) fn read_setting(key: &[u8], value: &[u8]) -> Option<Setting>
     if key == MSS {
         return Some(Setting::Mss(read_number(value, 65_535)? as u16));
     }
-    if key == SEND {
+    if key == SEND_CAPACITY {
         return Some(Setting::SendCapacity(read_number(value, 4_294_967_295)? as usize));
     }
-    if key == RECV {
+    if key == RECV_CAPACITY {
         return Some(Setting::RecvCapacity(read_number(value, 4_294_967_295)? as usize));
     }
     if key == SHIFT {

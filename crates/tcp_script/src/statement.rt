@@ -20,7 +20,7 @@ pub(crate) enum Statement {
     Event(Event),
 }
 
-/// The setting with these words behind `config`.
+/// The setting with these words after `config`.
 fn read_config(rest: Option<&[u8]>) -> Option<Statement>
     ensures { option_map statement_content result ≡ setting_of_words (further_pieces 32 rest.entry) }
 {

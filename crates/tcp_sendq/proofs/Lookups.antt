@@ -163,8 +163,8 @@ record IsLastEnd (table : List Interval) (high end : ℕ) : Type 0 where
   covered : covers table (end - 1) ≡ true
   beyond : (p : ℕ) → end ≤ p → covers table p ≡ false
 
-end_behind : (one : Interval) (rest : List Interval) (high end : ℕ) → IsTableFrom (one.end + 1) high rest → IsLastEnd rest high end → one.end < end
-end_behind one rest high end h is = elim (cases_lt one.end end) [
+end_after : (one : Interval) (rest : List Interval) (high end : ℕ) → IsTableFrom (one.end + 1) high rest → IsLastEnd rest high end → one.end < end
+end_after one rest high end h is = elim (cases_lt one.end end) [
   | inl behind ↦ behind
   | inr low ↦ absurd (false≢true (sym (covers-below (one.end + 1) high rest (end - 1) h (omega (arith, is.positive))) ∙ is.covered))
 ]
@@ -183,7 +183,7 @@ is_last_end low high (one ∷ next ∷ rest) last h found =
     let place : length (one ∷ next ∷ rest) - 1 ≡ suc (length (next ∷ rest) - 1) = omega arith in
     let found' : slice_get (next ∷ rest) (length (next ∷ rest) - 1) ≡ Some last = sym (ap (slice_get (one ∷ next ∷ rest)) place) ∙ found in
     let later : IsLastEnd (next ∷ rest) high last.end = is_last_end (one.end + 1) high (next ∷ rest) last h.3 found' in
-    let behind : one.end < last.end = end_behind one (next ∷ rest) high last.end h.3 later in
+    let behind : one.end < last.end = end_after one (next ∷ rest) high last.end h.3 later in
     record {
       positive = later.positive;
       within = later.within;

@@ -208,8 +208,8 @@ end_of_marks-le (false ∷ marks) = elim (cases_lt 0 (end_of_marks marks)) [
   | inr none ↦ omega (arith, end_of_marks-nowhere marks (omega arith))
 ]
 
-marked_behind : (marked : Bool) (marks : List Bool) → 0 < end_of_marks marks → slice_get marks (end_of_marks marks - 1) ≡ Some true → slice_get (marked ∷ marks) (end_of_marks (marked ∷ marks) - 1) ≡ Some true
-marked_behind marked marks some behind =
+marked_after : (marked : Bool) (marks : List Bool) → 0 < end_of_marks marks → slice_get marks (end_of_marks marks - 1) ≡ Some true → slice_get (marked ∷ marks) (end_of_marks (marked ∷ marks) - 1) ≡ Some true
+marked_after marked marks some behind =
     let next : suc (end_of_marks marks - 1) ≡ end_of_marks (marked ∷ marks) - 1 =
     omega (arith, end_of_marks-later marked marks some) in
     subst (λ k. slice_get (marked ∷ marks) k ≡ Some true) next behind
@@ -217,13 +217,13 @@ marked_behind marked marks some behind =
 pub end_of_marks-marked : (marks : List Bool) → 0 < end_of_marks marks → slice_get marks (end_of_marks marks - 1) ≡ Some true
 end_of_marks-marked [] h = absurd (omega arith)
 end_of_marks-marked (true ∷ marks) h = elim (cases_lt 0 (end_of_marks marks)) [
-  | inl some ↦ marked_behind true marks some (end_of_marks-marked marks some)
+  | inl some ↦ marked_after true marks some (end_of_marks-marked marks some)
   | inr none ↦
       let whole : 0 ≡ end_of_marks (true ∷ marks) - 1 = omega (arith, end_of_marks-here marks) in
       subst (λ k. slice_get (true ∷ marks) k ≡ Some true) whole refl
 ]
 end_of_marks-marked (false ∷ marks) h = elim (cases_lt 0 (end_of_marks marks)) [
-  | inl some ↦ marked_behind false marks some (end_of_marks-marked marks some)
+  | inl some ↦ marked_after false marks some (end_of_marks-marked marks some)
   | inr none ↦ absurd (omega (arith, end_of_marks-nowhere marks (omega arith)))
 ]
 

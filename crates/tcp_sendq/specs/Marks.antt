@@ -31,7 +31,7 @@ IsTable count table = IsTableFrom 0 count table
 
 -- ---- what the calls leave
 
--- without the first n places: what lies behind them moves down
+-- without the first n places: what lies after them moves down
 abbrev pub moved_down : ℕ → List Interval → List Interval
 moved_down n [] = []
 moved_down n (one ∷ rest) =
@@ -47,7 +47,7 @@ joined_front one [] = one ∷ []
 joined_front one (next ∷ rest) =
     if nat_lt one.end next.start then one ∷ next ∷ rest else joined_front (union one next) rest
 
--- the table with another interval behind those that end before it begins
+-- the table with another interval after those that end before it begins
 abbrev pub joined : Interval → List Interval → List Interval
 joined one [] = one ∷ []
 joined one (next ∷ rest) =
@@ -65,7 +65,7 @@ abbrev pub first_uncovered : ℕ → List Interval → ℕ
 first_uncovered at [] = at
 first_uncovered at (one ∷ rest) = if has_place one at then one.end else first_uncovered at rest
 
--- the first start of an interval behind the place
+-- the first start of an interval after the place
 abbrev pub next_start : ℕ → List Interval → Option ℕ
 next_start from [] = None
 next_start from (one ∷ rest) = if nat_lt from one.start then Some one.start else next_start from rest

@@ -9,4 +9,4 @@ queue_error_number NoMemory = 22
 
 abbrev pub queue_error_text : QueueError → List ℕ
 queue_error_text BadCapacity = codes "the capacity is not from 1 to 1048576 bytes"
-queue_error_text NoMemory = codes "out of memory"
+queue_error_text NoMemory = codes "no memory for the capacity"

@@ -32,7 +32,7 @@ impl fmt::Display for QueueError {
     fn fmt<W: fmt::Write>(&self, f: &mut fmt::Formatter<W>) -> fmt::Result {
         f.write_str(match self {
             QueueError::BadCapacity => "the capacity is not from 1 to 1048576 bytes",
-            QueueError::NoMemory => "out of memory",
+            QueueError::NoMemory => "no memory for the capacity",
         })
     }
 }

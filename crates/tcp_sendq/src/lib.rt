@@ -10,6 +10,3 @@ mod ring;
 
 pub use error::QueueError;
 pub use queue::{MAX_CAPACITY, SendQueue};
-
-#[cfg(test)]
-mod tests;

@@ -122,7 +122,7 @@ impl Marks {
         at
     }
 
-    /// Where the first run behind the place `from` begins.
+    /// Where the first run after the place `from` begins.
     pub(crate) fn next_start(&self, from: usize) -> Option<usize>
         ensures { result ≡ next_start from self.now.table.items }
     {

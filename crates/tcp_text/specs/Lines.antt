@@ -30,7 +30,7 @@ line_above_ascii text = option_map (λ at. count_by (λ b. b == 10) (take at tex
 abbrev pub ascii_lines : List ℕ → Result (List (ℕ × List ℕ)) ℕ
 ascii_lines text = option_map_or (λ line. Err line) (line_above_ascii text) (Ok (numbered_lines text))
 
--- the lines of what is left of a text, behind so many
+-- the lines of what is left of a text, after so many
 abbrev pub lines_left : ℕ → Option (Bor (List ℕ)) → List (ℕ × List ℕ)
 lines_left count None = []
 lines_left count (Some rest) = numbered_from (count + 1) (lines_of rest.now)

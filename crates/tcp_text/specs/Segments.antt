@@ -7,7 +7,7 @@ use Rattle.tcp_wire.specs.Options.{OptionContent, Nop, Mss, WindowScale, SackPer
 use Rattle.tcp_wire.specs.Wire.{Content}
 use Rattle.tcp_text.specs.Texts.{bytes_text, flags_text, blocks_text, options_text}
 
--- ALL FIELDS of a segment: ports and numbers, the other fields of the fixed header, and what is behind it
+-- ALL FIELDS of a segment: ports and numbers, the other fields of the fixed header, and what comes after it
 unfoldable pub numbers_text : Content → List ℕ
 numbers_text v =
     decimal v.src_port ++ (codes " > " ++ (decimal v.dst_port ++ (codes " seq " ++ (decimal v.seq
@@ -27,20 +27,20 @@ abbrev pub fields_text : Content → List ℕ
 fields_text v = numbers_text v ++ (control_text v ++ rest_text v)
 
 -- A SUMMARY of a segment: without ports, the length in place of the text, and the blocks of its options
-abbrev pub blocks_of : List OptionContent → List (ℕ × ℕ)
-blocks_of [] = []
-blocks_of (Nop ∷ options) = blocks_of options
-blocks_of (Mss size ∷ options) = blocks_of options
-blocks_of (WindowScale shift ∷ options) = blocks_of options
-blocks_of (SackPermitted ∷ options) = blocks_of options
-blocks_of (Sack blocks ∷ options) = blocks
-blocks_of (Unknown kind body ∷ options) = blocks_of options
+abbrev pub first_blocks : List OptionContent → List (ℕ × ℕ)
+first_blocks [] = []
+first_blocks (Nop ∷ options) = first_blocks options
+first_blocks (Mss size ∷ options) = first_blocks options
+first_blocks (WindowScale shift ∷ options) = first_blocks options
+first_blocks (SackPermitted ∷ options) = first_blocks options
+first_blocks (Sack blocks ∷ options) = blocks
+first_blocks (Unknown kind body ∷ options) = first_blocks options
 
 unfoldable pub summary_text : Content → List ℕ
 summary_text v =
     codes "flags " ++ (flags_text v.flags ++ (codes " seq " ++ (decimal v.seq ++ (codes " ack "
     ++ (decimal v.ack ++ (codes " window " ++ (decimal v.window ++ (codes " text "
-    ++ (decimal (length v.text) ++ (codes " sack " ++ (blocks_text (blocks_of v.options))))))))))))
+    ++ (decimal (length v.text) ++ (codes " sack " ++ (blocks_text (first_blocks v.options))))))))))))
 
 -- FAULTS of bytes that are no segment, by their numbers, and by their names
 abbrev pub fault_text : DecodeError → List ℕ

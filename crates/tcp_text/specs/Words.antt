@@ -5,7 +5,7 @@ use Rattle.std.specs.Result.{result_ok}
 use Rattle.std.specs.List.{slice_split, list_all}
 use Rattle.std.specs.Borrow.{Bor}
 use Rattle.hex.specs.Hex.{decode_of}
-use Rattle.tcp_wire.specs.declared.addr.Addr.{Addr}
+use Rattle.tcp_numbers.specs.declared.addr.Addr.{Addr}
 use Rattle.tcp_text.specs.declared.line.LineError.{LineError}
 use Rattle.tcp_text.specs.declared.line.LineError.TheVariants.{BadForm, NoMemory}
 
@@ -14,7 +14,7 @@ use Rattle.tcp_text.specs.declared.line.LineError.TheVariants.{BadForm, NoMemory
 abbrev pub words_of : List ℕ → List (List ℕ)
 words_of line = slice_split (λ b. b == 32) line
 
--- the further pieces, where there is something behind the first
+-- the further pieces, where there is something after the first
 abbrev pub further_pieces : ℕ → Option (Bor (List ℕ)) → List (List ℕ)
 further_pieces at None = []
 further_pieces at (Some rest) = slice_split (λ b. b == at) rest.now
@@ -23,7 +23,7 @@ further_pieces at (Some rest) = slice_split (λ b. b == at) rest.now
 abbrev pub is_digit : ℕ → Bool
 is_digit b = nat_le 48 b && nat_le b 57
 
--- the number that digits go on to write behind one
+-- the number that digits go on to write after one
 abbrev pub value_from : ℕ → List ℕ → ℕ
 value_from n [] = n
 value_from n (d ∷ ds) = value_from (10 * n + (d - 48)) ds

@@ -23,6 +23,3 @@ pub use lines::Lines;
 pub use numbers::read_number;
 pub use options::{push_blocks, push_options};
 pub use segments::{push_fields, push_summary};
-
-#[cfg(test)]
-mod tests;

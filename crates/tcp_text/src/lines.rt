@@ -12,7 +12,7 @@ const COMMENT: u8 = b'#';
 /// are empty or begin with `#` are passed over.
 #[derive(Debug, Drop)]
 pub struct Lines<'a> {
-    /// What is left of the text; none behind its last line.
+    /// What is left of the text; none after its last line.
     rest: Option<&'a [u8]>,
     /// How many lines stand before it.
     count: usize,
@@ -85,12 +85,12 @@ fn first_above_ascii(text: &[u8]) -> Option<usize>
     text.iter().position(|byte| *byte > 0x7f)
 }
 
-/// How many lines end in a front of a text.
-fn count_lines(front: &[u8]) -> usize
-    ensures count { result ≡ count_by (λ b. b == 10) front.now }
-    ensures most { result ≤ length front.now }
+/// How many lines end in a prefix of a text.
+fn count_lines(prefix: &[u8]) -> usize
+    ensures count { result ≡ count_by (λ b. b == 10) prefix.now }
+    ensures most { result ≤ length prefix.now }
 {
-    front.iter().filter(|byte| **byte == LINE_FEED).count()
+    prefix.iter().filter(|byte| **byte == LINE_FEED).count()
 }
 
 /// The line of the first byte above 7f.

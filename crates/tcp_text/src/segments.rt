@@ -1,7 +1,7 @@
 //! Segments (RFC 9293, 3.1): all fields, or a summary.
 ghost use Rattle.std.specs.Prelude.{◌≡◌, ◌++◌, OnOk, string_bytes, map};
 ghost use Rattle.tcp_wire.specs.View.{content, option_content, block};
-ghost use Rattle.tcp_text.specs.Segments.{numbers_text, control_text, rest_text, fields_text, blocks_of, summary_text};
+ghost use Rattle.tcp_text.specs.Segments.{numbers_text, control_text, rest_text, fields_text, first_blocks, summary_text};
 
 use crate::bytes::push_bytes;
 use crate::flags::push_flags;
@@ -14,10 +14,10 @@ use tcp_wire::{Segment, Seq, TcpOption};
 fn push_numbers(text: &mut String, segment: &Segment<'_>) -> Result<(), AllocError>
     ensures { OnOk result (string_bytes text.new ≡ string_bytes text.old ++ numbers_text (content segment.now)) }
 {
-    let src_port = segment.src_port;
-    let dst_port = segment.dst_port;
-    let seq = segment.seq.0;
-    let ack = segment.ack.0;
+    let src_port = segment.header.src_port;
+    let dst_port = segment.header.dst_port;
+    let seq = segment.header.seq.0;
+    let ack = segment.header.ack.0;
     write!(text, "{src_port} > {dst_port} seq {seq} ack {ack}")
 }
 
@@ -26,15 +26,15 @@ fn push_numbers(text: &mut String, segment: &Segment<'_>) -> Result<(), AllocErr
 fn push_control(text: &mut String, segment: &Segment<'_>) -> Result<(), AllocError>
     ensures { OnOk result (string_bytes text.new ≡ string_bytes text.old ++ control_text (content segment.now)) }
 {
-    let reserved = segment.reserved;
-    let window = segment.window;
-    let urgent = segment.urgent;
+    let reserved = segment.header.reserved;
+    let window = segment.header.window;
+    let urgent = segment.header.urgent;
     write!(text, " reserved {reserved} flags ")?;
-    push_flags(text, segment.flags)?;
+    push_flags(text, segment.header.flags)?;
     write!(text, " window {window} urgent {urgent}")
 }
 
-/// What is behind the fixed header.
+/// What comes after the fixed header.
 #[tactic(auto, unfolding(crate::specs::Segments::rest_text))]
 fn push_rest(alloc: Global, text: &mut String, segment: &Segment<'_>) -> Result<(), AllocError>
     ensures { OnOk result (string_bytes text.new ≡ string_bytes text.old ++ rest_text (content segment.now)) }
@@ -59,9 +59,9 @@ pub fn push_fields(
     push_rest(alloc, text, segment)
 }
 
-/// The blocks that the first option with blocks tells (RFC 2018, 3).
-fn blocks_of<'a>(options: &'a [TcpOption<'_>]) -> &'a [(Seq, Seq)]
-    ensures { map block result.now ≡ blocks_of (map option_content options.now) }
+/// The blocks that the first option with blocks reports (RFC 2018, 3).
+fn first_blocks<'a>(options: &'a [TcpOption<'_>]) -> &'a [(Seq, Seq)]
+    ensures { map block result.now ≡ first_blocks (map option_content options.now) }
 {
     for option in options {
         if let TcpOption::Sack(blocks) = option {
@@ -76,15 +76,15 @@ fn blocks_of<'a>(options: &'a [TcpOption<'_>]) -> &'a [(Seq, Seq)]
 pub fn push_summary(text: &mut String, segment: &Segment<'_>) -> Result<(), AllocError>
     ensures { OnOk result (string_bytes text.new ≡ string_bytes text.old ++ summary_text (content segment.now)) }
 {
-    let seq = segment.seq.0;
-    let ack = segment.ack.0;
-    let window = segment.window;
+    let seq = segment.header.seq.0;
+    let ack = segment.header.ack.0;
+    let window = segment.header.window;
     let count = segment.text.len();
     text.push_str("flags ")?;
-    push_flags(text, segment.flags)?;
+    push_flags(text, segment.header.flags)?;
     write!(
         text,
         " seq {seq} ack {ack} window {window} text {count} sack "
     )?;
-    push_blocks(text, blocks_of(segment.options.as_slice()))
+    push_blocks(text, first_blocks(segment.options.as_slice()))
 }

@@ -4,11 +4,11 @@ use Rattle.std.proofs.lemmas.Bool.Decides.{nat_tests}
 use Rattle.std.proofs.lemmas.List.{length-replicate, append-nil, drop_more, drop_all}
 use Rattle.tcp_wire.specs.declared.fault.DecodeError.{DecodeError}
 use Rattle.tcp_wire.specs.declared.fault.DecodeError.TheVariants.{TooShort, TooLong, BadChecksum, BadOffset, BadOption, BadPadding}
-use Rattle.tcp_wire.specs.Checksum.{AreBytes}
+use Rattle.tcp_numbers.specs.Checksum.{AreBytes}
 use Rattle.tcp_wire.specs.Options.{OptionContent, spelling, spellings, IsSpellable, AreSpellable}
 use Rattle.tcp_wire.specs.Fault.{IsBadOption, IsBadPadding}
 use Rattle.tcp_wire.specs.Decoded.{with_option, option_at, count_zeros, padding_at, with_first, options_in}
-use Rattle.tcp_wire.proofs.Bytes.{bytes_behind}
+use Rattle.tcp_wire.proofs.Bytes.{bytes_after_front}
 use Rattle.tcp_wire.proofs.OptionLaws.{TakesOption, option_takes, option_again, none_spelled, spelling_length}
 
 abbrev Read : Type 0
@@ -94,14 +94,14 @@ joined o area behind tail os is rest = is ∙ ap (λ (xs : List ℕ). spelling o
 place_moves : (start : ℕ) (o : OptionContent) (os : List OptionContent) (place : ℕ) → place ≡ start + length (spelling o) + length (spellings os) → place ≡ start + length (spellings (o ∷ os))
 place_moves start o os place e = omega (arith, length-append (spelling o) (spellings os))
 
-described_behind : (start : ℕ) (o : OptionContent) (area behind : List ℕ) (read : Read) → TakesOption area o behind
+described_after : (start : ℕ) (o : OptionContent) (area behind : List ℕ) (read : Read) → TakesOption area o behind
     → Describes (start + length (spelling o)) behind read → Describes start area (with_first o read)
-described_behind start o area behind (Ok read) t d = (joined o area behind (replicate {A = ℕ} read.1 0) read.0 t.parts d.0, (t.spellable, d.1))
-described_behind start o area behind (Err TooShort) t d = d
-described_behind start o area behind (Err TooLong) t d = d
-described_behind start o area behind (Err BadChecksum) t d = d
-described_behind start o area behind (Err BadOffset) t d = d
-described_behind start o area behind (Err (BadOption place)) t d = record {
+described_after start o area behind (Ok read) t d = (joined o area behind (replicate {A = ℕ} read.1 0) read.0 t.parts d.0, (t.spellable, d.1))
+described_after start o area behind (Err TooShort) t d = d
+described_after start o area behind (Err TooLong) t d = d
+described_after start o area behind (Err BadChecksum) t d = d
+described_after start o area behind (Err BadOffset) t d = d
+described_after start o area behind (Err (BadOption place)) t d = record {
   before = o ∷ d.before;
   first = d.first;
   rest = d.rest;
@@ -111,7 +111,7 @@ described_behind start o area behind (Err (BadOption place)) t d = record {
   not_zero = d.not_zero;
   none = d.none;
 }
-described_behind start o area behind (Err (BadPadding place)) t d = record {
+described_after start o area behind (Err (BadPadding place)) t d = record {
   before = o ∷ d.before;
   zeros = d.zeros;
   first = d.first;
@@ -127,11 +127,11 @@ by_option : {A B : Type 0} (P : B → Type 0) (o : Option A) (none : B) (some : 
 by_option P None none some f g = f refl
 by_option P (Some x) none some f g = g x refl
 
-behind_shorter : (area behind : List ℕ) (o : OptionContent) → TakesOption area o behind → length behind < length area
-behind_shorter area behind o t = omega (arith, ap length t.parts, length-append (spelling o) behind, spelling_length o)
+rest_shorter : (area behind : List ℕ) (o : OptionContent) → TakesOption area o behind → length behind < length area
+rest_shorter area behind o t = omega (arith, ap length t.parts, length-append (spelling o) behind, spelling_length o)
 
 bytes_after : (area behind : List ℕ) (o : OptionContent) → TakesOption area o behind → AreBytes area → AreBytes behind
-bytes_after area behind o t fits = bytes_behind (spelling o) behind (subst (λ (xs : List ℕ). AreBytes xs) t.parts fits)
+bytes_after area behind o t fits = bytes_after_front (spelling o) behind (subst (λ (xs : List ℕ). AreBytes xs) t.parts fits)
 
 nothing_left : (area : List ℕ) → length area ≤ 0 → option_at area ≡ None
 unfolding option_at
@@ -147,8 +147,8 @@ options_described (suc n) start area fits short small =
     (λ none. padding_described start area none)
     (λ found is.
     let t = option_takes area found fits small is in
-    let shorter = behind_shorter area found.1 found.0 t in
-    described_behind start found.0 area found.1 (options_in n (start + length (spelling found.0)) found.1) t
+    let shorter = rest_shorter area found.1 found.0 t in
+    described_after start found.0 area found.1 (options_in n (start + length (spelling found.0)) found.1) t
     (options_described n (start + length (spelling found.0)) found.1 (bytes_after area found.1 found.0 t fits) (omega arith) (omega arith)))
 
 -- ---- and what stands there is what is read
@@ -260,7 +260,7 @@ bad_option_read n start area place fits short small bad =
     let rest : List ℕ = bad.first ∷ bad.rest in
     let len = ap length bad.parts ∙ length-append (spellings bad.before) rest in
     let few = options_few bad.before in
-    let rest_fits = bytes_behind (spellings bad.before) rest (subst (λ (xs : List ℕ). AreBytes xs) bad.parts fits) in
+    let rest_fits = bytes_after_front (spellings bad.before) rest (subst (λ (xs : List ℕ). AreBytes xs) bad.parts fits) in
     let none = none_read rest rest_fits (omega arith) bad.none in
     ap (options_in n start) bad.parts
     ∙ options_in_front n start bad.before rest bad.spellable (omega arith)

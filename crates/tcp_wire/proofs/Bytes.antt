@@ -3,7 +3,7 @@ use Rattle.std.proofs.Common.{◌≡◌, ℕ, zero, suc, ◌+◌, ◌*◌, ◌/�
 use Rattle.std.proofs.lemmas.Bool.{cases_lt}
 use Rattle.std.proofs.lemmas.List.{drop_more, get_or-drop, get_or-take, get_or_past, length-take}
 use Rattle.byteorder.specs.Endian.{big_from, big_bytes}
-use Rattle.tcp_wire.specs.Checksum.{AreBytes}
+use Rattle.tcp_numbers.specs.Checksum.{AreBytes}
 
 pub bytes_cons : (x : ℕ) (xs : List ℕ) → x < 256 → AreBytes xs → AreBytes (x ∷ xs)
 bytes_cons x xs h hs zero = h
@@ -34,9 +34,9 @@ bytes_take n bytes fits i =
     ]
 
 -- what follows a front of bytes is bytes
-pub bytes_behind : (front rest : List ℕ) → AreBytes (front ++ rest) → AreBytes rest
-bytes_behind [] rest fits = fits
-bytes_behind (x ∷ front) rest fits = bytes_behind front rest (bytes_tail x (front ++ rest) fits)
+pub bytes_after_front : (front rest : List ℕ) → AreBytes (front ++ rest) → AreBytes rest
+bytes_after_front [] rest fits = fits
+bytes_after_front (x ∷ front) rest fits = bytes_after_front front rest (bytes_tail x (front ++ rest) fits)
 
 pub bytes_two : (n : ℕ) (xs : List ℕ) → AreBytes xs → AreBytes (big_bytes 2 n ++ xs)
 bytes_two n xs h = bytes_cons (n / 256 % 256) (n % 256 ∷ xs) (omega arith) (bytes_cons (n % 256) xs (omega arith) h)

@@ -1,5 +1,3 @@
-pub mod WordSums
-pub mod LaneSums
 pub mod Bytes
 pub mod OptionLaws
 pub mod AreaLaws
@@ -10,6 +8,6 @@ pub mod Reading
 pub mod Outcome
 pub mod Writing
 pub mod Places
-pub mod Positions
 pub mod RoundTrip
+pub mod Lemmas
 mod Rows

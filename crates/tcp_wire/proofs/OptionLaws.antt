@@ -5,7 +5,7 @@ use Rattle.std.proofs.lemmas.Bool.{le-ltb, ltb-false}
 use Rattle.std.proofs.lemmas.Bool.Decides.{nat_tests}
 use Rattle.std.proofs.lemmas.List.{take_at, drop_at, take-append-drop, length-take, length-drop, nil_from_length, append-nil}
 use Rattle.byteorder.specs.Endian.{big_from, big_bytes}
-use Rattle.tcp_wire.specs.Checksum.{AreBytes}
+use Rattle.tcp_numbers.specs.Checksum.{AreBytes}
 use Rattle.tcp_wire.specs.Options.{OptionContent, Nop, Mss, WindowScale, SackPermitted, Sack, Unknown, block_bytes, spelling, spellings, has_own_length, IsBlock, IsSpellable, AreSpellable}
 use Rattle.tcp_wire.specs.Decoded.{blocks_in, known_option, option_of, option_at}
 use Rattle.tcp_wire.proofs.Bytes.{bytes_cons, bytes_nil, bytes_tail, bytes_append, bytes_drop, bytes_take, bytes_two, bytes_four, next_two, next_four, next_one}

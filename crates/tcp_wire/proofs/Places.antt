@@ -2,26 +2,27 @@
 use Rattle.std.proofs.Common.{◌≡◌, ℕ, ◌+◌, ◌-◌, ◌≤◌, List, [], ◌++◌, length, map, take, drop, refl, sym, append_assoc, length-append, ap, ◌∙◌, arith}
 use Rattle.std.proofs.lemmas.List.{take_at, drop_at, drop-drop, take_rest, drop_all, append-nil, length-drop, length-take-le, take-append-drop}
 use Rattle.byteorder.specs.Endian.{big_bytes}
-use Rattle.tcp_wire.specs.Checksum.{field}
+use Rattle.tcp_numbers.specs.Checksum.{field}
 use Rattle.tcp_wire.specs.Wire.{Content, wire_length, segment_bytes, encoded_bytes}
 use Rattle.tcp_wire.specs.declared.header.Header.{Header}
-use Rattle.tcp_wire.specs.View.{option_content, with_text, text_offset, around}
+use Rattle.tcp_wire.specs.declared.option.TcpOption.{TcpOption}
+use Rattle.tcp_wire.specs.View.{option_content, content_of, text_offset, around}
 use Rattle.tcp_wire.proofs.Writing.{length_segment_bytes}
 use borrow.Rule.Slice.PartMut.{put_mid}
 
 -- a part behind a front
-pub put_behind : (a k : ℕ) (front old out part : List ℕ) → out ≡ front ++ old → length front ≡ a → put_mid a k out part ≡ front ++ (part ++ drop k old)
-put_behind a k front old out part is len = rw (is, take_at front old a len, drop_at front old a len) refl
+pub put_after : (a k : ℕ) (front old out part : List ℕ) → out ≡ front ++ old → length front ≡ a → put_mid a k out part ≡ front ++ (part ++ drop k old)
+put_after a k front old out part is len = rw (is, take_at front old a len, drop_at front old a len) refl
 
 -- a part that ends in what stood there, behind a front of what is written
-pub written_behind : (a k n : ℕ) (front old out part X : List ℕ) → out ≡ front ++ drop a old → length front ≡ a → k ≡ length out - a
+pub written_after : (a k n : ℕ) (front old out part X : List ℕ) → out ≡ front ++ drop a old → length front ≡ a → k ≡ length out - a
     → part ≡ X ++ drop n (take k (drop a out)) → put_mid a k out part ≡ (front ++ X) ++ drop (a + n) old
-written_behind a k n front old out part X is len klen part_is =
+written_after a k n front old out part X is len klen part_is =
     let whole : take k (drop a out) ≡ drop a out = ap (λ (m : ℕ). take m (drop a out)) klen ∙ take_rest out a in
     let behind : drop a out ≡ drop a old = ap (drop a) is ∙ drop_at front (drop a old) a len in
     let none : drop k (drop a old) ≡ [] = drop_all k (drop a old) (omega (arith, klen, ap length (sym behind), length-drop a out)) in
     let part' : part ≡ X ++ drop (a + n) old = part_is ∙ ap (λ (xs : List ℕ). X ++ drop n xs) (whole ∙ behind) ∙ ap (λ (xs : List ℕ). X ++ xs) (drop-drop n a old) in
-    put_behind a k front (drop a old) out part is len
+    put_after a k front (drop a old) out part is len
     ∙ ap (λ (xs : List ℕ). front ++ (part ++ xs)) none
     ∙ ap (λ (xs : List ℕ). front ++ xs) (append-nil part ∙ part')
     ∙ sym (append_assoc front X (drop (a + n) old))
@@ -29,7 +30,7 @@ written_behind a k n front old out part X is len klen part_is =
 -- a part of n places that is put behind the first `at`
 put_is : (at n k : ℕ) (old part : List ℕ) → at + n ≤ length old → k ≡ n → put_mid at k old part ≡ take at old ++ (part ++ drop n (drop at old))
 put_is at n k old part room k_is =
-    ap (λ (m : ℕ). put_mid at m old part) k_is ∙ put_behind at n (take at old) (drop at old) old part (sym (take-append-drop at old)) (length-take-le at old (omega arith))
+    ap (λ (m : ℕ). put_mid at m old part) k_is ∙ put_after at n (take at old) (drop at old) old part (sym (take-append-drop at old)) (length-take-le at old (omega arith))
 
 pub length_put : (at n k : ℕ) (old part : List ℕ) → at + n ≤ length old → k ≡ n → length part ≡ n → length (put_mid at k old part) ≡ length old
 length_put at n k old part room k_is len =
@@ -41,13 +42,13 @@ drop_put at n k old part room k_is len =
     ap (drop at) (put_is at n k old part room k_is) ∙ drop_at (take at old) (part ++ drop n (drop at old)) at (length-take-le at old (omega arith))
 
 -- a header around text that is put to its place says what the two say
-pub around_put : (fields : Header) (at n k : ℕ) (old part text : List ℕ) (v : Content) → at ≡ text_offset (map option_content fields.options.now) fields.pad → at + n ≤ length old
-    → k ≡ n → length text ≡ n → part ≡ text → with_text fields text ≡ v → around fields n (put_mid at k old part) ≡ v
-around_put fields at n k old part text v at_is room k_is len part_is is =
+pub around_put : (header : Header) (options : List TcpOption) (pad at n k : ℕ) (old part text : List ℕ) (v : Content) → at ≡ text_offset (map option_content options) pad → at + n ≤ length old
+    → k ≡ n → length text ≡ n → part ≡ text → content_of header (map option_content options) pad text ≡ v → around header options pad n (put_mid at k old part) ≡ v
+around_put header options pad at n k old part text v at_is room k_is len part_is is =
     let part_len : length part ≡ n = ap length part_is ∙ len in
     let stands : take n (drop at (put_mid at k old part)) ≡ text =
     ap (take n) (drop_put at n k old part room k_is part_len) ∙ take_at part (drop n (drop at old)) n part_len ∙ part_is in
-    ap (λ (m : ℕ). with_text fields (take n (drop m (put_mid at k old part)))) (sym at_is) ∙ ap (with_text fields) stands ∙ is
+    ap (λ (m : ℕ). content_of header (map option_content options) pad (take n (drop m (put_mid at k old part)))) (sym at_is) ∙ ap (content_of header (map option_content options) pad) stands ∙ is
 
 -- what was written around the text, over what stood there before the text was put
 pub encoded_over : (src dst : List ℕ) (v w : Content) (at n k : ℕ) (new old part : List ℕ) → at + n ≤ length old → k ≡ n → length part ≡ n → wire_length w ≡ at + n → v ≡ w
@@ -61,9 +62,22 @@ encoded_over src dst v w at n k new old part room k_is part_len whole same is =
     ∙ ap (λ (m : ℕ). encoded_bytes src dst w ++ drop m old) (sym whole)
 
 -- the length of the whole, by where its text stands
-pub length_around : (fields : Header) (at n : ℕ) (text : List ℕ) (v : Content) → at ≡ text_offset (map option_content fields.options.now) fields.pad → length text ≡ n
-    → with_text fields text ≡ v → wire_length v ≡ at + n
-length_around fields at n text v at_is len is = omega (arith, ap wire_length is)
+pub length_around : (header : Header) (options : List TcpOption) (pad at n : ℕ) (text : List ℕ) (v : Content) → at ≡ text_offset (map option_content options) pad → length text ≡ n
+    → content_of header (map option_content options) pad text ≡ v → wire_length v ≡ at + n
+length_around header options pad at n text v at_is len is = omega (arith, ap wire_length is)
+
+-- a text was put to its place in `old`, and what stands around it there says v
+pub record IsAround (v : Content) (header : Header) (options : List TcpOption) (pad at n k : ℕ) (old part : List ℕ) : Type 0 where
+  pub whole : wire_length v ≡ at + n
+  pub room : at + n ≤ length old
+  pub same : around header options pad n (put_mid at k old part) ≡ v
+
+pub is_around : (v : Content) (header : Header) (options : List TcpOption) (pad at n k : ℕ) (old part text : List ℕ) → at ≡ text_offset (map option_content options) pad
+    → wire_length v ≤ length old → k ≡ n → length text ≡ n → part ≡ text → content_of header (map option_content options) pad text ≡ v → IsAround v header options pad at n k old part
+is_around v header options pad at n k old part text at_is fits k_is len part_is says =
+    let whole : wire_length v ≡ at + n = length_around header options pad at n text v at_is len says in
+    let room : at + n ≤ length old = omega (arith, whole, fits) in
+    record { whole = whole; room = room; same = around_put header options pad at n k old part text v at_is room k_is len part_is says }
 
 drop_past : (k : ℕ) (xs out : List ℕ) → xs ≡ drop 16 out → k ≡ length out - 16 → drop k xs ≡ []
 drop_past k xs out is len = drop_all k xs (omega (arith, ap length is, length-drop 16 out))

@@ -75,13 +75,13 @@ ReadUpTo start options rest = BodiesLie start options × (rest ≡ (start.0, sta
 
 pub read_up_to_more : (start rest behind : ℕ × ℕ) (options pushed : List TcpOption) (o : TcpOption) → pushed ≡ options ++ o ∷ []
     → BodyIs (rest.0, rest.1 + 2) o → behind ≡ (rest.0, rest.1 + length (spelling (option_content o))) → ReadUpTo start options rest → ReadUpTo start pushed behind
-read_up_to_more start rest behind options pushed o pushed_is body behind_is before =
+read_up_to_more start rest behind options pushed o pushed_is body rest_is before =
     let there : BodyIs (start.0, start.1 + length (spellings (map option_content options)) + 2) o = subst (λ (p : ℕ × ℕ). BodyIs (p.0, p.1 + 2) o) before.1 body in
     let all = ap (λ (os : List TcpOption). length (spellings (map option_content os))) pushed_is in
     let more : length (spellings (map option_content pushed)) ≡ length (spellings (map option_content options)) + length (spelling (option_content o)) =
     all ∙ ap (λ (os : List OptionContent). length (spellings os)) (map_push option_content options o) ∙ ap length (spellings_push (map option_content options) (option_content o)) ∙ length-append (spellings (map option_content options)) (spelling (option_content o)) in
     let moved : behind ≡ (start.0, start.1 + length (spellings (map option_content options)) + length (spelling (option_content o))) =
-    behind_is ∙ ap (λ (p : ℕ × ℕ). (p.0, p.1 + length (spelling (option_content o)))) before.1 in
+    rest_is ∙ ap (λ (p : ℕ × ℕ). (p.0, p.1 + length (spelling (option_content o)))) before.1 in
     let sum : start.1 + length (spellings (map option_content options)) + length (spelling (option_content o)) ≡ start.1 + length (spellings (map option_content pushed)) = omega (arith, more) in (
       subst (λ (os : List TcpOption). BodiesLie start os) (sym pushed_is) (bodies_push start options o before.0 there),
       moved ∙ ap (λ (n : ℕ). (start.0, n)) sum,

@@ -5,14 +5,15 @@ use Rattle.std.proofs.lemmas.Bool.{ltb-false, le-ltb}
 use Rattle.std.proofs.lemmas.Bool.Decides.{nat_tests}
 use Rattle.tcp_wire.specs.declared.fault.DecodeError.{DecodeError}
 use Rattle.tcp_wire.specs.declared.fault.DecodeError.TheVariants.{TooShort, TooLong, BadChecksum, BadOffset, BadOption, BadPadding}
-use Rattle.tcp_wire.specs.Checksum.{AreBytes, segment_sum, Checks, DiffersInOnePlace}
+use Rattle.tcp_numbers.specs.Checksum.{AreBytes, segment_sum, Checks, DiffersInOnePlace}
 use Rattle.tcp_wire.specs.Options.{OptionContent, spellings}
 use Rattle.tcp_wire.specs.Wire.{Content, HasHeader, IsWire, data_offset, option_bytes, option_area}
+use Rattle.tcp_wire.specs.View.{listed_or_none, options_of}
 use Rattle.tcp_wire.specs.Fault.{FirstFault, IsSized, HasOffset}
 use Rattle.tcp_wire.specs.Decoded.{content_at, option_at, padding_at, options_in, with_options, layout_of, decode_answer}
 use Rattle.tcp_wire.proofs.Bytes.{bytes_take, bytes_drop}
 use Rattle.tcp_wire.proofs.AreaLaws.{Describes, options_described, options_complete, bad_option_read, bad_padding_read}
-use Rattle.tcp_wire.proofs.WordSums.{one_place, same_length}
+use Rattle.tcp_numbers.proofs.Lemmas.{one_place, same_length}
 
 -- ---- tests
 
@@ -155,6 +156,9 @@ layout_of_by_offset bytes has =
 pub no_options : options_in 40 20 [] ≡ Ok ([], 0)
 unfolding options_in option_at padding_at
 no_options = refl
+
+pub no_area : (area : List ℕ) → area ≡ [] → (options_of area).0 ≡ []
+no_area area none = ap (λ (bytes : List ℕ). (options_of bytes).0) none ∙ ap (λ (read : Result (List OptionContent × ℕ) DecodeError). (listed_or_none read).0) no_options
 
 pub complete : (src dst : List ℕ) (v : Content) (bytes : List ℕ) → IsWire src dst v bytes → decode_answer src dst bytes ≡ Ok v
 complete src dst v bytes w =

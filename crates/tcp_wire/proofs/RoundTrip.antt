@@ -2,7 +2,7 @@
 use Rattle.std.proofs.Common.{◌≡◌, ◌≢◌, ℕ, ◌<◌, List, ◌++◌, length, take, drop, get_or, set, suc, Ok, Err, sym, ap, subst, ◌∙◌}
 use Rattle.std.proofs.lemmas.List.{set_split, take-append-drop}
 use Rattle.tcp_wire.specs.declared.fault.DecodeError.TheVariants.{BadChecksum}
-use Rattle.tcp_wire.specs.Checksum.{AreBytes, DiffersInOnePlace, field}
+use Rattle.tcp_numbers.specs.Checksum.{AreBytes, DiffersInOnePlace, field}
 use Rattle.tcp_wire.specs.Wire.{Content, IsWire, IsValid, wire_length, segment_bytes, encoded_bytes}
 use Rattle.tcp_wire.specs.Decoded.{decode_answer}
 use Rattle.tcp_wire.proofs.Reading.{Explains, explained, complete, damaged}

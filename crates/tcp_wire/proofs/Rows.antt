@@ -3,7 +3,7 @@ use Rattle.std.proofs.Common.{◌≡◌, ℕ, true, List, [], ◌∷◌, replica
 use Rattle.std.specs.Prelude.{pos, negsuc}
 use Rattle.tcp_wire.specs.declared.fault.DecodeError.TheVariants.{TooShort, BadChecksum, BadOffset, BadOption, BadPadding}
 use Rattle.tcp_wire.specs.Options.{Nop, Sack, Unknown}
-use Rattle.tcp_wire.specs.Position.{near, is_before}
+use Rattle.tcp_numbers.specs.Position.{near, is_before}
 use Rattle.tcp_wire.specs.Wire.{Content, encoded_bytes}
 use Rattle.tcp_wire.specs.Decoded.{option_at, padding_at, options_in, layout_of, decode_answer}
 

@@ -2,10 +2,10 @@
 use Rattle.std.proofs.Common.{◌≡◌, ℕ, ◌+◌, ◌-◌, ◌*◌, ◌/◌, ◌%◌, ◌<◌, List, ◌∷◌, ◌++◌, length, take, drop, get_or, replicate, refl, sym, ap, subst, ◌∙◌, ◌⊎◌, inl, inr, length-append, arith}
 use Rattle.std.proofs.lemmas.List.{length-drop}
 use Rattle.byteorder.specs.Endian.{big_from, big_bytes}
-use Rattle.tcp_wire.specs.Checksum.{AreBytes, word_sum, pseudo_header, segment_sum, Checks, completion, field}
+use Rattle.tcp_numbers.specs.Checksum.{AreBytes, word_sum, pseudo_header, segment_sum, Checks, completion, field}
 use Rattle.tcp_wire.specs.Options.{spellings, AreSpellable}
 use Rattle.tcp_wire.specs.Wire.{Content, HasHeader, IsWire, IsValid, HasOtherZero, option_bytes, wire_length, segment_bytes, encoded_bytes}
-use Rattle.tcp_wire.proofs.Bytes.{bytes_cons, bytes_append, bytes_zeros, bytes_drop, bytes_behind, bytes_two, bytes_four, next_two, next_four, next_one}
+use Rattle.tcp_wire.proofs.Bytes.{bytes_cons, bytes_append, bytes_zeros, bytes_drop, bytes_after_front, bytes_two, bytes_four, next_two, next_four, next_one}
 use Rattle.tcp_wire.proofs.OptionLaws.{spellings_bytes}
 
 -- ---- the checksum field
@@ -166,6 +166,6 @@ wire_valid src dst v bytes w =
       options = w.options;
       whole_words = omega arith;
       room = omega arith;
-      text = bytes_behind (option_bytes v) v.text behind;
+      text = bytes_after_front (option_bytes v) v.text behind;
       most = omega (arith, len, length-append (option_bytes v) v.text, w.most, w.least);
     }

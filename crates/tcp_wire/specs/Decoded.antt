@@ -3,7 +3,7 @@ use Rattle.std.specs.Prelude.{ℕ, zero, suc, ◌+◌, ◌-◌, ◌*◌, ◌/◌
 use Rattle.byteorder.specs.Endian.{big_from}
 use Rattle.tcp_wire.specs.declared.fault.DecodeError.{DecodeError}
 use Rattle.tcp_wire.specs.declared.fault.DecodeError.TheVariants.{TooShort, TooLong, BadChecksum, BadOffset, BadOption, BadPadding}
-use Rattle.tcp_wire.specs.Checksum.{segment_sum}
+use Rattle.tcp_numbers.specs.Checksum.{segment_sum}
 use Rattle.tcp_wire.specs.Options.{OptionContent, Nop, Mss, WindowScale, SackPermitted, Sack, Unknown, spelling, has_own_length}
 use Rattle.tcp_wire.specs.Wire.{Content, header_len, max_len, data_offset, option_area}
 
@@ -41,12 +41,12 @@ known_option kind body =
     else (if kind == 4 then SackPermitted
     else Sack (blocks_in (length body / 8) body)))
 
--- the option of this kind with these bytes behind its length byte
+-- the option of this kind with these bytes after its length byte
 abbrev pub option_of : ℕ → List ℕ → OptionContent
 option_of kind body =
     if has_own_length kind (length body + 2) then known_option kind body else Unknown kind body
 
--- the option whose spelling begins these bytes, and the bytes behind it
+-- the option whose spelling begins these bytes, and the bytes after it
 unfoldable pub option_at : List ℕ → Option (OptionContent × List ℕ)
 option_at [] = None
 option_at (zero ∷ rest) = None
@@ -56,7 +56,7 @@ option_at (suc (suc k) ∷ len ∷ rest) =
     if nat_lt len 2 || nat_lt (length rest + 2) len then None
     else Some (option_of (suc (suc k)) (take (len - 2) rest), drop (len - 2) rest)
 
--- how many zeros stand in front
+-- how many zeros come first
 abbrev pub count_zeros : List ℕ → ℕ
 count_zeros [] = 0
 count_zeros (zero ∷ rest) = suc (count_zeros rest)
@@ -70,12 +70,12 @@ padding_at place (zero ∷ rest) =
     else Err (BadPadding (place + count_zeros (zero ∷ rest)))
 padding_at place (suc b ∷ rest) = Err (BadOption place)
 
--- an option in front of what was read behind it
+-- an option before what was read after it
 abbrev pub with_first : OptionContent → Result (List OptionContent × ℕ) DecodeError → Result (List OptionContent × ℕ) DecodeError
 with_first option (Ok read) = Ok (option ∷ read.0, read.1)
 with_first option (Err e) = Err e
 
--- up to this many options in bytes that begin at this place, and the count of zeros behind them
+-- up to this many options in bytes that begin at this place, and the count of zeros after them
 unfoldable pub options_in : ℕ → ℕ → List ℕ → Result (List OptionContent × ℕ) DecodeError
 options_in zero place bytes = padding_at place bytes
 options_in (suc n) place bytes =
@@ -86,7 +86,7 @@ abbrev pub with_options : List ℕ → Result (List OptionContent × ℕ) Decode
 with_options bytes (Ok read) = Ok (content_at bytes read.0 read.1)
 with_options bytes (Err e) = Err e
 
--- Behind the length and the checksum: the data offset, then options and padding, then what the segment
+-- After the length and the checksum: the data offset, then options and padding, then what the segment
 -- says. An option takes a byte or more, and there are at most 40.
 unfoldable pub layout_of : List ℕ → Result Content DecodeError
 layout_of bytes =

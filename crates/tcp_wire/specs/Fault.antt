@@ -3,7 +3,7 @@
 use Rattle.std.specs.Prelude.{◌≡◌, ◌≢◌, ◌⊎◌, ℕ, ◌+◌, ◌*◌, ◌<◌, ◌≤◌, List, ◌∷◌, ◌++◌, length, replicate}
 use Rattle.tcp_wire.specs.declared.fault.DecodeError.{DecodeError}
 use Rattle.tcp_wire.specs.declared.fault.DecodeError.TheVariants.{TooShort, TooLong, BadChecksum, BadOffset, BadOption, BadPadding}
-use Rattle.tcp_wire.specs.Checksum.{Checks}
+use Rattle.tcp_numbers.specs.Checksum.{Checks}
 use Rattle.tcp_wire.specs.Options.{OptionContent, spelling, spellings, IsSpellable, AreSpellable}
 use Rattle.tcp_wire.specs.Wire.{header_len, max_len, data_offset, option_area}
 
@@ -16,7 +16,7 @@ abbrev pub HasOffset : List ℕ → Type 0
 HasOffset bytes = (5 ≤ data_offset bytes) × (4 * data_offset bytes ≤ length bytes)
 
 -- In an area that begins at byte `start`, some options are spelled up to this place, the byte there
--- isn't zero, and no front of what remains there is the spelling of an option.
+-- isn't zero, and no prefix of what remains there is the spelling of an option.
 pub record IsBadOption (start : ℕ) (area : List ℕ) (place : ℕ) : Type 0 where
   pub before : List OptionContent
   pub first : ℕ

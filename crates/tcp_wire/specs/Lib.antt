@@ -1,8 +1,8 @@
-pub mod Position
-pub mod Laws
-pub mod Checksum
+pub use Rattle.tcp_numbers.specs.Position
+pub use Rattle.tcp_numbers.specs.Laws
+pub use Rattle.tcp_numbers.specs.Checksum
+pub use Rattle.tcp_numbers.specs.Flags
 pub mod Options
-pub mod Flags
 pub mod Wire
 pub mod Fault
 pub mod Decoded

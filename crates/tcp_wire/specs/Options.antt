@@ -2,7 +2,7 @@
 use Rattle.std.specs.Prelude.{◌≡◌, ℕ, ◌+◌, ◌*◌, ◌^◌, ◌<◌, ◌≤◌, ◌==◌, ◌&&◌, ◌||◌, Bool, false, List, [], ◌∷◌, ◌++◌, length}
 use Rattle.std.specs.List.{flat_map, AllByRecursion}
 use Rattle.byteorder.specs.Endian.{big_bytes}
-use Rattle.tcp_wire.specs.Checksum.{AreBytes}
+use Rattle.tcp_numbers.specs.Checksum.{AreBytes}
 
 -- what one option says; a block is its left edge and the number after its last one
 pub data OptionContent : Type 0 where

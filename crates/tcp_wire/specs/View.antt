@@ -1,14 +1,14 @@
 -- What a segment of the code says (RFC 9293, 3.1).
-use Rattle.std.specs.Prelude.{◌≡◌, ℕ, ◌+◌, List, [], ◌∷◌, ◌++◌, length, map, take, drop, replicate, Result, Ok, Err}
-use Rattle.tcp_wire.specs.declared.seq.Seq.{Seq}
+use Rattle.std.specs.Prelude.{◌≡◌, ℕ, ◌+◌, List, [], ◌∷◌, length, map, take, drop, Result, Ok, Err}
+use Rattle.tcp_numbers.specs.declared.seq.Seq.{Seq}
 use Rattle.tcp_wire.specs.declared.option.TcpOption.{TcpOption}
 use Rattle.tcp_wire.specs.declared.option.TcpOption.TheVariants as code
 use Rattle.tcp_wire.specs.declared.segment.Segment.{Segment}
 use Rattle.tcp_wire.specs.declared.header.Header.{Header}
 use Rattle.tcp_wire.specs.declared.raw.RawSegment.{RawSegment}
 use Rattle.tcp_wire.specs.declared.fault.DecodeError.{DecodeError}
-use Rattle.tcp_wire.specs.Options.{OptionContent, Nop, Mss, WindowScale, SackPermitted, Sack, Unknown, spelling, spellings}
-use Rattle.tcp_wire.specs.Wire.{Content, header_len}
+use Rattle.tcp_wire.specs.Options.{OptionContent, Nop, Mss, WindowScale, SackPermitted, Sack, Unknown, spelling}
+use Rattle.tcp_wire.specs.Wire.{Content, header_len, area_bytes}
 use Rattle.tcp_wire.specs.Decoded.{options_in}
 
 -- a block as its two numbers
@@ -23,49 +23,9 @@ option_content code.SackPermitted = SackPermitted
 option_content (code.Sack blocks) = Sack (map block blocks.items)
 option_content (code.Unknown kind body) = Unknown kind body.now
 
-abbrev pub content : Segment → Content
-content segment = record {
-  src_port = segment.src_port;
-  dst_port = segment.dst_port;
-  seq = segment.seq.0;
-  ack = segment.ack.0;
-  reserved = segment.reserved;
-  flags = segment.flags.0;
-  window = segment.window;
-  urgent = segment.urgent;
-  options = map option_content segment.options.items;
-  pad = segment.pad;
-  text = segment.text.now;
-}
-
--- what was read of an area; no options and no zeros where it can't be read
-abbrev pub listed_or_none : Result (List OptionContent × ℕ) DecodeError → List OptionContent × ℕ
-listed_or_none (Ok listed) = listed
-listed_or_none (Err e) = ([], 0)
-
--- the options in the area behind the fixed header and the count of zeros behind them (RFC 9293, 3.1)
-abbrev pub options_of : List ℕ → List OptionContent × ℕ
-options_of area = listed_or_none (options_in 40 header_len area)
-
--- what a segment says whose options stand in its area
-abbrev pub raw_content : RawSegment → Content
-raw_content segment = record {
-  src_port = segment.src_port;
-  dst_port = segment.dst_port;
-  seq = segment.seq.0;
-  ack = segment.ack.0;
-  reserved = segment.reserved;
-  flags = segment.flags.0;
-  window = segment.window;
-  urgent = segment.urgent;
-  options = (options_of segment.area.now).0;
-  pad = (options_of segment.area.now).1;
-  text = segment.text.now;
-}
-
--- a header with this text behind it
-abbrev pub with_text : Header → List ℕ → Content
-with_text header text = record {
+-- what a segment says with this fixed header, these options, this many zeros after them and this text
+abbrev pub content_of : Header → List OptionContent → ℕ → List ℕ → Content
+content_of header options pad text = record {
   src_port = header.src_port;
   dst_port = header.dst_port;
   seq = header.seq.0;
@@ -74,19 +34,36 @@ with_text header text = record {
   flags = header.flags.0;
   window = header.window;
   urgent = header.urgent;
-  options = map option_content header.options.now;
-  pad = header.pad;
+  options = options;
+  pad = pad;
   text = text;
 }
 
--- the Data Offset in bytes, where the text begins: behind the fixed header, options and zeros
-abbrev pub text_offset : List OptionContent → ℕ → ℕ
-text_offset options pad = header_len + length (spellings options ++ replicate {A = ℕ} pad 0)
+abbrev pub content : Segment → Content
+content segment = content_of segment.header (map option_content segment.options.items) segment.pad segment.text.now
 
--- a header with the text that stands in `out` behind its place
-abbrev pub around : Header → ℕ → List ℕ → Content
-around header text_len out =
-    with_text header (take text_len (drop (text_offset (map option_content header.options.now) header.pad) out))
+-- what was read of an area; no options and no zeros where it can't be read
+abbrev pub listed_or_none : Result (List OptionContent × ℕ) DecodeError → List OptionContent × ℕ
+listed_or_none (Ok listed) = listed
+listed_or_none (Err e) = ([], 0)
+
+-- the options in the area after the fixed header and the count of zeros after them (RFC 9293, 3.1)
+abbrev pub options_of : List ℕ → List OptionContent × ℕ
+options_of area = listed_or_none (options_in 40 header_len area)
+
+-- what a segment says whose options stand in its area
+abbrev pub raw_content : RawSegment → Content
+raw_content segment =
+    content_of segment.header (options_of segment.area.now).0 (options_of segment.area.now).1 segment.text.now
+
+-- the Data Offset in bytes, where the text begins: after the fixed header, options and zeros
+abbrev pub text_offset : List OptionContent → ℕ → ℕ
+text_offset options pad = header_len + length (area_bytes options pad)
+
+-- a segment with the text that stands in `out` at its place
+abbrev pub around : Header → List TcpOption → ℕ → ℕ → List ℕ → Content
+around header options pad text_len out =
+    content_of header (map option_content options) pad (take text_len (drop (text_offset (map option_content options) pad) out))
 
 -- an Unknown option's body is the slice that lies at this address
 abbrev pub BodyIs : ℕ × ℕ → TcpOption → Type 0
@@ -98,7 +75,7 @@ BodyIs address (code.Sack blocks) = Unit {0}
 BodyIs address (code.Unknown kind body) = body.ref_ptr ≡ address
 
 -- the bodies of options that are spelled from this address on are slices at their places: each lies
--- behind its kind and length byte
+-- after its kind and length byte
 abbrev pub BodiesLie : ℕ × ℕ → List TcpOption → Type 0
 BodiesLie address [] = Unit {0}
 BodiesLie address (option ∷ options) =

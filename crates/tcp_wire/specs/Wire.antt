@@ -1,7 +1,8 @@
 -- Segments as bytes (RFC 9293, 3.1), numbers in network order.
 use Rattle.std.specs.Prelude.{◌≡◌, ℕ, ◌+◌, ◌-◌, ◌*◌, ◌/◌, ◌%◌, ◌^◌, ◌<◌, ◌≤◌, List, [], ◌∷◌, ◌++◌, length, take, drop, replicate, slice_index}
 use Rattle.byteorder.specs.Endian.{big_from, big_bytes}
-use Rattle.tcp_wire.specs.Checksum.{AreBytes, Checks, field}
+use Rattle.tcp_numbers.specs.Checksum.{AreBytes, Checks, field}
+pub use Rattle.tcp_numbers.specs.Checksum.{header_len, max_len}
 use Rattle.tcp_wire.specs.Options.{OptionContent, spellings, AreSpellable}
 
 -- what a segment says, its checksum aside
@@ -18,21 +19,21 @@ pub record Content : Type 0 where
   pub pad : ℕ
   pub text : List ℕ
 
--- the bytes of the fixed header
-abbrev pub header_len : ℕ
-header_len = 20
-
--- the bytes of the longest segment: what an IPv4 packet holds behind its own header
-abbrev pub max_len : ℕ
-max_len = 65515
-
 -- the bytes of the longest text
 abbrev pub max_text_len : ℕ
 max_text_len = 65495
 
--- options, then zeros
+-- the most bytes of options and padding: ten words
+abbrev pub max_area_len : ℕ
+max_area_len = 40
+
+-- options, then this many zeros
+abbrev pub area_bytes : List OptionContent → ℕ → List ℕ
+area_bytes options pad = spellings options ++ replicate {A = ℕ} pad 0
+
+-- the options of a segment, then its zeros
 abbrev pub option_bytes : Content → List ℕ
-option_bytes v = spellings v.options ++ replicate {A = ℕ} v.pad 0
+option_bytes v = area_bytes v.options v.pad
 
 abbrev pub wire_length : Content → ℕ
 wire_length v = header_len + length (option_bytes v) + length v.text
@@ -57,7 +58,7 @@ pub record HasHeader (v : Content) (bytes : List ℕ) : Type 0 where
   pub urgent : v.urgent ≡ big_from 18 2 bytes
 
 -- The grammar: these bytes are a segment between these addresses, and v is what it says. The data
--- offset is 5 and a quarter of the option bytes; behind the fixed header stand options, zeros, text.
+-- offset is 5 and a quarter of the option bytes; after the fixed header come options, zeros, text.
 pub record IsWire (src dst : List ℕ) (v : Content) (bytes : List ℕ) : Type 0 where
   pub are_bytes : AreBytes bytes
   pub least : header_len ≤ length bytes
@@ -81,16 +82,22 @@ pub record IsValid (v : Content) : Type 0 where
   pub urgent : v.urgent < 2 ^ 16
   pub options : AreSpellable v.options
   pub whole_words : length (option_bytes v) % 4 ≡ 0
-  pub room : length (option_bytes v) ≤ 40
+  pub room : length (option_bytes v) ≤ max_area_len
   pub text : AreBytes v.text
   pub most : wire_length v ≤ max_len
 
+-- the first twelve bytes: ports, sequence number, acknowledgement number
+abbrev pub number_bytes : Content → List ℕ
+number_bytes v = big_bytes 2 v.src_port ++ big_bytes 2 v.dst_port ++ big_bytes 4 v.seq ++ big_bytes 4 v.ack
+
+-- the next eight, with this data offset and this checksum field: control bits, window, checksum, urgent pointer
+abbrev pub control_bytes : Content → ℕ → ℕ → List ℕ
+control_bytes v offset checksum =
+    (16 * offset + v.reserved) ∷ v.flags ∷ [] ++ big_bytes 2 v.window ++ big_bytes 2 checksum ++ big_bytes 2 v.urgent
+
 -- the fixed header with this checksum field
 abbrev pub header : Content → ℕ → List ℕ
-header v checksum =
-    big_bytes 2 v.src_port ++ big_bytes 2 v.dst_port ++ big_bytes 4 v.seq ++ big_bytes 4 v.ack
-    ++ (16 * (5 + length (option_bytes v) / 4) + v.reserved) ∷ v.flags ∷ []
-    ++ big_bytes 2 v.window ++ big_bytes 2 checksum ++ big_bytes 2 v.urgent
+header v checksum = number_bytes v ++ control_bytes v (5 + length (option_bytes v) / 4) checksum
 
 -- the bytes of v with this checksum field
 abbrev pub segment_bytes : Content → ℕ → List ℕ

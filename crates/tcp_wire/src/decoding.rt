@@ -1,26 +1,25 @@
 ghost use Rattle.std.specs.Prelude.{◌≡◌, ◌↔◌, ◌+◌, ◌*◌, ◌<◌, ◌≤◌, List, ℕ, length, map, Ok, Err, IfOk, IsOkAnd, MatchResult, Result};
 ghost use Rattle.tcp_wire.specs.declared.fault.DecodeError.{DecodeError};
-ghost use Rattle.tcp_wire.specs.Checksum.{DiffersInOnePlace};
-ghost use Rattle.tcp_wire.specs.Wire.{Content, IsWire, header_len, max_text_len, data_offset, option_area};
+ghost use Rattle.tcp_numbers.specs.Checksum.{DiffersInOnePlace};
+ghost use Rattle.tcp_wire.specs.Wire.{Content, IsWire, header_len, max_len, max_text_len, data_offset, option_area};
 ghost use Rattle.tcp_wire.specs.Fault.{FirstFault};
 ghost use Rattle.tcp_wire.specs.Decoded.{decode_answer, content_at, layout_of};
 ghost use Rattle.tcp_wire.specs.View.{content, raw_content, options_of, BodiesLie};
 
-use crate::addr::Addr;
 use crate::fault::DecodeError;
-use crate::flags::Flags;
+use crate::header::Header;
 use crate::option_reading::check_options;
 use crate::raw::RawSegment;
 use crate::segment::{HEADER_LEN, MAX_LEN, MAX_OPTIONS, Segment};
-use crate::seq::Seq;
-use crate::sums::checks;
 use byteorder::{BigEndian, ByteOrder};
+use tcp_numbers::{Addr, Flags, Seq, checks};
 
-/// The fields of the fixed header, and what stands behind it up to `offset` and from there on.
+/// The fields of the fixed header, and what stands after it up to `offset` and from there on.
 #[inline(always)]
 fn fields_of(bytes: &[u8], offset: usize) -> RawSegment<'_>
     requires header { header_len ≤ offset }
     requires inside { offset ≤ length bytes.now }
+    requires most { length bytes.now ≤ max_len }
     requires offset { offset ≡ 4 * data_offset bytes.now }
     ensures value { raw_content result ≡ content_at bytes.now (options_of (option_area bytes.now)).0 (options_of (option_area bytes.now)).1 }
     ensures area { result.area.now ≡ option_area bytes.now }
@@ -28,14 +27,16 @@ fn fields_of(bytes: &[u8], offset: usize) -> RawSegment<'_>
     ensures area_place { result.area.ref_ptr ≡ (bytes.entry.ref_ptr.0, bytes.entry.ref_ptr.1 + header_len) }
 {
     RawSegment {
-        src_port: BigEndian::read_u16(bytes),
-        dst_port: BigEndian::read_u16(&bytes[2..]),
-        seq: Seq(BigEndian::read_u32(&bytes[4..])),
-        ack: Seq(BigEndian::read_u32(&bytes[8..])),
-        reserved: bytes[12] % 16,
-        flags: Flags(bytes[13]),
-        window: BigEndian::read_u16(&bytes[14..]),
-        urgent: BigEndian::read_u16(&bytes[18..]),
+        header: Header {
+            src_port: BigEndian::read_u16(bytes),
+            dst_port: BigEndian::read_u16(&bytes[2..]),
+            seq: Seq(BigEndian::read_u32(&bytes[4..])),
+            ack: Seq(BigEndian::read_u32(&bytes[8..])),
+            reserved: bytes[12] % 16,
+            flags: Flags(bytes[13]),
+            window: BigEndian::read_u16(&bytes[14..]),
+            urgent: BigEndian::read_u16(&bytes[18..]),
+        },
         area: &bytes[HEADER_LEN..offset],
         text: &bytes[offset..],
     }
@@ -45,9 +46,9 @@ fn fields_of(bytes: &[u8], offset: usize) -> RawSegment<'_>
 #[inline(always)]
 #[tactic(auto, using(crate::proofs::Reading::no_options), unfolding(crate::specs::Decoded::layout_of))]
 fn lay_out(bytes: &[u8]) -> Result<RawSegment<'_>, DecodeError>
-    requires { header_len ≤ length bytes.now }
+    requires least { header_len ≤ length bytes.now }
+    requires most { length bytes.now ≤ max_len }
     ensures value { MatchResult result (λ s. layout_of bytes.now ≡ Ok (raw_content s)) (λ e. layout_of bytes.now ≡ Err e) }
-    ensures area { IfOk result (λ s. length s.area.now ≤ 40) }
     ensures place { IfOk result (λ s. s.text.ref_ptr ≡ (bytes.entry.ref_ptr.0, bytes.entry.ref_ptr.1 + 4 * data_offset bytes.now)) }
     ensures area_place { IfOk result (λ s. s.area.ref_ptr ≡ (bytes.entry.ref_ptr.0, bytes.entry.ref_ptr.1 + header_len)) }
 {
@@ -67,7 +68,6 @@ fn lay_out(bytes: &[u8]) -> Result<RawSegment<'_>, DecodeError>
 #[tactic(auto, unfolding(crate::specs::Decoded::decode_answer))]
 fn read_raw(src: Addr, dst: Addr, bytes: &[u8]) -> Result<RawSegment<'_>, DecodeError>
     ensures computed { MatchResult result (λ s. decode_answer src.0 dst.0 bytes.now ≡ Ok (raw_content s)) (λ e. decode_answer src.0 dst.0 bytes.now ≡ Err e) }
-    ensures area { IfOk result (λ s. length s.area.now ≤ 40) }
     ensures place { IfOk result (λ s. s.text.ref_ptr ≡ (bytes.entry.ref_ptr.0, bytes.entry.ref_ptr.1 + 4 * data_offset bytes.now)) }
     ensures area_place { IfOk result (λ s. s.area.ref_ptr ≡ (bytes.entry.ref_ptr.0, bytes.entry.ref_ptr.1 + header_len)) }
 {
@@ -100,9 +100,14 @@ impl<'a> RawSegment<'a> {
     /// Reads a segment that came from `src` to `dst`, as [`decode`] does, and leaves its options where they stand.
     #[inline(always)]
     pub fn parse(src: Addr, dst: Addr, bytes: &'a [u8]) -> Result<RawSegment<'a>, DecodeError>
+        // Ok exactly on the grammar, with what the segment says.
+        ensures value { (v : Content) → (IsOkAnd result (λ s. raw_content s ≡ v)) ↔ IsWire src.0 dst.0 v bytes.now }
+        // Each refusal exactly where it is the first fault.
+        ensures fault { (e : DecodeError) → (result ≡ Err e) ↔ FirstFault src.0 dst.0 bytes.now e }
+        // A segment with one changed byte is refused for its checksum.
+        ensures replaced { (v : Content) (sent : List ℕ) → IsWire src.0 dst.0 v sent → DiffersInOnePlace sent bytes.now → result ≡ Err DecodeError.BadChecksum }
         ensures computed { MatchResult result (λ s. decode_answer src.0 dst.0 bytes.now ≡ Ok (raw_content s)) (λ e. decode_answer src.0 dst.0 bytes.now ≡ Err e) }
         ensures short { IfOk result (λ s. length s.text.now ≤ max_text_len) }
-        ensures area { IfOk result (λ s. length s.area.now ≤ 40) }
         ensures place { IfOk result (λ s. s.text.ref_ptr ≡ (bytes.entry.ref_ptr.0, bytes.entry.ref_ptr.1 + 4 * data_offset bytes.now)) }
         ensures area_place { IfOk result (λ s. s.area.ref_ptr ≡ (bytes.entry.ref_ptr.0, bytes.entry.ref_ptr.1 + header_len)) }
     {

@@ -17,7 +17,7 @@ pub enum DecodeError {
     BadOffset,
     /// No option begins with the byte at this place, counted from the segment's first byte.
     BadOption { at: usize },
-    /// The byte at this place, behind the end of the options, isn't zero.
+    /// The byte at this place, after the end of the options, isn't zero.
     BadPadding { at: usize },
 }
 

@@ -1,14 +1,14 @@
 ghost use Rattle.std.specs.Prelude.{◌≡◌, ◌↔◌, ◌+◌, ◌*◌, ◌≤◌, length, map, IsSome, IfSome};
 ghost use Rattle.std.specs.List.{AllByRecursion};
-ghost use Rattle.tcp_wire.specs.Checksum.{AreBytes};
+ghost use Rattle.tcp_numbers.specs.Checksum.{AreBytes};
 ghost use Rattle.tcp_wire.specs.Options.{Unknown, has_own_length, IsBlock, IsSpellable, spelling};
 ghost use Rattle.tcp_wire.specs.View.{block, option_content};
 
-use crate::seq::Seq;
 use arrayvec::ArrayVec;
+use tcp_numbers::Seq;
 
 /// An option of a segment (RFC 9293, 3.2). The end of the list (kind 0) is no option: it and the
-/// zeros behind it are `Segment::pad`.
+/// zeros after it are `Segment::pad`.
 #[derive(Clone, Debug, Default, PartialEq, Eq, Drop)]
 pub enum TcpOption<'a> {
     /// No operation.

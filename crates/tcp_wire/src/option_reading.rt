@@ -7,9 +7,9 @@ ghost use Rattle.tcp_wire.specs.View.{block, option_content, listed_or_none, Bod
 use crate::fault::DecodeError;
 use crate::option::{TcpOption, has_own_length};
 use crate::segment::HEADER_LEN;
-use crate::seq::Seq;
 use arrayvec::ArrayVec;
 use byteorder::{BigEndian, ByteOrder};
+use tcp_numbers::Seq;
 
 /// The blocks of eight bytes each.
 fn read_blocks(body: &[u8]) -> ArrayVec<(Seq, Seq), 4>
@@ -27,7 +27,7 @@ fn read_blocks(body: &[u8]) -> ArrayVec<(Seq, Seq), 4>
     blocks
 }
 
-/// The option of this kind with these bytes behind its length byte.
+/// The option of this kind with these bytes after its length byte.
 fn option_from(kind: u8, body: &[u8]) -> TcpOption<'_>
     requires { length body.now ≤ 38 }
     ensures value { option_content result ≡ option_of kind body.now }
@@ -44,7 +44,7 @@ fn option_from(kind: u8, body: &[u8]) -> TcpOption<'_>
     }
 }
 
-/// The option whose spelling begins these bytes, and the bytes behind it.
+/// The option whose spelling begins these bytes, and the bytes after it.
 #[tactic(auto, unfolding(crate::specs::Decoded::option_at))]
 fn read_option(bytes: &[u8]) -> Option<(TcpOption<'_>, &[u8])>
     requires { length bytes.now ≤ 40 }
@@ -100,7 +100,7 @@ fn check_padding(bytes: &[u8], at: usize) -> Result<(), DecodeError>
 /// What is still to be read.
 struct Unread<'a>(&'a [u8]);
 
-/// The options in this area, which begins behind the fixed header, and the count of zeros behind them.
+/// The options in this area, which begins after the fixed header, and the count of zeros after them.
 pub(crate) fn read_options(area: &[u8]) -> Result<(ArrayVec<TcpOption<'_>, 40>, u8), DecodeError>
     requires { length area.now ≤ 40 }
     ensures value { MatchResult result (λ r. options_in 40 header_len area.now ≡ Ok (map option_content r.0.items, r.1)) (λ e. options_in 40 header_len area.now ≡ Err e) }
@@ -117,7 +117,7 @@ pub(crate) fn read_options(area: &[u8]) -> Result<(ArrayVec<TcpOption<'_>, 40>, 
     Ok((options, pad))
 }
 
-/// Whether at most `left` options stand in these bytes, which begin at place `at` of the segment, and zeros alone behind
+/// Whether at most `left` options stand in these bytes, which begin at place `at` of the segment, and zeros alone after
 /// them. No list is made.
 #[tactic(auto, using(crate::proofs::ReadOptions::checked_none, crate::proofs::ReadOptions::checked_end))]
 pub(crate) fn check_options(bytes: &[u8], at: usize, left: usize) -> Result<(), DecodeError>
@@ -130,8 +130,8 @@ pub(crate) fn check_options(bytes: &[u8], at: usize, left: usize) -> Result<(), 
     }
     match read_option(bytes) {
         Some((_, behind)) => {
-            let behind_at = at + (bytes.len() - behind.len());
-            check_options(behind, behind_at, left - 1)
+            let rest_at = at + (bytes.len() - behind.len());
+            check_options(behind, rest_at, left - 1)
         }
         None => check_padding(bytes, at),
     }

@@ -4,8 +4,8 @@ ghost use Rattle.tcp_wire.specs.Options.{IsSpellable, AreSpellable, block_bytes,
 ghost use Rattle.tcp_wire.specs.View.{block, option_content};
 
 use crate::option::TcpOption;
-use crate::seq::Seq;
 use byteorder::{BigEndian, ByteOrder};
+use tcp_numbers::Seq;
 
 /// Writes the two edges of a block.
 fn write_block(edges: (Seq, Seq), out: &mut [u8])

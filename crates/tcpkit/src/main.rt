@@ -3,20 +3,17 @@
 //! reports what came of each event.
 #![tactic(auto)]
 
-mod command_line;
 mod program;
-#[cfg(test)]
-mod tests;
 
-pub use command_line::{Job, WordsError, read_words};
+pub use counted_io::{Counted, Input, Output};
 use std::process::ExitCode;
+pub use tcp_commands::{ToolError, replay, show};
 pub use tcp_conn::{
     Arrival, CallError, Config, ConfigError, Ending, Endpoint, Phase, Received, Timer,
 };
-pub use tcp_devices::{Counted, Input, Output};
 pub use tcp_replay::{Event, Outcome, Side, StepError, World, WorldError};
 pub use tcp_script::{Script, ScriptError, read_script};
-pub use tcp_tool::{ToolError, replay, show};
+pub use tcp_words::{Job, WordsError, read_words};
 
 fn main(rt: HostRuntime) -> ExitCode {
     ExitCode::from(program::run(&rt))

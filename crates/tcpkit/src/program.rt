@@ -1,21 +1,12 @@
 //! The program: its words, its file, and its exit status.
-ghost use Rattle.std.specs.Prelude.{◌≡◌};
-ghost use Rattle.tcpkit.specs.Statuses.{status_of};
-
-use crate::command_line::{Job, WordsError, read_words};
+use counted_io::Counted;
 use std::fs::File;
+use std::io::Read;
 use std::rt::{Env, Files};
 use std::{env, io};
-use tcp_devices::Counted;
-use tcp_tool::{ToolError, replay, show};
+use tcp_commands::{ToolError, replay, show};
+use tcp_words::{Job, WordsError, exit_status, read_words};
 use thiserror::Error;
-
-/// All was well.
-const WELL: u8 = 0;
-/// The report tells of a refusal.
-const REFUSED: u8 = 1;
-/// The words, the file or the script has a fault.
-const FAULT: u8 = 2;
 
 /// Why the program ends without its whole report.
 #[derive(Debug, Drop, Error)]
@@ -42,16 +33,31 @@ fn words(rt: &(impl Env + AllocGlobal)) -> Result<Vec<String>, WordsError> {
     }
 }
 
+/// Lists the segments of a list.
+fn decode_all<R: Read + Drop>(rt: &(impl Print + AllocGlobal), list: R) -> Result<bool, ToolError> {
+    let mut input = Counted::new(list);
+    let mut output = Counted::new(io::writer(rt));
+    show(rt.alloc(), &mut input, &mut output)
+}
+
+/// Replays a script.
+fn replay_all<R: Read + Drop>(
+    rt: &(impl Print + AllocGlobal),
+    script: R,
+) -> Result<bool, ToolError> {
+    let mut input = Counted::new(script);
+    let mut output = Counted::new(io::writer(rt));
+    replay(rt.alloc(), &mut input, &mut output)
+}
+
 /// Opens a file and does the job.
 fn work(rt: &(impl Files + Print + AllocGlobal), job: &Job) -> Result<bool, ToolError> {
     let Ok(file) = File::open(rt, job.path()) else {
         return Err(ToolError::ReadFault);
     };
-    let mut input = Counted::new(file);
-    let mut output = Counted::new(io::writer(rt));
     match job {
-        Job::Decode(_) => show(rt.alloc(), &mut input, &mut output),
-        Job::Replay(_) => replay(rt.alloc(), &mut input, &mut output),
+        Job::Decode(_) => decode_all(rt, file),
+        Job::Replay(_) => replay_all(rt, file),
     }
 }
 
@@ -61,22 +67,11 @@ fn work_by_words(rt: &(impl Env + Files + Print + AllocGlobal)) -> Result<bool, 
     work(rt, &job).map_err(Fault::Tool)
 }
 
-/// The exit status of an answer.
-fn status_of(answer: &Result<bool, Fault>) -> u8
-    ensures { result ≡ status_of answer.now }
-{
-    match answer {
-        Ok(true) => WELL,
-        Ok(false) => REFUSED,
-        Err(_) => FAULT,
-    }
-}
-
-/// Does what the words ask for, and answers the exit status. A fault is told by one line on standard error.
+/// Does what the words ask for, and answers the exit status. A fault is reported by one line on standard error.
 pub(crate) fn run(rt: &(impl Env + Files + Print + Eprint + AllocGlobal)) -> u8 {
     let answer = work_by_words(rt);
     if let Err(fault) = &answer {
         let _ = eprintln!(rt; "tcpkit: {fault}");
     }
-    status_of(&answer)
+    exit_status(&answer)
 }

@@ -1,6 +1,6 @@
 use Rattle.std.proofs.Common.{◌≡◌, ◌+◌, ◌-◌, ℕ, List, arith, ap, ◌∙◌, length, take, drop}
 use Rattle.tcp_reasm.specs.Store.{put}
-use Rattle.tcp_reasm.proofs.Rings.{turned_put_split, turned_put_behind, take_least, drop_least}
+use Rattle.tcp_reasm.proofs.Rings.{turned_put_split, turned_put_after, take_least, drop_least}
 use Rattle.tcp_reasm.proofs.ring.write.Goals as goal
 
 pub returns-then-place-until_end-clause-bytes : goal.returns-then-place-until_end-clause-bytes
@@ -17,5 +17,5 @@ returns-then-place-until_end-clause-bytes c =
 
 pub returns-else-place-until_end-clause-bytes : goal.returns-else-place-until_end-clause-bytes
 returns-else-place-until_end-clause-bytes c =
-    turned_put_behind c.args.start c.args.place (c.args.place - (length c.args.block.now - c.args.start)) c.args.text.now c.args.block.now c.write_at-else-place-until_end.new.bytes
+    turned_put_after c.args.start c.args.place (c.args.place - (length c.args.block.now - c.args.start)) c.args.text.now c.args.block.now c.write_at-else-place-until_end.new.bytes
     (omega arith) c.requires.starts c.requires.fits c.write_at-else-place-until_end.ensures.bytes

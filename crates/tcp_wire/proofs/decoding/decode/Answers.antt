@@ -4,13 +4,13 @@ use Rattle.tcp_wire.specs.View.{content}
 use Rattle.tcp_wire.proofs.decoding.decode.Goals as goal
 
 pub returns-clause-value : goal.returns-clause-value
-returns-clause-value c = value_of c.args.src.0 c.args.dst.0 c.args.bytes.now c.read_segment.result (λ i. omega (arith, c.type_inv.bytes i)) c.read_segment.ensures.computed
+returns-clause-value c = value_of content c.args.src.0 c.args.dst.0 c.args.bytes.now c.read_segment.result (λ i. omega (arith, c.type_inv.bytes i)) c.read_segment.ensures.computed
 
 pub returns-clause-fault : goal.returns-clause-fault
-returns-clause-fault c = fault_of c.args.src.0 c.args.dst.0 c.args.bytes.now c.read_segment.result (λ i. omega (arith, c.type_inv.bytes i)) c.read_segment.ensures.computed
+returns-clause-fault c = fault_of content c.args.src.0 c.args.dst.0 c.args.bytes.now c.read_segment.result (λ i. omega (arith, c.type_inv.bytes i)) c.read_segment.ensures.computed
 
 pub returns-clause-replaced : goal.returns-clause-replaced
-returns-clause-replaced c = λ v sent w d. damaged_of c.args.src.0 c.args.dst.0 v sent c.args.bytes.now c.read_segment.result c.read_segment.ensures.computed w d
+returns-clause-replaced c = λ v sent w d. damaged_of content c.args.src.0 c.args.dst.0 v sent c.args.bytes.now c.read_segment.result c.read_segment.ensures.computed w d
 
 pub returns-clause-short : goal.returns-clause-short
 returns-clause-short c = short_of content c.args.src.0 c.args.dst.0 c.args.bytes.now c.read_segment.result (λ i. omega (arith, c.type_inv.bytes i)) c.read_segment.ensures.computed

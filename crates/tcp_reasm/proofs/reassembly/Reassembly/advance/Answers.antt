@@ -2,12 +2,12 @@ use Rattle.std.proofs.Common.{◌≡◌, ◌+◌, ℕ, List, ap, sym, subst, ari
 use Rattle.std.specs.Prelude.{map}
 use Rattle.std.specs.Vec.{with_items}
 use Rattle.std.proofs.lemmas.Grind.{common_steps}
-use Rattle.std.proofs.lemmas.List.{with_items_is}
+use Rattle.std.proofs.lemmas.List.{with_items_is, length-map}
 use Rattle.tcp_reasm.specs.declared.table.Run.{Run as Entry}
 use Rattle.tcp_reasm.specs.Reassembly.{Inbox, Run, bytes_in_order, with_overlay, stamp_of_run}
-use Rattle.tcp_reasm.specs.Store.{turned, runs_in, ranked, laid, inbox_of, IsKept, overlay_at, rest_of, union_of, moved}
+use Rattle.tcp_reasm.specs.Store.{turned, run_of, runs_in, ranked, laid, inbox_of, IsKept, overlay_at, rest_of, union_of, moved}
 use Rattle.tcp_reasm.proofs.Joins.{piece_of, union_wraps}
-use Rattle.tcp_reasm.proofs.Views.{advanced_view, advanced_kept, seen_parts}
+use Rattle.tcp_reasm.proofs.Views.{kept_sound, advanced_view, advanced_kept, seen_parts}
 use Rattle.tcp_reasm.proofs.reassembly.Reassembly.advance.Goals as goal
 
 pub invariant_of-self : goal.invariant_of-self
@@ -23,12 +23,12 @@ invariant_of-self g c =
     let count : c.union_of-count.result.to ≡ (union_of piece piece (runs_in table)).to =
     ap (λ (run : Run). run.to) c.union_of-count.ensures ∙ ap (λ (entries : List Entry). (union_of piece piece (runs_in entries)).to) c.deref.ensures.0 in
     let rest : runs_in c.rest_of-self-inside.result.items ≡ map (moved c.union_of-count.result.to) (rest_of piece (runs_in table)) =
-    c.rest_of-self-inside.ensures ∙ ap (λ (entries : List Entry). map (moved c.union_of-count.result.to) (rest_of piece (runs_in entries))) c.deref-3.ensures.0 in
+    c.rest_of-self-inside.ensures.items ∙ ap (λ (entries : List Entry). map (moved c.union_of-count.result.to) (rest_of piece (runs_in entries))) c.deref-3.ensures.0 in
     subst (λ (bytes : List ℕ). IsKept bytes c.self.inside.start (c.self.inside.unread + c.union_of-count.result.to) (runs_in c.rest_of-self-inside.result.items)) (sym now)
-    (advanced_kept block after c.self.inside.start c.self.inside.unread c.union_of-count.result.to end 0 table c.rest_of-self-inside.result.items c.self.invariant size c.requires.some (omega (arith, seen.0, seen.1)) count rest)
+    (advanced_kept block after c.self.inside.start c.self.inside.unread c.union_of-count.result.to end 0 table c.rest_of-self-inside.result.items c.self.invariant size c.requires.some (omega (arith, seen.0, seen.1)) count rest (omega (arith, length-map c.rest_of-self-inside.result.items run_of, c.rest_of-self-inside.ensures.few)))
 
-pub returns : goal.returns
-returns g c =
+pub returns-clause-after : goal.returns-clause-after
+returns-clause-after g c =
     let block : List ℕ = c.self.inside.block.items in
     let start : ℕ = c.self.inside.start in
     let unread : ℕ = c.self.inside.unread in
@@ -46,7 +46,7 @@ returns g c =
     let count : given ≡ (union_of piece piece (runs_in table)).to =
     ap (λ (run : Run). run.to) c.union_of-count.ensures ∙ ap (λ (entries : List Entry). (union_of piece piece (runs_in entries)).to) c.deref.ensures.0 in
     let rest : runs_in left ≡ map (moved given) (rest_of piece (runs_in table)) =
-    c.rest_of-self-inside.ensures ∙ ap (λ (entries : List Entry). map (moved given) (rest_of piece (runs_in entries))) c.deref-3.ensures.0 in
+    c.rest_of-self-inside.ensures.items ∙ ap (λ (entries : List Entry). map (moved given) (rest_of piece (runs_in entries))) c.deref-3.ensures.0 in
     let front : take unread (turned start after) ≡ take unread (turned start block) = c.lay.ensures.unread ∙ ap (λ (bytes : List ℕ). take unread (turned start bytes)) lent in
     let behind : drop unread (turned start after) ≡ laid (stamp_of_run (ranked (runs_in table))) 0 0 text (drop unread (turned start block)) =
     c.lay.ensures.window
@@ -59,3 +59,6 @@ returns g c =
       advanced.1 ∙ ap (λ (q : Inbox). length (bytes_in_order (overlay_at q 0 text))) c.self.view_is,
       omega (arith, count, (union_wraps piece piece (runs_in table)).1, c.requires.some),
     )
+
+pub returns-clause-sound : goal.returns-clause-sound
+returns-clause-sound g c = kept_sound _ _ _ _ (invariant_of-self g c)

@@ -1,3 +1,6 @@
+use Rattle.std.proofs.Common.{subst}
+use Rattle.tcp_reasm.specs.Reassembly.{IsInbox}
+use Rattle.tcp_reasm.proofs.Views.{kept_sound}
 use Rattle.std.proofs.Common.{ap, arith, ◌∙◌, sym, length, take, List}
 use Rattle.std.specs.Prelude.{map}
 use Rattle.std.proofs.lemmas.List.{length-map}
@@ -24,3 +27,7 @@ pub returns-clause-missing : goal.returns-clause-missing
 returns-clause-missing g c =
     sym (ap (λ (q : Inbox). cell_at q.held 0) c.self.view_is)
     ∙ missing_view c.self.inside.block.items c.self.inside.start c.self.inside.unread c.self.inside.table.items c.self.invariant.inside
+
+pub returns-clause-sound : goal.returns-clause-sound
+returns-clause-sound g c =
+    subst IsInbox c.self.view_is (kept_sound c.self.inside.block.items c.self.inside.start c.self.inside.unread c.self.inside.table.items c.self.invariant)

@@ -1,3 +1,4 @@
+use Rattle.tcp_reasm.specs.Reassembly.{IsInbox}
 use Rattle.std.proofs.Common.{◌≡◌, ◌≤◌, ◌+◌, ◌∷◌, ℕ, suc, List, ap, sym, subst, arith, ◌∙◌, refl, length, take, drop}
 use Rattle.std.specs.Prelude.{map, true, false, nat_le}
 use Rattle.std.specs.Vec.{with_items}
@@ -8,7 +9,7 @@ use Rattle.tcp_reasm.specs.declared.table.Run.{Run as Entry}
 use Rattle.tcp_reasm.specs.Reassembly.{Inbox, Run, max_runs, with_overlay, stamp_of_run}
 use Rattle.tcp_reasm.specs.Store.{turned, run_of, runs_in, ranked, laid, inbox_of, IsKept, overlay_at, rest_of, union_of, moved}
 use Rattle.tcp_reasm.proofs.Joins.{piece_of}
-use Rattle.tcp_reasm.proofs.Views.{held_view, held_kept, seen_parts, none_view, runs_view, none_moved}
+use Rattle.tcp_reasm.proofs.Views.{kept_sound, held_view, held_kept, seen_parts, none_view, runs_view, none_moved}
 use Rattle.tcp_reasm.proofs.reassembly.Reassembly.hold.Goals as goal
 
 few : (n : ℕ) → n ≤ max_runs → true ≡ nat_le n max_runs
@@ -26,7 +27,7 @@ returns-then-len-ge-MAX_RUNS-clause-kept g c =
     let piece = piece_of place end 0 in
     let seen = seen_parts block c.self.inside.start c.self.inside.unread table c.args.self.now c.self.view_is c.self.invariant.fits in
     let rest : runs_in c.rest_of-table.result.items ≡ rest_of piece (runs_in table) =
-    c.rest_of-table.ensures ∙ ap (λ (entries : List Entry). map (moved 0) (rest_of piece (runs_in entries))) c.deref.ensures.0 ∙ none_moved (rest_of piece (runs_in table)) in
+    c.rest_of-table.ensures.items ∙ ap (λ (entries : List Entry). map (moved 0) (rest_of piece (runs_in entries))) c.deref.ensures.0 ∙ none_moved (rest_of piece (runs_in table)) in
     let count : length (rest_of piece (runs_in table)) ≡ c.len.result = omega (arith, ap length rest, length-map c.rest_of-table.result.items run_of, c.len.ensures.value) in
     many (length (rest_of piece (runs_in table))) (omega arith)
     ∙ ap (λ n. nat_le n max_runs) (sym (runs_view block c.self.inside.start c.self.inside.unread table c.args.self.now place end 0 c.args.text.now c.self.view_is refl (omega arith) (omega (arith, seen.0, seen.1)) c.self.invariant.inside c.self.invariant.away))
@@ -49,14 +50,15 @@ invariant_of-self g c =
     let now : (with_items c.self.inside.block after).items ≡ after = grind (arith, common_steps, with_items_is) in
     let seen = seen_parts block start unread table c.args.self.now c.self.view_is c.self.invariant.fits in
     let rest : runs_in c.rest_of-table.result.items ≡ rest_of piece (runs_in table) =
-    c.rest_of-table.ensures ∙ ap (λ (entries : List Entry). map (moved 0) (rest_of piece (runs_in entries))) c.deref.ensures.0 ∙ none_moved (rest_of piece (runs_in table)) in
+    c.rest_of-table.ensures.items ∙ ap (λ (entries : List Entry). map (moved 0) (rest_of piece (runs_in entries))) c.deref.ensures.0 ∙ none_moved (rest_of piece (runs_in table)) in
     let union : run_of c.union_of.result ≡ union_of piece piece (runs_in table) = c.union_of.ensures ∙ ap (λ (entries : List Entry). union_of piece piece (runs_in entries)) c.deref-2.ensures.0 in
     let joined : runs_in c.insert.new.self.items ≡ union_of piece piece (runs_in table) ∷ rest_of piece (runs_in table) =
     ap runs_in c.insert.ensures.items
     ∙ ap (λ (run : Run). run ∷ runs_in c.rest_of-table.result.items) union
     ∙ ap (λ (rs : List Run). union_of piece piece (runs_in table) ∷ rs) rest in
     subst (λ (bytes : List ℕ). IsKept bytes start unread (runs_in c.insert.new.self.items)) (sym now)
-    (held_kept block after start unread place end 0 table c.insert.new.self.items c.self.invariant size c.requires.gap (omega arith) (omega (arith, seen.0, seen.1)) joined)
+    (held_kept block after start unread place end 0 table c.insert.new.self.items c.self.invariant size c.requires.gap (omega arith) (omega (arith, seen.0, seen.1)) joined
+    (omega (arith, ap length joined, ap length rest, length-map c.rest_of-table.result.items run_of, c.len.ensures.value, c.if-len-ge-MAX_RUNS.false)))
 
 pub returns-clause-kept : goal.returns-clause-kept
 returns-clause-kept g c =
@@ -67,7 +69,7 @@ returns-clause-kept g c =
     let piece = piece_of place end 0 in
     let seen = seen_parts block c.self.inside.start c.self.inside.unread table c.args.self.now c.self.view_is c.self.invariant.fits in
     let rest : runs_in c.rest_of-table.result.items ≡ rest_of piece (runs_in table) =
-    c.rest_of-table.ensures ∙ ap (λ (entries : List Entry). map (moved 0) (rest_of piece (runs_in entries))) c.deref.ensures.0 ∙ none_moved (rest_of piece (runs_in table)) in
+    c.rest_of-table.ensures.items ∙ ap (λ (entries : List Entry). map (moved 0) (rest_of piece (runs_in entries))) c.deref.ensures.0 ∙ none_moved (rest_of piece (runs_in table)) in
     let count : length (rest_of piece (runs_in table)) ≡ c.len.result = omega (arith, ap length rest, length-map c.rest_of-table.result.items run_of, c.len.ensures.value) in
     few (suc (length (rest_of piece (runs_in table)))) (omega arith)
     ∙ ap (λ n. nat_le n max_runs) (sym (runs_view block c.self.inside.start c.self.inside.unread table c.args.self.now place end 0 c.args.text.now c.self.view_is refl (omega arith) (omega (arith, seen.0, seen.1)) c.self.invariant.inside c.self.invariant.away))
@@ -88,7 +90,7 @@ returns-clause-after g c =
     let now : (with_items c.self.inside.block after).items ≡ after = grind (arith, common_steps, with_items_is) in
     let seen = seen_parts block start unread table c.args.self.now c.self.view_is c.self.invariant.fits in
     let rest : runs_in c.rest_of-table.result.items ≡ rest_of piece (runs_in table) =
-    c.rest_of-table.ensures ∙ ap (λ (entries : List Entry). map (moved 0) (rest_of piece (runs_in entries))) c.deref.ensures.0 ∙ none_moved (rest_of piece (runs_in table)) in
+    c.rest_of-table.ensures.items ∙ ap (λ (entries : List Entry). map (moved 0) (rest_of piece (runs_in entries))) c.deref.ensures.0 ∙ none_moved (rest_of piece (runs_in table)) in
     let union : run_of c.union_of.result ≡ union_of piece piece (runs_in table) = c.union_of.ensures ∙ ap (λ (entries : List Entry). union_of piece piece (runs_in entries)) c.deref-2.ensures.0 in
     let joined : runs_in c.insert.new.self.items ≡ union_of piece piece (runs_in table) ∷ rest_of piece (runs_in table) =
     ap runs_in c.insert.ensures.items
@@ -106,3 +108,10 @@ returns-clause-after g c =
 pub returns-clause-none : goal.returns-clause-none
 returns-clause-none g c =
     none_view c.self.inside.block.items c.self.inside.start c.self.inside.unread c.self.inside.table.items c.args.self.now c.args.start (c.args.start + length c.args.text.now) c.args.text.now c.self.view_is c.requires.gap refl c.self.invariant.inside
+
+pub returns-then-len-ge-MAX_RUNS-clause-sound : goal.returns-then-len-ge-MAX_RUNS-clause-sound
+returns-then-len-ge-MAX_RUNS-clause-sound g c =
+    subst IsInbox c.self.view_is (kept_sound c.self.inside.block.items c.self.inside.start c.self.inside.unread c.self.inside.table.items c.self.invariant)
+
+pub returns-clause-sound : goal.returns-clause-sound
+returns-clause-sound g c = kept_sound _ _ _ _ (invariant_of-self g c)

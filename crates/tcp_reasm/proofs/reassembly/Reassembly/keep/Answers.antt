@@ -10,7 +10,7 @@ pub returns-then-start-eq0-clause-after : goal.returns-then-start-eq0-clause-aft
 returns-then-start-eq0-clause-after g c =
     let q : Inbox = c.args.self.now in
     let over : List (Option Cell) = overlay_at q c.args.start c.args.text.now in
-    c.advance.ensures.0
+    c.advance.ensures.after.0
     ∙ ap (λ start. with_overlay q (overlay_at q start c.args.text.now)) (sym c.if-start-eq0.true)
     ∙ ap (λ b. if b then q else with_overlay q over) (sym (next_kept c.args.start (length (runs over)) c.if-start-eq0.true))
 
@@ -18,8 +18,8 @@ pub returns-then-start-eq0-clause-answer : goal.returns-then-start-eq0-clause-an
 returns-then-start-eq0-clause-answer g c =
     let q : Inbox = c.args.self.now in
     let over : List (Option Cell) = overlay_at q c.args.start c.args.text.now in
-    advanced_answer c.advance.result c.advance.ensures.2
-    ∙ ap answer_for (c.advance.ensures.1 ∙ ap (λ start. length (bytes_in_order (overlay_at q start c.args.text.now))) (sym c.if-start-eq0.true))
+    advanced_answer c.advance.result c.advance.ensures.after.2
+    ∙ ap answer_for (c.advance.ensures.after.1 ∙ ap (λ start. length (bytes_in_order (overlay_at q start c.args.text.now))) (sym c.if-start-eq0.true))
     ∙ ap (λ b. if b then NotKept else answer_for (length (bytes_in_order over))) (sym (next_kept c.args.start (length (runs over)) c.if-start-eq0.true))
 
 pub returns-then-hold-clause-after : goal.returns-then-hold-clause-after

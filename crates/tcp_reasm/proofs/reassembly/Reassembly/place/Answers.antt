@@ -1,3 +1,5 @@
+use Rattle.tcp_reasm.specs.Reassembly.{IsInbox}
+use Rattle.tcp_reasm.proofs.Views.{kept_sound}
 use Rattle.std.proofs.Common.{◌≡◌, ◌⊎◌, ◌<◌, ◌≤◌, ◌-◌, ℕ, List, w64, arith, ap, sym, subst, ◌∙◌, inl, inr, take, length}
 use Rattle.std.specs.Prelude.{true, false, min, ◌==◌}
 use Rattle.std.proofs.lemmas.Bool.Decides.{nat_tests}
@@ -101,3 +103,7 @@ returns-clause-missing g c =
     (after_place-missing c.args.self.now c.args.offset c.args.text.now
     (sym (ap (λ (q : Inbox). cell_at q.held 0) c.self.view_is)
     ∙ missing_view c.self.inside.block.items c.self.inside.start c.self.inside.unread c.self.inside.table.items c.self.invariant.inside))
+
+pub returns-then-is_empty-clause-sound : goal.returns-then-is_empty-clause-sound
+returns-then-is_empty-clause-sound g c =
+    subst IsInbox c.self.view_is (kept_sound c.self.inside.block.items c.self.inside.start c.self.inside.unread c.self.inside.table.items c.self.invariant)

@@ -1,6 +1,6 @@
 use Rattle.std.proofs.Common.{◌≡◌}
 use Rattle.tcp_replay.specs.World.{new_party}
-use Rattle.tcp_replay.proofs.Parties.{fault_is}
+use Rattle.tcp_replay.proofs.Parties.{fault-of_a, fault-of_b, fault-of_none}
 use Rattle.tcp_replay.proofs.Sounds.{sound-new}
 use Rattle.tcp_replay.proofs.world.World.new_in.Goals as goal
 
@@ -11,7 +11,15 @@ invariant_of-result g c =
     let second : c.in-Ok-new_in.party ≡ new_party c.args.b = c.in-Ok-new_in.ensures.new in
     rw (first, second) (sound-new c.args.a c.args.b c.in-Ok.ensures.made c.in-Ok-new_in.ensures.made)
 
+pub returns-in-Err-clause-fault : goal.returns-in-Err-clause-fault
+returns-in-Err-clause-fault g c =
+    let e = c.in-Err.ensures in
+    fault-of_a c.args.a c.args.b c.in-Err.fault (record { capacity = e.bad_capacity; mss = e.bad_mss; shift = e.bad_shift; good = e.good })
+
 pub returns-in-Err-new_in-clause-fault : goal.returns-in-Err-new_in-clause-fault
 returns-in-Err-new_in-clause-fault g c =
     let e = c.in-Err-new_in.ensures in
-    (c.in-Ok.ensures.made.good, fault_is c.args.b c.in-Err-new_in.fault e.bad_capacity e.bad_mss e.bad_shift e.good)
+    fault-of_b c.args.a c.args.b c.in-Err-new_in.fault c.in-Ok.ensures.made.good (record { capacity = e.bad_capacity; mss = e.bad_mss; shift = e.bad_shift; good = e.good })
+
+pub returns-clause-fault : goal.returns-clause-fault
+returns-clause-fault g c = fault-of_none c.args.a c.args.b _ c.in-Ok.ensures.made.good

@@ -1,0 +1,329 @@
+/* The test of misuse: NULL, garbage, copied, moved, freed and doubly freed structs, short room, huge lengths, unknown timers. */
+#include "tcpcore.h"
+
+#include <stdio.h>
+#include <stdlib.h>
+#include <string.h>
+
+static int checks;
+
+#define CHECK(found, wanted) check(#found, __LINE__, (unsigned long long)(found), (unsigned long long)(wanted))
+
+static void check(const char *what, int line, unsigned long long found, unsigned long long wanted)
+{
+    checks++;
+    if (found != wanted) {
+        printf("misuse.c:%d: %s is %llu, not %llu\n", line, what, found, wanted);
+        exit(1);
+    }
+}
+
+static const tcpcore_addr HERE = {{10, 0, 0, 1}}, THERE = {{10, 0, 0, 2}}, NOWHERE = {{0, 0, 0, 0}};
+static const size_t HUGE_LENGTH = (size_t)PTRDIFF_MAX + 1;
+
+static tcpcore_config good_config(tcpcore_addr addr)
+{
+    return (tcpcore_config){
+        .addr = addr, .port = 9, .mss = 1460, .isn = 1, .send_capacity = 1000, .recv_capacity = 1000, .sack = 1};
+}
+
+static int is_empty(const tcpcore_end *end)
+{
+    static const tcpcore_end EMPTY = TCPCORE_END_INIT;
+    return memcmp(end, &EMPTY, sizeof EMPTY) == 0;
+}
+
+/* Each call but new and free answers `wanted`, tells 0, and leaves the buffers as they are. */
+static void every_call(tcpcore_end *end, uint32_t wanted)
+{
+    unsigned char buffer[TCPCORE_EMIT_ROOM];
+    memset(buffer, 0xee, sizeof buffer);
+    size_t count = 7;
+    uint32_t due = 7;
+    tcpcore_addr to = {{7, 7, 7, 7}};
+    struct tcpcore_status status = {7, 7, 7, 7, 7};
+    CHECK(tcpcore_connect(end, THERE, 9), wanted);
+    CHECK(tcpcore_listen(end), wanted);
+    CHECK(tcpcore_send(end, "abc", 3, &count), wanted);
+    CHECK(count, 0);
+    count = 7;
+    CHECK(tcpcore_receive(end, buffer, sizeof buffer, &count), wanted);
+    CHECK(count, 0);
+    CHECK(tcpcore_close(end), wanted);
+    CHECK(tcpcore_abort(end), wanted);
+    CHECK(tcpcore_timer(end, TCPCORE_TIMER_RETRANSMIT), wanted);
+    CHECK(tcpcore_arrive(end, THERE, HERE, "short", 5), wanted);
+    count = 7;
+    CHECK(tcpcore_emit(end, buffer, sizeof buffer, &to, &count), wanted);
+    CHECK(count, 0);
+    CHECK(memcmp(&to, &NOWHERE, sizeof to), 0);
+    CHECK(tcpcore_timers(end, &due), wanted);
+    CHECK(due, 0);
+    CHECK(tcpcore_status(end, &status), wanted);
+    CHECK(status.phase + status.ending + status.unread + status.released + status.ordered, 0);
+    for (size_t i = 0; i < sizeof buffer; i++)
+        if (buffer[i] != 0xee)
+            CHECK(buffer[i], 0xee);
+}
+
+/* No end: never made. */
+static void no_end(void)
+{
+    tcpcore_end end = TCPCORE_END_INIT;
+    every_call(&end, TCPCORE_NO_END);
+    CHECK(tcpcore_free(&end), TCPCORE_NO_END);
+    CHECK(is_empty(&end), 1);
+    every_call(NULL, TCPCORE_NULL);
+    CHECK(tcpcore_free(NULL), TCPCORE_NULL);
+}
+
+static void null_pointers(void)
+{
+    tcpcore_end end = TCPCORE_END_INIT;
+    tcpcore_config config = good_config(HERE);
+    unsigned char buffer[TCPCORE_EMIT_ROOM];
+    size_t count;
+    tcpcore_addr to;
+    CHECK(tcpcore_new(NULL, &config), TCPCORE_NULL);
+    CHECK(tcpcore_new(&end, NULL), TCPCORE_NULL);
+    CHECK(is_empty(&end), 1);
+    CHECK(tcpcore_new(&end, &config), TCPCORE_DONE);
+    CHECK(tcpcore_listen(&end), TCPCORE_DONE);
+    count = 7;
+    CHECK(tcpcore_send(&end, NULL, 3, &count), TCPCORE_NULL);
+    CHECK(count, 0);
+    CHECK(tcpcore_send(&end, "abc", 3, NULL), TCPCORE_NULL);
+    CHECK(tcpcore_send(&end, NULL, 0, &count), TCPCORE_NOT_CONNECTED);
+    CHECK(tcpcore_receive(&end, NULL, 3, &count), TCPCORE_NULL);
+    CHECK(tcpcore_receive(&end, buffer, 3, NULL), TCPCORE_NULL);
+    CHECK(tcpcore_receive(&end, NULL, 0, &count), TCPCORE_NOTHING);
+    CHECK(tcpcore_arrive(&end, THERE, HERE, NULL, 20), TCPCORE_NULL);
+    CHECK(tcpcore_arrive(&end, THERE, HERE, NULL, 0), TCPCORE_TOO_SHORT);
+    CHECK(tcpcore_emit(&end, NULL, sizeof buffer, &to, &count), TCPCORE_NULL);
+    count = 7;
+    CHECK(tcpcore_emit(&end, buffer, sizeof buffer, NULL, &count), TCPCORE_NULL);
+    CHECK(count, 0);
+    CHECK(tcpcore_emit(&end, buffer, sizeof buffer, &to, NULL), TCPCORE_NULL);
+    CHECK(tcpcore_timers(&end, NULL), TCPCORE_NULL);
+    CHECK(tcpcore_status(&end, NULL), TCPCORE_NULL);
+    CHECK(tcpcore_free(&end), TCPCORE_DONE);
+}
+
+/* Structs that nobody set: none of them is taken for an end, and nothing is written into them but by the library's 31. */
+static void garbage(void)
+{
+    tcpcore_config config = good_config(HERE);
+    for (unsigned int seed = 1; seed < 1000; seed++) {
+        tcpcore_end end;
+        uint64_t word = seed;
+        for (int i = 0; i < 3; i++)
+            end.opaque[i] = word = word * 6364136223846793005u + 1442695040888963407u;
+        tcpcore_end before = end;
+        every_call(&end, TCPCORE_COPIED);
+        CHECK(tcpcore_new(&end, &config), TCPCORE_COPIED);
+        CHECK(tcpcore_free(&end), TCPCORE_COPIED);
+        CHECK(memcmp(&end, &before, sizeof end), 0);
+        /* The own address by chance, and no mark. */
+        end.opaque[2] = (uintptr_t)&end;
+        every_call(&end, TCPCORE_NO_END);
+        CHECK(tcpcore_free(&end), TCPCORE_NO_END);
+    }
+    tcpcore_end ones;
+    memset(&ones, 0xff, sizeof ones);
+    every_call(&ones, TCPCORE_COPIED);
+}
+
+/* A struct that holds an end, copied or moved: the copy is refused, and the first one still works. */
+static void copies(void)
+{
+    tcpcore_end end = TCPCORE_END_INIT, copy;
+    tcpcore_config config = good_config(HERE);
+    CHECK(tcpcore_new(&end, &config), TCPCORE_DONE);
+    copy = end;
+    every_call(&copy, TCPCORE_COPIED);
+    CHECK(tcpcore_new(&copy, &config), TCPCORE_COPIED);
+    CHECK(tcpcore_free(&copy), TCPCORE_COPIED);
+    copy.opaque[2] = 0;
+    every_call(&copy, TCPCORE_COPIED);
+    CHECK(tcpcore_listen(&end), TCPCORE_DONE);
+    CHECK(tcpcore_free(&end), TCPCORE_DONE);
+    /* The copy of a freed end is refused as well. */
+    copy.opaque[2] = (uintptr_t)&end;
+    every_call(&copy, TCPCORE_COPIED);
+}
+
+/* new twice, free twice, and an end made anew in the same struct. */
+static void lifetimes(void)
+{
+    tcpcore_end end = TCPCORE_END_INIT;
+    tcpcore_config config = good_config(HERE);
+    struct tcpcore_status status;
+    for (int turn = 0; turn < 3; turn++) {
+        CHECK(tcpcore_new(&end, &config), TCPCORE_DONE);
+        CHECK(tcpcore_listen(&end), TCPCORE_DONE);
+        CHECK(tcpcore_new(&end, &config), TCPCORE_IN_USE);
+        CHECK(tcpcore_status(&end, &status), TCPCORE_DONE);
+        CHECK(status.phase, TCPCORE_PHASE_LISTEN);
+        CHECK(tcpcore_free(&end), TCPCORE_DONE);
+        CHECK(is_empty(&end), 1);
+        CHECK(tcpcore_free(&end), TCPCORE_NO_END);
+        every_call(&end, TCPCORE_NO_END);
+    }
+}
+
+static void configs(void)
+{
+    tcpcore_end end = TCPCORE_END_INIT;
+    tcpcore_config config = good_config(HERE);
+    size_t capacities[] = {0, 1048577, SIZE_MAX};
+    for (int i = 0; i < 3; i++) {
+        config.send_capacity = capacities[i];
+        CHECK(tcpcore_new(&end, &config), TCPCORE_BAD_CAPACITY);
+        config.send_capacity = 1000;
+        config.recv_capacity = capacities[i];
+        CHECK(tcpcore_new(&end, &config), TCPCORE_BAD_CAPACITY);
+        config.recv_capacity = 1000;
+    }
+    config.mss = 63;
+    CHECK(tcpcore_new(&end, &config), TCPCORE_BAD_MSS);
+    config.mss = 1461;
+    CHECK(tcpcore_new(&end, &config), TCPCORE_BAD_MSS);
+    config.mss = 64;
+    config.window_shift = 15;
+    config.scales = 200;
+    CHECK(tcpcore_new(&end, &config), TCPCORE_BAD_SHIFT);
+    CHECK(is_empty(&end), 1);
+    config.scales = 0; /* the shift isn't looked at */
+    CHECK(tcpcore_new(&end, &config), TCPCORE_DONE);
+    CHECK(tcpcore_free(&end), TCPCORE_DONE);
+}
+
+/* Huge lengths, short room, unknown timers, bytes that are no segment. */
+static void numbers(void)
+{
+    tcpcore_end end = TCPCORE_END_INIT;
+    tcpcore_config config = good_config(HERE);
+    unsigned char buffer[TCPCORE_EMIT_ROOM] = {0};
+    size_t count = 7;
+    tcpcore_addr to = NOWHERE;
+    CHECK(tcpcore_new(&end, &config), TCPCORE_DONE);
+    CHECK(tcpcore_connect(&end, THERE, 9), TCPCORE_DONE);
+    CHECK(tcpcore_send(&end, buffer, HUGE_LENGTH, &count), TCPCORE_LENGTH);
+    CHECK(tcpcore_receive(&end, buffer, SIZE_MAX, &count), TCPCORE_LENGTH);
+    CHECK(tcpcore_arrive(&end, THERE, HERE, buffer, HUGE_LENGTH), TCPCORE_LENGTH);
+    CHECK(tcpcore_emit(&end, buffer, SIZE_MAX, &to, &count), TCPCORE_LENGTH);
+    CHECK(count, 0);
+    count = 7;
+    CHECK(tcpcore_emit(&end, buffer, TCPCORE_EMIT_ROOM - 1, &to, &count), TCPCORE_ROOM);
+    CHECK(count, 0);
+    CHECK(tcpcore_emit(&end, NULL, 0, &to, &count), TCPCORE_ROOM);
+    for (uint32_t timer = 3; timer < UINT32_MAX; timer = timer * 2 + 1)
+        CHECK(tcpcore_timer(&end, timer), TCPCORE_NO_TIMER);
+    CHECK(tcpcore_timer(&end, UINT32_MAX), TCPCORE_NO_TIMER);
+    CHECK(tcpcore_timer(&end, TCPCORE_TIMER_TIME_WAIT), TCPCORE_NO_RULE);
+    CHECK(tcpcore_arrive(&end, THERE, HERE, buffer, 19), TCPCORE_TOO_SHORT);
+    CHECK(tcpcore_arrive(&end, THERE, HERE, buffer, 20), TCPCORE_BAD_CHECKSUM);
+    /* None of it changed the end: the SYN is still due, 20 bytes and 4 + 4 of options. */
+    CHECK(tcpcore_emit(&end, buffer, sizeof buffer, &to, &count), TCPCORE_DONE);
+    CHECK(count, 28);
+    CHECK(to.byte[3], 2);
+    CHECK(tcpcore_emit(&end, buffer, sizeof buffer, &to, &count), TCPCORE_NOT_DUE);
+    CHECK(to.byte[3], 0);
+    CHECK(tcpcore_free(&end), TCPCORE_DONE);
+}
+
+/* Buffers over the struct; and what a call writes through a pointer, over the struct or over the buffer of the same call. */
+static void overlaps(void)
+{
+    struct {
+        unsigned char before[8];
+        tcpcore_end end;
+        unsigned char behind[TCPCORE_EMIT_ROOM];
+    } place = {{0}, TCPCORE_END_INIT, {0}};
+    unsigned char *first = (unsigned char *)&place.end;
+    tcpcore_config config = good_config(HERE);
+    union {
+        size_t count;
+        tcpcore_addr to;
+        unsigned char bytes[TCPCORE_EMIT_ROOM];
+    } shared = {.bytes = {0}};
+    size_t count = 7;
+    tcpcore_addr to = NOWHERE;
+    CHECK(tcpcore_new(&place.end, &config), TCPCORE_DONE);
+    CHECK(tcpcore_connect(&place.end, THERE, 9), TCPCORE_DONE);
+    CHECK(tcpcore_send(&place.end, first, 1, &count), TCPCORE_OVERLAP);
+    CHECK(count, 0);
+    CHECK(tcpcore_receive(&place.end, first + sizeof place.end - 1, 1, &count), TCPCORE_OVERLAP);
+    CHECK(tcpcore_arrive(&place.end, THERE, HERE, place.before, 9), TCPCORE_OVERLAP);
+    CHECK(tcpcore_emit(&place.end, place.before, sizeof place, &to, &count), TCPCORE_OVERLAP);
+    /* Beside it is no overlap. */
+    CHECK(tcpcore_arrive(&place.end, THERE, HERE, place.before, 8), TCPCORE_TOO_SHORT);
+    CHECK(tcpcore_arrive(&place.end, THERE, HERE, place.behind, 8), TCPCORE_TOO_SHORT);
+    CHECK(tcpcore_emit(&place.end, place.behind, sizeof place.behind, &to, &count), TCPCORE_DONE);
+    CHECK(count, 28);
+    /* Each pointer over the struct, word by word: nothing is written there. */
+    tcpcore_end before = place.end;
+    for (size_t at = 0; at < sizeof place.end; at += sizeof(uint32_t)) {
+        void *over = first + at;
+        CHECK(tcpcore_send(&place.end, "x", 0, over), TCPCORE_OVERLAP);
+        CHECK(tcpcore_receive(&place.end, place.behind, 1, over), TCPCORE_OVERLAP);
+        CHECK(tcpcore_emit(&place.end, place.behind, sizeof place.behind, over, &count), TCPCORE_OVERLAP);
+        CHECK(tcpcore_emit(&place.end, place.behind, sizeof place.behind, &to, over), TCPCORE_OVERLAP);
+        CHECK(tcpcore_timers(&place.end, over), TCPCORE_OVERLAP);
+        CHECK(tcpcore_status(&place.end, over), TCPCORE_OVERLAP);
+        CHECK(memcmp(&place.end, &before, sizeof before), 0);
+    }
+    /* Over the buffer of the same call, and one over the other. */
+    CHECK(tcpcore_timer(&place.end, TCPCORE_TIMER_RETRANSMIT), TCPCORE_DONE);
+    CHECK(tcpcore_send(&place.end, shared.bytes, 5, &shared.count), TCPCORE_OVERLAP);
+    CHECK(tcpcore_receive(&place.end, shared.bytes, sizeof shared.bytes, &shared.count), TCPCORE_OVERLAP);
+    CHECK(tcpcore_emit(&place.end, shared.bytes, sizeof shared.bytes, &shared.to, &count), TCPCORE_OVERLAP);
+    CHECK(tcpcore_emit(&place.end, shared.bytes, sizeof shared.bytes, &to, &shared.count), TCPCORE_OVERLAP);
+    CHECK(tcpcore_emit(&place.end, place.behind, sizeof place.behind, &shared.to, &shared.count), TCPCORE_OVERLAP);
+    for (size_t i = 0; i < sizeof shared.bytes; i++)
+        if (shared.bytes[i] != 0)
+            CHECK(shared.bytes[i], 0);
+    /* None of it changed the end: the SYN is due again. */
+    CHECK(tcpcore_emit(&place.end, place.behind, sizeof place.behind, &to, &count), TCPCORE_DONE);
+    CHECK(count, 28);
+    CHECK(tcpcore_free(&place.end), TCPCORE_DONE);
+}
+
+/* The end of a stream, a refusal behind an abort, and numbers that end a call. */
+static void endings(void)
+{
+    tcpcore_end end = TCPCORE_END_INIT;
+    tcpcore_config config = good_config(HERE);
+    struct tcpcore_status status;
+    unsigned char buffer[8] = {0};
+    size_t count;
+    CHECK(tcpcore_new(&end, &config), TCPCORE_DONE);
+    CHECK(tcpcore_receive(&end, buffer, sizeof buffer, &count), TCPCORE_NOT_OPEN);
+    CHECK(tcpcore_close(&end), TCPCORE_NOT_OPEN);
+    CHECK(tcpcore_connect(&end, THERE, 9), TCPCORE_DONE);
+    CHECK(tcpcore_listen(&end), TCPCORE_ALREADY_OPEN);
+    CHECK(tcpcore_send(&end, buffer, sizeof buffer, &count), TCPCORE_DONE);
+    CHECK(count, sizeof buffer);
+    CHECK(tcpcore_abort(&end), TCPCORE_DONE);
+    CHECK(tcpcore_abort(&end), TCPCORE_ENDED);
+    CHECK(tcpcore_send(&end, buffer, sizeof buffer, &count), TCPCORE_ENDED);
+    CHECK(count, 0);
+    CHECK(tcpcore_status(&end, &status), TCPCORE_DONE);
+    CHECK(status.ending, TCPCORE_ENDING_ABORTED);
+    CHECK(tcpcore_free(&end), TCPCORE_DONE);
+}
+
+int main(void)
+{
+    no_end();
+    null_pointers();
+    garbage();
+    copies();
+    lifetimes();
+    configs();
+    numbers();
+    overlaps();
+    endings();
+    printf("misuse: no call was taken in\n");
+    return checks > 10000 ? 0 : 1;
+}

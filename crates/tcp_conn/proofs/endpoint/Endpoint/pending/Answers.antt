@@ -1,0 +1,8 @@
+use Rattle.std.proofs.Common.{arith}
+use Rattle.std.proofs.lemmas.Grind.{common_steps}
+use Rattle.tcp_conn.specs.Emission.{pending_length}
+use Rattle.tcp_conn.proofs.endpoint.Endpoint.pending.Goals as goal
+
+pub returns-clause-value : goal.returns-clause-value
+unfolding pending_length
+returns-clause-value g c = grind (arith, common_steps)

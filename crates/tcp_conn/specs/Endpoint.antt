@@ -1,0 +1,26 @@
+-- What always holds of an end.
+use Rattle.std.specs.Prelude.{◌<◌, ◌≤◌, ◌^◌, unwrap_or}
+use Rattle.tcp_sendq.specs.SendQueue.{Queue}
+use Rattle.tcp_reasm.specs.Reassembly.{Inbox}
+use Rattle.tcp_conn.specs.declared.config.Config.{Config}
+use Rattle.tcp_conn.specs.declared.link.Link.{Link}
+use Rattle.tcp_conn.specs.Config.{max_shift, max_mss}
+use Rattle.tcp_conn.specs.State.{KeepsWithin, State, HoldsWithin}
+
+-- its segments fit the room that it asks for, its fields their places, and what it keeps its capacities
+pub record IsEndpoint (c : Config) (link : Link) (queue : Queue) (inbox : Inbox) : Type 0 where
+  pub mss : c.mss ≤ max_mss
+  pub port : c.port < 2 ^ 16
+  pub isn : c.isn.0 < 2 ^ 32
+  pub shift : unwrap_or c.window_shift 0 ≤ max_shift
+  pub peer_shift : link.peer_shift ≤ max_shift
+  pub keeps : KeepsWithin c.send_capacity queue
+  pub holds : HoldsWithin c.recv_capacity inbox
+
+-- each number of an end fits its field of a segment
+pub record FitsFields (s : State) : Type 0 where
+  pub port : s.config.port < 2 ^ 16
+  pub peer_port : s.peer.port < 2 ^ 16
+  pub next : s.receiving.next < 2 ^ 32
+  pub mss : s.config.mss ≤ max_mss
+  pub shift : unwrap_or s.config.window_shift 0 ≤ max_shift

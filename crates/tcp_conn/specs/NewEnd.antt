@@ -1,0 +1,24 @@
+-- A new end.
+use Rattle.std.specs.Prelude.{false}
+use Rattle.tcp_conn.specs.declared.config.Config.{Config}
+use Rattle.tcp_conn.specs.declared.phase.Ending.TheVariants.{NotEnded}
+use Rattle.tcp_conn.specs.declared.phase.Phase.TheVariants as phases
+use Rattle.tcp_conn.specs.declared.phase.Phase.TheVariants.{Closed}
+use Rattle.tcp_conn.specs.Link.{nothing_owed, new_link, no_peer}
+use Rattle.tcp_conn.specs.State.{State}
+use Rattle.tcp_conn.specs.Sender.{new_sending}
+use Rattle.tcp_conn.specs.Receiver.{new_receiving}
+
+-- CLOSED, empty, nothing owed (RFC 9293, 3.3.2)
+abbrev pub new_end : Config → State
+new_end c = record {
+  config = c;
+  phase = phases.Closed;
+  ending = NotEnded;
+  closing = false;
+  peer = no_peer;
+  link = new_link;
+  sending = new_sending c.send_capacity;
+  receiving = new_receiving c.recv_capacity;
+  owed = nothing_owed;
+}

@@ -1,0 +1,16 @@
+-- What is written of a segment that is due, and where it goes.
+use Rattle.std.specs.Prelude.{ℕ, List}
+use Rattle.tcp_wire.specs.Wire.{encoded_bytes}
+use Rattle.tcp_conn.specs.declared.due.Due.{Due}
+use Rattle.tcp_conn.specs.declared.due.Due.TheVariants.{Reset}
+use Rattle.tcp_conn.specs.declared.link.Peer.{Peer}
+use Rattle.tcp_conn.specs.State.{State}
+use Rattle.tcp_conn.specs.Forms.{segment_of}
+
+-- whom it goes to
+abbrev pub destination_of : State → Due → Peer
+destination_of s (Reset reset) = reset.to
+destination_of s other = s.peer
+
+unfoldable pub bytes_of : State → Due → List ℕ
+bytes_of s due = encoded_bytes s.config.addr.0 (destination_of s due).addr.0 (segment_of s due)

@@ -1,0 +1,30 @@
+ghost use Rattle.std.specs.Prelude.{◌≡◌};
+ghost use Rattle.tcp_conn.specs.Endings.{after_giving_up, after_orderly_end};
+
+use crate::endpoint::Endpoint;
+use crate::phase::{Ending, Phase};
+use std::alloc::Allocator;
+
+impl<A: Allocator> Endpoint<A> {
+    /// The connection ends by a reset or an abort: what is queued, held and unread is given up, and nothing is owed but a waiting
+    /// reset.
+    pub(crate) fn end_by(&mut self, ending: Ending)
+        ensures { self.new ≡ after_giving_up self.old ending }
+    {
+        self.phase = Phase::Closed;
+        self.ending = ending;
+        self.sender.give_up();
+        self.receiver.give_up();
+        self.owed.keep_only_reset();
+    }
+
+    /// The connection ends in order: what is unread can still be read.
+    pub(crate) fn end_in_order(&mut self)
+        ensures { self.new ≡ after_orderly_end self.old }
+    {
+        self.phase = Phase::Closed;
+        self.ending = Ending::Orderly;
+        self.sender.stop();
+        self.owed.keep_only_reset();
+    }
+}

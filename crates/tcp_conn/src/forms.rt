@@ -1,0 +1,189 @@
+//! The forms of the segments that an end emits (RFC 9293, 3.1 and 3.10; RFC 7323, 2.2; RFC 2018, 2).
+ghost use Rattle.std.specs.Prelude.{◌≡◌, ◌<◌, ◌≤◌, ◌^◌, ◌++◌, length, map};
+ghost use Rattle.tcp_wire.specs.Position.{number};
+ghost use Rattle.tcp_wire.specs.View.{content, content_of, option_content};
+ghost use Rattle.tcp_wire.specs.Wire.{IsValid, wire_length};
+ghost use Rattle.tcp_conn.specs.Blocks.{blocks_to_report, sack_options};
+ghost use Rattle.tcp_conn.specs.Config.{max_mss};
+ghost use Rattle.tcp_conn.specs.Due.{Lies};
+ghost use Rattle.tcp_conn.specs.Forms.{flags_of, is_sack_offered, permission_options, plain_segment, pushes, reset_segment, scale_options, shift_offered, syn_options, syn_segment, text_of};
+
+use crate::due::Due;
+use crate::endpoint::Endpoint;
+use crate::link::WaitingReset;
+use crate::sender::Sender;
+use crate::windows::MAX_WINDOW;
+use arrayvec::ArrayVec;
+use std::alloc::Allocator;
+use tcp_wire::{Flags, Header, Segment, Seq, TcpOption};
+
+/// The bytes of a segment without options and text (RFC 9293, 3.1).
+pub(crate) const HEADER_LEN: usize = 20;
+
+/// Appends the offer of a shift, if there is one (RFC 7323, 2.2).
+fn push_scale(options: &mut ArrayVec<TcpOption<'_>, 40>, shift: Option<u8>)
+    requires { length options.old.items ≤ 1 }
+    ensures items { map option_content options.new.items ≡ map option_content options.old.items ++ scale_options shift }
+    ensures len { length options.new.items ≤ 3 }
+{
+    if let Some(shift) = shift {
+        options.push(TcpOption::Nop);
+        options.push(TcpOption::WindowScale(shift));
+    }
+}
+
+/// Appends the permission of selective acknowledgement, where it is given (RFC 2018, 2).
+fn push_permission(options: &mut ArrayVec<TcpOption<'_>, 40>, permitted: bool)
+    requires { length options.old.items ≤ 3 }
+    ensures { map option_content options.new.items ≡ map option_content options.old.items ++ permission_options permitted }
+{
+    if permitted {
+        options.push(TcpOption::Nop);
+        options.push(TcpOption::Nop);
+        options.push(TcpOption::SackPermitted);
+    }
+}
+
+impl<A: Allocator> Sender<A> {
+    /// Whether the text ends with the last byte of the queue.
+    pub(crate) fn pushes(&self, due: Due) -> bool
+        requires { Lies self.now max_mss due }
+        ensures { result ≡ pushes self.now due }
+    {
+        let count = due.count();
+        if count == 0 {
+            return false;
+        }
+        self.place_of(self.start_of(due)) + count as u64 == self.queue.len() as u64
+    }
+}
+
+impl<A: Allocator> Endpoint<A> {
+    /// The sequence number of a position of the own direction (RFC 9293, 3.4).
+    pub(crate) fn number_of(&self, position: u64) -> Seq
+        ensures { result.0 ≡ number self.now.config.isn.0 position }
+    {
+        self.config.isn.plus((position % (1 << 32)) as u32)
+    }
+
+    /// The shift that a SYN offers: in an answer only where the peer offered one (RFC 7323, 2.2).
+    pub(crate) fn shift_offered(&self) -> Option<u8>
+        ensures { result ≡ shift_offered self.now }
+    {
+        if self.receiver.is_opened() && !self.link.scaling {
+            None
+        } else {
+            self.config.window_shift
+        }
+    }
+
+    /// Whether a SYN permits selective acknowledgement: in an answer only where the peer did (RFC 2018, 2).
+    pub(crate) fn is_sack_offered(&self) -> bool
+        ensures { result ≡ is_sack_offered self.now }
+    {
+        if self.receiver.is_opened() {
+            self.link.sack
+        } else {
+            self.config.sack
+        }
+    }
+
+    /// The options of the own SYN.
+    fn syn_options<'a>(&self) -> ArrayVec<TcpOption<'a>, 40>
+        ensures { map option_content result.items ≡ syn_options self.now }
+    {
+        let mut options = ArrayVec::new();
+        options.push(TcpOption::Mss(self.config.mss));
+        push_scale(&mut options, self.shift_offered());
+        push_permission(&mut options, self.is_sack_offered());
+        options
+    }
+
+    /// The own SYN (RFC 9293, 3.10.1 and 3.10.7.2). Its window is never scaled.
+    pub(crate) fn syn_segment<'a>(&self) -> Segment<'a>
+        ensures { content result ≡ syn_segment self.now }
+    {
+        let opened = self.receiver.is_opened();
+        Segment {
+            header: Header {
+                src_port: self.config.port,
+                dst_port: self.peer.port,
+                seq: self.number_of(0),
+                ack: if opened { self.receiver.next() } else { Seq(0) },
+                reserved: 0,
+                flags: if opened {
+                    Flags::SYN.union(Flags::ACK)
+                } else {
+                    Flags::SYN
+                },
+                window: self.receiver.window().min(MAX_WINDOW) as u16,
+                urgent: 0,
+            },
+            options: self.syn_options(),
+            pad: 0,
+            text: &[],
+        }
+    }
+
+    /// A reset (RFC 9293, 3.10.7.1).
+    pub(crate) fn reset_segment<'a>(&self, reset: WaitingReset) -> Segment<'a>
+        ensures value { content result ≡ reset_segment self.now reset }
+        ensures valid { IsValid (content result) }
+        ensures len { wire_length (content result) ≡ HEADER_LEN }
+    {
+        let (ack, flags) = match reset.ack {
+            Some(ack) => (ack, Flags::RST.union(Flags::ACK)),
+            None => (Seq(0), Flags::RST),
+        };
+        Segment {
+            header: Header {
+                src_port: self.config.port,
+                dst_port: reset.to.port,
+                seq: reset.seq,
+                ack,
+                reserved: 0,
+                flags,
+                window: 0,
+                urgent: 0,
+            },
+            options: ArrayVec::new(),
+            pad: 0,
+            text: &[],
+        }
+    }
+
+    /// The control bits of any other segment: ACK, PSH where the text ends with the last byte of the queue, FIN.
+    fn flags(&self, due: Due) -> Flags
+        requires { Lies self.now.sending max_mss due }
+        ensures value { result.0 ≡ flags_of self.now.sending due }
+        ensures fits { result.0 < 2 ^ 8 }
+    {
+        let push = if self.sender.pushes(due) {
+            Flags::ACK.union(Flags::PSH)
+        } else {
+            Flags::ACK
+        };
+        if due.is_fin() {
+            push.union(Flags::FIN)
+        } else {
+            push
+        }
+    }
+
+    /// The fixed header of any other segment.
+    pub(crate) fn plain_header(&self, due: Due) -> Header
+        requires lies { Lies self.now.sending max_mss due }
+        ensures { content_of result (sack_options (blocks_to_report self.now)) 0 (text_of self.now.sending due) ≡ plain_segment self.now due }
+    {
+        Header {
+            src_port: self.config.port,
+            dst_port: self.peer.port,
+            seq: self.number_of(self.sender.start_of(due)),
+            ack: self.receiver.next(),
+            reserved: 0,
+            flags: self.flags(due),
+            window: self.advertised_window(),
+            urgent: 0,
+        }
+    }
+}

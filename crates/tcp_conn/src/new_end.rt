@@ -1,0 +1,93 @@
+ghost use Rattle.std.specs.Prelude.{◌≡◌, ◌↔◌, ◌+◌, length, IfOk, OnOk};
+ghost use Rattle.tcp_conn.specs.Config.{HasBadCapacity, HasBadMss, HasBadShift, IsGoodConfig, IsConfig};
+ghost use Rattle.tcp_conn.specs.State.{IsWithin};
+ghost use Rattle.tcp_conn.specs.Sender.{new_sending};
+ghost use Rattle.tcp_conn.specs.Receiver.{new_receiving};
+ghost use Rattle.tcp_conn.specs.NewEnd.{new_end};
+
+use crate::config::{Config, ConfigError};
+use crate::endpoint::Endpoint;
+use crate::link::{Link, Owed, Peer};
+use crate::options::DEFAULT_MSS;
+use crate::phase::{Ending, Phase};
+use crate::receiver::Receiver;
+use crate::sender::Sender;
+use std::alloc::{Allocator, Global};
+use tcp_wire::Addr;
+
+impl Endpoint {
+    /// A new end: CLOSED, empty, with nothing owed. Its memory is taken now.
+    pub fn new(alloc: Global, config: Config) -> Result<Self, ConfigError>
+        ensures new { IfOk result (λ e. e ≡ new_end config) }
+        ensures bad_capacity { (result ≡ Err ConfigError.BadCapacity) ↔ HasBadCapacity config }
+        ensures bad_mss { (result ≡ Err ConfigError.BadMss) ↔ HasBadMss config }
+        ensures bad_shift { (result ≡ Err ConfigError.BadShift) ↔ HasBadShift config }
+        ensures good { (result ≡ Err ConfigError.NoMemory) → IsGoodConfig config }
+        ensures made { OnOk result (IsConfig config) }
+        ensures within { IfOk result IsWithin }
+    {
+        Self::new_in(alloc, config)
+    }
+}
+
+impl<A: Allocator + Copy> Endpoint<A> {
+    /// The same with memory of this allocator.
+    pub fn new_in(alloc: A, config: Config) -> Result<Self, ConfigError>
+        ensures new { IfOk result (λ e. e ≡ new_end config) }
+        ensures bad_capacity { (result ≡ Err ConfigError.BadCapacity) ↔ HasBadCapacity config }
+        ensures bad_mss { (result ≡ Err ConfigError.BadMss) ↔ HasBadMss config }
+        ensures bad_shift { (result ≡ Err ConfigError.BadShift) ↔ HasBadShift config }
+        ensures good { (result ≡ Err ConfigError.NoMemory) → IsGoodConfig config }
+        ensures made { OnOk result (IsConfig config) }
+        ensures within { IfOk result IsWithin }
+    {
+        let Addr(_in_range) = config.addr;
+        if let Some(fault) = config.fault() {
+            return Err(fault);
+        }
+        let Ok(sender) = Sender::new_in(alloc, &config) else {
+            return Err(ConfigError::NoMemory);
+        };
+        let Ok(receiver) = Receiver::new_in(alloc, &config) else {
+            return Err(ConfigError::NoMemory);
+        };
+        Ok(Self::closed(config, sender, receiver))
+    }
+}
+
+impl<A: Allocator> Endpoint<A> {
+    /// CLOSED, of these two halves: a function of its own, so that no way out of `new_in` has an end to drop.
+    fn closed(config: Config, sender: Sender<A>, receiver: Receiver<A>) -> Self
+        requires good { IsGoodConfig config }
+        requires sending { sender ≡ new_sending config.send_capacity }
+        requires receiving { receiver ≡ new_receiving config.recv_capacity }
+        requires whole { length receiver.inbox.unread + length receiver.inbox.held ≡ receiver.inbox.capacity }
+        ensures value { result ≡ new_end config }
+        ensures within { IsWithin result }
+    {
+        Endpoint {
+            config,
+            phase: Phase::Closed,
+            ending: Ending::NotEnded,
+            closing: false,
+            peer: Peer {
+                addr: Addr([0, 0, 0, 0]),
+                port: 0,
+            },
+            link: Link {
+                peer_mss: DEFAULT_MSS,
+                scaling: false,
+                peer_shift: 0,
+                sack: false,
+            },
+            sender,
+            receiver,
+            owed: Owed {
+                syn: false,
+                ack: false,
+                probe: false,
+                reset: None,
+            },
+        }
+    }
+}

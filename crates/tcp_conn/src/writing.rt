@@ -1,0 +1,170 @@
+//! A segment that is due is written.
+ghost use Rattle.std.specs.Prelude.{◌≡◌, ◌≤◌, ◌+◌, ◌++◌, drop, length, map};
+ghost use Rattle.tcp_wire.specs.Checksum.{AreBytes};
+ghost use Rattle.tcp_wire.specs.View.{block, option_content, text_offset};
+ghost use Rattle.tcp_wire.specs.Wire.{header_len, max_area_len, encoded_bytes, wire_length};
+ghost use Rattle.tcp_reasm.specs.Reassembly.{blocks};
+ghost use Rattle.tcp_conn.specs.Blocks.{blocks_to_report, sack_options};
+ghost use Rattle.tcp_conn.specs.Config.{max_mss};
+ghost use Rattle.tcp_conn.specs.Due.{Lies, count_of};
+ghost use Rattle.tcp_conn.specs.Endpoint.{FitsFields};
+ghost use Rattle.tcp_conn.specs.Forms.{plain_segment, reset_segment, segment_of, syn_segment, text_of};
+ghost use Rattle.tcp_conn.specs.Writing.{bytes_of, destination_of};
+
+use crate::blocks::sack_options;
+use crate::due::Due;
+use crate::emission::EMIT_ROOM;
+use crate::endpoint::Endpoint;
+use crate::link::WaitingReset;
+use crate::sender::Sender;
+use arrayvec::ArrayVec;
+use std::alloc::Allocator;
+use tcp_wire::{Addr, Seq, TcpOption, encode, text_offset, write_around};
+
+impl<A: Allocator> Sender<A> {
+    /// Copies the text of what is due.
+    pub(crate) fn copy(&self, due: Due, out: &mut [u8])
+        requires lies { Lies self.now max_mss due }
+        requires len { length out.old ≡ count_of due }
+        ensures text { out.new ≡ text_of self.now due }
+        ensures bytes { AreBytes out.new }
+    {
+        if !out.is_empty() {
+            let place = self.place_of(self.start_of(due));
+            self.queue.copy(place as usize, out);
+        }
+    }
+}
+
+impl<A: Allocator> Endpoint<A> {
+    /// Each of its numbers fits its field of a segment, as callers learn; it does nothing when it runs.
+    fn fits_fields(&self)
+        ensures { FitsFields self.now }
+    {
+        let _peer_port = self.peer.port;
+        let _next = self.receiver.next();
+    }
+
+    /// Writes the own SYN at the start of `out`, and answers its length.
+    #[inline(never)]
+    #[tactic(auto, using(crate::proofs::Segments::length_syn_segment))]
+    fn write_syn(&self, out: &mut [u8]) -> usize
+        requires { EMIT_ROOM ≤ length out.old }
+        ensures len { result ≡ wire_length (syn_segment self.now) }
+        ensures most { result ≤ EMIT_ROOM }
+        ensures bytes { out.new ≡ encoded_bytes self.now.config.addr.0 self.now.peer.addr.0 (syn_segment self.now) ++ drop result out.old }
+    {
+        self.fits_fields();
+        let segment = self.syn_segment();
+        encode(&segment, self.config.addr, self.peer.addr, out)
+    }
+
+    /// Where the text of such a segment begins, after the options that report blocks (RFC 9293, 3.1, Data Offset).
+    #[tactic(auto, using(crate::proofs::Segments::report_spellable, crate::proofs::Segments::offset_of_report, crate::proofs::Segments::report_options_short))]
+    fn text_start(&self, options: &[TcpOption<'_>]) -> usize
+        requires { map option_content options.now ≡ sack_options (blocks_to_report self.now) }
+        ensures offset { result ≡ text_offset (sack_options (blocks_to_report self.now)) 0 }
+        ensures most { result ≤ header_len + max_area_len }
+    {
+        text_offset(options, 0)
+    }
+
+    /// Writes a segment with text and these options at the start of `out`, and answers its length. The text goes from the
+    /// queue to its place in `out`, and the rest is written around it.
+    fn write_text(&self, due: Due, options: &[TcpOption<'_>], out: &mut [u8]) -> usize
+        requires lies { Lies self.now.sending max_mss due }
+        requires options { map option_content options.now ≡ sack_options (blocks_to_report self.now) }
+        requires room { EMIT_ROOM ≤ length out.old }
+        ensures len { result ≡ wire_length (plain_segment self.now due) }
+        ensures most { result ≤ EMIT_ROOM }
+        ensures bytes { out.new ≡ encoded_bytes self.now.config.addr.0 self.now.peer.addr.0 (plain_segment self.now due) ++ drop result out.old }
+    {
+        self.fits_fields();
+        let header = self.plain_header(due);
+        let start = self.text_start(options);
+        let count = due.count();
+        self.sender.copy(due, &mut out[start..start + count]);
+        write_around(
+            &header,
+            options,
+            0,
+            count,
+            self.config.addr,
+            self.peer.addr,
+            out,
+        )
+    }
+
+    /// Writes a segment with text and the options that report these blocks. It is a function of its own, as the writing of a SYN
+    /// and a reset is, so that a plain segment has no list of options among its locals.
+    #[inline(never)]
+    fn write_blocks(&self, due: Due, blocks: ArrayVec<(Seq, Seq), 4>, out: &mut [u8]) -> usize
+        requires lies { Lies self.now.sending max_mss due }
+        requires blocks { map block blocks.items ≡ blocks_to_report self.now }
+        requires room { EMIT_ROOM ≤ length out.old }
+        ensures len { result ≡ wire_length (plain_segment self.now due) }
+        ensures most { result ≤ EMIT_ROOM }
+        ensures bytes { out.new ≡ encoded_bytes self.now.config.addr.0 self.now.peer.addr.0 (plain_segment self.now due) ++ drop result out.old }
+    {
+        let options = sack_options(blocks);
+        self.write_text(due, options.as_slice(), out)
+    }
+
+    /// Writes a segment with text at the start of `out`, and answers its length. Where no block is reported, no list of
+    /// options is made.
+    fn write_plain(&self, due: Due, out: &mut [u8]) -> usize
+        requires lies { Lies self.now.sending max_mss due }
+        requires room { EMIT_ROOM ≤ length out.old }
+        ensures len { result ≡ wire_length (plain_segment self.now due) }
+        ensures most { result ≤ EMIT_ROOM }
+        ensures bytes { out.new ≡ encoded_bytes self.now.config.addr.0 self.now.peer.addr.0 (plain_segment self.now due) ++ drop result out.old }
+    {
+        let blocks = self.blocks_to_report();
+        if blocks.is_empty() {
+            return self.write_text(due, &[], out);
+        }
+        self.write_blocks(due, blocks, out)
+    }
+
+    /// Writes a waiting reset at the start of `out`, and answers its length.
+    #[inline(never)]
+    fn write_reset(&self, reset: WaitingReset, out: &mut [u8]) -> usize
+        requires { EMIT_ROOM ≤ length out.old }
+        ensures len { result ≡ wire_length (reset_segment self.now reset) }
+        ensures most { result ≤ EMIT_ROOM }
+        ensures bytes { out.new ≡ encoded_bytes self.now.config.addr.0 reset.to.addr.0 (reset_segment self.now reset) ++ drop result out.old }
+    {
+        let segment = self.reset_segment(reset);
+        encode(&segment, self.config.addr, reset.to.addr, out)
+    }
+
+    /// Writes what is due at the start of `out`, and answers its length.
+    #[tactic(auto, unfolding(crate::specs::Forms::segment_of, crate::specs::Writing::bytes_of))]
+    pub(crate) fn write(&self, due: Due, out: &mut [u8]) -> usize
+        requires lies { Lies self.now.sending max_mss due }
+        requires room { EMIT_ROOM ≤ length out.old }
+        ensures len { result ≡ wire_length (segment_of self.now due) }
+        ensures most { result ≤ EMIT_ROOM }
+        ensures bytes { out.new ≡ bytes_of self.now due ++ drop result out.old }
+    {
+        match due {
+            Due::Reset(reset) => self.write_reset(reset, out),
+            Due::Syn => self.write_syn(out),
+            Due::Resend(..)
+            | Due::NewText(..)
+            | Due::Fin(_)
+            | Due::ResentFin(_)
+            | Due::Acknowledgement => self.write_plain(due, out),
+        }
+    }
+
+    /// Whom what is due goes to.
+    pub(crate) fn destination(&self, due: Due) -> Addr
+        ensures { result ≡ (destination_of self.now due).addr }
+    {
+        match due {
+            Due::Reset(reset) => reset.to.addr,
+            _ => self.peer.addr,
+        }
+    }
+}

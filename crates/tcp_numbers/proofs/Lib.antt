@@ -1,0 +1,4 @@
+pub mod WordSums
+pub mod LaneSums
+pub mod Positions
+pub mod Lemmas

@@ -1,0 +1,111 @@
+-- The word sum: step by step, over joined bytes, and after one changed byte.
+use Rattle.std.proofs.Common.{◌≡◌, ℕ, suc, ◌+◌, ◌-◌, ◌*◌, ◌/◌, ◌%◌, ◌<◌, ◌≤◌, List, [], ◌∷◌, ◌++◌, length, take, drop, get_or, refl, sym, ap, ◌∙◌, ◌⊎◌, inl, inr, length-append, arith}
+use Rattle.std.proofs.lemmas.List.{length-take-le, take-append-drop, length-drop, take_all, drop_all, take_rest, drop_more, get_or-drop}
+use Rattle.std.proofs.lemmas.Bool.{cases_lt}
+use Rattle.byteorder.specs.Endian.{big_number, big_from}
+use Rattle.tcp_numbers.specs.Checksum.{AreBytes, word_sum, without_field, pseudo_header, segment_sum, Checks, completion, field, DiffersInOnePlace}
+
+-- a word more
+pub word_sum_more : (xs : List ℕ) → 2 ≤ length xs → word_sum xs ≡ big_number 2 xs + word_sum (drop 2 xs)
+word_sum_more [] h = absurd (omega arith)
+word_sum_more (a ∷ []) h = absurd (omega arith)
+word_sum_more (a ∷ b ∷ xs) h = omega arith
+
+-- whole words in front
+pub word_sum-append : (half : ℕ) (xs ys : List ℕ) → length xs ≡ half + half → word_sum (xs ++ ys) ≡ word_sum xs + word_sum ys
+word_sum-append half [] ys h = omega arith
+word_sum-append half (a ∷ []) ys h = absurd (omega arith)
+word_sum-append half (a ∷ b ∷ xs) ys h =
+    let rest = word_sum-append (half - 1) xs ys (omega arith) in
+    omega (arith, rest)
+
+pub pseudo_parts : (src dst : List ℕ) (len : ℕ) → length src ≡ 4 → length dst ≡ 4 → word_sum (pseudo_header src dst len) ≡ word_sum src + word_sum dst + 6 + len
+pseudo_parts src dst len s d =
+    let both = word_sum-append 2 src dst s in
+    let all = word_sum-append 4 (src ++ dst) (0 ∷ 6 ∷ (len / 256) ∷ (len % 256) ∷ []) (length-append src dst ∙ omega arith) in
+    omega (arith, both, all)
+
+-- one byte replaced: in the low half of a word, or in a high half
+one_byte : (front rest : List ℕ) (a b : ℕ) →
+    (word_sum (front ++ a ∷ rest) + b ≡ word_sum (front ++ b ∷ rest) + a)
+    ⊎ (word_sum (front ++ a ∷ rest) + 256 * b ≡ word_sum (front ++ b ∷ rest) + 256 * a)
+one_byte [] [] a b = inr (omega arith)
+one_byte [] (r ∷ rest) a b = inr (omega arith)
+one_byte (f ∷ []) rest a b = inl (omega arith)
+one_byte (f ∷ g ∷ front) rest a b = elim (one_byte front rest a b) [
+  | inl low ↦ inl (omega (arith, low))
+  | inr high ↦ inr (omega (arith, high))
+]
+
+low_differs : (p x y a b : ℕ) → x + b ≡ y + a → a < 256 → b < 256 → (a ≡ b → ⊥) → (p + x) % 65535 ≡ 0 → (p + y) % 65535 ≡ 0 → ⊥
+low_differs p x y a b e fa fb other cx cy = omega arith
+
+high_differs : (p x y a b : ℕ) → x + 256 * b ≡ y + 256 * a → a < 256 → b < 256 → (a ≡ b → ⊥) → (p + x) % 65535 ≡ 0 → (p + y) % 65535 ≡ 0 → ⊥
+high_differs p x y a b e fa fb other cx cy = omega arith
+
+pub same_length : (sent got : List ℕ) → DiffersInOnePlace sent got → length sent ≡ length got
+same_length sent got d =
+    rw (d.sent_is, d.got_is) (omega (arith, length-append d.front (d.was ∷ d.rest), length-append d.front (d.became ∷ d.rest)))
+
+-- of two segments that differ in one place only one checks
+pub one_place : (src dst sent got : List ℕ) → DiffersInOnePlace sent got → Checks src dst sent → Checks src dst got → ⊥
+one_place src dst sent got d cs cg =
+    let len = same_length sent got d in
+    let p : ℕ = word_sum (pseudo_header src dst (length got)) in
+    let cs' : (p + word_sum (d.front ++ d.was ∷ d.rest)) % 65535 ≡ 0 = rw (← len, ← d.sent_is) cs in
+    let cg' : (p + word_sum (d.front ++ d.became ∷ d.rest)) % 65535 ≡ 0 = rw (← d.got_is) cg in
+    elim (one_byte d.front d.rest d.was d.became) [
+      | inl low ↦ low_differs p (word_sum (d.front ++ d.was ∷ d.rest)) (word_sum (d.front ++ d.became ∷ d.rest)) d.was d.became low d.byte_was d.byte_became d.other cs' cg'
+      | inr high ↦ high_differs p (word_sum (d.front ++ d.was ∷ d.rest)) (word_sum (d.front ++ d.became ∷ d.rest)) d.was d.became high d.byte_was d.byte_became d.other cs' cg'
+    ]
+
+-- a word is at most 65535, and the high half that an odd last byte is, 65280
+pub word_sum_bound : (xs : List ℕ) → AreBytes xs → 2 * word_sum xs ≤ 65535 * (length xs + 1)
+word_sum_bound [] fits = omega arith
+word_sum_bound (a ∷ []) fits = let fa = fits 0 in omega arith
+word_sum_bound (a ∷ b ∷ xs) fits =
+    let fa = fits 0 in
+    let fb = fits 1 in
+    let rest = word_sum_bound xs (λ i. fits (suc (suc i))) in
+    omega (arith, rest)
+
+-- an even front and what stands behind it
+pub word_sum-split : (half n : ℕ) (xs : List ℕ) → n ≡ half + half → n ≤ length xs → word_sum xs ≡ word_sum (take n xs) + word_sum (drop n xs)
+word_sum-split half n xs even inside =
+    ap word_sum (sym (take-append-drop n xs)) ∙ word_sum-append half (take n xs) (drop n xs) (length-take-le n xs inside ∙ even)
+
+-- a front that is a whole block, or all there is
+pub word_sum-block : (n : ℕ) (xs : List ℕ) → n ≤ 4096 → n ≤ length xs → (n < 4096 → n ≡ length xs)
+    → word_sum (take n xs) + word_sum (take (length xs - n) (drop n xs)) ≡ word_sum xs
+word_sum-block n xs few inside all =
+    let behind : word_sum (take (length xs - n) (drop n xs)) ≡ word_sum (drop n xs) = ap word_sum (take_rest xs n) in
+    elim (cases_lt n 4096) [
+      | inl lt ↦
+          let end = all lt in
+          let front : word_sum (take n xs) ≡ word_sum xs = ap word_sum (take_all n xs (omega (arith, end))) in
+          let none : word_sum (drop n xs) ≡ 0 = ap word_sum (drop_all n xs (omega (arith, end))) in
+          omega (arith, behind, front, none)
+      | inr le ↦ omega (arith, behind, word_sum-split 2048 n xs (omega (arith, few, le)) inside)
+    ]
+
+-- without the checksum field, its own word is missing
+word_sum-without_field : (bytes : List ℕ) → 18 ≤ length bytes → word_sum bytes ≡ word_sum (without_field bytes) + (256 * get_or bytes 16 0 + get_or bytes 17 0)
+word_sum-without_field bytes long =
+    let front = word_sum-split 8 16 bytes refl (omega arith) in
+    let a = drop_more bytes 16 0 (omega arith) in
+    let b = drop_more bytes 17 0 (omega arith) in
+    let words : word_sum (drop 16 bytes) ≡ 256 * get_or bytes 16 0 + get_or bytes 17 0 + word_sum (drop 18 bytes) = rw (a, b) refl in
+    let zero_word = word_sum-append 8 (take 16 bytes) (0 ∷ 0 ∷ drop 18 bytes) (length-take-le 16 bytes (omega arith)) in
+    omega (arith, front, words, zero_word)
+
+-- the field, by the sum over all bytes less the field that stands there
+pub field_is : (src dst bytes : List ℕ) (sum own : ℕ) → 20 ≤ length bytes → sum ≡ word_sum (pseudo_header src dst (length bytes)) + word_sum bytes
+    → own ≡ big_from 0 2 (take (length bytes - 16) (drop 16 bytes)) → completion (sum - own) ≡ field src dst bytes
+field_is src dst bytes sum own long sum_is own_is =
+    let len : length (without_field bytes) ≡ length bytes =
+    omega (arith, length-append (take 16 bytes) (0 ∷ 0 ∷ drop 18 bytes), length-take-le 16 bytes (omega arith), length-drop 18 bytes) in
+    let pseudo = ap (λ (n : ℕ). word_sum (pseudo_header src dst n)) len in
+    let behind = ap (big_from 0 2) (take_rest bytes 16) in
+    let own' : own ≡ 256 * get_or bytes 16 0 + get_or bytes 17 0 = omega (arith, own_is, behind, get_or-drop 16 bytes 0 0, get_or-drop 16 bytes 1 0) in
+    let same : sum - own ≡ segment_sum src dst (without_field bytes) = omega (arith, pseudo, word_sum-without_field bytes (omega arith)) in
+    ap completion same

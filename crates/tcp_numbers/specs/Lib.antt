@@ -1,0 +1,4 @@
+pub mod Position
+pub mod Laws
+pub mod Checksum
+pub mod Flags

@@ -1,0 +1,37 @@
+ghost use Rattle.std.specs.Prelude.{◌≡◌, ◌+◌, ◌%◌, ◌^◌, nat_lt};
+ghost use Rattle.tcp_numbers.specs.Position.{distance, is_before};
+
+/// A sequence number: arithmetic is modulo 2^32, and order is by distance (RFC 9293, 3.4).
+#[derive(Clone, Copy, Debug, Default, PartialEq, Eq, Hash)]
+pub struct Seq(pub u32);
+
+impl Seq {
+    /// The number `count` places after this one, modulo 2^32.
+    pub fn plus(self, count: u32) -> Seq
+        ensures { result.0 ≡ (self.0 + count) % 2 ^ 32 }
+    {
+        Seq(self.0.wrapping_add(count))
+    }
+
+    /// How far this number lies ahead of `other`, modulo 2^32.
+    pub fn minus(self, other: Seq) -> u32
+        ensures { result ≡ distance other.0 self.0 }
+    {
+        self.0.wrapping_sub(other.0)
+    }
+
+    /// Whether `other` lies 1 to 2^31 - 1 ahead of this number.
+    pub fn before(self, other: Seq) -> bool
+        ensures { result ≡ is_before self.0 other.0 }
+    {
+        let ahead = other.minus(self);
+        0 < ahead && ahead < 1 << 31
+    }
+
+    /// Whether this number is one of the `size` numbers from `next` on.
+    pub fn in_window(self, next: Seq, size: u32) -> bool
+        ensures { result ≡ nat_lt (distance next.0 self.0) size }
+    {
+        self.minus(next) < size
+    }
+}

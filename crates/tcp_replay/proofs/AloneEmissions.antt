@@ -1,0 +1,269 @@
+-- What is due at one end by itself: it can be written, it is of what its user sent, and the end keeps what it does.
+use Rattle.std.proofs.Common.{◌≡◌, ℕ, ◌+◌, ◌-◌, ◌^◌, ◌<◌, ◌≤◌, List, [], length, take, drop, refl, sym, ◌∙◌, ap, subst, arith, length-take}
+use Rattle.std.specs.Prelude.{max, Bool, true, false, not, Option, Some, None, IfSome}
+use Rattle.std.specs.Option.{option_or}
+use Rattle.std.proofs.lemmas.Bool.{cond_both, and_parts, false≢true}
+use Rattle.std.proofs.lemmas.List.{drop-drop}
+use Rattle.std.specs.declared.ops.Range.{Range}
+use Rattle.tcp_wire.specs.Checksum.{AreBytes}
+use Rattle.tcp_wire.specs.Wire.{IsValid}
+use Rattle.tcp_numbers.specs.declared.seq.Seq.{Seq}
+use Rattle.tcp_conn.specs.declared.due.Due.{Due}
+use Rattle.tcp_conn.specs.declared.due.Due.TheVariants.{Reset, Syn, Resend, NewText, Fin, ResentFin, Acknowledgement}
+use Rattle.tcp_conn.specs.declared.link.WaitingReset.{WaitingReset}
+use Rattle.tcp_conn.specs.Phase.{has_peer, sends_text, gives_up}
+use Rattle.tcp_conn.specs.State.{State, Sending, place_of}
+use Rattle.tcp_conn.specs.Endpoint.{FitsFields}
+use Rattle.tcp_conn.specs.Due.{is_fin, start_of, count_of, end_of, text_due, reset_due, syn_due, ack_due, due_of}
+use Rattle.tcp_conn.specs.Forms.{reset_ack, text_of, plain_segment, segment_of}
+use Rattle.tcp_conn.specs.Writing.{destination_of}
+use Rattle.tcp_conn.specs.Emission.{range_after, resend_after, owed_after, state_after, after_due, after_emission}
+use Rattle.tcp_conn.proofs.Segments.{plain_segment_valid, reset_segment_valid, syn_segment_valid}
+use Rattle.tcp_replay.specs.Alone.{FitsPhase, IsWritable, Sends, IsAlone}
+use Rattle.tcp_replay.proofs.Lists.{one_if, AreBytes-take, AreBytes-drop}
+use Rattle.tcp_replay.proofs.Halves.{range-more, sends-sent}
+use Rattle.tcp_replay.proofs.Phases.{gives_up-not_ended, at-synchronized, sends_text-synchronized, synchronized-knows, knows-nxt, fits-sent, fits-sent_text}
+use Rattle.tcp_replay.proofs.Dues.{IsText, IsFin, IsOut, option_or-both, if-some-map, text-due}
+
+fits-fields : (s : State) (accepted : List ℕ) (closed : Bool) → has_peer s.phase ≡ true → IsAlone s accepted closed → FitsFields s
+fits-fields s accepted closed knows h = record { port = h.config.port; peer_port = h.port knows; next = h.next; mss = h.config.good.1.1; shift = h.config.good.2 }
+
+-- TEXT: from its position on it is what was accepted
+text-is : (d : Sending) (accepted : List ℕ) (closed : Bool) (start count : ℕ) → 1 + d.released ≤ start → Sends d accepted closed false
+    → take count (drop (place_of d start) d.queue.bytes) ≡ take count (drop (start - 1) accepted)
+text-is d accepted closed start count least h =
+    let whole : d.released + (start - (1 + d.released)) ≡ start - 1 = omega arith in
+    ap (take count) (ap (drop (place_of d start)) (h.queue refl) ∙ drop-drop (place_of d start) d.released accepted ∙ ap (λ k. drop k accepted) whole)
+
+-- what a segment with text says
+pub record IsPlain (d : Sending) (accepted : List ℕ) (closed : Bool) (due : Due) : Type 0 where
+  pub least : 1 ≤ start_of d due
+  pub within : start_of d due ≤ 1 + length accepted + one_if closed
+  pub text : text_of d due ≡ take (count_of due) (drop (start_of d due - 1) accepted)
+  pub short : count_of due ≤ 1460
+  pub last : is_fin due ≡ true → (closed ≡ true) × (start_of d due ≡ 1 + length accepted) × (count_of due ≡ 0)
+
+plain-valid : (s : State) (accepted : List ℕ) (closed : Bool) (due : Due) → has_peer s.phase ≡ true → IsPlain s.sending accepted closed due → IsAlone s accepted closed → IsValid (plain_segment s due)
+plain-valid s accepted closed due knows plain h =
+    let start = start_of s.sending due in
+    plain_segment_valid s due (fits-fields s accepted closed knows h)
+    (subst AreBytes (sym plain.text) (AreBytes-take (count_of due) (drop (start - 1) accepted) (AreBytes-drop (start - 1) accepted h.sends.bytes)))
+    (omega (arith, ap length plain.text, length-take (count_of due) (drop (start - 1) accepted), plain.short))
+
+-- what text, FIN and acknowledgement have in common
+pub record IsCommon (s : State) (due : Due) : Type 0 where
+  pub segment : segment_of s due ≡ plain_segment s due
+  pub to : destination_of s due ≡ s.peer
+  pub reset : (owed_after s.receiving.opened s.owed due).reset ≡ s.owed.reset
+
+-- one of them is said to a peer whose SYN was taken
+pub record IsSaid (s : State) (accepted : List ℕ) (closed : Bool) (due : Due) : Type 0 where
+  pub common : IsCommon s due
+  pub plain : IsPlain s.sending accepted closed due
+  pub knows : has_peer s.phase ≡ true
+  pub opened : s.receiving.opened ≡ true
+
+-- each kind of segment
+abbrev pub IsOfKind : State → List ℕ → Bool → Due → Type 0
+IsOfKind s accepted closed (Reset reset) = s.owed.reset ≡ Some reset
+IsOfKind s accepted closed Syn = has_peer s.phase ≡ true
+IsOfKind s accepted closed (Resend start count) = IsSaid s accepted closed (Resend start count)
+IsOfKind s accepted closed (NewText start count) = IsSaid s accepted closed (NewText start count)
+IsOfKind s accepted closed (Fin start) = IsSaid s accepted closed (Fin start)
+IsOfKind s accepted closed (ResentFin start) = IsSaid s accepted closed (ResentFin start)
+IsOfKind s accepted closed Acknowledgement = IsSaid s accepted closed Acknowledgement
+
+-- WHAT GOES OUT
+pub record GoesOutAlone (s : State) (accepted : List ℕ) (closed : Bool) (due : Due) : Type 0 where
+  pub alone : IsAlone (state_after s due) accepted closed
+  pub valid : IsValid (segment_of s due)
+  pub kind : IsOfKind s accepted closed due
+
+-- SND.NXT moves on
+alone-after : (s : State) (accepted : List ℕ) (closed : Bool) (due : Due) → IsAlone s accepted closed
+    → FitsPhase s.phase s.ending s.sending.una (max s.sending.nxt (end_of s.sending due)) s.receiving.opened s.receiving.finished
+    → max s.sending.nxt (end_of s.sending due) ≤ 1 + length accepted + one_if closed
+    → IfSome (resend_after s.sending due) (λ r. r.end ≤ max (max s.sending.nxt (end_of s.sending due)) (1 + length accepted))
+    → ((owed_after s.receiving.opened s.owed due).syn ≡ true → has_peer s.phase ≡ true)
+    → ((owed_after s.receiving.opened s.owed due).ack ≡ true → (has_peer s.phase ≡ true) × (s.receiving.opened ≡ true))
+    → IfSome (owed_after s.receiving.opened s.owed due).reset IsWritable → IsAlone (state_after s due) accepted closed
+alone-after s accepted closed due h progress most range syn ack reset =
+    let d = s.sending in
+    let sends = sends-sent d accepted closed (gives_up s.ending) (max d.nxt (end_of d due)) (resend_after d due) (omega arith) most range h.sends in
+    record { config = h.config; closing = h.closing; progress = progress; port = h.port; syn = syn; ack = ack; reset = reset; sends = sends; next = h.next; unopened = h.unopened }
+
+-- the range that is left ends no later
+same-range : (d : Sending) (accepted : List ℕ) (closed gone : Bool) (n : ℕ) → Sends d accepted closed gone → IfSome d.resend (λ r. r.end ≤ max (max d.nxt n) (1 + length accepted))
+same-range d accepted closed gone n h = range-more (max d.nxt (1 + length accepted)) (max (max d.nxt n) (1 + length accepted)) d.resend (omega arith) h.range
+
+range_after-ends : (m start : ℕ) (range : Option (Range ℕ)) → IfSome range (λ r. r.end ≤ m) → IfSome (range_after start range) (λ r. r.end ≤ m)
+range_after-ends m start None h = tt
+range_after-ends m start (Some range) h = h
+
+-- a reset
+ack-fits : (seq : Option Seq) → IfSome seq (λ n. n.0 < 2 ^ 32) → reset_ack seq < 2 ^ 32
+ack-fits None h = omega arith
+ack-fits (Some seq) h = h
+
+out-reset : (s : State) (accepted : List ℕ) (closed : Bool) (reset : WaitingReset) → s.owed.reset ≡ Some reset → IsWritable reset → IsAlone s accepted closed → GoesOutAlone s accepted closed (Reset reset)
+unfolding segment_of
+out-reset s accepted closed reset waits fits h =
+    let d = s.sending in
+    record {
+      alone = alone-after s accepted closed (Reset reset) h
+          (fits-sent s.phase s.ending d.una d.nxt (max d.nxt 0) s.receiving.opened s.receiving.finished (λ _ e. omega arith) (λ e. omega arith) h.progress)
+          (omega (arith, h.sends.most)) (same-range d accepted closed (gives_up s.ending) 0 h.sends) h.syn h.ack tt;
+      valid = reset_segment_valid s reset h.config.port fits.port fits.seq (ack-fits reset.ack fits.ack);
+      kind = waits;
+    }
+
+-- a SYN
+out-syn : (s : State) (accepted : List ℕ) (closed : Bool) → has_peer s.phase ≡ true → IsAlone s accepted closed → GoesOutAlone s accepted closed Syn
+unfolding segment_of
+out-syn s accepted closed knows h =
+    let d = s.sending in
+    record {
+      alone = alone-after s accepted closed Syn h
+          (fits-sent s.phase s.ending d.una d.nxt (max d.nxt 1) s.receiving.opened s.receiving.finished (λ none e. absurd (false≢true (sym none ∙ knows))) (λ e. omega arith) h.progress)
+          (omega (arith, h.sends.most)) (same-range d accepted closed (gives_up s.ending) 1 h.sends) (λ never. absurd (cc)) (λ e. h.ack (and_parts s.owed.ack (not s.receiving.opened) e).0) h.reset;
+      valid = syn_segment_valid s (fits-fields s accepted closed knows h);
+      kind = knows;
+    }
+
+-- an acknowledgement alone
+out-ack : (s : State) (accepted : List ℕ) (closed : Bool) → has_peer s.phase ≡ true → s.receiving.opened ≡ true → IsAlone s accepted closed → GoesOutAlone s accepted closed Acknowledgement
+unfolding segment_of
+out-ack s accepted closed knows opened h =
+    let d = s.sending in
+    let plain : IsPlain d accepted closed Acknowledgement = record {
+      least = knows-nxt s.phase s.ending d.una d.nxt s.receiving.opened s.receiving.finished knows h.sends.order h.progress;
+      within = h.sends.most;
+      text = refl;
+      short = omega arith;
+      last = λ never. absurd (cc);
+    } in
+    record {
+      alone = alone-after s accepted closed Acknowledgement h
+          (fits-sent s.phase s.ending d.una d.nxt (max d.nxt d.nxt) s.receiving.opened s.receiving.finished (λ _ e. omega arith) (λ e. omega arith) h.progress)
+          (omega (arith, h.sends.most)) (same-range d accepted closed (gives_up s.ending) d.nxt h.sends) h.syn (λ never. absurd (cc)) h.reset;
+      valid = plain-valid s accepted closed Acknowledgement knows plain h;
+      kind = record { common = record { segment = refl; to = refl; reset = refl }; plain = plain; knows = knows; opened = opened };
+    }
+
+-- text or FIN goes out in the phases that send any, and acknowledges
+record Acknowledges (s : State) (due : Due) : Type 0 where
+  common : IsCommon s due
+  syn : (owed_after s.receiving.opened s.owed due).syn ≡ s.owed.syn
+  ack : (owed_after s.receiving.opened s.owed due).ack ≡ false
+
+record GoesPlain (s : State) (accepted : List ℕ) (closed : Bool) (due : Due) : Type 0 where
+  alone : IsAlone (state_after s due) accepted closed
+  valid : IsValid (segment_of s due)
+  said : IsSaid s accepted closed due
+
+out-plain : (s : State) (accepted : List ℕ) (closed : Bool) (due : Due) → sends_text s.phase ≡ true → Acknowledges s due → IsPlain s.sending accepted closed due → end_of s.sending due ≤ 1 + length accepted + one_if closed
+    → IfSome (resend_after s.sending due) (λ r. r.end ≤ max s.sending.nxt (1 + length accepted)) → IsAlone s accepted closed → GoesPlain s accepted closed due
+out-plain s accepted closed due sends acks plain most range h =
+    let d = s.sending in
+    let r = s.receiving in
+    let synced = sends_text-synchronized s.phase sends in
+    let knows : has_peer s.phase ≡ true = synchronized-knows s.phase synced in
+    let opened : r.opened ≡ true = (at-synchronized s.phase s.ending d.una d.nxt r.opened r.finished synced h.progress).1.is_opened in
+    record {
+      alone = alone-after s accepted closed due h
+          (fits-sent_text s.phase s.ending d.una d.nxt (max d.nxt (end_of d due)) r.opened r.finished synced h.progress)
+          (omega (arith, h.sends.most, most))
+          (range-more (max d.nxt (1 + length accepted)) (max (max d.nxt (end_of d due)) (1 + length accepted)) (resend_after d due) (omega arith) range)
+          (λ e. h.syn (sym acks.syn ∙ e)) (λ e. absurd (false≢true (sym acks.ack ∙ e))) (rw acks.common.reset h.reset);
+      valid = rw acks.common.segment (plain-valid s accepted closed due knows plain h);
+      said = record { common = acks.common; plain = plain; knows = knows; opened = opened };
+    }
+
+text-within : (d : Sending) (accepted : List ℕ) (closed gone : Bool) (start count : ℕ) → IsText d accepted start count → Sends d accepted closed gone → start + count ≤ 1 + length accepted + one_if closed
+text-within d accepted closed gone start count is h = omega (arith, is.most, h.most)
+
+fin-within : (accepted : List ℕ) (closed : Bool) (start : ℕ) → IsFin accepted closed start → start + 1 ≤ 1 + length accepted + one_if closed
+fin-within accepted closed start is = rw is.is_closed (omega (arith, is.place))
+
+fin-plain : (d : Sending) (accepted : List ℕ) (closed : Bool) (due : Due) (start : ℕ) → start_of d due ≡ start → count_of due ≡ 0 → text_of d due ≡ [] → IsFin accepted closed start → IsPlain d accepted closed due
+fin-plain d accepted closed due start place none empty is = record {
+  least = omega (arith, place, is.place);
+  within = omega (arith, place, is.place);
+  text = empty ∙ ap (λ n. take n (drop (start_of d due - 1) accepted)) (sym none);
+  short = omega (arith, none);
+  last = λ _. (is.is_closed, place ∙ is.place, none);
+}
+
+going-on : (s : State) (accepted : List ℕ) (closed : Bool) → sends_text s.phase ≡ true → IsAlone s accepted closed → (1 ≤ s.sending.una) × (gives_up s.ending ≡ false)
+going-on s accepted closed e h =
+    let at = at-synchronized s.phase s.ending s.sending.una s.sending.nxt s.receiving.opened s.receiving.finished (sends_text-synchronized s.phase e) h.progress in
+    (at.1.least, gives_up-not_ended s.ending at.0)
+
+text-plain : (s : State) (accepted : List ℕ) (closed : Bool) (due : Due) (start count : ℕ) → sends_text s.phase ≡ true → start_of s.sending due ≡ start → count_of due ≡ count → is_fin due ≡ false
+    → IsText s.sending accepted start count → IsAlone s accepted closed → IsPlain s.sending accepted closed due
+text-plain s accepted closed due start count e place same no_fin is h =
+    let d = s.sending in
+    let sends : Sends d accepted closed false = rw (going-on s accepted closed e h).1 at h.sends in
+    record {
+      least = omega (arith, place, is.least);
+      within = omega (arith, place, text-within d accepted closed false start count is sends);
+      text = text-is d accepted closed (start_of d due) (count_of due) (omega (arith, place, is.least)) sends;
+      short = omega (arith, same, is.short);
+      last = λ told. absurd (false≢true (sym no_fin ∙ told));
+    }
+
+out : (s : State) (accepted : List ℕ) (closed : Bool) (due : Due) → GoesPlain s accepted closed due → IsOfKind s accepted closed due → GoesOutAlone s accepted closed due
+out s accepted closed due goes kind = record { alone = goes.alone; valid = goes.valid; kind = kind }
+
+out-text : (s : State) (accepted : List ℕ) (closed : Bool) (due : Due) → IsAlone s accepted closed → (sends_text s.phase ≡ true) × IsOut s.sending accepted closed due → GoesOutAlone s accepted closed due
+unfolding segment_of
+out-text s accepted closed (Reset reset) h is = absurd is.1
+out-text s accepted closed Syn h is = absurd is.1
+out-text s accepted closed (Resend start count) h is =
+    let d = s.sending in
+    let goes = out-plain s accepted closed (Resend start count) is.0 (record { common = record { segment = refl; to = refl; reset = refl }; syn = refl; ack = refl })
+    (text-plain s accepted closed (Resend start count) start count is.0 refl refl refl is.1 h)
+    (text-within d accepted closed (gives_up s.ending) start count is.1 h.sends) (range_after-ends (max d.nxt (1 + length accepted)) (start + count) d.resend h.sends.range) h in
+    out s accepted closed (Resend start count) goes goes.said
+out-text s accepted closed (NewText start count) h is =
+    let d = s.sending in
+    let goes = out-plain s accepted closed (NewText start count) is.0 (record { common = record { segment = refl; to = refl; reset = refl }; syn = refl; ack = refl })
+    (text-plain s accepted closed (NewText start count) start count is.0 refl refl refl is.1 h)
+    (text-within d accepted closed (gives_up s.ending) start count is.1 h.sends) h.sends.range h in
+    out s accepted closed (NewText start count) goes goes.said
+out-text s accepted closed (Fin start) h is =
+    let goes = out-plain s accepted closed (Fin start) is.0 (record { common = record { segment = refl; to = refl; reset = refl }; syn = refl; ack = refl })
+    (fin-plain s.sending accepted closed (Fin start) start refl refl refl is.1) (fin-within accepted closed start is.1) h.sends.range h in
+    out s accepted closed (Fin start) goes goes.said
+out-text s accepted closed (ResentFin start) h is =
+    let d = s.sending in
+    let goes = out-plain s accepted closed (ResentFin start) is.0 (record { common = record { segment = refl; to = refl; reset = refl }; syn = refl; ack = refl })
+    (fin-plain d accepted closed (ResentFin start) start refl refl refl is.1) (fin-within accepted closed start is.1)
+    (range_after-ends (max d.nxt (1 + length accepted)) (start + 1) d.resend h.sends.range) h in
+    out s accepted closed (ResentFin start) goes goes.said
+out-text s accepted closed Acknowledgement h is = absurd is.1
+
+-- WHATEVER IS DUE
+due-reset : (s : State) (accepted : List ℕ) (closed : Bool) (reset : Option WaitingReset) → s.owed.reset ≡ reset → IfSome reset IsWritable → IsAlone s accepted closed → IfSome (reset_due reset) (GoesOutAlone s accepted closed)
+due-reset s accepted closed None waits fits h = tt
+due-reset s accepted closed (Some reset) waits fits h = out-reset s accepted closed reset waits fits h
+
+pub due-alone : (s : State) (accepted : List ℕ) (closed : Bool) → IsAlone s accepted closed → IfSome (due_of s) (GoesOutAlone s accepted closed)
+unfolding due_of
+due-alone s accepted closed h =
+    let P : Due → Type 0 = GoesOutAlone s accepted closed in
+    option_or-both P (reset_due s.owed.reset) (option_or (syn_due s.owed) (option_or (text_due s) (ack_due s.owed))) (due-reset s accepted closed s.owed.reset refl h.reset h)
+    (option_or-both P (syn_due s.owed) (option_or (text_due s) (ack_due s.owed)) (cond_both s.owed.syn (Some Syn) None (λ (o : Option Due). IfSome o P) (λ e. out-syn s accepted closed (h.syn e) h) (λ _. tt))
+    (option_or-both P (text_due s) (ack_due s.owed)
+    (if-some-map (λ due. (sends_text s.phase ≡ true) × IsOut s.sending accepted closed due) P (text_due s) (λ due is. out-text s accepted closed due h is)
+    (text-due s accepted closed h.config.good.1.1 h.closing (λ e. going-on s accepted closed e h) h.sends))
+    (cond_both s.owed.ack (Some Acknowledgement) None (λ (o : Option Due). IfSome o P) (λ e. out-ack s accepted closed (h.ack e).0 (h.ack e).1 h) (λ _. tt))))
+
+-- an emission
+after_due-alone : (s : State) (accepted : List ℕ) (closed : Bool) (due : Option Due) → IfSome due (GoesOutAlone s accepted closed) → IsAlone s accepted closed → IsAlone (after_due s due) accepted closed
+after_due-alone s accepted closed None goes h = h
+after_due-alone s accepted closed (Some due) goes h = goes.alone
+
+pub alone-emitted : (s : State) (accepted : List ℕ) (closed : Bool) → IsAlone s accepted closed → IsAlone (after_emission s) accepted closed
+unfolding after_emission
+alone-emitted s accepted closed h = after_due-alone s accepted closed (due_of s) (due-alone s accepted closed h) h

@@ -1,0 +1,260 @@
+-- A segment is taken, stage by stage, at one end by itself: whatever it says, the end keeps what it does.
+use Rattle.std.proofs.Common.{◌≡◌, ℕ, ◌^◌, ◌<◌, ◌≤◌, List, [], ◌∷◌, length, refl, sym, ◌∙◌, arith}
+use Rattle.std.specs.Prelude.{Bool, true, false, not, ◌&&◌, ◌||◌, nat_lt, nat_le, ◌==◌, if◌then◌else◌}
+use Rattle.std.proofs.lemmas.Bool.{cond_both, ltb-true, leb-true, and_parts, not-true}
+use Rattle.tcp_wire.specs.Position.{number, position_of}
+use Rattle.tcp_wire.specs.Flags.{fin, has}
+use Rattle.tcp_wire.specs.Wire.{Content}
+use Rattle.tcp_sendq.specs.SendQueue.{marks_with, can_mark, after_mark}
+use Rattle.tcp_sendq.proofs.Kept.{length-marks_with}
+use Rattle.tcp_conn.specs.declared.phase.Phase.TheVariants.{Established, FinWait1}
+use Rattle.tcp_conn.specs.Phase.{is_closed, is_syn_received, is_last_ack, takes_text, gives_up, phase_after_own_fin, phase_after_fin, has_peer}
+use Rattle.tcp_conn.specs.State.{State, Sending, place_of}
+use Rattle.tcp_conn.specs.Windows.{window_from}
+use Rattle.tcp_conn.specs.Sender.{acks_more, with_acked, after_ack, with_syn_acked, is_newer, with_window, after_window_update, count_below, is_fin_acked}
+use Rattle.tcp_conn.specs.Blocks.{is_of_flight, marks_text, with_marks, after_block, after_blocks}
+use Rattle.tcp_conn.specs.Receiver.{after_text, is_fin_due, with_fin}
+use Rattle.tcp_conn.specs.Endings.{after_orderly_end}
+use Rattle.tcp_conn.specs.Judgement.{position_near}
+use Rattle.tcp_conn.specs.Arrival.{after_own_syn, after_acked_text, blocks_used, is_current, after_news, after_own_fin, after_its_ack, takes_text_of, after_its_text, has_fin, takes_fin, after_fin, after_taking, after_taking_shut}
+use Rattle.tcp_replay.specs.Alone.{Sends, FitsPhase, IsAlone}
+use Rattle.tcp_replay.proofs.Lists.{by_test}
+use Rattle.tcp_replay.proofs.Halves.{sends-syn_acked, sends-acked}
+use Rattle.tcp_replay.proofs.Phases.{is_synchronized, gives_up-not_ended, at-syn_received, at-synchronized, at-takes_text, synchronized-knows, takes_text-synchronized, present-knows, own_syn-synchronized, fits-own_syn, knows-own_syn, fits-acked, fits-own_fin, knows-own_fin, synchronized-own_fin, fits-fin, knows-fin}
+use Rattle.tcp_replay.proofs.Judgements.{IsPresent}
+use Rattle.tcp_replay.proofs.Alone.{alone-ack_owed, alone-orderly, alone-sending}
+
+-- OWN SYN
+pub alone-own_syn : (s : State) (accepted : List ℕ) (closed : Bool) (v : Content) → IsPresent s → IsAlone s accepted closed → IsAlone (after_own_syn s v) accepted closed
+unfolding after_own_syn
+alone-own_syn s accepted closed v present h =
+    by_test (is_syn_received s.phase) (λ b. IsAlone (record s {
+      phase = if b then (if s.closing then FinWait1 else Established) else s.phase;
+      sending = if b then with_window (with_syn_acked s.sending) v.seq v.ack (window_from s.link v.window) else s.sending;
+      owed = record s.owed { syn = s.owed.syn && not b };
+    }) accepted closed)
+    (λ e.
+    let d = s.sending in
+    let r = s.receiving in
+    let at = at-syn_received s.phase s.ending d.una d.nxt r.opened r.finished e h.progress in
+    let knows : has_peer s.phase ≡ true = present-knows s.phase present.shut present.listening in
+    record {
+      config = h.config;
+      closing = h.closing;
+      progress = fits-own_syn s.closing s.ending d.una d.nxt r.opened r.finished at;
+      port = λ _. h.port knows;
+      syn = λ _. knows-own_syn s.closing;
+      ack = λ _. (knows-own_syn s.closing, at.1.is_opened);
+      reset = h.reset;
+      sends = sends-syn_acked d accepted closed (gives_up s.ending) (window_from s.link v.window) v.seq v.ack at.1.nxt_is h.sends;
+      next = h.next;
+      unopened = h.unopened;
+    })
+    (λ _.
+    let syn : (s.owed.syn && true) ≡ true → has_peer s.phase ≡ true = λ e. h.syn (and_parts s.owed.syn true e).0 in
+    assumption)
+
+-- ACKNOWLEDGEMENT, of whatever position
+alone-acked : (s : State) (accepted : List ℕ) (closed : Bool) (a : ℕ) → is_synchronized s.phase ≡ true → IsAlone s accepted closed → IsAlone (record s { sending = after_ack s.sending a }) accepted closed
+unfolding after_ack
+alone-acked s accepted closed a synced h =
+    let d = s.sending in
+    let r = s.receiving in
+    let at = at-synchronized s.phase s.ending d.una d.nxt r.opened r.finished synced h.progress in
+    let none : gives_up s.ending ≡ false = gives_up-not_ended s.ending at.0 in
+    cond_both (acks_more d a) (with_acked d a) d (λ (x : Sending). IsAlone (record s { sending = x }) accepted closed)
+    (λ e.
+    let parts = and_parts (nat_lt d.una a) (nat_le a d.nxt) e in
+    let new : d.una < a = ltb-true d.una a parts.0 in
+    let sent : a ≤ d.nxt = leb-true a d.nxt parts.1 in
+    let sends : Sends (with_acked d a) accepted closed (gives_up s.ending) = rw none (sends-acked d accepted closed a new sent (rw none at h.sends)) in
+    let progress : FitsPhase s.phase s.ending a d.nxt r.opened r.finished = fits-acked s.phase s.ending d.una a d.nxt r.opened r.finished synced (omega arith) h.progress in
+    assumption)
+    (λ _. h)
+
+pub alone-acked_text : (s : State) (accepted : List ℕ) (closed : Bool) (v : Content) → is_synchronized s.phase ≡ true → IsAlone s accepted closed → IsAlone (after_acked_text s v) accepted closed
+unfolding after_acked_text
+alone-acked_text s accepted closed v synced h = alone-acked s accepted closed (position_near s v.ack) synced h
+
+-- WINDOW UPDATE, and the blocks: what both leave as it was
+pub record SameText (d d' : Sending) (accepted : List ℕ) (closed gone : Bool) : Type 0 where
+  pub una : d'.una ≡ d.una
+  pub nxt : d'.nxt ≡ d.nxt
+  pub sends : Sends d' accepted closed gone
+
+same-text : (d : Sending) (accepted : List ℕ) (closed gone : Bool) → Sends d accepted closed gone → SameText d d accepted closed gone
+same-text d accepted closed gone h = record { una = refl; nxt = refl; sends = h }
+
+pub same-window : (d : Sending) (seq ack window : ℕ) (accepted : List ℕ) (closed gone : Bool) → Sends d accepted closed gone → SameText d (after_window_update d seq ack window) accepted closed gone
+unfolding after_window_update
+same-window d seq ack window accepted closed gone h =
+    cond_both (is_newer d seq ack) (with_window d seq ack window) d (λ (x : Sending). SameText d x accepted closed gone)
+    (λ _. let una : d.una ≡ d.una = refl in let nxt : d.nxt ≡ d.nxt = refl in assumption) (λ _. same-text d accepted closed gone h)
+
+pub same-marks : (d : Sending) (left right : ℕ) (accepted : List ℕ) (closed gone : Bool) → Sends d accepted closed gone → SameText d (after_block d left right) accepted closed gone
+unfolding after_block after_mark
+same-marks d left right accepted closed gone h =
+    let from = place_of d left in
+    let to = count_below d right in
+    cond_both (marks_text d left right) (with_marks d left right) d (λ (x : Sending). SameText d x accepted closed gone)
+    (λ e.
+    let order : from < to = ltb-true from to (and_parts (is_of_flight d left right) (nat_lt from to) e).1 in
+    cond_both (can_mark d.queue from to) (marks_with from to d.queue.marks) d.queue.marks (λ (marks : List Bool). SameText d (record d { queue = record d.queue { marks = marks } }) accepted closed gone)
+    (λ _.
+    let flags : length (marks_with from to d.queue.marks) ≡ length d.queue.bytes = length-marks_with from to d.queue.marks (omega arith) (omega (arith, h.flags)) ∙ h.flags in
+    let una : d.una ≡ d.una = refl in let nxt : d.nxt ≡ d.nxt = refl in assumption)
+    (λ _. same-text d accepted closed gone h))
+    (λ _. same-text d accepted closed gone h)
+
+same-blocks : (iss : ℕ) (d : Sending) (blocks : List (ℕ × ℕ)) (accepted : List ℕ) (closed gone : Bool) → Sends d accepted closed gone → SameText d (after_blocks iss d blocks) accepted closed gone
+same-blocks iss d [] accepted closed gone h = same-text d accepted closed gone h
+same-blocks iss d (block ∷ blocks) accepted closed gone h =
+    let first = same-marks d (position_of iss d.una block.0) (position_of iss d.una block.1) accepted closed gone h in
+    let rest = same-blocks iss (after_block d (position_of iss d.una block.0) (position_of iss d.una block.1)) blocks accepted closed gone first.sends in
+    record { una = rest.una ∙ first.una; nxt = rest.nxt ∙ first.nxt; sends = rest.sends }
+
+pub same-news : (s : State) (accepted : List ℕ) (closed gone : Bool) (v : Content) → Sends s.sending accepted closed gone → SameText s.sending (after_news s v).sending accepted closed gone
+unfolding after_news
+same-news s accepted closed gone v h =
+    let d = s.sending in
+    let told = window_from s.link v.window in
+    let first = same-window d v.seq v.ack told accepted closed gone h in
+    let rest = same-blocks s.config.isn.0 (after_window_update d v.seq v.ack told) (blocks_used s v) accepted closed gone first.sends in
+    cond_both (is_current s v) (after_blocks s.config.isn.0 (after_window_update d v.seq v.ack told) (blocks_used s v)) d (λ (x : Sending). SameText d x accepted closed gone)
+    (λ _. record { una = rest.una ∙ first.una; nxt = rest.nxt ∙ first.nxt; sends = rest.sends }) (λ _. same-text d accepted closed gone h)
+
+pub news-sending : (s : State) (v : Content) → after_news s v ≡ record s { sending = (after_news s v).sending }
+unfolding after_news
+news-sending s v = refl
+
+pub alone-news : (s : State) (accepted : List ℕ) (closed : Bool) (v : Content) → IsAlone s accepted closed → IsAlone (after_news s v) accepted closed
+alone-news s accepted closed v h =
+    let same = same-news s accepted closed (gives_up s.ending) v h.sends in
+    rw (news-sending s v) (alone-sending s accepted closed (after_news s v).sending same.una same.nxt same.sends h)
+
+-- OWN FIN: the connection goes on, or has ended
+pub own_fin-phase : (s : State) (accepted : List ℕ) (closed : Bool) → IsAlone s accepted closed → IsAlone (record s { phase = phase_after_own_fin s.phase }) accepted closed
+own_fin-phase s accepted closed h =
+    let d = s.sending in
+    let knows : has_peer (phase_after_own_fin s.phase) ≡ has_peer s.phase = knows-own_fin s.phase in
+    let progress : FitsPhase (phase_after_own_fin s.phase) s.ending d.una d.nxt s.receiving.opened s.receiving.finished = fits-own_fin s.phase s.ending d.una d.nxt s.receiving.opened s.receiving.finished h.progress in
+    let port : has_peer (phase_after_own_fin s.phase) ≡ true → s.peer.port < 2 ^ 16 = λ e. h.port (sym knows ∙ e) in
+    let syn : s.owed.syn ≡ true → has_peer (phase_after_own_fin s.phase) ≡ true = λ e. knows ∙ h.syn e in
+    let ack : s.owed.ack ≡ true → (has_peer (phase_after_own_fin s.phase) ≡ true) × (s.receiving.opened ≡ true) = λ e. (knows ∙ (h.ack e).0, (h.ack e).1) in
+    assumption
+
+pub alone-own_fin : (s : State) (accepted : List ℕ) (closed : Bool) → is_synchronized s.phase ≡ true → IsAlone s accepted closed → IsAlone (after_own_fin s) accepted closed
+unfolding after_own_fin
+alone-own_fin s accepted closed synced h =
+    let d = s.sending in
+    let at = at-synchronized s.phase s.ending d.una d.nxt s.receiving.opened s.receiving.finished synced h.progress in
+    cond_both (is_fin_acked d) (if is_last_ack s.phase then after_orderly_end s else record s { phase = phase_after_own_fin s.phase }) s (λ (x : State). IsAlone x accepted closed)
+    (λ _. cond_both (is_last_ack s.phase) (after_orderly_end s) (record s { phase = phase_after_own_fin s.phase }) (λ (x : State). IsAlone x accepted closed)
+    (λ _. alone-orderly s accepted closed at.0 h) (λ _. own_fin-phase s accepted closed h))
+    (λ _. h)
+
+pub own_fin-goes_on : (s : State) → is_synchronized s.phase ≡ true → is_closed (after_own_fin s).phase ≡ false → is_synchronized (after_own_fin s).phase ≡ true
+unfolding after_own_fin
+own_fin-goes_on s synced =
+    let P : State → Type 0 = λ x. is_closed x.phase ≡ false → is_synchronized x.phase ≡ true in
+    cond_both (is_fin_acked s.sending) (if is_last_ack s.phase then after_orderly_end s else record s { phase = phase_after_own_fin s.phase }) s P
+    (λ _. cond_both (is_last_ack s.phase) (after_orderly_end s) (record s { phase = phase_after_own_fin s.phase }) P
+    (λ _ never. absurd (cc)) (λ _ _. synchronized-own_fin s.phase ∙ synced))
+    (λ _ _. synced)
+
+-- ALL OF AN ACKNOWLEDGEMENT, whatever it acknowledges
+pub own_syn-synced : (s : State) (v : Content) → IsPresent s → is_synchronized (after_own_syn s v).phase ≡ true
+unfolding after_own_syn
+own_syn-synced s v present = own_syn-synchronized s.phase s.closing present.shut present.listening present.syn_sent
+
+pub news-synced : (s : State) (v : Content) → IsPresent s → is_synchronized (after_news (after_acked_text (after_own_syn s v) v) v).phase ≡ true
+unfolding after_own_syn after_acked_text after_news
+news-synced s v present = own_syn-synchronized s.phase s.closing present.shut present.listening present.syn_sent
+
+pub alone-its_ack : (s : State) (accepted : List ℕ) (closed : Bool) (v : Content) → IsPresent s → IsAlone s accepted closed → IsAlone (after_its_ack s v) accepted closed
+unfolding after_its_ack
+alone-its_ack s accepted closed v present h =
+    let first = after_own_syn s v in
+    let second = after_acked_text first v in
+    alone-own_fin (after_news second v) accepted closed (news-synced s v present)
+    (alone-news second accepted closed v (alone-acked_text first accepted closed v (own_syn-synced s v present) (alone-own_syn s accepted closed v present h)))
+
+pub its_ack-goes_on : (s : State) (v : Content) → IsPresent s → is_closed (after_its_ack s v).phase ≡ false → is_synchronized (after_its_ack s v).phase ≡ true
+unfolding after_its_ack
+its_ack-goes_on s v present = own_fin-goes_on (after_news (after_acked_text (after_own_syn s v) v) v) (news-synced s v present)
+
+-- TEXT
+pub owes-taking : (s : State) (accepted : List ℕ) (closed : Bool) → takes_text s.phase ≡ true → IsAlone s accepted closed → (has_peer s.phase ≡ true) × (s.receiving.opened ≡ true)
+owes-taking s accepted closed e h = (
+  synchronized-knows s.phase (takes_text-synchronized s.phase e),
+  (at-takes_text s.phase s.ending s.sending.una s.sending.nxt s.receiving.opened s.receiving.finished e h.progress).1.is_opened,
+)
+
+pub alone-text : (s : State) (accepted : List ℕ) (closed : Bool) (v : Content) → IsAlone s accepted closed → IsAlone (record s { receiving = after_text s.receiving v.seq v.text }) accepted closed
+unfolding after_text
+alone-text s accepted closed v h =
+    let next : (after_text s.receiving v.seq v.text).next < 2 ^ 32 = omega arith in
+    assumption
+
+-- an acknowledgement is owed for it
+text-owes : (s : State) (accepted : List ℕ) (closed : Bool) (v : Content) → IsAlone s accepted closed → takes_text_of s v ≡ true → (has_peer s.phase ≡ true) × (s.receiving.opened ≡ true)
+text-owes s accepted closed v h e = owes-taking s accepted closed (and_parts (takes_text s.phase) (not (length v.text == 0)) e).0 h
+
+pub alone-its_text : (s : State) (accepted : List ℕ) (closed : Bool) (v : Content) → IsAlone s accepted closed → IsAlone (after_its_text s v) accepted closed
+unfolding after_its_text
+alone-its_text s accepted closed v h =
+    let after = record s { receiving = if takes_text_of s v then after_text s.receiving v.seq v.text else s.receiving } in
+    let stage : IsAlone after accepted closed = by_test (takes_text_of s v) (λ b. IsAlone (record s { receiving = if b then after_text s.receiving v.seq v.text else s.receiving }) accepted closed)
+    (λ _. alone-text s accepted closed v h) (λ _. h) in
+    alone-ack_owed after accepted closed (takes_text_of s v) (λ e. owes-taking after accepted closed (and_parts (takes_text s.phase) (not (length v.text == 0)) e).0 stage) stage
+
+-- THE PEER'S FIN
+pub alone-fin_taken : (s : State) (accepted : List ℕ) (closed : Bool) → takes_text s.phase ≡ true → IsAlone s accepted closed → IsAlone (record s { phase = phase_after_fin s.phase; receiving = with_fin s.receiving }) accepted closed
+alone-fin_taken s accepted closed e h =
+    let d = s.sending in
+    let r = s.receiving in
+    let at = at-takes_text s.phase s.ending d.una d.nxt r.opened r.finished e h.progress in
+    let knows : has_peer (phase_after_fin s.phase) ≡ has_peer s.phase = knows-fin s.phase in
+    record {
+      config = h.config;
+      closing = h.closing;
+      progress = fits-fin s.phase s.ending d.una d.nxt r.opened r.finished e h.progress;
+      port = λ known. h.port (sym knows ∙ known);
+      syn = λ owed. knows ∙ h.syn owed;
+      ack = λ owed. (knows ∙ (h.ack owed).0, (h.ack owed).1);
+      reset = h.reset;
+      sends = h.sends;
+      next = omega arith;
+      unopened = λ never. absurd (cc (at.1.is_opened));
+    }
+
+pub alone-fin : (s : State) (accepted : List ℕ) (closed : Bool) (v : Content) → IsAlone s accepted closed → IsAlone (after_fin s v) accepted closed
+unfolding after_fin
+alone-fin s accepted closed v h =
+    let owing : State = record s { owed = record s.owed { ack = s.owed.ack || has_fin s v } } in
+    let owes : IsAlone owing accepted closed = alone-ack_owed s accepted closed (has_fin s v) (λ e. owes-taking s accepted closed (and_parts (takes_text s.phase) (has fin v.flags) e).0 h) h in
+    by_test (takes_fin s v)
+    (λ b. IsAlone (record owing { phase = if b then phase_after_fin s.phase else s.phase; receiving = if b then with_fin s.receiving else s.receiving }) accepted closed)
+    (λ e. alone-fin_taken owing accepted closed (and_parts (takes_text s.phase) (has fin v.flags) (and_parts (has_fin s v) (is_fin_due s.receiving (number v.seq (length v.text))) e).0).0 owes)
+    (λ _. owes)
+
+-- ALL OF IT, and with the window shut
+pub alone-taking : (s : State) (accepted : List ℕ) (closed : Bool) (v : Content) → IsPresent s → IsAlone s accepted closed → IsAlone (after_taking s v) accepted closed
+unfolding after_taking
+alone-taking s accepted closed v present h =
+    alone-fin (after_its_text (after_its_ack s v) v) accepted closed v (alone-its_text (after_its_ack s v) accepted closed v (alone-its_ack s accepted closed v present h))
+
+-- what an acknowledgement is owed for
+pub owes-going_on : (s : State) (accepted : List ℕ) (closed : Bool) (v : Content) → IsPresent s → IsAlone (after_its_ack s v) accepted closed → not (is_closed (after_its_ack s v).phase) ≡ true
+    → (has_peer (after_its_ack s v).phase ≡ true) × ((after_its_ack s v).receiving.opened ≡ true)
+owes-going_on s accepted closed v present h e =
+    let x = after_its_ack s v in
+    let synced : is_synchronized x.phase ≡ true = its_ack-goes_on s v present (not-true (is_closed x.phase) e) in
+    (synchronized-knows x.phase synced, (at-synchronized x.phase x.ending x.sending.una x.sending.nxt x.receiving.opened x.receiving.finished synced h.progress).1.is_opened)
+
+pub alone-taking_shut : (s : State) (accepted : List ℕ) (closed : Bool) (v : Content) → IsPresent s → IsAlone s accepted closed → IsAlone (after_taking_shut s v) accepted closed
+unfolding after_taking_shut
+alone-taking_shut s accepted closed v present h =
+    let x = after_its_ack s v in
+    let first = alone-its_ack s accepted closed v present h in
+    alone-ack_owed x accepted closed (not (is_closed x.phase)) (owes-going_on s accepted closed v present first) first

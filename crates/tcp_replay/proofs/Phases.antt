@@ -1,0 +1,202 @@
+-- What the phase of an end says of how far it has come.
+use Rattle.std.proofs.Common.{◌≡◌, ℕ, ◌≤◌, refl, ap, arith}
+use Rattle.std.specs.Prelude.{Bool, true, false, if◌then◌else◌}
+use Rattle.tcp_conn.specs.declared.phase.Phase.{Phase}
+use Rattle.tcp_conn.specs.declared.phase.Phase.TheVariants.{Closed, Listen, SynSent, SynReceived, Established, FinWait1, FinWait2, CloseWait, Closing, LastAck, TimeWait}
+use Rattle.tcp_conn.specs.declared.phase.Ending.{Ending}
+use Rattle.tcp_conn.specs.declared.phase.Ending.TheVariants.{NotEnded}
+use Rattle.tcp_conn.specs.Phase.{is_closed, is_listening, has_peer, is_syn_sent, is_syn_received, is_handshake, is_time_wait, is_last_ack, takes_text, sends_text, resets_on_abort, is_ended, gives_up, phase_after_own_fin, phase_after_fin}
+use Rattle.tcp_conn.specs.Calls.{phase_after_close}
+use Rattle.tcp_conn.specs.Arrival.{phase_after_own_syn}
+use Rattle.tcp_replay.specs.Alone.{IsUnused, IsOpening, IsAnswering, IsReceiving, IsDone, FitsPhase}
+
+-- both SYNs were taken, and the connection goes on
+abbrev pub is_synchronized : Phase → Bool
+is_synchronized Closed = false
+is_synchronized Listen = false
+is_synchronized SynSent = false
+is_synchronized SynReceived = false
+is_synchronized other = true
+
+pub gives_up-not_ended : (ending : Ending) → ending ≡ NotEnded → gives_up ending ≡ false
+gives_up-not_ended ending e = ap gives_up e
+
+pub not_ended : (ending : Ending) → is_ended ending ≡ false → ending ≡ NotEnded
+not_ended NotEnded e = refl
+not_ended other e = absurd (cc)
+
+-- what is known at one phase
+pub at-listen : (phase : Phase) (ending : Ending) (una nxt : ℕ) (opened finished : Bool) → is_listening phase ≡ true → FitsPhase phase ending una nxt opened finished → (ending ≡ NotEnded) × IsUnused nxt opened
+at-listen Listen ending una nxt opened finished e h = h
+at-listen other ending una nxt opened finished e h = absurd (cc)
+
+pub at-closed : (phase : Phase) (ending : Ending) (una nxt : ℕ) (opened finished : Bool) → is_closed phase ≡ true → ending ≡ NotEnded → FitsPhase phase ending una nxt opened finished → IsUnused nxt opened
+at-closed Closed ending una nxt opened finished e new h = h new
+at-closed other ending una nxt opened finished e new h = absurd (cc)
+
+pub at-syn_sent : (phase : Phase) (ending : Ending) (una nxt : ℕ) (opened finished : Bool) → is_syn_sent phase ≡ true → FitsPhase phase ending una nxt opened finished → (ending ≡ NotEnded) × IsOpening nxt opened
+at-syn_sent SynSent ending una nxt opened finished e h = h
+at-syn_sent other ending una nxt opened finished e h = absurd (cc)
+
+pub at-syn_received : (phase : Phase) (ending : Ending) (una nxt : ℕ) (opened finished : Bool) → is_syn_received phase ≡ true → FitsPhase phase ending una nxt opened finished → (ending ≡ NotEnded) × IsAnswering nxt opened finished
+at-syn_received SynReceived ending una nxt opened finished e h = h
+at-syn_received other ending una nxt opened finished e h = absurd (cc)
+
+pub at-takes_text : (phase : Phase) (ending : Ending) (una nxt : ℕ) (opened finished : Bool) → takes_text phase ≡ true → FitsPhase phase ending una nxt opened finished → (ending ≡ NotEnded) × IsReceiving una opened finished
+at-takes_text Established ending una nxt opened finished e h = h
+at-takes_text FinWait1 ending una nxt opened finished e h = h
+at-takes_text FinWait2 ending una nxt opened finished e h = h
+at-takes_text other ending una nxt opened finished e h = absurd (cc)
+
+pub at-synchronized : (phase : Phase) (ending : Ending) (una nxt : ℕ) (opened finished : Bool) → is_synchronized phase ≡ true → FitsPhase phase ending una nxt opened finished → (ending ≡ NotEnded) × IsDone una opened
+at-synchronized Closed ending una nxt opened finished e h = absurd (cc)
+at-synchronized Listen ending una nxt opened finished e h = absurd (cc)
+at-synchronized SynSent ending una nxt opened finished e h = absurd (cc)
+at-synchronized SynReceived ending una nxt opened finished e h = absurd (cc)
+at-synchronized other ending una nxt opened finished e h = assumption
+
+-- what is known of phases
+pub not-closed-ended : (phase : Phase) (ending : Ending) (una nxt : ℕ) (opened finished : Bool) → is_closed phase ≡ false → FitsPhase phase ending una nxt opened finished → ending ≡ NotEnded
+not-closed-ended Closed ending una nxt opened finished e h = absurd (cc)
+not-closed-ended other ending una nxt opened finished e h = h.0
+
+pub synchronized-closed : (phase : Phase) → is_synchronized phase ≡ true → is_closed phase ≡ false
+synchronized-closed Closed e = absurd (cc)
+synchronized-closed other e = refl
+
+pub synchronized-knows : (phase : Phase) → is_synchronized phase ≡ true → has_peer phase ≡ true
+synchronized-knows Closed e = absurd (cc)
+synchronized-knows Listen e = absurd (cc)
+synchronized-knows other e = refl
+
+pub takes_text-synchronized : (phase : Phase) → takes_text phase ≡ true → is_synchronized phase ≡ true
+takes_text-synchronized Established e = refl
+takes_text-synchronized FinWait1 e = refl
+takes_text-synchronized FinWait2 e = refl
+takes_text-synchronized other e = absurd (cc)
+
+pub sends_text-synchronized : (phase : Phase) → sends_text phase ≡ true → is_synchronized phase ≡ true
+sends_text-synchronized Established e = refl
+sends_text-synchronized FinWait1 e = refl
+sends_text-synchronized CloseWait e = refl
+sends_text-synchronized Closing e = refl
+sends_text-synchronized LastAck e = refl
+sends_text-synchronized other e = absurd (cc)
+
+pub time_wait-synchronized : (phase : Phase) → is_time_wait phase ≡ true → is_synchronized phase ≡ true
+time_wait-synchronized TimeWait e = refl
+time_wait-synchronized other e = absurd (cc)
+
+pub last_ack-synchronized : (phase : Phase) → is_last_ack phase ≡ true → is_synchronized phase ≡ true
+last_ack-synchronized LastAck e = refl
+last_ack-synchronized other e = absurd (cc)
+
+pub syn_sent-knows : (phase : Phase) → is_syn_sent phase ≡ true → has_peer phase ≡ true
+syn_sent-knows SynSent e = refl
+syn_sent-knows other e = absurd (cc)
+
+pub handshake-knows : (phase : Phase) → is_handshake phase ≡ true → has_peer phase ≡ true
+handshake-knows SynSent e = refl
+handshake-knows SynReceived e = refl
+handshake-knows other e = absurd (cc)
+
+pub closed-unknown : (phase : Phase) → is_closed phase ≡ true → has_peer phase ≡ true → ⊥
+closed-unknown Closed e known = absurd (cc)
+closed-unknown other e known = absurd (cc)
+
+pub resets_on_abort-knows : (phase : Phase) → resets_on_abort phase ≡ true → has_peer phase ≡ true
+resets_on_abort-knows Closed e = absurd (cc)
+resets_on_abort-knows Listen e = absurd (cc)
+resets_on_abort-knows other e = refl
+
+-- where the peer is known, the own SYN has a number; where an acknowledgement may go out, it was sent
+pub knows-nxt : (phase : Phase) (ending : Ending) (una nxt : ℕ) (opened finished : Bool) → has_peer phase ≡ true → una ≤ nxt → FitsPhase phase ending una nxt opened finished → 1 ≤ nxt
+knows-nxt Closed ending una nxt opened finished e order h = absurd (cc)
+knows-nxt Listen ending una nxt opened finished e order h = absurd (cc)
+knows-nxt other ending una nxt opened finished e order h = omega arith
+
+-- after the phases that are tested first the peer is known, and its SYN was taken
+pub present-knows : (phase : Phase) → is_closed phase ≡ false → is_listening phase ≡ false → has_peer phase ≡ true
+present-knows phase shut listening = rw (shut, listening) refl
+
+pub present-opened : (phase : Phase) (ending : Ending) (una nxt : ℕ) (opened finished : Bool) → is_closed phase ≡ false → is_listening phase ≡ false → is_syn_sent phase ≡ false
+    → FitsPhase phase ending una nxt opened finished → opened ≡ true
+present-opened Closed ending una nxt opened finished e f g h = absurd (cc)
+present-opened Listen ending una nxt opened finished e f g h = absurd (cc)
+present-opened SynSent ending una nxt opened finished e f g h = absurd (cc)
+present-opened other ending una nxt opened finished e f g h = h.1.is_opened
+
+-- the own SYN is acknowledged
+pub own_syn-synchronized : (phase : Phase) (closing : Bool) → is_closed phase ≡ false → is_listening phase ≡ false → is_syn_sent phase ≡ false → is_synchronized (phase_after_own_syn phase closing) ≡ true
+own_syn-synchronized Closed closing e f g = absurd (cc)
+own_syn-synchronized Listen closing e f g = absurd (cc)
+own_syn-synchronized SynSent closing e f g = absurd (cc)
+own_syn-synchronized SynReceived true e f g = refl
+own_syn-synchronized SynReceived false e f g = refl
+own_syn-synchronized other closing e f g = refl
+
+pub fits-own_syn : (closing : Bool) (ending : Ending) (una nxt : ℕ) (opened finished : Bool) → (ending ≡ NotEnded) × IsAnswering nxt opened finished
+    → FitsPhase (if closing then FinWait1 else Established) ending nxt nxt opened finished
+fits-own_syn true ending una nxt opened finished h = (h.0, record { least = omega arith; is_opened = h.1.is_opened; goes_on = h.1.goes_on })
+fits-own_syn false ending una nxt opened finished h = (h.0, record { least = omega arith; is_opened = h.1.is_opened; goes_on = h.1.goes_on })
+
+pub knows-own_syn : (closing : Bool) → has_peer (if closing then FinWait1 else Established) ≡ true
+knows-own_syn true = refl
+knows-own_syn false = refl
+
+-- SND.UNA moves on
+pub fits-acked : (phase : Phase) (ending : Ending) (una a nxt : ℕ) (opened finished : Bool) → is_synchronized phase ≡ true → una ≤ a → FitsPhase phase ending una nxt opened finished → FitsPhase phase ending a nxt opened finished
+fits-acked Closed ending una a nxt opened finished e more h = absurd (cc)
+fits-acked Listen ending una a nxt opened finished e more h = absurd (cc)
+fits-acked SynSent ending una a nxt opened finished e more h = absurd (cc)
+fits-acked SynReceived ending una a nxt opened finished e more h = absurd (cc)
+fits-acked other ending una a nxt opened finished e more h = let least : 1 ≤ a = omega arith in assumption
+
+-- SND.NXT moves on, in the handshake no further than past the SYN, and not at all where no peer is known
+pub fits-sent : (phase : Phase) (ending : Ending) (una nxt n : ℕ) (opened finished : Bool) → (has_peer phase ≡ false → nxt ≡ 0 → n ≡ 0) → (nxt ≡ 1 → n ≡ 1)
+    → FitsPhase phase ending una nxt opened finished → FitsPhase phase ending una n opened finished
+fits-sent Closed ending una nxt n opened finished none same h = λ new. record { nxt_is = none refl (h new).nxt_is; not_opened = (h new).not_opened }
+fits-sent Listen ending una nxt n opened finished none same h = (h.0, record { nxt_is = none refl h.1.nxt_is; not_opened = h.1.not_opened })
+fits-sent SynSent ending una nxt n opened finished none same h = (h.0, record { nxt_is = same h.1.nxt_is; not_opened = h.1.not_opened })
+fits-sent SynReceived ending una nxt n opened finished none same h = (h.0, record { nxt_is = same h.1.nxt_is; is_opened = h.1.is_opened; goes_on = h.1.goes_on })
+fits-sent other ending una nxt n opened finished none same h = h
+
+pub fits-sent_text : (phase : Phase) (ending : Ending) (una nxt n : ℕ) (opened finished : Bool) → is_synchronized phase ≡ true → FitsPhase phase ending una nxt opened finished → FitsPhase phase ending una n opened finished
+fits-sent_text Closed ending una nxt n opened finished e h = absurd (cc)
+fits-sent_text Listen ending una nxt n opened finished e h = absurd (cc)
+fits-sent_text SynSent ending una nxt n opened finished e h = absurd (cc)
+fits-sent_text SynReceived ending una nxt n opened finished e h = absurd (cc)
+fits-sent_text other ending una nxt n opened finished e h = h
+
+-- the own FIN is acknowledged
+pub fits-own_fin : (phase : Phase) (ending : Ending) (una nxt : ℕ) (opened finished : Bool) → FitsPhase phase ending una nxt opened finished → FitsPhase (phase_after_own_fin phase) ending una nxt opened finished
+fits-own_fin FinWait1 ending una nxt opened finished h = h
+fits-own_fin other ending una nxt opened finished h = h
+
+pub knows-own_fin : (phase : Phase) → has_peer (phase_after_own_fin phase) ≡ has_peer phase
+knows-own_fin FinWait1 = refl
+knows-own_fin other = refl
+
+pub synchronized-own_fin : (phase : Phase) → is_synchronized (phase_after_own_fin phase) ≡ is_synchronized phase
+synchronized-own_fin FinWait1 = refl
+synchronized-own_fin other = refl
+
+-- the peer's FIN is taken
+pub fits-fin : (phase : Phase) (ending : Ending) (una nxt : ℕ) (opened finished : Bool) → takes_text phase ≡ true → FitsPhase phase ending una nxt opened finished → FitsPhase (phase_after_fin phase) ending una nxt opened true
+fits-fin Established ending una nxt opened finished e h = assumption
+fits-fin FinWait1 ending una nxt opened finished e h = assumption
+fits-fin FinWait2 ending una nxt opened finished e h = assumption
+fits-fin other ending una nxt opened finished e h = absurd (cc)
+
+pub knows-fin : (phase : Phase) → has_peer (phase_after_fin phase) ≡ has_peer phase
+knows-fin Established = refl
+knows-fin other = refl
+
+-- the user closes
+pub fits-closing : (phase : Phase) (ending : Ending) (una nxt : ℕ) (opened finished : Bool) → FitsPhase phase ending una nxt opened finished → FitsPhase (phase_after_close phase) ending una nxt opened finished
+fits-closing Established ending una nxt opened finished h = h
+fits-closing other ending una nxt opened finished h = h
+
+pub knows-closing : (phase : Phase) → has_peer (phase_after_close phase) ≡ has_peer phase
+knows-closing Established = refl
+knows-closing other = refl

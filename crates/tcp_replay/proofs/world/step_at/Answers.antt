@@ -1,0 +1,10 @@
+use Rattle.std.proofs.Common.{rules}
+use Rattle.tcp_replay.specs.World.{effect_of}
+use Rattle.tcp_replay.proofs.world.step_at.Goals as goal
+
+pub returns-in-Send-clause-there : goal.returns-in-Send-clause-there
+unfolding effect_of
+returns-in-Send-clause-there g c = search rules
+
+pub returns-in-Send-clause-err : goal.returns-in-Send-clause-err
+returns-in-Send-clause-err g c = search rules

@@ -1,5 +1,0 @@
-use Rattle.tcp_wire.proofs.Positions.{near_is_nearest_lem}
-use Rattle.tcp_wire.proofs.laws.near_is_nearest.Goals as goal
-
-pub returns : goal.returns
-returns c = near_is_nearest_lem

@@ -1,7 +1,0 @@
-use Rattle.std.proofs.Common.{◌+◌, arith}
-use Rattle.tcp_wire.proofs.WordSums.{field_is}
-use Rattle.tcp_wire.proofs.sums.checksum.Goals as goal
-
-pub returns : goal.returns
-returns c =
-    field_is c.args.src.0 c.args.dst.0 c.args.bytes.now (c.pseudo_sum.result + c.word_sum.result) c.from-own.result (omega arith) (omega arith) (omega arith)

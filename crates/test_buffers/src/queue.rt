@@ -1,0 +1,117 @@
+//! The calls of a send queue. A call that asks for more than the queue has is answered by `outside`, and isn't made.
+use crate::buffer::Buffer;
+use crate::words::{number, two_numbers};
+use std::alloc::Global;
+use tcp_sendq::SendQueue;
+use tcp_text::{LineError, push_bytes, read_bytes};
+
+pub(crate) fn new_queue(
+    alloc: Global,
+    rest: &[u8],
+    answers: &mut String,
+) -> Result<Option<Buffer>, LineError> {
+    match SendQueue::new(alloc, number(rest)?) {
+        Ok(queue) => {
+            answers.push_str("new\n")?;
+            Ok(Some(Buffer::Queue(queue)))
+        }
+        Err(refusal) => {
+            let number = refusal.number();
+            write!(answers, "refused {number}: {refusal}\n")?;
+            Ok(None)
+        }
+    }
+}
+
+pub(crate) fn answer_queue(
+    alloc: Global,
+    queue: &mut SendQueue,
+    word: &[u8],
+    rest: &[u8],
+    answers: &mut String,
+) -> Result<(), LineError> {
+    match word {
+        b"offer" => {
+            let text = read_bytes(alloc, rest)?;
+            let count = queue.offer(&text);
+            write!(answers, "{count}")?;
+        }
+        b"release" => release(queue, number(rest)?, answers)?,
+        b"copy" => copy(alloc, queue, rest, answers)?,
+        b"mark" => mark(queue, rest, answers)?,
+        b"forget" => {
+            queue.forget_marks();
+            answers.push_str("done")?;
+        }
+        _ => tell_queue(queue, word, rest, answers)?,
+    }
+    Ok(())
+}
+
+fn release(queue: &mut SendQueue, count: usize, answers: &mut String) -> Result<(), LineError> {
+    if count > queue.len() {
+        answers.push_str("outside")?;
+        return Ok(());
+    }
+    queue.release(count);
+    answers.push_str("done")?;
+    Ok(())
+}
+
+fn copy(
+    alloc: Global,
+    queue: &SendQueue,
+    rest: &[u8],
+    answers: &mut String,
+) -> Result<(), LineError> {
+    let (at, count) = two_numbers(rest)?;
+    if at + count > queue.len() {
+        answers.push_str("outside")?;
+        return Ok(());
+    }
+    let mut out = vec![in alloc; 0u8; count]?;
+    queue.copy(at, &mut out);
+    push_bytes(alloc, answers, &out)?;
+    Ok(())
+}
+
+fn mark(queue: &mut SendQueue, rest: &[u8], answers: &mut String) -> Result<(), LineError> {
+    let (from, to) = two_numbers(rest)?;
+    if from >= to || to > queue.len() {
+        answers.push_str("outside")?;
+        return Ok(());
+    }
+    let marked = queue.mark(from, to);
+    write!(answers, "{marked}")?;
+    Ok(())
+}
+
+fn tell_queue(
+    queue: &SendQueue,
+    word: &[u8],
+    rest: &[u8],
+    answers: &mut String,
+) -> Result<(), LineError> {
+    match word {
+        b"unmarked" => match queue.next_unmarked(number(rest)?) {
+            Some((from, to)) => write!(answers, "{from} {to}")?,
+            None => answers.push_str("none")?,
+        },
+        b"marked" => match queue.last_mark_end() {
+            Some(end) => write!(answers, "{end}")?,
+            None => answers.push_str("none")?,
+        },
+        b"state" => {
+            let len = queue.len();
+            let room = queue.room();
+            let capacity = queue.capacity();
+            let is_empty = queue.is_empty();
+            write!(
+                answers,
+                "{len} of {capacity}, room {room}, empty {is_empty}"
+            )?;
+        }
+        _ => return Err(LineError::BadForm),
+    }
+    Ok(())
+}

@@ -1,0 +1,29 @@
+//! What the program writes after `tcpkit: ` for each fault.
+use std::io;
+use tcp_commands::ToolError;
+use tcp_conn::ConfigError;
+use tcp_replay::Side;
+use tcp_words::WordsError;
+
+const OF_COMMANDS: [ToolError; 7] = [
+    ToolError::BadLine { line: 3 },
+    ToolError::NoMemory,
+    ToolError::ReadFault,
+    ToolError::WriteFault,
+    ToolError::Config(Side::A, ConfigError::BadCapacity),
+    ToolError::Config(Side::B, ConfigError::BadMss),
+    ToolError::Config(Side::A, ConfigError::BadShift),
+];
+
+const OF_WORDS: [WordsError; 2] = [WordsError::BadWords, WordsError::NoMemory];
+
+/// Prints the line of each fault.
+pub(crate) fn print_faults(rt: &impl Print) -> io::Result<()> {
+    for fault in &OF_COMMANDS {
+        println!(rt; "{fault}")?;
+    }
+    for fault in &OF_WORDS {
+        println!(rt; "{fault}")?;
+    }
+    Ok(())
+}

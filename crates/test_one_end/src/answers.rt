@@ -1,0 +1,31 @@
+//! What the answers of tcp_answers leave out: a call that answers nothing, and where the end is after it.
+ghost use Rattle.std.specs.Prelude.{◌≡◌, ◌++◌, OnOk, string_bytes};
+ghost use Rattle.test_one_end.specs.Answers.{call_text, state_text};
+
+use std::alloc::AllocError;
+use tcp_answers::{ending_name, phase_name, push_refused};
+use tcp_conn::{CallError, Endpoint};
+
+pub(crate) fn push_call(text: &mut String, answer: Result<(), CallError>) -> Result<(), AllocError>
+    ensures { OnOk result (string_bytes text.new ≡ string_bytes text.old ++ call_text answer) }
+{
+    match answer {
+        Ok(()) => text.push_str("ok"),
+        Err(refusal) => push_refused(text, refusal.number()),
+    }
+}
+
+/// Appends the end's phase, its ending and its counts.
+pub(crate) fn push_state(text: &mut String, end: &Endpoint) -> Result<(), AllocError>
+    ensures { OnOk result (string_bytes text.new ≡ string_bytes text.old ++ state_text end.now) }
+{
+    let phase = phase_name(end.phase());
+    let ending = ending_name(end.ending());
+    let unread = end.unread();
+    let released = end.released();
+    let ordered = end.ordered();
+    write!(
+        text,
+        " {phase} {ending} unread {unread} released {released} ordered {ordered}\n"
+    )
+}

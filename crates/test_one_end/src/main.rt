@@ -1,0 +1,77 @@
+//! One end alone, for tests: reads calls and arriving segments, a line each, and prints each answer, each emission and
+//! the phase after it. A line is `new ISN MSS SEND RECV SHIFT SACK` (a shift of `none` offers none, SACK is 0 or 1), which
+//! begins with another end, or says why there is none; `connect`, `listen`, `close`, `abort`, `emit`, `timers`; `send HEX`, `receive N`, `timer NAME`;
+//! or `arrive SOURCE DESTINATION HEX`. The end is 10.0.0.2, port 2; it connects to 10.0.0.1, port 1.
+#![tactic(auto)]
+
+mod answers;
+mod calls;
+mod reading;
+
+use counted_io::{Counted, read_all};
+use std::alloc::Global;
+use std::process::ExitCode;
+use tcp_conn::Endpoint;
+use tcp_text::{LineError, Lines};
+
+/// Takes one line: another end, or a call of the one there is.
+fn take_line(
+    alloc: Global,
+    end: &mut Option<Endpoint>,
+    line: &[u8],
+    answers: &mut String,
+) -> Result<(), LineError> {
+    if let Some(config) = reading::read_config(line) {
+        return calls::begin(alloc, config, end, answers);
+    }
+    match end {
+        Some(end) => calls::answer_line(alloc, end, line, answers),
+        None => Err(LineError::BadForm),
+    }
+}
+
+/// Takes every line in turn.
+fn take_lines(
+    alloc: Global,
+    end: &mut Option<Endpoint>,
+    lines: Lines<'_>,
+    answers: &mut String,
+) -> Result<(), LineError> {
+    for (_, line) in lines {
+        take_line(alloc, end, line, answers)?;
+    }
+    Ok(())
+}
+
+/// The answers to all lines of a text.
+fn answers_to(alloc: Global, text: &[u8]) -> Option<String> {
+    let Ok(lines) = Lines::new(text) else {
+        return None;
+    };
+    let mut answers = String::new(alloc);
+    let mut end = None;
+    match take_lines(alloc, &mut end, lines, &mut answers) {
+        Ok(()) => Some(answers),
+        Err(_) => None,
+    }
+}
+
+/// Prints the answers to all lines of a text.
+fn print_answers(rt: &(impl Print + AllocGlobal), text: &[u8]) -> bool {
+    match answers_to(rt.alloc(), text) {
+        Some(answers) => print!(rt; "{answers}").is_ok(),
+        None => false,
+    }
+}
+
+fn main(rt: HostRuntime) -> ExitCode {
+    let mut input = Counted::new(rt.stdin());
+    let Ok(text) = read_all(rt.alloc(), &mut input) else {
+        return ExitCode::from(2);
+    };
+    if print_answers(&rt, &text) {
+        ExitCode::SUCCESS
+    } else {
+        ExitCode::from(2)
+    }
+}
