@@ -3,6 +3,7 @@ pub mod Beginnings
 pub mod Choices
 pub mod Described
 mod Examples
+pub mod Gaps
 pub mod Joins
 pub mod Laying
 pub mod Maximal

@@ -5,7 +5,7 @@ use Rattle.tcp_reasm.specs.Reassembly.{Run, stamp_of_run}
 use Rattle.tcp_reasm.specs.Laws.{SomeCovers}
 use Rattle.tcp_reasm.specs.Store.{turned, ranked, put, laid, held_to, gap_to}
 use Rattle.tcp_reasm.proofs.Described.{stamp_none, stamp_all, ranked_above, ranked_covers, covers_ranked}
-use Rattle.tcp_reasm.proofs.Joins.{held_to_least, held_to_held, gap_to_most, gap_to_least, gap_to_free}
+use Rattle.tcp_reasm.proofs.Gaps.{held_to_least, held_to_held, gap_to_most, gap_to_least, gap_to_free}
 use Rattle.tcp_reasm.proofs.Rings.{drop_put, take_put, split_drop, laid_free, laid_held}
 
 -- how far a turn gets

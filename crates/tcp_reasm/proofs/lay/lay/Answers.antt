@@ -2,7 +2,7 @@ use Rattle.std.proofs.Common.{◌≡◌, ◌+◌, ◌-◌, ℕ, List, arith, ap,
 use Rattle.std.specs.Prelude.{min}
 use Rattle.tcp_reasm.specs.Reassembly.{Run, stamp_of_run}
 use Rattle.tcp_reasm.specs.Store.{runs_in, ranked, laid, turned, held_to, gap_to}
-use Rattle.tcp_reasm.proofs.Joins.{turn_goes_on}
+use Rattle.tcp_reasm.proofs.Gaps.{turn_goes_on}
 use Rattle.std.proofs.lemmas.List.{drop_all}
 use Rattle.tcp_reasm.proofs.Rings.{laid_nothing}
 use Rattle.tcp_reasm.proofs.Turns.{turn_laid, turn_unread}
