@@ -16,8 +16,9 @@ struct handle {
 
 _Static_assert(sizeof(struct handle) == OWNER * sizeof(uint64_t), "the handle is the struct's first words");
 _Static_assert(sizeof(tcpcore_addr) == 4 && sizeof(size_t) == 8, "the types of the library");
-_Static_assert(sizeof(tcpcore_config) == 40 && offsetof(tcpcore_config, send_capacity) == 16, "the config of the library");
-_Static_assert(sizeof(struct tcpcore_status) == 32, "the status of the library");
+_Static_assert(sizeof(tcpcore_config) == 48 && offsetof(tcpcore_config, send_capacity) == 16 &&
+                   offsetof(tcpcore_config, limit) == 32, "the config of the library");
+_Static_assert(sizeof(struct tcpcore_status) == 48, "the status of the library");
 
 /* The library's own calls (crate tcp_c). */
 uint32_t tcp_c_new(struct handle *, const tcpcore_config *);

@@ -82,13 +82,14 @@ enum {
     TCPCORE_ALREADY_OPEN = 12,  /* opened before */
     TCPCORE_CLOSING = 13,       /* behind a tcpcore_close */
     TCPCORE_ENDED = 14,         /* the connection has ended; tcpcore_status says how */
-    TCPCORE_STREAM_FULL = 15,   /* the direction has carried 2,147,483,632 bytes */
+    TCPCORE_STREAM_FULL = 15,   /* the direction has carried as many bytes as the config's limit says */
     TCPCORE_NOT_CONNECTED = 16, /* LISTEN: no peer is known */
     /* tcpcore_new: the config is refused, and no memory is kept. */
     TCPCORE_BAD_CAPACITY = 21, /* a capacity isn't from 1 to 1,048,576 */
     TCPCORE_NO_MEMORY = 22,    /* rattle_alloc had none */
     TCPCORE_BAD_MSS = 23,      /* the MSS isn't from 64 to 1,460 */
     TCPCORE_BAD_SHIFT = 24,    /* the window shift is above 14 */
+    TCPCORE_BAD_LIMIT = 25,    /* the limit isn't from 1 to 2^62 */
     /* The boundary refuses; nothing changed. */
     TCPCORE_NO_END = 31,    /* no end is in the struct: never made, or freed */
     TCPCORE_IN_USE = 32,    /* tcpcore_new: the struct holds an end already */
@@ -137,14 +138,17 @@ enum {
     TCPCORE_TIMER_TIME_WAIT = 2   /* the TIME-WAIT timeout (RFC 9293, 3.10.8) */
 };
 
-/* The bytes of memory that an end of these capacities takes, in blocks of `send`, `receive` and 648 bytes. */
-#define TCPCORE_MEMORY(send, receive) ((size_t)(send) + (size_t)(receive) + 648)
+/* The bytes of memory that an end of these capacities takes, in blocks of `send`, `receive` and 656 bytes. */
+#define TCPCORE_MEMORY(send, receive) ((size_t)(send) + (size_t)(receive) + 656)
 
 /* The bytes of stack that a call takes at most, beside those of your memory functions. */
 #define TCPCORE_STACK 16384
 
 /* The room that tcpcore_emit wants, in bytes: more than the longest segment of an end. */
 #define TCPCORE_EMIT_ROOM 1520
+
+/* A limit below which no segment, however old, is taken for another: 2^31 less 16 bytes. */
+#define TCPCORE_LIMIT UINT64_C(2147483632)
 
 /* An end, placed by the caller. Its words are the library's: set them by TCPCORE_END_INIT alone. */
 typedef struct tcpcore_end {
@@ -167,6 +171,8 @@ typedef struct tcpcore_config {
     uint32_t isn;           /* the initial sequence number; choose it as RFC 9293, 3.4.1 says */
     size_t send_capacity;   /* the most bytes kept for the peer, 1 to 1,048,576 */
     size_t recv_capacity;   /* the most bytes kept for the user, 1 to 1,048,576: the greatest receive window */
+    uint64_t limit;         /* the most bytes that the own direction carries, 1 to 2^62; past TCPCORE_LIMIT the network has to keep
+                               a lifetime of segments (RFC 9293, 3.4) */
     uint8_t window_shift;   /* the shift of the windows that are told, 0 to 14 (RFC 7323, 2.2); not looked at where `scales` is 0 */
     uint8_t scales;         /* whether windows may be scaled: 0 is no, anything else yes */
     uint8_t sack;           /* whether selective acknowledgement may be used (RFC 2018, 2): 0 is no, anything else yes */
@@ -179,11 +185,13 @@ struct tcpcore_status {
     uint64_t unread;   /* bytes that wait for tcpcore_receive */
     uint64_t released; /* sent bytes that the peer has acknowledged */
     uint64_t ordered;  /* received bytes up to now, read or not, in order */
+    uint64_t una;      /* SND.UNA as a position of the own direction: its SYN is at 0, byte i at 1 + i */
+    uint64_t next;     /* RCV.NXT as a position of the peer's direction */
 };
 
 /*
  * Makes an end in *end: CLOSED, empty, nothing due. Takes all memory that the end will ever use. *config is read and not kept.
- *   DONE; IN_USE; BAD_CAPACITY, BAD_MSS, BAD_SHIFT, NO_MEMORY, the first that applies; NULL; COPIED (the struct is
+ *   DONE; IN_USE; BAD_CAPACITY, BAD_MSS, BAD_SHIFT, BAD_LIMIT, NO_MEMORY, the first that applies; NULL; COPIED (the struct is
  *   neither TCPCORE_END_INIT nor one that was freed).
  */
 uint32_t tcpcore_new(tcpcore_end *end, const tcpcore_config *config);

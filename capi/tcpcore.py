@@ -14,11 +14,13 @@ ENDINGS = ("not-ended", "orderly", "reset", "aborted")
 RETRANSMIT, REORDER, TIME_WAIT = range(3)
 EMIT_ROOM = 1520
 
-Status = namedtuple("Status", "phase ending unread released ordered")
+LIMIT = 2_147_483_632
+
+Status = namedtuple("Status", "phase ending unread released ordered una next")
 
 
-class Config(namedtuple("Config", "addr port mss isn send_capacity recv_capacity window_shift sack")):
-    """What an end is made from; `window_shift` is None where windows aren't scaled."""
+class Config(namedtuple("Config", "addr port mss isn send_capacity recv_capacity window_shift sack limit", defaults=[LIMIT])):
+    """What an end is made from; `window_shift` is None where windows aren't scaled, and `limit` is the most bytes that it sends."""
 
 
 class Refused(Exception):
@@ -41,6 +43,7 @@ class ConfigStruct(ctypes.Structure):
         ("isn", ctypes.c_uint32),
         ("send_capacity", ctypes.c_size_t),
         ("recv_capacity", ctypes.c_size_t),
+        ("limit", ctypes.c_uint64),
         ("window_shift", ctypes.c_uint8),
         ("scales", ctypes.c_uint8),
         ("sack", ctypes.c_uint8),
@@ -54,6 +57,8 @@ class StatusStruct(ctypes.Structure):
         ("unread", ctypes.c_uint64),
         ("released", ctypes.c_uint64),
         ("ordered", ctypes.c_uint64),
+        ("una", ctypes.c_uint64),
+        ("next", ctypes.c_uint64),
     ]
 
 
@@ -111,6 +116,7 @@ class End:
                 config.isn,
                 config.send_capacity,
                 config.recv_capacity,
+                config.limit,
                 shift or 0,
                 shift is not None,
                 config.sack,
@@ -175,4 +181,4 @@ class End:
     def status(self):
         self.ask("status", self.told)
         told = self.told
-        return Status(PHASES[told.phase], ENDINGS[told.ending], told.unread, told.released, told.ordered)
+        return Status(PHASES[told.phase], ENDINGS[told.ending], told.unread, told.released, told.ordered, told.una, told.next)

@@ -109,9 +109,9 @@ def line(rng, end):
         return arrival(rng, end)
     if kind == "emit":
         emitted = end.emit()
-        if emitted is None:
-            return "emit", "none"
-        return "emit", f"{dotted(emitted[0])} {Segment(emitted[1]).told()}"
+        if rng.random() < 0.5:
+            return "emit bytes", "none" if emitted is None else f"{dotted(emitted[0])} {hexadecimal(emitted[1])}"
+        return "emit", "none" if emitted is None else f"{dotted(emitted[0])} {Segment(emitted[1]).told()}"
     if kind == "send":
         text = rng.randbytes(rng.choice([0, 1, 1, 2, 5, rng.randrange(150)]))
         took = end.send(text)

@@ -73,6 +73,25 @@ class Row:
             self.say("emit", told)
         return self
 
+    def emit_bytes(self, area=None, whole=None):
+        """An emission told by its bytes, whose options, or which itself, are to be these (hexadecimal)."""
+        addr, data = self.end.emit()
+        if area is not None:
+            assert data[20 : 4 * (data[12] >> 4)].hex() == area, (self.lines[0], data.hex())
+        if whole is not None:
+            assert data.hex() == whole, (self.lines[0], data.hex())
+        return self.say("emit bytes", f"{'.'.join(map(str, addr))} {hexadecimal(data)}")
+
+    def is_told(self, wanted):
+        """What the rules say of the last line, as a check of the second program too."""
+        assert self.told[-1].startswith(wanted), (self.lines[0], self.lines[-1], self.told[-1], wanted)
+        return self
+
+    def arrive_bytes(self, data, src=PEER, dst=OWN):
+        data = bytes.fromhex(data)
+        answer = self.end.arrive(src[0], dst[0], data)
+        return self.say(f"arrive {'.'.join(map(str, src[0]))} {'.'.join(map(str, dst[0]))} {hexadecimal(data)}", answer)
+
     def arrive(self, flags, seq=0, ack=0, window=65535, options=b"", text=b"", src=PEER, dst=OWN):
         """A segment; `seq` and `ack` count from the byte behind each SYN."""
         options += bytes(-len(options) % 4)
@@ -180,6 +199,72 @@ def segments(phase):
     }
 
 
+def option_rows():
+    """The options of each kind of segment, as bytes (RFC 9293, 3.2; RFC 7323, 2.2; RFC 2018, 2 and 3)."""
+    size, shift, permitted = "020405b4", "01030305", "01010402"
+    for own_shift, sack_on, area in (
+        (None, False, size), (5, False, size + shift), (None, True, size + permitted), (5, True, size + shift + permitted),
+    ):
+        name = f"the options of a SYN: shift {own_shift}, selective acknowledgement {'on' if sack_on else 'off'}"
+        yield Row(name, shift=own_shift, sack=sack_on).call("connect").emit_bytes(area)
+    offers = {
+        "all": (mss(1460) + scale(7) + NOP + NOP + SACK_OK, size + shift + permitted), "none": (b"", size), "an MSS alone": (mss(1460), size),
+        "a scale alone": (scale(7), size + shift), "a permission alone": (NOP + NOP + SACK_OK, size + permitted),
+    }
+    for offered, (options, area) in offers.items():
+        r = Row(f"the options of a SYN,ACK where the peer offered {offered}", shift=5).call("listen")
+        yield r.arrive(SYN, seq=-1, options=options).emit_bytes(area)
+    r = Row("the options of a SYN,ACK where the peer offered all, and the end none", sack=False).call("listen")
+    yield r.arrive(SYN, seq=-1, options=offers["all"][0]).emit_bytes(size)
+    r = Row("a shift above 14 is used as 14, and the own one is told", shift=5, send=70000, recv=1048576).call("listen")
+    r.arrive(SYN, seq=-1, window=512, options=mss(1460) + scale(15)).emit_bytes(size + shift).arrive(ACK, window=4, text=b"A")
+    yield r.emit().is_told("10.0.0.1 flags ACK seq 5001 ack 1002 window 32767 text 0")
+    r = Row("a window that is scaled by 14 holds 65536 bytes", shift=5, send=70000, recv=1048576).call("listen")
+    r.arrive(SYN, seq=-1, window=512, options=mss(1460) + scale(15)).emit_bytes(size + shift).arrive(ACK, window=4)
+    r.send(b"a" * 70000)
+    for _ in range(44):
+        r.emit().is_told("10.0.0.1 flags ACK seq")
+        assert " text 1460 " in r.told[-1]
+    yield r.emit()
+    assert " text 1296 " in r.told[-1]
+    r = Row("a window that isn't scaled", shift=5, send=70000, recv=1048576).call("listen")
+    r.arrive(SYN, seq=-1, window=512, options=mss(1460)).emit_bytes(size).arrive(ACK, window=4, text=b"A")
+    r.emit().is_told("10.0.0.1 flags ACK seq 5001 ack 1002 window 65535 text 0").send(b"a" * 70000)
+    yield r.emit().is_told("10.0.0.1 flags ACK seq 5001 ack 1002 window 65535 text 4").emit().is_told("none")
+    r = Row("a handshake and a text by their bytes").call("listen")
+    r.arrive_bytes("00010002000003e8000000007002ffff6b320000020405b401010402").is_told("processed SYN-RECEIVED")
+    r.emit_bytes(whole="0002000100001388000003e97012ffff57990000020405b401010402")
+    yield r.arrive_bytes("00010002000003e9000013895018ffffbfef0000616263").is_told("processed ESTABLISHED").receive(9).is_told("bytes 616263")
+    r = Row("blocks by their bytes, the newest first").opened().arrive(ACK, seq=2, text=b"x").arrive(ACK, seq=5, text=b"yz")
+    yield r.emit_bytes("01010512" + "000003ee" + "000003f0" + "000003eb" + "000003ec")
+
+
+def hostile_rows():
+    """Segments of a peer that keeps no rule, behind a handshake that tells a window of 100 bytes."""
+    def behind(name):
+        return Row(name).opened(window=100)
+
+    r = behind("hostile: an acknowledgement of more than was sent").send(b"abcdef").is_told("took 6").emit()
+    r.is_told("10.0.0.1 flags ACK,PSH seq 5001 ack 1001 window 65535 text 6").arrive(ACK, ack=9, window=100).is_told("dropped")
+    yield r.emit().is_told("10.0.0.1 flags ACK seq 5007 ack 1001")
+    r = behind("hostile: a block past what was sent, and one taken back by a timeout").send(b"abcdef").emit()
+    r.arrive(ACK, window=100, options=sack((5003, 5009))).is_told("processed").timer("reorder").is_told("false")
+    r.arrive(ACK, window=100, options=sack((5003, 5005))).is_told("processed").timer("reorder").is_told("true")
+    r.emit().is_told("10.0.0.1 flags ACK seq 5001 ack 1001 window 65535 text 2").emit().is_told("none").timer("retransmit").is_told("true")
+    yield r.emit().is_told("10.0.0.1 flags ACK,PSH seq 5001 ack 1001 window 65535 text 6")
+    assert all("released 0" in told for told in r.told)
+    r = behind("hostile: a FIN before the text in front of it").arrive(ACK | FIN, seq=3, window=100).is_told("processed ESTABLISHED")
+    r.emit().is_told("10.0.0.1 flags ACK seq 5001 ack 1001").arrive(ACK, text=b"abc", window=100).is_told("processed ESTABLISHED")
+    yield r.receive(10).is_told("bytes 616263").receive(10).is_told("nothing").emit().is_told("10.0.0.1 flags ACK seq 5001 ack 1004")
+    r = behind("hostile: another value for a byte that is held").arrive(ACK, seq=2, text=b"X", window=100).is_told("processed")
+    yield r.arrive(ACK, text=b"abcd", window=100).is_told("processed").receive(10).is_told("bytes 61625864")
+    r = behind("hostile: a reset inside the window, and one at RCV.NXT").arrive(RST | ACK, seq=1, window=100).is_told("dropped")
+    r.emit().is_told("10.0.0.1 flags ACK seq 5001 ack 1001").arrive(RST | ACK, window=100).is_told("processed CLOSED reset")
+    yield r.receive(1).is_told("refused 14")
+    r = behind("hostile: another port, and the first SYN again").arrive(ACK, window=100, src=(PEER[0], 3)).is_told("not-mine")
+    yield r.arrive(SYN, seq=-1, options=BOTH).is_told("dropped").emit().is_told("10.0.0.1 flags ACK seq 5001 ack 1001")
+
+
 def rows():
     for phase, reach in PHASES.items():
         for name in ("connect", "listen", "close", "abort"):
@@ -188,6 +273,8 @@ def rows():
         for name, segment in segments(phase).items():
             yield reach(Row(f"{phase}: {name}")).arrive(**segment).emit(2).receive(10)
     yield from single_rows()
+    yield from option_rows()
+    yield from hostile_rows()
 
 
 def single_rows():

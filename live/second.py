@@ -6,7 +6,7 @@ import sys
 HERE = os.path.dirname(os.path.realpath(__file__))
 sys.path.insert(0, f"{HERE}/../differential")
 
-from end import End as Model  # noqa: E402
+from end import SPACE, End as Model  # noqa: E402
 from tcpcore import DONE, DROPPED, NOT_MINE, Refused, Status  # noqa: E402
 
 NAMES = ("retransmit", "reorder", "time-wait")
@@ -76,4 +76,6 @@ class End:
 
     def status(self):
         model = self.model
-        return Status(model.phase, model.ending, len(model.unread), model.released, model.ordered)
+        una = (model.snd_una - model.iss) % SPACE
+        wanted = 1 + model.ordered + model.fin_taken
+        return Status(model.phase, model.ending, len(model.unread), model.released, model.ordered, una, wanted)

@@ -95,7 +95,8 @@ static tcpcore_end a = TCPCORE_END_INIT, b = TCPCORE_END_INIT;
 static uint32_t make(tcpcore_end *end, tcpcore_addr addr)
 {
     tcpcore_config config = {
-        .addr = addr, .port = 7, .mss = 1460, .isn = 1, .send_capacity = CAPACITY, .recv_capacity = CAPACITY};
+        .addr = addr, .port = 7, .mss = 1460, .isn = 1, .send_capacity = CAPACITY, .recv_capacity = CAPACITY,
+        .limit = TCPCORE_LIMIT};
     return tcpcore_new(end, &config);
 }
 

@@ -29,7 +29,8 @@ static void need(const char *call, uint32_t answer)
 static void make(struct side *side, uint16_t port, uint32_t isn)
 {
     tcpcore_config config = {
-        .addr = side->addr, .port = port, .mss = 64, .isn = isn, .send_capacity = 4096, .recv_capacity = 4096, .sack = 1};
+        .addr = side->addr, .port = port, .mss = 64, .isn = isn, .send_capacity = 4096, .recv_capacity = 4096,
+        .limit = TCPCORE_LIMIT, .sack = 1};
     need("new", tcpcore_new(&side->end, &config));
 }
 

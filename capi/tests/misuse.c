@@ -24,7 +24,8 @@ static const size_t HUGE_LENGTH = (size_t)PTRDIFF_MAX + 1;
 static tcpcore_config good_config(tcpcore_addr addr)
 {
     return (tcpcore_config){
-        .addr = addr, .port = 9, .mss = 1460, .isn = 1, .send_capacity = 1000, .recv_capacity = 1000, .sack = 1};
+        .addr = addr, .port = 9, .mss = 1460, .isn = 1, .send_capacity = 1000, .recv_capacity = 1000, .limit = TCPCORE_LIMIT,
+        .sack = 1};
 }
 
 static int is_empty(const tcpcore_end *end)
@@ -41,7 +42,7 @@ static void every_call(tcpcore_end *end, uint32_t wanted)
     size_t count = 7;
     uint32_t due = 7;
     tcpcore_addr to = {{7, 7, 7, 7}};
-    struct tcpcore_status status = {7, 7, 7, 7, 7};
+    struct tcpcore_status status = {7, 7, 7, 7, 7, 7, 7};
     CHECK(tcpcore_connect(end, THERE, 9), wanted);
     CHECK(tcpcore_listen(end), wanted);
     CHECK(tcpcore_send(end, "abc", 3, &count), wanted);
@@ -60,7 +61,7 @@ static void every_call(tcpcore_end *end, uint32_t wanted)
     CHECK(tcpcore_timers(end, &due), wanted);
     CHECK(due, 0);
     CHECK(tcpcore_status(end, &status), wanted);
-    CHECK(status.phase + status.ending + status.unread + status.released + status.ordered, 0);
+    CHECK(status.phase + status.ending + status.unread + status.released + status.ordered + status.una + status.next, 0);
     for (size_t i = 0; i < sizeof buffer; i++)
         if (buffer[i] != 0xee)
             CHECK(buffer[i], 0xee);
@@ -194,6 +195,11 @@ static void configs(void)
     CHECK(tcpcore_new(&end, &config), TCPCORE_BAD_SHIFT);
     CHECK(is_empty(&end), 1);
     config.scales = 0; /* the shift isn't looked at */
+    config.limit = 0;
+    CHECK(tcpcore_new(&end, &config), TCPCORE_BAD_LIMIT);
+    config.limit = (UINT64_C(1) << 62) + 1;
+    CHECK(tcpcore_new(&end, &config), TCPCORE_BAD_LIMIT);
+    config.limit--;
     CHECK(tcpcore_new(&end, &config), TCPCORE_DONE);
     CHECK(tcpcore_free(&end), TCPCORE_DONE);
 }

@@ -40,7 +40,7 @@ __attribute__((noinline)) static void look(const unsigned char *here)
 static void make(tcpcore_end *end, tcpcore_addr addr)
 {
     tcpcore_config config = {.addr = addr, .port = 7, .mss = 100, .isn = 1, .send_capacity = 4096, .recv_capacity = 4096,
-                             .window_shift = 2, .scales = 1, .sack = 1};
+                             .limit = TCPCORE_LIMIT, .window_shift = 2, .scales = 1, .sack = 1};
     DEPTH(tcpcore_new(end, &config));
 }
 

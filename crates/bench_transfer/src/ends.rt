@@ -1,7 +1,7 @@
 //! Two ends, and the segments between them.
 use crate::mode::Mode;
 use std::alloc::Global;
-use tcp_conn::{Config, ConfigError, EMIT_ROOM, Endpoint};
+use tcp_conn::{Config, ConfigError, EMIT_ROOM, Endpoint, MAX_LIMIT};
 use tcp_wire::{Addr, Seq};
 
 /// The text of a full segment, in bytes.
@@ -20,6 +20,7 @@ fn new_end(alloc: Global, host: u8, capacity: usize) -> Result<Endpoint, ConfigE
         recv_capacity: capacity,
         window_shift: Some(5),
         sack: true,
+        limit: MAX_LIMIT,
     };
     Endpoint::new(alloc, config)
 }

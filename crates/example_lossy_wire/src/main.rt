@@ -17,16 +17,7 @@ fn new_end(alloc: Global, host: u8, isn: u32) -> Result<Endpoint, ConfigError>
     ensures port { IfOk result (λ end. end.config.port ≡ host) }
     ensures isn { IfOk result (λ end. end.config.isn.0 ≡ isn) }
 {
-    let config = Config {
-        addr: Addr([10, 0, 0, host]),
-        port: u16::from(host),
-        isn: Seq(isn),
-        mss: 1460,
-        send_capacity: 65_536,
-        recv_capacity: 65_536,
-        window_shift: None,
-        sack: true,
-    };
+    let config = Config::new(Addr([10, 0, 0, host]), u16::from(host), Seq(isn));
     Endpoint::new(alloc, config)
 }
 

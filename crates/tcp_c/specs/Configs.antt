@@ -14,4 +14,5 @@ config_of c = record {
   recv_capacity = c.recv_capacity;
   window_shift = if c.scales == 0 then None else Some c.window_shift;
   sack = not (c.sack == 0);
+  limit = c.limit;
 }

@@ -1,7 +1,7 @@
 //! An end is made, and let go.
 ghost use Rattle.std.specs.Prelude.{◌≡◌, ◌≢◌, ◌↔◌, ◌⊎◌, IsSome, IsNone, Some, None, Ok, Err, IfOk};
 ghost use Rattle.tcp_conn.specs.NewEnd.{new_end};
-ghost use Rattle.tcp_conn.specs.Config.{config_error_number, HasBadCapacity, HasBadMss, HasBadShift, IsGoodConfig};
+ghost use Rattle.tcp_conn.specs.Config.{config_error_number, HasBadCapacity, HasBadMss, HasBadShift, HasBadLimit, IsGoodConfig};
 ghost use Rattle.tcp_c.specs.Answers.{done, in_use, answer_of};
 ghost use Rattle.tcp_c.specs.Configs.{config_of};
 
@@ -29,6 +29,7 @@ fn config_of(config: &CConfig) -> Config
             Some(config.window_shift)
         },
         sack: config.sack != 0,
+        limit: config.limit,
     }
 }
 
@@ -38,6 +39,7 @@ fn boxed_end(heap: Global, config: Config) -> Result<Box<Endpoint>, ConfigError>
     ensures bad_capacity { (result ≡ Err ConfigError.BadCapacity) ↔ HasBadCapacity config }
     ensures bad_mss { (result ≡ Err ConfigError.BadMss) ↔ HasBadMss config }
     ensures bad_shift { (result ≡ Err ConfigError.BadShift) ↔ HasBadShift config }
+    ensures bad_limit { (result ≡ Err ConfigError.BadLimit) ↔ HasBadLimit config }
     ensures good { (result ≡ Err ConfigError.NoMemory) → IsGoodConfig config }
 {
     let end = match Endpoint::new(heap, config) {
@@ -51,13 +53,14 @@ fn boxed_end(heap: Global, config: Config) -> Result<Box<Endpoint>, ConfigError>
 }
 
 /// Makes an end, CLOSED and empty, where the handle holds none; its memory is taken now. 32 where it holds one, else 21,
-/// 23 or 24 for a fault of the config, and 22 where there is no memory.
+/// 23, 24 or 25 for a fault of the config, and 22 where there is no memory.
 #[unsafe(no_mangle)]
 pub extern "C" fn tcp_c_new(heap: Global, handle: &mut Handle, config: &CConfig) -> u32
     ensures in_use { (result ≡ in_use) ↔ IsSome handle.old.held.end }
     ensures bad_capacity { (result ≡ config_error_number ConfigError.BadCapacity) ↔ (IsNone handle.old.held.end × HasBadCapacity (config_of config.now)) }
     ensures bad_mss { (result ≡ config_error_number ConfigError.BadMss) ↔ (IsNone handle.old.held.end × HasBadMss (config_of config.now)) }
     ensures bad_shift { (result ≡ config_error_number ConfigError.BadShift) ↔ (IsNone handle.old.held.end × HasBadShift (config_of config.now)) }
+    ensures bad_limit { (result ≡ config_error_number ConfigError.BadLimit) ↔ (IsNone handle.old.held.end × HasBadLimit (config_of config.now)) }
     ensures good { (IsNone handle.old.held.end × IsGoodConfig (config_of config.now)) ↔ ((result ≡ done) ⊎ (result ≡ config_error_number ConfigError.NoMemory)) }
     ensures made { result ≡ done → handle.new.held.end ≡ Some (new_end (config_of config.now)) }
     ensures kept { result ≢ done → handle.new.held.end ≡ handle.old.held.end }

@@ -23,6 +23,8 @@ pub struct CConfig {
     pub send_capacity: usize,
     /// The most bytes that are kept for the user, from 1 to 1,048,576.
     pub recv_capacity: usize,
+    /// The most bytes that the own direction carries, from 1 to 2^62.
+    pub limit: u64,
     /// The shift of the windows that this end tells, from 0 to 14. Nothing reads it where `scales` is 0.
     pub window_shift: u8,
     /// Whether this end offers to scale windows: 0 is no, anything else yes.
@@ -45,4 +47,8 @@ pub struct CStatus {
     pub released: u64,
     /// The text bytes that came in order up to now.
     pub ordered: u64,
+    /// The oldest position of the own direction that isn't acknowledged, SND.UNA; the SYN is at 0.
+    pub una: u64,
+    /// The next position of the peer's direction that is wanted, RCV.NXT; the peer's SYN is at 0.
+    pub next: u64,
 }

@@ -40,7 +40,7 @@ fn ending_number(ending: Ending) -> u32
     }
 }
 
-/// The phase, the ending and the counts; all zero where there is no end.
+/// The phase, the ending, the counts and the positions; all zero where there is no end.
 #[unsafe(no_mangle)]
 pub extern "C" fn tcp_c_status(heap: Global, handle: &mut Handle, status: &mut CStatus) -> u32
     ensures answer { result ≡ answer_of (λ _. done) handle.old.held.end }
@@ -54,6 +54,8 @@ pub extern "C" fn tcp_c_status(heap: Global, handle: &mut Handle, status: &mut C
             unread: 0,
             released: 0,
             ordered: 0,
+            una: 0,
+            next: 0,
         };
         return NO_END;
     };
@@ -63,6 +65,8 @@ pub extern "C" fn tcp_c_status(heap: Global, handle: &mut Handle, status: &mut C
         unread: end.unread(),
         released: end.released(),
         ordered: end.ordered(),
+        una: end.una(),
+        next: end.next(),
     };
     handle.put(end);
     DONE

@@ -1,5 +1,5 @@
 -- The user's calls (RFC 9293, 3.10.1 to 3.10.5): what each answers, and the end after it.
-use Rattle.std.specs.Prelude.{ℕ, Bool, false, ◌||◌, ◌==◌, if◌then◌else◌, true, not, ◌&&◌, List, [], length, Option, Some, None, Result, Ok, Err, min, nat_lt, take}
+use Rattle.std.specs.Prelude.{ℕ, Bool, false, ◌||◌, ◌==◌, if◌then◌else◌, true, not, ◌&&◌, List, [], length, Option, Some, None, Result, Ok, Err, min, nat_lt, nat_le, take}
 use Rattle.std.specs.Option.{option_or}
 use Rattle.tcp_wire.specs.Position.{number}
 use Rattle.tcp_reasm.specs.Reassembly.{after_read}
@@ -16,7 +16,7 @@ use Rattle.tcp_conn.specs.declared.phase.Phase.TheVariants.{Listen, SynSent, Est
 use Rattle.tcp_conn.specs.Phase.{is_listening, is_ended, is_closed, resets_on_abort, takes_text, gives_up}
 use Rattle.tcp_conn.specs.State.{State, accepted_count}
 use Rattle.tcp_conn.specs.Windows.{advertised_window}
-use Rattle.tcp_conn.specs.Sender.{with_syn_sent, count_sendable, stream_limit, with_text}
+use Rattle.tcp_conn.specs.Sender.{with_syn_sent, count_sendable, with_text}
 use Rattle.tcp_conn.specs.Receiver.{after_handing}
 use Rattle.tcp_conn.specs.Endings.{after_giving_up}
 
@@ -59,7 +59,7 @@ after_listen s = state_unless (opening_refusal s) s (record s { phase = phases.L
 
 -- SEND (RFC 9293, 3.10.2)
 abbrev pub is_full : State → List ℕ → Bool
-is_full s text = not (length text == 0) && (accepted_count s.sending == stream_limit)
+is_full s text = not (length text == 0) && nat_le s.config.limit (accepted_count s.sending)
 
 abbrev pub send_refusal : State → List ℕ → Option CallError
 send_refusal s text =
@@ -67,10 +67,10 @@ send_refusal s text =
     (option_or (refusal_if s.closing Closing) (refusal_if (is_full s text) StreamFull)))
 
 abbrev pub send_answer : State → List ℕ → Result ℕ CallError
-send_answer s text = answer_unless (send_refusal s text) (count_sendable s.sending text)
+send_answer s text = answer_unless (send_refusal s text) (count_sendable s.sending s.config.limit text)
 
 unfoldable pub after_send : State → List ℕ → State
-after_send s text = state_unless (send_refusal s text) s (record s { sending = with_text s.sending text })
+after_send s text = state_unless (send_refusal s text) s (record s { sending = with_text s.sending s.config.limit text })
 
 -- RECEIVE (RFC 9293, 3.10.3) into a buffer of this length. After an orderly end what is unread is still handed
 -- over, and then the end of the stream.

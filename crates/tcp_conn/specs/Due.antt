@@ -10,7 +10,8 @@ use Rattle.tcp_conn.specs.declared.link.Owed.{Owed}
 use Rattle.tcp_conn.specs.declared.link.WaitingReset.{WaitingReset}
 use Rattle.tcp_conn.specs.Phase.{sends_text}
 use Rattle.tcp_conn.specs.State.{position_at, State, Sending, end_of_text, place_of}
-use Rattle.tcp_conn.specs.Sender.{stream_limit, count_unsent}
+use Rattle.tcp_conn.specs.Config.{stream_limit}
+use Rattle.tcp_conn.specs.Sender.{count_unsent}
 use Rattle.tcp_conn.specs.Blocks.{sack_length, blocks_to_report}
 
 abbrev pub is_fin : Due → Bool

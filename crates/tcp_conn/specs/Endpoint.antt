@@ -1,10 +1,10 @@
--- What always holds of an end (RFC 9293, 3.1, 3.7.1 and 3.8.6; RFC 7323, 2.3).
+-- What always holds of an end.
 use Rattle.std.specs.Prelude.{◌<◌, ◌≤◌, ◌^◌, unwrap_or}
 use Rattle.tcp_sendq.specs.SendQueue.{Queue}
 use Rattle.tcp_reasm.specs.Reassembly.{Inbox}
 use Rattle.tcp_conn.specs.declared.config.Config.{Config}
 use Rattle.tcp_conn.specs.declared.link.Link.{Link}
-use Rattle.tcp_conn.specs.Config.{max_shift, max_mss}
+use Rattle.tcp_conn.specs.Config.{max_shift, max_mss, stream_limit}
 use Rattle.tcp_conn.specs.State.{KeepsWithin, State, HoldsWithin}
 
 -- its segments fit the room that it asks for, its fields their places, and what it keeps its capacities
@@ -13,6 +13,7 @@ pub record IsEndpoint (c : Config) (link : Link) (queue : Queue) (inbox : Inbox)
   pub port : c.port < 2 ^ 16
   pub isn : c.isn.0 < 2 ^ 32
   pub shift : unwrap_or c.window_shift 0 ≤ max_shift
+  pub limit : c.limit ≤ stream_limit
   pub peer_shift : link.peer_shift ≤ max_shift
   pub keeps : KeepsWithin c.send_capacity queue
   pub holds : HoldsWithin c.recv_capacity inbox

@@ -1,5 +1,5 @@
 -- The half that receives (RFC 9293, 3.4 and 3.10.7.4).
-use Rattle.std.specs.Prelude.{ℕ, ◌-◌, Bool, false, ◌==◌, true, ◌&&◌, List, min, nat_lt, ◌^◌, ◌+◌, ◌%◌}
+use Rattle.std.specs.Prelude.{ℕ, ◌-◌, Bool, false, ◌==◌, true, ◌&&◌, if◌then◌else◌, List, min, nat_lt, ◌^◌, ◌+◌, ◌%◌}
 use Rattle.tcp_wire.specs.Position.{number, offset}
 use Rattle.tcp_reasm.specs.Agreement.{advance_of}
 use Rattle.tcp_reasm.specs.Reassembly.{Inbox, window, after_read, empty_inbox, after_place, place_answer, without_held}
@@ -12,6 +12,11 @@ max_ordered = 2 ^ 64 - 1
 -- no SYN of the peer was taken yet
 abbrev pub new_receiving : ℕ → Receiving
 new_receiving capacity = record { opened = false; next = 0; ordered = 0; finished = false; inbox = empty_inbox capacity }
+
+-- the next position of the peer's direction that is wanted: after what came in order, and after the peer's FIN once it was
+-- taken. It stays at its greatest value once there
+abbrev pub next_wanted : Receiving → ℕ
+next_wanted r = min max_ordered (1 + r.ordered + (if r.finished then 1 else 0))
 
 -- the peer's SYN with this number is taken (RFC 9293, 3.10.7.2)
 abbrev pub with_syn : Receiving → ℕ → Receiving

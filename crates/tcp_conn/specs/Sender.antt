@@ -5,11 +5,8 @@ use Rattle.tcp_wire.specs.Flags.{ack}
 use Rattle.tcp_wire.specs.Position.{is_before}
 use Rattle.tcp_sendq.specs.SendQueue as queues
 use Rattle.tcp_reasm.specs.Reassembly.{window}
+use Rattle.tcp_conn.specs.Config.{stream_limit}
 use Rattle.tcp_conn.specs.State.{position_at, Sending, accepted_count, end_of_text, place_of}
-
--- a direction carries at most this many bytes, so that any two of its positions differ by less than 2^31
-abbrev pub stream_limit : ℕ
-stream_limit = 2147483632
 
 -- what nothing was asked of yet
 abbrev pub new_sending : ℕ → Sending
@@ -77,12 +74,12 @@ with_all_resent s = record s { resend = Some (record { start = s.una; end = s.nx
 abbrev pub with_gaps_resent : Sending → ℕ → Sending
 with_gaps_resent s end = record s { resend = Some (record { start = s.una; end = position_at s end }) }
 
--- how many bytes of a text the direction takes: the longest prefix that fits the queue and the limit
-abbrev pub count_sendable : Sending → List ℕ → ℕ
-count_sendable s text = min (queues.count_taken s.queue text) (stream_limit - accepted_count s)
+-- how many bytes of a text a direction of this limit takes: the longest prefix that fits the queue and the limit
+abbrev pub count_sendable : Sending → ℕ → List ℕ → ℕ
+count_sendable s limit text = min (queues.count_taken s.queue text) (limit - accepted_count s)
 
-abbrev pub with_text : Sending → List ℕ → Sending
-with_text s text = record s { queue = queues.after_offer s.queue (take (count_sendable s text) text) }
+abbrev pub with_text : Sending → ℕ → List ℕ → Sending
+with_text s limit text = record s { queue = queues.after_offer s.queue (take (count_sendable s limit text) text) }
 
 -- how many queued bytes weren't sent yet
 abbrev pub count_unsent : Sending → ℕ

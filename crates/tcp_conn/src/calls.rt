@@ -6,7 +6,6 @@ use crate::endpoint::Endpoint;
 use crate::link::{Peer, WaitingReset};
 use crate::outcome::{CallError, Received};
 use crate::phase::{Ending, Phase};
-use crate::sender::STREAM_LIMIT;
 use std::alloc::Allocator;
 use tcp_wire::Addr;
 
@@ -75,8 +74,8 @@ impl<A: Allocator> Endpoint<A> {
 
     /// Takes the longest prefix of `text` that fits the send queue and the limit of the direction, and answers its length; before
     /// ESTABLISHED the bytes wait (RFC 9293, 3.10.2). `Ended` or `NotOpen` where there is no connection, `NotConnected` in
-    /// LISTEN, `Closing` after a `close`, and `StreamFull` where the direction has carried 2,147,483,632 bytes and `text`
-    /// isn't empty.
+    /// LISTEN, `Closing` after a `close`, and `StreamFull` where the direction has carried as many bytes as the limit of
+    /// the [`Config`](crate::Config) says and `text` isn't empty.
     #[tactic(auto, unfolding(crate::specs::Calls::after_send))]
     pub fn send(&mut self, text: &[u8]) -> Result<usize, CallError>
         ensures answer { result ≡ send_answer self.old text.now }
@@ -88,7 +87,7 @@ impl<A: Allocator> Endpoint<A> {
         if let Some(refusal) = self.send_refusal(text) {
             return Err(refusal);
         }
-        Ok(self.sender.send(text))
+        Ok(self.sender.send(self.config.limit, text))
     }
 
     /// Why `send` is refused.
@@ -104,7 +103,7 @@ impl<A: Allocator> Endpoint<A> {
         if self.closing {
             return Some(CallError::Closing);
         }
-        if !text.is_empty() && self.sender.accepted_count() == STREAM_LIMIT {
+        if !text.is_empty() && self.config.limit <= self.sender.accepted_count() {
             return Some(CallError::StreamFull);
         }
         None

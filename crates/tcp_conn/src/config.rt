@@ -1,5 +1,5 @@
 ghost use Rattle.std.specs.Prelude.{◌≡◌, ◌↔◌, IsTrue, Some};
-ghost use Rattle.tcp_conn.specs.Config.{HasGoodCapacities, HasBadCapacity, HasGoodMss, HasBadMss, HasGoodShift, HasBadShift, IsGoodConfig, config_error_number, config_error_text};
+ghost use Rattle.tcp_conn.specs.Config.{HasGoodCapacities, HasBadCapacity, HasGoodMss, HasBadMss, HasGoodShift, HasBadShift, HasGoodLimit, HasBadLimit, IsGoodConfig, default_config, config_error_number, config_error_text};
 
 use std::error::Error;
 use std::fmt;
@@ -14,6 +14,13 @@ pub const MAX_MSS: u16 = 1460;
 
 /// The greatest window shift (RFC 7323, 2.3).
 pub const MAX_SHIFT: u8 = 14;
+
+/// The greatest limit of a direction that a [`Config`] may have, in bytes: 2^62.
+pub const MAX_LIMIT: u64 = 1 << 62;
+
+/// The limit of a direction where nothing else is said, in bytes: 2^31 less 16, so that any two of its positions lie less
+/// than 2^31 apart, and no segment, however old, is taken for another (RFC 9293, 3.4).
+pub const DEFAULT_LIMIT: u64 = 2_147_483_632;
 
 /// What one end is made from.
 #[derive(Clone, Copy, Debug, PartialEq, Eq)]
@@ -34,14 +41,36 @@ pub struct Config {
     pub window_shift: Option<u8>,
     /// Whether this end permits selective acknowledgement (RFC 2018, 2).
     pub sack: bool,
+    /// The most bytes that the own direction carries, from 1 to 2^62. Past [`DEFAULT_LIMIT`] the network has to keep a
+    /// lifetime of segments (RFC 9293, 3.4).
+    pub limit: u64,
 }
 
 impl Config {
+    /// An MSS of 1460 bytes, capacities of 65,536 bytes, no scaling of windows, selective acknowledgement, and
+    /// [`DEFAULT_LIMIT`].
+    pub fn new(addr: Addr, port: u16, isn: Seq) -> Self
+        ensures { result ≡ default_config addr port isn }
+    {
+        Config {
+            addr,
+            port,
+            isn,
+            mss: MAX_MSS,
+            send_capacity: 65_536,
+            recv_capacity: 65_536,
+            window_shift: None,
+            sack: true,
+            limit: DEFAULT_LIMIT,
+        }
+    }
+
     /// The first fault, in the order of [`ConfigError`].
     pub(crate) fn fault(&self) -> Option<ConfigError>
         ensures bad_capacity { (result ≡ Some ConfigError.BadCapacity) ↔ HasBadCapacity self.now }
         ensures bad_mss { (result ≡ Some ConfigError.BadMss) ↔ HasBadMss self.now }
         ensures bad_shift { (result ≡ Some ConfigError.BadShift) ↔ HasBadShift self.now }
+        ensures bad_limit { (result ≡ Some ConfigError.BadLimit) ↔ HasBadLimit self.now }
         ensures none { (result ≡ None) ↔ IsGoodConfig self.now }
     {
         if !self.has_good_capacities() {
@@ -52,6 +81,9 @@ impl Config {
         }
         if !self.has_good_shift() {
             return Some(ConfigError::BadShift);
+        }
+        if !self.has_good_limit() {
+            return Some(ConfigError::BadLimit);
         }
         None
     }
@@ -78,6 +110,13 @@ impl Config {
     {
         self.window_shift.unwrap_or(0) <= MAX_SHIFT
     }
+
+    /// Whether the limit is from 1 to 2^62.
+    fn has_good_limit(&self) -> bool
+        ensures { IsTrue result ↔ HasGoodLimit self.now }
+    {
+        1 <= self.limit && self.limit <= MAX_LIMIT
+    }
 }
 
 /// Why an end can't be made, in the order in which the faults are looked for, want of memory last.
@@ -89,6 +128,8 @@ pub enum ConfigError {
     BadMss,
     /// The window shift isn't from 0 to 14.
     BadShift,
+    /// The limit of the direction isn't from 1 to 2^62.
+    BadLimit,
     /// The buffers found no memory.
     NoMemory,
 }
@@ -102,6 +143,7 @@ impl ConfigError {
             ConfigError::BadCapacity => 21,
             ConfigError::BadMss => 23,
             ConfigError::BadShift => 24,
+            ConfigError::BadLimit => 25,
             ConfigError::NoMemory => 22,
         }
     }
@@ -115,6 +157,8 @@ impl fmt::Display for ConfigError {
             ConfigError::BadCapacity => "a capacity is not from 1 to 1048576 bytes",
             ConfigError::BadMss => "the maximum segment size is not from 64 to 1460 bytes",
             ConfigError::BadShift => "the window shift is not from 0 to 14",
+            ConfigError::BadLimit =>
+                "the limit of the stream is not from 1 to 4611686018427387904 bytes",
             ConfigError::NoMemory => "no memory for the buffers",
         })
     }

@@ -3,7 +3,7 @@ ghost use Rattle.std.specs.Prelude.{◌≡◌, ◌<◌, ◌≤◌, ◌+◌, IfSo
 ghost use Rattle.std.specs.declared.ops.Range.{Range};
 ghost use Rattle.tcp_conn.specs.Config.{max_mss};
 ghost use Rattle.tcp_conn.specs.Due.{Lies, count_of, due_of, end_of, fin_of, is_fin, new_text_of, resend_of, resent_fin, resent_text, start_of, text_due, text_limit};
-ghost use Rattle.tcp_conn.specs.Sender.{stream_limit};
+ghost use Rattle.tcp_conn.specs.Config.{stream_limit};
 
 use crate::blocks::sack_length;
 use crate::endpoint::Endpoint;

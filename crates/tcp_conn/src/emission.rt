@@ -1,6 +1,6 @@
 //! An emission (RFC 9293, 3.7, 3.8 and 3.10), and the end after it.
 ghost use Rattle.std.specs.Prelude.{◌≡◌, ◌≤◌, IfSome, length, option_map};
-ghost use Rattle.tcp_wire.specs.Wire.{wire_length};
+ghost use Rattle.tcp_wire.specs.Wire.{header_len, wire_length};
 ghost use Rattle.tcp_conn.specs.Config.{max_mss};
 ghost use Rattle.tcp_conn.specs.Due.{Lies};
 ghost use Rattle.tcp_conn.specs.Emission.{after_emission, buffer_after, destination, pending_length, sending_after, state_after};
@@ -53,6 +53,7 @@ impl<A: Allocator> Endpoint<A> {
     fn length_of(&self, due: Due) -> usize
         requires lies { Lies self.now.sending max_mss due }
         ensures value { result ≡ wire_length (segment_of self.now due) }
+        ensures least { header_len ≤ result }
         ensures most { result ≤ EMIT_ROOM }
     {
         match due {
@@ -74,6 +75,7 @@ impl<A: Allocator> Endpoint<A> {
     #[tactic(auto, unfolding(crate::specs::Emission::pending_length))]
     pub fn pending(&self) -> Option<usize>
         ensures value { result ≡ pending_length self.now }
+        ensures least { IfSome result (λ len. header_len ≤ len) }
         ensures most { IfSome result (λ len. len ≤ EMIT_ROOM) }
     {
         let due = self.due()?;

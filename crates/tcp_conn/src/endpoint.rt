@@ -1,4 +1,6 @@
-ghost use Rattle.std.specs.Prelude.{◌≡◌, length};
+ghost use Rattle.std.specs.Prelude.{◌≡◌, ◌≤◌, ◌+◌, length};
+ghost use Rattle.tcp_conn.specs.Config.{stream_limit};
+ghost use Rattle.tcp_conn.specs.Receiver.{next_wanted};
 
 use crate::config::Config;
 use crate::link::{Link, Owed, Peer};
@@ -66,6 +68,23 @@ impl<A: Allocator> Endpoint<A> {
         ensures { result ≡ length self.now.receiving.inbox.unread }
     {
         self.receiver.unread()
+    }
+
+    /// SND.UNA (RFC 9293, 3.3.1) as a position of the own direction: the oldest that isn't acknowledged. The SYN is at 0, byte
+    /// i of the stream at 1 + i, the FIN after the last byte. 0 where no SYN was sent.
+    pub fn una(&self) -> u64
+        ensures value { result ≡ self.now.sending.una }
+        ensures most { result ≤ 2 + stream_limit }
+    {
+        self.sender.una()
+    }
+
+    /// RCV.NXT (RFC 9293, 3.3.1) as a position of the peer's direction: 1 and the bytes that came in order, and 1 more once the
+    /// peer's FIN was taken. It stays at 2^64 - 1 once there.
+    pub fn next(&self) -> u64
+        ensures { result ≡ next_wanted self.now.receiving }
+    {
+        self.receiver.next_wanted()
     }
 
     /// The text bytes that acknowledgements have released.

@@ -25,10 +25,9 @@ mod timers;
 mod windows;
 mod writing;
 
-pub use config::{Config, ConfigError, MAX_MSS, MAX_SHIFT, MIN_MSS};
+pub use config::{Config, ConfigError, DEFAULT_LIMIT, MAX_LIMIT, MAX_MSS, MAX_SHIFT, MIN_MSS};
 pub use emission::EMIT_ROOM;
 pub use endpoint::Endpoint;
 pub use outcome::{Arrival, CallError, Received};
 pub use phase::{Ending, Phase, Timer};
-pub use sender::STREAM_LIMIT;
 pub use tcp_sendq::MAX_CAPACITY;

@@ -1,5 +1,5 @@
 ghost use Rattle.std.specs.Prelude.{◌≡◌, ◌↔◌, ◌+◌, length, IfOk, OnOk};
-ghost use Rattle.tcp_conn.specs.Config.{HasBadCapacity, HasBadMss, HasBadShift, IsGoodConfig, IsConfig};
+ghost use Rattle.tcp_conn.specs.Config.{HasBadCapacity, HasBadMss, HasBadShift, HasBadLimit, IsGoodConfig, IsConfig};
 ghost use Rattle.tcp_conn.specs.State.{IsWithin};
 ghost use Rattle.tcp_conn.specs.Sender.{new_sending};
 ghost use Rattle.tcp_conn.specs.Receiver.{new_receiving};
@@ -22,6 +22,7 @@ impl Endpoint {
         ensures bad_capacity { (result ≡ Err ConfigError.BadCapacity) ↔ HasBadCapacity config }
         ensures bad_mss { (result ≡ Err ConfigError.BadMss) ↔ HasBadMss config }
         ensures bad_shift { (result ≡ Err ConfigError.BadShift) ↔ HasBadShift config }
+        ensures bad_limit { (result ≡ Err ConfigError.BadLimit) ↔ HasBadLimit config }
         ensures good { (result ≡ Err ConfigError.NoMemory) → IsGoodConfig config }
         ensures made { OnOk result (IsConfig config) }
         ensures within { IfOk result IsWithin }
@@ -37,6 +38,7 @@ impl<A: Allocator + Copy> Endpoint<A> {
         ensures bad_capacity { (result ≡ Err ConfigError.BadCapacity) ↔ HasBadCapacity config }
         ensures bad_mss { (result ≡ Err ConfigError.BadMss) ↔ HasBadMss config }
         ensures bad_shift { (result ≡ Err ConfigError.BadShift) ↔ HasBadShift config }
+        ensures bad_limit { (result ≡ Err ConfigError.BadLimit) ↔ HasBadLimit config }
         ensures good { (result ≡ Err ConfigError.NoMemory) → IsGoodConfig config }
         ensures made { OnOk result (IsConfig config) }
         ensures within { IfOk result IsWithin }

@@ -3,7 +3,7 @@ ghost use Rattle.tcp_reasm.specs.Reassembly.{max_capacity, window, blocks};
 ghost use Rattle.tcp_conn.specs.State.{Receiving};
 ghost use Rattle.tcp_wire.specs.Position.{offset};
 ghost use Rattle.tcp_wire.specs.Wire.{max_text_len};
-ghost use Rattle.tcp_conn.specs.Receiver.{new_receiving, with_syn, after_text, is_fin_due, with_fin, after_handing, without_bytes};
+ghost use Rattle.tcp_conn.specs.Receiver.{new_receiving, with_syn, after_text, is_fin_due, next_wanted, with_fin, after_handing, without_bytes};
 
 use crate::config::Config;
 use arrayvec::ArrayVec;
@@ -83,6 +83,15 @@ impl<A: Allocator> Receiver<A> {
         ensures { result ≡ self.now.ordered }
     {
         self.ordered
+    }
+
+    /// The next position of the peer's direction that is wanted; it stays at its greatest value once there.
+    pub(crate) fn next_wanted(&self) -> u64
+        ensures { result ≡ next_wanted self.now }
+    {
+        self.ordered
+            .saturating_add(1)
+            .saturating_add(u64::from(self.finished))
     }
 
     /// The bytes that came in order and are not read yet.

@@ -1,8 +1,9 @@
-ghost use Rattle.std.specs.Prelude.{◌≡◌, ◌≤◌, ◌==◌, nat_le, length, IfOk, IfSome};
+ghost use Rattle.std.specs.Prelude.{◌≡◌, ◌≤◌, ◌+◌, ◌==◌, nat_le, length, IfOk, IfSome};
 ghost use Rattle.tcp_sendq.specs.SendQueue.{last_mark_end};
 ghost use Rattle.tcp_wire.specs.Position.{number, position_of};
 ghost use Rattle.tcp_conn.specs.State.{Sending, accepted_count, place_of, end_of_text};
-ghost use Rattle.tcp_conn.specs.Sender.{stream_limit, new_sending, with_syn_sent, with_syn_acked, acks_unsent, count_below, after_ack, with_window, after_window_update, is_in_flight, with_all_resent, with_gaps_resent, count_sendable, with_text, count_unsent, is_probe_needed, is_fin_acked, without_resend, without_text, IsSender};
+ghost use Rattle.tcp_conn.specs.Config.{stream_limit};
+ghost use Rattle.tcp_conn.specs.Sender.{new_sending, with_syn_sent, with_syn_acked, acks_unsent, count_below, after_ack, with_window, after_window_update, is_in_flight, with_all_resent, with_gaps_resent, count_sendable, with_text, count_unsent, is_probe_needed, is_fin_acked, without_resend, without_text, IsSender};
 
 use crate::config::Config;
 use std::alloc::{Allocator, Global};
@@ -10,10 +11,6 @@ use std::marker::Model;
 use std::ops::Range;
 use tcp_sendq::{QueueError, SendQueue};
 use tcp_wire::Seq;
-
-/// The most bytes that one direction carries: 2^31 less 16, so that any two of its positions lie less than
-/// 2^31 apart.
-pub const STREAM_LIMIT: u64 = 2_147_483_632;
 
 /// The half of an end that sends (RFC 9293, 3.3.1). Positions count from the SYN, which is at 0; byte i of
 /// the queue is at `1 + released + i`, the FIN after the last byte.
@@ -68,6 +65,14 @@ impl<A: Allocator + Copy> Sender<A> {
 }
 
 impl<A: Allocator> Sender<A> {
+    /// SND.UNA.
+    pub(crate) fn una(&self) -> u64
+        ensures value { result ≡ self.now.una }
+        ensures most { result ≤ 2 + stream_limit }
+    {
+        self.una
+    }
+
     /// The text bytes that acknowledgements have released.
     pub(crate) fn released(&self) -> u64
         ensures { result ≡ self.now.released }
@@ -112,16 +117,10 @@ impl<A: Allocator> Sender<A> {
     }
 
     /// The position that a number means: the nearest to SND.UNA (RFC 9293, 3.4).
-    #[tactic(auto, using(tcp_wire::proofs::Lemmas::position_of_ahead, tcp_wire::proofs::Lemmas::position_of_behind))]
     pub(crate) fn position_of(&self, iss: Seq, number: Seq) -> u64
         ensures { result ≡ position_of iss.0 self.now.una number.0 }
     {
-        let ahead = u64::from(number.minus(iss.plus((self.una % (1 << 32)) as u32)));
-        if ahead < 1 << 31 {
-            self.una + ahead
-        } else {
-            (self.una + ahead).saturating_sub(1 << 32)
-        }
+        number.position(iss, self.una)
     }
 
     /// The own SYN is sent (RFC 9293, 3.10.1).
@@ -240,14 +239,15 @@ impl<A: Allocator> Sender<A> {
         self.una == self.nxt && self.count_unsent() > 0 && self.wnd == 0
     }
 
-    /// Takes the longest prefix of `text` that fits the queue and the limit, and answers its length.
-    pub(crate) fn send(&mut self, text: &[u8]) -> usize
-        ensures count { result ≡ count_sendable self.old text.now }
-        ensures state { self.new ≡ with_text self.old text.now }
+    /// Takes the longest prefix of `text` that fits the queue and the limit of the direction, and answers its length.
+    pub(crate) fn send(&mut self, limit: u64, text: &[u8]) -> usize
+        requires { limit ≤ stream_limit }
+        ensures count { result ≡ count_sendable self.old limit text.now }
+        ensures state { self.new ≡ with_text self.old limit text.now }
         ensures capacity { self.new.queue.capacity ≡ self.old.queue.capacity }
         ensures queued { length self.new.queue.bytes ≤ self.new.queue.capacity }
     {
-        let left = STREAM_LIMIT - self.accepted_count();
+        let left = limit.saturating_sub(self.accepted_count());
         let count = self.queue.room().min(text.len()).min(left as usize);
         let _ = self.queue.offer(&text[..count]);
         count

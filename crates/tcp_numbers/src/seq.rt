@@ -1,5 +1,5 @@
-ghost use Rattle.std.specs.Prelude.{◌≡◌, ◌+◌, ◌%◌, ◌^◌, nat_lt};
-ghost use Rattle.tcp_numbers.specs.Position.{distance, is_before};
+ghost use Rattle.std.specs.Prelude.{◌≡◌, ◌+◌, ◌%◌, ◌^◌, ◌<◌, nat_lt};
+ghost use Rattle.tcp_numbers.specs.Position.{distance, is_before, position_of};
 
 /// A sequence number: arithmetic is modulo 2^32, and order is by distance (RFC 9293, 3.4).
 #[derive(Clone, Copy, Debug, Default, PartialEq, Eq, Hash)]
@@ -33,5 +33,21 @@ impl Seq {
         ensures { result ≡ nat_lt (distance next.0 self.0) size }
     {
         self.minus(next) < size
+    }
+
+    /// The position that this number means in a direction with the initial number `initial`: the nearest to `expected`, from
+    /// 2^31 behind it up to 2^31 - 1 ahead, and 0 where that lies before the first (RFC 9293, 3.4).
+    #[tactic(auto, using(crate::proofs::Positions::position_of_ahead, crate::proofs::Positions::position_of_behind))]
+    pub fn position(self, initial: Seq, expected: u64) -> u64
+        requires { expected < 2 ^ 63 }
+        ensures { result ≡ position_of initial.0 expected self.0 }
+    {
+        let next = initial.plus((expected % (1 << 32)) as u32);
+        let ahead = u64::from(self.minus(next));
+        if ahead < 1 << 31 {
+            expected + ahead
+        } else {
+            (expected + ahead).saturating_sub(1 << 32)
+        }
     }
 }

@@ -26,7 +26,7 @@ alone-new c is = record {
   syn = λ never. absurd (cc);
   ack = λ never. absurd (cc);
   reset = tt;
-  sends = record { order = omega arith; most = omega arith; limit = omega arith; bytes = λ i. omega arith; released = refl; queue = λ _. refl; flags = refl; range = tt };
+  sends = record { order = omega arith; most = omega arith; limit = omega arith; capacity = is.good.0.0.1; ahead = omega arith; bytes = λ i. omega arith; released = refl; queue = λ _. refl; flags = refl; range = tt };
   next = omega arith;
   unopened = λ _. refl;
 }
@@ -79,7 +79,7 @@ alone-orderly s accepted closed going h =
       syn = λ never. absurd (cc);
       ack = λ never. absurd (cc);
       reset = h.reset;
-      sends = record { order = sends.order; most = sends.most; limit = sends.limit; bytes = sends.bytes; released = sends.released; queue = sends.queue; flags = sends.flags; range = tt };
+      sends = record { order = sends.order; most = sends.most; limit = sends.limit; capacity = sends.capacity; ahead = sends.ahead; bytes = sends.bytes; released = sends.released; queue = sends.queue; flags = sends.flags; range = tt };
       next = h.next;
       unopened = h.unopened;
     }

@@ -26,7 +26,7 @@ use Rattle.tcp_conn.specs.Timers.{sends_again, after_retransmit, after_gaps, aft
 use Rattle.tcp_replay.specs.World.{front_taken}
 use Rattle.tcp_replay.specs.Alone.{IsWritable, Sends, IsAlone}
 use Rattle.tcp_replay.proofs.Halves.{sends-syn, sends-more, sends-closed}
-use Rattle.tcp_replay.proofs.Phases.{gives_up-not_ended, not_ended, at-closed, closed-unknown, resets_on_abort-knows, handshake-knows, sends_text-synchronized, time_wait-synchronized, at-synchronized, fits-closing, knows-closing}
+use Rattle.tcp_replay.proofs.Phases.{gives_up-not_ended, not_ended, at-closed, closed-unknown, resets_on_abort-knows, handshake-knows, sends_text-synchronized, time_wait-synchronized, at-synchronized, fits-closing, knows-closing, handshake-closing}
 use Rattle.tcp_replay.proofs.Alone.{alone-ack_owed, alone-given_up, alone-orderly, alone-sending}
 use Rattle.tcp_replay.proofs.AloneStages.{owes-taking}
 
@@ -86,7 +86,7 @@ alone-passive s accepted closed can h =
       closing = h.closing;
       progress = (can.ending, new);
       port = λ never. absurd (cc);
-      syn = λ e. absurd (closed-unknown s.phase can.shut (h.syn e));
+      syn = λ e. absurd (closed-unknown s.phase can.shut (handshake-knows s.phase (h.syn e)));
       ack = λ e. absurd (closed-unknown s.phase can.shut (h.ack e).0);
       reset = h.reset;
       sends = h.sends;
@@ -99,7 +99,7 @@ unfolding after_listen
 alone-listening s accepted closed h = unless-kept (λ x. IsAlone x accepted closed) (opening_refusal s) s (record s { phase = Listen }) h (λ e. alone-passive s accepted closed (can-open s e) h)
 
 -- SEND
-send-open : (s : State) (text : List ℕ) → send_refusal s text ≡ None → (s.ending ≡ NotEnded) × (s.closing ≡ false)
+pub send-open : (s : State) (text : List ℕ) → send_refusal s text ≡ None → (s.ending ≡ NotEnded) × (s.closing ≡ false)
 send-open s text e =
     let full = refusal_if (is_full s text) StreamFull in
     let closes = refusal_if s.closing Closing in
@@ -114,12 +114,12 @@ pub send-unclosed : (s : State) (accepted text : List ℕ) (closed : Bool) → s
 send-unclosed s accepted text closed e h = sym h.closing ∙ (send-open s text e).1
 
 pub alone-with_text : (s : State) (accepted text : List ℕ) (closed : Bool) → AreBytes text → send_refusal s text ≡ None → IsAlone s accepted closed
-    → IsAlone (record s { sending = with_text s.sending text }) (accepted ++ take (count_sendable s.sending text) text) closed
+    → IsAlone (record s { sending = with_text s.sending s.config.limit text }) (accepted ++ take (count_sendable s.sending s.config.limit text) text) closed
 alone-with_text s accepted text closed bytes e h =
-    let more = take (count_sendable s.sending text) text in
+    let more = take (count_sendable s.sending s.config.limit text) text in
     let none : gives_up s.ending ≡ false = gives_up-not_ended s.ending (send-open s text e).0 in
     let unclosed : closed ≡ false = send-unclosed s accepted text closed e h in
-    let sends : Sends (with_text s.sending text) (accepted ++ more) closed (gives_up s.ending) = rw (unclosed, none) (sends-more s.sending accepted text bytes (rw (unclosed, none) at h.sends)) in
+    let sends : Sends (with_text s.sending s.config.limit text) (accepted ++ more) closed (gives_up s.ending) = rw (unclosed, none) (sends-more s.sending s.config.limit accepted text h.config.good.3.1 bytes (rw (unclosed, none) at h.sends)) in
     assumption
 
 sent-unless : (s s' : State) (accepted text : List ℕ) (closed : Bool) (n : ℕ) (o : Option CallError) → IsAlone s accepted closed → (o ≡ None → IsAlone s' (accepted ++ take n text) closed)
@@ -129,7 +129,7 @@ sent-unless s s' accepted text closed n (Some error) h next = subst (λ (xs : Li
 
 pub alone-sent : (s : State) (accepted text : List ℕ) (closed : Bool) → AreBytes text → IsAlone s accepted closed → IsAlone (after_send s text) (accepted ++ front_taken (send_answer s text) text) closed
 unfolding after_send
-alone-sent s accepted text closed bytes h = sent-unless s _ accepted text closed (count_sendable s.sending text) (send_refusal s text) h (λ e. alone-with_text s accepted text closed bytes e h)
+alone-sent s accepted text closed bytes h = sent-unless s _ accepted text closed (count_sendable s.sending s.config.limit text) (send_refusal s text) h (λ e. alone-with_text s accepted text closed bytes e h)
 
 -- RECEIVE
 pub receive-open : (s : State) → receive_refusal s ≡ None → gives_up s.ending ≡ false
@@ -164,7 +164,7 @@ alone-close_begun s accepted closed h =
       closing = h.closing;
       progress = fits-closing s.phase s.ending d.una d.nxt s.receiving.opened s.receiving.finished h.progress;
       port = λ e. h.port (sym knows ∙ e);
-      syn = λ e. knows ∙ h.syn e;
+      syn = λ e. handshake-closing s.phase ∙ h.syn e;
       ack = λ e. (knows ∙ (h.ack e).0, (h.ack e).1);
       reset = h.reset;
       sends = h.sends;
@@ -208,7 +208,7 @@ alone-aborted s accepted closed h =
 sends-all_resent : (d : Sending) (accepted : List ℕ) (closed gone : Bool) → Sends d accepted closed gone → Sends (with_all_resent d) accepted closed gone
 unfolding without_marks
 sends-all_resent d accepted closed gone h =
-    record { order = h.order; most = h.most; limit = h.limit; bytes = h.bytes; released = h.released; queue = h.queue; flags = length-replicate (length d.queue.bytes) false; range = omega arith }
+    record { order = h.order; most = h.most; limit = h.limit; capacity = h.capacity; ahead = h.ahead; bytes = h.bytes; released = h.released; queue = h.queue; flags = length-replicate (length d.queue.bytes) false; range = omega arith }
 
 mark_end-inside : (q : Queue) (end : ℕ) → last_mark_end q ≡ Some end → end ≤ length q.marks
 unfolding last_mark_end
@@ -219,7 +219,7 @@ mark_end-inside q end =
 sends-gaps_resent : (d : Sending) (accepted : List ℕ) (closed : Bool) (end : ℕ) → end ≤ length d.queue.marks → Sends d accepted closed false → Sends (with_gaps_resent d end) accepted closed false
 sends-gaps_resent d accepted closed end inside h =
     let count : length d.queue.bytes ≡ length accepted - d.released = ap length (h.queue refl) ∙ length-drop d.released accepted in
-    record { order = h.order; most = h.most; limit = h.limit; bytes = h.bytes; released = h.released; queue = h.queue; flags = h.flags; range = omega (arith, h.flags, h.released) }
+    record { order = h.order; most = h.most; limit = h.limit; capacity = h.capacity; ahead = h.ahead; bytes = h.bytes; released = h.released; queue = h.queue; flags = h.flags; range = omega (arith, h.flags, h.released) }
 
 pub alone-retransmit : (s : State) (accepted : List ℕ) (closed : Bool) → IsAlone s accepted closed → IsAlone (after_retransmit s) accepted closed
 unfolding after_retransmit
@@ -227,7 +227,7 @@ alone-retransmit s accepted closed h =
     let d = if sends_again s then with_all_resent s.sending else s.sending in
     let sent : IsAlone (record s { sending = d }) accepted closed = cond_both (sends_again s) (with_all_resent s.sending) s.sending (λ (x : Sending). IsAlone (record s { sending = x }) accepted closed)
     (λ _. alone-sending s accepted closed (with_all_resent s.sending) refl refl (sends-all_resent s.sending accepted closed (gives_up s.ending) h.sends) h) (λ _. h) in
-    let syn : (s.owed.syn || is_handshake s.phase) ≡ true → has_peer s.phase ≡ true = λ e. ⊎_elim h.syn (handshake-knows s.phase) (or_cases s.owed.syn (is_handshake s.phase) e) in
+    let syn : (s.owed.syn || is_handshake s.phase) ≡ true → is_handshake s.phase ≡ true = λ e. ⊎_elim h.syn (λ (now : is_handshake s.phase ≡ true). now) (or_cases s.owed.syn (is_handshake s.phase) e) in
     assumption
 
 alone-gaps : (s : State) (accepted : List ℕ) (closed : Bool) (end : Option ℕ) → last_mark_end s.sending.queue ≡ end → sends_text s.phase ≡ true → IsAlone s accepted closed

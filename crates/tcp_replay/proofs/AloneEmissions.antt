@@ -11,7 +11,7 @@ use Rattle.tcp_numbers.specs.declared.seq.Seq.{Seq}
 use Rattle.tcp_conn.specs.declared.due.Due.{Due}
 use Rattle.tcp_conn.specs.declared.due.Due.TheVariants.{Reset, Syn, Resend, NewText, Fin, ResentFin, Acknowledgement}
 use Rattle.tcp_conn.specs.declared.link.WaitingReset.{WaitingReset}
-use Rattle.tcp_conn.specs.Phase.{has_peer, sends_text, gives_up}
+use Rattle.tcp_conn.specs.Phase.{has_peer, is_handshake, sends_text, gives_up}
 use Rattle.tcp_conn.specs.State.{State, Sending, place_of}
 use Rattle.tcp_conn.specs.Endpoint.{FitsFields}
 use Rattle.tcp_conn.specs.Due.{is_fin, start_of, count_of, end_of, text_due, reset_due, syn_due, ack_due, due_of}
@@ -20,9 +20,9 @@ use Rattle.tcp_conn.specs.Writing.{destination_of}
 use Rattle.tcp_conn.specs.Emission.{range_after, resend_after, owed_after, state_after, after_due, after_emission}
 use Rattle.tcp_conn.proofs.Segments.{plain_segment_valid, reset_segment_valid, syn_segment_valid}
 use Rattle.tcp_replay.specs.Alone.{FitsPhase, IsWritable, Sends, IsAlone}
-use Rattle.tcp_replay.proofs.Lists.{one_if, AreBytes-take, AreBytes-drop}
+use Rattle.tcp_replay.proofs.Lists.{one_if, one_if-most, AreBytes-take, AreBytes-drop}
 use Rattle.tcp_replay.proofs.Halves.{range-more, sends-sent}
-use Rattle.tcp_replay.proofs.Phases.{gives_up-not_ended, at-synchronized, sends_text-synchronized, synchronized-knows, knows-nxt, fits-sent, fits-sent_text}
+use Rattle.tcp_replay.proofs.Phases.{gives_up-not_ended, handshake-knows, at-synchronized, sends_text-synchronized, synchronized-knows, knows-nxt, fits-sent, fits-sent_text}
 use Rattle.tcp_replay.proofs.Dues.{IsText, IsFin, IsOut, option_or-both, if-some-map, text-due}
 
 fits-fields : (s : State) (accepted : List ℕ) (closed : Bool) → has_peer s.phase ≡ true → IsAlone s accepted closed → FitsFields s
@@ -38,6 +38,8 @@ text-is d accepted closed start count least h =
 -- what a segment with text says
 pub record IsPlain (d : Sending) (accepted : List ℕ) (closed : Bool) (due : Due) : Type 0 where
   pub least : 1 ≤ start_of d due
+  -- it lies near SND.UNA
+  pub behind : d.una ≤ 1 + start_of d due
   pub within : start_of d due ≤ 1 + length accepted + one_if closed
   pub text : text_of d due ≡ take (count_of due) (drop (start_of d due - 1) accepted)
   pub short : count_of due ≤ 1460
@@ -66,7 +68,7 @@ pub record IsSaid (s : State) (accepted : List ℕ) (closed : Bool) (due : Due) 
 -- each kind of segment
 abbrev pub IsOfKind : State → List ℕ → Bool → Due → Type 0
 IsOfKind s accepted closed (Reset reset) = s.owed.reset ≡ Some reset
-IsOfKind s accepted closed Syn = has_peer s.phase ≡ true
+IsOfKind s accepted closed Syn = is_handshake s.phase ≡ true
 IsOfKind s accepted closed (Resend start count) = IsSaid s accepted closed (Resend start count)
 IsOfKind s accepted closed (NewText start count) = IsSaid s accepted closed (NewText start count)
 IsOfKind s accepted closed (Fin start) = IsSaid s accepted closed (Fin start)
@@ -84,7 +86,7 @@ alone-after : (s : State) (accepted : List ℕ) (closed : Bool) (due : Due) → 
     → FitsPhase s.phase s.ending s.sending.una (max s.sending.nxt (end_of s.sending due)) s.receiving.opened s.receiving.finished
     → max s.sending.nxt (end_of s.sending due) ≤ 1 + length accepted + one_if closed
     → IfSome (resend_after s.sending due) (λ r. r.end ≤ max (max s.sending.nxt (end_of s.sending due)) (1 + length accepted))
-    → ((owed_after s.receiving.opened s.owed due).syn ≡ true → has_peer s.phase ≡ true)
+    → ((owed_after s.receiving.opened s.owed due).syn ≡ true → is_handshake s.phase ≡ true)
     → ((owed_after s.receiving.opened s.owed due).ack ≡ true → (has_peer s.phase ≡ true) × (s.receiving.opened ≡ true))
     → IfSome (owed_after s.receiving.opened s.owed due).reset IsWritable → IsAlone (state_after s due) accepted closed
 alone-after s accepted closed due h progress most range syn ack reset =
@@ -118,16 +120,17 @@ out-reset s accepted closed reset waits fits h =
     }
 
 -- a SYN
-out-syn : (s : State) (accepted : List ℕ) (closed : Bool) → has_peer s.phase ≡ true → IsAlone s accepted closed → GoesOutAlone s accepted closed Syn
+out-syn : (s : State) (accepted : List ℕ) (closed : Bool) → is_handshake s.phase ≡ true → IsAlone s accepted closed → GoesOutAlone s accepted closed Syn
 unfolding segment_of
-out-syn s accepted closed knows h =
+out-syn s accepted closed handshake h =
     let d = s.sending in
+    let knows : has_peer s.phase ≡ true = handshake-knows s.phase handshake in
     record {
       alone = alone-after s accepted closed Syn h
           (fits-sent s.phase s.ending d.una d.nxt (max d.nxt 1) s.receiving.opened s.receiving.finished (λ none e. absurd (false≢true (sym none ∙ knows))) (λ e. omega arith) h.progress)
           (omega (arith, h.sends.most)) (same-range d accepted closed (gives_up s.ending) 1 h.sends) (λ never. absurd (cc)) (λ e. h.ack (and_parts s.owed.ack (not s.receiving.opened) e).0) h.reset;
       valid = syn_segment_valid s (fits-fields s accepted closed knows h);
-      kind = knows;
+      kind = handshake;
     }
 
 -- an acknowledgement alone
@@ -137,6 +140,7 @@ out-ack s accepted closed knows opened h =
     let d = s.sending in
     let plain : IsPlain d accepted closed Acknowledgement = record {
       least = knows-nxt s.phase s.ending d.una d.nxt s.receiving.opened s.receiving.finished knows h.sends.order h.progress;
+      behind = omega (arith, h.sends.order);
       within = h.sends.most;
       text = refl;
       short = omega arith;
@@ -185,9 +189,11 @@ text-within d accepted closed gone start count is h = omega (arith, is.most, h.m
 fin-within : (accepted : List ℕ) (closed : Bool) (start : ℕ) → IsFin accepted closed start → start + 1 ≤ 1 + length accepted + one_if closed
 fin-within accepted closed start is = rw is.is_closed (omega (arith, is.place))
 
-fin-plain : (d : Sending) (accepted : List ℕ) (closed : Bool) (due : Due) (start : ℕ) → start_of d due ≡ start → count_of due ≡ 0 → text_of d due ≡ [] → IsFin accepted closed start → IsPlain d accepted closed due
-fin-plain d accepted closed due start place none empty is = record {
+fin-plain : (d : Sending) (accepted : List ℕ) (closed gone : Bool) (due : Due) (start : ℕ) → start_of d due ≡ start → count_of due ≡ 0 → text_of d due ≡ [] → IsFin accepted closed start → Sends d accepted closed gone
+    → IsPlain d accepted closed due
+fin-plain d accepted closed gone due start place none empty is h = record {
   least = omega (arith, place, is.place);
+  behind = omega (arith, place, is.place, h.order, h.most, one_if-most closed);
   within = omega (arith, place, is.place);
   text = empty ∙ ap (λ n. take n (drop (start_of d due - 1) accepted)) (sym none);
   short = omega (arith, none);
@@ -206,6 +212,7 @@ text-plain s accepted closed due start count e place same no_fin is h =
     let sends : Sends d accepted closed false = rw (going-on s accepted closed e h).1 at h.sends in
     record {
       least = omega (arith, place, is.least);
+      behind = omega (arith, place, is.least, sends.released, sends.order, sends.most, one_if-most closed);
       within = omega (arith, place, text-within d accepted closed false start count is sends);
       text = text-is d accepted closed (start_of d due) (count_of due) (omega (arith, place, is.least)) sends;
       short = omega (arith, same, is.short);
@@ -233,12 +240,12 @@ out-text s accepted closed (NewText start count) h is =
     out s accepted closed (NewText start count) goes goes.said
 out-text s accepted closed (Fin start) h is =
     let goes = out-plain s accepted closed (Fin start) is.0 (record { common = record { segment = refl; to = refl; reset = refl }; syn = refl; ack = refl })
-    (fin-plain s.sending accepted closed (Fin start) start refl refl refl is.1) (fin-within accepted closed start is.1) h.sends.range h in
+    (fin-plain s.sending accepted closed (gives_up s.ending) (Fin start) start refl refl refl is.1 h.sends) (fin-within accepted closed start is.1) h.sends.range h in
     out s accepted closed (Fin start) goes goes.said
 out-text s accepted closed (ResentFin start) h is =
     let d = s.sending in
     let goes = out-plain s accepted closed (ResentFin start) is.0 (record { common = record { segment = refl; to = refl; reset = refl }; syn = refl; ack = refl })
-    (fin-plain d accepted closed (ResentFin start) start refl refl refl is.1) (fin-within accepted closed start is.1)
+    (fin-plain d accepted closed (gives_up s.ending) (ResentFin start) start refl refl refl is.1 h.sends) (fin-within accepted closed start is.1)
     (range_after-ends (max d.nxt (1 + length accepted)) (start + 1) d.resend h.sends.range) h in
     out s accepted closed (ResentFin start) goes goes.said
 out-text s accepted closed Acknowledgement h is = absurd is.1

@@ -1,14 +1,14 @@
 -- A segment is taken, stage by stage, at one end by itself: whatever it says, the end keeps what it does.
 use Rattle.std.proofs.Common.{◌≡◌, ℕ, ◌^◌, ◌<◌, ◌≤◌, List, [], ◌∷◌, length, refl, sym, ◌∙◌, arith}
 use Rattle.std.specs.Prelude.{Bool, true, false, not, ◌&&◌, ◌||◌, nat_lt, nat_le, ◌==◌, if◌then◌else◌}
-use Rattle.std.proofs.lemmas.Bool.{cond_both, ltb-true, leb-true, and_parts, not-true}
+use Rattle.std.proofs.lemmas.Bool.{cond_both, ltb-true, leb-true, and_parts, not-true, false≢true}
 use Rattle.tcp_wire.specs.Position.{number, position_of}
 use Rattle.tcp_wire.specs.Flags.{fin, has}
 use Rattle.tcp_wire.specs.Wire.{Content}
 use Rattle.tcp_sendq.specs.SendQueue.{marks_with, can_mark, after_mark}
 use Rattle.tcp_sendq.proofs.Kept.{length-marks_with}
 use Rattle.tcp_conn.specs.declared.phase.Phase.TheVariants.{Established, FinWait1}
-use Rattle.tcp_conn.specs.Phase.{is_closed, is_syn_received, is_last_ack, takes_text, gives_up, phase_after_own_fin, phase_after_fin, has_peer}
+use Rattle.tcp_conn.specs.Phase.{is_closed, is_syn_received, is_last_ack, takes_text, gives_up, phase_after_own_fin, phase_after_fin, has_peer, is_handshake}
 use Rattle.tcp_conn.specs.State.{State, Sending, place_of}
 use Rattle.tcp_conn.specs.Windows.{window_from}
 use Rattle.tcp_conn.specs.Sender.{acks_more, with_acked, after_ack, with_syn_acked, is_newer, with_window, after_window_update, count_below, is_fin_acked}
@@ -20,7 +20,7 @@ use Rattle.tcp_conn.specs.Arrival.{after_own_syn, after_acked_text, blocks_used,
 use Rattle.tcp_replay.specs.Alone.{Sends, FitsPhase, IsAlone}
 use Rattle.tcp_replay.proofs.Lists.{by_test}
 use Rattle.tcp_replay.proofs.Halves.{sends-syn_acked, sends-acked}
-use Rattle.tcp_replay.proofs.Phases.{is_synchronized, gives_up-not_ended, at-syn_received, at-synchronized, at-takes_text, synchronized-knows, takes_text-synchronized, present-knows, own_syn-synchronized, fits-own_syn, knows-own_syn, fits-acked, fits-own_fin, knows-own_fin, synchronized-own_fin, fits-fin, knows-fin}
+use Rattle.tcp_replay.proofs.Phases.{is_synchronized, gives_up-not_ended, at-syn_received, at-synchronized, at-takes_text, synchronized-knows, takes_text-synchronized, present-knows, own_syn-synchronized, fits-own_syn, knows-own_syn, fits-acked, fits-own_fin, knows-own_fin, handshake-own_fin, synchronized-own_fin, fits-fin, knows-fin, handshake-fin}
 use Rattle.tcp_replay.proofs.Judgements.{IsPresent}
 use Rattle.tcp_replay.proofs.Alone.{alone-ack_owed, alone-orderly, alone-sending}
 
@@ -43,7 +43,7 @@ alone-own_syn s accepted closed v present h =
       closing = h.closing;
       progress = fits-own_syn s.closing s.ending d.una d.nxt r.opened r.finished at;
       port = λ _. h.port knows;
-      syn = λ _. knows-own_syn s.closing;
+      syn = λ never. absurd (false≢true (and_parts s.owed.syn false never).1);
       ack = λ _. (knows-own_syn s.closing, at.1.is_opened);
       reset = h.reset;
       sends = sends-syn_acked d accepted closed (gives_up s.ending) (window_from s.link v.window) v.seq v.ack at.1.nxt_is h.sends;
@@ -51,7 +51,7 @@ alone-own_syn s accepted closed v present h =
       unopened = h.unopened;
     })
     (λ _.
-    let syn : (s.owed.syn && true) ≡ true → has_peer s.phase ≡ true = λ e. h.syn (and_parts s.owed.syn true e).0 in
+    let syn : (s.owed.syn && true) ≡ true → is_handshake s.phase ≡ true = λ e. h.syn (and_parts s.owed.syn true e).0 in
     assumption)
 
 -- ACKNOWLEDGEMENT, of whatever position
@@ -139,7 +139,7 @@ own_fin-phase s accepted closed h =
     let knows : has_peer (phase_after_own_fin s.phase) ≡ has_peer s.phase = knows-own_fin s.phase in
     let progress : FitsPhase (phase_after_own_fin s.phase) s.ending d.una d.nxt s.receiving.opened s.receiving.finished = fits-own_fin s.phase s.ending d.una d.nxt s.receiving.opened s.receiving.finished h.progress in
     let port : has_peer (phase_after_own_fin s.phase) ≡ true → s.peer.port < 2 ^ 16 = λ e. h.port (sym knows ∙ e) in
-    let syn : s.owed.syn ≡ true → has_peer (phase_after_own_fin s.phase) ≡ true = λ e. knows ∙ h.syn e in
+    let syn : s.owed.syn ≡ true → is_handshake (phase_after_own_fin s.phase) ≡ true = λ e. handshake-own_fin s.phase ∙ h.syn e in
     let ack : s.owed.ack ≡ true → (has_peer (phase_after_own_fin s.phase) ≡ true) × (s.receiving.opened ≡ true) = λ e. (knows ∙ (h.ack e).0, (h.ack e).1) in
     assumption
 
@@ -220,7 +220,7 @@ alone-fin_taken s accepted closed e h =
       closing = h.closing;
       progress = fits-fin s.phase s.ending d.una d.nxt r.opened r.finished e h.progress;
       port = λ known. h.port (sym knows ∙ known);
-      syn = λ owed. knows ∙ h.syn owed;
+      syn = λ owed. handshake-fin s.phase ∙ h.syn owed;
       ack = λ owed. (knows ∙ (h.ack owed).0, (h.ack owed).1);
       reset = h.reset;
       sends = h.sends;

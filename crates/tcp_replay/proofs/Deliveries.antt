@@ -1,6 +1,6 @@
 -- Emissions, deliveries and damage: both directions stay sound.
-use Rattle.std.proofs.Common.{◌≡◌, ◌≢◌, ℕ, ◌<◌, List, [], ◌++◌, length, refl, sym, ◌∙◌, ap, subst, arith, append-nil}
-use Rattle.std.specs.Prelude.{Bool, true, false, nat_le, ◌==◌, if◌then◌else◌, Option, Some, None, IfSome, Ok, Err, option_to_list, option_map, slice_get, slice_index, bit_xor}
+use Rattle.std.proofs.Common.{◌≡◌, ◌≢◌, ℕ, ◌+◌, ◌<◌, ◌≤◌, List, [], ◌++◌, length, refl, sym, ◌∙◌, ap, subst, arith, append-nil}
+use Rattle.std.specs.Prelude.{Bool, true, false, not, ◌||◌, nat_le, ◌==◌, if◌then◌else◌, Option, Some, None, IfSome, Ok, Err, option_to_list, option_map, slice_get, slice_index, bit_xor}
 use Rattle.std.proofs.lemmas.Bool.{eqb-false, leb-false}
 use Rattle.std.proofs.lemmas.Nat.{xor_of_8}
 use Rattle.std.proofs.lemmas.Option.{slice_get-get_or, unwrap_or-slice_get}
@@ -8,6 +8,8 @@ use Rattle.std.specs.Int.Bits.{xor_self, xor_zero_l, xor_assoc}
 use Rattle.tcp_wire.specs.Checksum.{DiffersInOnePlace}
 use Rattle.tcp_wire.specs.Wire.{Content, IsWire}
 use Rattle.tcp_wire.specs.Decoded.{decode_answer}
+use Rattle.tcp_wire.specs.Flags.{rst, ack, has}
+use Rattle.tcp_conn.specs.Receiver.{next_wanted}
 use Rattle.tcp_wire.specs.declared.fault.DecodeError.{DecodeError}
 use Rattle.tcp_wire.specs.declared.fault.DecodeError.TheVariants.{BadChecksum}
 use Rattle.tcp_wire.proofs.Lemmas.{decoded_encoded, IsWire_encoded, decoded_damaged, differs_set}
@@ -20,27 +22,27 @@ use Rattle.tcp_conn.specs.Due.{due_of}
 use Rattle.tcp_conn.specs.Writing.{bytes_of}
 use Rattle.tcp_conn.specs.Emission.{emitted_bytes, after_due, after_emission}
 use Rattle.tcp_replay.specs.declared.outcome.StepError.{StepError}
-use Rattle.tcp_replay.specs.declared.outcome.StepError.TheVariants.{NoSuchSegment, NoChange, PlaceOutside}
+use Rattle.tcp_replay.specs.declared.outcome.StepError.TheVariants.{NoSuchSegment, NoChange, PlaceOutside, Expired}
 use Rattle.tcp_replay.specs.declared.outcome.Outcome.TheVariants as outcomes
-use Rattle.tcp_replay.specs.World.{PartyState, party_after_emission, party_after_arrival, arrival_outcome, segment_at, bytes_with_damage, is_missing, delivery_refusal, damage_refusal}
+use Rattle.tcp_replay.specs.World.{PartyState, SentSegment, flags_in, sent_by, party_after_emission, party_after_arrival, arrival_outcome, sent_at, segment_at, is_late, acks_late, is_expired, max_life, bytes_with_damage, is_missing, delivery_refusal, damage_refusal}
 use Rattle.tcp_replay.specs.Sound.{IsOwn, AreOwn, IsSoundPair}
-use Rattle.tcp_replay.proofs.Lists.{one_if-most}
+use Rattle.tcp_replay.proofs.Lists.{one_if-most, and-fails, or-fails}
 use Rattle.tcp_replay.proofs.Steps.{kept-same, pair-from-move}
 use Rattle.tcp_replay.proofs.Arrivals.{Comes, fair-judgement}
-use Rattle.tcp_replay.proofs.Emissions.{GoesOut, own-due, due-goes}
+use Rattle.tcp_replay.proofs.Emissions.{GoesOut, own-due, due-goes, wanted-is}
 use Rattle.tcp_replay.proofs.Users.{pair-kept}
 
 -- EMIT
-some-is : {x y : List ℕ} → Some x ≡ Some y → x ≡ y
+some-is : {x y : SentSegment} → Some x ≡ Some y → x ≡ y
 some-is e = cc
 
 emitted-due : (p q : PartyState) (due : Option Due) → IfSome due (GoesOut p q) → IsSoundPair p q
-    → IsSoundPair (record p { endpoint = after_due p.endpoint due; sent = p.sent ++ option_to_list (option_map (bytes_of p.endpoint) due) }) q
-emitted-due p q None goes h = subst (λ (sent : List (List ℕ)). IsSoundPair (record p { sent = sent }) q) (sym (append-nil p.sent)) h
+    → IsSoundPair (record p { endpoint = after_due p.endpoint due; sent = p.sent ++ option_to_list (option_map (sent_by p.endpoint) (option_map (bytes_of p.endpoint) due)) }) q
+emitted-due p q None goes h = subst (λ (sent : List SentSegment). IsSoundPair (record p { sent = sent }) q) (sym (append-nil p.sent)) h
 emitted-due p q (Some due) goes h =
     let here = goes.kept.here in
-    pair-from-move p _ q (record { here = record { alone = here.alone; speaks = here.speaks; takes = here.takes; hands = here.hands; between = here.between }; config = goes.kept.config; grows = goes.kept.grows })
-    (record { new = Some (bytes_of p.endpoint due); sent = refl; own = λ bytes is. subst (λ (bytes : List ℕ). IsOwn p q bytes) (some-is is) (own-due p q due goes) }) h
+    pair-from-move p _ q (record { here = record { alone = here.alone; speaks = here.speaks; takes = here.takes; hands = here.hands; between = here.between; limit = here.limit }; config = goes.kept.config; grows = goes.kept.grows })
+    (record { new = Some (sent_by p.endpoint (bytes_of p.endpoint due)); sent = refl; own = λ g is. subst (λ (g : SentSegment). IsOwn p q g) (some-is is) (own-due p q due goes) }) h
 
 pub pair-emitted : (p q : PartyState) → IsSoundPair p q → IsSoundPair (party_after_emission p) q
 unfolding party_after_emission emitted_bytes after_emission
@@ -55,25 +57,51 @@ arrival-err : (s : State) (src dst bytes : List ℕ) (fault : DecodeError) → d
 unfolding after_arrival
 arrival-err s src dst bytes fault e = ap (after_reading s src dst) e
 
-pub own-decodes : (q p : PartyState) (bytes : List ℕ) → (own : IsOwn q p bytes) → decode_answer q.endpoint.config.addr.0 p.endpoint.config.addr.0 bytes ≡ Ok own.content
-own-decodes q p bytes own = ap (decode_answer q.endpoint.config.addr.0 p.endpoint.config.addr.0) own.spelled ∙ decoded_encoded q.endpoint.config.addr.0 p.endpoint.config.addr.0 own.content own.valid
+pub own-decodes : (q p : PartyState) (g : SentSegment) → (own : IsOwn q p g) → decode_answer q.endpoint.config.addr.0 p.endpoint.config.addr.0 g.bytes ≡ Ok own.content
+own-decodes q p g own = ap (decode_answer q.endpoint.config.addr.0 p.endpoint.config.addr.0) own.spelled ∙ decoded_encoded q.endpoint.config.addr.0 p.endpoint.config.addr.0 own.content own.valid
 
-pub comes : (p q : PartyState) (bytes : List ℕ) → IsSoundPair p q → (own : IsOwn q p bytes) → Comes p q own.content
-comes p q bytes h own = record {
-  valid = own.valid;
-  truthful = own.truthful;
-  near = omega (arith, one_if-most q.endpoint.receiving.finished, h.back.takes.order, h.there.alone.sends.limit);
-  limit = h.back.alone.sends.limit;
-}
+-- its control bits stand where they are read
+flags-in : (q p : PartyState) (g : SentSegment) → (own : IsOwn q p g) → own.content.flags ≡ flags_in g.bytes
+flags-in q p g own =
+    let src = q.endpoint.config.addr.0 in
+    let dst = p.endpoint.config.addr.0 in
+    let wire : IsWire src dst own.content g.bytes = subst (λ (sent : List ℕ). IsWire src dst own.content sent) (sym own.spelled) (IsWire_encoded src dst own.content own.valid) in
+    wire.header.flags
 
-pair-arrived : (p q : PartyState) (bytes : List ℕ) → IsSoundPair p q → IsOwn q p bytes → IsSoundPair (party_after_arrival p q bytes) q
+-- a segment whose lifetime isn't over
+record IsYoungBoth (life : ℕ) (s : State) (g : SentSegment) : Type 0 where
+  young : next_wanted s.receiving < g.position + life
+  acks_young : has ack (flags_in g.bytes) ≡ true → s.sending.una < g.wanted + life
+
+unexpired : (life : ℕ) (s : State) (g : SentSegment) → is_expired life s g ≡ false → has rst (flags_in g.bytes) ≡ false → IsYoungBoth life s g
+unexpired life s g e plain =
+    let both = or-fails (is_late life s g) (acks_late life s g) (and-fails (not (has rst (flags_in g.bytes))) (is_late life s g || acks_late life s g) e (ap not plain)) in
+    record {
+      young = leb-false (g.position + life) (next_wanted s.receiving) both.0;
+      acks_young = λ told. leb-false (g.wanted + life) s.sending.una (and-fails (has ack (flags_in g.bytes)) (nat_le (g.wanted + life) s.sending.una) both.1 told);
+    }
+
+pub comes : (p q : PartyState) (life : ℕ) (g : SentSegment) → life ≤ max_life → is_expired life p.endpoint g ≡ false → IsSoundPair p q → (own : IsOwn q p g) → Comes p q p.endpoint own.content g.position g.wanted
+comes p q life g most e h own =
+    let flags = flags-in q p g own in
+    let young : has rst own.content.flags ≡ false → IsYoungBoth life p.endpoint g = λ plain. unexpired life p.endpoint g e (ap (has rst) (sym flags) ∙ plain) in
+    record {
+      valid = own.valid;
+      truthful = own.truthful;
+      near = omega (arith, one_if-most q.endpoint.receiving.finished, h.back.takes.order);
+      close = record { ahead = omega (arith, h.back.alone.sends.ahead, h.back.alone.sends.released, h.back.between); limit = h.back.alone.sends.limit };
+      young = λ plain. omega (arith, most, (young plain).young, wanted-is p q h);
+      acks_young = λ plain told. omega (arith, most, (young plain).acks_young (ap (has ack) (sym flags) ∙ told));
+    }
+
+pair-arrived : (p q : PartyState) (life : ℕ) (g : SentSegment) → life ≤ max_life → is_expired life p.endpoint g ≡ false → IsSoundPair p q → IsOwn q p g → IsSoundPair (party_after_arrival p q g.bytes) q
 unfolding party_after_arrival
-pair-arrived p q bytes h own =
+pair-arrived p q life g most e h own =
     let src = q.endpoint.config.addr.0 in
     let dst = p.endpoint.config.addr.0 in
     let s = after_judgement (judgement p.endpoint src dst own.content) p.endpoint src own.content in
-    subst (λ (s : State). IsSoundPair (record p { endpoint = s }) q) (sym (arrival-ok p.endpoint src dst bytes own.content (own-decodes q p bytes own)))
-    (pair-kept p q s (fair-judgement p q p.endpoint dst own.content (comes p q bytes h own) (kept-same p q h)) h)
+    subst (λ (s : State). IsSoundPair (record p { endpoint = s }) q) (sym (arrival-ok p.endpoint src dst g.bytes own.content (own-decodes q p g own)))
+    (pair-kept p q s (fair-judgement p q p.endpoint dst own.content g.position g.wanted (comes p q life g most e h own) (kept-same p q h)) h)
 
 -- bytes that are no segment
 unmoved : (p q : PartyState) (bytes : List ℕ) (fault : DecodeError) → decode_answer q.endpoint.config.addr.0 p.endpoint.config.addr.0 bytes ≡ Err fault → party_after_arrival p q bytes ≡ p
@@ -85,36 +113,41 @@ unfolding arrival_answer
 answers-malformed p q bytes fault e = ap (λ r. outcomes.Arrived (answer_to_reading p.endpoint q.endpoint.config.addr.0 p.endpoint.config.addr.0 r)) e
 
 -- a segment that was emitted, by its number
-pub segment-sent : (q : PartyState) (k : ℕ) → is_missing q k ≡ false → slice_get q.sent k ≡ Some (segment_at q k)
+pub segment-sent : (q : PartyState) (k : ℕ) → is_missing q k ≡ false → slice_get q.sent k ≡ Some (sent_at q k)
 segment-sent q k there =
     let inside : k < length q.sent = leb-false (length q.sent) k there in
-    slice_get-get_or q.sent k [] inside ∙ ap Some (sym (unwrap_or-slice_get q.sent k []))
+    let none : SentSegment = record { bytes = []; position = 0; wanted = 0 } in
+    slice_get-get_or q.sent k none inside ∙ ap Some (sym (unwrap_or-slice_get q.sent k none))
 
 refusal-none : (b : Bool) (error : StepError) (rest : Option StepError) → (if b then Some error else rest) ≡ None → (b ≡ false) × (rest ≡ None)
 refusal-none true error rest e = absurd (cc)
 refusal-none false error rest e = (refl, e)
 
-pub delivered-there : (q : PartyState) (k : ℕ) → delivery_refusal q k ≡ None → is_missing q k ≡ false
-delivered-there q k e = (refusal-none (is_missing q k) NoSuchSegment None e).0
+pub delivered-there : (life : ℕ) (p q : PartyState) (k : ℕ) → delivery_refusal life q p k ≡ None → (is_missing q k ≡ false) × (is_expired life p.endpoint (sent_at q k) ≡ false)
+delivered-there life p q k e =
+    let first = refusal-none (is_missing q k) NoSuchSegment _ e in
+    (first.0, (refusal-none (is_expired life p.endpoint (sent_at q k)) Expired None first.1).0)
 
-pub pair-delivered : (p q : PartyState) (k : ℕ) → delivery_refusal q k ≡ None → IsSoundPair p q → IsSoundPair (party_after_arrival p q (segment_at q k)) q
-pair-delivered p q k e h = pair-arrived p q (segment_at q k) h (h.own_back k (segment_at q k) (segment-sent q k (delivered-there q k e)))
+pub pair-delivered : (p q : PartyState) (life k : ℕ) → life ≤ max_life → delivery_refusal life q p k ≡ None → IsSoundPair p q → IsSoundPair (party_after_arrival p q (segment_at q k)) q
+pair-delivered p q life k most e h =
+    let there = delivered-there life p q k e in
+    pair-arrived p q life (sent_at q k) most there.1 h (h.own_back k (sent_at q k) (segment-sent q k there.0))
 
 -- DAMAGE: one byte of it differs, and is always found
 xor-changes : (x value : ℕ) → value ≢ 0 → bit_xor x value ≢ x
 xor-changes x value some e =
     some (sym (xor_zero_l value) ∙ ap (λ z. bit_xor z value) (sym (xor_self x)) ∙ xor_assoc x x value ∙ ap (bit_xor x) e ∙ xor_self x)
 
-damage-found : (p q : PartyState) (k place value : ℕ) → value < 256 → AreOwn q p → damage_refusal q k place value ≡ None
+damage-found : (p q : PartyState) (life k place value : ℕ) → value < 256 → AreOwn q p → damage_refusal life q p k place value ≡ None
     → decode_answer q.endpoint.config.addr.0 p.endpoint.config.addr.0 (bytes_with_damage (segment_at q k) place value) ≡ Err BadChecksum
-damage-found p q k place value fits owns e =
+damage-found p q life k place value fits owns e =
     let src = q.endpoint.config.addr.0 in
     let dst = p.endpoint.config.addr.0 in
     let bytes = segment_at q k in
     let first = refusal-none (is_missing q k) NoSuchSegment _ e in
     let second = refusal-none (value == 0) NoChange _ first.1 in
-    let third = refusal-none (nat_le (length bytes) place) PlaceOutside None second.1 in
-    let own = owns k bytes (segment-sent q k first.0) in
+    let third = refusal-none (nat_le (length bytes) place) PlaceOutside _ second.1 in
+    let own = owns k (sent_at q k) (segment-sent q k first.0) in
     let wire : IsWire src dst own.content bytes = subst (λ (sent : List ℕ). IsWire src dst own.content sent) (sym own.spelled) (IsWire_encoded src dst own.content own.valid) in
     let differs : DiffersInOnePlace bytes (bytes_with_damage bytes place value) =
     differs_set bytes place (bit_xor (slice_index bytes place) value) wire.are_bytes (leb-false (length bytes) place third.0) (xor_of_8 (slice_index bytes place) value (wire.are_bytes place) fits)
@@ -126,11 +159,11 @@ pub record IsFoundDamage (p q : PartyState) (k place value : ℕ) : Type 0 where
   pub same : party_after_arrival p q (bytes_with_damage (segment_at q k) place value) ≡ p
   pub answer : arrival_outcome p q (bytes_with_damage (segment_at q k) place value) ≡ outcomes.Arrived (Malformed BadChecksum)
 
-pub finds-damage : (p q : PartyState) (k place value : ℕ) → value < 256 → damage_refusal q k place value ≡ None → IsSoundPair p q → IsFoundDamage p q k place value
-finds-damage p q k place value fits e h =
+pub finds-damage : (p q : PartyState) (life k place value : ℕ) → value < 256 → damage_refusal life q p k place value ≡ None → IsSoundPair p q → IsFoundDamage p q k place value
+finds-damage p q life k place value fits e h =
     let bytes = bytes_with_damage (segment_at q k) place value in
-    let found = damage-found p q k place value fits h.own_back e in
+    let found = damage-found p q life k place value fits h.own_back e in
     record { same = unmoved p q bytes BadChecksum found; answer = answers-malformed p q bytes BadChecksum found }
 
-pub pair-damaged : (p q : PartyState) (k place value : ℕ) → value < 256 → damage_refusal q k place value ≡ None → IsSoundPair p q → IsSoundPair (party_after_arrival p q (bytes_with_damage (segment_at q k) place value)) q
-pair-damaged p q k place value fits e h = subst (λ (p' : PartyState). IsSoundPair p' q) (sym (finds-damage p q k place value fits e h).same) h
+pub pair-damaged : (p q : PartyState) (life k place value : ℕ) → value < 256 → damage_refusal life q p k place value ≡ None → IsSoundPair p q → IsSoundPair (party_after_arrival p q (bytes_with_damage (segment_at q k) place value)) q
+pair-damaged p q life k place value fits e h = subst (λ (p' : PartyState). IsSoundPair p' q) (sym (finds-damage p q life k place value fits e h).same) h

@@ -1,41 +1,50 @@
 -- What is due may go out to the peer: it is truthful unless it is a reset, and the end stays sound.
-use Rattle.std.proofs.Common.{◌≡◌, ℕ, ◌+◌, ◌-◌, List, length, take, drop, refl, sym, ◌∙◌, ap, subst, arith, length-take, length-drop}
+use Rattle.std.proofs.Common.{◌≡◌, ℕ, ◌+◌, ◌-◌, ◌≤◌, List, length, take, drop, refl, sym, ◌∙◌, ap, subst, arith, length-take, length-drop}
 use Rattle.std.specs.Prelude.{min, Bool, true, false, if◌then◌else◌, Option, Some, None, Ok, IfSome, is_some}
 use Rattle.std.proofs.lemmas.Bool.{ne_eqb, false≢true}
 use Rattle.std.proofs.lemmas.List.{take_min}
 use Rattle.tcp_wire.specs.Flags.{fin, syn, rst, psh, ack, has}
-use Rattle.tcp_wire.specs.Wire.{IsValid, encoded_bytes}
+use Rattle.tcp_wire.specs.Position.{position_of}
+use Rattle.tcp_wire.specs.Wire.{Content, IsValid, encoded_bytes}
 use Rattle.tcp_wire.specs.Decoded.{decode_answer}
-use Rattle.tcp_wire.proofs.Lemmas.{decoded_encoded}
+use Rattle.tcp_wire.proofs.Lemmas.{decoded_encoded, IsWire_encoded, position_of_number}
 use Rattle.tcp_conn.specs.declared.due.Due.{Due}
 use Rattle.tcp_conn.specs.declared.due.Due.TheVariants.{Reset, Syn, Resend, NewText, Fin, ResentFin, Acknowledgement}
 use Rattle.tcp_conn.specs.declared.link.WaitingReset.{WaitingReset}
+use Rattle.tcp_conn.specs.State.{State}
 use Rattle.tcp_conn.specs.Due.{is_fin, start_of, count_of, due_of}
 use Rattle.tcp_conn.specs.Forms.{syn_segment, text_of, pushes, plain_segment, segment_of}
 use Rattle.tcp_conn.specs.Writing.{destination_of, bytes_of}
 use Rattle.tcp_conn.specs.Emission.{owed_after, state_after}
-use Rattle.tcp_replay.specs.World.{PartyState}
-use Rattle.tcp_replay.specs.Truthful.{IsTruthful, IsTrueAck}
+use Rattle.tcp_conn.specs.Phase.{is_handshake}
+use Rattle.tcp_conn.specs.Receiver.{next_wanted}
+use Rattle.tcp_replay.specs.World.{PartyState, seq_in, sent_by}
+use Rattle.tcp_replay.specs.Truthful.{IsOfUser, IsTruthful, IsTrueAck, StandsAt}
 use Rattle.tcp_replay.specs.Safe.{witness_of, next_position}
 use Rattle.tcp_replay.specs.Sound.{IsOwn, IsSoundPair}
+use Rattle.tcp_replay.proofs.Lists.{one_if-most}
+use Rattle.tcp_replay.proofs.Phases.{handshake-knows, handshake-una}
 use Rattle.tcp_replay.proofs.Steps.{Kept, kept-same}
 use Rattle.tcp_replay.proofs.Moves.{kept-alone}
 use Rattle.tcp_replay.proofs.Dues.{if-some-map}
 use Rattle.tcp_replay.proofs.AloneEmissions.{IsSaid, GoesOutAlone, due-alone}
 
 -- an acknowledgement is of the next position
-true-ack : (p q : PartyState) → p.endpoint.receiving.opened ≡ true → IsSoundPair p q → IsTrueAck (witness_of p q) p.endpoint.receiving.next
-true-ack p q opened h = record { opened = opened; position = next_position p; least = omega arith; most = omega arith; number = h.there.takes.next opened }
+true-ack : (p q : PartyState) (ack : ℕ) → p.endpoint.receiving.opened ≡ true → ack ≡ p.endpoint.receiving.next → IsSoundPair p q → IsTrueAck (witness_of p q) ack
+true-ack p q ack opened e h = record { opened = opened; position = next_position p; least = omega arith; most = omega arith; number = e ∙ h.there.takes.next opened }
+
+-- the next position is counted to its end
+pub wanted-is : (p q : PartyState) → IsSoundPair p q → next_wanted p.endpoint.receiving ≡ next_position p
+wanted-is p q h = omega (arith, h.there.takes.order, h.back.alone.sends.limit, one_if-most p.endpoint.receiving.finished)
 
 -- A SYN
 syn-bits : (opened : Bool) → (has syn (syn + (if opened then ack else 0)) ≡ true) × (has fin (syn + (if opened then ack else 0)) ≡ false) × (has ack (syn + (if opened then ack else 0)) ≡ opened)
 syn-bits true = (refl, refl, refl)
 syn-bits false = (refl, refl, refl)
 
-syn-truthful : (p q : PartyState) → IsSoundPair p q → IsTruthful (witness_of p q) (syn_segment p.endpoint)
-syn-truthful p q h =
-    let r = p.endpoint.receiving in
-    let bits = syn-bits r.opened in
+pub syn-of_user : (s : State) (accepted : List ℕ) (closed : Bool) → IsOfUser s.config.isn.0 accepted closed (syn_segment s)
+syn-of_user s accepted closed =
+    let bits = syn-bits s.receiving.opened in
     record {
       position = 0;
       seq = refl;
@@ -45,7 +54,33 @@ syn-truthful p q h =
       fits = λ some. absurd (omega arith);
       text = λ some. refl;
       has_fin = λ told. absurd (false≢true (sym bits.1 ∙ told));
-      has_ack = λ told. let opened : r.opened ≡ true = sym bits.2 ∙ told in subst (λ (b : Bool). IsTrueAck (witness_of p q) (if b then r.next else 0)) (sym opened) (true-ack p q opened h);
+    }
+
+-- it acknowledges once the peer's SYN was taken
+pub syn-opened : (s : State) → has ack (syn_segment s).flags ≡ true → s.receiving.opened ≡ true
+syn-opened s told = sym (syn-bits s.receiving.opened).2 ∙ told
+
+syn-truthful : (p q : PartyState) → IsSoundPair p q → IsTruthful (witness_of p q) (syn_segment p.endpoint)
+syn-truthful p q h = record {
+  own = syn-of_user p.endpoint p.accepted p.closed;
+  has_ack = λ told.
+      let r = p.endpoint.receiving in
+      let opened = syn-opened p.endpoint told in
+      true-ack p q (if r.opened then r.next else 0) opened (ap (λ (b : Bool). if b then r.next else 0) opened) h;
+}
+
+-- at the positions that are kept of it
+syn-stands : (p q : PartyState) → is_handshake p.endpoint.phase ≡ true → IsSoundPair p q
+    → StandsAt (witness_of p q) (syn_segment p.endpoint) (position_of p.endpoint.config.isn.0 p.endpoint.sending.una (syn_segment p.endpoint).seq) (next_wanted p.endpoint.receiving)
+unfolding syn-truthful syn-of_user true-ack
+syn-stands p q handshake h =
+    let s = p.endpoint in
+    let d = s.sending in
+    let first : d.una ≤ 1 = handshake-una s.phase s.ending d.una d.nxt s.receiving.opened s.receiving.finished handshake h.there.alone.sends.order h.there.alone.progress in
+    record {
+      truth = syn-truthful p q h;
+      position_is = sym (position_of_number s.config.isn.0 d.una 0 h.there.alone.config.isn (omega arith) (omega (arith, first)));
+      wanted_is = λ told. sym (wanted-is p q h);
     }
 
 take-own_length : (n : ℕ) (xs : List ℕ) → take n xs ≡ take (length (take n xs)) xs
@@ -59,14 +94,14 @@ plain-bits true false = (refl, refl, refl, refl)
 plain-bits false true = (refl, refl, refl, refl)
 plain-bits false false = (refl, refl, refl, refl)
 
-plain-truthful : (p q : PartyState) (due : Due) → IsSaid p.endpoint p.accepted p.closed due → IsSoundPair p q → IsTruthful (witness_of p q) (plain_segment p.endpoint due)
-plain-truthful p q due said h =
-    let d = p.endpoint.sending in
+pub plain-of_user : (s : State) (accepted : List ℕ) (closed : Bool) (due : Due) → IsSaid s accepted closed due → IsOfUser s.config.isn.0 accepted closed (plain_segment s due)
+plain-of_user s accepted closed due said =
+    let d = s.sending in
     let plain = said.plain in
     let start = start_of d due in
     let bits = plain-bits (pushes d due) (is_fin due) in
-    let count : length (text_of d due) ≡ min (count_of due) (length p.accepted - (start - 1)) =
-    ap length plain.text ∙ length-take (count_of due) (drop (start - 1) p.accepted) ∙ ap (min (count_of due)) (length-drop (start - 1) p.accepted) in
+    let count : length (text_of d due) ≡ min (count_of due) (length accepted - (start - 1)) =
+    ap length plain.text ∙ length-take (count_of due) (drop (start - 1) accepted) ∙ ap (min (count_of due)) (length-drop (start - 1) accepted) in
     record {
       position = start;
       seq = refl;
@@ -74,9 +109,25 @@ plain-truthful p q due said h =
       has_syn = bits.0 ∙ sym (ne_eqb start 0 (λ none. omega (arith, plain.least)));
       bare = λ none. absurd (omega (arith, plain.least));
       fits = λ some. omega (arith, count, plain.least);
-      text = λ some. plain.text ∙ take-own_length (count_of due) (drop (start - 1) p.accepted) ∙ ap (λ xs. take (length xs) (drop (start - 1) p.accepted)) (sym plain.text);
+      text = λ some. plain.text ∙ take-own_length (count_of due) (drop (start - 1) accepted) ∙ ap (λ xs. take (length xs) (drop (start - 1) accepted)) (sym plain.text);
       has_fin = λ told. let last = plain.last (sym bits.1 ∙ told) in (last.0, omega (arith, last.1, last.2, count));
-      has_ack = λ told. true-ack p q said.opened h;
+    }
+
+plain-truthful : (p q : PartyState) (due : Due) → IsSaid p.endpoint p.accepted p.closed due → IsSoundPair p q → IsTruthful (witness_of p q) (plain_segment p.endpoint due)
+plain-truthful p q due said h = record { own = plain-of_user p.endpoint p.accepted p.closed due said; has_ack = λ told. true-ack p q p.endpoint.receiving.next said.opened refl h }
+
+plain-stands : (p q : PartyState) (due : Due) → IsSaid p.endpoint p.accepted p.closed due → IsSoundPair p q
+    → StandsAt (witness_of p q) (plain_segment p.endpoint due) (position_of p.endpoint.config.isn.0 p.endpoint.sending.una (plain_segment p.endpoint due).seq) (next_wanted p.endpoint.receiving)
+unfolding plain-truthful plain-of_user true-ack
+plain-stands p q due said h =
+    let s = p.endpoint in
+    let d = s.sending in
+    let sends = h.there.alone.sends in
+    let plain = said.plain in
+    record {
+      truth = plain-truthful p q due said h;
+      position_is = sym (position_of_number s.config.isn.0 d.una (start_of d due) h.there.alone.config.isn (omega (arith, plain.within, one_if-most p.closed, sends.ahead, sends.released)) (omega (arith, plain.behind)));
+      wanted_is = λ told. sym (wanted-is p q h);
     }
 
 -- WHAT GOES OUT
@@ -84,15 +135,22 @@ pub record GoesOut (p q : PartyState) (due : Due) : Type 0 where
   pub kept : Kept p q (state_after p.endpoint due)
   pub to : (destination_of p.endpoint due).addr.0 ≡ q.endpoint.config.addr.0
   pub valid : IsValid (segment_of p.endpoint due)
-  pub truthful : has rst (segment_of p.endpoint due).flags ≡ false → IsTruthful (witness_of p q) (segment_of p.endpoint due)
+  pub truthful : has rst (segment_of p.endpoint due).flags ≡ false
+      → StandsAt (witness_of p q) (segment_of p.endpoint due) (position_of p.endpoint.config.isn.0 p.endpoint.sending.una (segment_of p.endpoint due).seq) (next_wanted p.endpoint.receiving)
 
-pub own-due : (p q : PartyState) (due : Due) → GoesOut p q due → IsOwn p q (bytes_of p.endpoint due)
+-- the sequence number stands where it is read
+seq-in : (src dst : List ℕ) (v : Content) → IsValid v → v.seq ≡ seq_in (encoded_bytes src dst v)
+seq-in src dst v valid = (IsWire_encoded src dst v valid).header.seq
+
+pub own-due : (p q : PartyState) (due : Due) → GoesOut p q due → IsOwn p q (sent_by p.endpoint (bytes_of p.endpoint due))
 unfolding bytes_of
 own-due p q due h = record {
   content = segment_of p.endpoint due;
   valid = h.valid;
   spelled = ap (λ (addr : List ℕ). encoded_bytes p.endpoint.config.addr.0 addr (segment_of p.endpoint due)) h.to;
-  truthful = h.truthful;
+  truthful = λ plain.
+      subst (λ (n : ℕ). StandsAt (witness_of p q) (segment_of p.endpoint due) (position_of p.endpoint.config.isn.0 p.endpoint.sending.una n) (next_wanted p.endpoint.receiving))
+      (seq-in p.endpoint.config.addr.0 (destination_of p.endpoint due).addr.0 (segment_of p.endpoint due) h.valid) (h.truthful plain);
 }
 
 -- it is read again
@@ -110,7 +168,7 @@ kept-out : (p q : PartyState) (due : Due) → GoesOutAlone p.endpoint p.accepted
 kept-out p q due out reset h =
     kept-alone p q p.endpoint (state_after p.endpoint due) (kept-same p q h) refl out.alone (record { peer = h.there.speaks.peer; reset = reset }) refl refl h.there.between
 
-reset-bit : (told : Bool) → has rst (rst + (if told then ack else 0)) ≡ true
+pub reset-bit : (told : Bool) → has rst (rst + (if told then ack else 0)) ≡ true
 reset-bit true = refl
 reset-bit false = refl
 
@@ -119,7 +177,7 @@ goes-plain p q due out said h = record {
   kept = kept-out p q due out (rw said.common.reset h.there.speaks.reset) h;
   to = ap (λ peer. peer.addr.0) said.common.to ∙ h.there.speaks.peer said.knows;
   valid = out.valid;
-  truthful = λ _. rw said.common.segment (plain-truthful p q due said h);
+  truthful = λ _. rw said.common.segment (plain-stands p q due said h);
 }
 
 reset-to : (waiting : Option WaitingReset) (reset : WaitingReset) (addr : List ℕ) → waiting ≡ Some reset → IfSome waiting (λ r. r.to.addr.0 ≡ addr) → reset.to.addr.0 ≡ addr
@@ -136,9 +194,9 @@ goes-out p q (Reset reset) h out = record {
 }
 goes-out p q Syn h out = record {
   kept = kept-out p q Syn out h.there.speaks.reset h;
-  to = h.there.speaks.peer out.kind;
+  to = h.there.speaks.peer (handshake-knows p.endpoint.phase out.kind);
   valid = out.valid;
-  truthful = λ _. syn-truthful p q h;
+  truthful = λ _. syn-stands p q out.kind h;
 }
 goes-out p q (Resend start count) h out = goes-plain p q (Resend start count) out out.kind h
 goes-out p q (NewText start count) h out = goes-plain p q (NewText start count) out out.kind h

@@ -9,6 +9,7 @@ use Rattle.tcp_reasm.specs.Reassembly.{after_place, place_answer, with_ranks, af
 use Rattle.tcp_conn.specs.declared.config.Config.{Config}
 use Rattle.tcp_conn.specs.declared.phase.Ending.TheVariants.{Orderly}
 use Rattle.tcp_conn.specs.declared.phase.Timer.TheVariants.{TimeWait}
+use Rattle.tcp_conn.specs.Config.{default_limit}
 use Rattle.tcp_conn.specs.Acceptable.{is_acceptable}
 use Rattle.tcp_conn.specs.Options.{link_of}
 use Rattle.tcp_conn.specs.Sender.{after_ack, after_window_update}
@@ -27,10 +28,10 @@ use Rattle.tcp_replay.specs.Events.{EventContent, Connect, Listen, Send, Receive
 use Rattle.tcp_replay.specs.World.{WorldState, new_world, party_after_connect, party_after_listen, party_after_send, party_after_receive, party_after_close, party_after_timer, party_after_emission, party_after_arrival, effect_of, world_after_all, stop_of}
 
 unfoldable pub a : Config
-a = record { addr = record { 0 = 10 ∷ 0 ∷ 0 ∷ 1 ∷ [] }; port = 1; isn = record { 0 = 1000 }; mss = 1460; send_capacity = 40; recv_capacity = 40; window_shift = None; sack = true }
+a = record { addr = record { 0 = 10 ∷ 0 ∷ 0 ∷ 1 ∷ [] }; port = 1; isn = record { 0 = 1000 }; mss = 1460; send_capacity = 40; recv_capacity = 40; window_shift = None; sack = true; limit = default_limit }
 
 unfoldable pub b : Config
-b = record { addr = record { 0 = 10 ∷ 0 ∷ 0 ∷ 2 ∷ [] }; port = 2; isn = record { 0 = 5000 }; mss = 1460; send_capacity = 40; recv_capacity = 40; window_shift = None; sack = true }
+b = record { addr = record { 0 = 10 ∷ 0 ∷ 0 ∷ 2 ∷ [] }; port = 2; isn = record { 0 = 5000 }; mss = 1460; send_capacity = 40; recv_capacity = 40; window_shift = None; sack = true; limit = default_limit }
 
 handshake : List EventContent
 handshake = Listen B ∷ Connect A ∷ Emit A ∷ Deliver A 0 ∷ Emit B ∷ Deliver B 0 ∷ Emit A ∷ Deliver A 1 ∷ []

@@ -13,7 +13,8 @@ use Rattle.tcp_reasm.proofs.Agreement.{after_read-agrees, without_held-agrees, e
 use Rattle.std.specs.declared.ops.Range.{Range}
 use Rattle.tcp_conn.specs.State.{Sending, Receiving}
 use Rattle.tcp_conn.specs.Receiver.{max_ordered, with_inbox, with_fin, with_syn, after_handing, without_bytes}
-use Rattle.tcp_conn.specs.Sender.{stream_limit, count_sendable, with_text, with_syn_sent, with_acked, count_below, without_text}
+use Rattle.tcp_conn.specs.Config.{stream_limit}
+use Rattle.tcp_conn.specs.Sender.{count_sendable, with_text, with_syn_sent, with_acked, count_below, without_text}
 use Rattle.tcp_replay.specs.Alone.{Sends}
 use Rattle.tcp_replay.specs.Sound.{Takes, HandsOver}
 use Rattle.tcp_replay.proofs.Lists.{one_if, one_if-false, AreBytes-append, AreBytes-take, Agrees-more, take-none, take-further, front-is, nothing-follows}
@@ -25,34 +26,43 @@ range-more m n None more h = tt
 range-more m n (Some range) more h = omega arith
 
 -- the queue takes the whole front that the direction takes
-count_sendable-room : (s : Sending) (text : List ℕ) → length (take (count_sendable s text) text) ≤ queues.count_taken s.queue (take (count_sendable s text) text)
-count_sendable-room s text = omega (arith, length-take (count_sendable s text) text)
+count_sendable-room : (s : Sending) (limit : ℕ) (text : List ℕ) → length (take (count_sendable s limit text) text) ≤ queues.count_taken s.queue (take (count_sendable s limit text) text)
+count_sendable-room s limit text = omega (arith, length-take (count_sendable s limit text) text)
 
-with_text-queue : (s : Sending) (text : List ℕ) → (with_text s text).queue.bytes ≡ s.queue.bytes ++ take (count_sendable s text) text
-with_text-queue s text =
-    ap (λ more. s.queue.bytes ++ more) (take_all (queues.count_taken s.queue (take (count_sendable s text) text)) (take (count_sendable s text) text) (count_sendable-room s text))
+with_text-queue : (s : Sending) (limit : ℕ) (text : List ℕ) → (with_text s limit text).queue.bytes ≡ s.queue.bytes ++ take (count_sendable s limit text) text
+with_text-queue s limit text =
+    ap (λ more. s.queue.bytes ++ more) (take_all (queues.count_taken s.queue (take (count_sendable s limit text) text)) (take (count_sendable s limit text) text) (count_sendable-room s limit text))
 
-with_text-flags : (s : Sending) (text : List ℕ) → length s.queue.marks ≡ length s.queue.bytes → length (with_text s text).queue.marks ≡ length (with_text s text).queue.bytes
-with_text-flags s text h =
-    let taken = take (count_sendable s text) text in
+with_text-flags : (s : Sending) (limit : ℕ) (text : List ℕ) → length s.queue.marks ≡ length s.queue.bytes → length (with_text s limit text).queue.marks ≡ length (with_text s limit text).queue.bytes
+with_text-flags s limit text h =
+    let taken = take (count_sendable s limit text) text in
     let n = queues.count_taken s.queue taken in
     omega (arith, h, length-append s.queue.marks (replicate n false), length-replicate n false, length-append s.queue.bytes (take n taken), length-take n taken)
 
--- more text is accepted
-pub sends-more : (s : Sending) (accepted text : List ℕ) → AreBytes text → Sends s accepted false false → Sends (with_text s text) (accepted ++ take (count_sendable s text) text) false false
-sends-more s accepted text bytes h =
-    let more = take (count_sendable s text) text in
+-- more text is accepted, up to the limit
+pub accepted-limit : (s : Sending) (limit : ℕ) (accepted text : List ℕ) → length accepted ≤ limit → Sends s accepted false false → length (accepted ++ take (count_sendable s limit text) text) ≤ limit
+accepted-limit s limit accepted text within h =
+    let inside : s.released ≤ length accepted = omega (arith, h.released) in
+    let count : length s.queue.bytes ≡ length accepted - s.released = ap length (h.queue refl) ∙ length-drop s.released accepted in
+    omega (arith, within, inside, count, length-append accepted (take (count_sendable s limit text) text), length-take (count_sendable s limit text) text)
+
+pub sends-more : (s : Sending) (limit : ℕ) (accepted text : List ℕ) → limit ≤ stream_limit → AreBytes text → Sends s accepted false false
+    → Sends (with_text s limit text) (accepted ++ take (count_sendable s limit text) text) false false
+sends-more s limit accepted text most bytes h =
+    let more = take (count_sendable s limit text) text in
     let longer : length (accepted ++ more) ≡ length accepted + length more = length-append accepted more in
     let inside : s.released ≤ length accepted = omega (arith, h.released) in
     let count : length s.queue.bytes ≡ length accepted - s.released = ap length (h.queue refl) ∙ length-drop s.released accepted in
     record {
       order = h.order;
       most = omega (arith, h.most, longer);
-      limit = omega (arith, h.limit, inside, longer, count, length-take (count_sendable s text) text);
-      bytes = AreBytes-append accepted more h.bytes (AreBytes-take (count_sendable s text) text bytes);
+      limit = omega (arith, h.limit, inside, longer, count, length-take (count_sendable s limit text) text, most);
+      capacity = h.capacity;
+      ahead = omega (arith, h.ahead, h.capacity, inside, longer, count, length-take (count_sendable s limit text) text);
+      bytes = AreBytes-append accepted more h.bytes (AreBytes-take (count_sendable s limit text) text bytes);
       released = omega (arith, h.released, h.order, h.most, longer);
-      queue = λ _. with_text-queue s text ∙ ap (λ kept. kept ++ more) (h.queue refl) ∙ sym (drop-append-le s.released accepted more inside);
-      flags = with_text-flags s text h.flags;
+      queue = λ _. with_text-queue s limit text ∙ ap (λ kept. kept ++ more) (h.queue refl) ∙ sym (drop-append-le s.released accepted more inside);
+      flags = with_text-flags s limit text h.flags;
       range = range-more (max s.nxt (1 + length accepted)) (max s.nxt (1 + length (accepted ++ more))) s.resend (omega (arith, longer)) h.range;
     }
 
@@ -62,6 +72,8 @@ sends-syn s accepted closed gone none h = record {
   order = omega arith;
   most = omega arith;
   limit = h.limit;
+  capacity = h.capacity;
+  ahead = h.ahead;
   bytes = h.bytes;
   released = omega (arith, h.released, h.order);
   queue = h.queue;
@@ -76,6 +88,8 @@ sends-syn_acked s accepted closed gone wnd wl1 wl2 one h = record {
   order = omega arith;
   most = h.most;
   limit = h.limit;
+  capacity = h.capacity;
+  ahead = h.ahead;
   bytes = h.bytes;
   released = omega (arith, h.released, h.order);
   queue = h.queue;
@@ -86,7 +100,7 @@ sends-syn_acked s accepted closed gone wnd wl1 wl2 one h = record {
 -- a close: the FIN may follow
 pub sends-closed : (s : Sending) (accepted : List ℕ) (closed gone : Bool) → Sends s accepted closed gone → Sends s accepted true gone
 sends-closed s accepted true gone h = h
-sends-closed s accepted false gone h = record { order = h.order; most = omega (arith, h.most); limit = h.limit; bytes = h.bytes; released = h.released; queue = h.queue; flags = h.flags; range = h.range }
+sends-closed s accepted false gone h = record { order = h.order; most = omega (arith, h.most); limit = h.limit; capacity = h.capacity; ahead = h.ahead; bytes = h.bytes; released = h.released; queue = h.queue; flags = h.flags; range = h.range }
 
 -- a position that was sent is acknowledged, and the text below it released
 pub sends-acked : (s : Sending) (accepted : List ℕ) (closed : Bool) (a : ℕ) → s.una < a → a ≤ s.nxt → Sends s accepted closed false → Sends (with_acked s a) accepted closed false
@@ -97,6 +111,8 @@ sends-acked s accepted closed a new sent h =
       order = sent;
       most = h.most;
       limit = h.limit;
+      capacity = h.capacity;
+      ahead = omega (arith, h.ahead);
       bytes = h.bytes;
       released = omega (arith, h.released, count, inside, new);
       queue = λ _. ap (drop (count_below s a)) (h.queue refl) ∙ drop-drop (count_below s a) s.released accepted;
@@ -110,6 +126,8 @@ sends-given_up s accepted closed gone h = record {
   order = h.order;
   most = h.most;
   limit = h.limit;
+  capacity = h.capacity;
+  ahead = h.ahead;
   bytes = h.bytes;
   released = h.released;
   queue = λ never. absurd (cc);
@@ -121,7 +139,7 @@ sends-given_up s accepted closed gone h = record {
 pub sends-sent : (s : Sending) (accepted : List ℕ) (closed gone : Bool) (n : ℕ) (resend : Option (Range ℕ)) → s.nxt ≤ n → n ≤ 1 + length accepted + (if closed then 1 else 0)
     → IfSome resend (λ r. r.end ≤ max n (1 + length accepted)) → Sends s accepted closed gone → Sends (record s { nxt = n; resend = resend }) accepted closed gone
 sends-sent s accepted closed gone n resend further within range h =
-    record { order = omega (arith, h.order); most = within; limit = h.limit; bytes = h.bytes; released = h.released; queue = h.queue; flags = h.flags; range = range }
+    record { order = omega (arith, h.order); most = within; limit = h.limit; capacity = h.capacity; ahead = h.ahead; bytes = h.bytes; released = h.released; queue = h.queue; flags = h.flags; range = range }
 
 -- THE HALF THAT RECEIVES. More is accepted at the other end, or it closes.
 same-accepted : (accepted more : List ℕ) (closed closed' : Bool) → (closed ≡ true → (more ≡ []) × (closed' ≡ true)) → closed ≡ true → accepted ≡ accepted ++ more

@@ -27,9 +27,9 @@ use Rattle.tcp_conn.specs.Due.{is_fin, due_of}
 use Rattle.tcp_conn.specs.Forms.{pushes, plain_segment, shift_offered, is_sack_offered, scale_options, permission_options, segment_of}
 use Rattle.tcp_conn.specs.Emission.{after_due, after_emission}
 use Rattle.tcp_replay.specs.World.{PartyState, address_of}
-use Rattle.tcp_replay.specs.Truthful.{IsTrueBlock, AreTrueBlocks, HasTrueBlocks}
+use Rattle.tcp_replay.specs.Truthful.{IsTrueBlock}
 use Rattle.tcp_replay.specs.Safe.{witness_of, next_position}
-use Rattle.tcp_replay.specs.Sound.{IsSoundPair}
+use Rattle.tcp_replay.specs.Sound.{IsSoundPair, IsBlockBehind, AreBlocksBehind}
 use Rattle.tcp_replay.proofs.Positions.{number-further}
 use Rattle.tcp_replay.proofs.Phases.{gives_up-not_ended, at-synchronized, time_wait-synchronized}
 use Rattle.tcp_replay.proofs.AloneCalls.{unless-kept}
@@ -52,7 +52,7 @@ pub keeps-sent : (p q : PartyState) (text : List ℕ) → Keeps p q p.endpoint �
 unfolding after_send
 keeps-sent p q text h =
     unless-kept (Keeps p q) (send_refusal p.endpoint text) p.endpoint _ h
-    (λ _. keeps-sending p q p.endpoint (with_text p.endpoint.sending text) (marks-text p.endpoint.sending q.endpoint.receiving text) h)
+    (λ _. keeps-sending p q p.endpoint (with_text p.endpoint.sending p.endpoint.config.limit text) (marks-text p.endpoint.sending q.endpoint.receiving p.endpoint.config.limit text) h)
 
 pub keeps-received : (p q : PartyState) (room : ℕ) → Keeps p q p.endpoint → Keeps p q (after_receive p.endpoint room)
 unfolding after_receive
@@ -161,11 +161,12 @@ cell-held (place ∷ held) (suc k) h = cell-held held k h
 
 -- a maximal run of held places is of positions that the end has
 block-true : (p q : PartyState) (run : Run) → p.endpoint.receiving.next ≡ number q.endpoint.config.isn.0 (next_position p) → IsMaximal p.endpoint.receiving.inbox.held run
-    → IsTrueBlock (witness_of p q) (block_numbers p.endpoint.receiving.next (run.from, run.to))
+    → IsBlockBehind (witness_of p q) (next_position p) (block_numbers p.endpoint.receiving.next (run.from, run.to))
 block-true p q run next is =
     let irs = q.endpoint.config.isn.0 in
     let n = next_position p in
-    let held = p.endpoint.receiving.inbox.held in (
+    let held = p.endpoint.receiving.inbox.held in
+    let block : IsTrueBlock (witness_of p q) (block_numbers p.endpoint.receiving.next (run.from, run.to)) = (
       n + run.from,
       n + run.to,
       omega (arith, is.some),
@@ -174,20 +175,21 @@ block-true p q run next is =
       λ position from to.
           let cell = cell-held held (position - n) (is.inside (position - n) (omega arith) (omega arith)) in
           inr (cell.0, omega arith, cell.1),
-    )
+    ) in
+    (block, omega arith)
 
-reported-true : (p q : PartyState) → p.endpoint.receiving.opened ≡ true → IsSoundPair p q → AreTrueBlocks (witness_of p q) (blocks_to_report p.endpoint)
+reported-true : (p q : PartyState) → p.endpoint.receiving.opened ≡ true → IsSoundPair p q → AreBlocksBehind (witness_of p q) (next_position p) (blocks_to_report p.endpoint)
 unfolding blocks
 reported-true p q opened h =
     let r = p.endpoint.receiving in
-    let P : ℕ × ℕ → Type 0 = IsTrueBlock (witness_of p q) in
+    let P : ℕ × ℕ → Type 0 = IsBlockBehind (witness_of p q) (next_position p) in
     let Q : Run → Type 0 = λ run. P (block_numbers r.next (run.from, run.to)) in
     let all = runs_newest_first (runs r.inbox.held) in
     let newest = all-newest_first (IsMaximal r.inbox.held) (runs r.inbox.held) (runs_are_maximal_lem r.inbox.held) in
     let true_ones : AllByRecursion Q all = all-further (IsMaximal r.inbox.held) Q all (λ run is. block-true p q run (h.there.takes.next opened) is) newest in
     let told : AllByRecursion P (map (block_numbers r.next) (blocks r.inbox)) =
     all-map (block_numbers r.next) P (blocks r.inbox) (all-map (λ (run : Run). (run.from, run.to)) (λ block. P (block_numbers r.next block)) (take max_blocks all) (all-take Q max_blocks all true_ones)) in
-    cond_both p.endpoint.link.sack (map (block_numbers r.next) (blocks r.inbox)) [] (λ (list : List (ℕ × ℕ)). AreTrueBlocks (witness_of p q) list)
+    cond_both p.endpoint.link.sack (map (block_numbers r.next) (blocks r.inbox)) [] (λ (list : List (ℕ × ℕ)). AreBlocksBehind (witness_of p q) (next_position p) list)
     (λ _ k block e. all-at P (map (block_numbers r.next) (blocks r.inbox)) k block told e)
     (λ _ k block e. absurd (cc))
 
@@ -202,24 +204,25 @@ blocks-of_sack : (list : List (ℕ × ℕ)) → reported_blocks (sack_options li
 blocks-of_sack [] = refl
 blocks-of_sack (block ∷ list) = append-nil (block ∷ list)
 
-none-true : (p q : PartyState) (list : List (ℕ × ℕ)) → list ≡ [] → AreTrueBlocks (witness_of p q) list
+none-true : (p q : PartyState) (list : List (ℕ × ℕ)) → list ≡ [] → AreBlocksBehind (witness_of p q) (next_position p) list
 none-true p q list e k block is = let never : slice_get {X = ℕ × ℕ} [] k ≡ Some block = subst (λ (list : List (ℕ × ℕ)). slice_get list k ≡ Some block) e is in absurd (cc)
 
 -- an end that reports blocks has taken the peer's SYN
-plain-reports : (p q : PartyState) (due : Due) → segment_of p.endpoint due ≡ plain_segment p.endpoint due → IsSoundPair p q → GoesOut p q due → HasTrueBlocks (witness_of p q) (segment_of p.endpoint due)
-plain-reports p q due is h goes stays =
+plain-reports : (p q : PartyState) (due : Due) → segment_of p.endpoint due ≡ plain_segment p.endpoint due → IsSoundPair p q → GoesOut p q due
+    → AreBlocksBehind (witness_of p q) (next_position p) (reported_blocks (segment_of p.endpoint due).options)
+plain-reports p q due is h goes =
     let s = p.endpoint in
     let bits = plain-bits (pushes s.sending due) (is_fin due) in
-    let opened = ((goes.truthful (ap (λ (v : Content). has rst v.flags) is ∙ bits.2)).has_ack (ap (λ (v : Content). has ack v.flags) is ∙ bits.3)).opened in
+    let opened = ((goes.truthful (ap (λ (v : Content). has rst v.flags) is ∙ bits.2)).truth.has_ack (ap (λ (v : Content). has ack v.flags) is ∙ bits.3)).opened in
     let list : reported_blocks (segment_of s due).options ≡ blocks_to_report s = ap (λ (v : Content). reported_blocks v.options) is ∙ blocks-of_sack (blocks_to_report s) in
     rw list (reported-true p q opened h)
 
-pub blocks-of_due : (p q : PartyState) (due : Due) → IsSoundPair p q → GoesOut p q due → HasTrueBlocks (witness_of p q) (segment_of p.endpoint due)
+pub blocks-of_due : (p q : PartyState) (due : Due) → IsSoundPair p q → GoesOut p q due → AreBlocksBehind (witness_of p q) (next_position p) (reported_blocks (segment_of p.endpoint due).options)
 unfolding segment_of
-blocks-of_due p q (Reset reset) h goes stays = none-true p q [] refl
-blocks-of_due p q Syn h goes stays = none-true p q _ (blocks-of_syn p.endpoint.config.mss (shift_offered p.endpoint) (is_sack_offered p.endpoint))
-blocks-of_due p q (Resend start count) h goes stays = plain-reports p q (Resend start count) refl h goes stays
-blocks-of_due p q (NewText start count) h goes stays = plain-reports p q (NewText start count) refl h goes stays
-blocks-of_due p q (Fin start) h goes stays = plain-reports p q (Fin start) refl h goes stays
-blocks-of_due p q (ResentFin start) h goes stays = plain-reports p q (ResentFin start) refl h goes stays
-blocks-of_due p q Acknowledgement h goes stays = plain-reports p q Acknowledgement refl h goes stays
+blocks-of_due p q (Reset reset) h goes = none-true p q [] refl
+blocks-of_due p q Syn h goes = none-true p q _ (blocks-of_syn p.endpoint.config.mss (shift_offered p.endpoint) (is_sack_offered p.endpoint))
+blocks-of_due p q (Resend start count) h goes = plain-reports p q (Resend start count) refl h goes
+blocks-of_due p q (NewText start count) h goes = plain-reports p q (NewText start count) refl h goes
+blocks-of_due p q (Fin start) h goes = plain-reports p q (Fin start) refl h goes
+blocks-of_due p q (ResentFin start) h goes = plain-reports p q (ResentFin start) refl h goes
+blocks-of_due p q Acknowledgement h goes = plain-reports p q Acknowledgement refl h goes

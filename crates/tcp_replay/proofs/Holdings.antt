@@ -9,7 +9,7 @@ use Rattle.tcp_reasm.specs.Agreement.{Agrees, Advances}
 use Rattle.tcp_reasm.specs.Laws.{byte_of, byte_at, KeepsBytes}
 use Rattle.tcp_conn.specs.State.{Receiving}
 use Rattle.tcp_conn.specs.Receiver.{max_ordered, with_inbox, with_fin, after_handing}
-use Rattle.tcp_conn.specs.Sender.{stream_limit}
+use Rattle.tcp_conn.specs.Config.{stream_limit}
 use Rattle.tcp_replay.proofs.Lists.{one_if, one_if-false, one_if-most}
 use Rattle.tcp_replay.proofs.Moves.{next_of}
 

@@ -27,6 +27,11 @@ pub record IsAckOnly (v : Content) : Type 0 where
   pub plain : has rst v.flags ≡ false
   pub is_ack : has ack v.flags ≡ true
 
+-- one that is taken whole is acceptable too
+pub record IsTaken (s : State) (v : Content) : Type 0 where
+  pub ack_only : IsAckOnly v
+  pub acceptable : is_acceptable_segment s v ≡ true
+
 -- something holds under each judgement, where it is passed
 pub record Cases (s : State) (v : Content) (P : Judgement → Type 0) : Type 0 where
   pub foreign : P Foreign
@@ -46,7 +51,7 @@ pub record Cases (s : State) (v : Content) (P : Judgement → Type 0) : Type 0 w
   pub acks_unsent : IsPresent s → P AcksUnsent
   pub handshake_refused : P HandshakeRefused
   pub handshake_refused_shut : IsPresent s → P HandshakeRefusedShut
-  pub taken : IsPresent s → IsAckOnly v → P Taken
+  pub taken : IsPresent s → IsTaken s v → P Taken
   pub taken_shut : IsPresent s → IsAckOnly v → P TakenShut
 
 module _ (s : State) (v : Content) (P : Judgement → Type 0) (c : Cases s v P) where
@@ -91,22 +96,22 @@ module _ (s : State) (v : Content) (P : Judgement → Type 0) (c : Cases s v P) 
       by-ack TakenShut HandshakeRefusedShut present (c.taken_shut present (record { plain = plain; is_ack = told.0 })) (c.handshake_refused_shut present))
       (λ _. c.unacceptable present))
 
-  in-acceptable : IsPresent s → P (acceptable_judgement s v)
+  in-acceptable : IsPresent s → is_acceptable_segment s v ≡ true → P (acceptable_judgement s v)
   unfolding acceptable_judgement
-  in-acceptable present =
+  in-acceptable present fits =
       let resets = if v.seq == s.receiving.next then PeerResets else ResetElsewhere in
       let acks = ack_judgement s v Taken HandshakeRefused in
       cond_both (has rst v.flags) resets (if has syn v.flags then SynInWindow else (if not (has ack v.flags) then NoAck else acks)) P
       (λ _. cond_both (v.seq == s.receiving.next) PeerResets ResetElsewhere P (λ _. c.peer_resets) (λ _. c.reset_elsewhere present))
       (λ plain. cond_both (has syn v.flags) SynInWindow (if not (has ack v.flags) then NoAck else acks) P (λ _. c.syn_in_window present)
       (λ _. cond_both (not (has ack v.flags)) NoAck acks P (λ _. c.no_ack)
-      (λ told. by-ack Taken HandshakeRefused present (c.taken present (record { plain = plain; is_ack = not-false (has ack v.flags) told })) c.handshake_refused)))
+      (λ told. by-ack Taken HandshakeRefused present (c.taken present (record { ack_only = record { plain = plain; is_ack = not-false (has ack v.flags) told }; acceptable = fits })) c.handshake_refused)))
 
   in-present : IsPresent s → P (present_judgement s v)
   unfolding present_judgement
-  in-present present = cond_both (is_acceptable_segment s v) (acceptable_judgement s v) (unacceptable_judgement s v) P (λ _. in-acceptable present) (λ _. in-unacceptable present)
+  in-present present = cond_both (is_acceptable_segment s v) (acceptable_judgement s v) (unacceptable_judgement s v) P (in-acceptable present) (λ _. in-unacceptable present)
 
-  in-phase : P (phase_judgement s v)
+  pub in-phase : P (phase_judgement s v)
   unfolding phase_judgement
   in-phase =
       let opens = if is_syn_sent s.phase then syn_sent_judgement s v else present_judgement s v in

@@ -4,6 +4,7 @@ pub mod Halves
 pub mod Truths
 pub mod Steps
 pub mod Phases
+pub mod Feeds
 pub mod Alone
 pub mod Moves
 pub mod Judgements
@@ -12,10 +13,12 @@ pub mod Stages
 pub mod AloneArrivals
 pub mod Arrivals
 pub mod AloneCalls
+pub mod AloneFeeds
 pub mod Users
 pub mod Dues
 pub mod AloneEmissions
 pub mod Emissions
+pub mod SoloRuns
 pub mod Deliveries
 pub mod Worlds
 pub mod Parties
@@ -25,5 +28,7 @@ pub mod Hints
 pub mod HintEvents
 pub mod HintWorlds
 pub mod Runs
+pub mod SoloLogs
+pub mod Lifetimes
 pub mod Sounds
 pub mod Examples

@@ -1,6 +1,6 @@
 -- Cases by a test, prefixes of lists, and bytes.
 use Rattle.std.proofs.Common.{◌≡◌, ℕ, zero, suc, ◌+◌, ◌-◌, ◌≤◌, List, [], ◌∷◌, ◌++◌, length, take, drop, refl, sym, ◌∙◌, ap, ⊎_elim, arith, length-append, length-take}
-use Rattle.std.specs.Prelude.{Bool, true, false, if◌then◌else◌, Option, Some, None}
+use Rattle.std.specs.Prelude.{Bool, true, false, ◌&&◌, ◌||◌, if◌then◌else◌, Option, Some, None}
 use Rattle.std.proofs.lemmas.List.{nil_from_length, get_or-take, get_or-drop, get_or_past, get_or_append_left, get_or-append_right}
 use Rattle.std.proofs.lemmas.Bool.{cases_lt}
 use Rattle.tcp_wire.specs.Checksum.{AreBytes}
@@ -22,6 +22,15 @@ one_if-false b e = rw e refl
 pub one_if-most : (b : Bool) → one_if b ≤ 1
 one_if-most true = omega arith
 one_if-most false = omega arith
+
+-- where both of two tests, or either, fails
+pub and-fails : (a b : Bool) → (a && b) ≡ false → a ≡ true → b ≡ false
+and-fails true b e holds = e
+and-fails false b e holds = absurd (cc)
+
+pub or-fails : (a b : Bool) → (a || b) ≡ false → (a ≡ false) × (b ≡ false)
+or-fails true b e = absurd (cc)
+or-fails false b e = (refl, e)
 
 -- bytes in front of bytes
 pub AreBytes-append : (xs ys : List ℕ) → AreBytes xs → AreBytes ys → AreBytes (xs ++ ys)

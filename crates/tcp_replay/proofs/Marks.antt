@@ -8,9 +8,11 @@ use Rattle.tcp_wire.proofs.Lemmas.{position_of_number}
 use Rattle.tcp_sendq.specs.SendQueue.{Queue, IsMarked, marks_with, can_mark, after_mark, without_marks}
 use Rattle.tcp_sendq.proofs.Places.{marks_with-only, IsMarked-without_marks, IsMarked-after_release, IsMarked-after_offer}
 use Rattle.tcp_conn.specs.State.{Sending, Receiving, place_of, position_at}
-use Rattle.tcp_conn.specs.Sender.{stream_limit, with_text, count_below, acks_more, with_acked, after_ack, is_newer, with_window, after_window_update, without_text}
+use Rattle.tcp_sendq.specs.SendQueue.{max_capacity}
+use Rattle.tcp_conn.specs.Sender.{with_text, count_below, acks_more, with_acked, after_ack, is_newer, with_window, after_window_update, without_text}
 use Rattle.tcp_conn.specs.Blocks.{is_of_flight, marks_text, with_marks, after_block, after_blocks}
-use Rattle.tcp_replay.specs.Truthful.{Witness, HasPosition, IsTrueBlock, AreTrueBlocks}
+use Rattle.tcp_replay.specs.Truthful.{Witness, HasPosition}
+use Rattle.tcp_replay.specs.Sound.{IsBlockBehind, AreBlocksBehind}
 use Rattle.tcp_replay.specs.Alone.{Sends}
 use Rattle.tcp_replay.proofs.Holdings.{Has, HasMore}
 use Rattle.tcp_replay.proofs.AloneStages.{same-marks}
@@ -33,8 +35,8 @@ unfolding after_ack
 marks-after_ack d r a h = cond_both (acks_more d a) (with_acked d a) d (λ (x : Sending). AreTrueMarks x r) (λ _. marks-acked d r a h) (λ _. h)
 
 -- what is offered isn't marked
-pub marks-text : (d : Sending) (r : Receiving) (text : List ℕ) → AreTrueMarks d r → AreTrueMarks (with_text d text) r
-marks-text d r text h place is = h place (IsMarked-after_offer d.queue _ place is)
+pub marks-text : (d : Sending) (r : Receiving) (limit : ℕ) (text : List ℕ) → AreTrueMarks d r → AreTrueMarks (with_text d limit text) r
+marks-text d r limit text h place is = h place (IsMarked-after_offer d.queue _ place is)
 
 -- nothing is, after a timeout or a reset
 pub marks-none : (d d' : Sending) (r : Receiving) → d'.queue ≡ without_marks d.queue → AreTrueMarks d' r
@@ -67,25 +69,27 @@ marks-block d r left right low flags has h =
     (λ _. h)
 
 -- edges are read near SND.UNA
-block-positions : (x : Witness) (una : ℕ) (block : ℕ × ℕ) → x.irs < 2 ^ 32 → una ≤ 2 + stream_limit → ((n : ℕ) → HasPosition x n → n ≤ 1 + stream_limit) → IsTrueBlock x block
+block-positions : (x : Witness) (una wanted most : ℕ) (block : ℕ × ℕ) → x.irs < 2 ^ 32 → una ≤ wanted + 2 ^ 31 → most ≤ una + max_capacity → ((n : ℕ) → HasPosition x n → n ≤ 1 + most) → IsBlockBehind x wanted block
     → (n : ℕ) → position_of x.irs una block.0 ≤ n → n < position_of x.irs una block.1 → HasPosition x n
-block-positions x una block fits low small h n from to =
+block-positions x una wanted most block fits low close small behind n from to =
+    let h = behind.0 in
+    let least : wanted ≤ h.0 = behind.1 in
     let first = h.0 in
     let last = h.1 in
-    let few : first ≤ 1 + stream_limit = small first (h.5 first (omega arith) h.2) in
-    let many : last - 1 ≤ 1 + stream_limit = small (last - 1) (h.5 (last - 1) (omega (arith, h.2)) (omega (arith, h.2))) in
-    let left : position_of x.irs una block.0 ≡ first = ap (position_of x.irs una) h.3 ∙ position_of_number x.irs una first fits (omega arith) (omega arith) in
-    let right : position_of x.irs una block.1 ≡ last = ap (position_of x.irs una) h.4 ∙ position_of_number x.irs una last fits (omega arith) (omega arith) in
+    let few : first ≤ 1 + most = small first (h.5 first (omega arith) h.2) in
+    let many : last - 1 ≤ 1 + most = small (last - 1) (h.5 (last - 1) (omega (arith, h.2)) (omega (arith, h.2))) in
+    let left : position_of x.irs una block.0 ≡ first = ap (position_of x.irs una) h.3 ∙ position_of_number x.irs una first fits (omega arith) (omega (arith, least)) in
+    let right : position_of x.irs una block.1 ≡ last = ap (position_of x.irs una) h.4 ∙ position_of_number x.irs una last fits (omega arith) (omega (arith, least, h.2)) in
     h.5 n (omega (arith, left)) (omega (arith, right))
 
 -- the blocks of a segment in turn
-pub marks-blocks : (x : Witness) (r : Receiving) (d : Sending) (blocks : List (ℕ × ℕ)) (accepted : List ℕ) (closed gone : Bool) → x.irs < 2 ^ 32 → d.una ≤ 2 + stream_limit → 1 ≤ d.una
-    → ((n : ℕ) → HasPosition x n → n ≤ 1 + stream_limit) → ((n : ℕ) → HasPosition x n → Has r n) → AreTrueBlocks x blocks → Sends d accepted closed gone → AreTrueMarks d r → AreTrueMarks (after_blocks x.irs d blocks) r
-marks-blocks x r d [] accepted closed gone fits low least small has true_ones sends h = h
-marks-blocks x r d (block ∷ blocks) accepted closed gone fits low least small has true_ones sends h =
+pub marks-blocks : (x : Witness) (r : Receiving) (d : Sending) (wanted : ℕ) (blocks : List (ℕ × ℕ)) (accepted : List ℕ) (closed gone : Bool) → x.irs < 2 ^ 32 → d.una ≤ wanted + 2 ^ 31 → 1 ≤ d.una
+    → ((n : ℕ) → HasPosition x n → n ≤ 1 + length accepted) → ((n : ℕ) → HasPosition x n → Has r n) → AreBlocksBehind x wanted blocks → Sends d accepted closed gone → AreTrueMarks d r → AreTrueMarks (after_blocks x.irs d blocks) r
+marks-blocks x r d wanted [] accepted closed gone fits low least small has true_ones sends h = h
+marks-blocks x r d wanted (block ∷ blocks) accepted closed gone fits low least small has true_ones sends h =
     let left = position_of x.irs d.una block.0 in
     let right = position_of x.irs d.una block.1 in
     let first = same-marks d left right accepted closed gone sends in
-    let all = block-positions x d.una block fits low small (true_ones 0 block refl) in
-    marks-blocks x r (after_block d left right) blocks accepted closed gone fits (omega (arith, first.una)) (omega (arith, first.una)) small has (λ k other is. true_ones (suc k) other is) first.sends
+    let all = block-positions x d.una wanted (length accepted) block fits low (omega (arith, sends.ahead, sends.released)) small (true_ones 0 block refl) in
+    marks-blocks x r (after_block d left right) wanted blocks accepted closed gone fits (omega (arith, first.una)) (omega (arith, first.una)) small has (λ k other is. true_ones (suc k) other is) first.sends
     (marks-block d r left right (omega (arith, sends.released)) sends.flags (λ n from to. has n (all n from to)) h)

@@ -28,7 +28,7 @@ pub kept-changed : (p q : PartyState) (s s' : State) → Kept p q s → s'.confi
     → Takes s'.receiving q.endpoint.config.isn.0 q.accepted q.closed → HandsOver s'.receiving.inbox.unread s'.receiving.ordered q.accepted q.closed p.delivered p.ended (gives_up s'.ending)
     → s'.sending.una ≤ next_position q → (s.receiving.opened ≡ true → s'.receiving.opened ≡ true) → next_of s.receiving ≤ next_of s'.receiving → Kept p q s'
 kept-changed p q s s' h config alone speaks takes hands between opened next = record {
-  here = record { alone = alone; speaks = speaks; takes = takes; hands = hands; between = between };
+  here = record { alone = alone; speaks = speaks; takes = takes; hands = hands; between = between; limit = omega (arith, ap (λ (c : Config). c.limit) config, h.here.limit) };
   config = config ∙ h.config;
   grows = record {
     iss = ap (λ (c : Config). c.isn.0) config ∙ h.grows.iss;

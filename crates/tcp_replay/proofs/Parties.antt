@@ -1,5 +1,5 @@
 -- What a party's methods do, step by step, is what the definitions say.
-use Rattle.std.proofs.Common.{◌≡◌, ℕ, List, [], ◌∷◌, ◌++◌, length, take, drop, refl, sym, ◌∙◌, ap, subst, arith, append-nil, length-take}
+use Rattle.std.proofs.Common.{◌≡◌, ℕ, List, ◌++◌, length, take, drop, refl, sym, ◌∙◌, ap, subst, arith, length-take}
 use Rattle.std.specs.Prelude.{min, Bool, ◌&&◌, ◌||◌, ◌==◌, nat_lt, if◌then◌else◌, ◌↔◌, Option, Some, None, option_map, option_to_list, replicate, Result, Ok, Err}
 use Rattle.std.proofs.lemmas.Bool.{cond_both, eqb-true}
 use Rattle.std.proofs.lemmas.List.{take_at, drop_min}
@@ -9,7 +9,7 @@ use Rattle.tcp_reasm.specs.Reassembly.{Inbox, after_read}
 use Rattle.tcp_conn.specs.declared.config.Config.{Config}
 use Rattle.tcp_conn.specs.declared.config.ConfigError.{ConfigError}
 use Rattle.tcp_conn.specs.declared.config.ConfigError.TheVariants as faults
-use Rattle.tcp_conn.specs.Config.{HasBadCapacity, HasBadMss, HasBadShift, IsGoodConfig}
+use Rattle.tcp_conn.specs.Config.{HasBadCapacity, HasBadMss, HasBadShift, HasBadLimit, IsGoodConfig}
 use Rattle.tcp_conn.specs.declared.due.Due.{Due}
 use Rattle.tcp_conn.specs.declared.outcome.CallError.{CallError}
 use Rattle.tcp_conn.specs.declared.outcome.Received.{Received}
@@ -21,61 +21,72 @@ use Rattle.tcp_conn.specs.Windows.{advertised_window}
 use Rattle.tcp_conn.specs.Due.{due_of}
 use Rattle.tcp_conn.specs.Forms.{segment_of}
 use Rattle.tcp_conn.specs.Writing.{bytes_of, destination_of}
-use Rattle.tcp_conn.specs.Emission.{emitted_bytes, after_due, after_emission, pending_length, buffer_with, buffer_after}
+use Rattle.tcp_conn.specs.Emission.{emitted_bytes, after_due, after_emission, pending_length, destination, buffer_with, buffer_after}
+use Rattle.tcp_replay.specs.Solo.{segment_due}
 use Rattle.tcp_replay.specs.declared.event.Side.{Side}
 use Rattle.tcp_replay.specs.declared.event.Side.TheVariants.{A, B}
 use Rattle.tcp_replay.specs.declared.outcome.WorldError.{WorldError}
 use Rattle.tcp_replay.specs.declared.outcome.WorldError.TheVariants as worlds
-use Rattle.tcp_replay.specs.World.{PartyState, WorldState, NamesFault, HasFault, count_handed, is_end_of_stream, party_after_receive, party_after_emission, emission_outcome}
+use Rattle.tcp_replay.specs.World.{PartyState, SentSegment, sent_by, WorldState, NamesFault, HasFault, count_handed, party_after_emission, emission_outcome}
 use Rattle.tcp_replay.specs.declared.outcome.Outcome.TheVariants as outcomes
 
 -- EMISSION, by what is due
-nothing-as : (p : PartyState) (due : Option Due) → option_map (λ d. wire_length (segment_of p.endpoint d)) due ≡ None
-    → p ≡ record p { endpoint = after_due p.endpoint due; sent = p.sent ++ option_to_list (option_map (bytes_of p.endpoint) due) }
-nothing-as p None e = ap (λ (sent : List (List ℕ)). record p { sent = sent }) (sym (append-nil p.sent))
-nothing-as p (Some due) e = absurd (cc)
+nothing-as : (s : State) (due : Option Due) → option_map (λ d. wire_length (segment_of s d)) due ≡ None
+    → (s ≡ after_due s due) × (None ≡ option_map {U = List ℕ × List ℕ} (λ d. ((destination_of s d).addr.0, bytes_of s d)) due)
+nothing-as s None e = (refl, refl)
+nothing-as s (Some due) e = absurd (cc)
 
-pub emits_nothing : (p : PartyState) → pending_length p.endpoint ≡ None → p ≡ party_after_emission p
-unfolding pending_length party_after_emission emitted_bytes after_emission
-emits_nothing p e = nothing-as p (due_of p.endpoint) e
-
-emission-nothing : (p : PartyState) (due : Option Due) → option_map (λ d. wire_length (segment_of p.endpoint d)) due ≡ None
-    → outcomes.Emitted None ≡ outcomes.Emitted (option_map (λ _. length p.sent) (option_map (bytes_of p.endpoint) due))
-emission-nothing p None e = refl
-emission-nothing p (Some due) e = absurd (cc)
-
-pub emission_none : (p : PartyState) (s : State) → s ≡ p.endpoint → pending_length s ≡ None → outcomes.Emitted None ≡ emission_outcome p
-unfolding pending_length emitted_bytes
-emission_none p s is e = emission-nothing p (due_of p.endpoint) (subst (λ (s : State). option_map (λ d. wire_length (segment_of s d)) (due_of s) ≡ None) is e)
-
-emission-something : (p : PartyState) (due : Option Due) (len n : ℕ) → option_map (λ d. wire_length (segment_of p.endpoint d)) due ≡ Some len → n ≡ length p.sent
-    → outcomes.Emitted (Some n) ≡ outcomes.Emitted (option_map (λ _. length p.sent) (option_map (bytes_of p.endpoint) due))
-emission-something p None len n e f = absurd (cc)
-emission-something p (Some due) len n e f = ap (λ k. outcomes.Emitted (Some k)) f
-
-pub emission_some : (p : PartyState) (s : State) (len n : ℕ) → s ≡ p.endpoint → pending_length s ≡ Some len → n ≡ length p.sent → outcomes.Emitted (Some n) ≡ emission_outcome p
-unfolding pending_length emitted_bytes
-emission_some p s len n is e f = emission-something p (due_of p.endpoint) len n (subst (λ (s : State). option_map (λ d. wire_length (segment_of s d)) (due_of s) ≡ Some len) is e) f
+pub emits_nothing : (s : State) → pending_length s ≡ None → (s ≡ after_emission s) × (None ≡ segment_due s)
+unfolding pending_length after_emission segment_due
+emits_nothing s e = nothing-as s (due_of s) e
 
 -- the bytes in front are the segment's
 front-is : (s : State) (due : Due) (out : List ℕ) → take (wire_length (segment_of s due)) (bytes_of s due ++ drop (wire_length (segment_of s due)) out) ≡ bytes_of s due
 unfolding bytes_of
 front-is s due out = take_at (bytes_of s due) (drop (wire_length (segment_of s due)) out) (wire_length (segment_of s due)) (length_encoded s.config.addr.0 (destination_of s due).addr.0 (segment_of s due))
 
-something-as : (p : PartyState) (due : Option Due) (end : State) (sent : List (List ℕ)) (len : ℕ) (room bytes : List ℕ) → option_map (λ d. wire_length (segment_of p.endpoint d)) due ≡ Some len
-    → end ≡ after_due p.endpoint due → bytes ≡ take len (buffer_with p.endpoint due room) → sent ≡ p.sent ++ bytes ∷ []
-    → record p { endpoint = end; sent = sent } ≡ record p { endpoint = after_due p.endpoint due; sent = p.sent ++ option_to_list (option_map (bytes_of p.endpoint) due) }
-something-as p None end sent len room bytes e f h k = absurd (cc)
-something-as p (Some due) end sent len room bytes e f h k =
-    let is : wire_length (segment_of p.endpoint due) ≡ len = cc in
-    let text : bytes ≡ bytes_of p.endpoint due = h ∙ ap (λ n. take n (buffer_with p.endpoint (Some due) room)) (sym is) ∙ front-is p.endpoint due room in
-    ap (λ (s : State). record p { endpoint = s; sent = sent }) f ∙ ap (λ (list : List (List ℕ)). record p { endpoint = after_due p.endpoint (Some due); sent = list }) (k ∙ ap (λ (last : List ℕ). p.sent ++ last ∷ []) text)
+-- the address and the bytes of a segment that goes out
+abbrev pub segment_to : List ℕ → List ℕ → Option (List ℕ × List ℕ)
+segment_to to bytes = Some (to, bytes)
 
-pub emits_something : (p : PartyState) (end : State) (sent : List (List ℕ)) (len : ℕ) (room out bytes : List ℕ) → pending_length p.endpoint ≡ Some len
-    → end ≡ after_emission p.endpoint → out ≡ buffer_after p.endpoint room → bytes ≡ take len out → sent ≡ p.sent ++ bytes ∷ []
-    → record p { endpoint = end; sent = sent } ≡ party_after_emission p
-unfolding pending_length party_after_emission emitted_bytes after_emission buffer_after
-emits_something p end sent len room out bytes e f g h k = something-as p (due_of p.endpoint) end sent len room bytes e f (h ∙ ap (take len) g) k
+something-as : (s : State) (due : Option Due) (len : ℕ) (to room bytes : List ℕ) → option_map (λ d. wire_length (segment_of s d)) due ≡ Some len
+    → Some to ≡ option_map (λ d. (destination_of s d).addr.0) due → bytes ≡ take len (buffer_with s due room)
+    → segment_to to bytes ≡ option_map {U = List ℕ × List ℕ} (λ d. ((destination_of s d).addr.0, bytes_of s d)) due
+something-as s None len to room bytes e f h = absurd (cc)
+something-as s (Some due) len to room bytes e f h =
+    let is : wire_length (segment_of s due) ≡ len = cc in
+    let there : to ≡ (destination_of s due).addr.0 = cc in
+    let text : bytes ≡ bytes_of s due = h ∙ ap (λ n. take n (buffer_with s (Some due) room)) (sym is) ∙ front-is s due room in
+    ap (λ (a : List ℕ). segment_to a bytes) there ∙ ap (λ (b : List ℕ). segment_to (destination_of s due).addr.0 b) text
+
+pub emits_something : (s : State) (len : ℕ) (to room out bytes : List ℕ) → pending_length s ≡ Some len → Some to ≡ destination s → out ≡ buffer_after s room → bytes ≡ take len out
+    → segment_to to bytes ≡ segment_due s
+unfolding pending_length destination buffer_after segment_due
+emits_something s len to room out bytes e f g h = something-as s (due_of s) len to room bytes e f (h ∙ ap (take len) g)
+
+-- of what goes out a party keeps the bytes
+due-bytes : (s : State) → emitted_bytes s ≡ option_map (λ (segment : List ℕ × List ℕ). segment.1) (segment_due s)
+unfolding emitted_bytes segment_due
+due-bytes s = elim (due_of s) as (λ due. option_map (bytes_of s) due ≡ option_map (λ (segment : List ℕ × List ℕ). segment.1) (option_map (λ d. ((destination_of s d).addr.0, bytes_of s d)) due)) [
+  | None ↦ refl
+  | Some due ↦ refl
+]
+
+pub emission_is : (p : PartyState) (end : State) (sent : List SentSegment) (segment : Option (List ℕ × List ℕ)) → segment ≡ segment_due p.endpoint → end ≡ after_emission p.endpoint
+    → sent ≡ p.sent ++ option_to_list (option_map (sent_by p.endpoint) (option_map (λ s. s.1) segment)) → record p { endpoint = end; sent = sent } ≡ party_after_emission p
+unfolding party_after_emission
+emission_is p end sent segment is e more =
+    let bytes : option_map (λ s. s.1) segment ≡ emitted_bytes p.endpoint = ap (option_map (λ s. s.1)) is ∙ sym (due-bytes p.endpoint) in
+    ap (λ (s : State). record p { endpoint = s; sent = sent }) e ∙ ap (λ (list : List SentSegment). record p { endpoint = after_emission p.endpoint; sent = list }) (more ∙ ap (λ o. p.sent ++ option_to_list (option_map (sent_by p.endpoint) o)) bytes)
+
+counted : (o : Option (List ℕ × List ℕ)) (n : ℕ) → option_map (λ _. n) o ≡ option_map (λ _. n) (option_map (λ s. s.1) o)
+counted None n = refl
+counted (Some segment) n = refl
+
+pub outcome_is : (p : PartyState) (n : ℕ) (segment : Option (List ℕ × List ℕ)) → segment ≡ segment_due p.endpoint → n ≡ length p.sent → outcomes.Emitted (option_map (λ _. n) segment) ≡ emission_outcome p
+outcome_is p n segment is count =
+    ap (λ k. outcomes.Emitted (option_map (λ _. k) segment)) count ∙ ap (λ o. outcomes.Emitted (option_map (λ _. length p.sent) o)) is
+    ∙ ap outcomes.Emitted (counted (segment_due p.endpoint) (length p.sent)) ∙ ap (λ o. outcomes.Emitted (option_map (λ _. length p.sent) o)) (sym (due-bytes p.endpoint))
 
 -- RECEIVE: a buffer as long as what is unread serves as well as a longer one
 same-read : (q : Inbox) (room : ℕ) → after_read q (min room (length q.unread)) ≡ after_read q room
@@ -121,21 +132,17 @@ handed-is s room =
     let unread = s.receiving.inbox.unread in
     handed-unless (receive_refusal s) (received_value s room) (take (min room (length unread)) unread) (handed-value unread s.receiving.finished room (received_value s room) refl)
 
-pub receives : (p : PartyState) (end : State) (delivered : List ℕ) (ended : Bool) (room handed : ℕ) (answer : Result Received CallError) (out old : List ℕ)
-    → length old ≡ min room (length p.endpoint.receiving.inbox.unread)
-    → end ≡ after_receive p.endpoint (length old) → answer ≡ receive_answer p.endpoint (length old)
-    → out ≡ received_bytes p.endpoint (length old) ++ drop (length (received_bytes p.endpoint (length old))) old
-    → handed ≡ count_handed answer → delivered ≡ p.delivered ++ take handed out → ended ≡ (p.ended || is_end_of_stream answer)
-    → record p { endpoint = end; delivered = delivered; ended = ended } ≡ party_after_receive p room
-unfolding party_after_receive after_receive
-receives p end delivered ended room handed answer out old size f is g count h told =
-    let s = p.endpoint in
+pub received-state : (s end : State) (room n : ℕ) → n ≡ min room (length s.receiving.inbox.unread) → end ≡ after_receive s n → end ≡ after_receive s room
+unfolding after_receive
+received-state s end room n size f =
+    f ∙ ap (λ n. state_unless (receive_refusal s) s (with_bytes_received s n)) size ∙ ap (state_unless (receive_refusal s) s) (same-received s room)
+
+pub received-text : (s : State) (room handed : ℕ) (answer : Result Received CallError) (out old : List ℕ) → length old ≡ min room (length s.receiving.inbox.unread) → answer ≡ receive_answer s (length old)
+    → out ≡ received_bytes s (length old) ++ drop (length (received_bytes s (length old))) old → handed ≡ count_handed answer → take handed out ≡ received_bytes s room
+received-text s room handed answer out old size is g count =
     let bytes = received_bytes s (length old) in
-    let same : answer ≡ receive_answer s room = is ∙ ap (receive_answer s) size ∙ same-answer s room in
     let all : handed ≡ length bytes = count ∙ ap count_handed is ∙ handed-is s (length old) in
-    let text : take handed out ≡ received_bytes s room = ap (take handed) g ∙ take_at bytes (drop (length bytes) old) handed (sym all) ∙ ap (received_bytes s) size ∙ same-bytes s room in
-    let left : end ≡ state_unless (receive_refusal s) s (with_bytes_received s room) = f ∙ ap (λ n. state_unless (receive_refusal s) s (with_bytes_received s n)) size ∙ ap (state_unless (receive_refusal s) s) (same-received s room) in
-    cc (left, h ∙ ap (λ xs. p.delivered ++ xs) text, told ∙ ap (λ a. p.ended || is_end_of_stream a) same)
+    ap (take handed) g ∙ take_at bytes (drop (length bytes) old) handed (sym all) ∙ ap (received_bytes s) size ∙ same-bytes s room
 
 -- A FAULT of a Config is the one that is named
 abbrev pub refused_for : ConfigError → Result PartyState ConfigError
@@ -149,12 +156,14 @@ pub record IsFaultOf (c : Config) (fault : ConfigError) : Type 0 where
   pub capacity : (refused_for fault ≡ Err faults.BadCapacity) ↔ HasBadCapacity c
   pub mss : (refused_for fault ≡ Err faults.BadMss) ↔ HasBadMss c
   pub shift : (refused_for fault ≡ Err faults.BadShift) ↔ HasBadShift c
+  pub limit : (refused_for fault ≡ Err faults.BadLimit) ↔ HasBadLimit c
   pub good : (refused_for fault ≡ Err faults.NoMemory) → IsGoodConfig c
 
 fault_is : (c : Config) (fault : ConfigError) → IsFaultOf c fault → HasFault c fault
 fault_is c faults.BadCapacity h = h.capacity.0 refl
 fault_is c faults.BadMss h = h.mss.0 refl
 fault_is c faults.BadShift h = h.shift.0 refl
+fault_is c faults.BadLimit h = h.limit.0 refl
 fault_is c faults.NoMemory h = h.good refl
 
 in-world : (fault named : ConfigError) (P : Type 0) → ((refused_for fault ≡ Err named) ↔ P) → (world_refused_for A fault ≡ Err (worlds.Config A named)) ↔ P
@@ -166,6 +175,7 @@ fault-of_a a b fault h = record {
   bad_capacity_of_a = in-world fault faults.BadCapacity (HasBadCapacity a) h.capacity;
   bad_mss_of_a = in-world fault faults.BadMss (HasBadMss a) h.mss;
   bad_shift_of_a = in-world fault faults.BadShift (HasBadShift a) h.shift;
+  bad_limit_of_a = in-world fault faults.BadLimit (HasBadLimit a) h.limit;
 }
 
 -- a good Config has none
@@ -175,6 +185,7 @@ fault-of_b a b fault good h = record {
   bad_capacity_of_a = (λ e. absurd (cc), λ bad. absurd (bad good.0));
   bad_mss_of_a = (λ e. absurd (cc), λ bad. absurd (bad.1 good.1));
   bad_shift_of_a = (λ e. absurd (cc), λ bad. absurd (bad.2 good.2));
+  bad_limit_of_a = (λ e. absurd (cc), λ bad. absurd (bad.3 good.3));
 }
 
 pub fault-of_none : (a b : Config) (w : WorldState) → IsGoodConfig a → NamesFault a b (Ok w)
@@ -183,4 +194,5 @@ fault-of_none a b w good = record {
   bad_capacity_of_a = (λ e. absurd (cc), λ bad. absurd (bad good.0));
   bad_mss_of_a = (λ e. absurd (cc), λ bad. absurd (bad.1 good.1));
   bad_shift_of_a = (λ e. absurd (cc), λ bad. absurd (bad.2 good.2));
+  bad_limit_of_a = (λ e. absurd (cc), λ bad. absurd (bad.3 good.3));
 }

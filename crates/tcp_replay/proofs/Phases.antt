@@ -177,6 +177,10 @@ pub knows-own_fin : (phase : Phase) → has_peer (phase_after_own_fin phase) ≡
 knows-own_fin FinWait1 = refl
 knows-own_fin other = refl
 
+pub handshake-own_fin : (phase : Phase) → is_handshake (phase_after_own_fin phase) ≡ is_handshake phase
+handshake-own_fin FinWait1 = refl
+handshake-own_fin other = refl
+
 pub synchronized-own_fin : (phase : Phase) → is_synchronized (phase_after_own_fin phase) ≡ is_synchronized phase
 synchronized-own_fin FinWait1 = refl
 synchronized-own_fin other = refl
@@ -192,6 +196,10 @@ pub knows-fin : (phase : Phase) → has_peer (phase_after_fin phase) ≡ has_pee
 knows-fin Established = refl
 knows-fin other = refl
 
+pub handshake-fin : (phase : Phase) → is_handshake (phase_after_fin phase) ≡ is_handshake phase
+handshake-fin Established = refl
+handshake-fin other = refl
+
 -- the user closes
 pub fits-closing : (phase : Phase) (ending : Ending) (una nxt : ℕ) (opened finished : Bool) → FitsPhase phase ending una nxt opened finished → FitsPhase (phase_after_close phase) ending una nxt opened finished
 fits-closing Established ending una nxt opened finished h = h
@@ -200,3 +208,13 @@ fits-closing other ending una nxt opened finished h = h
 pub knows-closing : (phase : Phase) → has_peer (phase_after_close phase) ≡ has_peer phase
 knows-closing Established = refl
 knows-closing other = refl
+
+pub handshake-closing : (phase : Phase) → is_handshake (phase_after_close phase) ≡ is_handshake phase
+handshake-closing Established = refl
+handshake-closing other = refl
+
+-- in the handshake nothing but the SYN is acknowledged
+pub handshake-una : (phase : Phase) (ending : Ending) (una nxt : ℕ) (opened finished : Bool) → is_handshake phase ≡ true → una ≤ nxt → FitsPhase phase ending una nxt opened finished → una ≤ 1
+handshake-una SynSent ending una nxt opened finished e order h = omega (arith, h.1.nxt_is)
+handshake-una SynReceived ending una nxt opened finished e order h = omega (arith, h.1.nxt_is)
+handshake-una other ending una nxt opened finished e order h = absurd (cc)

@@ -4,12 +4,12 @@ use Rattle.std.specs.Prelude.{true, Option, Some, None, Result, Ok, Err, IfSome,
 use Rattle.std.proofs.lemmas.Bool.{cond_both}
 use Rattle.std.proofs.lemmas.List.{drop_more, take_more, length-take-le, length-map, get_or-map}
 use Rattle.std.proofs.lemmas.Option.{slice_get-get_or}
-use Rattle.tcp_replay.specs.declared.event.Event.{Event}
+use Rattle.tcp_conn.specs.State.{State}
 use Rattle.tcp_replay.specs.declared.outcome.Outcome.{Outcome}
-use Rattle.tcp_replay.specs.declared.outcome.StepError.TheVariants.{NoSuchSegment, NoChange, PlaceOutside, NoMemory}
+use Rattle.tcp_replay.specs.declared.outcome.StepError.TheVariants.{NoSuchSegment, NoChange, PlaceOutside, Expired, NoMemory}
 use Rattle.tcp_replay.specs.declared.outcome.StepError.{StepError}
-use Rattle.tcp_replay.specs.Events.{EventContent, event_content, side_of, Deliver, Damage}
-use Rattle.tcp_replay.specs.World.{WorldState, PartyState, party_of, other, is_missing, segment_at, delivery_refusal, damage_refusal, effect_of, world_with_effect, refusal_of, grows_for, stop_of, run_of, stop_or, stay_or, later, StopsForMemory}
+use Rattle.tcp_replay.specs.Events.{EventContent, side_of, Deliver, Damage}
+use Rattle.tcp_replay.specs.World.{WorldState, PartyState, SentSegment, party_of, other, is_missing, sent_at, segment_at, is_expired, age_refusal, delivery_refusal, damage_refusal, effect_of, world_with_effect, refusal_of, grows_for, stop_of, run_of, stop_or, stay_or, later, StopsForMemory}
 
 -- where nothing was refused, the first event wasn't, nor any of the rest
 record Goes (refused : Option StepError) (rest : Option (ℕ × StepError)) : Type 0 where
@@ -57,23 +57,30 @@ run-stop w (first ∷ list) rest event error e f =
     }
 
 -- want of memory is no reason of the definitions
-damage-not_memory : (p : PartyState) (k place value : ℕ) → damage_refusal p k place value ≡ Some NoMemory → ⊥
-damage-not_memory p k place value =
-    cond_both (is_missing p k) (Some NoSuchSegment) (if value == 0 then Some NoChange else (if nat_le (length (segment_at p k)) place then Some PlaceOutside else None)) (λ r. r ≡ Some NoMemory → ⊥) (λ _ e. absurd (cc))
-    (λ _. cond_both (value == 0) (Some NoChange) (if nat_le (length (segment_at p k)) place then Some PlaceOutside else None) (λ r. r ≡ Some NoMemory → ⊥) (λ _ e. absurd (cc))
-    (λ _. cond_both (nat_le (length (segment_at p k)) place) (Some PlaceOutside) None (λ r. r ≡ Some NoMemory → ⊥) (λ _ e. absurd (cc)) (λ _ e. absurd (cc))))
+age-not_memory : (life : ℕ) (s : State) (g : SentSegment) → age_refusal life s g ≡ Some NoMemory → ⊥
+age-not_memory life s g = cond_both (is_expired life s g) (Some Expired) None (λ r. r ≡ Some NoMemory → ⊥) (λ _ e. absurd (cc)) (λ _ e. absurd (cc))
 
-delivery-not_memory : (p : PartyState) (k : ℕ) → delivery_refusal p k ≡ Some NoMemory → ⊥
-delivery-not_memory p k = cond_both (is_missing p k) (Some NoSuchSegment) None (λ r. r ≡ Some NoMemory → ⊥) (λ _ e. absurd (cc)) (λ _ e. absurd (cc))
+damage-not_memory : (life : ℕ) (p q : PartyState) (k place value : ℕ) → damage_refusal life p q k place value ≡ Some NoMemory → ⊥
+damage-not_memory life p q k place value =
+    let P : Option StepError → Type 0 = λ r. r ≡ Some NoMemory → ⊥ in
+    let age = age_refusal life q.endpoint (sent_at p k) in
+    let outside = if nat_le (length (segment_at p k)) place then Some PlaceOutside else age in
+    cond_both (is_missing p k) (Some NoSuchSegment) (if value == 0 then Some NoChange else outside) P (λ _ e. absurd (cc))
+    (λ _. cond_both (value == 0) (Some NoChange) outside P (λ _ e. absurd (cc))
+    (λ _. cond_both (nat_le (length (segment_at p k)) place) (Some PlaceOutside) age P (λ _ e. absurd (cc)) (λ _. age-not_memory life q.endpoint (sent_at p k))))
 
-effect-not_memory : (p q : PartyState) (event : EventContent) → (effect_of p q event).refusal ≡ Some NoMemory → ⊥
+delivery-not_memory : (life : ℕ) (p q : PartyState) (k : ℕ) → delivery_refusal life p q k ≡ Some NoMemory → ⊥
+delivery-not_memory life p q k =
+    cond_both (is_missing p k) (Some NoSuchSegment) (age_refusal life q.endpoint (sent_at p k)) (λ r. r ≡ Some NoMemory → ⊥) (λ _ e. absurd (cc)) (λ _. age-not_memory life q.endpoint (sent_at p k))
+
+effect-not_memory : (life : ℕ) (p q : PartyState) (event : EventContent) → (effect_of life p q event).refusal ≡ Some NoMemory → ⊥
 unfolding effect_of
-effect-not_memory p q (Deliver from k) e = delivery-not_memory p k e
-effect-not_memory p q (Damage from k place value) e = damage-not_memory p k place value e
-effect-not_memory p q other e = absurd (cc)
+effect-not_memory life p q (Deliver from k) e = delivery-not_memory life p q k e
+effect-not_memory life p q (Damage from k place value) e = damage-not_memory life p q k place value e
+effect-not_memory life p q another e = absurd (cc)
 
 refusal-not_memory : (w : WorldState) (event : EventContent) → refusal_of w event ≡ Some NoMemory → ⊥
-refusal-not_memory w event e = effect-not_memory (party_of w (side_of event)) (party_of w (other (side_of event))) event e
+refusal-not_memory w event e = effect-not_memory w.life (party_of w (side_of event)) (party_of w (other (side_of event))) event e
 
 -- what a step answers, with its type
 abbrev pub answered : Outcome → Result Outcome StepError
@@ -103,7 +110,7 @@ split-at : (list : List EventContent) (i : ℕ) (event : EventContent) → i < l
 split-at list i event inside is =
     ap (λ rest. take i list ++ rest) (ap (λ e. e ∷ drop (i + 1) list) is ∙ sym (drop_more list i event inside)) ∙ take-append-drop i list
 
-next-front : (list : List EventContent) (i : ℕ) (event : EventContent) → i < length list → event ≡ get_or list i event → take i list ++ event ∷ [] ≡ take (i + 1) list
+pub next-front : {X : Type 0} (list : List X) (i : ℕ) (event : X) → i < length list → event ≡ get_or list i event → take i list ++ event ∷ [] ≡ take (i + 1) list
 next-front list i event inside is = ap (λ e. take i list ++ e ∷ []) is ∙ sym (take_more list i event inside)
 
 -- a run as far as an event, in the code's words
@@ -157,8 +164,8 @@ unfolding stop_of run_of
 run_begins w list = record { going = refl; now = refl }
 
 -- the content of an event of the code's list, by its index
-pub content_at : (list : List Event) (i : ℕ) (event : Event) → i < length list → event ≡ get_or list i event → event_content event ≡ get_or (map event_content list) i (event_content event)
-content_at list i event inside is = ap event_content is ∙ sym (get_or-map event_content list i event (event_content event) inside)
+pub content_at : {X Y : Type 0} (content : X → Y) (list : List X) (i : ℕ) (event : X) → i < length list → event ≡ get_or list i event → content event ≡ get_or (map content list) i (content event)
+content_at content list i event inside is = ap content is ∙ sym (get_or-map content list i event (content event) inside)
 
-pub content_inside : (list : List Event) (i : ℕ) → i < length list → i < length (map event_content list)
-content_inside list i inside = simp length-map inside
+pub content_inside : {X Y : Type 0} (content : X → Y) (list : List X) (i : ℕ) → i < length list → i < length (map content list)
+content_inside content list i inside = simp length-map inside

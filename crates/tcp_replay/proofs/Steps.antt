@@ -3,7 +3,7 @@ use Rattle.std.proofs.Common.{◌≡◌, ℕ, zero, suc, List, [], ◌∷◌, �
 use Rattle.std.specs.Prelude.{◌⊎◌, Option, Some, None, option_to_list, slice_get}
 use Rattle.tcp_conn.specs.declared.config.Config.{Config}
 use Rattle.tcp_conn.specs.State.{State}
-use Rattle.tcp_replay.specs.World.{PartyState}
+use Rattle.tcp_replay.specs.World.{PartyState, SentSegment}
 use Rattle.tcp_replay.specs.Safe.{witness_of, gave_up}
 use Rattle.tcp_replay.specs.Sound.{SpeaksTo, Takes, HandsOver, IsSoundEnd, IsOwn, AreOwn, IsSoundPair}
 use Rattle.tcp_replay.proofs.Halves.{takes-more, hands-more}
@@ -21,24 +21,24 @@ Kept p q s = Moved p (record p { endpoint = s }) q
 
 -- what it emitted, where it emitted something
 pub record Emitted (p p' q : PartyState) : Type 0 where
-  pub new : Option (List ℕ)
+  pub new : Option SentSegment
   pub sent : p'.sent ≡ p.sent ++ option_to_list new
-  pub own : (bytes : List ℕ) → new ≡ Some bytes → IsOwn p q bytes
+  pub own : (g : SentSegment) → new ≡ Some g → IsOwn p q g
 
 pub emitted-nothing : (p p' q : PartyState) → p'.sent ≡ p.sent → Emitted p p' q
-emitted-nothing p p' q same = record { new = None; sent = same ∙ sym (append-nil p.sent); own = λ bytes none. absurd (cc) }
+emitted-nothing p p' q same = record { new = None; sent = same ∙ sym (append-nil p.sent); own = λ g none. absurd (cc) }
 
 pub kept-same : (p q : PartyState) → IsSoundPair p q → Kept p q p.endpoint
 kept-same p q h = record { here = h.there; config = refl; grows = grows-same (witness_of p q) }
 
 -- a member of a list to which one was added, or none
-pub slice_get-more : (sent : List (List ℕ)) (new : Option (List ℕ)) (k : ℕ) (bytes : List ℕ) → slice_get (sent ++ option_to_list new) k ≡ Some bytes
-    → (slice_get sent k ≡ Some bytes) ⊎ (new ≡ Some bytes)
-slice_get-more [] None k bytes e = absurd (cc)
-slice_get-more [] (Some last) zero bytes e = inr e
-slice_get-more [] (Some last) (suc k) bytes e = absurd (cc)
-slice_get-more (first ∷ sent) new zero bytes e = inl e
-slice_get-more (first ∷ sent) new (suc k) bytes e = slice_get-more sent new k bytes e
+pub slice_get-more : (sent : List SentSegment) (new : Option SentSegment) (k : ℕ) (g : SentSegment) → slice_get (sent ++ option_to_list new) k ≡ Some g
+    → (slice_get sent k ≡ Some g) ⊎ (new ≡ Some g)
+slice_get-more [] None k g e = absurd (cc)
+slice_get-more [] (Some last) zero g e = inr e
+slice_get-more [] (Some last) (suc k) g e = absurd (cc)
+slice_get-more (first ∷ sent) new zero g e = inl e
+slice_get-more (first ∷ sent) new (suc k) g e = slice_get-more sent new k g e
 
 -- its peer has what it had
 grows-of_peer : (p p' q : PartyState) → p'.endpoint.config ≡ p.endpoint.config → Grows (witness_of q p) (witness_of q p')
@@ -53,11 +53,11 @@ grows-of_peer p p' q config = record {
 }
 
 there-from-move : (p p' q : PartyState) → Moved p p' q → Emitted p p' q → AreOwn p q → AreOwn p' q
-there-from-move p p' q h e own k bytes is =
+there-from-move p p' q h e own k g is =
     let addr : p'.endpoint.config.addr.0 ≡ p.endpoint.config.addr.0 = ap (λ (c : Config). c.addr.0) h.config in
-    own-grows p q p' q bytes addr refl h.grows
-    (⊎_elim (λ (old : slice_get p.sent k ≡ Some bytes). own k bytes old) (λ (last : e.new ≡ Some bytes). e.own bytes last)
-    (slice_get-more p.sent e.new k bytes (subst (λ (sent : List (List ℕ)). slice_get sent k ≡ Some bytes) e.sent is)))
+    own-grows p q p' q g addr refl h.grows
+    (⊎_elim (λ (old : slice_get p.sent k ≡ Some g). own k g old) (λ (last : e.new ≡ Some g). e.own g last)
+    (slice_get-more p.sent e.new k g (subst (λ (sent : List SentSegment). slice_get sent k ≡ Some g) e.sent is)))
 
 back-from-move : (p p' q : PartyState) → Moved p p' q → IsSoundEnd q p → IsSoundEnd q p'
 back-from-move p p' q h back = record {
@@ -69,6 +69,7 @@ back-from-move p p' q h back = record {
   hands = subst (λ (accepted : List ℕ). HandsOver q.endpoint.receiving.inbox.unread q.endpoint.receiving.ordered accepted p'.closed q.delivered q.ended (gave_up q)) (sym h.grows.accepted)
       (hands-more q.endpoint.receiving p.accepted p.closed p'.closed q.delivered h.grows.more q.ended (gave_up q) h.grows.closed back.takes.order back.hands);
   between = omega (arith, back.between, h.grows.next);
+  limit = back.limit;
 }
 
 -- the peer keeps what it had
@@ -77,7 +78,7 @@ pair-from-move p p' q h e pair = record {
   there = h.here;
   back = back-from-move p p' q h pair.back;
   own_there = there-from-move p p' q h e pair.own_there;
-  own_back = λ k bytes is. own-grows q p q p' bytes refl (ap (λ (c : Config). c.addr.0) h.config) (grows-of_peer p p' q h.config) (pair.own_back k bytes is);
+  own_back = λ k g is. own-grows q p q p' g refl (ap (λ (c : Config). c.addr.0) h.config) (grows-of_peer p p' q h.config) (pair.own_back k g is);
 }
 
 pub pair-swapped : (p q : PartyState) → IsSoundPair p q → IsSoundPair q p

@@ -4,8 +4,8 @@ use Rattle.std.specs.Prelude.{Bool, true, false}
 use Rattle.std.proofs.lemmas.List.{take-append-le, drop-append-le}
 use Rattle.tcp_wire.specs.Position.{number}
 use Rattle.tcp_wire.specs.Wire.{Content, encoded_bytes}
-use Rattle.tcp_replay.specs.Truthful.{Witness, IsTruthful}
-use Rattle.tcp_replay.specs.World.{PartyState}
+use Rattle.tcp_replay.specs.Truthful.{Witness, IsOfUser, IsTruthful, StandsAt}
+use Rattle.tcp_replay.specs.World.{PartyState, SentSegment}
 use Rattle.tcp_replay.specs.Safe.{witness_of}
 use Rattle.tcp_replay.specs.Sound.{IsOwn}
 use Rattle.tcp_replay.proofs.Lists.{one_if}
@@ -42,22 +42,29 @@ positive zero h = absurd (h refl)
 positive (suc n) h = omega arith
 
 -- a segment with text isn't at the SYN's position
-pub position-of_text : (x : Witness) (v : Content) → (h : IsTruthful x v) → 0 < length v.text → 1 ≤ h.position
-position-of_text x v h some = positive h.position (λ none. let empty : length v.text ≡ 0 = ap length (h.bare none).0 in omega (arith, some, empty))
+pub position-of_text : (iss : ℕ) (accepted : List ℕ) (closed : Bool) (v : Content) → (h : IsOfUser iss accepted closed v) → 0 < length v.text → 1 ≤ h.position
+position-of_text iss accepted closed v h some = positive h.position (λ none. let empty : length v.text ≡ 0 = ap length (h.bare none).0 in omega (arith, some, empty))
+
+-- of one end's stream, while more is accepted
+pub of_user-grows : (iss iss' : ℕ) (accepted more new : List ℕ) (closed closed' : Bool) (v : Content) → iss' ≡ iss → new ≡ accepted ++ more → (closed ≡ true → (more ≡ []) × (closed' ≡ true))
+    → IsOfUser iss accepted closed v → IsOfUser iss' new closed' v
+of_user-grows iss iss' accepted more new closed closed' v same_iss e fixed h = record {
+  position = h.position;
+  seq = h.seq ∙ ap (λ s. number s h.position) (sym same_iss);
+  within = within-grows h.position accepted more new closed closed' e fixed h.within;
+  has_syn = h.has_syn;
+  bare = h.bare;
+  fits = λ some. omega (arith, ap length e, length-append accepted more, h.fits some);
+  text = λ some. text-grows h.position v.text accepted more new e (position-of_text iss accepted closed v h some) (h.fits some) (h.text some);
+  has_fin = λ told.
+      let shut = fixed (h.has_fin told).0 in
+      let same : length new ≡ length accepted = ap length e ∙ ap (λ xs. length (accepted ++ xs)) shut.0 ∙ ap length (append-nil accepted) in
+      (shut.1, omega (arith, same, (h.has_fin told).1));
+}
 
 pub truthful-grows : (x x' : Witness) (v : Content) → Grows x x' → IsTruthful x v → IsTruthful x' v
 truthful-grows x x' v g h = record {
-  position = h.position;
-  seq = h.seq ∙ ap (λ s. number s h.position) (sym g.iss);
-  within = within-grows h.position x.accepted g.more x'.accepted x.closed x'.closed g.accepted g.closed h.within;
-  has_syn = h.has_syn;
-  bare = h.bare;
-  fits = λ some. omega (arith, ap length g.accepted, length-append x.accepted g.more, h.fits some);
-  text = λ some. text-grows h.position v.text x.accepted g.more x'.accepted g.accepted (position-of_text x v h some) (h.fits some) (h.text some);
-  has_fin = λ told.
-      let closed = g.closed (h.has_fin told).0 in
-      let same : length x'.accepted ≡ length x.accepted = ap length g.accepted ∙ ap (λ xs. length (x.accepted ++ xs)) closed.0 ∙ ap length (append-nil x.accepted) in
-      (closed.1, omega (arith, same, (h.has_fin told).1));
+  own = of_user-grows x.iss x'.iss x.accepted g.more x'.accepted x.closed x'.closed v g.iss g.accepted g.closed h.own;
   has_ack = λ told. let a = h.has_ack told in record {
     opened = g.opened a.opened;
     position = a.position;
@@ -67,11 +74,15 @@ truthful-grows x x' v g h = record {
   };
 }
 
-pub own-grows : (x y x' y' : PartyState) (bytes : List ℕ) → x'.endpoint.config.addr.0 ≡ x.endpoint.config.addr.0 → y'.endpoint.config.addr.0 ≡ y.endpoint.config.addr.0
-    → Grows (witness_of x y) (witness_of x' y') → IsOwn x y bytes → IsOwn x' y' bytes
-own-grows x y x' y' bytes src dst g h = record {
+pub stands-grows : (x x' : Witness) (v : Content) (position wanted : ℕ) → Grows x x' → StandsAt x v position wanted → StandsAt x' v position wanted
+unfolding truthful-grows of_user-grows
+stands-grows x x' v position wanted g h = record { truth = truthful-grows x x' v g h.truth; position_is = h.position_is; wanted_is = h.wanted_is }
+
+pub own-grows : (x y x' y' : PartyState) (sent : SentSegment) → x'.endpoint.config.addr.0 ≡ x.endpoint.config.addr.0 → y'.endpoint.config.addr.0 ≡ y.endpoint.config.addr.0
+    → Grows (witness_of x y) (witness_of x' y') → IsOwn x y sent → IsOwn x' y' sent
+own-grows x y x' y' sent src dst g h = record {
   content = h.content;
   valid = h.valid;
   spelled = h.spelled ∙ ap (λ a. encoded_bytes a y.endpoint.config.addr.0 h.content) (sym src) ∙ ap (λ b. encoded_bytes x'.endpoint.config.addr.0 b h.content) (sym dst);
-  truthful = λ plain. truthful-grows (witness_of x y) (witness_of x' y') h.content g (h.truthful plain);
+  truthful = λ plain. stands-grows (witness_of x y) (witness_of x' y') h.content sent.position sent.wanted g (h.truthful plain);
 }

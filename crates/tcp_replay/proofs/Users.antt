@@ -1,6 +1,6 @@
 -- The user's calls and the timers: both directions stay sound.
 use Rattle.std.proofs.Common.{◌≡◌, ℕ, ◌^◌, ◌<◌, ◌≤◌, List, [], ◌++◌, length, take, refl, sym, ◌∙◌, subst, arith, append-nil}
-use Rattle.std.specs.Prelude.{min, true, ◌||◌, ◌==◌, if◌then◌else◌, is_ok, Option, Some, None, IfSome, Ok}
+use Rattle.std.specs.Prelude.{min, true, false, ◌||◌, ◌==◌, if◌then◌else◌, is_ok, Option, Some, None, IfSome, Ok}
 use Rattle.std.proofs.lemmas.Bool.{cond_both, eqb-true, or_right, false≢true}
 use Rattle.std.proofs.lemmas.List.{nil_from_length}
 use Rattle.tcp_wire.specs.Checksum.{AreBytes}
@@ -21,12 +21,12 @@ use Rattle.tcp_conn.specs.Timers.{sends_again, after_retransmit, marks_end, afte
 use Rattle.tcp_replay.specs.World.{PartyState, address_of, front_taken, is_end_of_stream, party_after_connect, party_after_listen, party_after_send, party_after_receive, party_after_close, party_after_abort, party_after_timer}
 use Rattle.tcp_replay.specs.Safe.{witness_of, next_position}
 use Rattle.tcp_replay.specs.Sound.{IsSoundPair}
-use Rattle.tcp_replay.proofs.Halves.{takes-read, hands-read, hands-ended}
+use Rattle.tcp_replay.proofs.Halves.{accepted-limit, takes-read, hands-read, hands-ended}
 use Rattle.tcp_replay.proofs.Truths.{grows-same}
 use Rattle.tcp_replay.proofs.Steps.{Moved, Kept, emitted-nothing, kept-same, pair-from-move}
-use Rattle.tcp_replay.proofs.Phases.{resets_on_abort-knows, time_wait-synchronized, at-synchronized, knows-closing}
+use Rattle.tcp_replay.proofs.Phases.{gives_up-not_ended, resets_on_abort-knows, time_wait-synchronized, at-synchronized, knows-closing}
 use Rattle.tcp_replay.proofs.Moves.{kept-alone, kept-given_up, kept-orderly}
-use Rattle.tcp_replay.proofs.AloneCalls.{unless-kept, CanOpen, can-open, alone-connection, alone-passive, send-unclosed, alone-with_text, receive-open, alone-bytes_received, or-false, alone-close_asked, alone-close_begun, alone-own_reset, alone-retransmit, alone-reorder}
+use Rattle.tcp_replay.proofs.AloneCalls.{unless-kept, send-open, CanOpen, can-open, alone-connection, alone-passive, send-unclosed, alone-with_text, receive-open, alone-bytes_received, or-false, alone-close_asked, alone-close_begun, alone-own_reset, alone-retransmit, alone-reorder}
 
 -- an end that changed, and nothing else of its party
 pub pair-kept : (p q : PartyState) (s : State) → Kept p q s → IsSoundPair p q → IsSoundPair (record p { endpoint = s }) q
@@ -57,10 +57,11 @@ pair-listening p q h =
 
 -- SEND
 moved-sent : (p q : PartyState) (text : List ℕ) → AreBytes text → IsSoundPair p q → send_refusal p.endpoint text ≡ None
-    → Moved p (record p { endpoint = record p.endpoint { sending = with_text p.endpoint.sending text }; accepted = p.accepted ++ take (count_sendable p.endpoint.sending text) text }) q
+    → Moved p (record p { endpoint = record p.endpoint { sending = with_text p.endpoint.sending p.endpoint.config.limit text }; accepted = p.accepted ++ take (count_sendable p.endpoint.sending p.endpoint.config.limit text) text }) q
 moved-sent p q text bytes h e =
     let s = p.endpoint in
-    let unclosed = send-unclosed s p.accepted text p.closed e h.there.alone in
+    let unclosed : p.closed ≡ false = send-unclosed s p.accepted text p.closed e h.there.alone in
+    let none : gives_up s.ending ≡ false = gives_up-not_ended s.ending (send-open s text e).0 in
     let takes = h.there.takes in
     let hands = h.there.hands in
     record {
@@ -70,12 +71,13 @@ moved-sent p q text bytes h e =
         takes = assumption;
         hands = assumption;
         between = h.there.between;
+        limit = accepted-limit s.sending s.config.limit p.accepted text h.there.limit (rw (unclosed, none) at h.there.alone.sends);
       };
       config = refl;
       grows = record {
         iss = refl;
         irs = refl;
-        more = take (count_sendable s.sending text) text;
+        more = take (count_sendable s.sending s.config.limit text) text;
         accepted = refl;
         closed = λ closed. absurd (false≢true (sym unclosed ∙ closed));
         opened = λ opened. opened;
@@ -87,8 +89,8 @@ moved-same : (p q : PartyState) → IsSoundPair p q → Moved p p q
 moved-same p q h = record { here = h.there; config = refl; grows = grows-same (witness_of p q) }
 
 sent-unless : (p q : PartyState) (text : List ℕ) (o : Option CallError) (s' : State) → IsSoundPair p q
-    → (o ≡ None → Moved p (record p { endpoint = s'; accepted = p.accepted ++ take (count_sendable p.endpoint.sending text) text }) q)
-    → Moved p (record p { endpoint = state_unless o p.endpoint s'; accepted = p.accepted ++ front_taken (answer_unless o (count_sendable p.endpoint.sending text)) text }) q
+    → (o ≡ None → Moved p (record p { endpoint = s'; accepted = p.accepted ++ take (count_sendable p.endpoint.sending p.endpoint.config.limit text) text }) q)
+    → Moved p (record p { endpoint = state_unless o p.endpoint s'; accepted = p.accepted ++ front_taken (answer_unless o (count_sendable p.endpoint.sending p.endpoint.config.limit text)) text }) q
 sent-unless p q text None s' h next = next refl
 sent-unless p q text (Some error) s' h next = subst (λ (accepted : List ℕ). Moved p (record p { accepted = accepted }) q) (sym (append-nil p.accepted)) (moved-same p q h)
 
@@ -129,6 +131,7 @@ moved-received p q room h e =
         takes = takes;
         hands = hands;
         between = h.there.between;
+        limit = h.there.limit;
       };
       config = refl;
       grows = record { iss = refl; irs = refl; more = []; accepted = sym (append-nil p.accepted); closed = λ closed. (refl, closed); opened = λ opened. opened; next = omega arith };
@@ -158,6 +161,7 @@ pair-closing p q h =
         takes = assumption;
         hands = assumption;
         between = h.there.between;
+        limit = h.there.limit;
       };
       config = refl;
       grows = record { iss = refl; irs = refl; more = []; accepted = sym (append-nil p.accepted); closed = λ _. (refl, refl); opened = λ opened. opened; next = omega arith };

@@ -12,7 +12,7 @@ use Rattle.tcp_replay.specs.declared.event.Side.TheVariants.{A, B}
 use Rattle.tcp_replay.specs.declared.outcome.Outcome.TheVariants as outcomes
 use Rattle.tcp_replay.specs.declared.outcome.StepError.{StepError}
 use Rattle.tcp_replay.specs.Events.{EventContent, side_of, HasBytes, IsDamage, Connect, Listen, Send, Receive, Close, Abort, Timer, Emit, Deliver, Damage}
-use Rattle.tcp_replay.specs.World.{WorldState, PartyState, both, new_party, new_world, party_of, other, world_from, Effect, effect_of, refusal_of, outcome_of, world_with_effect, stay_or, world_after, run_of, world_after_all}
+use Rattle.tcp_replay.specs.World.{WorldState, PartyState, max_life, both, new_party, new_world_with, party_of, other, world_from, Effect, effect_of, refusal_of, outcome_of, world_with_effect, stay_or, world_after, run_of, world_after_all}
 use Rattle.tcp_replay.specs.Safe.{IsSafeDirection, EmitsTruth, IsSafe}
 use Rattle.tcp_replay.specs.Sound.{IsSoundEnd, AreOwn, IsSoundPair, AreSoundEnds}
 use Rattle.tcp_replay.proofs.Lists.{one_if}
@@ -22,26 +22,35 @@ use Rattle.tcp_replay.proofs.Users.{pair-connected, pair-listening, pair-sent, p
 use Rattle.tcp_replay.proofs.Deliveries.{own-decodes, pair-emitted, pair-delivered, pair-damaged, finds-damage}
 
 -- ANY EVENT that isn't refused, at the party whose side it names
-ends-effect : (p q : PartyState) (event : EventContent) → HasBytes event → (effect_of p q event).refusal ≡ None → IsSoundPair p q → IsSoundPair (effect_of p q event).here (effect_of p q event).there
+ends-effect : (life : ℕ) (p q : PartyState) (event : EventContent) → life ≤ max_life → HasBytes event → (effect_of life p q event).refusal ≡ None → IsSoundPair p q
+    → IsSoundPair (effect_of life p q event).here (effect_of life p q event).there
 unfolding effect_of
-ends-effect p q (Connect side) fits e h = pair-connected p q h
-ends-effect p q (Listen side) fits e h = pair-listening p q h
-ends-effect p q (Send side bytes) fits e h = pair-sent p q bytes fits h
-ends-effect p q (Receive side room) fits e h = pair-received p q room h
-ends-effect p q (Close side) fits e h = pair-close p q h
-ends-effect p q (Abort side) fits e h = pair-aborted p q h
-ends-effect p q (Timer side which) fits e h = pair-timer p q which h
-ends-effect p q (Emit side) fits e h = pair-emitted p q h
-ends-effect p q (Deliver from k) fits e h = pair-swapped _ _ (pair-delivered q p k e (pair-swapped _ _ h))
-ends-effect p q (Damage from k place value) fits e h = pair-swapped _ _ (pair-damaged q p k place value fits e (pair-swapped _ _ h))
+ends-effect life p q (Connect side) most fits e h = pair-connected p q h
+ends-effect life p q (Listen side) most fits e h = pair-listening p q h
+ends-effect life p q (Send side bytes) most fits e h = pair-sent p q bytes fits h
+ends-effect life p q (Receive side room) most fits e h = pair-received p q room h
+ends-effect life p q (Close side) most fits e h = pair-close p q h
+ends-effect life p q (Abort side) most fits e h = pair-aborted p q h
+ends-effect life p q (Timer side which) most fits e h = pair-timer p q which h
+ends-effect life p q (Emit side) most fits e h = pair-emitted p q h
+ends-effect life p q (Deliver from k) most fits e h = pair-swapped _ _ (pair-delivered q p life k most e (pair-swapped _ _ h))
+ends-effect life p q (Damage from k place value) most fits e h = pair-swapped _ _ (pair-damaged q p life k place value fits e (pair-swapped _ _ h))
 
-ends-from : (w : WorldState) (side : Side) (event : EventContent) → HasBytes event → (effect_of (party_of w side) (party_of w (other side)) event).refusal ≡ None → AreSoundEnds w
-    → AreSoundEnds (world_from side (effect_of (party_of w side) (party_of w (other side)) event).here (effect_of (party_of w side) (party_of w (other side)) event).there)
-ends-from w A event fits e h = ends-effect w.a w.b event fits e h
-ends-from w B event fits e h = pair-swapped _ _ (ends-effect w.b w.a event fits e (pair-swapped _ _ h))
+ends-from : (w : WorldState) (side : Side) (event : EventContent) → w.life ≤ max_life → HasBytes event → (effect_of w.life (party_of w side) (party_of w (other side)) event).refusal ≡ None → AreSoundEnds w
+    → AreSoundEnds (world_from w.life side (effect_of w.life (party_of w side) (party_of w (other side)) event).here (effect_of w.life (party_of w side) (party_of w (other side)) event).there)
+ends-from w A event most fits e h = ends-effect w.life w.a w.b event most fits e h
+ends-from w B event most fits e h = pair-swapped _ _ (ends-effect w.life w.b w.a event most fits e (pair-swapped _ _ h))
 
-pub ends-after : (w : WorldState) (event : EventContent) → HasBytes event → refusal_of w event ≡ None → AreSoundEnds w → AreSoundEnds (world_with_effect w event)
-ends-after w event fits e h = ends-from w (side_of event) event fits e h
+pub ends-after : (w : WorldState) (event : EventContent) → w.life ≤ max_life → HasBytes event → refusal_of w event ≡ None → AreSoundEnds w → AreSoundEnds (world_with_effect w event)
+ends-after w event most fits e h = ends-from w (side_of event) event most fits e h
+
+-- the lifetime stays
+life-from : (life : ℕ) (side : Side) (p q : PartyState) → (world_from life side p q).life ≡ life
+life-from life A p q = refl
+life-from life B p q = refl
+
+pub life-after : (w : WorldState) (event : EventContent) → (world_with_effect w event).life ≡ w.life
+life-after w event = life-from w.life (side_of event) _ _
 
 -- DAMAGE that isn't refused is found, and changes nothing
 record IsFound (p q : PartyState) (effect : Effect) : Type 0 where
@@ -49,22 +58,22 @@ record IsFound (p q : PartyState) (effect : Effect) : Type 0 where
   here : effect.here ≡ p
   there : effect.there ≡ q
 
-damage-found : (p q : PartyState) (event : EventContent) → IsDamage event → HasBytes event → (effect_of p q event).refusal ≡ None → IsSoundPair p q → IsFound p q (effect_of p q event)
+damage-found : (life : ℕ) (p q : PartyState) (event : EventContent) → IsDamage event → HasBytes event → (effect_of life p q event).refusal ≡ None → IsSoundPair p q → IsFound p q (effect_of life p q event)
 unfolding effect_of
-damage-found p q (Damage from k place value) is fits e h =
-    let found = finds-damage q p k place value fits e (pair-swapped _ _ h) in
+damage-found life p q (Damage from k place value) is fits e h =
+    let found = finds-damage q p life k place value fits e (pair-swapped _ _ h) in
     record { outcome = found.answer; here = refl; there = found.same }
-damage-found p q other is fits e h = absurd is
+damage-found life p q other is fits e h = absurd is
 
-damage-from : (w : WorldState) (side : Side) (event : EventContent) → IsDamage event → HasBytes event → (effect_of (party_of w side) (party_of w (other side)) event).refusal ≡ None → AreSoundEnds w
-    → ((effect_of (party_of w side) (party_of w (other side)) event).outcome ≡ outcomes.Arrived (Malformed BadChecksum))
-    × (world_from side (effect_of (party_of w side) (party_of w (other side)) event).here (effect_of (party_of w side) (party_of w (other side)) event).there ≡ w)
+damage-from : (w : WorldState) (side : Side) (event : EventContent) → IsDamage event → HasBytes event → (effect_of w.life (party_of w side) (party_of w (other side)) event).refusal ≡ None → AreSoundEnds w
+    → ((effect_of w.life (party_of w side) (party_of w (other side)) event).outcome ≡ outcomes.Arrived (Malformed BadChecksum))
+    × (world_from w.life side (effect_of w.life (party_of w side) (party_of w (other side)) event).here (effect_of w.life (party_of w side) (party_of w (other side)) event).there ≡ w)
 damage-from w A event is fits e h =
-    let found = damage-found w.a w.b event is fits e h in
-    (found.outcome, ap (λ (p : PartyState). both p (effect_of w.a w.b event).there) found.here ∙ ap (both w.a) found.there)
+    let found = damage-found w.life w.a w.b event is fits e h in
+    (found.outcome, ap (λ (p : PartyState). both w.life p (effect_of w.life w.a w.b event).there) found.here ∙ ap (both w.life w.a) found.there)
 damage-from w B event is fits e h =
-    let found = damage-found w.b w.a event is fits e (pair-swapped _ _ h) in
-    (found.outcome, ap (λ (p : PartyState). both (effect_of w.b w.a event).there p) found.here ∙ ap (λ (q : PartyState). both q w.b) found.there)
+    let found = damage-found w.life w.b w.a event is fits e (pair-swapped _ _ h) in
+    (found.outcome, ap (λ (p : PartyState). both w.life (effect_of w.life w.b w.a event).there p) found.here ∙ ap (λ (q : PartyState). both w.life q w.b) found.there)
 
 pub damage-refused : (w : WorldState) (event : EventContent) → IsDamage event → HasBytes event → refusal_of w event ≡ None → AreSoundEnds w
     → (outcome_of w event ≡ outcomes.Arrived (Malformed BadChecksum)) × (world_with_effect w event ≡ w)
@@ -93,9 +102,9 @@ safe-direction x y h h' =
     }
 
 emits-truth : (x y : PartyState) → AreOwn x y → EmitsTruth x y
-emits-truth x y told k bytes e =
-    let own = told k bytes e in
-    (own.content, own-decodes x y bytes own, own.truthful)
+emits-truth x y told k g e =
+    let own = told k g e in
+    (own.content, own-decodes x y g own, λ plain. (own.truthful plain).truth, own.truthful)
 
 pub safe-ends : (w : WorldState) → AreSoundEnds w → IsSafe w
 safe-ends w h = record {
@@ -113,10 +122,11 @@ new-end a b one = record {
   takes = record { next = λ never. absurd (cc); unopened = λ _. (refl, refl, refl); order = omega arith; fin = λ never. absurd (cc); held = empty_inbox-agrees a.recv_capacity [] };
   hands = record { count = 0; handed = refl; least = omega arith; whole = λ _. refl; all_handed = λ never. absurd (cc) };
   between = omega arith;
+  limit = omega arith;
 }
 
-pub ends-new : (a b : Config) → IsConfig a → IsConfig b → AreSoundEnds (new_world a b)
-ends-new a b one two = record { there = new-end a b one; back = new-end b a two; own_there = λ k bytes none. absurd (cc); own_back = λ k bytes none. absurd (cc) }
+pub ends-new : (life : ℕ) (a b : Config) → IsConfig a → IsConfig b → AreSoundEnds (new_world_with life a b)
+ends-new life a b one two = record { there = new-end a b one; back = new-end b a two; own_there = λ k g none. absurd (cc); own_back = λ k g none. absurd (cc) }
 
 -- ANY RUN keeps what each event that isn't refused keeps
 module _ (P : WorldState → Type 0) (keeps : (w : WorldState) (event : EventContent) → HasBytes event → refusal_of w event ≡ None → P w → P (world_with_effect w event)) where

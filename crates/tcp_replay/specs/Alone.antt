@@ -7,10 +7,10 @@ use Rattle.tcp_conn.specs.declared.phase.Phase.{Phase}
 use Rattle.tcp_conn.specs.declared.phase.Phase.TheVariants.{Closed, Listen, SynSent, SynReceived, Established, FinWait1, FinWait2, CloseWait, Closing, LastAck, TimeWait}
 use Rattle.tcp_conn.specs.declared.phase.Ending.{Ending}
 use Rattle.tcp_conn.specs.declared.phase.Ending.TheVariants.{NotEnded}
-use Rattle.tcp_conn.specs.Config.{IsConfig}
+use Rattle.tcp_sendq.specs.SendQueue.{max_capacity}
+use Rattle.tcp_conn.specs.Config.{IsConfig, stream_limit}
 use Rattle.tcp_conn.specs.State.{State, Sending}
-use Rattle.tcp_conn.specs.Sender.{stream_limit}
-use Rattle.tcp_conn.specs.Phase.{has_peer, gives_up}
+use Rattle.tcp_conn.specs.Phase.{has_peer, is_handshake, gives_up}
 
 -- THE HALF THAT SENDS, against what was accepted
 pub record Sends (s : Sending) (accepted : List ℕ) (closed gone : Bool) : Type 0 where
@@ -18,6 +18,9 @@ pub record Sends (s : Sending) (accepted : List ℕ) (closed gone : Bool) : Type
   -- nothing was sent but the SYN, what was accepted, and after a close the FIN
   pub most : s.nxt ≤ 1 + length accepted + (if closed then 1 else 0)
   pub limit : length accepted ≤ stream_limit
+  -- no more is unreleased than a queue holds, an end that gave up included
+  pub capacity : s.queue.capacity ≤ max_capacity
+  pub ahead : length accepted ≤ s.released + max_capacity
   pub bytes : AreBytes accepted
   -- what was released is the text below SND.UNA
   pub released : s.released ≡ min (s.una - 1) (length accepted)
@@ -79,8 +82,8 @@ pub record IsAlone (s : State) (accepted : List ℕ) (closed : Bool) : Type 0 wh
   pub closing : s.closing ≡ closed
   pub progress : FitsPhase s.phase s.ending s.sending.una s.sending.nxt s.receiving.opened s.receiving.finished
   pub port : has_peer s.phase ≡ true → s.peer.port < 2 ^ 16
-  -- SYN and acknowledgement are owed to a peer alone, and an acknowledgement of something
-  pub syn : s.owed.syn ≡ true → has_peer s.phase ≡ true
+  -- a SYN is owed in the handshake alone, an acknowledgement to a peer whose SYN was taken
+  pub syn : s.owed.syn ≡ true → is_handshake s.phase ≡ true
   pub ack : s.owed.ack ≡ true → (has_peer s.phase ≡ true) × (s.receiving.opened ≡ true)
   pub reset : IfSome s.owed.reset IsWritable
   pub sends : Sends s.sending accepted closed (gives_up s.ending)

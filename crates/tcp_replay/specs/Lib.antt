@@ -1,6 +1,9 @@
 pub mod Events
+pub mod SoloEvents
 pub mod World
+pub mod Solo
 pub mod Truthful
+pub mod OneEnd
 pub mod Safe
 pub mod Alone
 pub mod Sound

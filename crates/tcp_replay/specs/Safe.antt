@@ -13,8 +13,8 @@ use Rattle.tcp_conn.specs.Phase.{gives_up}
 use Rattle.tcp_conn.specs.State.{position_at}
 use Rattle.tcp_replay.specs.declared.outcome.Outcome.TheVariants as outcomes
 use Rattle.tcp_replay.specs.Events.{EventContent, HasBytes, IsDamage}
-use Rattle.tcp_replay.specs.World.{WorldState, PartyState, new_world, refusal_of, outcome_of, world_with_effect, run_of, world_after_all}
-use Rattle.tcp_replay.specs.Truthful.{Witness, HasPosition, IsTruthful, HasTrueBlocks}
+use Rattle.tcp_replay.specs.World.{WorldState, PartyState, SentSegment, max_life, new_world_with, refusal_of, outcome_of, world_with_effect, run_of, world_after_all}
+use Rattle.tcp_replay.specs.Truthful.{Witness, HasPosition, IsTruthful, StandsAt, HasTrueBlocks}
 
 abbrev pub unread_of : PartyState → List ℕ
 unread_of p = p.endpoint.receiving.inbox.unread
@@ -69,13 +69,15 @@ witness_of x y = record {
 -- each segment that x emitted is read as this
 abbrev pub IsSent : PartyState → PartyState → Content → Type 0
 IsSent x y v =
-    (k : ℕ) × (bytes : List ℕ) × (slice_get x.sent k ≡ Some bytes) × (decode_answer x.endpoint.config.addr.0 y.endpoint.config.addr.0 bytes ≡ Ok v)
+    (k : ℕ) × (g : SentSegment) × (slice_get x.sent k ≡ Some g) × (decode_answer x.endpoint.config.addr.0 y.endpoint.config.addr.0 g.bytes ≡ Ok v)
 
--- every segment that x emitted can be read, and what it says is true, unless it is a reset
+-- every segment that x emitted can be read, and what it says is true, unless it is a reset; and it is true at the positions that
+-- the world keeps of it
 abbrev pub EmitsTruth : PartyState → PartyState → Type 0
 EmitsTruth x y =
-    (k : ℕ) (bytes : List ℕ) → slice_get x.sent k ≡ Some bytes
-    → (v : Content) × (decode_answer x.endpoint.config.addr.0 y.endpoint.config.addr.0 bytes ≡ Ok v) × (has rst v.flags ≡ false → IsTruthful (witness_of x y) v)
+    (k : ℕ) (g : SentSegment) → slice_get x.sent k ≡ Some g
+    → (v : Content) × (decode_answer x.endpoint.config.addr.0 y.endpoint.config.addr.0 g.bytes ≡ Ok v) × (has rst v.flags ≡ false → IsTruthful (witness_of x y) v)
+    × (has rst v.flags ≡ false → StandsAt (witness_of x y) v g.position g.wanted)
 
 pub record IsSafe (w : WorldState) : Type 0 where
   pub there : IsSafeDirection w.a w.b
@@ -99,11 +101,11 @@ FindsDamage w =
     (event : EventContent) → IsDamage event → HasBytes event → refusal_of w event ≡ None
     → (outcome_of w event ≡ outcomes.Arrived (Malformed BadChecksum)) × (world_with_effect w event ≡ w)
 
--- THE HEADLINE, over every list of events: whatever two Configs the ends were made from, however a run ended, and
--- whether it stops at a refusal or goes on
+-- THE HEADLINE, over every list of events: whatever two Configs the ends were made from, however long segments live, however
+-- a run ended, and whether it stops at a refusal or goes on
 abbrev pub EveryRunIsSafe : Type 0
 EveryRunIsSafe =
-    (a b : Config) (list : List EventContent) → IsConfig a → IsConfig b → AllByRecursion HasBytes list
-    → IsSafe (run_of (new_world a b) list) × IsSafe (world_after_all (new_world a b) list)
-    × HintsAreTrue (run_of (new_world a b) list) × HintsAreTrue (world_after_all (new_world a b) list)
-    × FindsDamage (run_of (new_world a b) list) × FindsDamage (world_after_all (new_world a b) list)
+    (life : ℕ) (a b : Config) (list : List EventContent) → life ≤ max_life → IsConfig a → IsConfig b → AllByRecursion HasBytes list
+    → IsSafe (run_of (new_world_with life a b) list) × IsSafe (world_after_all (new_world_with life a b) list)
+    × HintsAreTrue (run_of (new_world_with life a b) list) × HintsAreTrue (world_after_all (new_world_with life a b) list)
+    × FindsDamage (run_of (new_world_with life a b) list) × FindsDamage (world_after_all (new_world_with life a b) list)

@@ -1,15 +1,18 @@
 -- What keeps two ends safe from event to event (RFC 9293, 3.3 and 3.4): more than is promised. What each keeps by itself
 -- is in Alone; here is what ties the two together.
-use Rattle.std.specs.Prelude.{◌≡◌, ℕ, ◌+◌, ◌≤◌, Bool, true, false, if◌then◌else◌, List, ◌++◌, length, take, drop, IfSome, Some, slice_get}
+use Rattle.std.specs.Prelude.{◌≡◌, ℕ, ◌+◌, ◌≤◌, Bool, true, false, if◌then◌else◌, List, ◌++◌, length, take, drop, IfSome, Some, slice_get, Ok}
 use Rattle.tcp_wire.specs.Position.{number}
 use Rattle.tcp_wire.specs.Flags.{rst, has}
 use Rattle.tcp_wire.specs.Wire.{Content, IsValid, encoded_bytes}
+use Rattle.tcp_wire.specs.Decoded.{decode_answer}
+use Rattle.tcp_sendq.specs.SendQueue.{IsMarked}
 use Rattle.tcp_reasm.specs.Agreement.{Agrees}
-use Rattle.tcp_conn.specs.State.{State, Receiving}
+use Rattle.tcp_conn.specs.State.{State, Receiving, position_at}
+use Rattle.tcp_conn.specs.Blocks.{reported_blocks}
 use Rattle.tcp_conn.specs.Phase.{has_peer}
-use Rattle.tcp_replay.specs.World.{WorldState, PartyState}
-use Rattle.tcp_replay.specs.Truthful.{IsTruthful}
-use Rattle.tcp_replay.specs.Safe.{witness_of, gave_up, next_position, HintsAreTrue}
+use Rattle.tcp_replay.specs.World.{WorldState, PartyState, SentSegment, max_life}
+use Rattle.tcp_replay.specs.Truthful.{Witness, HasPosition, IsTrueBlock, StandsAt}
+use Rattle.tcp_replay.specs.Safe.{witness_of, gave_up, next_position}
 use Rattle.tcp_replay.specs.Alone.{IsAlone}
 
 -- THE HALF THAT RECEIVES, against what was accepted at the other end: what came in order, and what is held
@@ -45,16 +48,17 @@ pub record IsSoundEnd (x y : PartyState) : Type 0 where
   pub hands : HandsOver x.endpoint.receiving.inbox.unread x.endpoint.receiving.ordered y.accepted y.closed x.delivered x.ended (gave_up x)
   -- nothing is acknowledged to it that the other end hasn't taken
   pub between : x.endpoint.sending.una ≤ next_position y
+  pub limit : length x.accepted ≤ x.endpoint.config.limit
 
--- bytes that x emitted: a segment, and it is truthful unless it is a reset
-pub record IsOwn (x y : PartyState) (bytes : List ℕ) : Type 0 where
+-- what x emitted: a segment, and it is truthful at the positions that are kept of it, unless it is a reset
+pub record IsOwn (x y : PartyState) (g : SentSegment) : Type 0 where
   pub content : Content
   pub valid : IsValid content
-  pub spelled : bytes ≡ encoded_bytes x.endpoint.config.addr.0 y.endpoint.config.addr.0 content
-  pub truthful : has rst content.flags ≡ false → IsTruthful (witness_of x y) content
+  pub spelled : g.bytes ≡ encoded_bytes x.endpoint.config.addr.0 y.endpoint.config.addr.0 content
+  pub truthful : has rst content.flags ≡ false → StandsAt (witness_of x y) content g.position g.wanted
 
 abbrev pub AreOwn : PartyState → PartyState → Type 0
-AreOwn x y = (k : ℕ) (bytes : List ℕ) → slice_get x.sent k ≡ Some bytes → IsOwn x y bytes
+AreOwn x y = (k : ℕ) (g : SentSegment) → slice_get x.sent k ≡ Some g → IsOwn x y g
 
 -- both ends, and all that they emitted
 pub record IsSoundPair (x y : PartyState) : Type 0 where
@@ -67,7 +71,27 @@ pub record IsSoundPair (x y : PartyState) : Type 0 where
 abbrev pub AreSoundEnds : WorldState → Type 0
 AreSoundEnds w = IsSoundPair w.a w.b
 
--- WHAT A WORLD KEEPS: its ends are sound, and what they report of held bytes is true. Safety rests on the first alone.
+-- a block tells of positions from the one on that was wanted next
+abbrev pub IsBlockBehind : Witness → ℕ → ℕ × ℕ → Type 0
+IsBlockBehind x wanted block = (is : IsTrueBlock x block) × (wanted ≤ is.0)
+
+-- each block of a segment does
+abbrev pub AreBlocksBehind : Witness → ℕ → List (ℕ × ℕ) → Type 0
+AreBlocksBehind x wanted blocks = (k : ℕ) (block : ℕ × ℕ) → slice_get blocks k ≡ Some block → IsBlockBehind x wanted block
+
+-- WHAT x REPORTS of held bytes is true, as is what it marked of y's reports
+pub record KeepsHints (x y : PartyState) : Type 0 where
+  pub blocks : (k : ℕ) (g : SentSegment) (v : Content) → slice_get x.sent k ≡ Some g → decode_answer x.endpoint.config.addr.0 y.endpoint.config.addr.0 g.bytes ≡ Ok v
+      → gave_up x ≡ false → AreBlocksBehind (witness_of x y) g.wanted (reported_blocks v.options)
+  pub marks : gave_up y ≡ false → (place : ℕ) → IsMarked x.endpoint.sending.queue place → HasPosition (witness_of y x) (position_at x.endpoint.sending place)
+
+pub record KeepBothHints (x y : PartyState) : Type 0 where
+  pub there : KeepsHints x y
+  pub back : KeepsHints y x
+
+-- WHAT A WORLD KEEPS: its ends are sound, what they report of held bytes is true, and no segment outlives the nearness of
+-- numbers. Safety rests on the first and the last alone.
 pub record IsSound (w : WorldState) : Type 0 where
   pub ends : AreSoundEnds w
-  pub hints : HintsAreTrue w
+  pub hints : KeepBothHints w.a w.b
+  pub life : w.life ≤ max_life

@@ -46,18 +46,28 @@ pub record IsTrueAck (x : Witness) (ack : ℕ) : Type 0 where
   pub most : position ≤ x.next
   pub number : ack ≡ number x.irs position
 
--- a segment without RST that the end emitted
-pub record IsTruthful (x : Witness) (v : Content) : Type 0 where
+-- WHAT A SEGMENT WITHOUT RST SAYS OF ITS OWN STREAM, against what the user sent and whether the user closed
+pub record IsOfUser (iss : ℕ) (accepted : List ℕ) (closed : Bool) (v : Content) : Type 0 where
   pub position : ℕ
-  pub seq : v.seq ≡ number x.iss position
+  pub seq : v.seq ≡ number iss position
   -- it lies within what was accepted, the FIN's position included
-  pub within : position ≤ 1 + length x.accepted + (if x.closed then 1 else 0)
+  pub within : position ≤ 1 + length accepted + (if closed then 1 else 0)
   -- SYN is at position 0 alone, and is there alone
   pub has_syn : has syn v.flags ≡ (position == 0)
   pub bare : position ≡ 0 → (v.text ≡ []) × (has fin v.flags ≡ false)
   -- its text is what was accepted, from its position on
-  pub fits : 0 < length v.text → position + length v.text ≤ 1 + length x.accepted
-  pub text : 0 < length v.text → v.text ≡ take (length v.text) (drop (position - 1) x.accepted)
+  pub fits : 0 < length v.text → position + length v.text ≤ 1 + length accepted
+  pub text : 0 < length v.text → v.text ≡ take (length v.text) (drop (position - 1) accepted)
   -- FIN comes right after all that was accepted, and only after a close
-  pub has_fin : has fin v.flags ≡ true → (x.closed ≡ true) × (position + length v.text ≡ 1 + length x.accepted)
+  pub has_fin : has fin v.flags ≡ true → (closed ≡ true) × (position + length v.text ≡ 1 + length accepted)
+
+-- a segment without RST that the end emitted
+pub record IsTruthful (x : Witness) (v : Content) : Type 0 where
+  pub own : IsOfUser x.iss x.accepted x.closed v
   pub has_ack : has ack v.flags ≡ true → IsTrueAck x v.ack
+
+-- and it says so at these positions of the two directions
+pub record StandsAt (x : Witness) (v : Content) (position wanted : ℕ) : Type 0 where
+  pub truth : IsTruthful x v
+  pub position_is : truth.own.position ≡ position
+  pub wanted_is : (told : has ack v.flags ≡ true) → (truth.has_ack told).position ≡ wanted

@@ -1,5 +1,8 @@
 -- Two ends and all that they emitted, what happens to them at an event (RFC 9293, 3.10), and runs of events.
-use Rattle.std.specs.Prelude.{◌≡◌, ℕ, suc, Bool, true, false, ◌||◌, ◌==◌, nat_le, bit_xor, if◌then◌else◌, is_ok, List, [], ◌∷◌, ◌++◌, length, take, Option, Some, None, unwrap_or, option_to_list, option_map, slice_get, slice_set, slice_index, Result, Ok, Err, IfErr, ◌↔◌}
+use Rattle.std.specs.Prelude.{◌≡◌, ℕ, suc, ◌^◌, Bool, true, false, ◌||◌, ◌==◌, nat_le, bit_xor, if◌then◌else◌, is_ok, List, [], ◌∷◌, ◌++◌, length, take, Option, Some, None, unwrap_or, option_to_list, option_map, slice_get, slice_set, slice_index, Result, Ok, Err, IfErr, ◌↔◌, ◌≤◌, ◌+◌, ◌&&◌, not}
+use Rattle.byteorder.specs.Endian.{big_from}
+use Rattle.tcp_wire.specs.Flags.{rst, ack, has}
+use Rattle.tcp_wire.specs.Position.{position_of}
 use Rattle.tcp_conn.specs.declared.config.Config.{Config}
 use Rattle.tcp_conn.specs.declared.config.ConfigError.{ConfigError}
 use Rattle.tcp_conn.specs.declared.config.ConfigError.TheVariants as faults
@@ -9,8 +12,9 @@ use Rattle.tcp_conn.specs.declared.outcome.Received.{Received}
 use Rattle.tcp_conn.specs.declared.outcome.Received.TheVariants.{Bytes, EndOfStream}
 use Rattle.tcp_conn.specs.declared.phase.Timer.{Timer as Which}
 use Rattle.tcp_conn.specs.State.{State}
-use Rattle.tcp_conn.specs.Config.{HasBadCapacity, HasBadMss, HasBadShift, IsGoodConfig}
+use Rattle.tcp_conn.specs.Config.{default_limit, HasBadCapacity, HasBadMss, HasBadShift, HasBadLimit, IsGoodConfig}
 use Rattle.tcp_conn.specs.NewEnd.{new_end}
+use Rattle.tcp_conn.specs.Receiver.{next_wanted}
 use Rattle.tcp_conn.specs.Calls.{opening_answer, after_connect, after_listen, send_answer, after_send, receive_answer, after_receive, received_bytes, close_answer, after_close, abort_answer, after_abort}
 use Rattle.tcp_conn.specs.Timers.{timer_answer, after_timer}
 use Rattle.tcp_conn.specs.Emission.{emitted_bytes, after_emission}
@@ -22,13 +26,31 @@ use Rattle.tcp_replay.specs.declared.outcome.Outcome.TheVariants as outcomes
 use Rattle.tcp_replay.specs.declared.outcome.WorldError.{WorldError}
 use Rattle.tcp_replay.specs.declared.outcome.WorldError.TheVariants as worlds
 use Rattle.tcp_replay.specs.declared.outcome.StepError.{StepError}
-use Rattle.tcp_replay.specs.declared.outcome.StepError.TheVariants.{NoSuchSegment, NoChange, PlaceOutside}
+use Rattle.tcp_replay.specs.declared.outcome.StepError.TheVariants.{NoSuchSegment, NoChange, PlaceOutside, Expired}
 use Rattle.tcp_replay.specs.Events.{EventContent, side_of, Connect, Listen, Send, Receive, Close, Abort, Timer, Emit, Deliver, Damage}
+
+-- a segment that was emitted, and the positions at which it was: that of its sequence number in its own direction, and the next
+-- that the end wanted of the other, which it acknowledges
+pub record SentSegment : Type 0 where
+  pub bytes : List ℕ
+  pub position : ℕ
+  pub wanted : ℕ
+
+-- the sequence number and the control bits stand here (RFC 9293, 3.1)
+abbrev pub seq_in : List ℕ → ℕ
+seq_in bytes = big_from 4 4 bytes
+
+abbrev pub flags_in : List ℕ → ℕ
+flags_in bytes = slice_index bytes 13
+
+-- an end in this state emits these bytes
+abbrev pub sent_by : State → List ℕ → SentSegment
+sent_by s bytes = record { bytes = bytes; position = position_of s.config.isn.0 s.sending.una (seq_in bytes); wanted = next_wanted s.receiving }
 
 -- one end, with what its user did and had, and every segment that it emitted
 pub record PartyState : Type 0 where
   pub endpoint : State
-  pub sent : List (List ℕ)
+  pub sent : List SentSegment
   -- what `send` took, and what `receive` put out
   pub accepted : List ℕ
   pub delivered : List ℕ
@@ -36,18 +58,27 @@ pub record PartyState : Type 0 where
   pub closed : Bool
   pub ended : Bool
 
+-- two ends, and how many positions a segment lives: one that an end has passed by so many is not delivered to it
 pub record WorldState : Type 0 where
+  pub life : ℕ
   pub a : PartyState
   pub b : PartyState
 
-abbrev pub both : PartyState → PartyState → WorldState
-both a b = record { a = a; b = b }
+abbrev pub both : ℕ → PartyState → PartyState → WorldState
+both life a b = record { life = life; a = a; b = b }
+
+-- the longest lifetime: with it any number means one position alone (RFC 9293, 3.4)
+abbrev pub max_life : ℕ
+max_life = 2 ^ 31
 
 abbrev pub new_party : Config → PartyState
 new_party c = record { endpoint = new_end c; sent = []; accepted = []; delivered = []; closed = false; ended = false }
 
+abbrev pub new_world_with : ℕ → Config → Config → WorldState
+new_world_with life a b = both life (new_party a) (new_party b)
+
 abbrev pub new_world : Config → Config → WorldState
-new_world a b = both (new_party a) (new_party b)
+new_world a b = new_world_with max_life a b
 
 -- ---- what happens at one party
 
@@ -98,7 +129,7 @@ party_after_timer p timer = record p { endpoint = after_timer p.endpoint timer }
 
 -- EMIT: a segment is appended to the list, which nothing leaves
 unfoldable pub party_after_emission : PartyState → PartyState
-party_after_emission p = record p { endpoint = after_emission p.endpoint; sent = p.sent ++ option_to_list (emitted_bytes p.endpoint) }
+party_after_emission p = record p { endpoint = after_emission p.endpoint; sent = p.sent ++ option_to_list (option_map (sent_by p.endpoint) (emitted_bytes p.endpoint)) }
 
 abbrev pub emission_outcome : PartyState → Outcome
 emission_outcome p = outcomes.Emitted (option_map (λ _. length p.sent) (emitted_bytes p.endpoint))
@@ -112,9 +143,12 @@ party_after_arrival p from bytes = record p {
 abbrev pub arrival_outcome : PartyState → PartyState → List ℕ → Outcome
 arrival_outcome p from bytes = outcomes.Arrived (arrival_answer p.endpoint from.endpoint.config.addr.0 p.endpoint.config.addr.0 bytes)
 
--- segment k of a party, none being the empty text
+-- segment k of a party, none being without bytes, at the first positions
+abbrev pub sent_at : PartyState → ℕ → SentSegment
+sent_at p k = unwrap_or (slice_get p.sent k) (record { bytes = []; position = 0; wanted = 0 })
+
 abbrev pub segment_at : PartyState → ℕ → List ℕ
-segment_at p k = unwrap_or (slice_get p.sent k) []
+segment_at p k = (sent_at p k).bytes
 
 -- the bytes with one of them combined with a value by exclusive or
 abbrev pub bytes_with_damage : List ℕ → ℕ → ℕ → List ℕ
@@ -124,15 +158,30 @@ bytes_with_damage bytes place value = slice_set bytes place (bit_xor (slice_inde
 abbrev pub is_missing : PartyState → ℕ → Bool
 is_missing p k = nat_le (length p.sent) k
 
-abbrev pub delivery_refusal : PartyState → ℕ → Option StepError
-delivery_refusal p k = if is_missing p k then Some NoSuchSegment else None
+-- THE LIFETIME of a segment is over where its position lies so far behind the next that its receiver wants, or its
+-- acknowledgement so far behind the receiver's SND.UNA (RFC 9293, 3.4). A reset has none
+abbrev pub is_late : ℕ → State → SentSegment → Bool
+is_late life s g = nat_le (g.position + life) (next_wanted s.receiving)
 
-abbrev pub damage_refusal : PartyState → ℕ → ℕ → ℕ → Option StepError
-damage_refusal p k place value =
+abbrev pub acks_late : ℕ → State → SentSegment → Bool
+acks_late life s g = has ack (flags_in g.bytes) && nat_le (g.wanted + life) s.sending.una
+
+abbrev pub is_expired : ℕ → State → SentSegment → Bool
+is_expired life s g = not (has rst (flags_in g.bytes)) && (is_late life s g || acks_late life s g)
+
+abbrev pub age_refusal : ℕ → State → SentSegment → Option StepError
+age_refusal life s g = if is_expired life s g then Some Expired else None
+
+-- from p to q
+abbrev pub delivery_refusal : ℕ → PartyState → PartyState → ℕ → Option StepError
+delivery_refusal life p q k = if is_missing p k then Some NoSuchSegment else age_refusal life q.endpoint (sent_at p k)
+
+abbrev pub damage_refusal : ℕ → PartyState → PartyState → ℕ → ℕ → ℕ → Option StepError
+damage_refusal life p q k place value =
     if is_missing p k then Some NoSuchSegment
     else (if value == 0 then Some NoChange
     else (if nat_le (length (segment_at p k)) place then Some PlaceOutside
-    else None))
+    else age_refusal life q.endpoint (sent_at p k)))
 
 -- ---- what happens in the world
 
@@ -145,9 +194,9 @@ party_of w A = w.a
 party_of w B = w.b
 
 -- the world in which one side's party is the first of two
-abbrev pub world_from : Side → PartyState → PartyState → WorldState
-world_from A p q = both p q
-world_from B p q = both q p
+abbrev pub world_from : ℕ → Side → PartyState → PartyState → WorldState
+world_from life A p q = both life p q
+world_from life B p q = both life q p
 
 -- What comes of an event at the party whose side it names, here, and at the other one, there: why it is refused, want
 -- of memory aside; where it isn't, both parties after it, and what is answered; and whether the world has to grow for it.
@@ -172,21 +221,21 @@ effect_there here there bytes refusal grows = record {
 }
 
 -- THE TABLE OF EVENTS
-unfoldable pub effect_of : PartyState → PartyState → EventContent → Effect
-effect_of p q (Connect side) = effect_here (party_after_connect p (address_of q)) q (outcomes.Call (opening_answer p.endpoint)) false
-effect_of p q (Listen side) = effect_here (party_after_listen p) q (outcomes.Call (opening_answer p.endpoint)) false
-effect_of p q (Send side bytes) = effect_here (party_after_send p bytes) q (outcomes.Sent (send_answer p.endpoint bytes)) true
-effect_of p q (Receive side room) = effect_here (party_after_receive p room) q (outcomes.Got (receive_answer p.endpoint room)) true
-effect_of p q (Close side) = effect_here (party_after_close p) q (outcomes.Call (close_answer p.endpoint)) false
-effect_of p q (Abort side) = effect_here (party_after_abort p) q (outcomes.Call (abort_answer p.endpoint)) false
-effect_of p q (Timer side which) = effect_here (party_after_timer p which) q (outcomes.Timer (timer_answer p.endpoint which)) false
-effect_of p q (Emit side) = effect_here (party_after_emission p) q (emission_outcome p) true
-effect_of p q (Deliver from k) = effect_there p q (segment_at p k) (delivery_refusal p k) false
-effect_of p q (Damage from k place value) = effect_there p q (bytes_with_damage (segment_at p k) place value) (damage_refusal p k place value) true
+unfoldable pub effect_of : ℕ → PartyState → PartyState → EventContent → Effect
+effect_of life p q (Connect side) = effect_here (party_after_connect p (address_of q)) q (outcomes.Call (opening_answer p.endpoint)) false
+effect_of life p q (Listen side) = effect_here (party_after_listen p) q (outcomes.Call (opening_answer p.endpoint)) false
+effect_of life p q (Send side bytes) = effect_here (party_after_send p bytes) q (outcomes.Sent (send_answer p.endpoint bytes)) true
+effect_of life p q (Receive side room) = effect_here (party_after_receive p room) q (outcomes.Got (receive_answer p.endpoint room)) true
+effect_of life p q (Close side) = effect_here (party_after_close p) q (outcomes.Call (close_answer p.endpoint)) false
+effect_of life p q (Abort side) = effect_here (party_after_abort p) q (outcomes.Call (abort_answer p.endpoint)) false
+effect_of life p q (Timer side which) = effect_here (party_after_timer p which) q (outcomes.Timer (timer_answer p.endpoint which)) false
+effect_of life p q (Emit side) = effect_here (party_after_emission p) q (emission_outcome p) true
+effect_of life p q (Deliver from k) = effect_there p q (segment_at p k) (delivery_refusal life p q k) false
+effect_of life p q (Damage from k place value) = effect_there p q (bytes_with_damage (segment_at p k) place value) (damage_refusal life p q k place value) true
 
 -- in a world, for the side that the event names
 abbrev pub effect_in : WorldState → EventContent → Effect
-effect_in w e = effect_of (party_of w (side_of e)) (party_of w (other (side_of e))) e
+effect_in w e = effect_of w.life (party_of w (side_of e)) (party_of w (other (side_of e))) e
 
 -- why an event is refused, want of memory aside
 abbrev pub refusal_of : WorldState → EventContent → Option StepError
@@ -194,7 +243,7 @@ refusal_of w e = (effect_in w e).refusal
 
 -- the world after one that isn't, and what is answered
 abbrev pub world_with_effect : WorldState → EventContent → WorldState
-world_with_effect w e = world_from (side_of e) (effect_in w e).here (effect_in w e).there
+world_with_effect w e = world_from w.life (side_of e) (effect_in w e).here (effect_in w e).there
 
 abbrev pub outcome_of : WorldState → EventContent → Outcome
 outcome_of w e = (effect_in w e).outcome
@@ -252,6 +301,12 @@ pub record StopsForMemory (w : WorldState) (list : List EventContent) (index : �
   pub grows : grows_for here event ≡ true
   pub stays : here ≡ run_of w (take index list)
 
+-- NO SEGMENT EXPIRES where the lifetime is the longest, and any two positions of a direction differ by less than it
+pub record KeepsAllSegments (w : WorldState) : Type 0 where
+  pub life : w.life ≡ max_life
+  pub limit_of_a : w.a.endpoint.config.limit ≤ default_limit
+  pub limit_of_b : w.b.endpoint.config.limit ≤ default_limit
+
 -- FAULTS of two Configs: what can be made of them, and whose fault a refusal names. Memory aside, a fault of
 -- the second is named only where the first has none.
 abbrev pub HasGoodConfigs : Config → Config → Type 0
@@ -261,6 +316,7 @@ abbrev pub HasFault : Config → ConfigError → Type 0
 HasFault c faults.BadCapacity = HasBadCapacity c
 HasFault c faults.BadMss = HasBadMss c
 HasFault c faults.BadShift = HasBadShift c
+HasFault c faults.BadLimit = HasBadLimit c
 HasFault c faults.NoMemory = IsGoodConfig c
 
 abbrev pub HasNamedFault : Config → Config → WorldError → Type 0
@@ -273,3 +329,4 @@ pub record NamesFault (a b : Config) (result : Result WorldState WorldError) : T
   pub bad_capacity_of_a : (result ≡ Err (worlds.Config A faults.BadCapacity)) ↔ HasBadCapacity a
   pub bad_mss_of_a : (result ≡ Err (worlds.Config A faults.BadMss)) ↔ HasBadMss a
   pub bad_shift_of_a : (result ≡ Err (worlds.Config A faults.BadShift)) ↔ HasBadShift a
+  pub bad_limit_of_a : (result ≡ Err (worlds.Config A faults.BadLimit)) ↔ HasBadLimit a

@@ -37,8 +37,8 @@ pub enum Event {
 }
 
 impl Event {
-    /// The side whose user, timer or segment it names.
-    pub(crate) fn side(&self) -> Side
+    /// The side whose user, timer or emission it names; of a delivery the side that emitted the segment.
+    pub fn side(&self) -> Side
         ensures { result ≡ side_of (event_content self.now) }
     {
         match self {

@@ -1,3 +1,4 @@
+ghost use Rattle.tcp_replay.specs.OneEnd.{OneEndIsTrue};
 ghost use Rattle.tcp_replay.specs.Safe.{EveryRunIsSafe};
 
 /// The theorem of this crate, over every list of events: each user is handed a prefix of the bytes accepted
@@ -7,4 +8,11 @@ ghost use Rattle.tcp_replay.specs.Safe.{EveryRunIsSafe};
 /// [`World::step`](crate::World::step) and [`World::run`](crate::World::run) do what it speaks of.
 pub fn every_run_is_safe()
     ensures { EveryRunIsSafe }
+{}
+
+/// The theorem of one end, over every list of events, whoever its peer is and whatever bytes arrive: what it sends is its
+/// user's; what it hands over came, in a segment that was acceptable; and what it acknowledges is in order. It does
+/// nothing when it runs; [`solo`](crate::solo) does what it speaks of.
+pub fn one_end_is_true()
+    ensures { OneEndIsTrue }
 {}

@@ -1,5 +1,5 @@
 ghost use Rattle.std.specs.Prelude.{◌≡◌, Some};
-ghost use Rattle.tcp_replay.specs.Refusals.{step_error_number, step_error_text, world_error_text};
+ghost use Rattle.tcp_replay.specs.Refusals.{step_error_number, step_error_text, world_error_text, solo_error_text};
 ghost use Rattle.tcp_replay.specs.declared.outcome.StepError.TheVariants.{NoMemory};
 
 use crate::event::Side;
@@ -34,6 +34,8 @@ pub enum StepError {
     NoChange,
     /// The place of a damage lies past the segment's end.
     PlaceOutside,
+    /// The lifetime of the segment is over: its position, or that of its acknowledgement, lies too far behind.
+    Expired,
     /// A growth of the world found no memory.
     NoMemory,
 }
@@ -47,6 +49,7 @@ impl StepError {
             StepError::NoSuchSegment => 31,
             StepError::NoChange => 32,
             StepError::PlaceOutside => 33,
+            StepError::Expired => 35,
             StepError::NoMemory => 34,
         }
     }
@@ -60,6 +63,7 @@ impl fmt::Display for StepError {
             StepError::NoSuchSegment => "no segment of this number was emitted",
             StepError::NoChange => "the damage changes nothing",
             StepError::PlaceOutside => "the place lies past the segment's end",
+            StepError::Expired => "the segment's lifetime is over",
             StepError::NoMemory => "no memory for the event",
         })
     }
@@ -95,3 +99,25 @@ impl fmt::Display for WorldError {
 }
 
 impl Error for WorldError {}
+
+/// Why one end can't be made, or doesn't go through all its events.
+#[derive(Clone, Copy, Debug, PartialEq, Eq)]
+pub enum SoloError {
+    /// The end can't be made.
+    Config(ConfigError),
+    /// The event with this index, from 0, finds no memory: `StepError::NoMemory` alone occurs.
+    At(usize, StepError),
+}
+
+impl fmt::Display for SoloError {
+    ghost output = { λ e. Some (solo_error_text e) };
+
+    fn fmt<W: fmt::Write>(&self, f: &mut fmt::Formatter<W>) -> fmt::Result {
+        match *self {
+            SoloError::Config(error) => write!(f, "{error}"),
+            SoloError::At(index, error) => write!(f, "event {index}: {error}"),
+        }
+    }
+}
+
+impl Error for SoloError {}

@@ -1,22 +1,24 @@
 ghost use Rattle.std.specs.Prelude.{◌≡◌, ◌<◌, ◌↔◌, ◌||◌, length, OnOk, OnErr, IfOk, IfErr, IfSome, IfNone, IsOk};
 ghost use Rattle.tcp_wire.specs.Checksum.{AreBytes};
-ghost use Rattle.tcp_conn.specs.Config.{HasBadCapacity, HasBadMss, HasBadShift, IsGoodConfig, IsConfig};
+ghost use Rattle.tcp_conn.specs.Config.{HasBadCapacity, HasBadMss, HasBadShift, HasBadLimit, IsGoodConfig, IsConfig};
 ghost use Rattle.tcp_conn.specs.Calls.{opening_answer, send_answer, receive_answer, close_answer, abort_answer};
 ghost use Rattle.tcp_conn.specs.Timers.{timer_answer};
 ghost use Rattle.tcp_conn.specs.Arrival.{arrival_answer};
-ghost use Rattle.tcp_replay.specs.World.{PartyState, new_party, address_of, party_after_connect, party_after_listen, party_after_send, count_handed, is_end_of_stream, party_after_receive, party_after_close, party_after_abort, party_after_timer, party_after_emission, emission_outcome, party_after_arrival, arrival_outcome, segment_at, bytes_with_damage, delivery_refusal, damage_refusal};
+ghost use Rattle.tcp_replay.specs.World.{PartyState, new_party, address_of, party_after_connect, party_after_listen, party_after_send, is_end_of_stream, party_after_receive, party_after_close, party_after_abort, party_after_timer, party_after_emission, emission_outcome, party_after_arrival, arrival_outcome, sent_at, segment_at, bytes_with_damage, delivery_refusal, damage_refusal};
 
+use crate::growth::{emit_for, receive_to, send_from};
 use crate::outcome::{Outcome, StepError};
+use crate::segment::{SentSegment, seq_in};
 use std::alloc::{AllocError, Allocator, Global};
 use std::marker::Model;
-use tcp_conn::{Arrival, CallError, Config, ConfigError, EMIT_ROOM, Endpoint, Received, Timer};
+use tcp_conn::{Arrival, CallError, Config, ConfigError, Endpoint, Received, Timer};
 
 /// One end, with what its user did and had, and every segment that it emitted.
 #[derive(Debug, Drop)]
 pub(crate) struct Party<A: Allocator = Global> {
     pub(crate) endpoint: Endpoint<A>,
     /// The segments that were emitted, in turn. Nothing leaves the list.
-    pub(crate) sent: Vec<Vec<u8, A>, A>,
+    pub(crate) sent: Vec<SentSegment<A>, A>,
     /// The bytes that `send` took.
     pub(crate) accepted: Vec<u8, A>,
     /// The bytes that `receive` put out.
@@ -28,26 +30,15 @@ pub(crate) struct Party<A: Allocator = Global> {
 }
 
 impl<A: Allocator> Model for Party<A> {
-    ghost use Rattle.std.specs.Prelude.{map, vec_items};
     ghost use Rattle.tcp_replay.specs.World.{PartyState};
 
     ghost Value = { PartyState };
 
-    ghost view = { λ p. record { endpoint = p.endpoint; sent = map (λ bytes. bytes.items) p.sent.items; accepted = p.accepted.items; delivered = p.delivered.items; closed = p.closed; ended = p.ended } };
-}
-
-/// How many bytes a `receive` with this answer put out.
-fn count_handed(answer: Result<Received, CallError>) -> usize
-    ensures { result ≡ count_handed answer }
-{
-    match answer {
-        Ok(Received::Bytes(count)) => count,
-        _ => 0,
-    }
+    ghost view = { λ p. record { endpoint = p.endpoint; sent = p.sent.items; accepted = p.accepted.items; delivered = p.delivered.items; closed = p.closed; ended = p.ended } };
 }
 
 /// Whether the end of the stream was handed over, by this answer of a `receive` or before it.
-fn ended_by(ended: bool, answer: Result<Received, CallError>) -> bool
+pub(crate) fn ended_by(ended: bool, answer: Result<Received, CallError>) -> bool
     ensures { result ≡ (ended || is_end_of_stream answer) }
 {
     ended || matches!(answer, Ok(Received::EndOfStream))
@@ -60,6 +51,7 @@ impl<A: Allocator + Copy> Party<A> {
         ensures bad_capacity { (result ≡ Err ConfigError.BadCapacity) ↔ HasBadCapacity config }
         ensures bad_mss { (result ≡ Err ConfigError.BadMss) ↔ HasBadMss config }
         ensures bad_shift { (result ≡ Err ConfigError.BadShift) ↔ HasBadShift config }
+        ensures bad_limit { (result ≡ Err ConfigError.BadLimit) ↔ HasBadLimit config }
         ensures good { (result ≡ Err ConfigError.NoMemory) → IsGoodConfig config }
         ensures made { OnOk result (IsConfig config) }
     {
@@ -92,11 +84,7 @@ impl<A: Allocator + Copy> Party<A> {
         ensures err { OnErr result (self.new ≡ self.old) }
         ensures memory { IfErr result (λ e. e ≡ StepError.NoMemory) }
     {
-        self.accepted.reserve(text.len())?;
-        let answer = self.endpoint.send(text);
-        if let Ok(count) = answer {
-            let _ = self.accepted.extend_from_slice(&text[..count]);
-        }
+        let answer = send_from(&mut self.endpoint, text, &mut self.accepted)?;
         Ok(Outcome::Sent(answer))
     }
 
@@ -108,13 +96,7 @@ impl<A: Allocator + Copy> Party<A> {
         ensures err { OnErr result (self.new ≡ self.old) }
         ensures memory { IfErr result (λ e. e ≡ StepError.NoMemory) }
     {
-        let count = room.min(self.endpoint.unread());
-        self.delivered.reserve(count)?;
-        let mut out = vec![in alloc; 0u8; count]?;
-        let answer = self.endpoint.receive(&mut out);
-        let _ = self
-            .delivered
-            .extend_from_slice(&out[..count_handed(answer)]);
+        let answer = receive_to(alloc, &mut self.endpoint, room, &mut self.delivered)?;
         self.ended = ended_by(self.ended, answer);
         Ok(Outcome::Got(answer))
     }
@@ -156,25 +138,28 @@ impl<A: Allocator + Copy> Party<A> {
         ensures err { OnErr result (self.new ≡ self.old) }
         ensures memory { IfErr result (λ e. e ≡ StepError.NoMemory) }
     {
-        let Some(len) = self.endpoint.pending() else {
+        let initial = self.endpoint.config().isn;
+        let una = self.endpoint.una();
+        let wanted = self.endpoint.next();
+        let Some((_, bytes)) = emit_for(alloc, &mut self.endpoint, &mut self.sent)? else {
             return Ok(Outcome::Emitted(None));
         };
-        self.sent.reserve(1)?;
-        let mut bytes = Vec::with_capacity(alloc, len)?;
-        let mut room = [0u8; EMIT_ROOM];
-        self.endpoint.emit(&mut room);
-        let _ = bytes.extend_from_slice(&room[..len]);
+        let position = seq_in(&bytes).position(initial, una);
         let number = self.sent.len();
-        self.sent.push_reserved(bytes);
+        self.sent.push_reserved(SentSegment {
+            bytes,
+            position,
+            wanted,
+        });
         Ok(Outcome::Emitted(Some(number)))
     }
 
     /// Segment `k` of those that it emitted.
-    fn segment(&self, k: usize) -> &[u8]
+    fn segment(&self, k: usize) -> &SentSegment<A>
         requires { k < length self.now.sent }
-        ensures { result.now ≡ segment_at self.now k }
+        ensures { result.now ≡ sent_at self.now k }
     {
-        self.sent[k].as_slice()
+        &self.sent[k]
     }
 
     /// Bytes arrive from another party, with the true addresses.
@@ -199,22 +184,27 @@ pub(crate) fn connect<A: Allocator + Copy>(party: &mut Party<A>, peer: &Party<A>
     Outcome::Call(party.endpoint.connect(config.addr, config.port))
 }
 
-/// Segment `k` of `from` arrives at `to`, unchanged. No byte of it is copied.
+/// Segment `k` of `from` arrives at `to`, unchanged, unless its lifetime is over. No byte of it is copied.
 pub(crate) fn deliver<A: Allocator + Copy>(
+    life: u32,
     from: &Party<A>,
     k: usize,
     to: &mut Party<A>,
 ) -> Result<Outcome, StepError>
     ensures state { OnOk result (to.new ≡ party_after_arrival to.old from.now (segment_at from.now k)) }
     ensures outcome { IfOk result (λ o. o ≡ arrival_outcome to.old from.now (segment_at from.now k)) }
-    ensures refused { IfSome (delivery_refusal from.now k) (λ e. result ≡ Err e) }
-    ensures taken { IfNone (delivery_refusal from.now k) (IsOk result) }
+    ensures refused { IfSome (delivery_refusal life from.now to.old k) (λ e. result ≡ Err e) }
+    ensures taken { IfNone (delivery_refusal life from.now to.old k) (IsOk result) }
     ensures err { OnErr result (to.new ≡ to.old) }
 {
     if k >= from.sent.len() {
         return Err(StepError::NoSuchSegment);
     }
-    Ok(Outcome::Arrived(to.take_in(from, from.segment(k))))
+    let segment = from.segment(k);
+    if segment.is_expired(life, &to.endpoint) {
+        return Err(StepError::Expired);
+    }
+    Ok(Outcome::Arrived(to.take_in(from, &segment.bytes)))
 }
 
 /// A copy of these bytes with the one at a place combined with a value by exclusive or.
@@ -232,10 +222,11 @@ fn damaged<A: Allocator>(
     Ok(copy)
 }
 
-/// Segment `k` of `from` arrives at `to` with the byte at a place combined with a value by exclusive or.
-/// Memory for the changed bytes is taken first.
+/// Segment `k` of `from` arrives at `to` with the byte at a place combined with a value by exclusive or, unless its
+/// lifetime is over. Memory for the changed bytes is taken first.
 pub(crate) fn damage<A: Allocator + Copy>(
     alloc: A,
+    life: u32,
     from: &Party<A>,
     k: usize,
     place: usize,
@@ -244,8 +235,8 @@ pub(crate) fn damage<A: Allocator + Copy>(
 ) -> Result<Outcome, StepError>
     ensures state { OnOk result (to.new ≡ party_after_arrival to.old from.now (bytes_with_damage (segment_at from.now k) place value)) }
     ensures outcome { IfOk result (λ o. o ≡ arrival_outcome to.old from.now (bytes_with_damage (segment_at from.now k) place value)) }
-    ensures refused { IfSome (damage_refusal from.now k place value) (λ e. result ≡ Err e) }
-    ensures memory { IfNone (damage_refusal from.now k place value) (IfErr result (λ e. e ≡ StepError.NoMemory)) }
+    ensures refused { IfSome (damage_refusal life from.now to.old k place value) (λ e. result ≡ Err e) }
+    ensures memory { IfNone (damage_refusal life from.now to.old k place value) (IfErr result (λ e. e ≡ StepError.NoMemory)) }
     ensures err { OnErr result (to.new ≡ to.old) }
 {
     if k >= from.sent.len() {
@@ -255,9 +246,12 @@ pub(crate) fn damage<A: Allocator + Copy>(
         return Err(StepError::NoChange);
     }
     let segment = from.segment(k);
-    if place >= segment.len() {
+    if place >= segment.bytes.len() {
         return Err(StepError::PlaceOutside);
     }
-    let bytes = damaged(alloc, segment, place, value)?;
+    if segment.is_expired(life, &to.endpoint) {
+        return Err(StepError::Expired);
+    }
+    let bytes = damaged(alloc, &segment.bytes, place, value)?;
     Ok(Outcome::Arrived(to.take_in(from, &bytes)))
 }

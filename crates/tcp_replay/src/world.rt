@@ -1,7 +1,7 @@
-ghost use Rattle.std.specs.Prelude.{◌≡◌, ◌≢◌, ◌↔◌, true, length, None, Some, OnOk, OnErr, IfOk, IfErr, IfSome, IfNone, map, option_map, slice_get};
+ghost use Rattle.std.specs.Prelude.{◌≡◌, ◌≢◌, ◌↔◌, ◌≤◌, true, length, None, Some, OnOk, OnErr, IfOk, IfErr, IfSome, IfNone, map, option_map, slice_get};
 ghost use Rattle.tcp_conn.specs.Config.{IsConfig};
 ghost use Rattle.tcp_replay.specs.Events.{event_content, HasBytes, IsDamage};
-ghost use Rattle.tcp_replay.specs.World.{WorldState, new_world, both, party_of, effect_of, world_with_effect, refusal_of, outcome_of, grows_for, step_answer, world_after, run_of, stop_of, StopsForMemory, HasGoodConfigs, NamesFault};
+ghost use Rattle.tcp_replay.specs.World.{WorldState, KeepsAllSegments, max_life, new_world, new_world_with, both, party_of, effect_of, world_with_effect, refusal_of, outcome_of, grows_for, step_answer, world_after, run_of, stop_of, StopsForMemory, HasGoodConfigs, NamesFault};
 ghost use Rattle.tcp_replay.specs.Safe.{IsSafe, HintsAreTrue};
 
 use crate::event::{Event, Side};
@@ -12,10 +12,15 @@ use std::marker::Model;
 use tcp_conn::{Arrival, Config, ConfigError, Endpoint};
 use tcp_wire::DecodeError;
 
+/// The longest lifetime of segments, in positions of a direction: 2^31 (RFC 9293, 3.4).
+pub const MAX_LIFE: u32 = 2_147_483_648;
+
 /// Two ends of one connection, with all that their users did and had, and every segment that was emitted.
 #[derive(Debug, Drop)]
 pub struct World<A: Allocator = Global> {
     alloc: A,
+    /// How many positions a segment lives, at most [`MAX_LIFE`].
+    life: u32,
     a: Party<A>,
     b: Party<A>,
 }
@@ -26,25 +31,26 @@ impl<A: Allocator> Model for World<A> {
 
     ghost Value = { WorldState };
 
-    ghost view = { λ w. both w.a w.b };
+    ghost view = { λ w. both w.life w.a w.b };
 
-    ghost invariant = { λ w. IsSound (both w.a w.b) };
+    ghost invariant = { λ w. IsSound (both w.life w.a w.b) };
 }
 
 /// One event at the party whose side it names, and at the other one.
 #[tactic(auto, unfolding(crate::specs::World::effect_of))]
 fn step_at<A: Allocator + Copy>(
     alloc: A,
+    life: u32,
     here: &mut Party<A>,
     there: &mut Party<A>,
     event: &Event,
 ) -> Result<Outcome, StepError>
-    ensures here { OnOk result (here.new ≡ (effect_of here.old there.old (event_content event.now)).here) }
-    ensures there { OnOk result (there.new ≡ (effect_of here.old there.old (event_content event.now)).there) }
-    ensures outcome { IfOk result (λ o. o ≡ (effect_of here.old there.old (event_content event.now)).outcome) }
+    ensures here { OnOk result (here.new ≡ (effect_of life here.old there.old (event_content event.now)).here) }
+    ensures there { OnOk result (there.new ≡ (effect_of life here.old there.old (event_content event.now)).there) }
+    ensures outcome { IfOk result (λ o. o ≡ (effect_of life here.old there.old (event_content event.now)).outcome) }
     ensures bytes { OnOk result (HasBytes (event_content event.now)) }
-    ensures refused { IfSome (effect_of here.old there.old (event_content event.now)).refusal (λ e. result ≡ Err e) }
-    ensures memory { IfNone (effect_of here.old there.old (event_content event.now)).refusal (IfErr result (λ e. (e ≡ StepError.NoMemory) × ((effect_of here.old there.old (event_content event.now)).grows ≡ true))) }
+    ensures refused { IfSome (effect_of life here.old there.old (event_content event.now)).refusal (λ e. result ≡ Err e) }
+    ensures memory { IfNone (effect_of life here.old there.old (event_content event.now)).refusal (IfErr result (λ e. (e ≡ StepError.NoMemory) × ((effect_of life here.old there.old (event_content event.now)).grows ≡ true))) }
     ensures err { OnErr result ((here.new ≡ here.old) × (there.new ≡ there.old)) }
 {
     match event {
@@ -56,33 +62,35 @@ fn step_at<A: Allocator + Copy>(
         Event::Abort(_) => Ok(here.abort()),
         Event::Timer(_, timer) => Ok(here.timer(*timer)),
         Event::Emit(_) => here.emit(alloc),
-        Event::Deliver(_, k) => deliver(here, *k, there),
-        Event::Damage(_, k, place, value) => damage(alloc, here, *k, *place, *value, there),
+        Event::Deliver(_, k) => deliver(life, here, *k, there),
+        Event::Damage(_, k, place, value) => damage(alloc, life, here, *k, *place, *value, there),
     }
 }
 
 /// One event at the two parties.
 fn step_parties<A: Allocator + Copy>(
     alloc: A,
+    life: u32,
     a: &mut Party<A>,
     b: &mut Party<A>,
     event: &Event,
 ) -> Result<Outcome, StepError>
-    ensures state { OnOk result (both a.new b.new ≡ world_with_effect (both a.old b.old) (event_content event.now)) }
-    ensures outcome { IfOk result (λ o. o ≡ outcome_of (both a.old b.old) (event_content event.now)) }
+    ensures state { OnOk result (both life a.new b.new ≡ world_with_effect (both life a.old b.old) (event_content event.now)) }
+    ensures outcome { IfOk result (λ o. o ≡ outcome_of (both life a.old b.old) (event_content event.now)) }
     ensures bytes { OnOk result (HasBytes (event_content event.now)) }
-    ensures refused { IfSome (refusal_of (both a.old b.old) (event_content event.now)) (λ e. result ≡ Err e) }
-    ensures memory { IfNone (refusal_of (both a.old b.old) (event_content event.now)) (IfErr result (λ e. (e ≡ StepError.NoMemory) × (grows_for (both a.old b.old) (event_content event.now) ≡ true))) }
-    ensures err { OnErr result (both a.new b.new ≡ both a.old b.old) }
+    ensures refused { IfSome (refusal_of (both life a.old b.old) (event_content event.now)) (λ e. result ≡ Err e) }
+    ensures memory { IfNone (refusal_of (both life a.old b.old) (event_content event.now)) (IfErr result (λ e. (e ≡ StepError.NoMemory) × (grows_for (both life a.old b.old) (event_content event.now) ≡ true))) }
+    ensures err { OnErr result (both life a.new b.new ≡ both life a.old b.old) }
 {
     match event.side() {
-        Side::A => step_at(alloc, a, b, event),
-        Side::B => step_at(alloc, b, a, event),
+        Side::A => step_at(alloc, life, a, b, event),
+        Side::B => step_at(alloc, life, b, a, event),
     }
 }
 
 impl World {
-    /// Two new ends. Of faults `a`'s comes first, and its want of memory before `b`'s faults.
+    /// Two new ends, whose segments live [`MAX_LIFE`] positions. Of faults `a`'s comes first, and its want of memory before
+    /// `b`'s faults.
     pub fn new(alloc: Global, a: Config, b: Config) -> Result<Self, WorldError>
         ensures new { IfOk result (λ w. w ≡ new_world a b) }
         ensures safe { IfOk result IsSafe }
@@ -93,12 +101,41 @@ impl World {
     {
         Self::new_in(alloc, a, b)
     }
+
+    /// The same where a segment lives `life` positions, from 2 to [`MAX_LIFE`]: one whose position lies so far behind the next
+    /// that its receiver wants, or whose acknowledgement lies so far behind SND.UNA there, is refused as `Expired`.
+    pub fn with_lifetime(alloc: Global, a: Config, b: Config, life: u32) -> Result<Self, WorldError>
+        requires least { 2 ≤ life }
+        requires most { life ≤ max_life }
+        ensures new { IfOk result (λ w. w ≡ new_world_with life a b) }
+        ensures safe { IfOk result IsSafe }
+        ensures hints { IfOk result HintsAreTrue }
+        ensures good { OnOk result (HasGoodConfigs a b) }
+        ensures made { OnOk result (IsConfig a × IsConfig b) }
+        ensures fault { NamesFault a b result }
+    {
+        Self::with_lifetime_in(alloc, a, b, life)
+    }
 }
 
 impl<A: Allocator + Copy> World<A> {
-    /// The same with memory of this allocator.
+    /// [`World::new`] with memory of this allocator.
     pub fn new_in(alloc: A, a: Config, b: Config) -> Result<Self, WorldError>
         ensures new { IfOk result (λ w. w ≡ new_world a b) }
+        ensures safe { IfOk result IsSafe }
+        ensures hints { IfOk result HintsAreTrue }
+        ensures good { OnOk result (HasGoodConfigs a b) }
+        ensures made { OnOk result (IsConfig a × IsConfig b) }
+        ensures fault { NamesFault a b result }
+    {
+        Self::with_lifetime_in(alloc, a, b, MAX_LIFE)
+    }
+
+    /// [`World::with_lifetime`] with memory of this allocator.
+    pub fn with_lifetime_in(alloc: A, a: Config, b: Config, life: u32) -> Result<Self, WorldError>
+        requires least { 2 ≤ life }
+        requires most { life ≤ max_life }
+        ensures new { IfOk result (λ w. w ≡ new_world_with life a b) }
         ensures safe { IfOk result IsSafe }
         ensures hints { IfOk result HintsAreTrue }
         ensures good { OnOk result (HasGoodConfigs a b) }
@@ -115,6 +152,7 @@ impl<A: Allocator + Copy> World<A> {
         };
         Ok(World {
             alloc,
+            life,
             a: first,
             b: second,
         })
@@ -133,10 +171,13 @@ impl<A: Allocator + Copy> World<A> {
         ensures exact { result ≢ Err StepError.NoMemory → (result ≡ step_answer self.old (event_content event.now)) × (self.new ≡ world_after self.old (event_content event.now)) }
         // One changed byte is found at the checksum, and no end takes anything from it.
         ensures damaged { IsDamage (event_content event.now) → IfOk result (λ o. (o ≡ Outcome.Arrived (Arrival.Malformed DecodeError.BadChecksum)) × (self.new ≡ self.old)) }
+        // Within the limits of the streams no segment expires, at this event or at a later one.
+        ensures unexpired { KeepsAllSegments self.old → result ≢ Err StepError.Expired }
+        ensures keeps { KeepsAllSegments self.old → KeepsAllSegments self.new }
         ensures safe { IsSafe self.new }
         ensures hints { HintsAreTrue self.new }
     {
-        step_parties(self.alloc, &mut self.a, &mut self.b, event)
+        step_parties(self.alloc, self.life, &mut self.a, &mut self.b, event)
     }
 
     /// Applies events in turn, and stops at the first that is refused, with its index from 0. What came before
@@ -147,6 +188,7 @@ impl<A: Allocator + Copy> World<A> {
         ensures refused { IfErr result (λ stop. stop.1 ≢ StepError.NoMemory → (stop_of self.old (map event_content events.now) ≡ Some stop) × (self.new ≡ run_of self.old (map event_content events.now))) }
         // Want of memory stops the run before an event that isn't refused and makes the world grow.
         ensures memory { IfErr result (λ stop. stop.1 ≡ StepError.NoMemory → StopsForMemory self.old (map event_content events.now) stop.0 self.new) }
+        ensures unexpired { KeepsAllSegments self.old → IfErr result (λ stop. stop.1 ≢ StepError.Expired) }
         ensures safe { IsSafe self.new }
         ensures hints { HintsAreTrue self.new }
     {
@@ -204,11 +246,11 @@ impl<A: Allocator> World<A> {
 
     /// Segment `k`, from 0, that this side emitted.
     pub fn sent(&self, side: Side, k: usize) -> Option<&[u8]>
-        ensures { option_map (λ segment. segment.now) result ≡ slice_get (party_of self.now side).sent k }
+        ensures { option_map (λ segment. segment.now) result ≡ option_map (λ g. g.bytes) (slice_get (party_of self.now side).sent k) }
     {
         let party = self.party(side);
         if k < party.sent.len() {
-            Some(party.sent[k].as_slice())
+            Some(&party.sent[k].bytes)
         } else {
             None
         }

@@ -1,6 +1,6 @@
 -- The report of a short script computed on its definition, the numbers left as `decimal` writes them: two ends are opened, and a
 -- SYN is sent and taken.
-use Rattle.std.proofs.Common.{◌≡◌, ℕ, [], ◌∷◌, ◌++◌, List, length, refl}
+use Rattle.std.proofs.Common.{◌≡◌, ℕ, [], ◌∷◌, ◌++◌, List, refl}
 use Rattle.std.specs.Prelude.{true, codes, decimal}
 use Rattle.tcp_wire.specs.Position.{position_of, offset}
 use Rattle.tcp_wire.specs.Wire.{encoded_bytes}
@@ -21,7 +21,7 @@ use Rattle.tcp_conn.specs.Emission.{emitted_bytes, after_emission}
 use Rattle.tcp_replay.specs.declared.event.Side.TheVariants.{A, B}
 use Rattle.tcp_replay.specs.Events.{Connect, Listen, Emit, Deliver}
 use Rattle.tcp_replay.proofs.Examples.{a, b}
-use Rattle.tcp_replay.specs.World.{new_world, party_after_connect, party_after_listen, party_after_send, party_after_receive, party_after_close, party_after_timer, party_after_emission, party_after_arrival, effect_of, world_after_all}
+use Rattle.tcp_replay.specs.World.{party_after_connect, party_after_listen, party_after_send, party_after_receive, party_after_close, party_after_timer, party_after_emission, party_after_arrival, effect_of, world_after_all}
 use Rattle.tcp_text.specs.Texts.{flags_text, blocks_text}
 use Rattle.tcp_text.specs.Segments.{summary_text}
 use Rattle.tcp_script.specs.Script.{ScriptContent}

@@ -1,21 +1,7 @@
 -- An event in the script's words.
 use Rattle.std.specs.Prelude.{ℕ, List, [], ◌++◌, codes, decimal}
-use Rattle.tcp_replay.specs.declared.event.Side.{Side}
-use Rattle.tcp_replay.specs.Events.{EventContent, Connect, Listen, Send, Receive, Close, Abort, Timer, Emit, Deliver, Damage}
+use Rattle.tcp_replay.specs.Events.{EventContent, Receive, Timer, Deliver, Damage, side_of}
 use Rattle.tcp_script.specs.Names.{kind_of, kind_name, side_name, timer_name}
-
--- the side that it names
-abbrev pub side_of : EventContent → Side
-side_of (Connect side) = side
-side_of (Listen side) = side
-side_of (Send side bytes) = side
-side_of (Receive side room) = side
-side_of (Close side) = side
-side_of (Abort side) = side
-side_of (Timer side timer) = side
-side_of (Emit side) = side
-side_of (Deliver from k) = from
-side_of (Damage from k place value) = from
 
 -- the words after the side; the bytes that are sent aren't repeated
 abbrev pub others_text : EventContent → List ℕ

@@ -2,13 +2,13 @@
 use Rattle.std.specs.Prelude.{ℕ, ◌+◌, ◌&&◌, Bool, true, not, List, [], ◌∷◌, ◌++◌, length, codes, decimal}
 use Rattle.tcp_replay.specs.declared.event.Side.{Side}
 use Rattle.tcp_replay.specs.declared.event.Side.TheVariants.{A, B}
-use Rattle.tcp_replay.specs.Events.{EventContent}
+use Rattle.tcp_replay.specs.Events.{EventContent, side_of}
 use Rattle.tcp_replay.specs.World.{PartyState, WorldState, new_world, party_of, step_answer, world_after, world_after_all}
 use Rattle.tcp_script.specs.Names.{side_name}
 use Rattle.tcp_script.specs.Script.{ScriptContent}
 use Rattle.tcp_answers.specs.Names.{phase_name, ending_name}
 use Rattle.tcp_report.specs.Names.{yes_or_no}
-use Rattle.tcp_report.specs.Events.{side_of, event_text}
+use Rattle.tcp_report.specs.Events.{event_text}
 use Rattle.tcp_report.specs.Outcomes.{answer_text, is_refused}
 
 -- ONE EVENT, with its number: the event, and what came of it

@@ -8,7 +8,7 @@ ghost use Rattle.tcp_report.specs.Report.{event_line, event_lines, is_well, coun
 ghost use Rattle.tcp_report.specs.Faults.{HasReportFault};
 
 use crate::error::ReportError;
-use crate::events::{push_event, side_of};
+use crate::events::push_event;
 use crate::names::yes_or_no;
 use crate::outcomes::{StepResult, is_refused, push_step_result};
 use std::alloc::{AllocError, Global};
@@ -50,7 +50,7 @@ fn push_event_line(
     ensures refused { IfOk result (λ refused. refused ≡ is_refused (step_answer world.old (event_content event.now))) }
     ensures state { OnOk result (world.new ≡ world_after world.old (event_content event.now)) }
 {
-    let side = side_of(event);
+    let side = event.side();
     let had = world.delivered(side).len();
     let answer = apply(world, event)?;
     write!(text, "{number} ")?;

@@ -2,10 +2,12 @@
 -- script; and a first bad line.
 use Rattle.std.proofs.Common.{◌≡◌, ℕ, [], ◌∷◌, ◌++◌, List, refl}
 use Rattle.std.specs.Prelude.{codes, Ok, Err, None, Some, true, false}
+use Rattle.tcp_conn.specs.declared.config.Config.{Config}
 use Rattle.tcp_conn.specs.declared.phase.Timer.TheVariants.{Retransmit}
 use Rattle.tcp_replay.specs.declared.event.Side.TheVariants.{A, B}
 use Rattle.tcp_replay.specs.Events.{Listen, Connect, Receive, Timer, Deliver}
 use Rattle.tcp_text.specs.Lines.{numbered_from}
+use Rattle.tcp_conn.specs.Config.{default_limit}
 use Rattle.tcp_script.specs.Settings.{default_a, default_b}
 use Rattle.tcp_script.specs.Statements.{statement_of}
 use Rattle.tcp_script.specs.Script.{ScriptContent, script_of, script_from}
@@ -53,31 +55,26 @@ unfolding settings sets script_of script_from statement_of numbered_from
 last_wins = refl
 
 -- the ends of the empty script
+first : Config
+first = record {
+  addr = record { 0 = 10 ∷ 0 ∷ 0 ∷ 1 ∷ [] };
+  port = 1;
+  isn = record { 0 = 1000 };
+  mss = 1460;
+  send_capacity = 65536;
+  recv_capacity = 65536;
+  window_shift = None;
+  sack = true;
+  limit = default_limit;
+}
+
 ends : ScriptContent
 ends = record {
-  a = record {
-    addr = record { 0 = 10 ∷ 0 ∷ 0 ∷ 1 ∷ [] };
-    port = 1;
-    isn = record { 0 = 1000 };
-    mss = 1460;
-    send_capacity = 65536;
-    recv_capacity = 65536;
-    window_shift = None;
-    sack = true;
-  };
-  b = record {
-    addr = record { 0 = 10 ∷ 0 ∷ 0 ∷ 2 ∷ [] };
-    port = 2;
-    isn = record { 0 = 5000 };
-    mss = 1460;
-    send_capacity = 65536;
-    recv_capacity = 65536;
-    window_shift = None;
-    sack = true;
-  };
+  a = first;
+  b = record first { addr = record { 0 = 10 ∷ 0 ∷ 0 ∷ 2 ∷ [] }; port = 2; isn = record { 0 = 5000 } };
   events = [];
 }
 
 empty : script_of [] ≡ Ok ends
-unfolding ends script_of script_from statement_of numbered_from
+unfolding first ends script_of script_from statement_of numbered_from
 empty = refl

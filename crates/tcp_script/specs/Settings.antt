@@ -1,6 +1,7 @@
 -- What the two ends are made from: where no line says otherwise, and by lines `config SIDE KEY VALUE`.
 use Rattle.std.specs.Prelude.{ℕ, Bool, true, false, if◌then◌else◌, List, [], ◌∷◌, bytes_eq, codes, Option, Some, None, option_map}
 use Rattle.tcp_conn.specs.declared.config.Config.{Config}
+use Rattle.tcp_conn.specs.Config.{default_limit}
 use Rattle.tcp_text.specs.Words.{number_of}
 use Rattle.tcp_script.specs.declared.settings.Setting.{Setting}
 use Rattle.tcp_script.specs.declared.settings.Setting.TheVariants.{Isn, Mss, SendCapacity, RecvCapacity, WindowShift, Sack}
@@ -15,6 +16,7 @@ default_config host port isn = record {
   recv_capacity = 65536;
   window_shift = None;
   sack = true;
+  limit = default_limit;
 }
 
 -- A is 10.0.0.1, port 1, isn 1000, and B is 10.0.0.2, port 2, isn 5000

@@ -25,16 +25,7 @@ pub struct Script {
 fn default_config(host: u8, isn: u32) -> Config
     ensures { result ≡ default_config host host isn }
 {
-    Config {
-        addr: Addr([10, 0, 0, host]),
-        port: u16::from(host),
-        isn: Seq(isn),
-        mss: 1460,
-        send_capacity: 65_536,
-        recv_capacity: 65_536,
-        window_shift: None,
-        sack: true,
-    }
+    Config::new(Addr([10, 0, 0, host]), u16::from(host), Seq(isn))
 }
 
 impl Script {

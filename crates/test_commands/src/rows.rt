@@ -1,18 +1,27 @@
-//! A row: `COMMAND READ-PIECE READ-FAULT WRITE-PIECE WRITE-FAULT AT`. A fault is `-` where there is none; that of a reader
-//! is the number of the read that fails, that of a writer `fails`, `nothing` (it takes nothing) or `flush`, the first
-//! two at the write of the number AT. Calls are counted from 0.
+//! A row: `COMMAND READ-PIECE READ-FAULT WRITE-PIECE WRITE-FAULT AT`. The command `replay` is run on a connection of
+//! thirty events, `show` on eight segments, and `show-bad` on a list with a bad line. A fault is `-` where there is
+//! none; that of a reader is the number of the read that fails, that of a writer `fails`, `nothing` (it takes nothing)
+//! or `flush`, the first two at the write of the number AT. Calls are counted from 0.
 use crate::devices::{Reader, Trouble, Writer};
-use crate::texts::{LIST, LISTING, REPORT, SCRIPT};
+use crate::texts::{BAD_LIST, BEFORE_BAD_LINE, CONNECTION, LISTING, REPORT, SEGMENTS};
 use counted_io::Counted;
 use std::alloc::Global;
 use std::io;
 use tcp_commands::{ToolError, replay, show};
 use tcp_text::{SPACE, cut, read_number};
 
+/// A command, what it reads, and what it is to write where nothing fails.
+#[derive(Clone, Copy)]
+struct Job {
+    is_replay: bool,
+    input: &'static str,
+    wanted: &'static str,
+}
+
 /// What a row asks for.
 #[derive(Clone, Copy)]
 struct Row {
-    is_replay: bool,
+    job: Job,
     read_piece: usize,
     read_fails_at: Option<usize>,
     write_piece: usize,
@@ -29,6 +38,20 @@ struct Outcome {
 
 fn number_of(word: &[u8]) -> Option<usize> {
     Some(read_number(word, 10_000)? as usize)
+}
+
+fn job_of(word: &[u8]) -> Option<Job> {
+    let (is_replay, input, wanted) = match word {
+        b"replay" => (true, CONNECTION, REPORT),
+        b"show" => (false, SEGMENTS, LISTING),
+        b"show-bad" => (false, BAD_LIST, BEFORE_BAD_LINE),
+        _ => return None,
+    };
+    Some(Job {
+        is_replay,
+        input,
+        wanted,
+    })
 }
 
 fn trouble_of(word: &[u8], at: &[u8]) -> Trouble {
@@ -48,7 +71,7 @@ fn read_row(line: &[u8]) -> Option<Row> {
     let (write_piece, rest) = cut(SPACE, rest?);
     let (write_fault, at) = cut(SPACE, rest?);
     Some(Row {
-        is_replay: command == b"replay".as_slice(),
+        job: job_of(command)?,
         read_piece: number_of(read_piece)?,
         read_fails_at: number_of(read_fault),
         write_piece: number_of(write_piece)?,
@@ -59,7 +82,7 @@ fn read_row(line: &[u8]) -> Option<Row> {
 /// Runs the command of a row over its reader and its writer.
 fn run(alloc: Global, row: Row) -> Outcome {
     let mut input = Counted::new(Reader {
-        rest: if row.is_replay { SCRIPT } else { LIST }.as_bytes(),
+        rest: row.job.input.as_bytes(),
         piece: row.read_piece,
         calls: 0,
         fails_at: row.read_fails_at,
@@ -70,7 +93,7 @@ fn run(alloc: Global, row: Row) -> Outcome {
         calls: 0,
         trouble: row.trouble,
     });
-    let answer = if row.is_replay {
+    let answer = if row.job.is_replay {
         replay(alloc, &mut input, &mut output)
     } else {
         show(alloc, &mut input, &mut output)
@@ -94,13 +117,12 @@ fn share_of(text: &[u8], written: &[u8]) -> &'static str {
 }
 
 fn print_outcome(rt: &impl Print, row: Row, outcome: &Outcome) -> io::Result<()> {
-    let text = if row.is_replay { REPORT } else { LISTING };
     let written = outcome.writer.got.as_slice();
     match &outcome.answer {
         Ok(is_well) => print!(rt; "ok {is_well}")?,
         Err(fault) => print!(rt; "{fault}")?,
     }
-    let share = share_of(text.as_bytes(), written);
+    let share = share_of(row.job.wanted.as_bytes(), written);
     let count = written.len();
     let reads = outcome.reads;
     let writes = outcome.writer.calls;

@@ -1,31 +1,35 @@
 //! One end alone, for tests: reads calls and arriving segments, a line each, and prints each answer, each emission and
-//! the phase after it. A line is `new ISN MSS SEND RECV SHIFT SACK` (a shift of `none` offers none, SACK is 0 or 1), which
-//! begins with another end, or says why there is none; `connect`, `listen`, `close`, `abort`, `emit`, `timers`; `send HEX`, `receive N`, `timer NAME`;
-//! or `arrive SOURCE DESTINATION HEX`. The end is 10.0.0.2, port 2; it connects to 10.0.0.1, port 1.
+//! the phase after it, as the log of `solo` over all lines of that end so far tells them. A line is `new ISN MSS SEND
+//! RECV SHIFT SACK` (a shift of `none` offers none, SACK is 0 or 1), which begins with another end, or says why there
+//! is none; `connect`, `listen`, `close`, `abort`, `emit`, `emit bytes` (which prints the segment's bytes), `timers`;
+//! `send HEX`, `receive N`, `timer NAME`; or `arrive SOURCE DESTINATION HEX`. The end is 10.0.0.2, port 2; it connects
+//! to 10.0.0.1, port 1.
 #![tactic(auto)]
 
 mod answers;
 mod calls;
+mod events;
 mod reading;
+mod stream;
 
 use counted_io::{Counted, read_all};
 use std::alloc::Global;
 use std::process::ExitCode;
-use tcp_conn::Endpoint;
+use stream::Stream;
 use tcp_text::{LineError, Lines};
 
-/// Takes one line: another end, or a call of the one there is.
+/// Takes one line: another end, or an event of the one there is.
 fn take_line(
     alloc: Global,
-    end: &mut Option<Endpoint>,
+    stream: &mut Option<Stream>,
     line: &[u8],
     answers: &mut String,
 ) -> Result<(), LineError> {
     if let Some(config) = reading::read_config(line) {
-        return calls::begin(alloc, config, end, answers);
+        return stream::begin(alloc, config, stream, answers);
     }
-    match end {
-        Some(end) => calls::answer_line(alloc, end, line, answers),
+    match stream {
+        Some(stream) => stream.take_line(alloc, line, answers),
         None => Err(LineError::BadForm),
     }
 }
@@ -33,12 +37,12 @@ fn take_line(
 /// Takes every line in turn.
 fn take_lines(
     alloc: Global,
-    end: &mut Option<Endpoint>,
+    stream: &mut Option<Stream>,
     lines: Lines<'_>,
     answers: &mut String,
 ) -> Result<(), LineError> {
     for (_, line) in lines {
-        take_line(alloc, end, line, answers)?;
+        take_line(alloc, stream, line, answers)?;
     }
     Ok(())
 }
@@ -49,8 +53,8 @@ fn answers_to(alloc: Global, text: &[u8]) -> Option<String> {
         return None;
     };
     let mut answers = String::new(alloc);
-    let mut end = None;
-    match take_lines(alloc, &mut end, lines, &mut answers) {
+    let mut stream = None;
+    match take_lines(alloc, &mut stream, lines, &mut answers) {
         Ok(()) => Some(answers),
         Err(_) => None,
     }

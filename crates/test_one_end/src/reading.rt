@@ -2,7 +2,7 @@
 ghost use Rattle.std.specs.Prelude.{◌≡◌, option_map};
 ghost use Rattle.tcp_text.specs.Words.{number_of};
 
-use tcp_conn::Config;
+use tcp_conn::{Config, DEFAULT_LIMIT};
 use tcp_script::read_shift;
 use tcp_text::{SPACE, cut, read_number};
 use tcp_wire::{Addr, Seq};
@@ -27,6 +27,7 @@ fn read_settings(words: &[u8], isn: Seq, mss: u16) -> Option<Config> {
         recv_capacity: read_number(recv, 4_294_967_295)? as usize,
         window_shift: read_shift(shift)?,
         sack: matches!(sack?, b"1"),
+        limit: DEFAULT_LIMIT,
     })
 }
 

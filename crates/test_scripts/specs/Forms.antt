@@ -1,6 +1,5 @@
 -- What a file's ending says of it.
-use Rattle.std.specs.Prelude.{ℕ, Bool, true, false, if◌then◌else◌, List, bytes_eq, codes, Option, Some, None}
-use Rattle.test_scripts.specs.declared.form.Kind.{Kind}
+use Rattle.std.specs.Prelude.{ℕ, true, false, if◌then◌else◌, List, bytes_eq, codes, Option, Some, None}
 use Rattle.test_scripts.specs.declared.form.Kind.TheVariants.{Script, List as ListOfSegments}
 use Rattle.test_scripts.specs.declared.form.Form.{Form}
 

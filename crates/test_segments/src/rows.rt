@@ -1,5 +1,5 @@
 //! A row, and its answer.
-use crate::{numbers, segments, sums, words};
+use crate::{fronts, numbers, segments, sums, words};
 use std::alloc::Global;
 use tcp_text::{LineError, Lines, SPACE, cut};
 
@@ -21,6 +21,8 @@ fn push_answer(alloc: Global, text: &mut String, row: &[u8]) -> Result<(), LineE
         b"written" => segments::push_written(alloc, text, rest),
         b"parsed" => segments::push_parsed(alloc, text, rest),
         b"around" => segments::push_around(alloc, text),
+        b"fronts" => fronts::push_fronts(alloc, text, rest, false),
+        b"mended-fronts" => fronts::push_fronts(alloc, text, rest, true),
         b"reserved" => segments::push_length(text, rest),
         b"sums" => sums::push_sums(alloc, text, rest),
         b"ones" => sums::push_ones(alloc, text, rest),

@@ -7,9 +7,9 @@ use tcp_wire::{
     Addr, Flags, Header, RawSegment, Segment, Seq, decode, encode, text_offset, write_around,
 };
 
-const SRC: Addr = Addr([10, 0, 0, 1]);
+pub(crate) const SRC: Addr = Addr([10, 0, 0, 1]);
 
-const DST: Addr = Addr([10, 0, 0, 2]);
+pub(crate) const DST: Addr = Addr([10, 0, 0, 2]);
 
 /// The header of an acknowledgement from port 1 to port 2.
 const HEADER: Header = Header {

@@ -1,9 +1,9 @@
 //! Lists of events between an end A, which connects, and an end B, which listens.
+use std::alloc::{AllocError, Global};
 use tcp_conn::Timer;
 use tcp_replay::{Event, Side};
 
-/// The handshake, and one event more.
-pub(crate) fn handshake_and(event: Event) -> [Event; 9] {
+fn handshake() -> [Event; 8] {
     [
         Event::Listen(Side::B),
         Event::Connect(Side::A),
@@ -13,12 +13,11 @@ pub(crate) fn handshake_and(event: Event) -> [Event; 9] {
         Event::Deliver(Side::B, 0),
         Event::Emit(Side::A),
         Event::Deliver(Side::A, 1),
-        event,
     ]
 }
 
 /// A text each way after the handshake.
-pub(crate) fn exchange(a: Vec<u8>, b: Vec<u8>) -> [Event; 10] {
+fn exchange(a: Vec<u8>, b: Vec<u8>) -> [Event; 10] {
     [
         Event::Send(Side::A, a),
         Event::Send(Side::B, b),
@@ -34,7 +33,7 @@ pub(crate) fn exchange(a: Vec<u8>, b: Vec<u8>) -> [Event; 10] {
 }
 
 /// An orderly close after them.
-pub(crate) fn orderly_close() -> [Event; 12] {
+fn orderly_close() -> [Event; 12] {
     [
         Event::Close(Side::A),
         Event::Emit(Side::A),
@@ -49,4 +48,31 @@ pub(crate) fn orderly_close() -> [Event; 12] {
         Event::Deliver(Side::A, 5),
         Event::Timer(Side::A, Timer::TimeWait),
     ]
+}
+
+/// Adds these events to a list.
+fn add<const N: usize>(
+    alloc: Global,
+    events: &mut Vec<Event>,
+    more: [Event; N],
+) -> Result<(), AllocError> {
+    let mut more = Vec::from_array(alloc, more)?;
+    events.append(&mut more)
+}
+
+/// A whole connection: the handshake, a text each way and an orderly close.
+pub(crate) fn connection(alloc: Global, a: Vec<u8>, b: Vec<u8>) -> Result<Vec<Event>, AllocError> {
+    let mut events = Vec::new(alloc);
+    add(alloc, &mut events, handshake())?;
+    add(alloc, &mut events, exchange(a, b))?;
+    add(alloc, &mut events, orderly_close())?;
+    Ok(events)
+}
+
+/// The handshake, and a segment that nobody emitted.
+pub(crate) fn missing_segment(alloc: Global) -> Result<Vec<Event>, AllocError> {
+    let mut events = Vec::new(alloc);
+    add(alloc, &mut events, handshake())?;
+    add(alloc, &mut events, [Event::Deliver(Side::A, 2)])?;
+    Ok(events)
 }

@@ -6,7 +6,7 @@ ghost use Rattle.std.specs.Prelude.{◌≡◌};
 
 mod events;
 
-use events::{exchange, handshake_and, orderly_close};
+use events::{connection, missing_segment};
 use std::alloc::Global;
 use std::io;
 use std::process::ExitCode;
@@ -21,16 +21,8 @@ fn config(host: u8, isn: u32, mss: u16) -> Config
     ensures isn { result.isn.0 ≡ isn }
     ensures mss { result.mss ≡ mss }
 {
-    Config {
-        addr: Addr([10, 0, 0, host]),
-        port: u16::from(host),
-        isn: Seq(isn),
-        mss,
-        send_capacity: 65_536,
-        recv_capacity: 65_536,
-        window_shift: None,
-        sack: true,
-    }
+    let defaults = Config::new(Addr([10, 0, 0, host]), u16::from(host), Seq(isn));
+    Config { mss, ..defaults }
 }
 
 /// Runs events, and prints where the run stops.
@@ -42,6 +34,13 @@ fn print_run(rt: &impl Print, world: &mut World, events: &[Event]) -> io::Result
     }
 }
 
+/// Prints how many bytes of this side were acknowledged, and how many came to it in order.
+fn print_progress(rt: &impl Print, world: &World, side: Side) -> io::Result<()> {
+    let released = world.endpoint(side).released();
+    let ordered = world.endpoint(side).ordered();
+    println!(rt; "  {released} bytes acknowledged, {ordered} bytes in order")
+}
+
 /// Prints what the side of this name had and did.
 fn print_side(rt: &impl Print, name: &str, world: &World, side: Side) -> io::Result<()> {
     let accepted = str::from_utf8(world.accepted(side)).unwrap_or("?");
@@ -51,6 +50,7 @@ fn print_side(rt: &impl Print, name: &str, world: &World, side: Side) -> io::Res
     let first = world.sent(side, 0).map_or(0, <[u8]>::len);
     let is_one_more = world.sent(side, count).is_some();
     println!(rt; "  {count} segments, the first of {first} bytes, one more {is_one_more}")?;
+    print_progress(rt, world, side)?;
     let phase = phase_name(world.endpoint(side).phase());
     let ending = ending_name(world.endpoint(side).ending());
     let closed = world.closed(side);
@@ -60,35 +60,30 @@ fn print_side(rt: &impl Print, name: &str, world: &World, side: Side) -> io::Res
     )
 }
 
-/// The handshake, and one event more.
-fn run_handshake(rt: &impl Print, world: &mut World, event: Event) -> io::Result<()> {
-    print_run(rt, world, &handshake_and(event))
-}
-
-/// A text each way, after the handshake.
-fn run_exchange(rt: &(impl Print + AllocGlobal), world: &mut World) -> io::Result<()> {
+/// A connection from its first event to its last, as one list.
+fn run_connection(rt: &(impl Print + AllocGlobal), world: &mut World) -> io::Result<()> {
     let a = b"abc".to_vec(rt.alloc())?;
     let b = b"def".to_vec(rt.alloc())?;
-    print_run(rt, world, &exchange(a, b))
+    let events = connection(rt.alloc(), a, b)?;
+    print_run(rt, world, &events)
 }
 
-/// An orderly close after them.
-fn run_close(rt: &impl Print, world: &mut World) -> io::Result<()> {
-    print_run(rt, world, &orderly_close())
-}
-
-/// A connection from its first segment to its last.
+/// A connection, and both sides behind it.
 fn print_orderly_connection(rt: &(impl Print + AllocGlobal), world: &mut World) -> io::Result<()> {
-    run_handshake(rt, world, Event::Receive(Side::A, 0))?;
-    run_exchange(rt, world)?;
-    run_close(rt, world)?;
+    run_connection(rt, world)?;
     print_side(rt, "A", world, Side::A)?;
     print_side(rt, "B", world, Side::B)
 }
 
+/// A run that stops.
+fn run_missing_segment(rt: &(impl Print + AllocGlobal), world: &mut World) -> io::Result<()> {
+    let events = missing_segment(rt.alloc())?;
+    print_run(rt, world, &events)
+}
+
 /// A run that stops, and a call that is refused.
-fn print_refusals(rt: &impl Print, world: &mut World) -> io::Result<()> {
-    run_handshake(rt, world, Event::Deliver(Side::A, 2))?;
+fn print_refusals(rt: &(impl Print + AllocGlobal), world: &mut World) -> io::Result<()> {
+    run_missing_segment(rt, world)?;
     print_side(rt, "A", world, Side::A)?;
     match world.step(&Event::Connect(Side::A)) {
         Ok(Outcome::Call(Err(refusal))) => println!(rt; "connect: {refusal}"),

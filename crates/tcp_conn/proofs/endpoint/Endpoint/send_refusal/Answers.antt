@@ -5,8 +5,5 @@ use Rattle.tcp_conn.proofs.endpoint.Endpoint.send_refusal.Goals as goal
 pub returns-then-self : goal.returns-then-self
 returns-then-self g c = grind (arith, common_steps)
 
-pub returns-then-accepted_count-eq-STREAM_LIMIT : goal.returns-then-accepted_count-eq-STREAM_LIMIT
-returns-then-accepted_count-eq-STREAM_LIMIT g c = grind (arith, common_steps)
-
 pub returns : goal.returns
 returns g c = grind (arith, common_steps)

@@ -18,6 +18,11 @@ few n h = grind (arith, nat_tests)
 many : (n : ℕ) → max_runs ≤ n → false ≡ nat_le (suc n) max_runs
 many n h = grind (arith, nat_tests)
 
+-- of the runs that a piece leaves none is moved
+runs_left : (over : Run) (table seen rest : List Entry) → seen ≡ table → runs_in rest ≡ map (moved 0) (rest_of over (runs_in seen)) → runs_in rest ≡ rest_of over (runs_in table)
+runs_left over table seen rest same items =
+    items ∙ ap (λ (entries : List Entry). map (moved 0) (rest_of over (runs_in entries))) same ∙ none_moved (rest_of over (runs_in table))
+
 pub returns-then-len-ge-MAX_RUNS-clause-kept : goal.returns-then-len-ge-MAX_RUNS-clause-kept
 returns-then-len-ge-MAX_RUNS-clause-kept g c =
     let block : List ℕ = c.self.inside.block.items in
@@ -26,8 +31,7 @@ returns-then-len-ge-MAX_RUNS-clause-kept g c =
     let end : ℕ = place + length c.args.text.now in
     let piece = piece_of place end 0 in
     let seen = seen_parts block c.self.inside.start c.self.inside.unread table c.args.self.now c.self.view_is c.self.invariant.fits in
-    let rest : runs_in c.rest_of-table.result.items ≡ rest_of piece (runs_in table) =
-    c.rest_of-table.ensures.items ∙ ap (λ (entries : List Entry). map (moved 0) (rest_of piece (runs_in entries))) c.deref.ensures.0 ∙ none_moved (rest_of piece (runs_in table)) in
+    let rest = runs_left piece table _ c.rest_of-table.result.items c.deref.ensures.0 c.rest_of-table.ensures.items in
     let count : length (rest_of piece (runs_in table)) ≡ c.len.result = omega (arith, ap length rest, length-map c.rest_of-table.result.items run_of, c.len.ensures.value) in
     many (length (rest_of piece (runs_in table))) (omega arith)
     ∙ ap (λ n. nat_le n max_runs) (sym (runs_view block c.self.inside.start c.self.inside.unread table c.args.self.now place end 0 c.args.text.now c.self.view_is refl (omega arith) (omega (arith, seen.0, seen.1)) c.self.invariant.inside c.self.invariant.away))
@@ -49,8 +53,7 @@ invariant_of-self g c =
     let size : length after ≡ length block = c.lay.ensures.len ∙ ap length c.deref_mut.ensures.value in
     let now : (with_items c.self.inside.block after).items ≡ after = grind (arith, common_steps, with_items_is) in
     let seen = seen_parts block start unread table c.args.self.now c.self.view_is c.self.invariant.fits in
-    let rest : runs_in c.rest_of-table.result.items ≡ rest_of piece (runs_in table) =
-    c.rest_of-table.ensures.items ∙ ap (λ (entries : List Entry). map (moved 0) (rest_of piece (runs_in entries))) c.deref.ensures.0 ∙ none_moved (rest_of piece (runs_in table)) in
+    let rest = runs_left piece table _ c.rest_of-table.result.items c.deref.ensures.0 c.rest_of-table.ensures.items in
     let union : run_of c.union_of.result ≡ union_of piece piece (runs_in table) = c.union_of.ensures ∙ ap (λ (entries : List Entry). union_of piece piece (runs_in entries)) c.deref-2.ensures.0 in
     let joined : runs_in c.insert.new.self.items ≡ union_of piece piece (runs_in table) ∷ rest_of piece (runs_in table) =
     ap runs_in c.insert.ensures.items
@@ -68,8 +71,7 @@ returns-clause-kept g c =
     let end : ℕ = place + length c.args.text.now in
     let piece = piece_of place end 0 in
     let seen = seen_parts block c.self.inside.start c.self.inside.unread table c.args.self.now c.self.view_is c.self.invariant.fits in
-    let rest : runs_in c.rest_of-table.result.items ≡ rest_of piece (runs_in table) =
-    c.rest_of-table.ensures.items ∙ ap (λ (entries : List Entry). map (moved 0) (rest_of piece (runs_in entries))) c.deref.ensures.0 ∙ none_moved (rest_of piece (runs_in table)) in
+    let rest = runs_left piece table _ c.rest_of-table.result.items c.deref.ensures.0 c.rest_of-table.ensures.items in
     let count : length (rest_of piece (runs_in table)) ≡ c.len.result = omega (arith, ap length rest, length-map c.rest_of-table.result.items run_of, c.len.ensures.value) in
     few (suc (length (rest_of piece (runs_in table)))) (omega arith)
     ∙ ap (λ n. nat_le n max_runs) (sym (runs_view block c.self.inside.start c.self.inside.unread table c.args.self.now place end 0 c.args.text.now c.self.view_is refl (omega arith) (omega (arith, seen.0, seen.1)) c.self.invariant.inside c.self.invariant.away))
@@ -89,8 +91,7 @@ returns-clause-after g c =
     let size : length after ≡ length block = c.lay.ensures.len ∙ ap length lent in
     let now : (with_items c.self.inside.block after).items ≡ after = grind (arith, common_steps, with_items_is) in
     let seen = seen_parts block start unread table c.args.self.now c.self.view_is c.self.invariant.fits in
-    let rest : runs_in c.rest_of-table.result.items ≡ rest_of piece (runs_in table) =
-    c.rest_of-table.ensures.items ∙ ap (λ (entries : List Entry). map (moved 0) (rest_of piece (runs_in entries))) c.deref.ensures.0 ∙ none_moved (rest_of piece (runs_in table)) in
+    let rest = runs_left piece table _ c.rest_of-table.result.items c.deref.ensures.0 c.rest_of-table.ensures.items in
     let union : run_of c.union_of.result ≡ union_of piece piece (runs_in table) = c.union_of.ensures ∙ ap (λ (entries : List Entry). union_of piece piece (runs_in entries)) c.deref-2.ensures.0 in
     let joined : runs_in c.insert.new.self.items ≡ union_of piece piece (runs_in table) ∷ rest_of piece (runs_in table) =
     ap runs_in c.insert.ensures.items

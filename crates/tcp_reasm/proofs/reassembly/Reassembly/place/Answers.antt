@@ -4,7 +4,8 @@ use Rattle.std.proofs.Common.{◌≡◌, ◌⊎◌, ◌<◌, ◌≤◌, ◌-◌,
 use Rattle.std.specs.Prelude.{true, false, min, ◌==◌}
 use Rattle.std.proofs.lemmas.Bool.Decides.{nat_tests}
 use Rattle.std.proofs.lemmas.Int.{to_z-of_z}
-use Rattle.tcp_reasm.specs.Reassembly.{Inbox, piece}
+use Rattle.tcp_reasm.specs.declared.placed.Placed.TheVariants.{NotKept}
+use Rattle.tcp_reasm.specs.Reassembly.{Inbox, piece, after_place, place_answer}
 use Rattle.tcp_reasm.specs.Laws.{cell_at, KeepsBytes, TakesPiece, LeavesOthers, EndsAtMissing}
 use Rattle.tcp_reasm.proofs.Choices.{outside_view, place_view}
 use Rattle.tcp_reasm.proofs.Placing.{after_place-keeps, after_place-takes, after_place-leaves, after_place-missing, ends_at_missing}
@@ -18,33 +19,26 @@ above_zero n e = grind (arith, nat_tests)
 is_zero : (n : ℕ) → (n == 0) ≡ true → n ≡ 0
 is_zero n e = grind (arith, nat_tests)
 
-pub returns-then-is_empty-clause-after : goal.returns-then-is_empty-clause-after
-returns-then-is_empty-clause-after g c =
+-- nothing of the text lies inside the window: it isn't kept
+outside : (g : _) (c : goal.Joined-then-is_empty g) → (c.args.self.now ≡ after_place c.args.self.now c.args.offset c.args.text.now) × (NotKept ≡ place_answer c.args.self.now c.args.offset c.args.text.now)
+outside g c =
     let q : Inbox = c.args.self.now in
     let same_offset = to_z-of_z w64 c.args.offset c.ranges.offset in
     let is_start : c.piece_of-start.result.0 ≡ (piece c.args.offset c.args.text.now).start = c.piece_of-start.ensures.start ∙ ap (λ o. (piece o c.args.text.now).start) same_offset in
     let is_rest : c.piece_of-start.result.1.now ≡ (piece c.args.offset c.args.text.now).text = c.piece_of-start.ensures.text ∙ ap (λ o. (piece o c.args.text.now).text) same_offset in
     let wide : length q.held ≡ length c.self.inside.block.items - c.self.inside.unread = seen_held c.self.inside.block.items c.self.inside.start c.self.inside.unread c.self.inside.table.items q c.self.view_is in
-    let outside : (length (piece c.args.offset c.args.text.now).text ≡ 0) ⊎ (length q.held ≤ (piece c.args.offset c.args.text.now).start) =
+    let is_outside : (length (piece c.args.offset c.args.text.now).text ≡ 0) ⊎ (length q.held ≤ (piece c.args.offset c.args.text.now).start) =
     elim c.then-is_empty.branch [
       | then-is_empty-via-then-is_empty w ↦ inl (ap length (sym is_rest) ∙ is_zero (length c.piece_of-start.result.1.now) (sym c.is_empty.ensures ∙ w.if-is_empty.true))
       | then-is_empty-via-else-is_empty+then-window-start w ↦ inr (omega (arith, wide, w.if-window-start.true, is_start))
     ] in
-    (outside_view q c.args.offset c.args.text.now outside).0
+    outside_view q c.args.offset c.args.text.now is_outside
+
+pub returns-then-is_empty-clause-after : goal.returns-then-is_empty-clause-after
+returns-then-is_empty-clause-after g c = (outside g c).0
 
 pub returns-then-is_empty-clause-answer : goal.returns-then-is_empty-clause-answer
-returns-then-is_empty-clause-answer g c =
-    let q : Inbox = c.args.self.now in
-    let same_offset = to_z-of_z w64 c.args.offset c.ranges.offset in
-    let is_start : c.piece_of-start.result.0 ≡ (piece c.args.offset c.args.text.now).start = c.piece_of-start.ensures.start ∙ ap (λ o. (piece o c.args.text.now).start) same_offset in
-    let is_rest : c.piece_of-start.result.1.now ≡ (piece c.args.offset c.args.text.now).text = c.piece_of-start.ensures.text ∙ ap (λ o. (piece o c.args.text.now).text) same_offset in
-    let wide : length q.held ≡ length c.self.inside.block.items - c.self.inside.unread = seen_held c.self.inside.block.items c.self.inside.start c.self.inside.unread c.self.inside.table.items q c.self.view_is in
-    let outside : (length (piece c.args.offset c.args.text.now).text ≡ 0) ⊎ (length q.held ≤ (piece c.args.offset c.args.text.now).start) =
-    elim c.then-is_empty.branch [
-      | then-is_empty-via-then-is_empty w ↦ inl (ap length (sym is_rest) ∙ is_zero (length c.piece_of-start.result.1.now) (sym c.is_empty.ensures ∙ w.if-is_empty.true))
-      | then-is_empty-via-else-is_empty+then-window-start w ↦ inr (omega (arith, wide, w.if-window-start.true, is_start))
-    ] in
-    (outside_view q c.args.offset c.args.text.now outside).1
+returns-then-is_empty-clause-answer g c = (outside g c).1
 
 pub returns-then-is_empty-clause-missing : goal.returns-then-is_empty-clause-missing
 returns-then-is_empty-clause-missing g c =

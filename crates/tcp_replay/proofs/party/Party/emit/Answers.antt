@@ -1,26 +1,31 @@
-use Rattle.std.proofs.Common.{◌≡◌, length, take, subst, sym, refl, ap, ◌∙◌, arith}
+use Rattle.std.proofs.Common.{◌≡◌, ℕ, List, length, refl, sym, ◌∙◌, ap, arith, append-nil}
+use Rattle.std.specs.Prelude.{Option, None}
 use Rattle.std.proofs.lemmas.Grind.{common_steps}
-use Rattle.std.proofs.lemmas.List.{map_push, length-map}
-use Rattle.std.specs.Prelude.{map}
-use Rattle.tcp_replay.specs.World.{PartyState, party_after_emission}
-use Rattle.tcp_replay.proofs.Parties.{emits_nothing, emission_none, emits_something, emission_some}
+use Rattle.tcp_replay.specs.Solo.{segment_due}
+use Rattle.tcp_replay.specs.World.{PartyState, SentSegment, sent_by, party_after_emission}
+use Rattle.tcp_replay.proofs.Parties.{segment_to, emission_is, outcome_is}
 use Rattle.tcp_replay.proofs.party.Party.emit.Goals as goal
 
 pub returns-in_default-clause-state : goal.returns-in_default-clause-state
-returns-in_default-clause-state g c = subst (λ (p : PartyState). p ≡ party_after_emission p) c.self.view_is (emits_nothing _ (sym c.in_default.ensures.value))
+returns-in_default-clause-state g c =
+    let none : ◌≡◌ {A = Option (List ℕ × List ℕ)} None (segment_due c.self.inside.endpoint) = grind (arith, common_steps) in
+    emission_is _ c.emit_for.new.endpoint _ None none c.in_ok-bytes.ensures.state (rw c.in_ok-bytes.ensures.list (sym (append-nil _))) ∙ ap party_after_emission c.self.view_is
 
 pub returns-in_default-clause-outcome : goal.returns-in_default-clause-outcome
 returns-in_default-clause-outcome g c =
-    emission_none c.args.self.now c.self.inside.endpoint (ap (λ (p : PartyState). p.endpoint) c.self.view_is) (sym c.in_default.ensures.value)
+    let none : ◌≡◌ {A = Option (List ℕ × List ℕ)} None (segment_due c.args.self.now.endpoint) = grind (arith, common_steps) in
+    outcome_is c.args.self.now (length c.args.self.now.sent) None none refl
 
 pub returns-clause-state : goal.returns-clause-state
 returns-clause-state g c =
-    let bytes : c.extend_from_slice.new.self.items ≡ take c.in-Some.len c.emit.new.out = grind (arith, common_steps) in
-    emits_something _ c.emit.new.self _ c.in-Some.len _ c.emit.new.out c.extend_from_slice.new.self.items (sym c.in-Some.ensures.value) c.emit.ensures.state c.emit.ensures.bytes bytes
-    (rw (c.push_reserved.ensures.items, map_push, c.reserve.ensures.items) refl)
-    ∙ ap party_after_emission c.self.view_is
+    let some : segment_to c.in-Some.field-0-0.0 c.in-Some.bytes.items ≡ segment_due c.self.inside.endpoint = grind (arith, common_steps) in
+    let kept : ◌≡◌ {A = SentSegment} (record { bytes = c.in-Some.bytes.items; position = c.position-position.result; wanted = c.next-wanted.result }) (sent_by c.self.inside.endpoint c.in-Some.bytes.items) = grind (arith, common_steps) in
+    emission_is _ c.emit_for.new.endpoint _ (segment_to c.in-Some.field-0-0.0 c.in-Some.bytes.items) some c.in_ok-bytes.ensures.state
+    (rw (c.push_reserved.ensures.items, c.in_ok-bytes.ensures.list, kept) refl) ∙ ap party_after_emission c.self.view_is
 
 pub returns-clause-outcome : goal.returns-clause-outcome
 returns-clause-outcome g c =
-    let sent : length (map (λ bytes. bytes.items) c.self.inside.sent.items) ≡ length c.args.self.now.sent = ap (λ (p : PartyState). length p.sent) c.self.view_is in
-    emission_some c.args.self.now c.self.inside.endpoint c.in-Some.len c.len-number.result (ap (λ (p : PartyState). p.endpoint) c.self.view_is) (sym c.in-Some.ensures.value) (omega (arith, rw length-map at sent))
+    let some : segment_to c.in-Some.field-0-0.0 c.in-Some.bytes.items ≡ segment_due c.args.self.now.endpoint = grind (arith, common_steps) in
+    let sent : length c.self.inside.sent.items ≡ length c.args.self.now.sent = ap (λ (p : PartyState). length p.sent) c.self.view_is in
+    let count : c.len-number.result ≡ length c.self.inside.sent.items = grind (arith, common_steps) in
+    outcome_is c.args.self.now c.len-number.result (segment_to c.in-Some.field-0-0.0 c.in-Some.bytes.items) some (count ∙ sent)

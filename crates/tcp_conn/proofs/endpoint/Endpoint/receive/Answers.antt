@@ -1,0 +1,12 @@
+use Rattle.std.proofs.Common.{arith}
+use Rattle.std.proofs.lemmas.Grind.{common_steps}
+use Rattle.tcp_conn.specs.Calls.{after_receive}
+use Rattle.tcp_conn.proofs.endpoint.Endpoint.receive.Goals as goal
+
+pub returns-then-not-nothing-clause-state : goal.returns-then-not-nothing-clause-state
+unfolding after_receive
+returns-then-not-nothing-clause-state g c = grind (arith, common_steps)
+
+pub returns-clause-state : goal.returns-clause-state
+unfolding after_receive
+returns-clause-state g c = grind (arith, common_steps)

@@ -1,0 +1,9 @@
+use Rattle.std.proofs.Common.{arith}
+use Rattle.std.proofs.lemmas.Grind.{common_steps}
+use Rattle.tcp_replay.proofs.world.World.with_lifetime.Goals as goal
+
+pub returns-clause-new : goal.returns-clause-new
+returns-clause-new c = grind (arith, common_steps)
+
+pub returns-clause-fault : goal.returns-clause-fault
+returns-clause-fault c = grind (arith, common_steps)

@@ -1,0 +1,42 @@
+//! A line's event.
+use std::alloc::Global;
+use tcp_replay::SoloEvent;
+use tcp_script::read_timer;
+use tcp_text::{LineError, SPACE, cut, read_addr, read_bytes, read_number};
+use tcp_wire::Addr;
+
+/// The greatest count that a line asks to receive.
+const MAX_RECEIVE: u64 = 1_048_576;
+
+fn read_arrival(alloc: Global, words: &[u8]) -> Result<SoloEvent, LineError> {
+    let (src, rest) = cut(SPACE, words);
+    let (dst, bytes) = cut(SPACE, rest.ok_or(LineError::BadForm)?);
+    let src = read_addr(src).ok_or(LineError::BadForm)?;
+    let dst = read_addr(dst).ok_or(LineError::BadForm)?;
+    let bytes = read_bytes(alloc, bytes.ok_or(LineError::BadForm)?)?;
+    Ok(SoloEvent::Arrive(src, dst, bytes))
+}
+
+fn read_receive(word: &[u8]) -> Result<SoloEvent, LineError> {
+    let room = read_number(word, MAX_RECEIVE).ok_or(LineError::BadForm)?;
+    Ok(SoloEvent::Receive(room as usize))
+}
+
+/// The event of a line's first word, and of what stands behind it.
+pub(crate) fn read_event(alloc: Global, word: &[u8], rest: &[u8]) -> Result<SoloEvent, LineError> {
+    match word {
+        b"connect" => Ok(SoloEvent::Connect(Addr([10, 0, 0, 1]), 1)),
+        b"listen" => Ok(SoloEvent::Listen),
+        b"close" => Ok(SoloEvent::Close),
+        b"abort" => Ok(SoloEvent::Abort),
+        b"emit" => Ok(SoloEvent::Emit),
+        b"send" => Ok(SoloEvent::Send(read_bytes(alloc, rest)?)),
+        b"receive" => read_receive(rest),
+        b"timer" => {
+            let timer = read_timer(rest).ok_or(LineError::BadForm)?;
+            Ok(SoloEvent::Timer(timer))
+        }
+        b"arrive" => read_arrival(alloc, rest),
+        _ => Err(LineError::BadForm),
+    }
+}

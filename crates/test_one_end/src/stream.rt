@@ -1,0 +1,77 @@
+//! One end, and what happened to it so far.
+use crate::calls::{push_last, push_timers};
+use crate::events::read_event;
+use std::alloc::Global;
+use tcp_conn::Config;
+use tcp_replay::{SoloError, SoloEvent, solo};
+use tcp_text::{LineError, SPACE, cut};
+
+/// What an end is made from, and its events.
+#[derive(Drop)]
+pub(crate) struct Stream {
+    config: Config,
+    events: Vec<SoloEvent>,
+}
+
+/// Why there is no end of these settings.
+fn refusal_of(alloc: Global, config: Config) -> Option<SoloError> {
+    solo(alloc, config, &[]).err()
+}
+
+/// Begins with another end, or without one where it is refused, and appends why.
+pub(crate) fn begin(
+    alloc: Global,
+    config: Config,
+    stream: &mut Option<Stream>,
+    answers: &mut String,
+) -> Result<(), LineError> {
+    *stream = None;
+    match refusal_of(alloc, config) {
+        None => {
+            let events = Vec::new(alloc);
+            *stream = Some(Stream { config, events });
+        }
+        Some(SoloError::Config(refusal)) => {
+            let number = refusal.number();
+            write!(answers, "refused {number}: {refusal}\n")?;
+        }
+        Some(SoloError::At(_, _)) => return Err(LineError::NoMemory),
+    }
+    Ok(())
+}
+
+impl Stream {
+    /// Appends what the log of all events so far tells of a line.
+    fn push_answer(
+        &self,
+        alloc: Global,
+        line: &[u8],
+        answers: &mut String,
+    ) -> Result<(), LineError> {
+        match solo(alloc, self.config, &self.events) {
+            Ok(log) if line == TIMERS => push_timers(answers, &log.endpoint),
+            Ok(log) => push_last(alloc, answers, &log, line == EMISSION_AS_BYTES),
+            Err(_) => Err(LineError::NoMemory),
+        }
+    }
+
+    /// Takes the event of a line, and appends what came of it. `timers` is a question and no event.
+    pub(crate) fn take_line(
+        &mut self,
+        alloc: Global,
+        line: &[u8],
+        answers: &mut String,
+    ) -> Result<(), LineError> {
+        if line != TIMERS {
+            let (word, rest) = cut(SPACE, line);
+            let event = read_event(alloc, word, rest.unwrap_or(b""))?;
+            self.events.reserve(1)?;
+            self.events.push_reserved(event);
+        }
+        self.push_answer(alloc, line, answers)
+    }
+}
+
+const TIMERS: &[u8] = b"timers";
+
+const EMISSION_AS_BYTES: &[u8] = b"emit bytes";
