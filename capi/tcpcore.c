@@ -198,7 +198,7 @@ uint32_t tcpcore_timers(tcpcore_end *end, uint32_t *due)
 
 uint32_t tcpcore_status(tcpcore_end *end, struct tcpcore_status *status)
 {
-    struct tcpcore_status found = {0, 0, 0, 0, 0};
+    struct tcpcore_status found = {0, 0, 0, 0, 0, 0, 0};
     struct place place = {status, sizeof *status};
     uint32_t answer = refusal_with(end, NULL, 0, place);
     if (answer == TCPCORE_DONE)
