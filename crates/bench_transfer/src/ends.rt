@@ -10,7 +10,7 @@ const SEGMENT: usize = 1460;
 /// What a user writes or reads at once: the text of two segments, in bytes.
 const PIECE: usize = 2 * SEGMENT;
 
-fn new_end(alloc: Global, host: u8, capacity: usize) -> Result<Endpoint, ConfigError> {
+pub(crate) fn new_end(alloc: Global, host: u8, capacity: usize) -> Result<Endpoint, ConfigError> {
     let config = Config {
         addr: Addr([10, 0, 0, host]),
         port: u16::from(host),
@@ -31,6 +31,15 @@ fn carry(from: &mut Endpoint, to: &mut Endpoint, room: &mut [u8; EMIT_ROOM]) {
         let src = from.config().addr;
         to.arrive(src, dst, &room[..len]);
     }
+}
+
+/// The handshake, in which A connects to B.
+pub(crate) fn open(a: &mut Endpoint, b: &mut Endpoint, room: &mut [u8; EMIT_ROOM]) {
+    let _ = b.listen();
+    let _ = a.connect(Addr([10, 0, 0, 2]), 2);
+    carry(a, b, room);
+    carry(b, a, room);
+    carry(a, b, room);
 }
 
 /// An end A that sends, and an end B that reads.
@@ -63,11 +72,7 @@ impl Pair {
 
     /// The handshake.
     pub(crate) fn open(&mut self) {
-        let _ = self.b.listen();
-        let _ = self.a.connect(Addr([10, 0, 0, 2]), 2);
-        carry(&mut self.a, &mut self.b, &mut self.room);
-        carry(&mut self.b, &mut self.a, &mut self.room);
-        carry(&mut self.a, &mut self.b, &mut self.room);
+        open(&mut self.a, &mut self.b, &mut self.room);
     }
 
     /// Carries the segments of a burst that aren't late, with an acknowledgement for each two.

@@ -1,4 +1,4 @@
--- What an emission answers, and the end after it.
+-- What an emission answers, and the end after it (RFC 9293, 3.3.1, 3.4 and 3.8).
 use Rattle.std.specs.Prelude.{ℕ, Bool, false, not, ◌&&◌, List, Option, Some, None, ◌+◌, max, ◌++◌, drop, option_map}
 use Rattle.std.specs.declared.ops.Range.{Range}
 use Rattle.tcp_wire.specs.Wire.{wire_length}

@@ -1,4 +1,4 @@
--- What always holds of an end.
+-- What always holds of an end (RFC 9293, 3.1, 3.7.1 and 3.8.6; RFC 7323, 2.3).
 use Rattle.std.specs.Prelude.{◌<◌, ◌≤◌, ◌^◌, unwrap_or}
 use Rattle.tcp_sendq.specs.SendQueue.{Queue}
 use Rattle.tcp_reasm.specs.Reassembly.{Inbox}

@@ -1,4 +1,4 @@
--- What an end knows of its peer, and what it owes to the wire.
+-- What an end knows of its peer, and what it owes to the wire (RFC 9293, 3.3.1, 3.7.1 and 3.8.6; RFC 7323, 2.2; RFC 2018, 2).
 use Rattle.std.specs.Prelude.{false, [], ◌∷◌, None}
 use Rattle.tcp_conn.specs.declared.link.Link.{Link}
 use Rattle.tcp_conn.specs.declared.link.Owed.{Owed}

@@ -1,4 +1,4 @@
--- A new end.
+-- A new end (RFC 9293, 3.3.2).
 use Rattle.std.specs.Prelude.{false}
 use Rattle.tcp_conn.specs.declared.config.Config.{Config}
 use Rattle.tcp_conn.specs.declared.phase.Ending.TheVariants.{NotEnded}
@@ -9,7 +9,7 @@ use Rattle.tcp_conn.specs.State.{State}
 use Rattle.tcp_conn.specs.Sender.{new_sending}
 use Rattle.tcp_conn.specs.Receiver.{new_receiving}
 
--- CLOSED, empty, nothing owed (RFC 9293, 3.3.2)
+-- CLOSED, empty, nothing owed
 abbrev pub new_end : Config → State
 new_end c = record {
   config = c;

@@ -1,4 +1,4 @@
--- The numbers under which refused calls are reported, and their texts.
+-- The numbers under which refused calls (RFC 9293, 3.10.1 to 3.10.5) are reported, and their texts.
 use Rattle.std.specs.Prelude.{ℕ, List, codes}
 use Rattle.tcp_conn.specs.declared.outcome.CallError.{CallError}
 use Rattle.tcp_conn.specs.declared.outcome.CallError.TheVariants as calls
