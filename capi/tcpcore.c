@@ -14,10 +14,33 @@ struct handle {
 
 #define OWNER 2
 
+/* Where each field of the library's structs lies, and how many bytes it takes (crate tcp_c, src/records.rt). */
+#define FIELD(type, field, at, size) \
+    _Static_assert(offsetof(type, field) == (at) && sizeof((type){0}.field) == (size), #field " isn't the library's")
+
+_Static_assert(sizeof(size_t) == 8 && sizeof(void *) == 8, "the words of the library");
 _Static_assert(sizeof(struct handle) == OWNER * sizeof(uint64_t), "the handle is the struct's first words");
-_Static_assert(sizeof(tcpcore_addr) == 4 && sizeof(size_t) == 8, "the types of the library");
-_Static_assert(sizeof(tcpcore_config) == 48 && offsetof(tcpcore_config, send_capacity) == 16 &&
-                   offsetof(tcpcore_config, limit) == 32, "the config of the library");
+_Static_assert(sizeof(tcpcore_end) == (OWNER + 1) * sizeof(uint64_t), "the handle and the struct's own address");
+FIELD(tcpcore_addr, byte, 0, 4);
+_Static_assert(sizeof(tcpcore_addr) == 4, "the address of the library");
+FIELD(tcpcore_config, addr, 0, 4);
+FIELD(tcpcore_config, port, 4, 2);
+FIELD(tcpcore_config, mss, 6, 2);
+FIELD(tcpcore_config, isn, 8, 4);
+FIELD(tcpcore_config, send_capacity, 16, 8);
+FIELD(tcpcore_config, recv_capacity, 24, 8);
+FIELD(tcpcore_config, limit, 32, 8);
+FIELD(tcpcore_config, window_shift, 40, 1);
+FIELD(tcpcore_config, scales, 41, 1);
+FIELD(tcpcore_config, sack, 42, 1);
+_Static_assert(sizeof(tcpcore_config) == 48, "the config of the library");
+FIELD(struct tcpcore_status, phase, 0, 4);
+FIELD(struct tcpcore_status, ending, 4, 4);
+FIELD(struct tcpcore_status, unread, 8, 8);
+FIELD(struct tcpcore_status, released, 16, 8);
+FIELD(struct tcpcore_status, ordered, 24, 8);
+FIELD(struct tcpcore_status, una, 32, 8);
+FIELD(struct tcpcore_status, next, 40, 8);
 _Static_assert(sizeof(struct tcpcore_status) == 48, "the status of the library");
 
 /* The library's own calls (crate tcp_c). */
@@ -36,6 +59,14 @@ uint32_t tcp_c_timers(struct handle *, uint32_t *);
 uint32_t tcp_c_status(struct handle *, struct tcpcore_status *);
 
 static struct handle *handle(tcpcore_end *end) { return (struct handle *)end->opaque; }
+
+/* For a call that changes no end: the library takes the end out of its handle and puts it back, where it was. */
+static struct handle copy_of(const tcpcore_end *end)
+{
+    struct handle copy;
+    memcpy(&copy, end->opaque, sizeof copy);
+    return copy;
+}
 
 /* Whether the struct may be used where it lies: all zero, or with its own address. The library tests the mark. */
 static uint32_t refusal(const tcpcore_end *end)
@@ -83,10 +114,16 @@ static void put(struct place place, const tcpcore_end *end, const void *bytes, s
 }
 
 /* A slice is never at NULL, even an empty one. */
-static uint8_t *start(const void *bytes)
+static uint8_t *start(void *bytes)
 {
     static uint8_t nothing;
-    return bytes ? (uint8_t *)bytes : &nothing;
+    return bytes ? bytes : &nothing;
+}
+
+static const uint8_t *front(const void *bytes)
+{
+    static const uint8_t nothing;
+    return bytes ? bytes : &nothing;
 }
 
 uint32_t tcpcore_new(tcpcore_end *end, const tcpcore_config *config)
@@ -129,7 +166,7 @@ uint32_t tcpcore_send(tcpcore_end *end, const void *text, size_t length, size_t 
     struct place place = {taken, sizeof *taken};
     uint32_t answer = refusal_with(end, text, length, place);
     if (answer == TCPCORE_DONE)
-        answer = tcp_c_send(handle(end), start(text), length, &found);
+        answer = tcp_c_send(handle(end), front(text), length, &found);
     put(place, end, text, length, &found);
     return answer;
 }
@@ -167,7 +204,7 @@ uint32_t tcpcore_arrive(tcpcore_end *end, tcpcore_addr src, tcpcore_addr dst, co
 {
     static uint8_t nothing;
     uint32_t answer = refusal_with(end, bytes, length, (struct place){&nothing, 0});
-    return answer != TCPCORE_DONE ? answer : tcp_c_arrive(handle(end), &src, &dst, start(bytes), length);
+    return answer != TCPCORE_DONE ? answer : tcp_c_arrive(handle(end), &src, &dst, front(bytes), length);
 }
 
 uint32_t tcpcore_emit(tcpcore_end *end, void *out, size_t room, tcpcore_addr *to, size_t *length)
@@ -185,24 +222,72 @@ uint32_t tcpcore_emit(tcpcore_end *end, void *out, size_t room, tcpcore_addr *to
     return answer;
 }
 
-uint32_t tcpcore_timers(tcpcore_end *end, uint32_t *due)
+uint32_t tcpcore_timers(const tcpcore_end *end, uint32_t *due)
 {
     uint32_t found = 0;
     struct place place = {due, sizeof *due};
     uint32_t answer = refusal_with(end, NULL, 0, place);
-    if (answer == TCPCORE_DONE)
-        answer = tcp_c_timers(handle(end), &found);
+    if (answer == TCPCORE_DONE) {
+        struct handle copy = copy_of(end);
+        answer = tcp_c_timers(&copy, &found);
+    }
     put(place, end, NULL, 0, &found);
     return answer;
 }
 
-uint32_t tcpcore_status(tcpcore_end *end, struct tcpcore_status *status)
+uint32_t tcpcore_status(const tcpcore_end *end, struct tcpcore_status *status)
 {
     struct tcpcore_status found = {0, 0, 0, 0, 0, 0, 0};
     struct place place = {status, sizeof *status};
     uint32_t answer = refusal_with(end, NULL, 0, place);
-    if (answer == TCPCORE_DONE)
-        answer = tcp_c_status(handle(end), &found);
+    if (answer == TCPCORE_DONE) {
+        struct handle copy = copy_of(end);
+        answer = tcp_c_status(&copy, &found);
+    }
     put(place, end, NULL, 0, &found);
     return answer;
 }
+
+/* The texts, by their answers. */
+static const char *const TEXTS[] = {
+    [TCPCORE_DONE] = "done",
+    [TCPCORE_TOO_SHORT] = "a segment of fewer than 20 bytes",
+    [TCPCORE_TOO_LONG] = "a segment of more than 65,515 bytes",
+    [TCPCORE_BAD_CHECKSUM] = "the segment's checksum is wrong",
+    [TCPCORE_BAD_OFFSET] = "the segment's data offset is wrong",
+    [TCPCORE_BAD_OPTION] = "the length of one of the segment's options is wrong",
+    [TCPCORE_BAD_PADDING] = "the padding behind the segment's options isn't 0",
+    [TCPCORE_NOT_OPEN] = "not open yet",
+    [TCPCORE_ALREADY_OPEN] = "open already, or opened before",
+    [TCPCORE_CLOSING] = "closed by this side",
+    [TCPCORE_ENDED] = "the connection has ended",
+    [TCPCORE_STREAM_FULL] = "this side has sent as many bytes as the limit allows",
+    [TCPCORE_NOT_CONNECTED] = "no peer is known yet",
+    [TCPCORE_BAD_CAPACITY] = "a capacity isn't from 1 to 1,048,576 bytes",
+    [TCPCORE_NO_MEMORY] = "no memory",
+    [TCPCORE_BAD_MSS] = "the maximum segment size isn't from 64 to 1,460 bytes",
+    [TCPCORE_BAD_SHIFT] = "the window shift is above 14",
+    [TCPCORE_BAD_LIMIT] = "the limit isn't from 1 to 2^62 bytes",
+    [TCPCORE_NO_END] = "no end is in the struct",
+    [TCPCORE_IN_USE] = "the struct holds an end already",
+    [TCPCORE_ROOM] = "too little room for a segment",
+    [TCPCORE_NO_TIMER] = "no timer has this number",
+    [TCPCORE_NULL] = "a pointer is NULL",
+    [TCPCORE_LENGTH] = "a length is above PTRDIFF_MAX",
+    [TCPCORE_COPIED] = "the struct was copied, moved or never set",
+    [TCPCORE_OVERLAP] = "a buffer or a pointer overlaps the struct or another one",
+    [TCPCORE_NOTHING] = "nothing to read yet",
+    [TCPCORE_END_OF_STREAM] = "the peer has closed, and all its bytes were read",
+    [TCPCORE_NOT_DUE] = "no segment is due",
+    [TCPCORE_NO_RULE] = "this timer isn't running",
+    [TCPCORE_DROPPED] = "the segment was passed over",
+    [TCPCORE_NOT_MINE] = "the segment is another connection's",
+};
+
+const char *tcpcore_strerror(uint32_t answer)
+{
+    const char *text = answer < sizeof TEXTS / sizeof *TEXTS ? TEXTS[answer] : NULL;
+    return text ? text : "unknown answer";
+}
+
+uint32_t tcpcore_version(void) { return TCPCORE_VERSION; }

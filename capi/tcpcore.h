@@ -27,6 +27,24 @@
  *      A timer whose bit is clear stands still.
  *   6. Free the end: tcpcore_free.
  *
+ * WHICH END A SEGMENT IS FOR
+ *   A single end on its address needs no choice: hand it whatever comes. With several ends the caller deals out the
+ *   segments, by both addresses and both ports (a pair of sockets identifies a connection: RFC 9293, 4):
+ *   1. to the end, not in CLOSED, whose own address and port are the destination, and whose peer's are the source;
+ *   2. where there is none, to an end in LISTEN whose own address and port are the destination. If it answers
+ *      TCPCORE_DONE the segment was a SYN, its source is the peer, and the end carries that connection: make another
+ *      one to listen on;
+ *   3. where there is neither, to no end, or to an end in CLOSED that was made for the destination's address and port.
+ *   An end in LISTEN or CLOSED knows no peer. It takes segments from any source to its own address and port, and what
+ *   isn't for it, but a reset, it answers by a reset (in LISTEN what has an ACK: RFC 9293, 3.10.7.1 and 3.10.7.2).
+ *   So a segment of a connection that another end carries, handed to it, ends that connection: the peer takes the
+ *   reset. Never try one end after the other until one doesn't answer TCPCORE_NOT_MINE.
+ *
+ * WHICH ADDRESSES ARE REFUSED
+ *   None: no call looks at what an address means. Before tcpcore_connect and tcpcore_arrive the caller refuses what
+ *   can't be a peer's (RFC 9293, 3.9.2.3): 0.0.0.0, a multicast address (224.0.0.0 to 239.255.255.255), a broadcast
+ *   address (255.255.255.255, and that of the own network), and the own address together with the own port.
+ *
  * MEMORY
  *   tcpcore_new takes three blocks: the send capacity, the receive capacity, and the end itself, aligned to 8 bytes.
  *   TCPCORE_MEMORY(send, receive) is their sum in bytes. No other call takes any, and tcpcore_free gives all of it back. Blocks
@@ -42,8 +60,9 @@
  *
  * WHO OWNS WHAT
  *   The caller places the struct tcpcore_end, sets it to TCPCORE_END_INIT, and frees what tcpcore_new put into it. The struct
- *   isn't copied or moved while it holds an end: a copy is refused (TCPCORE_COPIED). A struct whose bytes were saved, and put back
- *   to the same place after its end was freed, can't be found out. Buffers belong to the caller; no call keeps a pointer to one.
+ *   isn't copied or moved while it holds an end: a copy is refused (TCPCORE_COPIED). A struct whose bytes were saved,
+ *   and put back to the same place after its end was freed, can't be found: it looks as it did while it held the end,
+ *   and a call with it uses memory that was given back. Buffers belong to the caller; no call keeps a pointer to one.
  *
  * ANSWERS
  *   Each function answers one number of the table below. A refusal changes no end. What a call writes through a pointer (a count,
@@ -52,9 +71,10 @@
  *   is TCPCORE_OVERLAP, and nothing is written there. A buffer may be NULL where its length is 0.
  *
  * WHAT IS TRUSTED
- *   What a call does to an end is proved of the library. Not proved: that this header agrees with it, tcpcore.c, the C compiler,
- *   and the memory functions that you link. A pointer to memory that isn't there, or isn't yours, can't be found: such a call
- *   may do anything.
+ *   What a call does to an end is proved of the library. Not proved: tcpcore.c, the C compiler, the memory functions
+ *   that you link, and that this header agrees with the library: tcpcore.c asserts where each field lies, and
+ *   tests/fields.c reads each one back through what an end does. A pointer to memory that isn't there, or isn't yours,
+ *   can't be found: such a call may do anything.
  */
 #ifndef TCPCORE_H
 #define TCPCORE_H
@@ -66,7 +86,10 @@
 extern "C" {
 #endif
 
-/* The answers. */
+/* The version of this header: it grows with each change of a struct, a call or an answer. */
+#define TCPCORE_VERSION 1
+
+/* The answers; tcpcore_strerror has a text for each. */
 enum {
     /* It is done. */
     TCPCORE_DONE = 0,
@@ -173,7 +196,11 @@ typedef struct tcpcore_config {
     size_t recv_capacity;   /* the most bytes kept for the user, 1 to 1,048,576: the greatest receive window */
     uint64_t limit;         /* the most bytes that the own direction carries, 1 to 2^62; past TCPCORE_LIMIT the network has to keep
                                a lifetime of segments (RFC 9293, 3.4) */
-    uint8_t window_shift;   /* the shift of the windows that are told, 0 to 14 (RFC 7323, 2.2); not looked at where `scales` is 0 */
+    uint8_t window_shift;   /* the shift of the windows that are told, 0 to 14 (RFC 7323, 2.2); not looked at where
+                               `scales` is 0. A window behind the SYN's is told in steps of 2^shift bytes, rounded
+                               down: with a recv_capacity below 2^shift it is always 0, and the peer sends nothing but
+                               probes of a byte. Take the least shift with recv_capacity >> shift at most 65,535: 0
+                               for 65,535 bytes, 1 for 65,536, 5 for 1,048,576 */
     uint8_t scales;         /* whether windows may be scaled: 0 is no, anything else yes */
     uint8_t sack;           /* whether selective acknowledgement may be used (RFC 2018, 2): 0 is no, anything else yes */
 } tcpcore_config;
@@ -186,7 +213,7 @@ struct tcpcore_status {
     uint64_t released; /* sent bytes that the peer has acknowledged */
     uint64_t ordered;  /* received bytes up to now, read or not, in order */
     uint64_t una;      /* SND.UNA as a position of the own direction: its SYN is at 0, byte i at 1 + i */
-    uint64_t next;     /* RCV.NXT as a position of the peer's direction */
+    uint64_t next;     /* RCV.NXT as a position of the peer's direction: its SYN is at 0. It is 1 until that has come */
 };
 
 /*
@@ -204,7 +231,8 @@ uint32_t tcpcore_new(tcpcore_end *end, const tcpcore_config *config);
 uint32_t tcpcore_free(tcpcore_end *end);
 
 /*
- * Opens a connection to this address and port (RFC 9293, 3.10.1): SYN-SENT, a SYN is due.
+ * Opens a connection to this address and port (RFC 9293, 3.10.1): SYN-SENT, a SYN is due. Any address and port are
+ * taken: see WHICH ADDRESSES ARE REFUSED above.
  *   DONE; ENDED, ALREADY_OPEN; NO_END; NULL; COPIED.
  */
 uint32_t tcpcore_connect(tcpcore_end *end, tcpcore_addr addr, uint16_t port);
@@ -224,6 +252,9 @@ uint32_t tcpcore_send(tcpcore_end *end, const void *text, size_t length, size_t 
 /*
  * Hands over the front of what came in order, at most `room` bytes, at `out` (RFC 9293, 3.10.3). *count is its length; what
  * lies behind it in `out` stays.
+ * A reset that arrives gives up what is unread, in CLOSING, LAST-ACK and TIME-WAIT too, where all the peer's bytes
+ * have come (RFC 9293, 3.10.7.4 has there only that the connection is deleted): read to END_OF_STREAM as soon as they
+ * are there.
  *   DONE: *count bytes (0 only where room is 0); more may be there. NOTHING: nothing yet. END_OF_STREAM: nothing will come.
  *   ENDED (behind a reset or an abort), NOT_OPEN; NO_END; NULL; LENGTH; OVERLAP; COPIED.
  */
@@ -249,8 +280,9 @@ uint32_t tcpcore_abort(tcpcore_end *end);
 uint32_t tcpcore_timer(tcpcore_end *end, uint32_t timer);
 
 /*
- * A TCP segment of `length` bytes has come from `src` to `dst` (RFC 9293, 3.10.7). Hand over whatever comes: what is no segment, or
- * another connection's, changes nothing.
+ * A TCP segment of `length` bytes has come from `src` to `dst` (RFC 9293, 3.10.7). What is no segment, or is for
+ * another address or port, changes nothing; nor does what has another source, once a peer is known. In LISTEN and
+ * CLOSED none is known, and a segment of another connection is answered by a reset: see WHICH END A SEGMENT IS FOR.
  *   DONE: it was taken. DROPPED: it was passed over; an answer may be due. NOT_MINE. TOO_SHORT .. BAD_PADDING: it is none.
  *   NO_END; NULL; LENGTH; OVERLAP; COPIED.
  */
@@ -267,13 +299,25 @@ uint32_t tcpcore_emit(tcpcore_end *end, void *out, size_t room, tcpcore_addr *to
  * Which timers have to run: in *due bit 1 << t is set where tcpcore_timer(end, t) would answer DONE.
  *   DONE; NO_END; NULL; COPIED.
  */
-uint32_t tcpcore_timers(tcpcore_end *end, uint32_t *due);
+uint32_t tcpcore_timers(const tcpcore_end *end, uint32_t *due);
 
 /*
  * Tells phase, ending and counts.
  *   DONE; NO_END; NULL; COPIED.
  */
-uint32_t tcpcore_status(tcpcore_end *end, struct tcpcore_status *status);
+uint32_t tcpcore_status(const tcpcore_end *end, struct tcpcore_status *status);
+
+/*
+ * The text of an answer, such as "nothing to read yet". It is never NULL, nobody frees it, and any thread may ask for
+ * it at any time. A number that is no answer has the text "unknown answer".
+ */
+const char *tcpcore_strerror(uint32_t answer);
+
+/*
+ * The TCPCORE_VERSION with which tcpcore.c was compiled. A program that loads a shared library compares it with its
+ * own.
+ */
+uint32_t tcpcore_version(void);
 
 #ifdef __cplusplus
 }

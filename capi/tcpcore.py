@@ -4,7 +4,10 @@ import ctypes
 import os
 from collections import namedtuple
 
-DONE, NOT_OPEN, ALREADY_OPEN, CLOSING, ENDED = 0, 11, 12, 13, 14
+VERSION = 1
+DONE, TOO_SHORT, TOO_LONG, BAD_CHECKSUM, BAD_OFFSET, BAD_OPTION, BAD_PADDING = range(7)
+NOT_OPEN, ALREADY_OPEN, CLOSING, ENDED, STREAM_FULL, NOT_CONNECTED = range(11, 17)
+BAD_CAPACITY, NO_MEMORY, BAD_MSS, BAD_SHIFT, BAD_LIMIT = range(21, 26)
 NO_END, IN_USE, ROOM, NO_TIMER, NULL, LENGTH, COPIED, OVERLAP = range(31, 39)
 NOTHING, END_OF_STREAM, NOT_DUE, NO_RULE, DROPPED, NOT_MINE = range(51, 57)
 PHASES = (
@@ -77,7 +80,10 @@ CALLS = {
     "emit": [END, ctypes.c_char_p, SIZE, ctypes.POINTER(AddrStruct), OUT],
     "timers": [END, ctypes.POINTER(ctypes.c_uint32)],
     "status": [END, ctypes.POINTER(StatusStruct)],
+    "strerror": [ctypes.c_uint32],
+    "version": [],
 }
+loaded = {}
 
 
 def load(path):
@@ -86,21 +92,36 @@ def load(path):
     calls = {}
     for name, types in CALLS.items():
         call = getattr(library, f"tcpcore_{name}")
-        call.argtypes, call.restype = types, ctypes.c_uint32
+        call.argtypes, call.restype = types, ctypes.c_char_p if name == "strerror" else ctypes.c_uint32
         calls[name] = call
+    if calls["version"]() != VERSION:
+        raise ImportError(f"{path} has version {calls['version']()}, and tcpcore.py is for version {VERSION}")
     return calls
+
+
+def library():
+    """The calls of the library that LIBTCPCORE names, or of out/libtcpcore.so beside this file. It is loaded once."""
+    if not loaded:
+        here = os.path.dirname(os.path.realpath(__file__))
+        loaded.update(load(os.environ.get("LIBTCPCORE", f"{here}/out/libtcpcore.so")))
+    return loaded
+
+
+def strerror(answer):
+    """The text of an answer."""
+    return library()["strerror"](answer).decode()
+
+
+def version():
+    """The library's version."""
+    return library()["version"]()
 
 
 class End:
     """One end. A refusal of a user's call is raised as `Refused`."""
 
-    library = None
-
     def __init__(self, config, room=1 << 16):
-        if End.library is None:
-            here = os.path.dirname(os.path.realpath(__file__))
-            End.library = load(os.environ.get("LIBTCPCORE", f"{here}/out/libtcpcore.so"))
-        self.struct, self.calls = EndStruct(), End.library
+        self.struct, self.calls = EndStruct(), library()
         self.end = ctypes.pointer(self.struct)
         self.count, self.due, self.to = ctypes.c_size_t(), ctypes.c_uint32(), AddrStruct()
         self.told = StatusStruct()
@@ -110,16 +131,16 @@ class End:
         self.ask(
             "new",
             ConfigStruct(
-                AddrStruct.from_buffer_copy(config.addr),
-                config.port,
-                config.mss,
-                config.isn,
-                config.send_capacity,
-                config.recv_capacity,
-                config.limit,
-                shift or 0,
-                shift is not None,
-                config.sack,
+                addr=AddrStruct.from_buffer_copy(config.addr),
+                port=config.port,
+                mss=config.mss,
+                isn=config.isn,
+                send_capacity=config.send_capacity,
+                recv_capacity=config.recv_capacity,
+                limit=config.limit,
+                window_shift=shift or 0,
+                scales=shift is not None,
+                sack=config.sack,
             ),
         )
 

@@ -1,14 +1,16 @@
 #!/usr/bin/env bash
-# Builds the C layer, the examples and the tests with gcc and clang over a static library (the first argument, or crates/tcp_c's own),
-# and compares what they print with tests/expected/. Stops at the first failure. What Debian has and this machine lacks it installs; where
-# that fails it says what it left out.
+# Builds the C layer, the examples and the tests with gcc and clang over a static library (the first argument, or
+# crates/tcp_c's own), and compares what they print with tests/expected/. Stops at the first failure.
+# It installs packages by apt-get where this machine lacks them: clang, valgrind and the compilers' sanitizers. It says
+# so first, and where that fails what it left out.
 set -euo pipefail
 cd "$(dirname "$0")"
 library=${1:-../crates/tcp_c/out/libtcp_c.a}
 heap=$(dirname "$(rt doc)")/c/liblibc_c.a
-warnings="-std=c11 -g -Wall -Wextra -Wpedantic -Werror"
+warnings="-std=c11 -g -Wall -Wextra -Wpedantic -Wcast-qual -Werror"
 sanitizers="-O1 -fsanitize=address,undefined -fno-sanitize-recover=all"
 calls=$(printf '%s\n' abort arrive close connect emit free listen new receive send status timer timers)
+tests="examples/two_ends tests/misuse tests/fields tests/answers tests/cautions"
 passed=0
 
 pass() { passed=$((passed + 1)); }
@@ -18,6 +20,7 @@ has() {
     local package=$1
     shift
     "$@" >/dev/null 2>&1 && return
+    echo "capi: installs $package (apt-get)"
     { apt-get update && apt-get install -y "$package"; } >/dev/null 2>&1 || true
     "$@" >/dev/null 2>&1 && return
     echo "capi: left out: no $package"
@@ -58,13 +61,14 @@ same() {
 
 # Everything but valgrind, with one compiler.
 check_with() {
-    local compiler=$1 package=$2 name level
+    local compiler=$1 package=$2 source level shared="$PWD/out/libtcpcore.$1.so"
     "$compiler" $warnings -fsyntax-only -x c-header tcpcore.h
     "$compiler" -std=c++11 -Wall -Wextra -Wpedantic -Werror -fsyntax-only -x c++-header tcpcore.h
     pass
     for level in -O0 -O2; do
-        runs examples/two_ends "$compiler" "$level"
-        runs tests/misuse "$compiler" "$level"
+        for source in $tests; do
+            runs "$source" "$compiler" "$level"
+        done
         runs tests/stack "$compiler" "$level" -static
     done
     # No C library: the functions that are needed come from the program.
@@ -73,12 +77,15 @@ check_with() {
     prints static_block "out/static_block.$compiler"
     # The shared library: the header's calls and no other name.
     "$compiler" $warnings -O2 -shared -fPIC tcpcore.c "$library" "$heap" -Wl,--exclude-libs,ALL -Wl,-z,defs \
-        -o "out/libtcpcore.$compiler.so"
-    same "exported names" "$(exports -D "out/libtcpcore.$compiler.so")" "$(sed 's/^/tcpcore_/' <<<"$calls")"
-    prints two_ends env LIBTCPCORE="$PWD/out/libtcpcore.$compiler.so" python3 examples/two_ends.py
+        -o "$shared"
+    same "exported names" "$(exports -D "$shared")" "$(printf 'tcpcore_%s\n' $calls strerror version | sort)"
+    for source in examples/two_ends tests/fields tests/answers; do
+        prints "${source#*/}" env LIBTCPCORE="$shared" python3 "$source.py"
+    done
     if has "$package" "$compiler" $sanitizers -I. tests/misuse.c tcpcore.c "$library" "$heap" -o out/sanitized; then
-        runs examples/two_ends "$compiler" $sanitizers
-        runs tests/misuse "$compiler" $sanitizers
+        for source in $tests; do
+            runs "$source" "$compiler" $sanitizers
+        done
     fi
 }
 
@@ -95,7 +102,7 @@ if has clang clang --version; then
     check_with clang libclang-rt-14-dev
 fi
 if has valgrind valgrind --version; then
-    for source in examples/two_ends tests/misuse; do
+    for source in $tests; do
         name=${source#*/}
         gcc $warnings -O1 -I. "$source.c" tcpcore.c "$library" "$heap" -o "out/$name"
         prints "$name" valgrind --quiet --error-exitcode=1 --leak-check=full --errors-for-leak-kinds=all "out/$name"

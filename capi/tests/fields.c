@@ -1,0 +1,233 @@
+/* The test of the structs: where each field lies, and each one, with its own value, read out of what an end does. */
+#include "tcpcore.h"
+
+#include <stdio.h>
+#include <stdlib.h>
+
+#define FIELD(type, field) printf(" %s %zu+%zu", #field, offsetof(type, field), sizeof((type){0}.field))
+
+static const char *const PHASES[] = {
+    [TCPCORE_PHASE_CLOSED] = "CLOSED",           [TCPCORE_PHASE_LISTEN] = "LISTEN",
+    [TCPCORE_PHASE_SYN_SENT] = "SYN-SENT",       [TCPCORE_PHASE_SYN_RECEIVED] = "SYN-RECEIVED",
+    [TCPCORE_PHASE_ESTABLISHED] = "ESTABLISHED", [TCPCORE_PHASE_FIN_WAIT_1] = "FIN-WAIT-1",
+    [TCPCORE_PHASE_FIN_WAIT_2] = "FIN-WAIT-2",   [TCPCORE_PHASE_CLOSE_WAIT] = "CLOSE-WAIT",
+    [TCPCORE_PHASE_CLOSING] = "CLOSING",         [TCPCORE_PHASE_LAST_ACK] = "LAST-ACK",
+    [TCPCORE_PHASE_TIME_WAIT] = "TIME-WAIT"};
+static const char *const ENDINGS[] = {
+    [TCPCORE_ENDING_NOT_ENDED] = "not-ended", [TCPCORE_ENDING_ORDERLY] = "orderly", [TCPCORE_ENDING_RESET] = "reset",
+    [TCPCORE_ENDING_ABORTED] = "aborted"};
+
+struct side {
+    const char *name;
+    tcpcore_end end;
+    tcpcore_config config;
+};
+
+/* Each field of a config has a value that no other field of it has. */
+static struct side a = {
+    "A", TCPCORE_END_INIT,
+    {.addr = {{10, 1, 2, 3}}, .port = 4660, .mss = 1111, .isn = 2309737967, .send_capacity = 3000,
+     .recv_capacity = 5001, .limit = 3210, .window_shift = 3, .scales = 1, .sack = 0}};
+static struct side b = {
+    "B", TCPCORE_END_INIT,
+    {.addr = {{10, 4, 5, 6}}, .port = 22136, .mss = 1300, .isn = 16909060, .send_capacity = 700,
+     .recv_capacity = 4000, .limit = 803, .window_shift = 5, .scales = 0, .sack = 2}};
+
+static void need(const char *call, uint32_t answer)
+{
+    if (answer != TCPCORE_DONE) {
+        printf("%s: %s\n", call, tcpcore_strerror(answer));
+        exit(1);
+    }
+}
+
+static void layout(void)
+{
+    printf("tcpcore_end:");
+    FIELD(tcpcore_end, opaque);
+    printf(" of %zu\ntcpcore_addr:", sizeof(tcpcore_end));
+    FIELD(tcpcore_addr, byte);
+    printf(" of %zu\ntcpcore_config:", sizeof(tcpcore_addr));
+    FIELD(tcpcore_config, addr);
+    FIELD(tcpcore_config, port);
+    FIELD(tcpcore_config, mss);
+    FIELD(tcpcore_config, isn);
+    FIELD(tcpcore_config, send_capacity);
+    FIELD(tcpcore_config, recv_capacity);
+    FIELD(tcpcore_config, limit);
+    FIELD(tcpcore_config, window_shift);
+    FIELD(tcpcore_config, scales);
+    FIELD(tcpcore_config, sack);
+    printf(" of %zu\ntcpcore_status:", sizeof(tcpcore_config));
+    FIELD(struct tcpcore_status, phase);
+    FIELD(struct tcpcore_status, ending);
+    FIELD(struct tcpcore_status, unread);
+    FIELD(struct tcpcore_status, released);
+    FIELD(struct tcpcore_status, ordered);
+    FIELD(struct tcpcore_status, una);
+    FIELD(struct tcpcore_status, next);
+    printf(" of %zu\n", sizeof(struct tcpcore_status));
+}
+
+static void make(struct side *side)
+{
+    need("new", tcpcore_new(&side->end, &side->config));
+}
+
+static unsigned int word(const unsigned char *at)
+{
+    return (unsigned int)at[0] << 8 | at[1];
+}
+
+/* The options of a SYN: kind 2 is the MSS, 3 the shift, 4 permits selective acknowledgement, 1 is between them. */
+static void options(const unsigned char *at, const unsigned char *last)
+{
+    for (; at < last; at += at[0] == 1 ? 1 : at[1]) {
+        if (at[0] == 2)
+            printf(", mss %u", word(at + 2));
+        if (at[0] == 3)
+            printf(", shift %d", at[2]);
+        if (at[0] == 4)
+            printf(", sack permitted");
+    }
+}
+
+/* What its SYN says of its config. */
+static void first_syn(struct side *side, const struct side *peer)
+{
+    unsigned char out[TCPCORE_EMIT_ROOM];
+    tcpcore_addr to;
+    size_t length;
+    make(side);
+    need("connect", tcpcore_connect(&side->end, peer->config.addr, peer->config.port));
+    need("emit", tcpcore_emit(&side->end, out, sizeof out, &to, &length));
+    printf("SYN of %s: to %d.%d.%d.%d", side->name, to.byte[0], to.byte[1], to.byte[2], to.byte[3]);
+    printf(", ports %u and %u, number %u, window %u", word(out), word(out + 2), word(out + 4) << 16 | word(out + 6),
+           word(out + 14));
+    options(out + 20, out + length);
+    printf("\n");
+    need("free", tcpcore_free(&side->end));
+}
+
+/* Carries what is due: the bytes and the window of each segment, and its answer where it isn't taken. */
+static void carry(struct side *from, struct side *to)
+{
+    unsigned char out[TCPCORE_EMIT_ROOM];
+    tcpcore_addr dst;
+    size_t length;
+    printf("%s > %s:", from->name, to->name);
+    while (tcpcore_emit(&from->end, out, sizeof out, &dst, &length) == TCPCORE_DONE) {
+        uint32_t answer = tcpcore_arrive(&to->end, from->config.addr, dst, out, length);
+        printf(" %zu bytes, window %u", length, word(out + 14));
+        printf("%s%s;", answer == TCPCORE_DONE ? "" : ", ", answer == TCPCORE_DONE ? "" : tcpcore_strerror(answer));
+    }
+    printf("\n");
+}
+
+static void tell(const struct side *side)
+{
+    struct tcpcore_status told;
+    uint32_t due;
+    need("status", tcpcore_status(&side->end, &told));
+    need("timers", tcpcore_timers(&side->end, &due));
+    printf("%s: %s, %s, unread %llu, released %llu, ordered %llu, una %llu, next %llu, timers %u\n", side->name,
+           PHASES[told.phase], ENDINGS[told.ending], (unsigned long long)told.unread, (unsigned long long)told.released,
+           (unsigned long long)told.ordered, (unsigned long long)told.una, (unsigned long long)told.next, due);
+}
+
+static void offer(struct side *side, size_t length)
+{
+    static const unsigned char text[5000];
+    size_t taken;
+    uint32_t answer = tcpcore_send(&side->end, text, length, &taken);
+    printf("%s sends %zu: %s, %zu\n", side->name, length, tcpcore_strerror(answer), taken);
+}
+
+static void take(struct side *side, size_t room)
+{
+    unsigned char text[5000];
+    size_t count;
+    uint32_t answer = tcpcore_receive(&side->end, text, room, &count);
+    printf("%s reads %zu: %s, %zu\n", side->name, room, tcpcore_strerror(answer), count);
+}
+
+static void shake_hands(void)
+{
+    make(&a);
+    make(&b);
+    tell(&a);
+    need("listen", tcpcore_listen(&b.end));
+    tell(&b);
+    need("connect", tcpcore_connect(&a.end, b.config.addr, b.config.port));
+    tell(&a);
+    carry(&a, &b);
+    tell(&b);
+    carry(&b, &a);
+    carry(&a, &b);
+}
+
+/* Text both ways, to the capacities, the windows and the limits. */
+static void transfer(void)
+{
+    offer(&a, 4000);
+    carry(&a, &b);
+    take(&b, 500);
+    tell(&a);
+    tell(&b);
+    carry(&b, &a);
+    offer(&a, 1000);
+    offer(&a, 1);
+    carry(&a, &b);
+    offer(&b, 1000);
+    carry(&b, &a);
+    take(&a, 250);
+    carry(&a, &b);
+    tell(&a);
+    tell(&b);
+    offer(&b, 200);
+    offer(&b, 1);
+    carry(&b, &a);
+    carry(&a, &b);
+}
+
+static void close_both(void)
+{
+    need("close", tcpcore_close(&a.end));
+    tell(&a);
+    carry(&a, &b);
+    tell(&b);
+    carry(&b, &a);
+    tell(&a);
+    need("close", tcpcore_close(&b.end));
+    tell(&b);
+    carry(&b, &a);
+    tell(&a);
+    carry(&a, &b);
+    tell(&b);
+    need("timer", tcpcore_timer(&a.end, TCPCORE_TIMER_TIME_WAIT));
+    tell(&a);
+}
+
+static void free_both(void)
+{
+    need("free", tcpcore_free(&a.end));
+    need("free", tcpcore_free(&b.end));
+}
+
+int main(void)
+{
+    layout();
+    first_syn(&a, &b);
+    first_syn(&b, &a);
+    shake_hands();
+    transfer();
+    close_both();
+    free_both();
+    shake_hands();
+    need("abort", tcpcore_abort(&a.end));
+    tell(&a);
+    carry(&a, &b);
+    tell(&b);
+    free_both();
+    return 0;
+}

@@ -1,0 +1,164 @@
+"""The test fields.c over ctypes: it prints the same. python3 fields.py"""
+
+import ctypes
+import os
+import sys
+
+sys.path.insert(0, os.path.dirname(os.path.dirname(os.path.realpath(__file__))))
+import tcpcore  # noqa: E402
+from tcpcore import DONE, TIME_WAIT, Config, End, Refused, strerror  # noqa: E402
+
+
+class Side:
+    def __init__(self, name, config):
+        self.name, self.config, self.end = name, config, None
+
+    def make(self):
+        self.end = End(self.config)
+
+    def tell(self):
+        told = self.end.status()
+        print(
+            f"{self.name}: {told.phase}, {told.ending}, unread {told.unread}, released {told.released}, "
+            f"ordered {told.ordered}, una {told.una}, next {told.next}, timers {self.end.timers()}"
+        )
+
+    def offer(self, length):
+        answer, taken = DONE, 0
+        try:
+            taken = self.end.send(bytes(length))
+        except Refused as refused:
+            answer = refused.args[0]
+        print(f"{self.name} sends {length}: {strerror(answer)}, {taken}")
+
+    def take(self, room):
+        self.end.room = room
+        found = self.end.receive()
+        print(f"{self.name} reads {room}: {strerror(DONE)}, {len(found)}")
+
+
+def layout():
+    for name in ("end", "addr", "config", "status"):
+        struct = getattr(tcpcore, f"{name.capitalize()}Struct")
+        fields = ((field, getattr(struct, field)) for field, _ in struct._fields_)
+        told = " ".join(f"{field} {place.offset}+{place.size}" for field, place in fields)
+        print(f"tcpcore_{name}: {told} of {ctypes.sizeof(struct)}")
+
+
+def word(data, at):
+    return int.from_bytes(data[at : at + 2], "big")
+
+
+def options(data):
+    """What a SYN's options say: kind 2 is the MSS, 3 the shift, 4 permits SACK, 1 is between them."""
+    at, told = 20, ""
+    while at < len(data):
+        kind = data[at]
+        if kind == 2:
+            told += f", mss {word(data, at + 2)}"
+        elif kind == 3:
+            told += f", shift {data[at + 2]}"
+        elif kind == 4:
+            told += ", sack permitted"
+        at += 1 if kind == 1 else data[at + 1]
+    return told
+
+
+def first_syn(side, peer):
+    side.make()
+    side.end.connect(peer.config.addr, peer.config.port)
+    to, out = side.end.emit()
+    print(
+        f"SYN of {side.name}: to {'.'.join(map(str, to))}, ports {word(out, 0)} and {word(out, 2)}, "
+        f"number {word(out, 4) << 16 | word(out, 6)}, window {word(out, 14)}{options(out)}"
+    )
+    side.end.free()
+
+
+def carry(source, target):
+    print(f"{source.name} > {target.name}:", end="")
+    while due := source.end.emit():
+        answer = target.end.arrive(source.config.addr, *due)
+        told = "" if answer == DONE else f", {strerror(answer)}"
+        print(f" {len(due[1])} bytes, window {word(due[1], 14)}{told};", end="")
+    print()
+
+
+def shake_hands(a, b):
+    a.make()
+    b.make()
+    a.tell()
+    b.end.listen()
+    b.tell()
+    a.end.connect(b.config.addr, b.config.port)
+    a.tell()
+    carry(a, b)
+    b.tell()
+    carry(b, a)
+    carry(a, b)
+
+
+def transfer(a, b):
+    a.offer(4000)
+    carry(a, b)
+    b.take(500)
+    a.tell()
+    b.tell()
+    carry(b, a)
+    a.offer(1000)
+    a.offer(1)
+    carry(a, b)
+    b.offer(1000)
+    carry(b, a)
+    a.take(250)
+    carry(a, b)
+    a.tell()
+    b.tell()
+    b.offer(200)
+    b.offer(1)
+    carry(b, a)
+    carry(a, b)
+
+
+def close_both(a, b):
+    a.end.close()
+    a.tell()
+    carry(a, b)
+    b.tell()
+    carry(b, a)
+    a.tell()
+    b.end.close()
+    b.tell()
+    carry(b, a)
+    a.tell()
+    carry(a, b)
+    b.tell()
+    a.end.timer(TIME_WAIT)
+    a.tell()
+
+
+def free_both(a, b):
+    a.end.free()
+    b.end.free()
+
+
+def main():
+    a = Side("A", Config(bytes([10, 1, 2, 3]), 4660, 1111, 2309737967, 3000, 5001, 3, 0, 3210))
+    b = Side("B", Config(bytes([10, 4, 5, 6]), 22136, 1300, 16909060, 700, 4000, None, 2, 803))
+    layout()
+    first_syn(a, b)
+    first_syn(b, a)
+    shake_hands(a, b)
+    transfer(a, b)
+    close_both(a, b)
+    free_both(a, b)
+    shake_hands(a, b)
+    a.end.abort()
+    a.tell()
+    carry(a, b)
+    b.tell()
+    free_both(a, b)
+
+
+if __name__ == "__main__":
+    main()
