@@ -10,7 +10,7 @@ from program import with_checksum, word_sum
 
 SPACE = 1 << 32
 HALF = 1 << 31
-LIMIT = HALF - 16
+SHORT_LIMIT = HALF - 16
 FIN, SYN, RST, PSH, ACK = 1, 2, 4, 8, 16
 NAMES = [(16, "ACK"), (8, "PSH"), (4, "RST"), (2, "SYN"), (1, "FIN")]
 SYNCHRONIZED_OPEN = ("SYN-RECEIVED", "ESTABLISHED", "FIN-WAIT-1", "FIN-WAIT-2", "CLOSE-WAIT")
@@ -83,6 +83,8 @@ class End:
     def __init__(self, config, note=lambda name: None):
         self.config, self.note = config, note
         self.iss = config["isn"]
+        # how many bytes the direction takes from its user
+        self.limit = config.get("limit", SHORT_LIMIT)
         self.phase, self.ending, self.closing = "CLOSED", "not-ended", False
         self.peer = (None, None)
         self.peer_mss, self.scaling, self.peer_shift, self.sack = 536, False, 0, False
@@ -155,11 +157,11 @@ class End:
             refusal = 16
         if refusal is None and self.closing:
             refusal = 13
-        if refusal is None and text and self.accepted == LIMIT:
+        if refusal is None and text and self.accepted == self.limit:
             refusal = 15
         if refusal is not None:
             return (refusal,)
-        front = text[: min(self.config["send"] - len(self.queue), LIMIT - self.accepted)]
+        front = text[: min(self.config["send"] - len(self.queue), self.limit - self.accepted)]
         self.queue += front
         self.accepted += len(front)
         return len(front)

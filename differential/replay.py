@@ -1,6 +1,7 @@
 """Compares `tcpkit replay` with the second program on random scripts: python3 differential/replay.py [COUNT]
 
-It tells how often each phase, each ending and each rare rule came.
+Half of the scripts are of version 2, with lifetimes from 2 up, limits and repeated events. It tells how often each phase,
+each ending and each rare rule came.
 """
 
 import collections
@@ -8,7 +9,7 @@ import random
 
 from end import HALF, SPACE
 from program import compare, hexadecimal
-from script import World
+from script import LONG_LIMIT, World
 
 KINDS = ["send", "receive", "timer", "emit", "deliver", "damage", "close", "abort", "open"]
 WEIGHTS = [25, 8, 8, 28, 29, 4, 1.6, 0.08, 0.2]
@@ -59,26 +60,44 @@ def random_words(rng, world, longest, has_gaps):
     return f"damage {side} {k} {rng.randrange(30)} {rng.choice([0, 1, 128, 255, rng.randrange(256)])}"
 
 
+def repeated(rng, words):
+    """The event's words, now and then with a count of turns."""
+    return f"repeat {rng.choice([1, 2, 3, 5, 12])} {words}" if rng.random() < 0.15 else words
+
+
 def setting(value):
     return {None: "none", True: "on", False: "off"}.get(value, value) if not isinstance(value, int) or isinstance(value, bool) else value
+
+
+def random_settings(rng, is_long, has_gaps):
+    settings = {side: random_config(rng, has_gaps) for side in "AB"}
+    for side in "AB" if is_long else "":
+        if rng.random() < 0.3:
+            settings[side]["limit"] = rng.choice([1, 2, 30, 500, 5000, HALF, LONG_LIMIT])
+    return settings
 
 
 def case(seed):
     rng = random.Random(seed)
     # Gaps want room, short texts and many events.
-    has_gaps = rng.random() < 0.2
-    settings = {side: random_config(rng, has_gaps) for side in "AB"}
+    has_gaps, is_long = rng.random() < 0.2, rng.random() < 0.5
+    settings = random_settings(rng, is_long, has_gaps)
     script = [f"config {side} {key} {setting(value)}" for side in "AB" for key, value in settings[side].items()]
-    world = World(settings, lambda name: seen.update([name]))
+    life = rng.choice([2, 3, 4, 7, 20, 70, 300, 2000, HALF]) if is_long else HALF
+    if is_long:
+        settings = {side: {"limit": LONG_LIMIT} | keys for side, keys in settings.items()}
+        script = ["tcpkit 2", f"config life {life}", *script]
+    world = World(settings, lambda name: seen.update([name]), life)
     count, longest = (600, 3) if has_gaps else (rng.choice([20, 60, 200]), rng.choice([3, 20, 250]))
     opening = HANDSHAKE if rng.random() < 0.9 else []
     report, status = "", 0
     for number in range(1, count + 1):
         words = opening[number - 1] if number <= len(opening) and rng.random() < 0.995 else random_words(rng, world, longest, has_gaps)
+        words = repeated(rng, words) if is_long and number > len(opening) else words
         script.append(words)
-        told = world.line(words)
+        told, refused = world.line(words)
         report += f"{number} {told}\n"
-        status = 1 if " refused " in told else status
+        status = 1 if refused else status
     return "\n".join(script) + "\n", report + world.last_lines(), status
 
 

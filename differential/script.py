@@ -1,22 +1,48 @@
 """A script replayed by the second program: from its lines to its whole report."""
 
-from end import End, Segment
+from end import ACK, HALF, RST, SPACE, End, Segment
 from program import hexadecimal
 
 DEFAULTS = {"mss": 1460, "send": 65536, "recv": 65536, "shift": None, "sack": True}
+LONG_LIMIT = 1 << 62
+
+
+class Sent:
+    """An emitted segment, with its own position and the one that its end wanted next when it went out."""
+
+    def __init__(self, data, position, wanted):
+        self.data, self.segment = data, Segment(data)
+        self.position, self.wanted = position, wanted
 
 
 class Party:
+    """One end with its user. The end counts modulo 2^32; the positions here never wrap."""
+
     def __init__(self, config, note):
         self.end = End(config, note)
         self.sent, self.delivered, self.ended = [], 0, False
+        self.una, self.una_number = 0, self.end.snd_una
+
+    def follow(self):
+        """Takes SND.UNA's way since the last call, which is shorter than 2^31."""
+        self.una += (self.end.snd_una - self.una_number) % SPACE
+        self.una_number = self.end.snd_una
+
+    def next(self):
+        """The position that the end wants next."""
+        return 1 + self.end.ordered + self.end.fin_taken
+
+    def position_of(self, seq):
+        """The position of a number, read nearest to SND.UNA (RFC 9293, 3.4)."""
+        ahead = (seq - self.end.snd_una) % SPACE
+        return self.una + (ahead - SPACE if ahead >= HALF else ahead)
 
 
 class World:
-    """Two ends, and every segment that either emitted."""
+    """Two ends, and every segment that either emitted, none of which arrives once it is older than the lifetime."""
 
-    def __init__(self, settings, note=lambda name: None):
-        self.parties = {}
+    def __init__(self, settings, note=lambda name: None, life=HALF):
+        self.parties, self.life, self.note = {}, life, note
         for side, host, isn in (("A", 1, 1000), ("B", 2, 5000)):
             address = {"addr": bytes([10, 0, 0, host]), "port": host}
             self.parties[side] = Party(DEFAULTS | {"isn": isn} | settings[side] | address, note)
@@ -48,18 +74,37 @@ class World:
         if kind == "timer":
             return "yes" if end.timer(rest[0]) else "no"
         if kind == "emit":
-            emitted = end.emit()
-            if emitted is None:
-                return "none"
-            party.sent.append(emitted[1])
-            return f"{len(party.sent) - 1} {Segment(emitted[1]).told()}"
+            return self.emission(party)
         return self.delivery(party, other, kind, [int(word) for word in rest])
+
+    def emission(self, party):
+        emitted = party.end.emit()
+        if emitted is None:
+            return "none"
+        segment = Segment(emitted[1])
+        party.sent.append(Sent(emitted[1], party.position_of(segment.seq), party.next()))
+        return f"{len(party.sent) - 1} {segment.told()}"
+
+    def is_expired(self, sent, to):
+        """Whether a segment is older than the lifetime, by its own position or by its acknowledgement's."""
+        if sent.segment.has(RST):
+            return False
+        ages = {"position": to.next() - sent.position}
+        if sent.segment.has(ACK):
+            ages["acknowledgement"] = to.una - sent.wanted
+        for name, age in ages.items():
+            if age == self.life - 1:
+                self.note(f"expiry just missed for its {name}")
+            if age >= self.life:
+                self.note(f"expired for its {name}")
+                return True
+        return False
 
     def delivery(self, party, other, kind, numbers):
         k = numbers[0]
         if k >= len(party.sent):
             return "refused 31"
-        data = party.sent[k]
+        data = party.sent[k].data
         if kind == "damage":
             _, place, value = numbers
             if value == 0:
@@ -67,13 +112,40 @@ class World:
             if place >= len(data):
                 return "refused 33"
             data = data[:place] + bytes([data[place] ^ value]) + data[place + 1 :]
+        if self.is_expired(party.sent[k], other):
+            return "refused 35"
         answer = other.end.arrive(party.end.config["addr"], other.end.config["addr"], data)
+        other.follow()
         return f"{answer} {other.end.phase}"
 
+    def turns(self, count, words):
+        """The events of a `repeat`: a delivery's number grows by one each turn."""
+        kind, side, *rest = words.split(" ")
+        for turn in range(count):
+            if kind in ("deliver", "damage"):
+                yield " ".join([kind, side, str(int(rest[0]) + turn), *rest[1:]])
+            else:
+                yield words
+
+    def repeat(self, count, words):
+        """What follows the words of a `repeat` in its line."""
+        answers = [self.event(turn) for turn in self.turns(count, words)]
+        refused = sum(answer.startswith("refused ") for answer in answers)
+        if words.startswith("send "):
+            took = sum(int(answer.split(" ")[1]) for answer in answers if answer.startswith("took "))
+            return f"took {took} refused {refused}", refused > 0
+        return f"done {len(answers) - refused} refused {refused}", refused > 0
+
     def line(self, words):
-        told = self.event(words)
-        shown = " ".join(words.split(" ")[:2]) if words.startswith("send ") else words
-        return f"{shown} {told}"
+        """The line of an event or of a `repeat`, but for its number, and whether anything in it was refused."""
+        event = words.split(" ", 2)[2] if words.startswith("repeat ") else words
+        shown = words.rsplit(" ", 1)[0] if event.startswith("send ") else words
+        if words.startswith("repeat "):
+            told, refused = self.repeat(int(words.split(" ")[1]), event)
+        else:
+            told = self.event(event)
+            refused = told.startswith("refused ")
+        return f"{shown} {told}", refused
 
     def last_lines(self):
         lines = ""
@@ -87,17 +159,30 @@ class World:
         return lines
 
 
+def read_settings(lines):
+    """What `config` lines say: of each side, and the lifetime."""
+    settings, life = {"A": {}, "B": {}}, HALF
+    for line in lines:
+        _, *words = line.split(" ")
+        if words[0] == "life":
+            life = int(words[1])
+            continue
+        side, key, value = words
+        settings[side][key] = {"on": True, "off": False, "none": None}.get(value, value if not value.isdigit() else int(value))
+    return settings, life
+
+
 def replayed(text, note=lambda name: None):
     """The report of a script without bad lines, and its status."""
-    lines = [line for line in text.split("\n") if line and not line.startswith("#")]
-    settings = {"A": {}, "B": {}}
-    for line in lines:
-        if line.startswith("config "):
-            _, side, key, value = line.split(" ")
-            settings[side][key] = {"on": True, "off": False, "none": None}.get(value, value if not value.isdigit() else int(value))
-    world, report, status = World(settings, note), "", 0
+    lines = text.split("\n")
+    is_long = lines[0] == "tcpkit 2"
+    lines = [line for line in lines[is_long:] if line and not line.startswith("#")]
+    settings, life = read_settings(line for line in lines if line.startswith("config "))
+    if is_long:
+        settings = {side: {"limit": LONG_LIMIT} | keys for side, keys in settings.items()}
+    world, report, status = World(settings, note, life), "", 0
     for number, words in enumerate((line for line in lines if not line.startswith("config ")), 1):
-        told = world.line(words)
+        told, refused = world.line(words)
         report += f"{number} {told}\n"
-        status = 1 if " refused " in told else status
+        status = 1 if refused else status
     return report + world.last_lines(), status

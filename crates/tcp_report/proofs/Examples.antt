@@ -21,16 +21,16 @@ use Rattle.tcp_conn.specs.Emission.{emitted_bytes, after_emission}
 use Rattle.tcp_replay.specs.declared.event.Side.TheVariants.{A, B}
 use Rattle.tcp_replay.specs.Events.{Connect, Listen, Emit, Deliver}
 use Rattle.tcp_replay.proofs.Examples.{a, b}
-use Rattle.tcp_replay.specs.World.{party_after_connect, party_after_listen, party_after_send, party_after_receive, party_after_close, party_after_timer, party_after_emission, party_after_arrival, effect_of, world_after_all}
+use Rattle.tcp_replay.specs.World.{party_after_connect, party_after_listen, party_after_send, party_after_receive, party_after_close, party_after_timer, party_after_emission, party_after_arrival, effect_of, max_life, world_after_all}
 use Rattle.tcp_text.specs.Texts.{flags_text, blocks_text}
 use Rattle.tcp_text.specs.Segments.{summary_text}
-use Rattle.tcp_script.specs.Script.{ScriptContent}
+use Rattle.tcp_script.specs.Script.{ScriptContent, once}
 use Rattle.tcp_report.specs.Events.{event_text}
 use Rattle.tcp_report.specs.Outcomes.{outcome_text}
-use Rattle.tcp_report.specs.Report.{event_line, event_lines, is_well, counts_text, end_line, report_text, report_is_well}
+use Rattle.tcp_report.specs.Report.{event_line, event_lines, refusals, world_after_turns, is_well, counts_text, end_line, report_text, report_is_well}
 
 script : ScriptContent
-script = record { a = a; b = b; events = Listen B ∷ Connect A ∷ Emit A ∷ Deliver A 0 ∷ [] }
+script = record { version = 1; life = max_life; a = a; b = b; events = once (Listen B) ∷ once (Connect A) ∷ once (Emit A) ∷ once (Deliver A 0) ∷ [] }
 
 events_written : List ℕ
 events_written =
@@ -55,5 +55,5 @@ record IsWritten : Type 0 where
   well : report_is_well script ≡ true
 
 written : IsWritten
-unfolding a b script events_written counts_written ends_written report_text report_is_well event_lines event_line event_text outcome_text is_well counts_text end_line summary_text flags_text blocks_text world_after_all effect_of party_after_connect party_after_listen party_after_send party_after_receive party_after_close party_after_timer party_after_emission party_after_arrival after_connect after_listen after_send after_receive after_close after_time_wait encoded_bytes decode_answer layout_of options_in option_at padding_at position_of offset is_acceptable link_of after_ack after_window_update after_block after_text is_foreign closed_judgement listen_judgement syn_sent_judgement ack_judgement unacceptable_judgement acceptable_judgement present_judgement phase_judgement judgement after_peer_opens after_peer_accepts after_own_syn after_acked_text after_news after_own_fin after_its_ack after_its_text after_fin after_taking arrival_answer after_arrival resend_of new_text_of due_of segment_of bytes_of emitted_bytes after_emission
+unfolding a b script events_written counts_written ends_written report_text report_is_well event_lines event_line refusals world_after_turns event_text outcome_text is_well counts_text end_line summary_text flags_text blocks_text world_after_all effect_of party_after_connect party_after_listen party_after_send party_after_receive party_after_close party_after_timer party_after_emission party_after_arrival after_connect after_listen after_send after_receive after_close after_time_wait encoded_bytes decode_answer layout_of options_in option_at padding_at position_of offset is_acceptable link_of after_ack after_window_update after_block after_text is_foreign closed_judgement listen_judgement syn_sent_judgement ack_judgement unacceptable_judgement acceptable_judgement present_judgement phase_judgement judgement after_peer_opens after_peer_accepts after_own_syn after_acked_text after_news after_own_fin after_its_ack after_its_text after_fin after_taking arrival_answer after_arrival resend_of new_text_of due_of segment_of bytes_of emitted_bytes after_emission
 written = record { text = refl; well = refl }

@@ -6,6 +6,7 @@ mod events;
 mod names;
 mod outcomes;
 mod report;
+mod turns;
 
 pub use error::ReportError;
 pub use report::{Report, make_report};

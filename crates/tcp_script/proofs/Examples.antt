@@ -5,12 +5,14 @@ use Rattle.std.specs.Prelude.{codes, Ok, Err, None, Some, true, false}
 use Rattle.tcp_conn.specs.declared.config.Config.{Config}
 use Rattle.tcp_conn.specs.declared.phase.Timer.TheVariants.{Retransmit}
 use Rattle.tcp_replay.specs.declared.event.Side.TheVariants.{A, B}
-use Rattle.tcp_replay.specs.Events.{Listen, Connect, Receive, Timer, Deliver}
+use Rattle.tcp_replay.specs.Events.{Listen, Connect, Receive, Timer, Emit, Deliver}
 use Rattle.tcp_text.specs.Lines.{numbered_from}
 use Rattle.tcp_conn.specs.Config.{default_limit}
 use Rattle.tcp_script.specs.Settings.{default_a, default_b}
 use Rattle.tcp_script.specs.Statements.{statement_of}
-use Rattle.tcp_script.specs.Script.{ScriptContent, script_of, script_from}
+use Rattle.tcp_replay.specs.World.{max_life}
+use Rattle.tcp_script.specs.Version2.{added_line_of}
+use Rattle.tcp_script.specs.Script.{ScriptContent, once, default_script_2, script_of, script_from}
 
 text : List ℕ
 text =
@@ -19,9 +21,11 @@ text =
 
 says : ScriptContent
 says = record {
+  version = 1;
+  life = max_life;
   a = record default_a { isn = record { 0 = 7 } };
   b = default_b;
-  events = Listen B ∷ Connect A ∷ Deliver A 0 ∷ Timer A Retransmit ∷ Receive B 10 ∷ [];
+  events = once (Listen B) ∷ once (Connect A) ∷ once (Deliver A 0) ∷ once (Timer A Retransmit) ∷ once (Receive B 10) ∷ [];
 }
 
 reads : script_of text ≡ Ok says
@@ -45,6 +49,8 @@ settings =
 
 sets : ScriptContent
 sets = record {
+  version = 1;
+  life = max_life;
   a = record default_a { mss = 100; send_capacity = 7; window_shift = Some 14 };
   b = record default_b { isn = record { 0 = 0 }; mss = 200; recv_capacity = 9; sack = false };
   events = [];
@@ -70,6 +76,8 @@ first = record {
 
 ends : ScriptContent
 ends = record {
+  version = 1;
+  life = max_life;
   a = first;
   b = record first { addr = record { 0 = 10 ∷ 0 ∷ 0 ∷ 2 ∷ [] }; port = 2; isn = record { 0 = 5000 } };
   events = [];
@@ -78,3 +86,35 @@ ends = record {
 empty : script_of [] ≡ Ok ends
 unfolding first ends script_of script_from statement_of numbered_from
 empty = refl
+
+-- version 2: a lifetime, a limit, and an event of three turns, whose last segment is 4294967295; one turn more has no form
+long : List ℕ
+long =
+    codes "tcpkit 2" ++ 10 ∷ codes "config life 4" ++ 10 ∷ codes "config B limit 0" ++ 10 ∷ codes "repeat 3 deliver A 4294967293" ++ 10
+    ∷ codes "emit B"
+
+says_long : ScriptContent
+says_long = record default_script_2 {
+  life = 4;
+  b = record default_script_2.b { limit = 0 };
+  events = record { times = Some 3; event = Deliver A 4294967293 } ∷ once (Emit B) ∷ [];
+}
+
+reads_long : script_of long ≡ Ok says_long
+unfolding long says_long script_of script_from added_line_of statement_of numbered_from
+reads_long = refl
+
+too_far : List ℕ
+too_far = codes "tcpkit 2" ++ 10 ∷ codes "repeat 4 deliver A 4294967293"
+
+refuses_turn : script_of too_far ≡ Err 2
+unfolding too_far script_of script_from added_line_of statement_of numbered_from
+refuses_turn = refl
+
+-- the version stands in the first line alone
+version_later : List ℕ
+version_later = 10 ∷ codes "tcpkit 2"
+
+refuses_version : script_of version_later ≡ Err 2
+unfolding version_later script_of script_from statement_of numbered_from
+refuses_version = refl

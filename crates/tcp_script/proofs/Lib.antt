@@ -1,2 +1,3 @@
 pub mod Examples
+pub mod Version1
 pub mod WordCounts

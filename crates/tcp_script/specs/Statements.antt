@@ -74,6 +74,6 @@ statement_of_words [] = None
 statement_of_words (kind ∷ rest) =
     if bytes_eq kind (codes "config") then setting_of_words rest else option_map event (event_of_words kind rest)
 
--- what a line says; none where it has no form
+-- what a line of version 1 says; none where it has no form
 unfoldable pub statement_of : List ℕ → Option StatementContent
 statement_of line = statement_of_words (words_of line)

@@ -10,7 +10,7 @@ use tcp_replay::{Event, Side};
 use tcp_text::{LineError, SPACE, cut, read_bytes, read_number};
 
 /// The greatest number of a segment, or of a place in one, that a line can name.
-const MAX_PLACE: u64 = 4_294_967_295;
+pub(crate) const MAX_PLACE: u64 = 4_294_967_295;
 
 /// The most bytes that a line can ask for.
 const MAX_ROOM: u64 = 1_048_576;

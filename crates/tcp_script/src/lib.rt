@@ -4,6 +4,7 @@
 
 mod error;
 mod events;
+mod line;
 mod names;
 mod script;
 mod settings;
@@ -11,5 +12,5 @@ mod statement;
 
 pub use error::ScriptError;
 pub use names::{Kind, kind_name, kind_of, read_timer, side_name, timer_name};
-pub use script::{Script, read_script, read_script_bytes};
+pub use script::{Script, Turn, read_script, read_script_bytes};
 pub use settings::read_shift;

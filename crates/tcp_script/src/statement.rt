@@ -1,4 +1,4 @@
-//! One line of a script.
+//! One line of a script of version 1.
 ghost use Rattle.std.specs.Prelude.{◌≡◌, option_map};
 ghost use Rattle.tcp_text.specs.Words.{further_pieces, Reads};
 ghost use Rattle.tcp_script.specs.Statements.{statement_content, setting_of_words, statement_of};
@@ -10,7 +10,8 @@ use std::alloc::Global;
 use tcp_replay::{Event, Side};
 use tcp_text::{LineError, SPACE, cut};
 
-const CONFIG: &[u8] = b"config";
+/// What a line that sets a value begins with.
+pub(crate) const CONFIG: &[u8] = b"config";
 
 /// What a line says.
 #[derive(Debug, Drop)]

@@ -12,7 +12,7 @@ pub use tcp_conn::{
     Arrival, CallError, Config, ConfigError, Ending, Endpoint, Phase, Received, Timer,
 };
 pub use tcp_replay::{Event, Outcome, Side, StepError, World, WorldError};
-pub use tcp_script::{Script, ScriptError, read_script};
+pub use tcp_script::{Script, ScriptError, Turn, read_script};
 pub use tcp_words::{Job, WordsError, read_words};
 
 fn main(rt: HostRuntime) -> ExitCode {

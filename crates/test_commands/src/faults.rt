@@ -5,7 +5,7 @@ use tcp_conn::ConfigError;
 use tcp_replay::Side;
 use tcp_words::WordsError;
 
-const OF_COMMANDS: [ToolError; 7] = [
+const OF_COMMANDS: [ToolError; 8] = [
     ToolError::BadLine { line: 3 },
     ToolError::NoMemory,
     ToolError::ReadFault,
@@ -13,6 +13,7 @@ const OF_COMMANDS: [ToolError; 7] = [
     ToolError::Config(Side::A, ConfigError::BadCapacity),
     ToolError::Config(Side::B, ConfigError::BadMss),
     ToolError::Config(Side::A, ConfigError::BadShift),
+    ToolError::Config(Side::A, ConfigError::BadLimit),
 ];
 
 const OF_WORDS: [WordsError; 2] = [WordsError::BadWords, WordsError::NoMemory];

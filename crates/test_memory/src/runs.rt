@@ -1,14 +1,28 @@
 //! A run that stops for want of memory, and goes on with it.
 use crate::heaps::{leave, new_heap};
 use crate::seen::{Seen, see};
-use std::alloc::Global;
-use tcp_replay::{Event, StepError, World};
-use tcp_script::Script;
+use std::alloc::{Allocator, Global};
+use tcp_replay::{StepError, World};
+use tcp_script::{Script, Turn};
+
+/// Applies the events of lines without `repeat` in turn, up to the first that is refused: its place, and why.
+pub(crate) fn run<A: Allocator + Copy>(
+    world: &mut World<A>,
+    turns: &[Turn],
+) -> Result<(), (usize, StepError)> {
+    for (i, turn) in turns.iter().enumerate() {
+        match world.step(&turn.event) {
+            Ok(_) => {}
+            Err(error) => return Err((i, error)),
+        }
+    }
+    Ok(())
+}
 
 /// What is seen behind the first events where there is memory.
 fn seen_behind(alloc: Global, script: &Script, count: usize) -> Option<Seen> {
     let mut world = World::new(alloc, script.a, script.b).ok()?;
-    world.run(script.events.get(..count)?).ok()?;
+    run(&mut world, script.events.get(..count)?).ok()?;
     Some(see(&world))
 }
 
@@ -20,11 +34,11 @@ struct Stop {
     last: Seen,
 }
 
-fn try_run(alloc: Global, script: &Script, events: &[Event], blocks: usize) -> Option<Stop> {
+fn try_run(alloc: Global, script: &Script, events: &[Turn], blocks: usize) -> Option<Stop> {
     let heap = new_heap(alloc)?;
     let mut world = World::new_in(&heap, script.a, script.b).ok()?;
     let taken = leave(alloc, &heap, blocks).ok()?;
-    let at = match world.run(events) {
+    let at = match run(&mut world, events) {
         Ok(()) => None,
         Err((at, StepError::NoMemory)) => Some(at),
         Err(_) => return None,
@@ -32,7 +46,7 @@ fn try_run(alloc: Global, script: &Script, events: &[Event], blocks: usize) -> O
     let seen = see(&world);
     drop(taken);
     if let Some(at) = at {
-        world.run(events.get(at..)?).ok()?;
+        run(&mut world, events.get(at..)?).ok()?;
     }
     let last = see(&world);
     Some(Stop { at, seen, last })

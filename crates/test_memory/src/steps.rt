@@ -1,9 +1,10 @@
 //! One event on a world whose heap has too little left, and the same event again with memory.
 use crate::heaps::{leave, new_heap};
+use crate::runs::run;
 use crate::seen::{Seen, see};
 use std::alloc::Global;
 use tcp_replay::{Event, Outcome, StepError, World};
-use tcp_script::Script;
+use tcp_script::{Script, Turn};
 
 /// What came of an event.
 #[derive(Clone, Copy, PartialEq)]
@@ -24,10 +25,10 @@ struct Tried {
 
 /// What comes of the last event where there is memory.
 fn answer_with_memory(alloc: Global, script: &Script) -> Option<Answer> {
-    let (event, base) = script.events.split_last()?;
+    let (last, base) = script.events.split_last()?;
     let mut world = World::new(alloc, script.a, script.b).ok()?;
-    world.run(base).ok()?;
-    let outcome = world.step(event).ok()?;
+    run(&mut world, base).ok()?;
+    let outcome = world.step(&last.event).ok()?;
     let seen = see(&world);
     Some(Answer { outcome, seen })
 }
@@ -36,13 +37,13 @@ fn answer_with_memory(alloc: Global, script: &Script) -> Option<Answer> {
 fn try_event(
     alloc: Global,
     script: &Script,
-    base: &[Event],
+    base: &[Turn],
     event: &Event,
     blocks: usize,
 ) -> Option<Tried> {
     let heap = new_heap(alloc)?;
     let mut world = World::new_in(&heap, script.a, script.b).ok()?;
-    world.run(base).ok()?;
+    run(&mut world, base).ok()?;
     let taken = leave(alloc, &heap, blocks).ok()?;
     let before = see(&world);
     let first = world.step(event);
@@ -67,9 +68,9 @@ fn try_event(
 /// changed anything, or where the outcome isn't the one with memory.
 pub(crate) fn count_refusals(alloc: Global, script: &Script) -> Option<usize> {
     let wanted = answer_with_memory(alloc, script)?;
-    let (event, base) = script.events.split_last()?;
+    let (last, base) = script.events.split_last()?;
     for blocks in 0..64usize {
-        let tried = try_event(alloc, script, base, event, blocks)?;
+        let tried = try_event(alloc, script, base, &last.event, blocks)?;
         if tried.answer != wanted || tried.is_refused && !tried.is_kept {
             return None;
         }
