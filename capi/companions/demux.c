@@ -1,0 +1,192 @@
+/* Many ends at one port (see demux.h). C over tcpcore.h, timers.h and table.h, tested and not proved. */
+#include "demux.h"
+
+/* The control bits (RFC 9293, 3.1). */
+enum { SYN = 2, RST = 4, ACK = 16, LEAST_SEGMENT = 20 };
+
+static uint16_t read16(const uint8_t *at) { return (uint16_t)(at[0] << 8 | at[1]); }
+
+int demux_init(struct demux *demux, const struct demux_config *config, struct table_slot *slots, uint32_t count)
+{
+    if (count < 2 || count == UINT32_MAX || config->backlog == 0)
+        return 0;
+    *demux = (struct demux){.config = *config};
+    table_init(&demux->table, slots, count, config->end.port, config->secret);
+    return 1;
+}
+
+static struct tcpcore_status status_of(struct table_slot *slot)
+{
+    struct tcpcore_status status;
+    tcpcore_status(&slot->end, &status);
+    return status;
+}
+
+/* Emits all that is due. */
+static void emit(struct demux *demux, struct table_slot *slot, uint64_t now)
+{
+    uint8_t segment[TCPCORE_EMIT_ROOM];
+    tcpcore_addr to;
+    size_t length;
+    while (tcpcore_emit(&slot->end, segment, sizeof segment, &to, &length) == TCPCORE_DONE) {
+        timers_emitted(&slot->timers, segment, length, now);
+        demux->config.send(segment, length, to, demux->config.context);
+        demux->counters.emitted++;
+    }
+}
+
+/* Answers a segment for which there is no end, by an end in CLOSED, or in LISTEN at the own port (RFC 9293,
+   3.10.7.1). */
+static void stray(struct demux *demux, tcpcore_addr src, const uint8_t *bytes, size_t length, uint64_t now)
+{
+    tcpcore_config config = demux->config.end;
+    tcpcore_end end = TCPCORE_END_INIT;
+    uint8_t out[TCPCORE_EMIT_ROOM];
+    tcpcore_addr to;
+    size_t count;
+    int is_served = read16(bytes + 2) == config.port;
+    config.port = read16(bytes + 2);
+    config.send_capacity = config.recv_capacity = 1;
+    if (demux->second != now / 1000)
+        demux->second = now / 1000, demux->answered = 0;
+    if (demux->answered >= demux->config.strays || tcpcore_new(&end, &config) != TCPCORE_DONE) {
+        demux->counters.withheld++;
+        return;
+    }
+    if (is_served)
+        tcpcore_listen(&end);
+    tcpcore_arrive(&end, src, config.addr, bytes, length);
+    if (tcpcore_emit(&end, out, sizeof out, &to, &count) == TCPCORE_DONE) {
+        demux->config.send(out, count, to, demux->config.context);
+        demux->counters.strays++;
+        demux->answered++;
+    }
+    tcpcore_free(&end);
+}
+
+/* Where there are too many half-open ends, or no slot is free, the oldest of them makes way (RFC 4987, 3.4). */
+static void keep_limits(struct demux *demux, struct table_slot *newest)
+{
+    struct table_slot *oldest = table_oldest(&demux->table, newest);
+    if (demux->table.half_open <= demux->config.backlog && table_free(&demux->table))
+        return;
+    if (oldest)
+        demux->counters.recycled++;
+    else
+        demux->counters.full++;
+    table_remove(&demux->table, oldest ? oldest : newest);
+}
+
+/* Makes an end for a SYN (RFC 9293, 3.10.7.2). Its ISN is the time in units of 4 microseconds and the secret
+   (3.4.1). */
+static void open_end(struct demux *demux, tcpcore_addr src, const uint8_t *bytes, size_t length, uint64_t now)
+{
+    struct table_slot *slot = table_free(&demux->table);
+    tcpcore_config config = demux->config.end;
+    uint16_t port = read16(bytes);
+    config.isn = (uint32_t)(250 * now + table_secret(&demux->table, src, port));
+    if (tcpcore_new(&slot->end, &config) != TCPCORE_DONE) {
+        demux->counters.full++;
+        return;
+    }
+    tcpcore_listen(&slot->end);
+    if (tcpcore_arrive(&slot->end, src, config.addr, bytes, length) != TCPCORE_DONE) {
+        tcpcore_free(&slot->end);
+        demux->counters.malformed++;
+        return;
+    }
+    timers_init(&slot->timers, &demux->config.rules);
+    table_add(&demux->table, src, port, now);
+    demux->counters.opened++;
+    keep_limits(demux, slot);
+}
+
+/* Hands a segment to its end. What isn't the next text alone is answered at once (RFC 5681, 4.2). */
+static void deal(struct demux *demux, struct table_slot *slot, const uint8_t *bytes, size_t length, uint64_t now)
+{
+    uint64_t before = status_of(slot).next, text = length - 4 * (size_t)(bytes[12] >> 4);
+    uint32_t answer = tcpcore_arrive(&slot->end, slot->peer, demux->config.end.addr, bytes, length);
+    if (answer >= TCPCORE_TOO_SHORT && answer <= TCPCORE_BAD_PADDING) {
+        demux->counters.malformed++;
+        return;
+    }
+    if (answer == TCPCORE_DONE)
+        timers_arrived(&slot->timers, bytes, length, now);
+    slot->touched = 1;
+    if (status_of(slot).next - before != text)
+        emit(demux, slot, now);
+}
+
+void demux_arrive(struct demux *demux, tcpcore_addr src, const void *segment, size_t length, uint64_t now)
+{
+    const uint8_t *bytes = segment;
+    demux->counters.arrived++;
+    if (length < LEAST_SEGMENT) {
+        demux->counters.malformed++;
+        return;
+    }
+    int is_served = read16(bytes + 2) == demux->config.end.port;
+    struct table_slot *slot = is_served ? table_find(&demux->table, src, read16(bytes)) : NULL;
+    if (slot)
+        deal(demux, slot, bytes, length, now);
+    else if (is_served && (bytes[13] & (SYN | ACK | RST)) == SYN)
+        open_end(demux, src, bytes, length, now);
+    else
+        stray(demux, src, bytes, length, now);
+}
+
+/* Counts how the end of a slot ended, and frees it. */
+static void reap(struct demux *demux, struct table_slot *slot)
+{
+    uint32_t ending = status_of(slot).ending;
+    demux->counters.orderly += ending == TCPCORE_ENDING_ORDERLY;
+    demux->counters.reset += ending == TCPCORE_ENDING_RESET;
+    demux->counters.aborted += ending == TCPCORE_ENDING_ABORTED;
+    table_remove(&demux->table, slot);
+}
+
+/* Runs the timers of one end, calls its user, and emits. */
+static void turn(struct demux *demux, struct table_slot *slot, uint64_t now)
+{
+    slot->touched = 0;
+    if (timers_run(&slot->timers, &slot->end, now) & TIMERS_GAVE_UP)
+        demux->counters.gave_up++;
+    if (slot->is_half_open && slot->timers.phase >= TCPCORE_PHASE_ESTABLISHED) {
+        table_accept(&demux->table, slot);
+        demux->counters.accepted++;
+    }
+    if (!slot->is_half_open)
+        demux->config.use(slot, demux->config.context);
+    emit(demux, slot, now);
+    timers_run(&slot->timers, &slot->end, now);
+    if (slot->timers.phase == TCPCORE_PHASE_CLOSED)
+        reap(demux, slot);
+}
+
+void demux_turn(struct demux *demux, uint64_t now)
+{
+    struct table_slot *slots = demux->table.slots;
+    for (struct table_slot *slot = slots; slot < slots + demux->table.count; slot++)
+        if (slot->is_used && (slot->touched || timers_wait(&slot->timers, now) == 0))
+            turn(demux, slot, now);
+}
+
+int demux_wait(const struct demux *demux, uint64_t now)
+{
+    const struct table_slot *slots = demux->table.slots;
+    int least = -1;
+    for (const struct table_slot *slot = slots; slot < slots + demux->table.count; slot++) {
+        int wait = !slot->is_used ? -1 : slot->touched ? 0 : timers_wait(&slot->timers, now);
+        if (wait >= 0 && (least < 0 || wait < least))
+            least = wait;
+    }
+    return least;
+}
+
+void demux_free(struct demux *demux)
+{
+    struct table_slot *slots = demux->table.slots;
+    for (struct table_slot *slot = slots; slot < slots + demux->table.count; slot++)
+        if (slot->is_used)
+            table_remove(&demux->table, slot);
+}

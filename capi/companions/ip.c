@@ -1,0 +1,86 @@
+/* The IPv4 header around a TCP segment (see ip.h). C beside tcpcore.h, tested and not proved. */
+#include "ip.h"
+
+#include <string.h>
+
+/* Of the header (RFC 791, 3.1). */
+enum { PROTOCOL_TCP = 6, TIME_TO_LIVE = 64, DONT_FRAGMENT = 0x4000, MORE_OR_OFFSET = 0x3fff, MOST = 65535 };
+
+static uint32_t read16(const uint8_t *at) { return (uint32_t)at[0] << 8 | at[1]; }
+
+static void write16(uint8_t *at, uint32_t value)
+{
+    at[0] = (uint8_t)(value >> 8);
+    at[1] = (uint8_t)value;
+}
+
+static uint32_t number(tcpcore_addr addr) { return read16(addr.byte) << 16 | read16(addr.byte + 2); }
+
+/* The one's complement sum of a header (RFC 1071, 1); of one with its checksum in place it is 65,535. */
+static uint32_t sum(const uint8_t *header, size_t length)
+{
+    uint32_t total = 0;
+    for (size_t at = 0; at < length; at += 2)
+        total += read16(header + at);
+    /* Of at most 60 bytes: two additions carry all. */
+    total = (total & MOST) + (total >> 16);
+    return (total & MOST) + (total >> 16);
+}
+
+int ip_may_be_peer(struct ip_net own, tcpcore_addr addr)
+{
+    uint32_t theirs = number(addr), ours = number(own.addr);
+    uint32_t host = own.prefix >= 32 ? 0 : UINT32_MAX >> own.prefix;
+    if (theirs >> 24 == 0 || theirs >> 24 == 127 || theirs >> 24 >= 224 || theirs == ours)
+        return 0;
+    /* A network of two addresses has no broadcast (RFC 3021, 2.1). */
+    int is_near = (theirs & ~host) == (ours & ~host);
+    return !is_near || own.prefix > 30 || ((theirs & host) != 0 && (theirs & host) != host);
+}
+
+int ip_read(struct ip_net own, const void *bytes, size_t length, struct ip_packet *packet)
+{
+    const uint8_t *at = bytes;
+    struct ip_packet found;
+    if (length < IP_HEADER)
+        return IP_SHORT;
+    if (at[0] >> 4 != 4)
+        return IP_BAD_VERSION;
+    size_t header = 4 * (size_t)(at[0] & 15), total = read16(at + 2);
+    if (header < IP_HEADER || total < header || total > length)
+        return IP_BAD_LENGTH;
+    if (sum(at, header) != MOST)
+        return IP_BAD_CHECKSUM;
+    memcpy(&found.src, at + 12, 4);
+    memcpy(&found.dst, at + 16, 4);
+    if (memcmp(&found.dst, &own.addr, 4) != 0)
+        return IP_NOT_MINE;
+    if (!ip_may_be_peer(own, found.src))
+        return IP_BAD_SOURCE;
+    if (read16(at + 6) & MORE_OR_OFFSET)
+        return IP_FRAGMENT;
+    if (at[9] != PROTOCOL_TCP)
+        return IP_OTHER_PROTOCOL;
+    found.segment = at + header;
+    found.length = total - header;
+    *packet = found;
+    return IP_DONE;
+}
+
+size_t ip_write(void *out, tcpcore_addr src, tcpcore_addr dst, size_t length)
+{
+    uint8_t *at = out;
+    if (length > MOST - IP_HEADER)
+        return 0;
+    memset(at, 0, IP_HEADER);
+    at[0] = 4 << 4 | IP_HEADER / 4;
+    write16(at + 2, (uint32_t)length + IP_HEADER);
+    /* What is never fragmented needs no identification (RFC 6864, 4.1). */
+    write16(at + 6, DONT_FRAGMENT);
+    at[8] = TIME_TO_LIVE;
+    at[9] = PROTOCOL_TCP;
+    memcpy(at + 12, &src, 4);
+    memcpy(at + 16, &dst, 4);
+    write16(at + 10, MOST - sum(at, IP_HEADER));
+    return length + IP_HEADER;
+}

@@ -1,0 +1,59 @@
+/*
+ * table.h: the ends of one port by their peers' addresses and ports, in slots of the caller's. demux.h stands on it.
+ *
+ * This is C over tcpcore.h and timers.h, tested and not proved. A peer can't choose who shares its list, since that
+ * is up to a secret; the same secret goes into the initial sequence numbers (RFC 9293, 3.4.1).
+ */
+#ifndef TCPCORE_TABLE_H
+#define TCPCORE_TABLE_H
+
+#include "timers.h"
+
+/* One end and what belongs to it. The caller may read all fields, write `user`, and set `touched`. */
+struct table_slot {
+    tcpcore_end end;
+    struct timers timers;
+    tcpcore_addr peer;      /* the peer's address */
+    uint16_t port;          /* the peer's port */
+    uint8_t is_used;        /* whether an end is in the slot */
+    uint8_t is_half_open;   /* whether its handshake wasn't answered yet */
+    uint8_t touched;        /* whether demux_turn has to look at it; the user sets it to be called */
+    uint64_t began;         /* when its SYN came */
+    uint32_t bucket, next;  /* of the table: the first slot of this bucket, and the next one of this slot's */
+    uintptr_t user;         /* the user's own, 0 at first */
+};
+
+struct table {
+    struct table_slot *slots;
+    uint32_t count;           /* slots */
+    uint32_t used, half_open; /* ends, and half-open ones of them */
+    uint32_t free;            /* the first free slot */
+    uint8_t secret[16];       /* random */
+    uint16_t port;            /* the own port */
+};
+
+/* Sets a table of `count` slots, 2 to UINT32_MAX - 1, all free. `port` is the own port. */
+void table_init(struct table *table, struct table_slot *slots, uint32_t count, uint16_t port, const uint8_t secret[16]);
+
+/* The secret function of a connection, 64 bits: SipHash-2-4 of the peer's address, its port and the own port. */
+uint64_t table_secret(const struct table *table, tcpcore_addr peer, uint16_t port);
+
+/* The slot of a peer, or NULL. */
+struct table_slot *table_find(const struct table *table, tcpcore_addr peer, uint16_t port);
+
+/* The slot that table_add takes next, or NULL where none is free. */
+struct table_slot *table_free(const struct table *table);
+
+/* Takes that slot, which isn't NULL, for a peer that has none: half-open since `now`. */
+void table_add(struct table *table, tcpcore_addr peer, uint16_t port, uint64_t now);
+
+/* The handshake of the slot's end is done. */
+void table_accept(struct table *table, struct table_slot *slot);
+
+/* Frees the slot's end, and the slot. */
+void table_remove(struct table *table, struct table_slot *slot);
+
+/* The oldest half-open one but this slot, or NULL. */
+struct table_slot *table_oldest(const struct table *table, const struct table_slot *newest);
+
+#endif

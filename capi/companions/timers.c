@@ -1,0 +1,192 @@
+/* The times of one end (see timers.h). C over tcpcore.h, tested and not proved. */
+#include "timers.h"
+
+#include <limits.h>
+#include <string.h>
+
+/* The control bits (RFC 9293, 3.1). */
+enum { FIN = 1, SYN = 2, RST = 4, ACK = 16 };
+
+/* After a SYN that was sent again the timeout begins here (RFC 6298, 5.7). */
+enum { AFTER_SYN_RESENT = 3000 };
+
+const struct timers_rules TIMERS_RULES = {
+    .first_rto = 1000, .least_rto = 1000, .greatest_rto = 60000, .granularity = 1, .time_wait = 240000,
+    .r1 = 3, .r2 = 100000, .syn_limit = 180000, .syn_ack_limit = 180000};
+
+void timers_init(struct timers *timers, const struct timers_rules *rules)
+{
+    memset(timers, 0, sizeof *timers);
+    timers->rules = *rules;
+    timers->rto = rules->first_rto;
+    timers->timed_at = TIMERS_NEVER;
+    for (int timer = 0; timer < 3; timer++)
+        timers->deadline[timer] = TIMERS_NEVER;
+}
+
+static uint32_t read32(const uint8_t *at)
+{
+    return (uint32_t)at[0] << 24 | (uint32_t)at[1] << 16 | (uint32_t)at[2] << 8 | at[3];
+}
+
+/* Whether sequence number `a` comes before `b` (RFC 9293, 3.4). */
+static int comes_before(uint32_t a, uint32_t b) { return a != b && b - a < UINT32_C(1) << 31; }
+
+void timers_emitted(struct timers *timers, const void *segment, size_t length, uint64_t now)
+{
+    const uint8_t *bytes = segment;
+    uint8_t flags = bytes[13];
+    uint32_t first = read32(bytes + 4);
+    uint32_t numbers = (uint32_t)length - 4 * (uint32_t)(bytes[12] >> 4) + !!(flags & SYN) + !!(flags & FIN);
+    if (timers->phase == TCPCORE_PHASE_TIME_WAIT)
+        timers->deadline[TCPCORE_TIMER_TIME_WAIT] = now + timers->rules.time_wait;
+    if (flags & RST || numbers == 0)
+        return;
+    if (flags & SYN && !timers->has_isn) {
+        timers->has_isn = 1;
+        timers->isn = timers->highest = first;
+    }
+    int is_new = !comes_before(first, timers->highest);
+    if (comes_before(timers->highest, first + numbers))
+        timers->highest = first + numbers;
+    if (!is_new) {
+        timers->timed_at = TIMERS_NEVER;
+    } else if (timers->timed_at == TIMERS_NEVER) {
+        timers->timed = timers->highest;
+        timers->timed_at = now;
+    }
+}
+
+/* The time towards R2 starts anew. */
+static void begin_anew(struct timers *timers, uint64_t now)
+{
+    timers->since = now;
+    timers->resent = 0;
+}
+
+void timers_arrived(struct timers *timers, const void *segment, size_t length, uint64_t now)
+{
+    const uint8_t *bytes = segment;
+    int is_shut = bytes[14] == 0 && bytes[15] == 0;
+    if (length >= 20 && bytes[13] & ACK && is_shut && timers->una > 0)
+        begin_anew(timers, now);
+}
+
+/* SRTT + max(G, 4 * RTTVAR), within the bounds (RFC 6298, 2.3 to 2.5), in milliseconds, rounded up. */
+static uint32_t timeout(const struct timers *timers)
+{
+    uint64_t spread = 4 * (uint64_t)timers->rttvar, least = 1000 * (uint64_t)timers->rules.granularity;
+    uint64_t rto = (timers->srtt + (spread > least ? spread : least) + 999) / 1000;
+    if (rto < timers->rules.least_rto)
+        rto = timers->rules.least_rto;
+    return rto < timers->rules.greatest_rto ? (uint32_t)rto : timers->rules.greatest_rto;
+}
+
+/* A round trip took so many milliseconds (RFC 6298, 2.2 and 2.3: alpha is 1/8, beta 1/4). */
+static void sample(struct timers *timers, uint64_t milliseconds)
+{
+    uint64_t r = milliseconds < 1000000 ? 1000 * milliseconds : 1000000000, srtt = timers->srtt;
+    uint64_t apart = srtt < r ? r - srtt : srtt - r;
+    int is_first = timers->samples++ == 0;
+    timers->rttvar = (uint32_t)(is_first ? r / 2 : (3 * (uint64_t)timers->rttvar + apart) / 4);
+    timers->srtt = (uint32_t)(is_first ? r : (7 * srtt + r) / 8);
+    timers->rto = timeout(timers);
+}
+
+/* The peer has acknowledged what it hadn't: the retransmission timer starts anew (RFC 6298, 5.3). */
+static void progress(struct timers *timers, uint64_t una, uint64_t now)
+{
+    int ends_handshake = timers->una == 0;
+    timers->una = una;
+    if (ends_handshake && timers->resent > 0 && timers->rules.first_rto < AFTER_SYN_RESENT)
+        timers->rto = AFTER_SYN_RESENT;
+    if (timers->timed_at != TIMERS_NEVER && !comes_before(timers->isn + (uint32_t)una, timers->timed)) {
+        sample(timers, now - timers->timed_at);
+        timers->timed_at = TIMERS_NEVER;
+    }
+    timers->deadline[TCPCORE_TIMER_RETRANSMIT] = TIMERS_NEVER;
+    begin_anew(timers, now);
+}
+
+/* How long a timer takes, in milliseconds. Reordering is given one round trip, or the timeout where none was
+   measured. */
+static uint64_t span(const struct timers *timers, uint32_t timer)
+{
+    uint32_t trip = (timers->srtt + 999) / 1000, least = timers->rules.granularity;
+    if (timer == TCPCORE_TIMER_RETRANSMIT)
+        return timers->rto;
+    if (timer == TCPCORE_TIMER_TIME_WAIT)
+        return timers->rules.time_wait;
+    return timers->samples == 0 ? timers->rto : trip > least ? trip : least;
+}
+
+/* Starts and stops the timers as the end says. */
+static void follow(struct timers *timers, tcpcore_end *end, uint64_t now)
+{
+    struct tcpcore_status status;
+    uint32_t due = 0;
+    if (tcpcore_status(end, &status) == TCPCORE_DONE && tcpcore_timers(end, &due) == TCPCORE_DONE) {
+        timers->phase = status.phase;
+        if (status.una != timers->una)
+            progress(timers, status.una, now);
+    }
+    for (uint32_t timer = 0; timer < 3; timer++) {
+        int was_off = timers->deadline[timer] == TIMERS_NEVER;
+        if (!(due >> timer & 1))
+            timers->deadline[timer] = TIMERS_NEVER;
+        else if (was_off)
+            timers->deadline[timer] = now + span(timers, timer);
+        if (timer == TCPCORE_TIMER_RETRANSMIT && was_off)
+            begin_anew(timers, now);
+    }
+}
+
+/* How long the same segment is sent again before the connection is given up (RFC 9293, 3.8.3). */
+static uint32_t limit(const struct timers *timers)
+{
+    if (timers->phase == TCPCORE_PHASE_SYN_SENT)
+        return timers->rules.syn_limit;
+    return timers->phase == TCPCORE_PHASE_SYN_RECEIVED ? timers->rules.syn_ack_limit : timers->rules.r2;
+}
+
+/* The retransmission timer has run out (RFC 6298, 5.4 to 5.6; RFC 9293, 3.8.3). */
+static uint32_t retransmit(struct timers *timers, tcpcore_end *end, uint64_t now)
+{
+    if (timers->resent > 0 && now - timers->since >= limit(timers)) {
+        tcpcore_abort(end);
+        return TIMERS_RAN | TIMERS_GAVE_UP;
+    }
+    timers->resent++;
+    timers->rto = timers->rto < timers->rules.greatest_rto / 2 ? 2 * timers->rto : timers->rules.greatest_rto;
+    tcpcore_timer(end, TCPCORE_TIMER_RETRANSMIT);
+    return timers->resent < timers->rules.r1 ? TIMERS_RAN : TIMERS_RAN | TIMERS_SUSPECT;
+}
+
+uint32_t timers_run(struct timers *timers, tcpcore_end *end, uint64_t now)
+{
+    uint32_t found = 0;
+    follow(timers, end, now);
+    for (uint32_t timer = 0; timer < 3; timer++) {
+        if (timers->deadline[timer] > now)
+            continue;
+        if (timer == TCPCORE_TIMER_RETRANSMIT)
+            found |= retransmit(timers, end, now);
+        else if (tcpcore_timer(end, timer) == TCPCORE_DONE)
+            found |= TIMERS_RAN;
+        timers->deadline[timer] = now + span(timers, timer);
+    }
+    if (found)
+        follow(timers, end, now);
+    return found;
+}
+
+int timers_wait(const struct timers *timers, uint64_t now)
+{
+    uint64_t first = TIMERS_NEVER;
+    for (int timer = 0; timer < 3; timer++)
+        if (timers->deadline[timer] < first)
+            first = timers->deadline[timer];
+    if (first == TIMERS_NEVER)
+        return -1;
+    return first <= now ? 0 : first - now < INT_MAX ? (int)(first - now) : INT_MAX;
+}

@@ -1,0 +1,86 @@
+/*
+ * timers.h: the times of one end (RFC 6298; RFC 9293, 3.4.2, 3.8.1 and 3.8.3).
+ *
+ * This is C over tcpcore.h, tested and not proved. An end is right at any times; these are the standard's.
+ *
+ * The caller has the clock: `now` is a count of milliseconds that never goes back. In each turn of its loop it
+ *   1. hands arrivals to tcpcore_arrive, and each segment that it answered by TCPCORE_DONE to timers_arrived,
+ *   2. calls timers_run, then makes its own calls (tcpcore_receive, tcpcore_send, tcpcore_close),
+ *   3. emits, and hands each segment that it emits to timers_emitted,
+ *   4. calls timers_run once more, which starts the timers of what was sent, and waits for timers_wait at most.
+ */
+#ifndef TCPCORE_TIMERS_H
+#define TCPCORE_TIMERS_H
+
+#include "tcpcore.h"
+
+/* The milliseconds in the place of a deadline that there isn't. */
+#define TIMERS_NEVER UINT64_MAX
+
+/* What the times are made from, in milliseconds but for the count r1. */
+struct timers_rules {
+    uint32_t first_rto;     /* the timeout before any sample, 1 s (RFC 6298, 2.1) */
+    uint32_t least_rto;     /* no timeout is below it, 1 s (RFC 6298, 2.4) */
+    uint32_t greatest_rto;  /* none is above it, at least 60 s (RFC 6298, 2.5) */
+    uint32_t granularity;   /* of the clock, at least 1 (RFC 6298, 2) */
+    uint32_t time_wait;     /* two maximum segment lifetimes, 4 minutes (RFC 9293, 3.4.2) */
+    uint32_t r1;            /* so many resends of a segment make the path suspect, at least 3 (RFC 9293, 3.8.3) */
+    uint32_t r2;            /* so long without progress the end is kept, at least 100 s (RFC 9293, 3.8.3) */
+    uint32_t syn_limit;     /* the same for a SYN: at least 3 minutes (RFC 9293, 3.8.3) */
+    uint32_t syn_ack_limit; /* the same for a SYN,ACK; a listener that is flooded takes less (RFC 4987, 3.3) */
+};
+
+/* The values that stand in the comments above; 60 s as the greatest timeout. */
+extern const struct timers_rules TIMERS_RULES;
+
+/* What timers_run found, as bits. */
+enum {
+    TIMERS_RAN = 1,     /* a timer ran out and its rule was applied: emit */
+    TIMERS_SUSPECT = 2, /* a segment was resent r1 times or more: the path to the peer may be dead (RFC 9293, 3.8.3) */
+    TIMERS_GAVE_UP = 4  /* a limit was reached, and the end was aborted: emit its reset */
+};
+
+/* The timers of one end. Its fields are read and not written by the caller. */
+struct timers {
+    struct timers_rules rules;
+    uint64_t deadline[3];   /* when timer t runs out, or TIMERS_NEVER */
+    uint32_t rto;           /* the retransmission timeout, backed off as it may be, in milliseconds */
+    uint32_t srtt, rttvar;  /* the smoothed round trip and its variation, in microseconds (RFC 6298, 2) */
+    uint32_t samples;       /* how many round trips were measured */
+    uint32_t resent;        /* how often the timeout ran out without progress */
+    uint64_t since;         /* when progress was seen last, or sending began */
+    uint64_t una;           /* SND.UNA as tcpcore_status told it last */
+    uint32_t phase;         /* the phase as tcpcore_status told it last */
+    uint32_t isn;           /* the initial sequence number, from the SYN that was emitted */
+    uint32_t highest;       /* the number after all that was emitted */
+    uint32_t timed;         /* the number after the segment that is being timed */
+    uint64_t timed_at;      /* when it was emitted, or TIMERS_NEVER: none is */
+    uint32_t has_isn;       /* whether a SYN was emitted */
+};
+
+/* Sets the timers of an end that was just made: none runs. */
+void timers_init(struct timers *timers, const struct timers_rules *rules);
+
+/*
+ * A segment of `length` bytes was emitted. New text is timed, one segment at a time; where anything is sent again
+ * nothing is, since its acknowledgement wouldn't tell which one it answers (Karn's rule: RFC 6298, 3). In TIME-WAIT
+ * an emission answers the peer's FIN and starts that time anew (RFC 9293, 3.10.7.4).
+ */
+void timers_emitted(struct timers *timers, const void *segment, size_t length, uint64_t now);
+
+/*
+ * A segment of `length` bytes has come, and tcpcore_arrive answered TCPCORE_DONE. A peer that answers with a shut
+ * window is there: it is probed for as long as it answers (RFC 9293, 3.8.6.1).
+ */
+void timers_arrived(struct timers *timers, const void *segment, size_t length, uint64_t now);
+
+/*
+ * It is `now`: takes the sample of what was acknowledged, starts and stops the timers as tcpcore_timers says, and
+ * applies those that have run out. Answers bits of TIMERS_RAN, TIMERS_SUSPECT and TIMERS_GAVE_UP, or 0.
+ */
+uint32_t timers_run(struct timers *timers, tcpcore_end *end, uint64_t now);
+
+/* The next deadline is in so many milliseconds: 0 where one has passed, -1 where there is none, as poll takes it. */
+int timers_wait(const struct timers *timers, uint64_t now);
+
+#endif
