@@ -41,7 +41,11 @@ fn move_bursts(
 /// Moves a stream over the wire that loses segments, and prints how it was read.
 fn move_stream(rt: &(impl Print + AllocGlobal), len: u64, capacity: usize) -> io::Result<()> {
     let mut stream = Stream::new(rt.alloc(), capacity, len).map_err(|_| bad_input())?;
-    let told = if stream.run() { "as written" } else { "otherwise" };
+    let told = if stream.run() {
+        "as written"
+    } else {
+        "otherwise"
+    };
     let lost = stream.lost();
     println!(rt; "{len} bytes were read {told}, {lost} segments were lost")
 }
