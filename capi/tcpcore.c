@@ -41,21 +41,45 @@ FIELD(struct tcpcore_status, released, 16, 8);
 FIELD(struct tcpcore_status, ordered, 24, 8);
 FIELD(struct tcpcore_status, una, 32, 8);
 FIELD(struct tcpcore_status, next, 40, 8);
-_Static_assert(sizeof(struct tcpcore_status) == 48, "the status of the library");
+FIELD(struct tcpcore_status, room, 48, 8);
+FIELD(struct tcpcore_status, queued, 56, 8);
+FIELD(struct tcpcore_status, in_flight, 64, 8);
+FIELD(struct tcpcore_status, mss, 72, 4);
+FIELD(struct tcpcore_status, own_shift, 76, 1);
+FIELD(struct tcpcore_status, peer_shift, 77, 1);
+FIELD(struct tcpcore_status, scaling, 78, 1);
+FIELD(struct tcpcore_status, sack, 79, 1);
+/* The library's status ends here: it writes nothing behind. */
+FIELD(struct tcpcore_status, reserved, 80, 48);
+_Static_assert(sizeof(struct tcpcore_status) == 128, "the status of every version");
+
+/* Memory as the library takes it: it begins at a multiple of UNIT, and its size is one. */
+struct block {
+    void *at;
+    size_t size;
+};
+
+#define UNIT 16
 
 /* The library's own calls (crate tcp_c). */
-uint32_t tcp_c_new(struct handle *, const tcpcore_config *);
+uint32_t tcp_c_new(struct handle *, const tcpcore_config *, struct block);
+size_t tcp_c_room(const tcpcore_config *);
 uint32_t tcp_c_free(struct handle *);
 uint32_t tcp_c_connect(struct handle *, const tcpcore_addr *, uint16_t);
 uint32_t tcp_c_listen(struct handle *);
 uint32_t tcp_c_send(struct handle *, const uint8_t *, size_t, size_t *);
 uint32_t tcp_c_receive(struct handle *, uint8_t *, size_t, size_t *);
+uint32_t tcp_c_acknowledge(struct handle *);
 uint32_t tcp_c_close(struct handle *);
 uint32_t tcp_c_abort(struct handle *);
 uint32_t tcp_c_timer(struct handle *, uint32_t);
 uint32_t tcp_c_arrive(struct handle *, const tcpcore_addr *, const tcpcore_addr *, const uint8_t *, size_t);
+uint32_t tcp_c_take(struct handle *, const tcpcore_addr *, const tcpcore_addr *, const uint8_t *, size_t, uint32_t *);
 uint32_t tcp_c_emit(struct handle *, uint8_t *, size_t, tcpcore_addr *, size_t *);
+uint32_t tcp_c_pending(struct handle *, uint32_t *);
+uint32_t tcp_c_stray_reset(const tcpcore_addr *, const tcpcore_addr *, const uint8_t *, size_t, uint8_t *, size_t, size_t *);
 uint32_t tcp_c_timers(struct handle *, uint32_t *);
+uint32_t tcp_c_peer(struct handle *, tcpcore_addr *, uint16_t *);
 uint32_t tcp_c_status(struct handle *, struct tcpcore_status *);
 
 static struct handle *handle(tcpcore_end *end) { return (struct handle *)end->opaque; }
@@ -106,6 +130,14 @@ static uint32_t refusal_with(const tcpcore_end *end, const void *bytes, size_t l
     return overlap(end, sizeof *end, bytes, length) || !is_apart(place, end, bytes, length) ? TCPCORE_OVERLAP : refusal(end);
 }
 
+/* The same with two places. */
+static uint32_t refusal_with_two(const tcpcore_end *end, const void *bytes, size_t length, struct place one, struct place other)
+{
+    uint32_t answer = one.at ? refusal_with(end, bytes, length, other) : TCPCORE_NULL;
+    int apart = is_apart(one, end, bytes, length) && !overlap(one.at, one.size, other.at, other.size);
+    return answer != TCPCORE_DONE || apart ? answer : TCPCORE_OVERLAP;
+}
+
 /* Writes what a call has found, but over the struct or the buffer. */
 static void put(struct place place, const tcpcore_end *end, const void *bytes, size_t length, const void *found)
 {
@@ -126,15 +158,34 @@ static const uint8_t *front(const void *bytes)
     return bytes ? bytes : &nothing;
 }
 
-uint32_t tcpcore_new(tcpcore_end *end, const tcpcore_config *config)
+/* The whole units of the caller's block. */
+static struct block units_of(void *bytes, size_t length)
 {
-    uint32_t answer = config ? refusal(end) : TCPCORE_NULL;
+    static _Alignas(UNIT) uint8_t none;
+    size_t before = -(uintptr_t)bytes % UNIT;
+    if (length < before + UNIT)
+        return (struct block){&none, 0};
+    return (struct block){(uint8_t *)bytes + before, (length - before) / UNIT * UNIT};
+}
+
+uint32_t tcpcore_new(tcpcore_end *end, const tcpcore_config *config, void *block, size_t length)
+{
+    static uint8_t nothing;
+    uint32_t answer = config ? refusal_with(end, block, length, (struct place){&nothing, 0}) : TCPCORE_NULL;
     if (answer != TCPCORE_DONE)
         return answer;
-    answer = tcp_c_new(handle(end), config);
+    /* The caller's may lie in the block. */
+    tcpcore_config copy = *config;
+    answer = tcp_c_new(handle(end), &copy, units_of(block, length));
     if (answer == TCPCORE_DONE)
         end->opaque[OWNER] = (uintptr_t)end;
     return answer;
+}
+
+size_t tcpcore_room(const tcpcore_config *config)
+{
+    size_t room = config ? tcp_c_room(config) : 0;
+    return room > 0 ? room + UNIT - 1 : 0;
 }
 
 uint32_t tcpcore_free(tcpcore_end *end)
@@ -182,6 +233,12 @@ uint32_t tcpcore_receive(tcpcore_end *end, void *out, size_t room, size_t *count
     return answer;
 }
 
+uint32_t tcpcore_acknowledge(tcpcore_end *end)
+{
+    uint32_t answer = refusal(end);
+    return answer != TCPCORE_DONE ? answer : tcp_c_acknowledge(handle(end));
+}
+
 uint32_t tcpcore_close(tcpcore_end *end)
 {
     uint32_t answer = refusal(end);
@@ -207,18 +264,70 @@ uint32_t tcpcore_arrive(tcpcore_end *end, tcpcore_addr src, tcpcore_addr dst, co
     return answer != TCPCORE_DONE ? answer : tcp_c_arrive(handle(end), &src, &dst, front(bytes), length);
 }
 
+uint32_t tcpcore_take(tcpcore_end *end, tcpcore_addr src, tcpcore_addr dst, const void *bytes, size_t length, uint32_t *at_once)
+{
+    uint32_t found = 0;
+    struct place place = {at_once, sizeof *at_once};
+    uint32_t answer = refusal_with(end, bytes, length, place);
+    if (answer == TCPCORE_DONE)
+        answer = tcp_c_take(handle(end), &src, &dst, front(bytes), length, &found);
+    put(place, end, bytes, length, &found);
+    return answer;
+}
+
 uint32_t tcpcore_emit(tcpcore_end *end, void *out, size_t room, tcpcore_addr *to, size_t *length)
 {
     tcpcore_addr address = {{0, 0, 0, 0}};
     size_t found = 0;
     struct place where = {to, sizeof *to}, place = {length, sizeof *length};
-    uint32_t answer = to ? refusal_with(end, out, room, place) : TCPCORE_NULL;
-    if (answer == TCPCORE_DONE && (!is_apart(where, end, out, room) || overlap(to, sizeof *to, length, sizeof *length)))
-        answer = TCPCORE_OVERLAP;
+    uint32_t answer = refusal_with_two(end, out, room, where, place);
     if (answer == TCPCORE_DONE)
         answer = tcp_c_emit(handle(end), start(out), room, &address, &found);
     put(where, end, out, room, &address);
     put(place, end, out, room, &found);
+    return answer;
+}
+
+uint32_t tcpcore_pending(const tcpcore_end *end, uint32_t *due)
+{
+    uint32_t found = 0;
+    struct place place = {due, sizeof *due};
+    uint32_t answer = refusal_with(end, NULL, 0, place);
+    if (answer == TCPCORE_DONE) {
+        struct handle copy = copy_of(end);
+        answer = tcp_c_pending(&copy, &found);
+    }
+    put(place, end, NULL, 0, &found);
+    return answer;
+}
+
+/* Whether a place is over neither of two buffers. */
+static int is_beside(struct place place, const void *bytes, size_t length, const void *out, size_t room)
+{
+    return !overlap(place.at, place.size, bytes, length > PTRDIFF_MAX ? 0 : length)
+           && !overlap(place.at, place.size, out, room > PTRDIFF_MAX ? 0 : room);
+}
+
+/* Why no reset is looked for: a pointer, a length, or two of the three lie over each other. */
+static uint32_t refusal_of_stray(const void *bytes, size_t length, const void *out, size_t room, struct place place)
+{
+    if (!place.at || (!bytes && length > 0) || (!out && room > 0))
+        return TCPCORE_NULL;
+    if (length > PTRDIFF_MAX || room > PTRDIFF_MAX)
+        return TCPCORE_LENGTH;
+    return overlap(bytes, length, out, room) || !is_beside(place, bytes, length, out, room) ? TCPCORE_OVERLAP : TCPCORE_DONE;
+}
+
+uint32_t tcpcore_stray_reset(tcpcore_addr src, tcpcore_addr dst, const void *bytes, size_t length, void *out, size_t room,
+                             size_t *written)
+{
+    size_t found = 0;
+    struct place place = {written, sizeof *written};
+    uint32_t answer = refusal_of_stray(bytes, length, out, room, place);
+    if (answer == TCPCORE_DONE)
+        answer = tcp_c_stray_reset(&src, &dst, front(bytes), length, start(out), room, &found);
+    if (written && is_beside(place, bytes, length, out, room))
+        *written = found;
     return answer;
 }
 
@@ -235,9 +344,24 @@ uint32_t tcpcore_timers(const tcpcore_end *end, uint32_t *due)
     return answer;
 }
 
+uint32_t tcpcore_peer(const tcpcore_end *end, tcpcore_addr *addr, uint16_t *port)
+{
+    tcpcore_addr address = {{0, 0, 0, 0}};
+    uint16_t found = 0;
+    struct place where = {addr, sizeof *addr}, place = {port, sizeof *port};
+    uint32_t answer = refusal_with_two(end, NULL, 0, where, place);
+    if (answer == TCPCORE_DONE) {
+        struct handle copy = copy_of(end);
+        answer = tcp_c_peer(&copy, &address, &found);
+    }
+    put(where, end, NULL, 0, &address);
+    put(place, end, NULL, 0, &found);
+    return answer;
+}
+
 uint32_t tcpcore_status(const tcpcore_end *end, struct tcpcore_status *status)
 {
-    struct tcpcore_status found = {0, 0, 0, 0, 0, 0, 0};
+    struct tcpcore_status found = {0};
     struct place place = {status, sizeof *status};
     uint32_t answer = refusal_with(end, NULL, 0, place);
     if (answer == TCPCORE_DONE) {
@@ -264,7 +388,7 @@ static const char *const TEXTS[] = {
     [TCPCORE_STREAM_FULL] = "this side has sent as many bytes as the limit allows",
     [TCPCORE_NOT_CONNECTED] = "no peer is known yet",
     [TCPCORE_BAD_CAPACITY] = "a capacity isn't from 1 to 1,048,576 bytes",
-    [TCPCORE_NO_MEMORY] = "no memory",
+    [TCPCORE_NO_MEMORY] = "the block is too small",
     [TCPCORE_BAD_MSS] = "the maximum segment size isn't from 64 to 1,460 bytes",
     [TCPCORE_BAD_SHIFT] = "the window shift is above 14",
     [TCPCORE_BAD_LIMIT] = "the limit isn't from 1 to 2^62 bytes",

@@ -1,6 +1,9 @@
 /*
  * tcpcore.h: one end of one TCP connection, as a value (RFC 9293; window scale of RFC 7323; selective
- * acknowledgement of RFC 2018). IPv4, x86-64.
+ * acknowledgement of RFC 2018). IPv4; x86-64 and aarch64.
+ *
+ * The library's code for x86-64 needs a processor of level v2, and doesn't test for one: 'rt lib --cpu x86-64' builds for
+ * any, '--cpu x86-64-v3' for later ones. 'rt lib --target aarch64-unknown-linux-gnu' builds for any aarch64.
  *
  * WHAT IT IS
  *   An end has no socket, clock or thread. User calls, timers and the segments that arrive go in; segments and
@@ -8,22 +11,28 @@
  *
  * WHAT THE CALLER DOES
  *   1. Make an end: tcpcore_new. Open it: tcpcore_connect or tcpcore_listen.
- *   2. After every call, emit until nothing is due: call tcpcore_emit until it answers TCPCORE_NOT_DUE. Put each segment
- *      into an IPv4 packet (protocol 6) from the address of the config to the address that was told, and send it.
- *   3. Hand each TCP segment that arrives to tcpcore_arrive, without its IPv4 header, with the packet's two addresses.
- *   4. Call tcpcore_receive when you want bytes. What isn't read shuts the window. Read all that is there: a window that grows
- *      makes a segment due only where it stood at 0, and a peer that finds it too small waits for a timer of its own.
+ *   2. After every call, or after a batch of arrivals, emit until nothing is due: call tcpcore_emit until it answers
+ *      TCPCORE_NOT_DUE. Put each segment into an IPv4 packet (protocol 6) from the address of the config to the address
+ *      that was told, and send it.
+ *   3. Hand each TCP segment that arrives to tcpcore_arrive, without its IPv4 header, with the packet's two addresses; or to
+ *      tcpcore_take, which tells where an answer may not wait for the rest of the batch.
+ *   4. Call tcpcore_receive when you want bytes. What isn't read shuts the window. A window that grows by reading makes a
+ *      segment due only where it stood at 0, and a peer that finds it too small waits for a timer of its own: read all that
+ *      is there, or call tcpcore_acknowledge where the window has grown by the smaller of a segment and half the
+ *      recv_capacity since it was told (RFC 9293, 3.8.6.2.2).
  *   5. Keep real time. tcpcore_timers says which timers have to run. When one has run out call tcpcore_timer, and then emit:
  *
- *      TCPCORE_TIMER_RETRANSMIT  Starts when its bit is set, anew when `released` has grown or the phase has changed, and, with
- *                                twice the time, when it ran out. Takes 1 second at first, then what measured round trips
- *                                say, at most 60 seconds (RFC 6298). It runs while the peer's window is shut, too: it lets
- *                                the end probe the window (RFC 9293, 3.8.6.1).
- *      TCPCORE_TIMER_REORDER     Starts when its bit is set, and anew when it ran out. Takes a quarter of a round trip. It may be
- *                                left out: the first one covers it.
- *      TCPCORE_TIMER_TIME_WAIT   Starts when its bit is set, and anew when a segment that arrives is answered: the peer's FIN came
- *                                again (RFC 9293, 3.10.7.4). Takes two maximum segment lifetimes, 4 minutes (3.4.2).
+ *      timer                     starts                starts anew                       takes
+ *      TCPCORE_TIMER_RETRANSMIT  when its bit is set   when `una` has grown, and after   1 second at first, then what
+ *                                                      each run-out, with twice the      measured round trips say, 1 to
+ *                                                      time                              60 seconds (RFC 6298)
+ *      TCPCORE_TIMER_REORDER     when its bit is set   when anything is sent again, and  one round trip; never leave it
+ *                                                      after each run-out                out
+ *      TCPCORE_TIMER_TIME_WAIT   when its bit is set   when a segment that arrives is    two maximum segment lifetimes, 4
+ *                                                      answered: the peer's FIN came     minutes (RFC 9293, 3.4.2)
+ *                                                      again (RFC 9293, 3.10.7.4)
  *
+ *      Retransmit runs while the peer's window is shut, too: it lets the end probe the window (RFC 9293, 3.8.6.1).
  *      A timer whose bit is clear stands still.
  *   6. Free the end: tcpcore_free.
  *
@@ -34,7 +43,7 @@
  *   2. where there is none, to an end in LISTEN whose own address and port are the destination. If it answers
  *      TCPCORE_DONE the segment was a SYN, its source is the peer, and the end carries that connection: make another
  *      one to listen on;
- *   3. where there is neither, to no end, or to an end in CLOSED that was made for the destination's address and port.
+ *   3. where there is neither, to tcpcore_stray_reset, which writes the reset that answers it.
  *   An end in LISTEN or CLOSED knows no peer. It takes segments from any source to its own address and port, and what
  *   isn't for it, but a reset, it answers by a reset (in LISTEN what has an ACK: RFC 9293, 3.10.7.1 and 3.10.7.2).
  *   So a segment of a connection that another end carries, handed to it, ends that connection: the peer takes the
@@ -46,14 +55,16 @@
  *   address (255.255.255.255, and that of the own network), and the own address together with the own port.
  *
  * MEMORY
- *   tcpcore_new takes three blocks: the send capacity, the receive capacity, and the end itself, aligned to 8 bytes.
- *   TCPCORE_MEMORY(send, receive) is their sum in bytes. No other call takes any, and tcpcore_free gives all of it back. Blocks
- *   come from rattle_alloc and go back to rattle_dealloc: liblibc_c.a of the toolchain has them over malloc and free, or
- *   define your own, as examples/static_block.c does.
+ *   The library takes no memory from anywhere: an end lies in a block that the caller hands to tcpcore_new, all of it, and no
+ *   call asks for more. Any block will do, static or from malloc, of any alignment. tcpcore_room tells how many bytes are
+ *   enough, and TCPCORE_MEMORY(send, receive) the same as a constant: the two capacities, each in whole units of 16 bytes, what
+ *   the end takes beside them, and 15 bytes for a block that doesn't begin at a multiple of 16. That these are enough is
+ *   measured by the tests (tests/room.c), not proved. The linker is asked for memcpy, memmove and memset alone.
  *
  * STACK
- *   A call takes less than TCPCORE_STACK bytes, beside what the memory functions that you link take. That is measured by the tests
- *   (tests/stack.c), not proved.
+ *   A call takes less than TCPCORE_STACK bytes. That isn't proved: the tests read it from the disassembly (tests/depth.py:
+ *   nothing calls through a pointer, and what calls itself does so once for each option of a segment) and measure it
+ *   (tests/stack.c).
  *
  * THREADS
  *   None is started. One end is used by one thread at a time; two ends have nothing in common. Not for signal handlers.
@@ -62,19 +73,24 @@
  *   The caller places the struct tcpcore_end, sets it to TCPCORE_END_INIT, and frees what tcpcore_new put into it. The struct
  *   isn't copied or moved while it holds an end: a copy is refused (TCPCORE_COPIED). A struct whose bytes were saved,
  *   and put back to the same place after its end was freed, can't be found: it looks as it did while it held the end,
- *   and a call with it uses memory that was given back. Buffers belong to the caller; no call keeps a pointer to one.
+ *   and a call with it uses a block that was given back.
+ *   The block is the end's from tcpcore_new to tcpcore_free: nobody else reads, writes, moves or frees it, and no other end
+ *   is made in it. Then, and where tcpcore_new was refused, it is the caller's again, whatever its bytes are, and may serve the
+ *   next end. Leaving an end without tcpcore_free loses nothing but the block.
+ *   Buffers belong to the caller; no call keeps a pointer to one.
  *
  * ANSWERS
- *   Each function answers one number of the table below. A refusal changes no end. What a call writes through a pointer (a count,
- *   an address, timers, a status) is written at every answer, and is all 0 unless the answer is TCPCORE_DONE; buffers stay as they
- *   are then. Such a pointer may not be over the struct, over the buffer of the same call, or over another such pointer: the answer
- *   is TCPCORE_OVERLAP, and nothing is written there. A buffer may be NULL where its length is 0.
+ *   Each function answers one number of the table below. A refusal changes no end. What a call writes through a pointer
+ *   (a count, an address, timers, a status) is written at every answer, and is all 0 unless the answer is TCPCORE_DONE,
+ *   but for what tcpcore_take tells beside TCPCORE_DROPPED; buffers stay as they are then. Such a pointer may not be over
+ *   the struct, over the buffer of the same call, or over another such pointer: the answer is TCPCORE_OVERLAP, and
+ *   nothing is written there. A buffer may be NULL where its length is 0.
  *
  * WHAT IS TRUSTED
- *   What a call does to an end is proved of the library. Not proved: tcpcore.c, the C compiler, the memory functions
- *   that you link, and that this header agrees with the library: tcpcore.c asserts where each field lies, and
- *   tests/fields.c reads each one back through what an end does. A pointer to memory that isn't there, or isn't yours,
- *   can't be found: such a call may do anything.
+ *   What a call does to an end is proved of the library. Not proved: tcpcore.c, the C compiler, the three functions of the
+ *   C library, that a block of TCPCORE_MEMORY bytes is enough, and that this header agrees with the library: tcpcore.c
+ *   asserts where each field lies, and tests/fields.c reads each one back through what an end does. A pointer to memory
+ *   that isn't there, or isn't yours, can't be found: such a call may do anything.
  */
 #ifndef TCPCORE_H
 #define TCPCORE_H
@@ -87,13 +103,13 @@ extern "C" {
 #endif
 
 /* The version of this header: it grows with each change of a struct, a call or an answer. */
-#define TCPCORE_VERSION 1
+#define TCPCORE_VERSION 2
 
 /* The answers; tcpcore_strerror has a text for each. */
 enum {
     /* It is done. */
     TCPCORE_DONE = 0,
-    /* tcpcore_arrive: the bytes are no segment, by the first fault; nothing changed. */
+    /* tcpcore_arrive and tcpcore_take: the bytes are no segment, by the first fault; nothing changed. */
     TCPCORE_TOO_SHORT = 1,    /* fewer than 20 bytes */
     TCPCORE_TOO_LONG = 2,     /* more than 65,515 bytes */
     TCPCORE_BAD_CHECKSUM = 3, /* over segment and pseudo-header (RFC 9293, 3.1) */
@@ -106,17 +122,17 @@ enum {
     TCPCORE_CLOSING = 13,       /* behind a tcpcore_close */
     TCPCORE_ENDED = 14,         /* the connection has ended; tcpcore_status says how */
     TCPCORE_STREAM_FULL = 15,   /* the direction has carried as many bytes as the config's limit says */
-    TCPCORE_NOT_CONNECTED = 16, /* LISTEN: no peer is known */
-    /* tcpcore_new: the config is refused, and no memory is kept. */
+    TCPCORE_NOT_CONNECTED = 16, /* no peer is known: of tcpcore_send in LISTEN, of tcpcore_peer */
+    /* tcpcore_new: the config or the block is refused; the block is the caller's. */
     TCPCORE_BAD_CAPACITY = 21, /* a capacity isn't from 1 to 1,048,576 */
-    TCPCORE_NO_MEMORY = 22,    /* rattle_alloc had none */
+    TCPCORE_NO_MEMORY = 22,    /* the block is too small */
     TCPCORE_BAD_MSS = 23,      /* the MSS isn't from 64 to 1,460 */
     TCPCORE_BAD_SHIFT = 24,    /* the window shift is above 14 */
     TCPCORE_BAD_LIMIT = 25,    /* the limit isn't from 1 to 2^62 */
     /* The boundary refuses; nothing changed. */
     TCPCORE_NO_END = 31,    /* no end is in the struct: never made, or freed */
     TCPCORE_IN_USE = 32,    /* tcpcore_new: the struct holds an end already */
-    TCPCORE_ROOM = 33,      /* tcpcore_emit: fewer than TCPCORE_EMIT_ROOM bytes */
+    TCPCORE_ROOM = 33,      /* fewer than TCPCORE_EMIT_ROOM bytes; of tcpcore_stray_reset than TCPCORE_RESET_ROOM */
     TCPCORE_NO_TIMER = 34,  /* tcpcore_timer: no timer has this number */
     TCPCORE_NULL = 35,      /* a pointer is NULL */
     TCPCORE_LENGTH = 36,    /* a length is above PTRDIFF_MAX */
@@ -125,10 +141,10 @@ enum {
     /* The call was made and found this. */
     TCPCORE_NOTHING = 51,       /* tcpcore_receive: nothing to read yet */
     TCPCORE_END_OF_STREAM = 52, /* tcpcore_receive: the peer closed, and all its bytes were handed over */
-    TCPCORE_NOT_DUE = 53,       /* tcpcore_emit: no segment is due */
+    TCPCORE_NOT_DUE = 53,       /* no segment is due; tcpcore_stray_reset: no reset answers the bytes */
     TCPCORE_NO_RULE = 54,       /* tcpcore_timer: the timer's bit was clear; nothing changed */
-    TCPCORE_DROPPED = 55,       /* tcpcore_arrive: the segment was passed over; an answer to it may be due */
-    TCPCORE_NOT_MINE = 56       /* tcpcore_arrive: the segment is another connection's; nothing changed */
+    TCPCORE_DROPPED = 55,       /* an arrival: the segment was passed over; an answer to it may be due */
+    TCPCORE_NOT_MINE = 56       /* an arrival: the segment is another connection's; nothing changed */
 };
 
 /* The phases (RFC 9293, 3.3.2). */
@@ -161,14 +177,18 @@ enum {
     TCPCORE_TIMER_TIME_WAIT = 2   /* the TIME-WAIT timeout (RFC 9293, 3.10.8) */
 };
 
-/* The bytes of memory that an end of these capacities takes, in blocks of `send`, `receive` and 656 bytes. */
-#define TCPCORE_MEMORY(send, receive) ((size_t)(send) + (size_t)(receive) + 656)
+/* How many bytes of a block are enough for an end of these capacities, wherever the block begins. */
+#define TCPCORE_UNITS(size) (((size_t)(size) + 15) / 16 * 16)
+#define TCPCORE_MEMORY(send, receive) (TCPCORE_UNITS(send) + TCPCORE_UNITS(receive) + 704 + 15)
 
-/* The bytes of stack that a call takes at most, beside those of your memory functions. */
-#define TCPCORE_STACK 16384
+/* The bytes of stack that a call takes at most. */
+#define TCPCORE_STACK 10240
 
 /* The room that tcpcore_emit wants, in bytes: more than the longest segment of an end. */
 #define TCPCORE_EMIT_ROOM 1520
+
+/* The room that tcpcore_stray_reset wants, in bytes: the length of a reset. */
+#define TCPCORE_RESET_ROOM 20
 
 /* A limit below which no segment, however old, is taken for another: 2^31 less 16 bytes. */
 #define TCPCORE_LIMIT UINT64_C(2147483632)
@@ -214,18 +234,35 @@ struct tcpcore_status {
     uint64_t ordered;  /* received bytes up to now, read or not, in order */
     uint64_t una;      /* SND.UNA as a position of the own direction: its SYN is at 0, byte i at 1 + i */
     uint64_t next;     /* RCV.NXT as a position of the peer's direction: its SYN is at 0. It is 1 until that has come */
+    uint64_t room;     /* bytes of a long text that tcpcore_send would take, by send_capacity and limit */
+    uint64_t queued;   /* bytes that were taken and not released */
+    uint64_t in_flight; /* those of them that were sent, at most `queued`; SYN and FIN aren't counted */
+    uint32_t mss;      /* the most text bytes of a segment of this end, the smaller of both MSS; options take of it. This and
+                          what follows, what the two SYNs agreed on, is 0 until the peer's SYN was taken */
+    uint8_t own_shift; /* the shift of the windows that this end tells; 0 where `scaling` is */
+    uint8_t peer_shift; /* the shift of the windows that the peer tells */
+    uint8_t scaling;   /* 1 where windows are scaled (RFC 7323, 2.2) */
+    uint8_t sack;      /* 1 where selective acknowledgement is in use (RFC 2018, 2) */
+    uint64_t reserved[6]; /* 0. Fields of later versions take their place from here: the struct's size stays */
 };
 
 /*
- * Makes an end in *end: CLOSED, empty, nothing due. Takes all memory that the end will ever use. *config is read and not kept.
- *   DONE; IN_USE; BAD_CAPACITY, BAD_MSS, BAD_SHIFT, BAD_LIMIT, NO_MEMORY, the first that applies; NULL; COPIED (the struct is
- *   neither TCPCORE_END_INIT nor one that was freed).
+ * Makes an end in *end: CLOSED, empty, nothing due. All of it lies in the `length` bytes at `block`, which may hold anything: see
+ * MEMORY and WHO OWNS WHAT above. *config is read and not kept.
+ *   DONE; IN_USE; BAD_CAPACITY, BAD_MSS, BAD_SHIFT, BAD_LIMIT, NO_MEMORY, the first that applies; NULL; LENGTH; OVERLAP (the
+ *   block lies over the struct); COPIED (the struct is neither TCPCORE_END_INIT nor one that was freed).
  */
-uint32_t tcpcore_new(tcpcore_end *end, const tcpcore_config *config);
+uint32_t tcpcore_new(tcpcore_end *end, const tcpcore_config *config, void *block, size_t length);
 
 /*
- * Gives the end and its memory up, in any phase, without a word to the peer (tcpcore_abort and tcpcore_emit come first where
- * it is to hear of it). *end is TCPCORE_END_INIT behind it.
+ * How many bytes of a block are enough for an end with this config, wherever the block begins; 0 where a capacity isn't from
+ * 1 to 1,048,576, or `config` is NULL.
+ */
+size_t tcpcore_room(const tcpcore_config *config);
+
+/*
+ * Gives the end up, in any phase, and its block back to the caller, without a word to the peer (tcpcore_abort and
+ * tcpcore_emit come first where it is to hear of it). *end is TCPCORE_END_INIT behind it.
  *   DONE; NO_END (so a second free is refused); NULL; COPIED.
  */
 uint32_t tcpcore_free(tcpcore_end *end);
@@ -261,6 +298,13 @@ uint32_t tcpcore_send(tcpcore_end *end, const void *text, size_t length, size_t 
 uint32_t tcpcore_receive(tcpcore_end *end, void *out, size_t room, size_t *count);
 
 /*
+ * Makes an acknowledgement due, which tells the window as it is now: for a user who has read (4. above). In ESTABLISHED,
+ * FIN-WAIT-1 and FIN-WAIT-2, where the peer may send; in any other phase nothing changes.
+ *   DONE; NO_END; NULL; COPIED.
+ */
+uint32_t tcpcore_acknowledge(tcpcore_end *end);
+
+/*
  * This side has no more to send (RFC 9293, 3.10.4); what is queued still goes out, and the peer may send on. Before the
  * handshake was answered the connection ends as aborted.
  *   DONE; ENDED, NOT_OPEN, CLOSING; NO_END; NULL; COPIED.
@@ -289,11 +333,35 @@ uint32_t tcpcore_timer(tcpcore_end *end, uint32_t timer);
 uint32_t tcpcore_arrive(tcpcore_end *end, tcpcore_addr src, tcpcore_addr dst, const void *bytes, size_t length);
 
 /*
+ * The same, and tells whether the segment has to be answered at once (RFC 5681, 4.2), by emitting what is due: *at_once is
+ * 1 where it came out of order or filled all or part of a gap, had a SYN or a FIN, or wasn't taken and is answered all
+ * the same. Where it is 0 an acknowledgement that is due may wait: for a second segment, and at most half a second.
+ *   As tcpcore_arrive.
+ */
+uint32_t tcpcore_take(tcpcore_end *end, tcpcore_addr src, tcpcore_addr dst, const void *bytes, size_t length, uint32_t *at_once);
+
+/*
  * Writes the segment that is due to `out`, checksum and all (RFC 9293, 3.7, 3.8 and 3.10).
  *   DONE: it takes the first *length bytes of `out`, and is for address *to; more may be due. What lies behind it in `out` stays.
  *   NOT_DUE: none. ROOM: `room` is below TCPCORE_EMIT_ROOM. NO_END; NULL; LENGTH; OVERLAP; COPIED.
  */
 uint32_t tcpcore_emit(tcpcore_end *end, void *out, size_t room, tcpcore_addr *to, size_t *length);
+
+/*
+ * Tells the length of the segment that tcpcore_emit would write now, 0 where none is due.
+ *   DONE; NO_END; NULL; OVERLAP; COPIED.
+ */
+uint32_t tcpcore_pending(const tcpcore_end *end, uint32_t *due);
+
+/*
+ * Writes the reset that answers a segment of `length` bytes which came from `src` to `dst`, where no end has that address
+ * and port (RFC 9293, 3.10.7.1), to `out`: TCPCORE_RESET_ROOM bytes, to be sent from `dst` to `src`. It is what an end in
+ * CLOSED would emit.
+ *   DONE: it is the first *written bytes of `out`. NOT_DUE: nothing answers the bytes, which are a reset or no segment.
+ *   ROOM: `room` is below TCPCORE_RESET_ROOM. NULL; LENGTH; OVERLAP (of `bytes`, `out` and `written`).
+ */
+uint32_t tcpcore_stray_reset(tcpcore_addr src, tcpcore_addr dst, const void *bytes, size_t length, void *out, size_t room,
+                             size_t *written);
 
 /*
  * Which timers have to run: in *due bit 1 << t is set where tcpcore_timer(end, t) would answer DONE.
@@ -302,8 +370,15 @@ uint32_t tcpcore_emit(tcpcore_end *end, void *out, size_t room, tcpcore_addr *to
 uint32_t tcpcore_timers(const tcpcore_end *end, uint32_t *due);
 
 /*
- * Tells phase, ending and counts.
- *   DONE; NO_END; NULL; COPIED.
+ * Tells the peer's address and port: from tcpcore_connect on, or from the SYN on that came in LISTEN, and behind an end of
+ * the connection too.
+ *   DONE; NOT_CONNECTED before; NO_END; NULL; OVERLAP; COPIED.
+ */
+uint32_t tcpcore_peer(const tcpcore_end *end, tcpcore_addr *addr, uint16_t *port);
+
+/*
+ * Tells phase, ending, counts, and what the two SYNs agreed on.
+ *   DONE; NO_END; NULL; OVERLAP; COPIED.
  */
 uint32_t tcpcore_status(const tcpcore_end *end, struct tcpcore_status *status);
 

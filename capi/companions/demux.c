@@ -1,4 +1,4 @@
-/* Many ends at one port (see demux.h). C over tcpcore.h, timers.h and table.h, tested and not proved. */
+/* Many ends at one port (see demux.h). C over tcpcore.h, flow.h and table.h, tested and not proved. */
 #include "demux.h"
 
 /* The control bits (RFC 9293, 3.1). */
@@ -8,9 +8,10 @@ static uint16_t read16(const uint8_t *at) { return (uint16_t)(at[0] << 8 | at[1]
 
 int demux_init(struct demux *demux, const struct demux_config *config, struct table_slot *slots, uint32_t count)
 {
-    if (count < 2 || count == UINT32_MAX || config->backlog == 0)
+    size_t room = tcpcore_room(&config->end);
+    if (count < 2 || count == UINT32_MAX || config->backlog == 0 || room == 0 || config->length / room < count)
         return 0;
-    *demux = (struct demux){.config = *config};
+    *demux = (struct demux){.config = *config, .room = room};
     table_init(&demux->table, slots, count, config->end.port, config->secret);
     return 1;
 }
@@ -22,46 +23,39 @@ static struct tcpcore_status status_of(struct table_slot *slot)
     return status;
 }
 
-/* Emits all that is due. */
+/* Emits all that is due and needn't wait. */
 static void emit(struct demux *demux, struct table_slot *slot, uint64_t now)
 {
     uint8_t segment[TCPCORE_EMIT_ROOM];
     tcpcore_addr to;
     size_t length;
-    while (tcpcore_emit(&slot->end, segment, sizeof segment, &to, &length) == TCPCORE_DONE) {
-        timers_emitted(&slot->timers, segment, length, now);
+    uint64_t resent = slot->flow.resent;
+    while (flow_emit(&slot->flow, &slot->end, segment, sizeof segment, &to, &length, now) == TCPCORE_DONE) {
         demux->config.send(segment, length, to, demux->config.context);
         demux->counters.emitted++;
     }
+    demux->counters.resent += slot->flow.resent - resent;
 }
 
-/* Answers a segment for which there is no end, by an end in CLOSED, or in LISTEN at the own port (RFC 9293,
-   3.10.7.1). */
+/* Answers a segment for which there is no end (RFC 9293, 3.10.7.1); at the own port an end would listen, and answers
+   acknowledgements alone (3.10.7.2). */
 static void stray(struct demux *demux, tcpcore_addr src, const uint8_t *bytes, size_t length, uint64_t now)
 {
-    tcpcore_config config = demux->config.end;
-    tcpcore_end end = TCPCORE_END_INIT;
-    uint8_t out[TCPCORE_EMIT_ROOM];
-    tcpcore_addr to;
-    size_t count;
-    int is_served = read16(bytes + 2) == config.port;
-    config.port = read16(bytes + 2);
-    config.send_capacity = config.recv_capacity = 1;
+    uint8_t reset[TCPCORE_RESET_ROOM];
+    size_t written;
+    int is_served = read16(bytes + 2) == demux->config.end.port;
     if (demux->second != now / 1000)
         demux->second = now / 1000, demux->answered = 0;
-    if (demux->answered >= demux->config.strays || tcpcore_new(&end, &config) != TCPCORE_DONE) {
+    if ((is_served && !(bytes[13] & ACK)) ||
+        tcpcore_stray_reset(src, demux->config.end.addr, bytes, length, reset, sizeof reset, &written) != TCPCORE_DONE)
+        return;
+    if (demux->answered >= demux->config.strays) {
         demux->counters.withheld++;
         return;
     }
-    if (is_served)
-        tcpcore_listen(&end);
-    tcpcore_arrive(&end, src, config.addr, bytes, length);
-    if (tcpcore_emit(&end, out, sizeof out, &to, &count) == TCPCORE_DONE) {
-        demux->config.send(out, count, to, demux->config.context);
-        demux->counters.strays++;
-        demux->answered++;
-    }
-    tcpcore_free(&end);
+    demux->config.send(reset, written, src, demux->config.context);
+    demux->counters.strays++;
+    demux->answered++;
 }
 
 /* Where there are too many half-open ends, or no slot is free, the oldest of them makes way (RFC 4987, 3.4). */
@@ -77,6 +71,12 @@ static void keep_limits(struct demux *demux, struct table_slot *newest)
     table_remove(&demux->table, oldest ? oldest : newest);
 }
 
+/* The block of a slot's end. */
+static void *block_of(struct demux *demux, struct table_slot *slot)
+{
+    return (uint8_t *)demux->config.memory + demux->room * (size_t)(slot - demux->table.slots);
+}
+
 /* Makes an end for a SYN (RFC 9293, 3.10.7.2). Its ISN is the time in units of 4 microseconds and the secret
    (3.4.1). */
 static void open_end(struct demux *demux, tcpcore_addr src, const uint8_t *bytes, size_t length, uint64_t now)
@@ -85,7 +85,7 @@ static void open_end(struct demux *demux, tcpcore_addr src, const uint8_t *bytes
     tcpcore_config config = demux->config.end;
     uint16_t port = read16(bytes);
     config.isn = (uint32_t)(250 * now + table_secret(&demux->table, src, port));
-    if (tcpcore_new(&slot->end, &config) != TCPCORE_DONE) {
+    if (tcpcore_new(&slot->end, &config, block_of(demux, slot), demux->room) != TCPCORE_DONE) {
         demux->counters.full++;
         return;
     }
@@ -95,25 +95,23 @@ static void open_end(struct demux *demux, tcpcore_addr src, const uint8_t *bytes
         demux->counters.malformed++;
         return;
     }
-    timers_init(&slot->timers, &demux->config.rules);
+    flow_init(&slot->flow, &config, &demux->config.rules, demux->config.delay);
     table_add(&demux->table, src, port, now);
     demux->counters.opened++;
     keep_limits(demux, slot);
 }
 
-/* Hands a segment to its end. What isn't the next text alone is answered at once (RFC 5681, 4.2). */
+/* Hands a segment to its end. */
 static void deal(struct demux *demux, struct table_slot *slot, const uint8_t *bytes, size_t length, uint64_t now)
 {
-    uint64_t before = status_of(slot).next, text = length - 4 * (size_t)(bytes[12] >> 4);
-    uint32_t answer = tcpcore_arrive(&slot->end, slot->peer, demux->config.end.addr, bytes, length);
+    tcpcore_addr own = demux->config.end.addr;
+    uint32_t answer = flow_arrive(&slot->flow, &slot->end, slot->peer, own, bytes, length, now);
     if (answer >= TCPCORE_TOO_SHORT && answer <= TCPCORE_BAD_PADDING) {
         demux->counters.malformed++;
         return;
     }
-    if (answer == TCPCORE_DONE)
-        timers_arrived(&slot->timers, bytes, length, now);
     slot->touched = 1;
-    if (status_of(slot).next - before != text)
+    if (slot->flow.is_urgent)
         emit(demux, slot, now);
 }
 
@@ -149,17 +147,17 @@ static void reap(struct demux *demux, struct table_slot *slot)
 static void turn(struct demux *demux, struct table_slot *slot, uint64_t now)
 {
     slot->touched = 0;
-    if (timers_run(&slot->timers, &slot->end, now) & TIMERS_GAVE_UP)
+    if (flow_run(&slot->flow, &slot->end, now) & TIMERS_GAVE_UP)
         demux->counters.gave_up++;
-    if (slot->is_half_open && slot->timers.phase >= TCPCORE_PHASE_ESTABLISHED) {
+    if (slot->is_half_open && slot->flow.timers.phase >= TCPCORE_PHASE_ESTABLISHED) {
         table_accept(&demux->table, slot);
         demux->counters.accepted++;
     }
     if (!slot->is_half_open)
         demux->config.use(slot, demux->config.context);
     emit(demux, slot, now);
-    timers_run(&slot->timers, &slot->end, now);
-    if (slot->timers.phase == TCPCORE_PHASE_CLOSED)
+    flow_run(&slot->flow, &slot->end, now);
+    if (slot->flow.timers.phase == TCPCORE_PHASE_CLOSED)
         reap(demux, slot);
 }
 
@@ -167,7 +165,7 @@ void demux_turn(struct demux *demux, uint64_t now)
 {
     struct table_slot *slots = demux->table.slots;
     for (struct table_slot *slot = slots; slot < slots + demux->table.count; slot++)
-        if (slot->is_used && (slot->touched || timers_wait(&slot->timers, now) == 0))
+        if (slot->is_used && (slot->touched || flow_wait(&slot->flow, now) == 0))
             turn(demux, slot, now);
 }
 
@@ -176,7 +174,7 @@ int demux_wait(const struct demux *demux, uint64_t now)
     const struct table_slot *slots = demux->table.slots;
     int least = -1;
     for (const struct table_slot *slot = slots; slot < slots + demux->table.count; slot++) {
-        int wait = !slot->is_used ? -1 : slot->touched ? 0 : timers_wait(&slot->timers, now);
+        int wait = !slot->is_used ? -1 : slot->touched ? 0 : flow_wait(&slot->flow, now);
         if (wait >= 0 && (least < 0 || wait < least))
             least = wait;
     }

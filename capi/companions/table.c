@@ -1,4 +1,4 @@
-/* The ends of one port (see table.h). C over tcpcore.h and timers.h, tested and not proved. */
+/* The ends of one port (see table.h). C over tcpcore.h and flow.h, tested and not proved. */
 #include "table.h"
 
 #include <string.h>

@@ -1,18 +1,18 @@
 /*
  * table.h: the ends of one port by their peers' addresses and ports, in slots of the caller's. demux.h stands on it.
  *
- * This is C over tcpcore.h and timers.h, tested and not proved. A peer can't choose who shares its list, since that
+ * This is C over tcpcore.h and flow.h, tested and not proved. A peer can't choose who shares its list, since that
  * is up to a secret; the same secret goes into the initial sequence numbers (RFC 9293, 3.4.1).
  */
 #ifndef TCPCORE_TABLE_H
 #define TCPCORE_TABLE_H
 
-#include "timers.h"
+#include "flow.h"
 
 /* One end and what belongs to it. The caller may read all fields, write `user`, and set `touched`. */
 struct table_slot {
     tcpcore_end end;
-    struct timers timers;
+    struct flow flow;       /* its times, and what it may send */
     tcpcore_addr peer;      /* the peer's address */
     uint16_t port;          /* the peer's port */
     uint8_t is_used;        /* whether an end is in the slot */

@@ -32,7 +32,19 @@ static uint32_t read32(const uint8_t *at)
 /* Whether sequence number `a` comes before `b` (RFC 9293, 3.4). */
 static int comes_before(uint32_t a, uint32_t b) { return a != b && b - a < UINT32_C(1) << 31; }
 
-void timers_emitted(struct timers *timers, const void *segment, size_t length, uint64_t now)
+/* How long a timer takes, in milliseconds. Reordering is given one round trip, or the timeout where none was
+   measured. */
+static uint64_t span(const struct timers *timers, uint32_t timer)
+{
+    uint32_t trip = (timers->srtt + 999) / 1000, least = timers->rules.granularity;
+    if (timer == TCPCORE_TIMER_RETRANSMIT)
+        return timers->rto;
+    if (timer == TCPCORE_TIMER_TIME_WAIT)
+        return timers->rules.time_wait;
+    return timers->samples == 0 ? timers->rto : trip > least ? trip : least;
+}
+
+int timers_emitted(struct timers *timers, const void *segment, size_t length, uint64_t now)
 {
     const uint8_t *bytes = segment;
     uint8_t flags = bytes[13];
@@ -41,7 +53,7 @@ void timers_emitted(struct timers *timers, const void *segment, size_t length, u
     if (timers->phase == TCPCORE_PHASE_TIME_WAIT)
         timers->deadline[TCPCORE_TIMER_TIME_WAIT] = now + timers->rules.time_wait;
     if (flags & RST || numbers == 0)
-        return;
+        return 0;
     if (flags & SYN && !timers->has_isn) {
         timers->has_isn = 1;
         timers->isn = timers->highest = first;
@@ -51,10 +63,13 @@ void timers_emitted(struct timers *timers, const void *segment, size_t length, u
         timers->highest = first + numbers;
     if (!is_new) {
         timers->timed_at = TIMERS_NEVER;
+        if (timers->deadline[TCPCORE_TIMER_REORDER] != TIMERS_NEVER)
+            timers->deadline[TCPCORE_TIMER_REORDER] = now + span(timers, TCPCORE_TIMER_REORDER);
     } else if (timers->timed_at == TIMERS_NEVER) {
         timers->timed = timers->highest;
         timers->timed_at = now;
     }
+    return !is_new;
 }
 
 /* The time towards R2 starts anew. */
@@ -108,18 +123,6 @@ static void progress(struct timers *timers, uint64_t una, uint64_t now)
     begin_anew(timers, now);
 }
 
-/* How long a timer takes, in milliseconds. Reordering is given one round trip, or the timeout where none was
-   measured. */
-static uint64_t span(const struct timers *timers, uint32_t timer)
-{
-    uint32_t trip = (timers->srtt + 999) / 1000, least = timers->rules.granularity;
-    if (timer == TCPCORE_TIMER_RETRANSMIT)
-        return timers->rto;
-    if (timer == TCPCORE_TIMER_TIME_WAIT)
-        return timers->rules.time_wait;
-    return timers->samples == 0 ? timers->rto : trip > least ? trip : least;
-}
-
 /* Starts and stops the timers as the end says. */
 static void follow(struct timers *timers, tcpcore_end *end, uint64_t now)
 {
@@ -159,7 +162,7 @@ static uint32_t retransmit(struct timers *timers, tcpcore_end *end, uint64_t now
     timers->resent++;
     timers->rto = timers->rto < timers->rules.greatest_rto / 2 ? 2 * timers->rto : timers->rules.greatest_rto;
     tcpcore_timer(end, TCPCORE_TIMER_RETRANSMIT);
-    return timers->resent < timers->rules.r1 ? TIMERS_RAN : TIMERS_RAN | TIMERS_SUSPECT;
+    return TIMERS_RAN | TIMERS_TIMED_OUT | (timers->resent < timers->rules.r1 ? 0 : TIMERS_SUSPECT);
 }
 
 uint32_t timers_run(struct timers *timers, tcpcore_end *end, uint64_t now)
@@ -172,7 +175,7 @@ uint32_t timers_run(struct timers *timers, tcpcore_end *end, uint64_t now)
         if (timer == TCPCORE_TIMER_RETRANSMIT)
             found |= retransmit(timers, end, now);
         else if (tcpcore_timer(end, timer) == TCPCORE_DONE)
-            found |= TIMERS_RAN;
+            found |= timer == TCPCORE_TIMER_REORDER ? TIMERS_RAN | TIMERS_LOST : TIMERS_RAN;
         timers->deadline[timer] = now + span(timers, timer);
     }
     if (found)

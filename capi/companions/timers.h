@@ -37,7 +37,9 @@ extern const struct timers_rules TIMERS_RULES;
 enum {
     TIMERS_RAN = 1,     /* a timer ran out and its rule was applied: emit */
     TIMERS_SUSPECT = 2, /* a segment was resent r1 times or more: the path to the peer may be dead (RFC 9293, 3.8.3) */
-    TIMERS_GAVE_UP = 4  /* a limit was reached, and the end was aborted: emit its reset */
+    TIMERS_GAVE_UP = 4, /* a limit was reached, and the end was aborted: emit its reset */
+    TIMERS_TIMED_OUT = 8, /* of those that ran out one was Retransmit */
+    TIMERS_LOST = 16    /* one was Reorder: segments were lost */
 };
 
 /* The timers of one end. Its fields are read and not written by the caller. */
@@ -63,10 +65,11 @@ void timers_init(struct timers *timers, const struct timers_rules *rules);
 
 /*
  * A segment of `length` bytes was emitted. New text is timed, one segment at a time; where anything is sent again
- * nothing is, since its acknowledgement wouldn't tell which one it answers (Karn's rule: RFC 6298, 3). In TIME-WAIT
- * an emission answers the peer's FIN and starts that time anew (RFC 9293, 3.10.7.4).
+ * nothing is, since its acknowledgement wouldn't tell which one it answers (Karn's rule: RFC 6298, 3), and reordering
+ * is given a round trip more, in which the peer can tell that it came. In TIME-WAIT an emission answers the peer's FIN
+ * and starts that time anew (RFC 9293, 3.10.7.4). Answers whether the segment was sent again.
  */
-void timers_emitted(struct timers *timers, const void *segment, size_t length, uint64_t now);
+int timers_emitted(struct timers *timers, const void *segment, size_t length, uint64_t now);
 
 /*
  * A segment of `length` bytes has come, and tcpcore_arrive answered TCPCORE_DONE. A peer that answers with a shut

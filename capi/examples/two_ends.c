@@ -7,6 +7,7 @@
 struct side {
     const char *name;
     tcpcore_end end;
+    void *memory; /* all that the end will ever use */
     tcpcore_addr addr;
     const char *text; /* what its user sends */
     size_t length;
@@ -31,7 +32,8 @@ static void make(struct side *side, uint16_t port, uint32_t isn)
     tcpcore_config config = {
         .addr = side->addr, .port = port, .mss = 64, .isn = isn, .send_capacity = 4096, .recv_capacity = 4096,
         .limit = TCPCORE_LIMIT, .sack = 1};
-    need("new", tcpcore_new(&side->end, &config));
+    side->memory = malloc(tcpcore_room(&config));
+    need("new", tcpcore_new(&side->end, &config, side->memory, side->memory ? tcpcore_room(&config) : 0));
 }
 
 static struct tcpcore_status status(struct side *side)
@@ -102,6 +104,7 @@ static void tell(struct side *side)
     printf("%s: phase %u, ending %u, %llu bytes acknowledged, %llu received\n", side->name, told.phase, told.ending,
            (unsigned long long)told.released, (unsigned long long)told.ordered);
     need("free", tcpcore_free(&side->end));
+    free(side->memory);
 }
 
 int main(void)

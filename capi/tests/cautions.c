@@ -26,7 +26,9 @@ static void make(tcpcore_end *end, tcpcore_addr addr, uint16_t port, size_t capa
 {
     tcpcore_config config = {.addr = addr, .port = port, .mss = 1460, .isn = port, .send_capacity = 1000,
                              .recv_capacity = capacity, .limit = TCPCORE_LIMIT, .window_shift = shift, .scales = 1};
-    need("new", tcpcore_new(end, &config));
+    static unsigned char blocks[3][TCPCORE_MEMORY(1000, 1 << 20)];
+    void *block = blocks[end == &server ? 0 : end == &client ? 1 : 2];
+    need("new", tcpcore_new(end, &config, block, sizeof *blocks));
 }
 
 static struct segment due(tcpcore_end *end)

@@ -66,12 +66,22 @@ static void layout(void)
     FIELD(struct tcpcore_status, ordered);
     FIELD(struct tcpcore_status, una);
     FIELD(struct tcpcore_status, next);
+    FIELD(struct tcpcore_status, room);
+    FIELD(struct tcpcore_status, queued);
+    FIELD(struct tcpcore_status, in_flight);
+    FIELD(struct tcpcore_status, mss);
+    FIELD(struct tcpcore_status, own_shift);
+    FIELD(struct tcpcore_status, peer_shift);
+    FIELD(struct tcpcore_status, scaling);
+    FIELD(struct tcpcore_status, sack);
+    FIELD(struct tcpcore_status, reserved);
     printf(" of %zu\n", sizeof(struct tcpcore_status));
 }
 
 static void make(struct side *side)
 {
-    need("new", tcpcore_new(&side->end, &side->config));
+    static unsigned char blocks[2][TCPCORE_MEMORY(3000, 5001)];
+    need("new", tcpcore_new(&side->end, &side->config, blocks[side == &b], sizeof *blocks));
 }
 
 static unsigned int word(const unsigned char *at)
@@ -135,6 +145,29 @@ static void tell(const struct side *side)
            (unsigned long long)told.ordered, (unsigned long long)told.una, (unsigned long long)told.next, due);
 }
 
+/* Whom it speaks with, what it keeps for the peer, what is due, and what the SYNs agreed on. */
+static void tell_more(const struct side *side)
+{
+    struct tcpcore_status told;
+    tcpcore_addr addr;
+    uint16_t port;
+    uint32_t due;
+    uint32_t answer = tcpcore_peer(&side->end, &addr, &port);
+    need("status", tcpcore_status(&side->end, &told));
+    need("pending", tcpcore_pending(&side->end, &due));
+    if (answer == TCPCORE_DONE)
+        printf("%s: peer %d.%d.%d.%d port %u", side->name, addr.byte[0], addr.byte[1], addr.byte[2], addr.byte[3], port);
+    else
+        printf("%s: %s", side->name, tcpcore_strerror(answer));
+    printf(", room %llu, queued %llu, in flight %llu, due %u", (unsigned long long)told.room,
+           (unsigned long long)told.queued, (unsigned long long)told.in_flight, due);
+    printf(", mss %u, shifts %u and %u, scaling %u, sack %u\n", told.mss, told.own_shift, told.peer_shift, told.scaling,
+           told.sack);
+    for (size_t i = 0; i < sizeof told.reserved / sizeof *told.reserved; i++)
+        if (told.reserved[i] != 0)
+            printf("reserved word %zu isn't 0\n", i);
+}
+
 static void offer(struct side *side, size_t length)
 {
     static const unsigned char text[5000];
@@ -190,6 +223,85 @@ static void transfer(void)
     carry(&a, &b);
 }
 
+/* One segment of `from` arrives at `to`, or is lost: its length, and whether it has to be answered at once. */
+struct segment {
+    unsigned char bytes[TCPCORE_EMIT_ROOM];
+    size_t length;
+    tcpcore_addr dst;
+};
+
+static struct segment emitted(struct side *from)
+{
+    struct segment segment;
+    need("emit", tcpcore_emit(&from->end, segment.bytes, sizeof segment.bytes, &segment.dst, &segment.length));
+    return segment;
+}
+
+static void hand(const struct side *from, struct side *to, const struct segment *segment)
+{
+    uint32_t at_once;
+    uint32_t answer = tcpcore_take(&to->end, from->config.addr, segment->dst, segment->bytes, segment->length, &at_once);
+    printf("%s takes %zu bytes: %s, %s\n", to->name, segment->length, tcpcore_strerror(answer),
+           at_once ? "at once" : "may wait");
+}
+
+/* Two ends that agree on all that can be agreed on. The second of three texts comes last, and one comes again. */
+static void agree(void)
+{
+    a.config.sack = b.config.scales = 1;
+    make(&a);
+    make(&b);
+    tell_more(&a);
+    need("listen", tcpcore_listen(&b.end));
+    tell_more(&b);
+    need("connect", tcpcore_connect(&a.end, b.config.addr, b.config.port));
+    tell_more(&a);
+    struct segment syn = emitted(&a);
+    hand(&a, &b, &syn);
+    tell_more(&b);
+    struct segment answer = emitted(&b);
+    hand(&b, &a, &answer);
+    tell_more(&a);
+    carry(&a, &b);
+    offer(&a, 3000);
+    struct segment first = emitted(&a), second = emitted(&a), third = emitted(&a);
+    tell_more(&a);
+    hand(&a, &b, &first);
+    hand(&a, &b, &third);
+    hand(&a, &b, &second);
+    hand(&a, &b, &second);
+    tell_more(&b);
+    carry(&b, &a);
+    tell_more(&a);
+    take(&b, 100);
+    tell_more(&b);
+    need("acknowledge", tcpcore_acknowledge(&b.end));
+    carry(&b, &a);
+    need("close", tcpcore_close(&a.end));
+    struct segment fin = emitted(&a);
+    hand(&a, &b, &fin);
+}
+
+/* A segment for which there is no end, and its reset. */
+static void stray(void)
+{
+    unsigned char out[TCPCORE_RESET_ROOM], again[TCPCORE_RESET_ROOM];
+    size_t written;
+    make(&a);
+    need("connect", tcpcore_connect(&a.end, b.config.addr, b.config.port));
+    struct segment syn = emitted(&a);
+    uint32_t answer = tcpcore_stray_reset(a.config.addr, syn.dst, syn.bytes, syn.length, out, sizeof out, &written);
+    printf("stray SYN: %s, %zu bytes, ports %u and %u, number %u, acknowledges %u, flags %d\n", tcpcore_strerror(answer),
+           written, word(out), word(out + 2), word(out + 4) << 16 | word(out + 6), word(out + 8) << 16 | word(out + 10),
+           out[13]);
+    answer = tcpcore_stray_reset(b.config.addr, a.config.addr, out, written, again, sizeof again, &written);
+    printf("stray reset: %s, %zu bytes\n", tcpcore_strerror(answer), written);
+    need("arrive", tcpcore_arrive(&a.end, b.config.addr, a.config.addr, out, sizeof out));
+    tell(&a);
+    tell_more(&a);
+    need("free", tcpcore_free(&a.end));
+}
+
 static void close_both(void)
 {
     need("close", tcpcore_close(&a.end));
@@ -229,5 +341,8 @@ int main(void)
     carry(&a, &b);
     tell(&b);
     free_both();
+    agree();
+    free_both();
+    stray();
     return 0;
 }

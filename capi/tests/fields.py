@@ -6,7 +6,12 @@ import sys
 
 sys.path.insert(0, os.path.dirname(os.path.dirname(os.path.realpath(__file__))))
 import tcpcore  # noqa: E402
-from tcpcore import DONE, TIME_WAIT, Config, End, Refused, strerror  # noqa: E402
+from tcpcore import DONE, NOT_CONNECTED, NOT_DUE, TIME_WAIT, Config, End, Refused, stray_reset, strerror  # noqa: E402
+
+
+def dotted(addr):
+    return ".".join(map(str, addr))
+
 
 
 class Side:
@@ -21,6 +26,15 @@ class Side:
         print(
             f"{self.name}: {told.phase}, {told.ending}, unread {told.unread}, released {told.released}, "
             f"ordered {told.ordered}, una {told.una}, next {told.next}, timers {self.end.timers()}"
+        )
+
+    def tell_more(self):
+        told, peer = self.end.status(), self.end.peer()
+        known = f"peer {dotted(peer[0])} port {peer[1]}" if peer else strerror(NOT_CONNECTED)
+        print(
+            f"{self.name}: {known}, room {told.room}, queued {told.queued}, in flight {told.in_flight}, "
+            f"due {self.end.pending()}, mss {told.mss}, shifts {told.own_shift} and {told.peer_shift}, "
+            f"scaling {told.scaling}, sack {told.sack}"
         )
 
     def offer(self, length):
@@ -69,7 +83,7 @@ def first_syn(side, peer):
     side.end.connect(peer.config.addr, peer.config.port)
     to, out = side.end.emit()
     print(
-        f"SYN of {side.name}: to {'.'.join(map(str, to))}, ports {word(out, 0)} and {word(out, 2)}, "
+        f"SYN of {side.name}: to {dotted(to)}, ports {word(out, 0)} and {word(out, 2)}, "
         f"number {word(out, 4) << 16 | word(out, 6)}, window {word(out, 14)}{options(out)}"
     )
     side.end.free()
@@ -137,6 +151,57 @@ def close_both(a, b):
     a.tell()
 
 
+def hand(source, target, segment):
+    answer, at_once = target.end.take(source.config.addr, *segment)
+    print(f"{target.name} takes {len(segment[1])} bytes: {strerror(answer)}, {'at once' if at_once else 'may wait'}")
+
+
+def agree(a, b):
+    a.make()
+    b.make()
+    a.tell_more()
+    b.end.listen()
+    b.tell_more()
+    a.end.connect(b.config.addr, b.config.port)
+    a.tell_more()
+    hand(a, b, a.end.emit())
+    b.tell_more()
+    hand(b, a, b.end.emit())
+    a.tell_more()
+    carry(a, b)
+    a.offer(3000)
+    first, second, third = a.end.emit(), a.end.emit(), a.end.emit()
+    a.tell_more()
+    for segment in (first, third, second, second):
+        hand(a, b, segment)
+    b.tell_more()
+    carry(b, a)
+    a.tell_more()
+    b.take(100)
+    b.tell_more()
+    b.end.acknowledge()
+    carry(b, a)
+    a.end.close()
+    hand(a, b, a.end.emit())
+
+
+def stray(a, b):
+    a.make()
+    a.end.connect(b.config.addr, b.config.port)
+    dst, syn = a.end.emit()
+    out = stray_reset(a.config.addr, dst, syn)
+    print(
+        f"stray SYN: {strerror(DONE)}, {len(out)} bytes, ports {word(out, 0)} and {word(out, 2)}, "
+        f"number {word(out, 4) << 16 | word(out, 6)}, acknowledges {word(out, 8) << 16 | word(out, 10)}, flags {out[13]}"
+    )
+    again = stray_reset(b.config.addr, a.config.addr, out)
+    print(f"stray reset: {strerror(NOT_DUE if again is None else DONE)}, {len(again or b'')} bytes")
+    a.end.arrive(b.config.addr, a.config.addr, out)
+    a.tell()
+    a.tell_more()
+    a.end.free()
+
+
 def free_both(a, b):
     a.end.free()
     b.end.free()
@@ -158,6 +223,11 @@ def main():
     carry(a, b)
     b.tell()
     free_both(a, b)
+    a.config = a.config._replace(sack=1)
+    b.config = b.config._replace(window_shift=5)
+    agree(a, b)
+    free_both(a, b)
+    stray(a, b)
 
 
 if __name__ == "__main__":

@@ -28,6 +28,14 @@ static tcpcore_config good_config(tcpcore_addr addr)
         .sack = 1};
 }
 
+static unsigned char block[TCPCORE_MEMORY(1000, 1000)];
+
+/* An end in the block. Each row frees its end before the next one is made. */
+static uint32_t make(tcpcore_end *end, const tcpcore_config *config)
+{
+    return tcpcore_new(end, config, block, sizeof block);
+}
+
 static int is_empty(const tcpcore_end *end)
 {
     static const tcpcore_end EMPTY = TCPCORE_END_INIT;
@@ -42,7 +50,10 @@ static void every_call(tcpcore_end *end, uint32_t wanted)
     size_t count = 7;
     uint32_t due = 7;
     tcpcore_addr to = {{7, 7, 7, 7}};
-    struct tcpcore_status status = {7, 7, 7, 7, 7, 7, 7};
+    uint32_t at_once = 7;
+    uint16_t port = 7;
+    struct tcpcore_status status;
+    memset(&status, 7, sizeof status);
     CHECK(tcpcore_connect(end, THERE, 9), wanted);
     CHECK(tcpcore_listen(end), wanted);
     CHECK(tcpcore_send(end, "abc", 3, &count), wanted);
@@ -50,18 +61,30 @@ static void every_call(tcpcore_end *end, uint32_t wanted)
     count = 7;
     CHECK(tcpcore_receive(end, buffer, sizeof buffer, &count), wanted);
     CHECK(count, 0);
+    CHECK(tcpcore_acknowledge(end), wanted);
     CHECK(tcpcore_close(end), wanted);
     CHECK(tcpcore_abort(end), wanted);
     CHECK(tcpcore_timer(end, TCPCORE_TIMER_RETRANSMIT), wanted);
     CHECK(tcpcore_arrive(end, THERE, HERE, "short", 5), wanted);
+    CHECK(tcpcore_take(end, THERE, HERE, "short", 5, &at_once), wanted);
+    CHECK(at_once, 0);
     count = 7;
     CHECK(tcpcore_emit(end, buffer, sizeof buffer, &to, &count), wanted);
     CHECK(count, 0);
     CHECK(memcmp(&to, &NOWHERE, sizeof to), 0);
     CHECK(tcpcore_timers(end, &due), wanted);
     CHECK(due, 0);
+    due = 7;
+    CHECK(tcpcore_pending(end, &due), wanted);
+    CHECK(due, 0);
+    to = THERE;
+    CHECK(tcpcore_peer(end, &to, &port), wanted);
+    CHECK(memcmp(&to, &NOWHERE, sizeof to), 0);
+    CHECK(port, 0);
     CHECK(tcpcore_status(end, &status), wanted);
-    CHECK(status.phase + status.ending + status.unread + status.released + status.ordered + status.una + status.next, 0);
+    for (size_t i = 0; i < sizeof status; i++)
+        if (((const unsigned char *)&status)[i] != 0)
+            CHECK(((const unsigned char *)&status)[i], 0);
     for (size_t i = 0; i < sizeof buffer; i++)
         if (buffer[i] != 0xee)
             CHECK(buffer[i], 0xee);
@@ -85,10 +108,13 @@ static void null_pointers(void)
     unsigned char buffer[TCPCORE_EMIT_ROOM];
     size_t count;
     tcpcore_addr to;
-    CHECK(tcpcore_new(NULL, &config), TCPCORE_NULL);
-    CHECK(tcpcore_new(&end, NULL), TCPCORE_NULL);
+    CHECK(make(NULL, &config), TCPCORE_NULL);
+    CHECK(make(&end, NULL), TCPCORE_NULL);
+    CHECK(tcpcore_new(&end, &config, NULL, sizeof block), TCPCORE_NULL);
+    CHECK(tcpcore_new(&end, &config, NULL, 0), TCPCORE_NO_MEMORY);
+    CHECK(tcpcore_room(NULL), 0);
     CHECK(is_empty(&end), 1);
-    CHECK(tcpcore_new(&end, &config), TCPCORE_DONE);
+    CHECK(make(&end, &config), TCPCORE_DONE);
     CHECK(tcpcore_listen(&end), TCPCORE_DONE);
     count = 7;
     CHECK(tcpcore_send(&end, NULL, 3, &count), TCPCORE_NULL);
@@ -107,6 +133,19 @@ static void null_pointers(void)
     CHECK(tcpcore_emit(&end, buffer, sizeof buffer, &to, NULL), TCPCORE_NULL);
     CHECK(tcpcore_timers(&end, NULL), TCPCORE_NULL);
     CHECK(tcpcore_status(&end, NULL), TCPCORE_NULL);
+    uint32_t at_once = 7;
+    CHECK(tcpcore_take(&end, THERE, HERE, NULL, 20, &at_once), TCPCORE_NULL);
+    CHECK(at_once, 0);
+    CHECK(tcpcore_take(&end, THERE, HERE, buffer, 20, NULL), TCPCORE_NULL);
+    CHECK(tcpcore_take(&end, THERE, HERE, NULL, 0, &at_once), TCPCORE_TOO_SHORT);
+    CHECK(tcpcore_pending(&end, NULL), TCPCORE_NULL);
+    uint16_t port = 7;
+    CHECK(tcpcore_peer(&end, NULL, &port), TCPCORE_NULL);
+    CHECK(port, 0);
+    to = THERE;
+    CHECK(tcpcore_peer(&end, &to, NULL), TCPCORE_NULL);
+    CHECK(memcmp(&to, &NOWHERE, sizeof to), 0);
+    CHECK(tcpcore_peer(&end, &to, &port), TCPCORE_NOT_CONNECTED);
     CHECK(tcpcore_free(&end), TCPCORE_DONE);
 }
 
@@ -121,7 +160,7 @@ static void garbage(void)
             end.opaque[i] = word = word * 6364136223846793005u + 1442695040888963407u;
         tcpcore_end before = end;
         every_call(&end, TCPCORE_COPIED);
-        CHECK(tcpcore_new(&end, &config), TCPCORE_COPIED);
+        CHECK(make(&end, &config), TCPCORE_COPIED);
         CHECK(tcpcore_free(&end), TCPCORE_COPIED);
         CHECK(memcmp(&end, &before, sizeof end), 0);
         /* The own address by chance, and no mark. */
@@ -139,10 +178,10 @@ static void copies(void)
 {
     tcpcore_end end = TCPCORE_END_INIT, copy;
     tcpcore_config config = good_config(HERE);
-    CHECK(tcpcore_new(&end, &config), TCPCORE_DONE);
+    CHECK(make(&end, &config), TCPCORE_DONE);
     copy = end;
     every_call(&copy, TCPCORE_COPIED);
-    CHECK(tcpcore_new(&copy, &config), TCPCORE_COPIED);
+    CHECK(make(&copy, &config), TCPCORE_COPIED);
     CHECK(tcpcore_free(&copy), TCPCORE_COPIED);
     copy.opaque[2] = 0;
     every_call(&copy, TCPCORE_COPIED);
@@ -160,9 +199,9 @@ static void lifetimes(void)
     tcpcore_config config = good_config(HERE);
     struct tcpcore_status status;
     for (int turn = 0; turn < 3; turn++) {
-        CHECK(tcpcore_new(&end, &config), TCPCORE_DONE);
+        CHECK(make(&end, &config), TCPCORE_DONE);
         CHECK(tcpcore_listen(&end), TCPCORE_DONE);
-        CHECK(tcpcore_new(&end, &config), TCPCORE_IN_USE);
+        CHECK(make(&end, &config), TCPCORE_IN_USE);
         CHECK(tcpcore_status(&end, &status), TCPCORE_DONE);
         CHECK(status.phase, TCPCORE_PHASE_LISTEN);
         CHECK(tcpcore_free(&end), TCPCORE_DONE);
@@ -179,28 +218,31 @@ static void configs(void)
     size_t capacities[] = {0, 1048577, SIZE_MAX};
     for (int i = 0; i < 3; i++) {
         config.send_capacity = capacities[i];
-        CHECK(tcpcore_new(&end, &config), TCPCORE_BAD_CAPACITY);
+        CHECK(make(&end, &config), TCPCORE_BAD_CAPACITY);
+        CHECK(tcpcore_new(&end, &config, block, 0), TCPCORE_BAD_CAPACITY);
+        CHECK(tcpcore_room(&config), 0);
         config.send_capacity = 1000;
         config.recv_capacity = capacities[i];
-        CHECK(tcpcore_new(&end, &config), TCPCORE_BAD_CAPACITY);
+        CHECK(make(&end, &config), TCPCORE_BAD_CAPACITY);
+        CHECK(tcpcore_room(&config), 0);
         config.recv_capacity = 1000;
     }
     config.mss = 63;
-    CHECK(tcpcore_new(&end, &config), TCPCORE_BAD_MSS);
+    CHECK(make(&end, &config), TCPCORE_BAD_MSS);
     config.mss = 1461;
-    CHECK(tcpcore_new(&end, &config), TCPCORE_BAD_MSS);
+    CHECK(make(&end, &config), TCPCORE_BAD_MSS);
     config.mss = 64;
     config.window_shift = 15;
     config.scales = 200;
-    CHECK(tcpcore_new(&end, &config), TCPCORE_BAD_SHIFT);
+    CHECK(make(&end, &config), TCPCORE_BAD_SHIFT);
     CHECK(is_empty(&end), 1);
     config.scales = 0; /* the shift isn't looked at */
     config.limit = 0;
-    CHECK(tcpcore_new(&end, &config), TCPCORE_BAD_LIMIT);
+    CHECK(make(&end, &config), TCPCORE_BAD_LIMIT);
     config.limit = (UINT64_C(1) << 62) + 1;
-    CHECK(tcpcore_new(&end, &config), TCPCORE_BAD_LIMIT);
+    CHECK(make(&end, &config), TCPCORE_BAD_LIMIT);
     config.limit--;
-    CHECK(tcpcore_new(&end, &config), TCPCORE_DONE);
+    CHECK(make(&end, &config), TCPCORE_DONE);
     CHECK(tcpcore_free(&end), TCPCORE_DONE);
 }
 
@@ -212,12 +254,17 @@ static void numbers(void)
     unsigned char buffer[TCPCORE_EMIT_ROOM] = {0};
     size_t count = 7;
     tcpcore_addr to = NOWHERE;
-    CHECK(tcpcore_new(&end, &config), TCPCORE_DONE);
+    CHECK(tcpcore_new(&end, &config, block, HUGE_LENGTH), TCPCORE_LENGTH);
+    CHECK(is_empty(&end), 1);
+    CHECK(make(&end, &config), TCPCORE_DONE);
     CHECK(tcpcore_connect(&end, THERE, 9), TCPCORE_DONE);
     CHECK(tcpcore_send(&end, buffer, HUGE_LENGTH, &count), TCPCORE_LENGTH);
     CHECK(tcpcore_receive(&end, buffer, SIZE_MAX, &count), TCPCORE_LENGTH);
     CHECK(tcpcore_arrive(&end, THERE, HERE, buffer, HUGE_LENGTH), TCPCORE_LENGTH);
     CHECK(tcpcore_emit(&end, buffer, SIZE_MAX, &to, &count), TCPCORE_LENGTH);
+    uint32_t at_once = 7;
+    CHECK(tcpcore_take(&end, THERE, HERE, buffer, HUGE_LENGTH, &at_once), TCPCORE_LENGTH);
+    CHECK(at_once, 0);
     CHECK(count, 0);
     count = 7;
     CHECK(tcpcore_emit(&end, buffer, TCPCORE_EMIT_ROOM - 1, &to, &count), TCPCORE_ROOM);
@@ -250,17 +297,26 @@ static void overlaps(void)
     tcpcore_config config = good_config(HERE);
     union {
         size_t count;
+        uint32_t at_once;
+        uint16_t port;
         tcpcore_addr to;
         unsigned char bytes[TCPCORE_EMIT_ROOM];
     } shared = {.bytes = {0}};
     size_t count = 7;
     tcpcore_addr to = NOWHERE;
-    CHECK(tcpcore_new(&place.end, &config), TCPCORE_DONE);
+    CHECK(tcpcore_new(&place.end, &config, place.before, 9), TCPCORE_OVERLAP);
+    CHECK(tcpcore_new(&place.end, &config, first, sizeof place.end), TCPCORE_OVERLAP);
+    CHECK(tcpcore_new(&place.end, &config, first + sizeof place.end - 1, 1000), TCPCORE_OVERLAP);
+    CHECK(tcpcore_new(&place.end, &config, place.before, 8), TCPCORE_NO_MEMORY);
+    CHECK(is_empty(&place.end), 1);
+    CHECK(make(&place.end, &config), TCPCORE_DONE);
     CHECK(tcpcore_connect(&place.end, THERE, 9), TCPCORE_DONE);
     CHECK(tcpcore_send(&place.end, first, 1, &count), TCPCORE_OVERLAP);
     CHECK(count, 0);
     CHECK(tcpcore_receive(&place.end, first + sizeof place.end - 1, 1, &count), TCPCORE_OVERLAP);
     CHECK(tcpcore_arrive(&place.end, THERE, HERE, place.before, 9), TCPCORE_OVERLAP);
+    uint32_t at_once;
+    CHECK(tcpcore_take(&place.end, THERE, HERE, place.before, 9, &at_once), TCPCORE_OVERLAP);
     CHECK(tcpcore_emit(&place.end, place.before, sizeof place, &to, &count), TCPCORE_OVERLAP);
     /* Beside it is no overlap. */
     CHECK(tcpcore_arrive(&place.end, THERE, HERE, place.before, 8), TCPCORE_TOO_SHORT);
@@ -277,6 +333,11 @@ static void overlaps(void)
         CHECK(tcpcore_emit(&place.end, place.behind, sizeof place.behind, &to, over), TCPCORE_OVERLAP);
         CHECK(tcpcore_timers(&place.end, over), TCPCORE_OVERLAP);
         CHECK(tcpcore_status(&place.end, over), TCPCORE_OVERLAP);
+        CHECK(tcpcore_take(&place.end, THERE, HERE, place.behind, 20, over), TCPCORE_OVERLAP);
+        CHECK(tcpcore_pending(&place.end, over), TCPCORE_OVERLAP);
+        uint16_t port;
+        CHECK(tcpcore_peer(&place.end, over, &port), TCPCORE_OVERLAP);
+        CHECK(tcpcore_peer(&place.end, &to, over), TCPCORE_OVERLAP);
         CHECK(memcmp(&place.end, &before, sizeof before), 0);
     }
     /* Over the buffer of the same call, and one over the other. */
@@ -286,6 +347,8 @@ static void overlaps(void)
     CHECK(tcpcore_emit(&place.end, shared.bytes, sizeof shared.bytes, &shared.to, &count), TCPCORE_OVERLAP);
     CHECK(tcpcore_emit(&place.end, shared.bytes, sizeof shared.bytes, &to, &shared.count), TCPCORE_OVERLAP);
     CHECK(tcpcore_emit(&place.end, place.behind, sizeof place.behind, &shared.to, &shared.count), TCPCORE_OVERLAP);
+    CHECK(tcpcore_take(&place.end, THERE, HERE, shared.bytes, 20, &shared.at_once), TCPCORE_OVERLAP);
+    CHECK(tcpcore_peer(&place.end, &shared.to, &shared.port), TCPCORE_OVERLAP);
     for (size_t i = 0; i < sizeof shared.bytes; i++)
         if (shared.bytes[i] != 0)
             CHECK(shared.bytes[i], 0);
@@ -303,7 +366,7 @@ static void endings(void)
     struct tcpcore_status status;
     unsigned char buffer[8] = {0};
     size_t count;
-    CHECK(tcpcore_new(&end, &config), TCPCORE_DONE);
+    CHECK(make(&end, &config), TCPCORE_DONE);
     CHECK(tcpcore_receive(&end, buffer, sizeof buffer, &count), TCPCORE_NOT_OPEN);
     CHECK(tcpcore_close(&end), TCPCORE_NOT_OPEN);
     CHECK(tcpcore_connect(&end, THERE, 9), TCPCORE_DONE);
@@ -319,8 +382,43 @@ static void endings(void)
     CHECK(tcpcore_free(&end), TCPCORE_DONE);
 }
 
+/* A reset for no end: NULL, huge lengths, short room, overlaps, and bytes that nothing answers. */
+static void strays(void)
+{
+    unsigned char bytes[TCPCORE_RESET_ROOM] = {0}, out[TCPCORE_RESET_ROOM];
+    union {
+        size_t count;
+        unsigned char bytes[TCPCORE_RESET_ROOM];
+    } shared = {.bytes = {0}};
+    size_t count = 7;
+    memset(out, 0xee, sizeof out);
+    CHECK(tcpcore_stray_reset(THERE, HERE, NULL, 20, out, sizeof out, &count), TCPCORE_NULL);
+    CHECK(count, 0);
+    count = 7;
+    CHECK(tcpcore_stray_reset(THERE, HERE, bytes, 20, NULL, sizeof out, &count), TCPCORE_NULL);
+    CHECK(tcpcore_stray_reset(THERE, HERE, bytes, 20, out, sizeof out, NULL), TCPCORE_NULL);
+    CHECK(tcpcore_stray_reset(THERE, HERE, bytes, HUGE_LENGTH, out, sizeof out, &count), TCPCORE_LENGTH);
+    CHECK(tcpcore_stray_reset(THERE, HERE, bytes, 20, out, HUGE_LENGTH, &count), TCPCORE_LENGTH);
+    CHECK(count, 0);
+    count = 7;
+    CHECK(tcpcore_stray_reset(THERE, HERE, bytes, 20, out, sizeof out - 1, &count), TCPCORE_ROOM);
+    CHECK(tcpcore_stray_reset(THERE, HERE, bytes, 20, NULL, 0, &count), TCPCORE_ROOM);
+    CHECK(tcpcore_stray_reset(THERE, HERE, NULL, 0, out, sizeof out, &count), TCPCORE_NOT_DUE);
+    CHECK(tcpcore_stray_reset(THERE, HERE, bytes, 20, out, sizeof out, &count), TCPCORE_NOT_DUE);
+    CHECK(count, 0);
+    count = 7;
+    CHECK(tcpcore_stray_reset(THERE, HERE, out, 20, out, sizeof out, &count), TCPCORE_OVERLAP);
+    CHECK(count, 0);
+    CHECK(tcpcore_stray_reset(THERE, HERE, shared.bytes, 20, out, sizeof out, &shared.count), TCPCORE_OVERLAP);
+    CHECK(tcpcore_stray_reset(THERE, HERE, bytes, 20, shared.bytes, sizeof shared.bytes, &shared.count), TCPCORE_OVERLAP);
+    CHECK(memcmp(shared.bytes, bytes, sizeof bytes), 0);
+    for (size_t i = 0; i < sizeof out; i++)
+        CHECK(out[i], 0xee);
+}
+
 int main(void)
 {
+    strays();
     no_end();
     null_pointers();
     garbage();

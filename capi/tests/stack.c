@@ -1,4 +1,5 @@
-/* The test of TCPCORE_STACK: the stack below the caller is painted, and no call reaches deeper into it. */
+/* The test of TCPCORE_STACK: the stack below the caller is painted, and no call reaches deeper into it. The greatest depth, in
+   bytes, goes to standard error: depth.py compares it with what the disassembly tells. */
 #include "tcpcore.h"
 
 #include <stdio.h>
@@ -41,7 +42,8 @@ static void make(tcpcore_end *end, tcpcore_addr addr)
 {
     tcpcore_config config = {.addr = addr, .port = 7, .mss = 100, .isn = 1, .send_capacity = 4096, .recv_capacity = 4096,
                              .limit = TCPCORE_LIMIT, .window_shift = 2, .scales = 1, .sack = 1};
-    DEPTH(tcpcore_new(end, &config));
+    static unsigned char blocks[2][TCPCORE_MEMORY(4096, 4096)];
+    DEPTH(tcpcore_new(end, &config, blocks[end == &b], sizeof *blocks));
 }
 
 /* Carries what is due, and loses each fifth segment. */
@@ -91,6 +93,7 @@ int main(void)
         printf("stack: %lu segments, %zu bytes of stack, and TCPCORE_STACK is %d\n", count, deepest, TCPCORE_STACK);
         return 1;
     }
+    fprintf(stderr, "%zu\n", deepest);
     printf("stack: no call went deeper than TCPCORE_STACK\n");
     return 0;
 }

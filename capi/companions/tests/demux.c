@@ -3,37 +3,14 @@
 #include "../demux.h"
 #include "check.h"
 
-#include <stdbool.h>
 #include <string.h>
 
 enum { FIN = 1, SYN = 2, RST = 4, ACK = 16, PORT = 7, SLOTS = 6, BACKLOG = 2, KEPT = 64 };
 
-/* ---- Memory: malloc's, counted, and refused above a limit. */
+/* ---- Memory: a block for each slot. */
 
-static size_t blocks, most_blocks = 1000;
-
-struct tried {
-    bool ok;
-    void *memory;
-};
-
-struct tried rattle_alloc(size_t size, size_t align);
-void rattle_dealloc(void *memory);
-
-struct tried rattle_alloc(size_t size, size_t align)
-{
-    (void)align;
-    if (blocks >= most_blocks)
-        return (struct tried){false, NULL};
-    blocks++;
-    return (struct tried){true, malloc(size)};
-}
-
-void rattle_dealloc(void *memory)
-{
-    blocks--;
-    free(memory);
-}
+enum { ROOM = TCPCORE_MEMORY(1000, 1000) };
+static uint8_t memory[SLOTS * ROOM];
 
 /* ---- What the server sends, and the peers that send to it. */
 
@@ -79,7 +56,7 @@ static void begin(void)
     struct demux_config config = {
         .end = {.addr = SERVER, .port = PORT, .mss = 1000, .send_capacity = 1000, .recv_capacity = 1000,
                 .limit = TCPCORE_LIMIT},
-        .rules = TIMERS_RULES, .backlog = BACKLOG, .strays = 2, .use = echo, .send = keep, .context = &demux};
+        .memory = memory, .length = sizeof memory, .rules = TIMERS_RULES, .backlog = BACKLOG, .strays = 2, .use = echo, .send = keep, .context = &demux};
     config.rules.syn_ack_limit = 5000;
     memcpy(config.secret, "sixteen letters.", 16);
     now = 1000000;
@@ -88,13 +65,12 @@ static void begin(void)
     CHECK(demux_wait(&demux, now), -1);
 }
 
-/* The ends are freed, and with them all memory. */
+/* The ends are freed. */
 static void finish(void)
 {
     demux_free(&demux);
     CHECK(demux.table.used, 0);
     CHECK(demux.table.half_open, 0);
-    CHECK(blocks, 0);
 }
 
 static void put(uint8_t *at, size_t size, uint32_t value)
@@ -155,7 +131,7 @@ static uint32_t open_from(uint16_t port)
     struct table_slot *slot = table_find(&demux.table, CLIENT, port);
     CHECK(slot != NULL, 1);
     CHECK(slot->user, 1);
-    CHECK(slot->timers.samples, 1);
+    CHECK(slot->flow.timers.samples, 1);
     return isn;
 }
 
@@ -198,7 +174,6 @@ static void strays(void)
     CHECK(count, 3);
     CHECK(demux.counters.strays, 3);
     CHECK(demux.counters.opened, 0);
-    CHECK(blocks, 0);
     finish();
 }
 
@@ -242,7 +217,6 @@ static void serves(void)
     CHECK(demux.counters.accepted, 3);
     CHECK(demux.counters.orderly, 3);
     CHECK(demux.table.used, 0);
-    CHECK(blocks, 0);
     CHECK(demux_wait(&demux, now), -1);
     finish();
 }
@@ -300,7 +274,7 @@ static void floods(void)
     finish();
 }
 
-/* One slot stays free: with five ends the next SYN is dropped without an answer. So it is where memory is refused. */
+/* One slot stays free: with five ends the next SYN is dropped without an answer. */
 static void full(void)
 {
     begin();
@@ -315,10 +289,6 @@ static void full(void)
     plain(50, 101, 0, RST);
     demux_turn(&demux, now);
     CHECK(demux.counters.reset, 1);
-    most_blocks = blocks;
-    plain(55, 100, 0, SYN);
-    CHECK(demux.counters.full, 2);
-    most_blocks = 1000;
     open_from(55);
     finish();
 }
@@ -340,9 +310,16 @@ static void initial_numbers(void)
 
 static void refuses(void)
 {
-    struct demux_config config = {.backlog = 1};
+    struct demux_config config = {
+        .end = {.send_capacity = 1, .recv_capacity = 1}, .memory = memory, .length = 2 * TCPCORE_MEMORY(1, 1), .backlog = 1};
     CHECK(demux_init(&demux, &config, slots, 1), 0);
     CHECK(demux_init(&demux, &config, slots, 2), 1);
+    config.length--;
+    CHECK(demux_init(&demux, &config, slots, 2), 0);
+    config.length++;
+    config.end.send_capacity = 0;
+    CHECK(demux_init(&demux, &config, slots, 2), 0);
+    config.end.send_capacity = 1;
     config.backlog = 0;
     CHECK(demux_init(&demux, &config, slots, 2), 0);
 }

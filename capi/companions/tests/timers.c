@@ -23,7 +23,8 @@ static void make(struct side *side, uint8_t last, uint32_t isn, const struct tim
                              .recv_capacity = recv, .limit = TCPCORE_LIMIT, .sack = 1};
     memset(side, 0, sizeof *side);
     side->addr = config.addr;
-    CHECK(tcpcore_new(&side->end, &config), TCPCORE_DONE);
+    static uint8_t blocks[2][TCPCORE_MEMORY(100000, 65535)];
+    CHECK(tcpcore_new(&side->end, &config, blocks[side == &b], sizeof *blocks), TCPCORE_DONE);
     timers_init(&side->timers, rules);
 }
 

@@ -1,7 +1,7 @@
 //! Two ends, and the segments between them.
 use crate::mode::Mode;
 use std::alloc::Global;
-use tcp_conn::{Config, ConfigError, EMIT_ROOM, Endpoint, MAX_LIMIT};
+use tcp_conn::{Config, ConfigError, EMIT_ROOM, Endpoint, MAX_LIMIT, Phase};
 use tcp_wire::{Addr, Seq};
 
 /// The text of a full segment, in bytes.
@@ -26,7 +26,7 @@ pub(crate) fn new_end(alloc: Global, host: u8, capacity: usize) -> Result<Endpoi
 }
 
 /// Carries the segment that is due, if one is.
-fn carry(from: &mut Endpoint, to: &mut Endpoint, room: &mut [u8; EMIT_ROOM]) {
+pub(crate) fn carry(from: &mut Endpoint, to: &mut Endpoint, room: &mut [u8; EMIT_ROOM]) {
     if let Some((dst, len)) = from.emit(room) {
         let src = from.config().addr;
         to.arrive(src, dst, &room[..len]);
@@ -75,45 +75,71 @@ impl Pair {
         open(&mut self.a, &mut self.b, &mut self.room);
     }
 
-    /// Carries the segments of a burst that aren't late, with an acknowledgement for each two.
-    fn carry_segments(&mut self, count: usize) {
-        for k in 0..count {
+    /// Carries the segments of a burst that aren't late, with an acknowledgement for each two, or for each.
+    fn carry_segments(&mut self, mode: Mode, count: usize) {
+        for k in 1..=count {
+            if !mode.is_written_at_once() {
+                let _ = self.a.send(&self.text[..mode.text()]);
+            }
             carry(&mut self.a, &mut self.b, &mut self.room);
-            if k % 2 == 1 {
+            if k % mode.acknowledged() == 0 {
                 carry(&mut self.b, &mut self.a, &mut self.room);
             }
         }
     }
 
-    /// A's user writes the text of so many segments.
+    /// A's user writes the text of so many segments, two at once.
     fn write_text(&mut self, count: usize) {
         for _ in 0..count / 2 {
             let _ = self.a.send(&self.text);
         }
     }
 
-    /// B's user reads the text of so many segments.
-    fn read_text(&mut self, count: usize) {
-        for _ in 0..count / 2 {
-            let _ = self.b.receive(&mut self.read);
+    /// B's user reads the text of so many segments, of two at once.
+    fn read_text(&mut self, mode: Mode) {
+        let read = &mut self.read[..];
+        let piece = &mut read[..2 * mode.text()];
+        for _ in 0..mode.segments() / 2 {
+            let _ = self.b.receive(piece);
         }
     }
 
     /// Writes a burst, carries it, reads it, and carries an acknowledgement.
     pub(crate) fn move_burst(&mut self, mode: Mode) {
         let count = mode.segments();
-        self.write_text(count);
+        if mode.is_written_at_once() {
+            self.write_text(count);
+        }
         if mode.is_first_late() {
             let late = self.a.emit(&mut self.late);
-            self.carry_segments(count - 1);
+            self.carry_segments(mode, count - 1);
             if let Some((dst, len)) = late {
                 let src = self.a.config().addr;
                 self.b.arrive(src, dst, &self.late[..len]);
             }
         } else {
-            self.carry_segments(count);
+            self.carry_segments(mode, count);
         }
-        self.read_text(count);
+        self.read_text(mode);
         carry(&mut self.b, &mut self.a, &mut self.room);
     }
+}
+
+/// A whole connection: two ends are made, opened, closed one after the other, and given back. Answers whether both know
+/// that it has ended, but for the time that A waits.
+pub(crate) fn connect_and_close(
+    alloc: Global,
+    capacity: usize,
+    room: &mut [u8; EMIT_ROOM],
+) -> Result<bool, ConfigError> {
+    let mut a = new_end(alloc, 1, capacity)?;
+    let mut b = new_end(alloc, 2, capacity)?;
+    open(&mut a, &mut b, room);
+    let _ = a.close();
+    carry(&mut a, &mut b, room);
+    carry(&mut b, &mut a, room);
+    let _ = b.close();
+    carry(&mut b, &mut a, room);
+    carry(&mut a, &mut b, room);
+    Ok(a.phase() == Phase::TimeWait && b.phase() == Phase::Closed)
 }

@@ -22,10 +22,10 @@ use denote.Struct.Owning.{shape}
 use Rattle.core.specs.declared.alloc.Allocator.{Ghosts}
 use Rattle.core.proofs.alloc.Calls.{Al, handle_tells}
 use Rattle.core.proofs.cell.Inside.{Good}
-use Rattle.std.specs.declared.alloc.Global.{Global}
-use Rattle.std.specs.contracts.alloc.Global as heap
-use Rattle.std.proofs.alloc.Global.TheLaws as heap_laws
-use Rattle.std.specs.contracts.impls.GlobalAllocator.TheImpl.{ghosts}
+use Rattle.region_heap.specs.declared.still.Still.{Still}
+use Rattle.region_heap.specs.contracts.still.Still as heap
+use Rattle.region_heap.proofs.still.Still.TheLaws as heap_laws
+use Rattle.region_heap.specs.contracts.still.StillAllocator.TheImpl.{ghosts}
 use Rattle.std_alloc.specs.Box.Ownership.{box_owns}
 use Rattle.std_alloc.proofs.ResultValues.{and_tt}
 use Rattle.tcp_c.specs.Held.{end_row, held}
@@ -76,11 +76,11 @@ abbrev heap_al : Al
 heap_al = record { row = Heap; laws = heap_laws.the_row_laws; g = ghosts; d = impl [] tnil dnil; drops = impl [] tnil dnil }
 
 -- what the allocator of an end owns beside it
-abbrev pub boxed : Global → Ptr → end_row.Denot → Fml
+abbrev pub boxed : Still → Ptr → end_row.Denot → Fml
 boxed a p s = box_owns (ghosts.dealloc_token a) end_row p s
 
 -- where there is an end, its box is owned
-end_there : {M : Type 1} {𝓤 : Ura M} {𝓛 : Logic 𝓤} {K : Type 0} {Γ : List (Item 𝓤)} {G : Goal 𝓤 𝓛.H} → K → (a : Global) (p : Ptr) (e : Option end_row.Denot) → IsSome e
+end_there : {M : Type 1} {𝓤 : Ura M} {𝓛 : Logic 𝓤} {K : Type 0} {Γ : List (Item 𝓤)} {G : Goal 𝓤 𝓛.H} → K → (a : Still) (p : Ptr) (e : Option end_row.Denot) → IsSome e
     → ((s : end_row.Denot) → e ≡ Some s → Seq K 𝓛 (‵ (boxed a p s) ∷ Γ) G) → Seq K 𝓛 (‵ (held a p e) ∷ Γ) G
 end_there t a p None none k = absurd (false≢true none)
 end_there t a p (Some s) some k = k s refl
@@ -96,7 +96,7 @@ module _ {M : Type 1} {𝓤 : Ura M} {𝓛 : Logic 𝓤} {K : Type 0} {Γ : List
       (subst (λ (p : Ptr). vs ≡ vstruct (of_list (ptr_val p ∷ h ∷ [])) ∷ []) e
       (subst (λ (ws : List Val). vs ≡ vstruct (of_list (ptr_val d.at ∷ (ws ++ []))) ∷ []) ea (subst (λ (ps : List Val). vs ≡ vstruct (of_list (ps ++ (vss.1.0 ++ []))) ∷ []) ep ev))) fits))))))
 
-  pub held_in : K → (p : Ptr) (h : Val) (a : Global) (e : Option end_row.Denot)
+  pub held_in : K → (p : Ptr) (h : Val) (a : Still) (e : Option end_row.Denot)
       → Step K 𝓛 (‵ (Held.own_val (record { at = p; heap = a; end = e }) (both (ptr_val p) h ∷ [])) ∷ Γ) G (‵ (held a p e) ∷ ‵ (Heap.own_val a (h ∷ [])) ∷ Γ) G
   held_in t p h a e = step (λ s. let v : Val = both (ptr_val p) h in
       nothing t $ move t (2 ∷ 0 ∷ []) $ fjoin t $ feq_i t (List Val) (ptr_val p ∷ []) (ptr_val p ∷ []) refl $ fjoin t $ feq_i t (List Val) (v ∷ []) (v ∷ []) refl $ fjoin t $

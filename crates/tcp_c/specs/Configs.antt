@@ -1,6 +1,7 @@
 -- What C tells of a new end (RFC 9293, 3.4.1 and 3.7.1; RFC 7323, 2.2; RFC 2018, 2).
-use Rattle.std.specs.Prelude.{not, ◌==◌, if◌then◌else◌, Some, None}
+use Rattle.std.specs.Prelude.{ℕ, ◌+◌, not, ◌==◌, if◌then◌else◌, Some, None}
 use Rattle.tcp_conn.specs.declared.config.Config.{Config}
+use Rattle.region_heap.specs.Memory.{rounded}
 use Rattle.tcp_c.specs.declared.records.CConfig.{CConfig}
 
 -- the config that C's record says
@@ -16,3 +17,7 @@ config_of c = record {
   sack = not (c.sack == 0);
   limit = c.limit;
 }
+
+-- the bytes of a block that its end takes: the buffers, each in whole units, and the end itself
+abbrev pub room_of : CConfig → ℕ
+room_of c = rounded c.send_capacity + (rounded c.recv_capacity + 704)

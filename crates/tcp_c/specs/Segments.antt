@@ -1,7 +1,9 @@
 -- What an emission (RFC 9293, 3.7, 3.8 and 3.10) into a buffer of any length tells and does.
 use Rattle.std.specs.Prelude.{ℕ, nat_lt, if◌then◌else◌, List, [], ◌∷◌, length, is_some, unwrap_or, Option, Some, None}
 use Rattle.tcp_conn.specs.declared.emission.TheConstants.{EMIT_ROOM}
+use Rattle.tcp_conn.specs.declared.stray.TheConstants.{RESET_LEN}
 use Rattle.tcp_conn.specs.State.{State}
+use Rattle.tcp_conn.specs.Stray.{with_front}
 use Rattle.tcp_conn.specs.Emission.{pending_length, destination, buffer_after, after_emission}
 use Rattle.tcp_c.specs.Answers.{done, little_room, nothing_due}
 
@@ -29,3 +31,13 @@ written_destination room (Some s) = if nat_lt room EMIT_ROOM then nowhere else u
 abbrev pub written_buffer : List ℕ → Option State → List ℕ
 written_buffer out None = out
 written_buffer out (Some s) = if nat_lt (length out) EMIT_ROOM then out else buffer_after s out
+
+-- A RESET FOR NO END (RFC 9293, 3.10.7.1), into a buffer of any length
+abbrev pub stray_number : ℕ → Option (List ℕ) → ℕ
+stray_number room reset = if nat_lt room RESET_LEN then little_room else (if is_some reset then done else nothing_due)
+
+abbrev pub stray_buffer : List ℕ → Option (List ℕ) → List ℕ
+stray_buffer out reset = if nat_lt (length out) RESET_LEN then out else with_front reset out
+
+abbrev pub stray_length : ℕ → Option (List ℕ) → ℕ
+stray_length room reset = if nat_lt room RESET_LEN then 0 else (if is_some reset then RESET_LEN else 0)

@@ -1,11 +1,19 @@
 -- What is said of an end: its phase (RFC 9293, 3.3.2, in that order) and its ending by number, its counts and its positions.
-use Rattle.std.specs.Prelude.{ℕ, length, Option, Some, None}
+use Rattle.std.specs.Prelude.{ℕ, Bool, false, if◌then◌else◌, List, length, Option, Some, None, option_map, unwrap_or, is_some}
 use Rattle.tcp_conn.specs.declared.phase.Phase.{Phase}
 use Rattle.tcp_conn.specs.declared.phase.Phase.TheVariants as phases
 use Rattle.tcp_conn.specs.declared.phase.Ending.{Ending}
 use Rattle.tcp_conn.specs.declared.phase.Ending.TheVariants as endings
+use Rattle.tcp_conn.specs.declared.link.Negotiated.{Negotiated}
+use Rattle.tcp_conn.specs.declared.link.Peer.{Peer}
+use Rattle.tcp_conn.specs.declared.outcome.CallError.TheVariants.{NotConnected}
+use Rattle.tcp_conn.specs.Emission.{pending_length}
+use Rattle.tcp_conn.specs.Outcome.{call_error_number}
 use Rattle.tcp_conn.specs.Receiver.{next_wanted}
 use Rattle.tcp_conn.specs.State.{State}
+use Rattle.tcp_conn.specs.Status.{negotiated_of, peer_of, room_of, queued_of, in_flight_of}
+use Rattle.tcp_c.specs.Answers.{done}
+use Rattle.tcp_c.specs.Segments.{nowhere}
 use Rattle.tcp_c.specs.declared.records.CStatus.{CStatus}
 
 abbrev pub phase_number : Phase → ℕ
@@ -27,9 +35,39 @@ ending_number endings.Orderly = 1
 ending_number endings.Reset = 2
 ending_number endings.Aborted = 3
 
+-- yes or no
+abbrev pub flag : Bool → ℕ
+flag b = if b then 1 else 0
+
+-- what the two SYNs agreed on; nothing before the peer's was taken
+abbrev pub nothing_agreed : Negotiated
+nothing_agreed = record { mss = 0; scaling = false; own_shift = 0; peer_shift = 0; sack = false }
+
+abbrev pub agreed : State → Negotiated
+agreed s = unwrap_or (negotiated_of s) nothing_agreed
+
 -- all zero where there is no end
+abbrev pub no_status : CStatus
+no_status = record {
+  phase = 0;
+  ending = 0;
+  unread = 0;
+  released = 0;
+  ordered = 0;
+  una = 0;
+  next = 0;
+  room = 0;
+  queued = 0;
+  in_flight = 0;
+  mss = 0;
+  own_shift = 0;
+  peer_shift = 0;
+  scaling = 0;
+  sack = 0;
+}
+
 abbrev pub status_of : Option State → CStatus
-status_of None = record { phase = 0; ending = 0; unread = 0; released = 0; ordered = 0; una = 0; next = 0 }
+status_of None = no_status
 status_of (Some s) = record {
   phase = phase_number s.phase;
   ending = ending_number s.ending;
@@ -38,4 +76,32 @@ status_of (Some s) = record {
   ordered = s.receiving.ordered;
   una = s.sending.una;
   next = next_wanted s.receiving;
+  room = room_of s;
+  queued = queued_of s;
+  in_flight = in_flight_of s;
+  mss = (agreed s).mss;
+  own_shift = (agreed s).own_shift;
+  peer_shift = (agreed s).peer_shift;
+  scaling = flag (agreed s).scaling;
+  sack = flag (agreed s).sack;
 }
+
+-- THE PEER (RFC 9293, 3.10.6), once it is known
+abbrev pub peer_number : State → ℕ
+peer_number s = if is_some (peer_of s) then done else call_error_number NotConnected
+
+abbrev pub address_told : Option Peer → List ℕ
+address_told None = nowhere
+address_told (Some peer) = peer.addr.0
+
+abbrev pub port_told : Option Peer → ℕ
+port_told None = 0
+port_told (Some peer) = peer.port
+
+abbrev pub peer_address : Option State → List ℕ
+peer_address None = nowhere
+peer_address (Some s) = address_told (peer_of s)
+
+-- WHAT IS DUE: the length of the segment, 0 where none is
+abbrev pub length_due : State → ℕ
+length_due s = unwrap_or (pending_length s) 0

@@ -3,7 +3,7 @@ ghost use Rattle.tcp_c.specs.declared.handle.TheConstants.{MARK_OF_LIVE};
 
 use crate::held::Held;
 use crate::loose::Loose;
-use std::alloc::Global;
+use region_heap::{Region, Still};
 use std::mem;
 use tcp_conn::Endpoint;
 
@@ -15,27 +15,28 @@ pub const MARK_OF_LIVE: u64 = 0x7443_5052_6174_746c;
 pub struct Handle {
     /// `MARK_OF_LIVE` exactly where it holds an end.
     pub mark: u64,
+    /// The end, if there is one.
     pub held: Held,
     pub ghost agrees: { (mark ≡ MARK_OF_LIVE) ↔ IsSome held.end },
 }
 
 impl Handle {
     /// All zero: none.
-    fn empty(heap: Global) -> Handle
+    fn empty() -> Handle
         ensures { result.held.end ≡ None }
     {
         Handle {
             mark: 0,
-            held: Held::empty(heap),
+            held: Held::empty(Still {}),
         }
     }
 
     /// Takes the end out, if there is one.
-    pub(crate) fn take(&mut self, heap: Global) -> Option<Box<Endpoint>>
+    pub(crate) fn take(&mut self) -> Option<Box<Endpoint<Region>, Still>>
         ensures taken { option_map (λ end. end.value) result ≡ self.old.held.end }
         ensures empty { self.new.held.end ≡ None }
     {
-        let Handle { mark, held } = mem::replace(self, Handle::empty(heap));
+        let Handle { mark, held } = mem::replace(self, Handle::empty());
         if mark != MARK_OF_LIVE {
             held.discard();
             return None;
@@ -44,7 +45,7 @@ impl Handle {
     }
 
     /// Puts an end in, where there is none.
-    pub(crate) fn put(&mut self, end: Box<Endpoint>)
+    pub(crate) fn put(&mut self, end: Box<Endpoint<Region>, Still>)
         requires { self.old.held.end ≡ None }
         ensures { self.new.held.end ≡ Some end.value }
     {

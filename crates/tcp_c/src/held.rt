@@ -3,7 +3,7 @@ ghost use Rattle.std.specs.Prelude.{◌≡◌, IsSome, IsNone, Option, Some, Non
 ghost use Rattle.tcp_conn.specs.State.{State};
 
 use crate::loose::Loose;
-use std::alloc::Global;
+use region_heap::{Region, Still};
 use std::marker::Model;
 use std::ptr::null_mut;
 use tcp_conn::Endpoint;
@@ -12,7 +12,7 @@ use tcp_conn::Endpoint;
 #[repr(C)]
 pub struct Held {
     at: *mut u8,
-    heap: Global,
+    heap: Still,
     pub ghost end: { Option State },
 }
 
@@ -27,7 +27,7 @@ unsafe impl Send for Held {}
 
 impl Held {
     /// None.
-    pub(crate) fn empty(heap: Global) -> Held
+    pub(crate) fn empty(heap: Still) -> Held
         ensures { result.end ≡ None }
     {
         Held {
@@ -37,7 +37,7 @@ impl Held {
     }
 
     /// The end of this box.
-    pub(crate) fn of(end: Loose<Endpoint<Global>, Global>) -> Held
+    pub(crate) fn of(end: Loose<Endpoint<Region>, Still>) -> Held
         ensures { result.end ≡ Some end.value }
     {
         let Loose { at, alloc } = end;
@@ -48,13 +48,13 @@ impl Held {
     }
 
     /// The end as a box.
-    pub(crate) fn into_loose(self) -> Loose<Endpoint<Global>, Global>
+    pub(crate) fn into_loose(self) -> Loose<Endpoint<Region>, Still>
         requires { IsSome self.end }
         ensures { self.end ≡ Some result.value }
     {
         let Held { at, heap } = self;
         Loose {
-            at: at as *mut Endpoint<Global>,
+            at: at as *mut Endpoint<Region>,
             alloc: heap,
         }
     }

@@ -8,27 +8,39 @@
 //!     uint16_t port, mss;
 //!     uint32_t isn;
 //!     size_t send_capacity, recv_capacity;
+//!     uint64_t limit;
 //!     uint8_t window_shift, scales, sack;
 //! } tcp_c_config;
 //! typedef struct {
 //!     uint32_t phase, ending;
 //!     size_t unread;
-//!     uint64_t released, ordered;
+//!     uint64_t released, ordered, una, next;
+//!     size_t room, queued, in_flight;
+//!     uint32_t mss;
+//!     uint8_t own_shift, peer_shift, scaling, sack;
 //! } tcp_c_status_record;
 //!
-//! uint32_t tcp_c_new(tcp_c_handle *handle, const tcp_c_config *config);
+//! typedef struct { void *at; size_t size; } tcp_c_block;
+//!
+//! uint32_t tcp_c_new(tcp_c_handle *handle, const tcp_c_config *config, tcp_c_block block);
+//! size_t tcp_c_room(const tcp_c_config *config);
 //! uint32_t tcp_c_free(tcp_c_handle *handle);
 //! uint32_t tcp_c_connect(tcp_c_handle *handle, const tcp_c_addr *addr, uint16_t port);
 //! uint32_t tcp_c_listen(tcp_c_handle *handle);
 //! uint32_t tcp_c_send(tcp_c_handle *handle, const uint8_t *text, size_t text_length, size_t *taken);
 //! uint32_t tcp_c_receive(tcp_c_handle *handle, uint8_t *out, size_t out_length, size_t *count);
+//! uint32_t tcp_c_acknowledge(tcp_c_handle *handle);
 //! uint32_t tcp_c_close(tcp_c_handle *handle);
 //! uint32_t tcp_c_abort(tcp_c_handle *handle);
 //! uint32_t tcp_c_timer(tcp_c_handle *handle, uint32_t timer);
 //! uint32_t tcp_c_arrive(tcp_c_handle *handle, const tcp_c_addr *src, const tcp_c_addr *dst, const uint8_t *bytes, size_t bytes_length);
+//! uint32_t tcp_c_take(tcp_c_handle *handle, const tcp_c_addr *src, const tcp_c_addr *dst, const uint8_t *bytes, size_t bytes_length, uint32_t *at_once);
 //! uint32_t tcp_c_emit(tcp_c_handle *handle, uint8_t *out, size_t out_length, tcp_c_addr *to, size_t *count);
 //! uint32_t tcp_c_timers(tcp_c_handle *handle, uint32_t *running);
+//! uint32_t tcp_c_pending(tcp_c_handle *handle, uint32_t *due);
 //! uint32_t tcp_c_status(tcp_c_handle *handle, tcp_c_status_record *status);
+//! uint32_t tcp_c_peer(tcp_c_handle *handle, tcp_c_addr *addr, uint16_t *port);
+//! uint32_t tcp_c_stray_reset(const tcp_c_addr *src, const tcp_c_addr *dst, const uint8_t *bytes, size_t bytes_length, uint8_t *out, size_t out_length, size_t *count);
 //! ```
 //!
 //! Each answers a number of the table in `answers`, or a refusal's own: 1 to 6 bytes that are no segment
@@ -42,7 +54,8 @@
 //! a lock or by the thread's start or join. Any other bytes are a handle that holds no end, if their first word isn't
 //! [`MARK_OF_LIVE`].
 //!
-//! Memory is taken by `tcp_c_new` alone and given back by `tcp_c_free`.
+//! An end lies in the block that `tcp_c_new` was passed, all of it: nothing asks for memory. The block is aligned to 16, its size
+//! is a multiple of 16, no byte of it is used by anyone else until `tcp_c_free`, and then it is the caller's again.
 #![tactic(auto)]
 
 mod answers;
@@ -51,6 +64,7 @@ mod held;
 mod loose;
 mod making;
 mod records;
+mod room;
 mod segments;
 mod status;
 mod timing;
@@ -64,7 +78,11 @@ pub use handle::{Handle, MARK_OF_LIVE};
 pub use held::Held;
 pub use making::{tcp_c_free, tcp_c_new};
 pub use records::{CAddr, CConfig, CStatus};
-pub use segments::{tcp_c_arrive, tcp_c_emit};
-pub use status::tcp_c_status;
+pub use room::tcp_c_room;
+pub use segments::{tcp_c_arrive, tcp_c_emit, tcp_c_stray_reset, tcp_c_take};
+pub use status::{tcp_c_peer, tcp_c_pending, tcp_c_status};
 pub use timing::{tcp_c_timer, tcp_c_timers};
-pub use user::{tcp_c_abort, tcp_c_close, tcp_c_connect, tcp_c_listen, tcp_c_receive, tcp_c_send};
+pub use user::{
+    tcp_c_abort, tcp_c_acknowledge, tcp_c_close, tcp_c_connect, tcp_c_listen, tcp_c_receive,
+    tcp_c_send,
+};

@@ -1,9 +1,11 @@
-// A box as its pointer.
+//! A box as its pointer.
 ghost use Rattle.std.specs.Prelude.{◌≡◌};
 ghost use Rattle.std_alloc.specs.Box.Ownership.{box_owns};
 
+use region_heap::{Region, Still};
 use std::alloc::Allocator;
 use std::marker::Model;
+use tcp_conn::Endpoint;
 
 /// A box as its pointer and its allocator.
 pub(crate) struct Loose<T, A: Allocator> {
@@ -29,5 +31,15 @@ impl<T: Drop, A: Allocator> Loose<T, A> {
     {
         let Loose { at, alloc } = self;
         unsafe { Box::from_raw(alloc, at) }
+    }
+}
+
+impl Loose<Endpoint<Region>, Region> {
+    /// The same with the allocator that needs no memory, and the region beside it.
+    pub(crate) fn settled(self, still: Still) -> (Loose<Endpoint<Region>, Still>, Region)
+        ensures { result.0.value ≡ self.value }
+    {
+        let Loose { at, alloc } = self;
+        (Loose { at, alloc: still }, alloc)
     }
 }

@@ -7,8 +7,9 @@ ghost use Rattle.tcp_c.specs.Configs.{config_of};
 
 use crate::answers::{DONE, IN_USE, NO_END};
 use crate::handle::Handle;
+use crate::loose::Loose;
 use crate::records::CConfig;
-use std::alloc::Global;
+use region_heap::{Block, Region, Still};
 use tcp_conn::{Config, ConfigError, Endpoint};
 use tcp_wire::{Addr, Seq};
 
@@ -33,8 +34,16 @@ fn config_of(config: &CConfig) -> Config
     }
 }
 
-/// A new end in a box.
-fn boxed_end(heap: Global, config: Config) -> Result<Box<Endpoint>, ConfigError>
+/// The box with the allocator that needs no memory: its region isn't needed any more.
+fn settled(end: Box<Endpoint<Region>, Region>) -> Box<Endpoint<Region>, Still>
+    ensures { result.value ≡ end.value }
+{
+    let (end, _region) = Loose::of(end).settled(Still {});
+    end.into_box()
+}
+
+/// A new end in a box, all of it in this block: the buffers, and behind them the end.
+fn boxed_end(block: Block, config: Config) -> Result<Box<Endpoint<Region>, Still>, ConfigError>
     ensures new { IfOk result (λ end. end.value ≡ new_end config) }
     ensures bad_capacity { (result ≡ Err ConfigError.BadCapacity) ↔ HasBadCapacity config }
     ensures bad_mss { (result ≡ Err ConfigError.BadMss) ↔ HasBadMss config }
@@ -42,20 +51,23 @@ fn boxed_end(heap: Global, config: Config) -> Result<Box<Endpoint>, ConfigError>
     ensures bad_limit { (result ≡ Err ConfigError.BadLimit) ↔ HasBadLimit config }
     ensures good { (result ≡ Err ConfigError.NoMemory) → IsGoodConfig config }
 {
-    let end = match Endpoint::new(heap, config) {
+    let (send, rest) = block.split(config.send_capacity);
+    let (recv, rest) = rest.split(config.recv_capacity);
+    let end = match Endpoint::new_of(Region::new(send), Region::new(recv), config) {
         Ok(end) => end,
         Err(error) => return Err(error),
     };
-    match Box::new(heap, end) {
-        Ok(end) => Ok(end),
+    match Box::new(Region::new(rest), end) {
+        Ok(end) => Ok(settled(end)),
         Err(_) => Err(ConfigError::NoMemory),
     }
 }
 
-/// Makes an end, CLOSED and empty, where the handle holds none; its memory is taken now. 32 where it holds one, else 21,
-/// 23, 24 or 25 for a fault of the config, and 22 where there is no memory.
+/// Makes an end, CLOSED and empty, where the handle holds none; all of it lies in the block. 32 where it holds one,
+/// else 21, 23, 24 or 25 for a fault of the config, and 22 where the block is too small. The block is the caller's again
+/// at any answer but 0, and after [`tcp_c_free`].
 #[unsafe(no_mangle)]
-pub extern "C" fn tcp_c_new(heap: Global, handle: &mut Handle, config: &CConfig) -> u32
+pub extern "C" fn tcp_c_new(handle: &mut Handle, config: &CConfig, block: Block) -> u32
     ensures in_use { (result ≡ in_use) ↔ IsSome handle.old.held.end }
     ensures bad_capacity { (result ≡ config_error_number ConfigError.BadCapacity) ↔ (IsNone handle.old.held.end × HasBadCapacity (config_of config.now)) }
     ensures bad_mss { (result ≡ config_error_number ConfigError.BadMss) ↔ (IsNone handle.old.held.end × HasBadMss (config_of config.now)) }
@@ -65,11 +77,11 @@ pub extern "C" fn tcp_c_new(heap: Global, handle: &mut Handle, config: &CConfig)
     ensures made { result ≡ done → handle.new.held.end ≡ Some (new_end (config_of config.now)) }
     ensures kept { result ≢ done → handle.new.held.end ≡ handle.old.held.end }
 {
-    if let Some(held) = handle.take(heap) {
+    if let Some(held) = handle.take() {
         handle.put(held);
         return IN_USE;
     }
-    match boxed_end(heap, config_of(config)) {
+    match boxed_end(block, config_of(config)) {
         Ok(end) => {
             handle.put(end);
             DONE
@@ -78,13 +90,13 @@ pub extern "C" fn tcp_c_new(heap: Global, handle: &mut Handle, config: &CConfig)
     }
 }
 
-/// Lets the end go, and gives its memory back.
+/// Lets the end go: the block in which it was made is the caller's again.
 #[unsafe(no_mangle)]
-pub extern "C" fn tcp_c_free(heap: Global, handle: &mut Handle) -> u32
+pub extern "C" fn tcp_c_free(handle: &mut Handle) -> u32
     ensures answer { result ≡ answer_of (λ _. done) handle.old.held.end }
     ensures state { handle.new.held.end ≡ None }
 {
-    match handle.take(heap) {
+    match handle.take() {
         Some(end) => {
             drop(end);
             DONE

@@ -4,6 +4,7 @@
 #[repr(C)]
 #[derive(Clone, Copy)]
 pub struct CAddr {
+    /// Its bytes: 10, 0, 0, 1 of 10.0.0.1.
     pub byte: [u8; 4],
 }
 
@@ -51,4 +52,20 @@ pub struct CStatus {
     pub una: u64,
     /// The next position of the peer's direction that is wanted, RCV.NXT; the peer's SYN is at 0.
     pub next: u64,
+    /// How many bytes of a long text `tcp_c_send` would take.
+    pub room: usize,
+    /// The bytes that were taken and not released.
+    pub queued: usize,
+    /// Those of them that were sent.
+    pub in_flight: usize,
+    /// The most text bytes of a segment, by both SYNs; this and what follows is 0 until the peer's SYN was taken.
+    pub mss: u32,
+    /// The shift of the windows that this end advertises.
+    pub own_shift: u8,
+    /// The shift of the windows that the peer advertises.
+    pub peer_shift: u8,
+    /// 1 where windows are scaled.
+    pub scaling: u8,
+    /// 1 where selective acknowledgement is in use.
+    pub sack: u8,
 }

@@ -1,30 +1,26 @@
 //! Segments in and out.
 ghost use Rattle.std.specs.Prelude.{◌≡◌, length, option_map};
 ghost use Rattle.tcp_conn.specs.Arrival.{arrival_answer, after_arrival};
+ghost use Rattle.tcp_conn.specs.AtOnce.{answers_at_once};
+ghost use Rattle.tcp_conn.specs.Stray.{stray_reset};
 ghost use Rattle.tcp_c.specs.Answers.{answer_of, number_written, arrival_number};
-ghost use Rattle.tcp_c.specs.Segments.{emission_number, after_emission_within, written_length, written_destination, written_buffer};
+ghost use Rattle.tcp_c.specs.Segments.{emission_number, after_emission_within, written_length, written_destination, written_buffer, stray_number, stray_buffer, stray_length};
+ghost use Rattle.tcp_c.specs.Status.{flag};
 
 use crate::answers::{DONE, LITTLE_ROOM, NO_END, NOTHING_DUE, arrival_number};
 use crate::handle::Handle;
 use crate::records::CAddr;
-use std::alloc::Global;
-use tcp_conn::EMIT_ROOM;
+use tcp_conn::{EMIT_ROOM, RESET_LEN, stray_reset};
 use tcp_wire::Addr;
 
 /// Takes bytes that came from `src` to `dst`, whatever they are (RFC 9293, 3.10.7). 1 to 6 where they are no segment, 56
 /// where it isn't of this connection, 55 where it was passed over.
 #[unsafe(no_mangle)]
-pub extern "C" fn tcp_c_arrive(
-    heap: Global,
-    handle: &mut Handle,
-    src: &CAddr,
-    dst: &CAddr,
-    bytes: &[u8],
-) -> u32
+pub extern "C" fn tcp_c_arrive(handle: &mut Handle, src: &CAddr, dst: &CAddr, bytes: &[u8]) -> u32
     ensures answer { result ≡ answer_of (λ s. arrival_number (arrival_answer s src.now.byte dst.now.byte bytes.now)) handle.old.held.end }
     ensures state { handle.new.held.end ≡ option_map (λ s. after_arrival s src.now.byte dst.now.byte bytes.now) handle.old.held.end }
 {
-    let Some(mut end) = handle.take(heap) else {
+    let Some(mut end) = handle.take() else {
         return NO_END;
     };
     let answer = end.arrive(Addr(src.byte), Addr(dst.byte), bytes);
@@ -32,11 +28,33 @@ pub extern "C" fn tcp_c_arrive(
     arrival_number(answer)
 }
 
+/// The same, and tells whether the segment has to be answered at once, 1, or may wait for the next, 0 (RFC 5681, 4.2).
+#[unsafe(no_mangle)]
+pub extern "C" fn tcp_c_take(
+    handle: &mut Handle,
+    src: &CAddr,
+    dst: &CAddr,
+    bytes: &[u8],
+    at_once: &mut u32,
+) -> u32
+    ensures answer { result ≡ answer_of (λ s. arrival_number (arrival_answer s src.now.byte dst.now.byte bytes.now)) handle.old.held.end }
+    ensures at_once { at_once.new ≡ number_written (λ s. flag (answers_at_once s src.now.byte dst.now.byte bytes.now)) handle.old.held.end }
+    ensures state { handle.new.held.end ≡ option_map (λ s. after_arrival s src.now.byte dst.now.byte bytes.now) handle.old.held.end }
+{
+    *at_once = 0;
+    let Some(mut end) = handle.take() else {
+        return NO_END;
+    };
+    let taken = end.take(Addr(src.byte), Addr(dst.byte), bytes);
+    handle.put(end);
+    *at_once = u32::from(taken.at_once);
+    arrival_number(taken.arrival)
+}
+
 /// Writes the segment that is due into the front of `out`, and tells where it goes and its length (RFC 9293, 3.7, 3.8 and
 /// 3.10). 33 where `out` has less than [`EMIT_ROOM`] bytes, 53 where none is due: then nothing changes.
 #[unsafe(no_mangle)]
 pub extern "C" fn tcp_c_emit(
-    heap: Global,
     handle: &mut Handle,
     out: &mut [u8],
     to: &mut CAddr,
@@ -50,7 +68,7 @@ pub extern "C" fn tcp_c_emit(
 {
     to.byte = [0; 4];
     *count = 0;
-    let Some(mut end) = handle.take(heap) else {
+    let Some(mut end) = handle.take() else {
         return NO_END;
     };
     if out.len() < EMIT_ROOM {
@@ -65,5 +83,31 @@ pub extern "C" fn tcp_c_emit(
     let Addr(byte) = destination;
     to.byte = byte;
     *count = length;
+    DONE
+}
+
+/// Writes the reset that answers bytes which came from `src` to `dst`, where no end is, into the front of `out`, and tells
+/// its length (RFC 9293, 3.10.7.1). 33 where `out` has less than [`RESET_LEN`] bytes, 53 where nothing answers them: they
+/// are no segment, or a reset. `out` stays then.
+#[unsafe(no_mangle)]
+pub extern "C" fn tcp_c_stray_reset(
+    src: &CAddr,
+    dst: &CAddr,
+    bytes: &[u8],
+    out: &mut [u8],
+    count: &mut usize,
+) -> u32
+    ensures answer { result ≡ stray_number (length out.old) (stray_reset src.now.byte dst.now.byte bytes.now) }
+    ensures bytes { out.new ≡ stray_buffer out.old (stray_reset src.now.byte dst.now.byte bytes.now) }
+    ensures count { count.new ≡ stray_length (length out.old) (stray_reset src.now.byte dst.now.byte bytes.now) }
+{
+    *count = 0;
+    if out.len() < RESET_LEN {
+        return LITTLE_ROOM;
+    }
+    let Some(len) = stray_reset(Addr(src.byte), Addr(dst.byte), bytes, out) else {
+        return NOTHING_DUE;
+    };
+    *count = len;
     DONE
 }

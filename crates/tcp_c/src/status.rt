@@ -1,13 +1,15 @@
 //! What is said of an end.
-ghost use Rattle.std.specs.Prelude.{◌≡◌};
-ghost use Rattle.tcp_c.specs.Answers.{done, answer_of};
-ghost use Rattle.tcp_c.specs.Status.{phase_number, ending_number, status_of};
+ghost use Rattle.std.specs.Prelude.{◌≡◌, Some};
+ghost use Rattle.tcp_conn.specs.Status.{peer_of};
+ghost use Rattle.tcp_c.specs.Answers.{done, answer_of, number_written};
+ghost use Rattle.tcp_c.specs.Status.{phase_number, ending_number, agreed, no_status, status_of, peer_number, peer_address, port_told, length_due};
 
 use crate::answers::{DONE, NO_END};
 use crate::handle::Handle;
-use crate::records::CStatus;
-use std::alloc::Global;
-use tcp_conn::{Ending, Phase};
+use crate::records::{CAddr, CStatus};
+use region_heap::Region;
+use tcp_conn::{CallError, Ending, Endpoint, Negotiated, Phase};
+use tcp_wire::Addr;
 
 /// The number of a phase, in the order of RFC 9293, 3.3.2.
 fn phase_number(phase: Phase) -> u32
@@ -40,26 +42,48 @@ fn ending_number(ending: Ending) -> u32
     }
 }
 
-/// The phase, the ending, the counts and the positions; all zero where there is no end.
-#[unsafe(no_mangle)]
-pub extern "C" fn tcp_c_status(heap: Global, handle: &mut Handle, status: &mut CStatus) -> u32
-    ensures answer { result ≡ answer_of (λ _. done) handle.old.held.end }
-    ensures status { status.new ≡ status_of handle.old.held.end }
-    ensures state { handle.new.held.end ≡ handle.old.held.end }
+/// What the two SYNs agreed on; nothing before the peer's was taken.
+fn agreed(end: &Endpoint<Region>) -> Negotiated
+    ensures { result ≡ agreed end.now }
 {
-    let Some(end) = handle.take(heap) else {
-        *status = CStatus {
-            phase: 0,
-            ending: 0,
-            unread: 0,
-            released: 0,
-            ordered: 0,
-            una: 0,
-            next: 0,
-        };
-        return NO_END;
-    };
-    *status = CStatus {
+    end.negotiated().unwrap_or(Negotiated {
+        mss: 0,
+        scaling: false,
+        own_shift: 0,
+        peer_shift: 0,
+        sack: false,
+    })
+}
+
+/// All zero.
+fn no_status() -> CStatus
+    ensures { result ≡ no_status }
+{
+    CStatus {
+        phase: 0,
+        ending: 0,
+        unread: 0,
+        released: 0,
+        ordered: 0,
+        una: 0,
+        next: 0,
+        room: 0,
+        queued: 0,
+        in_flight: 0,
+        mss: 0,
+        own_shift: 0,
+        peer_shift: 0,
+        scaling: 0,
+        sack: 0,
+    }
+}
+
+/// What is said of this end.
+fn status_of(end: &Endpoint<Region>) -> CStatus
+    ensures { result ≡ status_of (Some end.now) }
+{
+    let agreed = agreed(end);
+    CStatus {
         phase: phase_number(end.phase()),
         ending: ending_number(end.ending()),
         unread: end.unread(),
@@ -67,7 +91,73 @@ pub extern "C" fn tcp_c_status(heap: Global, handle: &mut Handle, status: &mut C
         ordered: end.ordered(),
         una: end.una(),
         next: end.next(),
+        room: end.room(),
+        queued: end.queued(),
+        in_flight: end.in_flight(),
+        mss: u32::from(agreed.mss),
+        own_shift: agreed.own_shift,
+        peer_shift: agreed.peer_shift,
+        scaling: u8::from(agreed.scaling),
+        sack: u8::from(agreed.sack),
+    }
+}
+
+/// The phase, the ending, the counts, the positions, and what the SYNs agreed on; all zero where there is no end.
+#[unsafe(no_mangle)]
+pub extern "C" fn tcp_c_status(handle: &mut Handle, status: &mut CStatus) -> u32
+    ensures answer { result ≡ answer_of (λ _. done) handle.old.held.end }
+    ensures status { status.new ≡ status_of handle.old.held.end }
+    ensures state { handle.new.held.end ≡ handle.old.held.end }
+{
+    let Some(end) = handle.take() else {
+        *status = no_status();
+        return NO_END;
     };
+    *status = status_of(&end);
     handle.put(end);
+    DONE
+}
+
+/// The peer's address and port: from `tcp_c_connect` on, or from the SYN on that came in LISTEN, and past an end too. 16
+/// before, and zeros.
+#[unsafe(no_mangle)]
+pub extern "C" fn tcp_c_peer(handle: &mut Handle, addr: &mut CAddr, port: &mut u16) -> u32
+    ensures answer { result ≡ answer_of peer_number handle.old.held.end }
+    ensures addr { addr.new.byte ≡ peer_address handle.old.held.end }
+    ensures port { port.new ≡ number_written (λ s. port_told (peer_of s)) handle.old.held.end }
+    ensures state { handle.new.held.end ≡ handle.old.held.end }
+{
+    addr.byte = [0; 4];
+    *port = 0;
+    let Some(end) = handle.take() else {
+        return NO_END;
+    };
+    let peer = end.peer();
+    handle.put(end);
+    let Some(peer) = peer else {
+        return u32::from(CallError::NotConnected.number());
+    };
+    let Addr(byte) = peer.addr;
+    addr.byte = byte;
+    *port = peer.port;
+    DONE
+}
+
+/// The length of the segment that `tcp_c_emit` would write now, 0 where none is due.
+#[unsafe(no_mangle)]
+pub extern "C" fn tcp_c_pending(handle: &mut Handle, due: &mut u32) -> u32
+    ensures answer { result ≡ answer_of (λ _. done) handle.old.held.end }
+    ensures due { due.new ≡ number_written length_due handle.old.held.end }
+    ensures state { handle.new.held.end ≡ handle.old.held.end }
+{
+    *due = 0;
+    let Some(end) = handle.take() else {
+        return NO_END;
+    };
+    let pending = end.pending();
+    handle.put(end);
+    if let Some(len) = pending {
+        *due = len as u32;
+    }
     DONE
 }

@@ -5,7 +5,6 @@ ghost use Rattle.tcp_c.specs.Calls.{timer_of, timer_number, after_any_timer, run
 
 use crate::answers::{DONE, NO_END, NO_RULE, NO_TIMER};
 use crate::handle::Handle;
-use std::alloc::Global;
 use tcp_conn::Timer;
 
 /// The timer of a number.
@@ -23,11 +22,11 @@ fn timer_of(number: u32) -> Option<Timer>
 /// A timer has run out: 0 the retransmission timeout, 1 the reordering timeout, 2 the TIME-WAIT timeout (RFC 9293,
 /// 3.10.8). 54 where its rule doesn't apply, 34 at any other number, and nothing changes then.
 #[unsafe(no_mangle)]
-pub extern "C" fn tcp_c_timer(heap: Global, handle: &mut Handle, timer: u32) -> u32
+pub extern "C" fn tcp_c_timer(handle: &mut Handle, timer: u32) -> u32
     ensures answer { result ≡ answer_of (timer_number (timer_of timer)) handle.old.held.end }
     ensures state { handle.new.held.end ≡ option_map (after_any_timer (timer_of timer)) handle.old.held.end }
 {
-    let Some(mut end) = handle.take(heap) else {
+    let Some(mut end) = handle.take() else {
         return NO_END;
     };
     let answer = match timer_of(timer) {
@@ -41,13 +40,13 @@ pub extern "C" fn tcp_c_timer(heap: Global, handle: &mut Handle, timer: u32) -> 
 /// Which timers have to run: 1 for the retransmission timeout, 2 for the reordering timeout and 4 for the TIME-WAIT
 /// timeout, added.
 #[unsafe(no_mangle)]
-pub extern "C" fn tcp_c_timers(heap: Global, handle: &mut Handle, running: &mut u32) -> u32
+pub extern "C" fn tcp_c_timers(handle: &mut Handle, running: &mut u32) -> u32
     ensures answer { result ≡ answer_of (λ _. done) handle.old.held.end }
     ensures running { running.new ≡ number_written running_timers handle.old.held.end }
     ensures state { handle.new.held.end ≡ handle.old.held.end }
 {
     *running = 0;
-    let Some(end) = handle.take(heap) else {
+    let Some(end) = handle.take() else {
         return NO_END;
     };
     let (retransmit, reorder, time_wait) = end.timers();

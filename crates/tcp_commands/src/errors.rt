@@ -8,7 +8,7 @@ use std::alloc::AllocError;
 use tcp_conn::ConfigError;
 use tcp_replay::Side;
 use tcp_report::ReportError;
-use tcp_script::{ScriptError, side_name};
+use tcp_script::ScriptError;
 use thiserror::Error;
 
 /// Why `show` or `replay` ends without its whole report. The `Display` text is what the program writes after
@@ -28,7 +28,7 @@ pub enum ToolError {
     #[error("44")]
     WriteFault,
     /// The end of this side can't be made as the script has it; never for want of memory.
-    #[error("config {side} {number}", side = side_name(*.0), number = .1.number())]
+    #[error("config {0} {number}", number = .1.number())]
     Config(Side, ConfigError),
 }
 

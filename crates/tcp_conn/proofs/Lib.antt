@@ -3,3 +3,5 @@ pub mod Placing
 pub mod Reported
 pub mod Segments
 pub mod PhaseRows
+mod Strays
+mod Urgent

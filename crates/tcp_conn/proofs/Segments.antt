@@ -61,6 +61,14 @@ offset_of_report s =
     let options = spellings (sack_options (blocks_to_report s)) in
     omega (arith, length-sack_options (blocks_to_report s), length-append options (replicate {A = ℕ} 0 0))
 
+-- where no block is reported
+no-options : (bs : List (ℕ × ℕ)) → sack_length bs ≡ 0 → sack_options bs ≡ []
+no-options [] none = refl
+no-options (b ∷ bs) none = absurd (omega (arith, none))
+
+pub none_reported : (s : State) → sack_length (blocks_to_report s) ≡ 0 → sack_options (blocks_to_report s) ≡ []
+none_reported s none = no-options (blocks_to_report s) none
+
 -- without padding
 length-option_bytes : (v : Content) → v.pad ≡ 0 → length (option_bytes v) ≡ length (spellings v.options)
 length-option_bytes v none =

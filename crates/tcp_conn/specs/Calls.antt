@@ -108,6 +108,11 @@ with_bytes_received s room = record s {
 unfoldable pub after_receive : State → ℕ → State
 after_receive s room = state_unless (receive_refusal s) s (with_bytes_received s room)
 
+-- ACKNOWLEDGE: a user who has read has the window told now, where the peer's text is taken (RFC 9293, 3.8.6.2.2). In any other phase
+-- the peer has nothing to send, and nothing changes
+unfoldable pub after_acknowledge : State → State
+after_acknowledge s = record s { owed = record s.owed { ack = s.owed.ack || takes_text s.phase } }
+
 -- CLOSE (RFC 9293, 3.10.4)
 abbrev pub close_refusal : State → Option CallError
 close_refusal s = option_or (open_refusal s) (refusal_if s.closing Closing)

@@ -45,9 +45,13 @@ end_of s (Fin start) = start + 1
 end_of s (ResentFin start) = start + 1
 end_of s Acknowledgement = s.nxt
 
--- TEXT LIMIT: the smaller of the peer's and the own maximum segment size, less the options (RFC 9293, 3.7.1)
+-- the MSS in use: the smaller of the peer's and the own maximum segment size
+abbrev pub mss_in_use : State → ℕ
+mss_in_use s = min s.config.mss s.link.peer_mss
+
+-- TEXT LIMIT: the MSS in use, less the options (RFC 9293, 3.7.1)
 abbrev pub text_limit : State → ℕ
-text_limit s = min s.config.mss s.link.peer_mss - sack_length (blocks_to_report s)
+text_limit s = mss_in_use s - sack_length (blocks_to_report s)
 
 -- RESEND: the first run of unmarked text of the range, as far as range and text limit allow; after all text the
 -- FIN alone, where the range reaches past it

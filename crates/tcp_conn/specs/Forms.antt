@@ -19,9 +19,9 @@ abbrev pub reset_ack : Option Seq → ℕ
 reset_ack None = 0
 reset_ack (Some seq) = seq.0
 
-abbrev pub reset_segment : State → WaitingReset → Content
-reset_segment s r = record {
-  src_port = s.config.port;
+abbrev pub reset_from : ℕ → WaitingReset → Content
+reset_from port r = record {
+  src_port = port;
   dst_port = r.to.port;
   seq = r.seq.0;
   ack = reset_ack r.ack;
@@ -33,6 +33,9 @@ reset_segment s r = record {
   pad = 0;
   text = [];
 }
+
+abbrev pub reset_segment : State → WaitingReset → Content
+reset_segment s r = reset_from s.config.port r
 
 -- A SYN, and after the peer's SYN its acknowledgement (RFC 9293, 3.10.1 and 3.10.7.2). It offers scaling and selective
 -- acknowledgement as the Config says, and in an answer only where the peer did (RFC 7323, 2.2; RFC 2018, 2); its own

@@ -20,4 +20,8 @@ pub mod Due
 pub mod Forms
 pub mod Writing
 pub mod Emission
+pub mod Status
+pub mod Names
+pub mod AtOnce
+pub mod Stray
 pub mod PhaseTable

@@ -2,6 +2,7 @@
 ghost use Rattle.std.specs.Prelude.{◌≡◌};
 ghost use Rattle.tcp_wire.specs.View.{raw_content};
 ghost use Rattle.tcp_conn.specs.Arrival.{after_acked_text, after_arrival, after_fin, after_its_ack, after_its_text, after_judgement, after_news, after_own_fin, after_own_syn, after_peer_accepts, after_peer_opens, after_reported_blocks, after_taking, after_taking_shut, arrival_answer, reset_at_ack, reset_of_stray, with_reset};
+ghost use Rattle.tcp_conn.specs.AtOnce.{answers_at_once, breaks_order, is_urgent};
 ghost use Rattle.tcp_conn.specs.Judgement.{judgement};
 ghost use Rattle.tcp_conn.specs.State.{IsWithin};
 
@@ -9,7 +10,7 @@ use crate::endpoint::Endpoint;
 use crate::judgement::{Judgement, count_numbers};
 use crate::link::{Peer, WaitingReset};
 use crate::options::link_of;
-use crate::outcome::Arrival;
+use crate::outcome::{Arrival, Taken};
 use crate::phase::{Ending, Phase};
 use std::alloc::Allocator;
 use tcp_wire::{Addr, RawSegment, Seq};
@@ -29,7 +30,7 @@ fn reset_at_ack(src: Addr, segment: &RawSegment<'_>) -> WaitingReset
 }
 
 /// The reset that answers a segment which comes to no connection (RFC 9293, 3.10.7.1).
-fn reset_of_stray(src: Addr, segment: &RawSegment<'_>) -> WaitingReset
+pub(crate) fn reset_of_stray(src: Addr, segment: &RawSegment<'_>) -> WaitingReset
     ensures { result ≡ reset_of_stray src.0 (raw_content segment.now) }
 {
     if segment.header.flags.is_ack() {
@@ -47,23 +48,66 @@ fn reset_of_stray(src: Addr, segment: &RawSegment<'_>) -> WaitingReset
 
 impl<A: Allocator> Endpoint<A> {
     /// Takes bytes that came from `src` to `dst`, whatever they are (RFC 9293, 3.10.7).
-    #[tactic(auto, unfolding(crate::specs::Arrival::arrival_answer, crate::specs::Arrival::after_arrival))]
     pub fn arrive(&mut self, src: Addr, dst: Addr, bytes: &[u8]) -> Arrival
         ensures answer { result ≡ arrival_answer self.old src.0 dst.0 bytes.now }
         ensures state { self.new ≡ after_arrival self.old src.0 dst.0 bytes.now }
         ensures within { IsWithin self.new }
     {
-        let answer = match RawSegment::parse(src, dst, bytes) {
+        self.take(src, dst, bytes).arrival
+    }
+
+    /// The same, and whether the segment has to be answered at once (RFC 5681, 4.2).
+    #[must_use]
+    #[tactic(auto, unfolding(crate::specs::Arrival::arrival_answer, crate::specs::Arrival::after_arrival, crate::specs::AtOnce::answers_at_once))]
+    pub fn take(&mut self, src: Addr, dst: Addr, bytes: &[u8]) -> Taken
+        ensures answer { result.arrival ≡ arrival_answer self.old src.0 dst.0 bytes.now }
+        ensures at_once { result.at_once ≡ answers_at_once self.old src.0 dst.0 bytes.now }
+        ensures state { self.new ≡ after_arrival self.old src.0 dst.0 bytes.now }
+        ensures within { IsWithin self.new }
+    {
+        let taken = match RawSegment::parse(src, dst, bytes) {
             Ok(segment) => {
                 let judgement = self.judge(src, dst, &segment);
+                let had_gap = self.receiver.has_gap();
                 self.follow(judgement, src, &segment);
-                judgement.answer()
+                Taken {
+                    arrival: judgement.answer(),
+                    at_once: self.is_urgent(judgement, had_gap, &segment),
+                }
             }
-            Err(fault) => Arrival::Malformed(fault),
+            Err(fault) => Taken {
+                arrival: Arrival::Malformed(fault),
+                at_once: false,
+            },
         };
         // So that the proof knows what always holds of an end.
         let _ = &self.config;
-        answer
+        taken
+    }
+
+    /// Whether a segment that was taken by this judgement has to be answered at once (RFC 5681, 4.2).
+    fn is_urgent(&self, judgement: Judgement, had_gap: bool, segment: &RawSegment<'_>) -> bool
+        ensures { result ≡ is_urgent judgement had_gap self.now (raw_content segment.now) }
+    {
+        match judgement {
+            Judgement::Taken => self.owed.ack && self.breaks_order(had_gap, segment),
+            Judgement::TakenShut => self.owed.ack,
+            Judgement::Foreign
+            | Judgement::ResetIgnored
+            | Judgement::OpensNothing
+            | Judgement::NoAck
+            | Judgement::PeerRefuses
+            | Judgement::PeerResets => false,
+            _ => true,
+        }
+    }
+
+    /// Whether it had a FIN, or text that came out of order or filled all or part of a gap.
+    fn breaks_order(&self, had_gap: bool, segment: &RawSegment<'_>) -> bool
+        ensures { result ≡ breaks_order had_gap self.now (raw_content segment.now) }
+    {
+        let is_early = had_gap || self.receiver.has_gap();
+        segment.header.flags.is_fin() || !segment.text.is_empty() && is_early
     }
 
     /// What a judgement does.
@@ -90,7 +134,7 @@ impl<A: Allocator> Endpoint<A> {
             | Judgement::ResetElsewhere
             | Judgement::SynInWindow
             | Judgement::AcksUnsent => self.owed.ack = true,
-            Judgement::Taken => self.take(segment),
+            Judgement::Taken => self.take_all(segment),
             Judgement::TakenShut => self.take_shut(segment),
         }
     }
@@ -115,8 +159,7 @@ impl<A: Allocator> Endpoint<A> {
             addr: src,
             port: segment.header.src_port,
         };
-        let options = segment.options();
-        self.link = link_of(&self.config, options.as_slice());
+        self.link = link_of(&self.config, segment.options_left());
         self.sender.send_syn();
         self.receiver.take_syn(segment.header.seq);
         self.owed.syn = true;
@@ -129,8 +172,7 @@ impl<A: Allocator> Endpoint<A> {
         ensures { self.new ≡ after_peer_accepts self.old (raw_content segment.now) }
     {
         self.phase = Phase::Established;
-        let options = segment.options();
-        self.link = link_of(&self.config, options.as_slice());
+        self.link = link_of(&self.config, segment.options_left());
         self.sender.take_syn_ack(
             segment.header.seq,
             segment.header.ack,
@@ -143,7 +185,7 @@ impl<A: Allocator> Endpoint<A> {
 
     /// All of a segment is taken (RFC 9293, 3.10.7.4, fifth to eighth).
     #[tactic(auto, unfolding(crate::specs::Arrival::after_taking))]
-    fn take(&mut self, segment: &RawSegment<'_>)
+    fn take_all(&mut self, segment: &RawSegment<'_>)
         ensures { self.new ≡ after_taking self.old (raw_content segment.now) }
     {
         self.take_its_ack(segment);
@@ -161,6 +203,7 @@ impl<A: Allocator> Endpoint<A> {
     }
 
     /// Its acknowledgement, window and blocks (RFC 9293, 3.10.7.4, fifth).
+    #[inline(always)]
     #[tactic(auto, unfolding(crate::specs::Arrival::after_its_ack))]
     fn take_its_ack(&mut self, segment: &RawSegment<'_>)
         ensures { self.new ≡ after_its_ack self.old (raw_content segment.now) }
@@ -211,21 +254,20 @@ impl<A: Allocator> Endpoint<A> {
         let window = self.window_from(segment.header.window);
         self.sender
             .update_window(segment.header.seq, segment.header.ack, window);
-        // Most segments have no options: no list is made for them.
+        // Most segments have no options.
         if self.link.sack && segment.has_area() {
             self.take_blocks(segment);
         }
     }
 
-    /// The blocks of all options (RFC 2018, 5). It is a function of its own, as `peer_opens` and `peer_accepts` do: a list of options among the locals
-    /// of a plain arrival would be zeroed each time.
+    /// The blocks of all options (RFC 2018, 5). It is a function of its own, as `peer_opens` and `peer_accepts` are: an option
+    /// among the locals of a plain arrival would be zeroed each time.
     #[inline(never)]
     fn take_blocks(&mut self, segment: &RawSegment<'_>)
         ensures { self.new ≡ after_reported_blocks self.old (raw_content segment.now) }
     {
         let iss = self.config.isn;
-        let options = segment.options();
-        self.sender.mark_reported(iss, options.as_slice());
+        self.sender.mark_reported(iss, segment.options_left());
     }
 
     /// The own FIN is acknowledged (RFC 9293, 3.10.7.4, fifth).

@@ -8,7 +8,7 @@ use crate::endpoint::Endpoint;
 use crate::sender::Sender;
 use arrayvec::ArrayVec;
 use std::alloc::Allocator;
-use tcp_wire::{Seq, TcpOption};
+use tcp_wire::{OptionsLeft, Seq, TcpOption};
 
 /// The sequence numbers of blocks that are counted from the next byte in order.
 fn block_numbers(next: Seq, blocks: &[(u32, u32)]) -> ArrayVec<(Seq, Seq), 4>
@@ -22,19 +22,8 @@ fn block_numbers(next: Seq, blocks: &[(u32, u32)]) -> ArrayVec<(Seq, Seq), 4>
     numbers
 }
 
-/// The bytes that blocks take among the options: two Nops, kind and length byte, and eight for each block.
-pub(crate) fn sack_length(blocks: &[(Seq, Seq)]) -> u16
-    requires { length blocks.now ≤ 4 }
-    ensures { result ≡ sack_length (map block blocks.now) }
-{
-    match blocks {
-        [] => 0,
-        [_, rest @ ..] => 12 + 8 * rest.len() as u16,
-    }
-}
-
 /// The options that report these blocks (RFC 2018, 3).
-pub(crate) fn sack_options<'a>(blocks: ArrayVec<(Seq, Seq), 4>) -> ArrayVec<TcpOption<'a>, 40>
+pub(crate) fn sack_options<'a>(blocks: ArrayVec<(Seq, Seq), 4>) -> ArrayVec<TcpOption<'a>, 3>
     ensures { map option_content result.items ≡ sack_options (map block blocks.items) }
 {
     let mut options = ArrayVec::new();
@@ -56,6 +45,21 @@ impl<A: Allocator> Endpoint<A> {
         }
         let blocks = self.receiver.blocks();
         block_numbers(self.receiver.next(), blocks.as_slice())
+    }
+
+    /// The bytes that they take among the options: two Nops, kind and length byte, and eight for each block. No block is made
+    /// for that.
+    pub(crate) fn report_len(&self) -> u16
+        ensures value { result ≡ sack_length (blocks_to_report self.now) }
+        ensures most { result ≤ 36 }
+    {
+        if !self.link.sack {
+            return 0;
+        }
+        match self.receiver.block_count() {
+            0 => 0,
+            count => 4 + 8 * count as u16,
+        }
     }
 }
 
@@ -97,23 +101,18 @@ impl<A: Allocator> Sender<A> {
     }
 
     /// The blocks of all options.
-    pub(crate) fn mark_reported(&mut self, iss: Seq, options: &[TcpOption<'_>])
-        ensures state { self.new ≡ after_blocks iss.0 self.old (reported_blocks (map option_content options.now)) }
+    pub(crate) fn mark_reported(&mut self, iss: Seq, options: OptionsLeft<'_>)
+        ensures state { self.new ≡ after_blocks iss.0 self.old (reported_blocks options.entry) }
         ensures capacity { self.new.queue.capacity ≡ self.old.queue.capacity }
         ensures queued { length self.new.queue.bytes ≤ self.new.queue.capacity }
     {
-        match options {
-            [] => {
-                // So that the proof knows what always holds of a sender.
-                let _ = &self.una;
+        // So that the proof knows what always holds of a sender.
+        let _ = &self.una;
+        let mut left = options;
+        while let Some(option) = left.next() {
+            if let TcpOption::Sack(blocks) = option {
+                self.mark_blocks(iss, blocks.as_slice());
             }
-            [first, rest @ ..] => match first {
-                TcpOption::Sack(blocks) => {
-                    self.mark_blocks(iss, blocks.as_slice());
-                    self.mark_reported(iss, rest);
-                }
-                _ => self.mark_reported(iss, rest),
-            },
         }
     }
 }

@@ -1,5 +1,5 @@
 ghost use Rattle.std.specs.Prelude.{◌≡◌, ◌++◌, drop, length};
-ghost use Rattle.tcp_conn.specs.Calls.{abort_answer, after_abort, after_close, after_closing, after_connect, after_listen, after_receive, after_send, close_answer, close_refusal, open_refusal, opening_answer, opening_refusal, receive_answer, receive_refusal, received_bytes, send_answer, send_refusal, with_abort};
+ghost use Rattle.tcp_conn.specs.Calls.{abort_answer, after_abort, after_acknowledge, after_close, after_closing, after_connect, after_listen, after_receive, after_send, close_answer, close_refusal, open_refusal, opening_answer, opening_refusal, receive_answer, receive_refusal, received_bytes, send_answer, send_refusal, with_abort};
 ghost use Rattle.tcp_conn.specs.State.{IsWithin};
 
 use crate::endpoint::Endpoint;
@@ -150,6 +150,19 @@ impl<A: Allocator> Endpoint<A> {
             return Some(CallError::NotOpen);
         }
         None
+    }
+
+    /// Makes an acknowledgement due, which tells the window as it is now: for a user who has read, and thinks that the window
+    /// has grown by enough (RFC 9293, 3.8.6.2.2). In ESTABLISHED, FIN-WAIT-1 and FIN-WAIT-2, where the peer's text is taken;
+    /// in any other phase nothing changes.
+    #[tactic(auto, unfolding(crate::specs::Calls::after_acknowledge))]
+    pub fn acknowledge(&mut self)
+        ensures state { self.new ≡ after_acknowledge self.old }
+        ensures within { IsWithin self.new }
+    {
+        // So that the proof knows what always holds of an end.
+        let _ = &self.config;
+        self.owed.ack = self.owed.ack || self.phase.takes_text();
     }
 
     /// The user has no more to send (RFC 9293, 3.10.4). Before the handshake has an answer the connection ends as aborted; in

@@ -5,7 +5,6 @@ ghost use Rattle.tcp_conn.specs.Config.{max_mss};
 ghost use Rattle.tcp_conn.specs.Due.{Lies, count_of, due_of, end_of, fin_of, is_fin, new_text_of, resend_of, resent_fin, resent_text, start_of, text_due, text_limit};
 ghost use Rattle.tcp_conn.specs.Config.{stream_limit};
 
-use crate::blocks::sack_length;
 use crate::endpoint::Endpoint;
 use crate::link::WaitingReset;
 use crate::sender::Sender;
@@ -209,7 +208,6 @@ impl<A: Allocator> Endpoint<A> {
         ensures value { result ≡ text_limit self.now }
         ensures most { result ≤ max_mss }
     {
-        let limit = self.config.mss.min(self.link.peer_mss);
-        limit.saturating_sub(sack_length(self.blocks_to_report().as_slice()))
+        self.mss_in_use().saturating_sub(self.report_len())
     }
 }

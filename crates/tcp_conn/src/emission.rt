@@ -7,7 +7,6 @@ ghost use Rattle.tcp_conn.specs.Emission.{after_emission, buffer_after, destinat
 ghost use Rattle.tcp_conn.specs.Forms.{plain_segment, segment_of};
 ghost use Rattle.tcp_conn.specs.State.{IsWithin};
 
-use crate::blocks::sack_length;
 use crate::due::Due;
 use crate::endpoint::Endpoint;
 use crate::forms::HEADER_LEN;
@@ -44,8 +43,7 @@ impl<A: Allocator> Endpoint<A> {
         ensures value { result ≡ wire_length (plain_segment self.now due) }
         ensures most { result ≤ EMIT_ROOM }
     {
-        let blocks = sack_length(self.blocks_to_report().as_slice());
-        HEADER_LEN + usize::from(blocks) + due.count()
+        HEADER_LEN + usize::from(self.report_len()) + due.count()
     }
 
     /// The length of the segment that is due.
@@ -72,6 +70,7 @@ impl<A: Allocator> Endpoint<A> {
     }
 
     /// The length in bytes of the segment that `emit` would write now, if one is due.
+    #[must_use]
     #[tactic(auto, unfolding(crate::specs::Emission::pending_length))]
     pub fn pending(&self) -> Option<usize>
         ensures value { result ≡ pending_length self.now }
@@ -104,6 +103,7 @@ impl<A: Allocator> Endpoint<A> {
 
     /// Writes the segment that is due at the start of `out`, which has room for [`EMIT_ROOM`] bytes, and answers where it
     /// goes and its length, at most that (RFC 9293, 3.7, 3.8 and 3.10). `None`, and nothing changes, exactly where none is due.
+    #[must_use]
     #[tactic(auto, unfolding(crate::specs::Emission::pending_length, crate::specs::Emission::destination, crate::specs::Emission::buffer_after, crate::specs::Emission::after_emission))]
     pub fn emit(&mut self, out: &mut [u8]) -> Option<(Addr, usize)>
         requires { EMIT_ROOM ≤ length out.old }

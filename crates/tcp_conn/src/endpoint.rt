@@ -43,6 +43,7 @@ impl<A: Allocator> Model for Endpoint<A> {
 
 impl<A: Allocator> Endpoint<A> {
     /// The state of the connection (RFC 9293, 3.3.2).
+    #[must_use]
     pub fn phase(&self) -> Phase
         ensures { result ≡ self.now.phase }
     {
@@ -50,6 +51,7 @@ impl<A: Allocator> Endpoint<A> {
     }
 
     /// How the connection ended, if it did.
+    #[must_use]
     pub fn ending(&self) -> Ending
         ensures { result ≡ self.now.ending }
     {
@@ -57,6 +59,7 @@ impl<A: Allocator> Endpoint<A> {
     }
 
     /// What it was made from.
+    #[must_use]
     pub fn config(&self) -> Config
         ensures { result ≡ self.now.config }
     {
@@ -64,6 +67,7 @@ impl<A: Allocator> Endpoint<A> {
     }
 
     /// The bytes that came in order and wait for the user.
+    #[must_use]
     pub fn unread(&self) -> usize
         ensures { result ≡ length self.now.receiving.inbox.unread }
     {
@@ -72,6 +76,7 @@ impl<A: Allocator> Endpoint<A> {
 
     /// SND.UNA (RFC 9293, 3.3.1) as a position of the own direction: the oldest that isn't acknowledged. The SYN is at 0, byte
     /// i of the stream at 1 + i, the FIN after the last byte. 0 where no SYN was sent.
+    #[must_use]
     pub fn una(&self) -> u64
         ensures value { result ≡ self.now.sending.una }
         ensures most { result ≤ 2 + stream_limit }
@@ -81,6 +86,7 @@ impl<A: Allocator> Endpoint<A> {
 
     /// RCV.NXT (RFC 9293, 3.3.1) as a position of the peer's direction: 1 and the bytes that came in order, and 1 more once the
     /// peer's FIN was taken. It stays at 2^64 - 1 once there.
+    #[must_use]
     pub fn next(&self) -> u64
         ensures { result ≡ next_wanted self.now.receiving }
     {
@@ -88,6 +94,7 @@ impl<A: Allocator> Endpoint<A> {
     }
 
     /// The text bytes that acknowledgements have released.
+    #[must_use]
     pub fn released(&self) -> u64
         ensures { result ≡ self.now.sending.released }
     {
@@ -95,6 +102,7 @@ impl<A: Allocator> Endpoint<A> {
     }
 
     /// The text bytes that came in order up to now, also past an end; it stays at its greatest value once there.
+    #[must_use]
     pub fn ordered(&self) -> u64
         ensures { result ≡ self.now.receiving.ordered }
     {

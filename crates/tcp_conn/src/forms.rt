@@ -1,12 +1,12 @@
 //! The forms of the segments that an end emits (RFC 9293, 3.1 and 3.10; RFC 7323, 2.2; RFC 2018, 2).
-ghost use Rattle.std.specs.Prelude.{◌≡◌, ◌<◌, ◌≤◌, ◌^◌, ◌++◌, length, map};
+ghost use Rattle.std.specs.Prelude.{◌≡◌, ◌<◌, ◌≤◌, ◌^◌, ◌++◌, [], length, map};
 ghost use Rattle.tcp_wire.specs.Position.{number};
 ghost use Rattle.tcp_wire.specs.View.{content, content_of, option_content};
 ghost use Rattle.tcp_wire.specs.Wire.{IsValid, wire_length};
 ghost use Rattle.tcp_conn.specs.Blocks.{blocks_to_report, sack_options};
 ghost use Rattle.tcp_conn.specs.Config.{max_mss};
 ghost use Rattle.tcp_conn.specs.Due.{Lies};
-ghost use Rattle.tcp_conn.specs.Forms.{flags_of, is_sack_offered, permission_options, plain_segment, pushes, reset_segment, scale_options, shift_offered, syn_options, syn_segment, text_of};
+ghost use Rattle.tcp_conn.specs.Forms.{flags_of, is_sack_offered, permission_options, plain_segment, pushes, reset_from, reset_segment, scale_options, shift_offered, syn_options, syn_segment, text_of};
 
 use crate::due::Due;
 use crate::endpoint::Endpoint;
@@ -15,13 +15,13 @@ use crate::sender::Sender;
 use crate::windows::MAX_WINDOW;
 use arrayvec::ArrayVec;
 use std::alloc::Allocator;
-use tcp_wire::{Flags, Header, Segment, Seq, TcpOption};
+use tcp_wire::{Flags, Header, Seq, TcpOption};
 
 /// The bytes of a segment without options and text (RFC 9293, 3.1).
 pub(crate) const HEADER_LEN: usize = 20;
 
 /// Appends the offer of a shift, if there is one (RFC 7323, 2.2).
-fn push_scale(options: &mut ArrayVec<TcpOption<'_>, 40>, shift: Option<u8>)
+fn push_scale(options: &mut ArrayVec<TcpOption<'_>, 6>, shift: Option<u8>)
     requires { length options.old.items ≤ 1 }
     ensures items { map option_content options.new.items ≡ map option_content options.old.items ++ scale_options shift }
     ensures len { length options.new.items ≤ 3 }
@@ -33,7 +33,7 @@ fn push_scale(options: &mut ArrayVec<TcpOption<'_>, 40>, shift: Option<u8>)
 }
 
 /// Appends the permission of selective acknowledgement, where it is given (RFC 2018, 2).
-fn push_permission(options: &mut ArrayVec<TcpOption<'_>, 40>, permitted: bool)
+fn push_permission(options: &mut ArrayVec<TcpOption<'_>, 6>, permitted: bool)
     requires { length options.old.items ≤ 3 }
     ensures { map option_content options.new.items ≡ map option_content options.old.items ++ permission_options permitted }
 {
@@ -41,6 +41,27 @@ fn push_permission(options: &mut ArrayVec<TcpOption<'_>, 40>, permitted: bool)
         options.push(TcpOption::Nop);
         options.push(TcpOption::Nop);
         options.push(TcpOption::SackPermitted);
+    }
+}
+
+/// The fixed header of a reset that is sent from this port, which has no options (RFC 9293, 3.10.7.1).
+pub(crate) fn reset_from(port: u16, reset: WaitingReset) -> Header
+    ensures value { content_of result [] 0 [] ≡ reset_from port reset }
+    ensures valid { IsValid (content_of result [] 0 []) }
+{
+    let (ack, flags) = match reset.ack {
+        Some(ack) => (ack, Flags::RST.union(Flags::ACK)),
+        None => (Seq(0), Flags::RST),
+    };
+    Header {
+        src_port: port,
+        dst_port: reset.to.port,
+        seq: reset.seq,
+        ack,
+        reserved: 0,
+        flags,
+        window: 0,
+        urgent: 0,
     }
 }
 
@@ -89,7 +110,7 @@ impl<A: Allocator> Endpoint<A> {
     }
 
     /// The options of the own SYN.
-    fn syn_options<'a>(&self) -> ArrayVec<TcpOption<'a>, 40>
+    pub(crate) fn syn_options<'a>(&self) -> ArrayVec<TcpOption<'a>, 6>
         ensures { map option_content result.items ≡ syn_options self.now }
     {
         let mut options = ArrayVec::new();
@@ -99,57 +120,33 @@ impl<A: Allocator> Endpoint<A> {
         options
     }
 
-    /// The own SYN (RFC 9293, 3.10.1 and 3.10.7.2). Its window is never scaled.
-    pub(crate) fn syn_segment<'a>(&self) -> Segment<'a>
-        ensures { content result ≡ syn_segment self.now }
+    /// The fixed header of the own SYN (RFC 9293, 3.10.1 and 3.10.7.2). Its window is never scaled.
+    pub(crate) fn syn_header(&self) -> Header
+        ensures { content_of result (syn_options self.now) 0 [] ≡ syn_segment self.now }
     {
         let opened = self.receiver.is_opened();
-        Segment {
-            header: Header {
-                src_port: self.config.port,
-                dst_port: self.peer.port,
-                seq: self.number_of(0),
-                ack: if opened { self.receiver.next() } else { Seq(0) },
-                reserved: 0,
-                flags: if opened {
-                    Flags::SYN.union(Flags::ACK)
-                } else {
-                    Flags::SYN
-                },
-                window: self.receiver.window().min(MAX_WINDOW) as u16,
-                urgent: 0,
+        Header {
+            src_port: self.config.port,
+            dst_port: self.peer.port,
+            seq: self.number_of(0),
+            ack: if opened { self.receiver.next() } else { Seq(0) },
+            reserved: 0,
+            flags: if opened {
+                Flags::SYN.union(Flags::ACK)
+            } else {
+                Flags::SYN
             },
-            options: self.syn_options(),
-            pad: 0,
-            text: &[],
+            window: self.receiver.window().min(MAX_WINDOW) as u16,
+            urgent: 0,
         }
     }
 
-    /// A reset (RFC 9293, 3.10.7.1).
-    pub(crate) fn reset_segment<'a>(&self, reset: WaitingReset) -> Segment<'a>
-        ensures value { content result ≡ reset_segment self.now reset }
-        ensures valid { IsValid (content result) }
-        ensures len { wire_length (content result) ≡ HEADER_LEN }
+    /// The fixed header of a reset, which has no options (RFC 9293, 3.10.7.1).
+    pub(crate) fn reset_header(&self, reset: WaitingReset) -> Header
+        ensures value { content_of result [] 0 [] ≡ reset_segment self.now reset }
+        ensures valid { IsValid (content_of result [] 0 []) }
     {
-        let (ack, flags) = match reset.ack {
-            Some(ack) => (ack, Flags::RST.union(Flags::ACK)),
-            None => (Seq(0), Flags::RST),
-        };
-        Segment {
-            header: Header {
-                src_port: self.config.port,
-                dst_port: reset.to.port,
-                seq: reset.seq,
-                ack,
-                reserved: 0,
-                flags,
-                window: 0,
-                urgent: 0,
-            },
-            options: ArrayVec::new(),
-            pad: 0,
-            text: &[],
-        }
+        reset_from(self.config.port, reset)
     }
 
     /// The control bits of any other segment: ACK, PSH where the text ends with the last byte of the queue, FIN.

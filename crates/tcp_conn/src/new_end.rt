@@ -43,22 +43,37 @@ impl<A: Allocator + Copy> Endpoint<A> {
         ensures made { OnOk result (IsConfig config) }
         ensures within { IfOk result IsWithin }
     {
-        let Addr(_in_range) = config.addr;
-        if let Some(fault) = config.fault() {
-            return Err(fault);
-        }
-        let Ok(sender) = Sender::new_in(alloc, &config) else {
-            return Err(ConfigError::NoMemory);
-        };
-        let Ok(receiver) = Receiver::new_in(alloc, &config) else {
-            return Err(ConfigError::NoMemory);
-        };
-        Ok(Self::closed(config, sender, receiver))
+        Self::new_of(alloc, alloc, config)
     }
 }
 
 impl<A: Allocator> Endpoint<A> {
-    /// CLOSED, of these two halves: a function of its own, so that no way out of `new_in` has an end to drop.
+    /// The same where each buffer has an allocator of its own: `send` that of the bytes kept for the peer, `recv` that of those
+    /// kept for the user.
+    pub fn new_of(send: A, recv: A, config: Config) -> Result<Self, ConfigError>
+        ensures new { IfOk result (λ e. e ≡ new_end config) }
+        ensures bad_capacity { (result ≡ Err ConfigError.BadCapacity) ↔ HasBadCapacity config }
+        ensures bad_mss { (result ≡ Err ConfigError.BadMss) ↔ HasBadMss config }
+        ensures bad_shift { (result ≡ Err ConfigError.BadShift) ↔ HasBadShift config }
+        ensures bad_limit { (result ≡ Err ConfigError.BadLimit) ↔ HasBadLimit config }
+        ensures good { (result ≡ Err ConfigError.NoMemory) → IsGoodConfig config }
+        ensures made { OnOk result (IsConfig config) }
+        ensures within { IfOk result IsWithin }
+    {
+        let Addr(_in_range) = config.addr;
+        if let Some(fault) = config.fault() {
+            return Err(fault);
+        }
+        let Ok(sender) = Sender::new_in(send, &config) else {
+            return Err(ConfigError::NoMemory);
+        };
+        let Ok(receiver) = Receiver::new_in(recv, &config) else {
+            return Err(ConfigError::NoMemory);
+        };
+        Ok(Self::closed(config, sender, receiver))
+    }
+
+    /// CLOSED, of these two halves: a function of its own, so that no way out of `new_of` has an end to drop.
     fn closed(config: Config, sender: Sender<A>, receiver: Receiver<A>) -> Self
         requires good { IsGoodConfig config }
         requires sending { sender ≡ new_sending config.send_capacity }

@@ -1,70 +1,63 @@
 //! What the options of the peer's SYN offer.
-ghost use Rattle.std.specs.Prelude.{◌≡◌, ◌≤◌, map};
-ghost use Rattle.tcp_wire.specs.View.{option_content};
+ghost use Rattle.std.specs.Prelude.{◌≡◌, ◌≤◌};
 ghost use Rattle.tcp_conn.specs.Options.{mss_option, shift_option, permits_sack, link_of};
 ghost use Rattle.tcp_conn.specs.Config.{max_shift};
 
 use crate::config::{Config, MAX_SHIFT, MIN_MSS};
 use crate::link::Link;
-use tcp_wire::TcpOption;
+use tcp_wire::{OptionsLeft, TcpOption};
 
 /// The MSS of a peer that gives none (RFC 9293, 3.7.1).
 pub(crate) const DEFAULT_MSS: u16 = 536;
 
-/// The first maximum segment size (RFC 9293, 3.7.1).
-fn mss_option(options: &[TcpOption<'_>]) -> Option<u16>
-    ensures { result ≡ mss_option (map option_content options.now) }
-{
-    match options {
-        [] => None,
-        [first, rest @ ..] => match first {
-            TcpOption::Mss(size) => Some(*size),
-            _ => mss_option(rest),
-        },
-    }
+/// What the options of a SYN offer; of repeats the first counts.
+#[derive(Drop)]
+struct Offer {
+    /// The maximum segment size (RFC 9293, 3.7.1).
+    mss: Option<u16>,
+    /// The shift (RFC 7323, 2.2).
+    shift: Option<u8>,
+    /// Whether selective acknowledgement is permitted (RFC 2018, 2).
+    sack: bool,
 }
 
-/// The first shift (RFC 7323, 2.2).
-fn shift_option(options: &[TcpOption<'_>]) -> Option<u8>
-    ensures { result ≡ shift_option (map option_content options.now) }
+/// What these options offer.
+fn offer_of(options: OptionsLeft<'_>) -> Offer
+    ensures mss { result.mss ≡ mss_option options.entry }
+    ensures shift { result.shift ≡ shift_option options.entry }
+    ensures sack { result.sack ≡ permits_sack options.entry }
 {
-    match options {
-        [] => None,
-        [first, rest @ ..] => match first {
-            TcpOption::WindowScale(shift) => Some(*shift),
-            _ => shift_option(rest),
-        },
+    let mut mss = None;
+    let mut shift = None;
+    let mut sack = false;
+    let mut left = options;
+    while let Some(option) = left.next() {
+        match option {
+            TcpOption::Mss(size) => mss = mss.or(Some(size)),
+            TcpOption::WindowScale(count) => shift = shift.or(Some(count)),
+            TcpOption::SackPermitted => sack = true,
+            TcpOption::Nop | TcpOption::Sack(_) | TcpOption::Unknown { .. } => {}
+        }
     }
-}
-
-/// Whether selective acknowledgement is permitted (RFC 2018, 2).
-fn permits_sack(options: &[TcpOption<'_>]) -> bool
-    ensures { result ≡ permits_sack (map option_content options.now) }
-{
-    match options {
-        [] => false,
-        [first, rest @ ..] => match first {
-            TcpOption::SackPermitted => true,
-            _ => permits_sack(rest),
-        },
-    }
+    Offer { mss, shift, sack }
 }
 
 /// What the own Config and the options of the peer's SYN agree on.
 #[tactic(auto, unfolding(crate::specs::Options::link_of))]
-pub(crate) fn link_of(config: &Config, options: &[TcpOption<'_>]) -> Link
-    ensures value { result ≡ link_of config.now (map option_content options.now) }
+pub(crate) fn link_of(config: &Config, options: OptionsLeft<'_>) -> Link
+    ensures value { result ≡ link_of config.now options.entry }
     ensures shift { result.peer_shift ≤ max_shift }
 {
-    let shift = shift_option(options);
+    let offer = offer_of(options);
+    let shift = offer.shift;
     Link {
-        peer_mss: mss_option(options).unwrap_or(DEFAULT_MSS).max(MIN_MSS),
+        peer_mss: offer.mss.unwrap_or(DEFAULT_MSS).max(MIN_MSS),
         scaling: config.window_shift.is_some() && shift.is_some(),
         peer_shift: if config.window_shift.is_some() {
             shift.unwrap_or(0).min(MAX_SHIFT)
         } else {
             0
         },
-        sack: config.sack && permits_sack(options),
+        sack: config.sack && offer.sack,
     }
 }

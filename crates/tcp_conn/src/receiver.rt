@@ -1,5 +1,5 @@
-ghost use Rattle.std.specs.Prelude.{◌≡◌, ◌+◌, ◌^◌, ◌<◌, ◌≤◌, ◌≤ℤ◌, ◌<ℤ◌, pos, negsuc, length, take, drop, min, ◌++◌, IfOk};
-ghost use Rattle.tcp_reasm.specs.Reassembly.{max_capacity, window, blocks};
+ghost use Rattle.std.specs.Prelude.{◌≡◌, ◌+◌, ◌^◌, ◌<◌, ◌≤◌, ◌≤ℤ◌, ◌<ℤ◌, pos, negsuc, nat_lt, length, take, drop, min, ◌++◌, IfOk};
+ghost use Rattle.tcp_reasm.specs.Reassembly.{max_blocks, max_capacity, window, blocks, runs};
 ghost use Rattle.tcp_conn.specs.State.{Receiving};
 ghost use Rattle.tcp_wire.specs.Position.{offset};
 ghost use Rattle.tcp_wire.specs.Wire.{max_text_len};
@@ -38,7 +38,7 @@ impl<A: Allocator> Model for Receiver<A> {
     ghost invariant = { λ r. (r.next.0 < 2 ^ 32) × (r.ordered < 2 ^ 64) × (length r.inbox.unread + length r.inbox.held ≡ r.inbox.capacity) };
 }
 
-impl<A: Allocator + Copy> Receiver<A> {
+impl<A: Allocator> Receiver<A> {
     /// A receiver that waits for the peer's SYN.
     pub(crate) fn new_in(alloc: A, config: &Config) -> Result<Self, ReasmError>
         ensures ok { IfOk result (λ r. r ≡ new_receiving config.now.recv_capacity) }
@@ -114,6 +114,21 @@ impl<A: Allocator> Receiver<A> {
         ensures { result.items ≡ blocks self.now.inbox }
     {
         self.inbox.blocks()
+    }
+
+    /// How many of them there are.
+    pub(crate) fn block_count(&self) -> usize
+        ensures value { result ≡ length (blocks self.now.inbox) }
+        ensures few { result ≤ max_blocks }
+    {
+        self.inbox.block_count()
+    }
+
+    /// Whether a run is held, so that something before it is missing.
+    pub(crate) fn has_gap(&self) -> bool
+        ensures { result ≡ nat_lt 0 (length (runs self.now.inbox.held)) }
+    {
+        self.inbox.held_runs() > 0
     }
 
     /// Takes the peer's SYN (RFC 9293, 3.10.7.2 and 3.10.7.3).

@@ -1,5 +1,5 @@
-ghost use Rattle.std.specs.Prelude.{◌≡◌, ◌≤◌, ◌+◌, ◌==◌, nat_le, length, IfOk, IfSome};
-ghost use Rattle.tcp_sendq.specs.SendQueue.{last_mark_end};
+ghost use Rattle.std.specs.Prelude.{◌≡◌, ◌≤◌, ◌+◌, ◌-◌, ◌==◌, nat_le, min, length, IfOk, IfSome};
+ghost use Rattle.tcp_sendq.specs.SendQueue.{last_mark_end, room};
 ghost use Rattle.tcp_wire.specs.Position.{number, position_of};
 ghost use Rattle.tcp_conn.specs.State.{Sending, accepted_count, place_of, end_of_text};
 ghost use Rattle.tcp_conn.specs.Config.{stream_limit};
@@ -45,7 +45,7 @@ impl<A: Allocator> Model for Sender<A> {
     ghost invariant = { λ s. IsSender (record { una = s.una; nxt = s.nxt; released = s.released; queue = s.queue; resend = s.resend; wnd = s.wnd; wl1 = s.wl1.0; wl2 = s.wl2.0 }) };
 }
 
-impl<A: Allocator + Copy> Sender<A> {
+impl<A: Allocator> Sender<A> {
     /// A sender of which nothing was asked yet.
     pub(crate) fn new_in(alloc: A, config: &Config) -> Result<Self, QueueError>
         ensures ok { IfOk result (λ s. s ≡ new_sending config.now.send_capacity) }
@@ -239,6 +239,21 @@ impl<A: Allocator> Sender<A> {
         self.una == self.nxt && self.count_unsent() > 0 && self.wnd == 0
     }
 
+    /// How many bytes of a long text fit the queue and the limit of the direction.
+    pub(crate) fn room(&self, limit: u64) -> usize
+        ensures { result ≡ min (room self.now.queue) (limit - accepted_count self.now) }
+    {
+        let left = limit.saturating_sub(self.accepted_count());
+        (self.queue.room() as u64).min(left) as usize
+    }
+
+    /// How many bytes are queued.
+    pub(crate) fn queued(&self) -> usize
+        ensures { result ≡ length self.now.queue.bytes }
+    {
+        self.queue.len()
+    }
+
     /// Takes the longest prefix of `text` that fits the queue and the limit of the direction, and answers its length.
     pub(crate) fn send(&mut self, limit: u64, text: &[u8]) -> usize
         requires { limit ≤ stream_limit }
@@ -247,8 +262,7 @@ impl<A: Allocator> Sender<A> {
         ensures capacity { self.new.queue.capacity ≡ self.old.queue.capacity }
         ensures queued { length self.new.queue.bytes ≤ self.new.queue.capacity }
     {
-        let left = limit.saturating_sub(self.accepted_count());
-        let count = self.queue.room().min(text.len()).min(left as usize);
+        let count = self.room(limit).min(text.len());
         let _ = self.queue.offer(&text[..count]);
         count
     }

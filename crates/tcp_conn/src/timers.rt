@@ -25,6 +25,7 @@ impl<A: Allocator> Endpoint<A> {
     }
 
     /// Whether `timer` would answer true now, for Retransmit, Reorder and TimeWait: which timers have to run.
+    #[must_use]
     pub fn timers(&self) -> (bool, bool, bool)
         ensures { result ≡ (timer_answer self.now Retransmit, timer_answer self.now Reorder, timer_answer self.now TimeWait) }
     {

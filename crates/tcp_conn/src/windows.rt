@@ -10,7 +10,7 @@ pub(crate) const MAX_WINDOW: u32 = 65_535;
 
 impl<A: Allocator> Endpoint<A> {
     /// The shift of the windows that this end advertises: none where scaling isn't in use (RFC 7323, 2.3).
-    fn own_shift(&self) -> u8
+    pub(crate) fn own_shift(&self) -> u8
         ensures value { result ≡ own_shift self.now.config self.now.link }
         ensures most { result ≤ max_shift }
     {

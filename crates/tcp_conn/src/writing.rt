@@ -1,9 +1,8 @@
 //! A segment that is due is written.
 ghost use Rattle.std.specs.Prelude.{◌≡◌, ◌≤◌, ◌+◌, ◌++◌, drop, length, map};
 ghost use Rattle.tcp_wire.specs.Checksum.{AreBytes};
-ghost use Rattle.tcp_wire.specs.View.{block, option_content, text_offset};
+ghost use Rattle.tcp_wire.specs.View.{option_content, text_offset};
 ghost use Rattle.tcp_wire.specs.Wire.{header_len, max_area_len, encoded_bytes, wire_length};
-ghost use Rattle.tcp_reasm.specs.Reassembly.{blocks};
 ghost use Rattle.tcp_conn.specs.Blocks.{blocks_to_report, sack_options};
 ghost use Rattle.tcp_conn.specs.Config.{max_mss};
 ghost use Rattle.tcp_conn.specs.Due.{Lies, count_of};
@@ -15,11 +14,11 @@ use crate::blocks::sack_options;
 use crate::due::Due;
 use crate::emission::EMIT_ROOM;
 use crate::endpoint::Endpoint;
+use crate::forms::HEADER_LEN;
 use crate::link::WaitingReset;
 use crate::sender::Sender;
-use arrayvec::ArrayVec;
 use std::alloc::Allocator;
-use tcp_wire::{Addr, Seq, TcpOption, encode, text_offset, write_around};
+use tcp_wire::{Addr, TcpOption, write_around};
 
 impl<A: Allocator> Sender<A> {
     /// Copies the text of what is due.
@@ -55,18 +54,26 @@ impl<A: Allocator> Endpoint<A> {
         ensures bytes { out.new ≡ encoded_bytes self.now.config.addr.0 self.now.peer.addr.0 (syn_segment self.now) ++ drop result out.old }
     {
         self.fits_fields();
-        let segment = self.syn_segment();
-        encode(&segment, self.config.addr, self.peer.addr, out)
+        let header = self.syn_header();
+        let options = self.syn_options();
+        write_around(
+            &header,
+            options.as_slice(),
+            0,
+            0,
+            self.config.addr,
+            self.peer.addr,
+            out,
+        )
     }
 
     /// Where the text of such a segment begins, after the options that report blocks (RFC 9293, 3.1, Data Offset).
-    #[tactic(auto, using(crate::proofs::Segments::report_spellable, crate::proofs::Segments::offset_of_report, crate::proofs::Segments::report_options_short))]
-    fn text_start(&self, options: &[TcpOption<'_>]) -> usize
-        requires { map option_content options.now ≡ sack_options (blocks_to_report self.now) }
+    #[tactic(auto, using(crate::proofs::Segments::offset_of_report))]
+    fn text_start(&self) -> usize
         ensures offset { result ≡ text_offset (sack_options (blocks_to_report self.now)) 0 }
         ensures most { result ≤ header_len + max_area_len }
     {
-        text_offset(options, 0)
+        HEADER_LEN + usize::from(self.report_len())
     }
 
     /// Writes a segment with text and these options at the start of `out`, and answers its length. The text goes from the
@@ -81,7 +88,7 @@ impl<A: Allocator> Endpoint<A> {
     {
         self.fits_fields();
         let header = self.plain_header(due);
-        let start = self.text_start(options);
+        let start = self.text_start();
         let count = due.count();
         self.sender.copy(due, &mut out[start..start + count]);
         write_around(
@@ -95,23 +102,22 @@ impl<A: Allocator> Endpoint<A> {
         )
     }
 
-    /// Writes a segment with text and the options that report these blocks. It is a function of its own, as the writing of a SYN
-    /// and a reset is, so that a plain segment has no list of options among its locals.
+    /// Writes a segment with text and the options that report blocks. It is a function of its own, as the writing of a SYN and
+    /// a reset is, so that a plain segment has no blocks among its locals.
     #[inline(never)]
-    fn write_blocks(&self, due: Due, blocks: ArrayVec<(Seq, Seq), 4>, out: &mut [u8]) -> usize
+    fn write_blocks(&self, due: Due, out: &mut [u8]) -> usize
         requires lies { Lies self.now.sending max_mss due }
-        requires blocks { map block blocks.items ≡ blocks_to_report self.now }
         requires room { EMIT_ROOM ≤ length out.old }
         ensures len { result ≡ wire_length (plain_segment self.now due) }
         ensures most { result ≤ EMIT_ROOM }
         ensures bytes { out.new ≡ encoded_bytes self.now.config.addr.0 self.now.peer.addr.0 (plain_segment self.now due) ++ drop result out.old }
     {
-        let options = sack_options(blocks);
+        let options = sack_options(self.blocks_to_report());
         self.write_text(due, options.as_slice(), out)
     }
 
-    /// Writes a segment with text at the start of `out`, and answers its length. Where no block is reported, no list of
-    /// options is made.
+    /// Writes a segment with text at the start of `out`, and answers its length.
+    #[tactic(auto, using(crate::proofs::Segments::none_reported))]
     fn write_plain(&self, due: Due, out: &mut [u8]) -> usize
         requires lies { Lies self.now.sending max_mss due }
         requires room { EMIT_ROOM ≤ length out.old }
@@ -119,11 +125,10 @@ impl<A: Allocator> Endpoint<A> {
         ensures most { result ≤ EMIT_ROOM }
         ensures bytes { out.new ≡ encoded_bytes self.now.config.addr.0 self.now.peer.addr.0 (plain_segment self.now due) ++ drop result out.old }
     {
-        let blocks = self.blocks_to_report();
-        if blocks.is_empty() {
+        if self.report_len() == 0 {
             return self.write_text(due, &[], out);
         }
-        self.write_blocks(due, blocks, out)
+        self.write_blocks(due, out)
     }
 
     /// Writes a waiting reset at the start of `out`, and answers its length.
@@ -134,8 +139,8 @@ impl<A: Allocator> Endpoint<A> {
         ensures most { result ≤ EMIT_ROOM }
         ensures bytes { out.new ≡ encoded_bytes self.now.config.addr.0 reset.to.addr.0 (reset_segment self.now reset) ++ drop result out.old }
     {
-        let segment = self.reset_segment(reset);
-        encode(&segment, self.config.addr, reset.to.addr, out)
+        let header = self.reset_header(reset);
+        write_around(&header, &[], 0, 0, self.config.addr, reset.to.addr, out)
     }
 
     /// Writes what is due at the start of `out`, and answers its length.

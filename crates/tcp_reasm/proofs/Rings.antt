@@ -2,7 +2,9 @@
 use Rattle.std.proofs.Common.{◌≡◌, ℕ, zero, suc, ◌+◌, ◌-◌, ◌<◌, ◌≤◌, List, [], ◌∷◌, ◌++◌, length, take, drop, refl, sym, ◌∙◌, ap, arith, append_assoc, length-append, length-drop, length-take}
 use Rattle.std.specs.Prelude.{min}
 use Rattle.std.proofs.lemmas.List.{take-append-drop, take_min, drop_min, drop-drop, drop-append-le, take-append-le}
-use Rattle.tcp_reasm.specs.Store.{turned, put, laid, fresh_byte}
+use Rattle.tcp_reasm.specs.declared.table.Run.{Run as Entry}
+use Rattle.tcp_reasm.specs.Reassembly.{stamp_of_run}
+use Rattle.tcp_reasm.specs.Store.{turned, put, runs_in, ranked, laid, fresh_byte}
 
 pub length_put : (start : ℕ) (text bytes : List ℕ) → length (put start text bytes) ≡ length bytes
 length_put start text [] = refl
@@ -14,6 +16,10 @@ pub put_nothing : (start : ℕ) (bytes : List ℕ) → put start [] bytes ≡ by
 put_nothing start [] = refl
 put_nothing zero (byte ∷ bytes) = refl
 put_nothing (suc start) (byte ∷ bytes) = ap (λ rest. byte ∷ rest) (put_nothing start bytes)
+
+pub put_none : (start : ℕ) (text bytes : List ℕ) → length text ≡ 0 → bytes ≡ put start text bytes
+put_none start [] bytes none = sym (put_nothing start bytes)
+put_none start (x ∷ text) bytes none = absurd (omega (arith, none))
 
 nothing_left : (start : ℕ) (text : List ℕ) (end : ℕ) → start + length text ≡ end → end ≡ 0 → take start [] ++ (text ++ drop end []) ≡ []
 nothing_left zero [] zero e h = refl
@@ -215,3 +221,16 @@ pub split_drop : (n m k : ℕ) (bytes : List ℕ) → n + m ≡ k → take m (dr
 split_drop n m k bytes e =
     ap (λ (x : List ℕ). take m (drop n bytes) ++ x) (ap (λ j. drop j bytes) (sym e) ∙ sym (drop-drop m n bytes))
     ∙ take-append-drop m (drop n bytes)
+
+-- where nothing is held, a text is laid as it is written
+put_laid_from : (stamps : ℕ → ℕ) (from start : ℕ) (text bytes : List ℕ) → ((i : ℕ) → stamps i ≡ 0) → put start text bytes ≡ laid stamps from start text bytes
+put_laid_from stamps from start text [] none = refl
+put_laid_from stamps from zero [] (byte ∷ bytes) none = refl
+put_laid_from stamps from zero (new ∷ text) (byte ∷ bytes) none =
+    ap (λ rest. new ∷ rest) (put_laid_from stamps (suc from) zero text bytes none)
+    ∙ ap (λ n. fresh_byte n new byte ∷ laid stamps (suc from) zero text bytes) (sym (none from))
+put_laid_from stamps from (suc start) text (byte ∷ bytes) none = ap (λ rest. byte ∷ rest) (put_laid_from stamps (suc from) start text bytes none)
+
+pub put_laid : (table : List Entry) (place : ℕ) (text bytes : List ℕ) → length table ≡ 0 → put place text bytes ≡ laid (stamp_of_run (ranked (runs_in table))) 0 place text bytes
+put_laid [] place text bytes none = put_laid_from (λ i. 0) 0 place text bytes (λ i. refl)
+put_laid (run ∷ table) place text bytes none = absurd (omega (arith, none))

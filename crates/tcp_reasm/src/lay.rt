@@ -23,6 +23,11 @@ pub(crate) fn lay(
     ensures window { drop unread (turned start block.new)
         ≡ laid (stamp_of_run (ranked (runs_in table.now))) 0 place text.now (drop unread (turned start block.old)) }
 {
+    // Most texts find nothing held.
+    if table.is_empty() {
+        write(block, start, unread + place, text);
+        return;
+    }
     let end = place + text.len();
     let mut next = place;
     while next < end {

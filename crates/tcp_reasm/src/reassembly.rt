@@ -1,12 +1,12 @@
 ghost use Rattle.std.specs.Prelude.{◌≡◌, ◌≢◌, ◌↔◌, ◌⊎◌, ◌<◌, ◌≤◌, ◌+◌, ◌++◌, ◌≤ℤ◌, ◌<ℤ◌, ℕ, ℤ, pos, negsuc, min, length, take, drop, OnErr, IfOk, None, if◌then◌else◌, nat_le, []};
-ghost use Rattle.tcp_reasm.specs.Reassembly.{max_capacity, IsInbox, Inbox, empty_inbox, window, piece, after_place, place_answer, after_read, without_held, blocks, runs, max_runs, max_text_len, with_overlay, bytes_in_order, answer_for};
+ghost use Rattle.tcp_reasm.specs.Reassembly.{max_capacity, IsInbox, Inbox, empty_inbox, window, piece, after_place, place_answer, after_read, without_held, blocks, runs, max_blocks, max_runs, max_text_len, with_overlay, bytes_in_order, answer_for};
 ghost use Rattle.tcp_reasm.specs.Laws.{cell_at, KeepsBytes, TakesPiece, LeavesOthers, EndsAtMissing};
 ghost use Rattle.tcp_reasm.specs.Store.{inbox_of, runs_in, IsKept, overlay_at, has_too_many};
 
 use crate::lay::lay;
 use crate::piece::piece_of;
 use crate::ring::copy;
-use crate::table::{MAX_RUNS, Run, edges_of, rest_of, union_of};
+use crate::table::{MAX_RUNS, Run, edges_of, leave_rest, rest_of, union_of};
 use crate::{Placed, ReasmError};
 use arrayvec::ArrayVec;
 use std::alloc::{Allocator, Global};
@@ -52,7 +52,7 @@ impl Reassembly {
     }
 }
 
-impl<A: Allocator + Copy> Reassembly<A> {
+impl<A: Allocator> Reassembly<A> {
     /// An empty reassembly of so many bytes.
     pub fn new_in(alloc: A, capacity: usize) -> Result<Self, ReasmError>
         ensures ok { IfOk result (λ q. q ≡ empty_inbox capacity) }
@@ -171,7 +171,7 @@ impl<A: Allocator> Reassembly<A> {
         let count = union_of(&self.table, piece).to;
         let unread = self.unread;
         lay(&mut self.block, self.start, unread, &self.table, 0, text);
-        self.table = rest_of(&self.table, piece, count);
+        leave_rest(&mut self.table, piece, count);
         self.unread += count as usize;
         count as usize
     }
@@ -241,6 +241,21 @@ impl<A: Allocator> Reassembly<A> {
     {
         let count = self.table.len().min(MAX_BLOCKS);
         edges_of(&self.table.as_slice()[..count])
+    }
+
+    /// How many blocks there are: the held runs, at most four (RFC 2018, 4).
+    pub fn block_count(&self) -> usize
+        ensures value { result ≡ length (blocks self.now) }
+        ensures few { result ≤ max_blocks }
+    {
+        self.table.len().min(MAX_BLOCKS)
+    }
+
+    /// How many runs are held, at most 16.
+    pub fn held_runs(&self) -> usize
+        ensures { result ≡ length (runs self.now.held) }
+    {
+        self.table.len()
     }
 
     /// Gives up what is unread and what is held, and leaves the whole window, as a reset and an abort do (RFC 9293,

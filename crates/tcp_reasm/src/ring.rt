@@ -19,12 +19,16 @@ pub(crate) fn write(block: &mut [u8], start: usize, place: usize, text: &[u8])
     }
 }
 
-/// Writes a text over some bytes from an index on.
+/// Writes a text over some bytes from an index on. Most texts don't go over the block's end: then nothing is left to write.
+#[tactic(auto, using(crate::proofs::Rings::put_none))]
 fn write_at(bytes: &mut [u8], at: usize, text: &[u8])
     requires { at + length text.now ≤ length bytes.old }
     ensures len { length bytes.new ≡ length bytes.old }
     ensures bytes { bytes.new ≡ put at text.now bytes.old }
 {
+    if text.is_empty() {
+        return;
+    }
     bytes[at..at + text.len()].copy_from_slice(text);
 }
 

@@ -65,6 +65,18 @@ pub(crate) fn rest_of(table: &[Run], piece: Run, count: u32) -> ArrayVec<Run, 16
     rest
 }
 
+/// Leaves the runs that a piece doesn't touch, after so many bytes came in order. Most texts find none held: no table is
+/// moved for them.
+pub(crate) fn leave_rest(table: &mut ArrayVec<Run, 16>, piece: Run, count: u32)
+    requires { length table.old.items ≤ max_runs }
+    ensures items { runs_in table.new.items ≡ map (moved count) (others_of (run_of piece) (runs_in table.old.items)) }
+    ensures few { length table.new.items ≤ max_runs }
+{
+    if !table.is_empty() {
+        *table = rest_of(table.as_slice(), piece, count);
+    }
+}
+
 /// Where the run that a place lies in ends, or the place where none is held.
 pub(crate) fn held_to(table: &[Run], place: usize) -> usize
     ensures value { result ≡ held_up_to (runs_in table.now) place }

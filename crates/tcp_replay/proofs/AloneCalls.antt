@@ -20,7 +20,7 @@ use Rattle.tcp_conn.specs.Phase.{has_peer, is_closed, is_listening, is_handshake
 use Rattle.tcp_conn.specs.State.{State, Sending}
 use Rattle.tcp_conn.specs.Sender.{count_sendable, with_text, with_all_resent, with_gaps_resent}
 use Rattle.tcp_conn.specs.Endings.{after_orderly_end, after_giving_up}
-use Rattle.tcp_conn.specs.Calls.{state_unless, answer_unless, refusal_if, open_refusal, opening_refusal, with_connection, after_connect, after_listen, is_full, send_refusal, send_answer, after_send, receive_refusal, opens_window, with_bytes_received, after_receive, close_refusal, close_answer, is_unanswered, phase_after_close, with_closing, after_closing, after_close, own_reset, reset_after_abort, with_abort, after_abort}
+use Rattle.tcp_conn.specs.Calls.{state_unless, answer_unless, refusal_if, open_refusal, opening_refusal, with_connection, after_connect, after_listen, is_full, send_refusal, send_answer, after_send, receive_refusal, opens_window, with_bytes_received, after_receive, close_refusal, close_answer, is_unanswered, phase_after_close, with_closing, after_closing, after_close, own_reset, reset_after_abort, with_abort, after_abort, after_acknowledge}
 use Rattle.tcp_conn.specs.Windows.{advertised_window}
 use Rattle.tcp_conn.specs.Timers.{sends_again, after_retransmit, after_gaps, after_reorder, after_time_wait, after_timer}
 use Rattle.tcp_replay.specs.World.{front_taken}
@@ -203,6 +203,11 @@ unfolding after_abort
 alone-aborted s accepted closed h =
     unless-kept (λ x. IsAlone x accepted closed) (open_refusal s) s (with_abort s) h
     (λ _. alone-given_up (record s { owed = record s.owed { reset = reset_after_abort s } }) accepted closed Aborted refl (alone-own_reset s accepted closed h))
+
+-- ACKNOWLEDGE
+pub alone-acknowledged : (s : State) (accepted : List ℕ) (closed : Bool) → IsAlone s accepted closed → IsAlone (after_acknowledge s) accepted closed
+unfolding after_acknowledge
+alone-acknowledged s accepted closed h = alone-ack_owed s accepted closed (takes_text s.phase) (λ takes. owes-taking s accepted closed takes h) h
 
 -- TIMERS
 sends-all_resent : (d : Sending) (accepted : List ℕ) (closed gone : Bool) → Sends d accepted closed gone → Sends (with_all_resent d) accepted closed gone

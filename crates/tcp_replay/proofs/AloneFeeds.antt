@@ -20,7 +20,7 @@ use Rattle.tcp_conn.specs.State.{State, Receiving}
 use Rattle.tcp_conn.specs.Sender.{is_fin_acked}
 use Rattle.tcp_conn.specs.Receiver.{with_syn, after_text, is_fin_due, with_fin}
 use Rattle.tcp_conn.specs.Endings.{after_orderly_end, after_giving_up}
-use Rattle.tcp_conn.specs.Calls.{state_unless, bytes_unless, opening_refusal, with_connection, after_connect, after_listen, send_refusal, after_send, receive_refusal, with_bytes_received, after_receive, received_bytes, close_refusal, is_unanswered, with_closing, after_closing, after_close, open_refusal, with_abort, after_abort}
+use Rattle.tcp_conn.specs.Calls.{state_unless, bytes_unless, opening_refusal, with_connection, after_connect, after_listen, send_refusal, after_send, receive_refusal, with_bytes_received, after_receive, received_bytes, close_refusal, is_unanswered, with_closing, after_closing, after_close, open_refusal, with_abort, after_abort, after_acknowledge}
 use Rattle.tcp_conn.specs.Timers.{after_retransmit, after_reorder, after_time_wait, after_timer}
 use Rattle.tcp_conn.specs.Due.{due_of}
 use Rattle.tcp_conn.specs.Emission.{after_due, after_emission}
@@ -95,6 +95,10 @@ module _ (P : ℕ → ℕ → Type 0) (Q : Type 0) (s : State) (irs k : ℕ) (de
   pub feeds-aborted : Feeds P Q s (after_abort s) irs k delivered
   unfolding after_abort
   feeds-aborted = unless-kept (λ x. Feeds P Q s x irs k delivered) (open_refusal s) s (with_abort s) feeds-same (λ _. feeds-given_up (with_abort s) refl refl refl)
+
+  pub feeds-acknowledged : Feeds P Q s (after_acknowledge s) irs k delivered
+  unfolding after_acknowledge
+  feeds-acknowledged = feeds-kept _ refl refl refl
 
   -- TIMERS
   feeds-retransmit : Feeds P Q s (after_retransmit s) irs k delivered

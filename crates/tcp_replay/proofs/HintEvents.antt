@@ -20,7 +20,7 @@ use Rattle.tcp_conn.specs.State.{State, Sending}
 use Rattle.tcp_conn.specs.Blocks.{reported_blocks, block_numbers, blocks_to_report, sack_options}
 use Rattle.tcp_conn.specs.Sender.{with_text, with_all_resent}
 use Rattle.tcp_conn.specs.Receiver.{after_handing}
-use Rattle.tcp_conn.specs.Calls.{opening_refusal, with_connection, after_connect, after_listen, send_refusal, after_send, receive_refusal, with_bytes_received, after_receive, is_unanswered, phase_after_close, close_refusal, after_closing, after_close, open_refusal, reset_after_abort, with_abort, after_abort}
+use Rattle.tcp_conn.specs.Calls.{opening_refusal, with_connection, after_connect, after_listen, send_refusal, after_send, receive_refusal, with_bytes_received, after_receive, is_unanswered, phase_after_close, close_refusal, after_closing, after_close, open_refusal, reset_after_abort, with_abort, after_abort, after_acknowledge}
 use Rattle.tcp_conn.specs.Endings.{after_giving_up, after_orderly_end}
 use Rattle.tcp_conn.specs.Timers.{sends_again, after_retransmit, marks_end, after_gaps, after_reorder, after_time_wait, after_timer}
 use Rattle.tcp_conn.specs.Due.{is_fin, due_of}
@@ -79,6 +79,11 @@ keeps-aborted p q pair h =
     let s = p.endpoint in
     unless-kept (Keeps p q) (open_refusal s) s (with_abort s) h
     (λ _. keeps-given_up p q (record s { owed = record s.owed { reset = reset_after_abort s } }) Aborted refl pair.there.alone.sends.flags (record { config = h.config; had = h.had; marks = h.marks }))
+
+-- ACKNOWLEDGE
+pub keeps-acknowledged : (p q : PartyState) → Keeps p q p.endpoint → Keeps p q (after_acknowledge p.endpoint)
+unfolding after_acknowledge
+keeps-acknowledged p q h = record { config = h.config; had = h.had; marks = h.marks }
 
 -- TIMERS
 keeps-retransmit : (p q : PartyState) → Keeps p q p.endpoint → Keeps p q (after_retransmit p.endpoint)

@@ -16,8 +16,8 @@ use Rattle.tcp_conn.specs.Due.{due_of}
 use Rattle.tcp_conn.specs.Emission.{emitted_bytes}
 use Rattle.tcp_replay.specs.declared.event.Side.{Side}
 use Rattle.tcp_replay.specs.declared.event.Side.TheVariants.{A, B}
-use Rattle.tcp_replay.specs.Events.{EventContent, side_of, HasBytes, Connect, Listen, Send, Receive, Close, Abort, Timer, Emit, Deliver, Damage}
-use Rattle.tcp_replay.specs.World.{WorldState, PartyState, SentSegment, max_life, sent_by, sent_at, new_party, party_of, other, world_from, effect_of, refusal_of, world_with_effect, address_of, segment_at, bytes_with_damage, delivery_refusal, damage_refusal, party_after_connect, party_after_listen, party_after_send, party_after_receive, party_after_close, party_after_abort, party_after_timer, party_after_emission, party_after_arrival}
+use Rattle.tcp_replay.specs.Events.{EventContent, side_of, HasBytes, Connect, Listen, Send, Receive, Close, Abort, Acknowledge, Timer, Emit, Deliver, Damage}
+use Rattle.tcp_replay.specs.World.{WorldState, PartyState, SentSegment, max_life, sent_by, sent_at, new_party, party_of, other, world_from, effect_of, refusal_of, world_with_effect, address_of, segment_at, bytes_with_damage, delivery_refusal, damage_refusal, party_after_connect, party_after_listen, party_after_send, party_after_receive, party_after_close, party_after_abort, party_after_acknowledge, party_after_timer, party_after_emission, party_after_arrival}
 use Rattle.tcp_conn.specs.Blocks.{reported_blocks}
 use Rattle.tcp_replay.specs.Truthful.{Witness, HasPosition, IsTrueBlock}
 use Rattle.tcp_replay.specs.Safe.{witness_of, gave_up, next_position, HasTrueHints, HintsAreTrue}
@@ -26,7 +26,7 @@ use Rattle.tcp_replay.proofs.Steps.{slice_get-more, kept-same, pair-swapped}
 use Rattle.tcp_replay.proofs.Emissions.{GoesOut, due-decodes, due-goes, wanted-is}
 use Rattle.tcp_replay.proofs.Deliveries.{arrival-ok, own-decodes, comes, segment-sent, delivered-there, finds-damage}
 use Rattle.tcp_replay.proofs.Hints.{Keeps, keeps-same, keeps-judgement}
-use Rattle.tcp_replay.proofs.HintEvents.{keeps-connected, keeps-listening, keeps-sent, keeps-received, keeps-closed, keeps-aborted, keeps-timer, keeps-emitted, blocks-of_due}
+use Rattle.tcp_replay.proofs.HintEvents.{keeps-connected, keeps-listening, keeps-sent, keeps-received, keeps-closed, keeps-aborted, keeps-acknowledged, keeps-timer, keeps-emitted, blocks-of_due}
 
 -- a block stays true of an end that has as many positions or more
 block-more : (x x' : Witness) (block : ℕ × ℕ) → x'.irs ≡ x.irs → ((n : ℕ) → HasPosition x n → HasPosition x' n) → IsTrueBlock x block → IsTrueBlock x' block
@@ -104,6 +104,10 @@ pub hints-aborted : (p q : PartyState) → IsSoundPair p q → KeepBothHints p q
 unfolding party_after_abort
 hints-aborted p q pair h = hints-quiet p _ q refl (keeps-aborted p q pair) h
 
+pub hints-acknowledged : (p q : PartyState) → KeepBothHints p q → KeepBothHints (party_after_acknowledge p) q
+unfolding party_after_acknowledge
+hints-acknowledged p q h = hints-quiet p _ q refl (keeps-acknowledged p q) h
+
 pub hints-timer : (p q : PartyState) (timer : Which) → IsSoundPair p q → KeepBothHints p q → KeepBothHints (party_after_timer p timer) q
 unfolding party_after_timer
 hints-timer p q timer pair h = hints-quiet p _ q refl (keeps-timer p q timer pair) h
@@ -169,6 +173,7 @@ hints-effect life p q (Send side bytes) most fits e pair h = hints-sent p q byte
 hints-effect life p q (Receive side room) most fits e pair h = hints-received p q room h
 hints-effect life p q (Close side) most fits e pair h = hints-closed p q pair h
 hints-effect life p q (Abort side) most fits e pair h = hints-aborted p q pair h
+hints-effect life p q (Acknowledge side) most fits e pair h = hints-acknowledged p q h
 hints-effect life p q (Timer side which) most fits e pair h = hints-timer p q which pair h
 hints-effect life p q (Emit side) most fits e pair h = hints-emitted p q pair h
 hints-effect life p q (Deliver from k) most fits e pair h = hints-swapped _ _ (hints-delivered q p life k most e (pair-swapped _ _ pair) (hints-swapped _ _ h))

@@ -11,8 +11,8 @@ use Rattle.tcp_replay.specs.declared.event.Side.TheVariants.{A, B}
 use Rattle.tcp_replay.specs.declared.outcome.Outcome.{Outcome}
 use Rattle.tcp_replay.specs.declared.outcome.StepError.{StepError}
 use Rattle.tcp_replay.specs.declared.outcome.StepError.TheVariants.{NoSuchSegment, NoChange, PlaceOutside, Expired, NoMemory}
-use Rattle.tcp_replay.specs.Events.{EventContent, side_of, HasBytes, Connect, Listen, Send, Receive, Close, Abort, Timer, Emit, Deliver, Damage}
-use Rattle.tcp_replay.specs.World.{WorldState, PartyState, SentSegment, KeepsAllSegments, max_life, party_of, other, world_from, is_missing, sent_at, segment_at, is_late, acks_late, flags_in, is_expired, age_refusal, delivery_refusal, damage_refusal, effect_of, grows_for, refusal_of, world_with_effect, party_after_connect, party_after_listen, party_after_send, party_after_receive, party_after_close, party_after_abort, party_after_timer, party_after_emission, party_after_arrival}
+use Rattle.tcp_replay.specs.Events.{EventContent, side_of, HasBytes, Connect, Listen, Send, Receive, Close, Abort, Acknowledge, Timer, Emit, Deliver, Damage}
+use Rattle.tcp_replay.specs.World.{WorldState, PartyState, SentSegment, KeepsAllSegments, max_life, party_of, other, world_from, is_missing, sent_at, segment_at, is_late, acks_late, flags_in, is_expired, age_refusal, delivery_refusal, damage_refusal, effect_of, grows_for, refusal_of, world_with_effect, party_after_connect, party_after_listen, party_after_send, party_after_receive, party_after_close, party_after_abort, party_after_acknowledge, party_after_timer, party_after_emission, party_after_arrival}
 use Rattle.tcp_replay.specs.Sound.{IsSoundPair, AreSoundEnds, KeepBothHints, IsSound}
 use Rattle.tcp_replay.proofs.Lists.{one_if-most}
 use Rattle.tcp_replay.proofs.Steps.{pair-swapped}
@@ -20,7 +20,7 @@ use Rattle.tcp_replay.proofs.Emissions.{wanted-is}
 use Rattle.tcp_replay.proofs.Deliveries.{finds-damage}
 use Rattle.tcp_replay.proofs.Worlds.{life-after}
 use Rattle.tcp_replay.proofs.Hints.{keeps-same}
-use Rattle.tcp_replay.proofs.HintEvents.{keeps-connected, keeps-listening, keeps-sent, keeps-received, keeps-closed, keeps-aborted, keeps-timer, keeps-emitted}
+use Rattle.tcp_replay.proofs.HintEvents.{keeps-connected, keeps-listening, keeps-sent, keeps-received, keeps-closed, keeps-aborted, keeps-acknowledged, keeps-timer, keeps-emitted}
 use Rattle.tcp_replay.proofs.HintWorlds.{hints-swapped, delivered-keeps}
 use Rattle.tcp_replay.proofs.Runs.{not-refused}
 
@@ -82,13 +82,14 @@ record SameConfigs (p q p' q' : PartyState) : Type 0 where
 
 configs-effect : (life : ℕ) (p q : PartyState) (event : EventContent) → life ≤ max_life → HasBytes event → (effect_of life p q event).refusal ≡ None → IsSoundPair p q → KeepBothHints p q
     → SameConfigs p q (effect_of life p q event).here (effect_of life p q event).there
-unfolding effect_of party_after_connect party_after_listen party_after_send party_after_receive party_after_close party_after_abort party_after_timer party_after_emission party_after_arrival
+unfolding effect_of party_after_connect party_after_listen party_after_send party_after_receive party_after_close party_after_abort party_after_acknowledge party_after_timer party_after_emission party_after_arrival
 configs-effect life p q (Connect side) most fits e pair h = record { here = (keeps-connected p q (keeps-same p q h.there.marks)).config; there = refl }
 configs-effect life p q (Listen side) most fits e pair h = record { here = (keeps-listening p q (keeps-same p q h.there.marks)).config; there = refl }
 configs-effect life p q (Send side bytes) most fits e pair h = record { here = (keeps-sent p q bytes (keeps-same p q h.there.marks)).config; there = refl }
 configs-effect life p q (Receive side room) most fits e pair h = record { here = (keeps-received p q room (keeps-same p q h.there.marks)).config; there = refl }
 configs-effect life p q (Close side) most fits e pair h = record { here = (keeps-closed p q pair (keeps-same p q h.there.marks)).config; there = refl }
 configs-effect life p q (Abort side) most fits e pair h = record { here = (keeps-aborted p q pair (keeps-same p q h.there.marks)).config; there = refl }
+configs-effect life p q (Acknowledge side) most fits e pair h = record { here = (keeps-acknowledged p q (keeps-same p q h.there.marks)).config; there = refl }
 configs-effect life p q (Timer side which) most fits e pair h = record { here = (keeps-timer p q which pair (keeps-same p q h.there.marks)).config; there = refl }
 configs-effect life p q (Emit side) most fits e pair h = record { here = (keeps-emitted p q (keeps-same p q h.there.marks)).config; there = refl }
 configs-effect life p q (Deliver from k) most fits e pair h = record { here = refl; there = (delivered-keeps q p life k most e (pair-swapped p q pair) (hints-swapped p q h)).config }

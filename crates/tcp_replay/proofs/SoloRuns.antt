@@ -28,18 +28,18 @@ use Rattle.tcp_conn.specs.Writing.{bytes_of, destination_of}
 use Rattle.tcp_replay.specs.Alone.{IsAlone}
 use Rattle.tcp_replay.specs.OneEnd.{SendsItsUsers, Came, TookSyn, CameIn, HandsOverWhatCame, count_come, count_in_order, wanted_position, AcknowledgesInOrder, OneEndIsTrue}
 use Rattle.tcp_replay.specs.Solo.{SoloState, solo_start, end_after, bytes_taken, bytes_put_out, is_close, segment_due, segment_emitted, after_solo, solo_run, run_alone}
-use Rattle.tcp_replay.specs.SoloEvents.{SoloContent, HasRanges, Connect, Listen, Send, Receive, Close, Abort, Timer, Emit, Arrive}
+use Rattle.tcp_replay.specs.SoloEvents.{SoloContent, HasRanges, Connect, Listen, Send, Receive, Close, Abort, Acknowledge, Timer, Emit, Arrive}
 use Rattle.tcp_replay.specs.Truthful.{IsOfUser}
 use Rattle.tcp_replay.specs.World.{front_taken}
 use Rattle.tcp_replay.proofs.Lists.{by_test, one_if}
 use Rattle.tcp_replay.proofs.Truths.{of_user-grows}
 use Rattle.tcp_replay.proofs.Alone.{alone-new}
 use Rattle.tcp_replay.proofs.AloneArrivals.{alone-judgement}
-use Rattle.tcp_replay.proofs.AloneCalls.{alone-connected, alone-listening, send-unclosed, alone-sent, alone-received, or-false, alone-closed, alone-aborted, alone-timer}
+use Rattle.tcp_replay.proofs.AloneCalls.{alone-connected, alone-listening, send-unclosed, alone-sent, alone-received, or-false, alone-closed, alone-aborted, alone-acknowledged, alone-timer}
 use Rattle.tcp_replay.proofs.AloneEmissions.{IsSaid, GoesOutAlone, due-alone, alone-emitted}
 use Rattle.tcp_replay.proofs.Emissions.{syn-of_user, syn-opened, plain-of_user, reset-bit}
 use Rattle.tcp_replay.proofs.Feeds.{AllText, ByNumber, text-of, text-at, text-front, IsFed, fed-new, fed-more, fed-any}
-use Rattle.tcp_replay.proofs.AloneFeeds.{Feeds, feeds-same, feeds-connected, feeds-listening, feeds-sent, feeds-closed, feeds-aborted, feeds-timer, feeds-emitted, feeds-received, feeds-judgement}
+use Rattle.tcp_replay.proofs.AloneFeeds.{Feeds, feeds-same, feeds-connected, feeds-listening, feeds-sent, feeds-closed, feeds-aborted, feeds-acknowledged, feeds-timer, feeds-emitted, feeds-received, feeds-judgement}
 
 -- ARRIVALS, by what the bytes are read as
 read-arrival : (s : State) (src dst bytes : List ℕ) (r : Result Content DecodeError) → decode_answer src dst bytes ≡ r → after_arrival s src dst bytes ≡ after_reading s src dst r
@@ -75,6 +75,7 @@ alone-step s accepted closed (Send text) fits h = same-closed _ (accepted ++ byt
 alone-step s accepted closed (Receive room) fits h = alone-still _ accepted closed (alone-received s accepted closed room h)
 alone-step s accepted closed Close fits h = same-accepted _ accepted (closed || is_close s Close) (alone-closed s accepted closed h)
 alone-step s accepted closed Abort fits h = alone-still _ accepted closed (alone-aborted s accepted closed h)
+alone-step s accepted closed Acknowledge fits h = alone-still _ accepted closed (alone-acknowledged s accepted closed h)
 alone-step s accepted closed (Timer which) fits h = alone-still _ accepted closed (alone-timer s accepted closed which h)
 alone-step s accepted closed Emit fits h = alone-still _ accepted closed (alone-emitted s accepted closed h)
 alone-step s accepted closed (Arrive src dst bytes) fits h = alone-still _ accepted closed (alone-arrived s accepted closed src dst bytes fits h)
@@ -92,6 +93,7 @@ fixed-step s accepted closed Listen h shut = (refl, ap (λ b. b || false) shut)
 fixed-step s accepted closed (Receive room) h shut = (refl, ap (λ b. b || false) shut)
 fixed-step s accepted closed Close h shut = (refl, ap (λ b. b || is_close s Close) shut)
 fixed-step s accepted closed Abort h shut = (refl, ap (λ b. b || false) shut)
+fixed-step s accepted closed Acknowledge h shut = (refl, ap (λ b. b || false) shut)
 fixed-step s accepted closed (Timer which) h shut = (refl, ap (λ b. b || false) shut)
 fixed-step s accepted closed Emit h shut = (refl, ap (λ b. b || false) shut)
 fixed-step s accepted closed (Arrive src dst bytes) h shut = (refl, ap (λ b. b || false) shut)
@@ -275,6 +277,7 @@ feeds-by c list x irs k (Send text) fits h fed = same-delivered _ _ x.endpoint _
 feeds-by c list x irs k (Receive room) fits h fed = feeds-received _ _ x.endpoint irs k x.delivered room fed
 feeds-by c list x irs k Close fits h fed = same-delivered _ _ x.endpoint _ irs k x.delivered (feeds-closed _ _ x.endpoint irs k x.delivered fed)
 feeds-by c list x irs k Abort fits h fed = same-delivered _ _ x.endpoint _ irs k x.delivered (feeds-aborted _ _ x.endpoint irs k x.delivered fed)
+feeds-by c list x irs k Acknowledge fits h fed = same-delivered _ _ x.endpoint _ irs k x.delivered (feeds-acknowledged _ _ x.endpoint irs k x.delivered fed)
 feeds-by c list x irs k (Timer which) fits h fed = same-delivered _ _ x.endpoint _ irs k x.delivered (feeds-timer _ _ x.endpoint irs k x.delivered fed x.accepted x.closed which h.alone)
 feeds-by c list x irs k Emit fits h fed = same-delivered _ _ x.endpoint _ irs k x.delivered (feeds-emitted _ _ x.endpoint irs k x.delivered fed)
 feeds-by c list x irs k (Arrive src dst bytes) fits h fed =
@@ -295,6 +298,7 @@ irs-same s irs (Send text) opened = refl
 irs-same s irs (Receive room) opened = refl
 irs-same s irs Close opened = refl
 irs-same s irs Abort opened = refl
+irs-same s irs Acknowledge opened = refl
 irs-same s irs (Timer which) opened = refl
 irs-same s irs Emit opened = refl
 

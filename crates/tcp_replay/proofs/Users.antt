@@ -16,9 +16,9 @@ use Rattle.tcp_conn.specs.Phase.{is_time_wait, resets_on_abort, gives_up, has_pe
 use Rattle.tcp_conn.specs.State.{State, Sending}
 use Rattle.tcp_conn.specs.Sender.{count_sendable, with_text, with_all_resent}
 use Rattle.tcp_conn.specs.Endings.{after_orderly_end, after_giving_up}
-use Rattle.tcp_conn.specs.Calls.{state_unless, answer_unless, bytes_unless, open_refusal, opening_refusal, with_connection, after_connect, after_listen, send_refusal, after_send, receive_refusal, received_value, with_bytes_received, after_receive, close_refusal, is_unanswered, phase_after_close, after_closing, after_close, own_reset, reset_after_abort, with_abort, after_abort}
+use Rattle.tcp_conn.specs.Calls.{state_unless, answer_unless, bytes_unless, open_refusal, opening_refusal, with_connection, after_connect, after_listen, send_refusal, after_send, receive_refusal, received_value, with_bytes_received, after_receive, close_refusal, is_unanswered, phase_after_close, after_closing, after_close, own_reset, reset_after_abort, with_abort, after_abort, after_acknowledge}
 use Rattle.tcp_conn.specs.Timers.{sends_again, after_retransmit, marks_end, after_gaps, after_reorder, after_time_wait, after_timer}
-use Rattle.tcp_replay.specs.World.{PartyState, address_of, front_taken, is_end_of_stream, party_after_connect, party_after_listen, party_after_send, party_after_receive, party_after_close, party_after_abort, party_after_timer}
+use Rattle.tcp_replay.specs.World.{PartyState, address_of, front_taken, is_end_of_stream, party_after_connect, party_after_listen, party_after_send, party_after_receive, party_after_close, party_after_abort, party_after_acknowledge, party_after_timer}
 use Rattle.tcp_replay.specs.Safe.{witness_of, next_position}
 use Rattle.tcp_replay.specs.Sound.{IsSoundPair}
 use Rattle.tcp_replay.proofs.Halves.{accepted-limit, takes-read, hands-read, hands-ended}
@@ -26,7 +26,7 @@ use Rattle.tcp_replay.proofs.Truths.{grows-same}
 use Rattle.tcp_replay.proofs.Steps.{Moved, Kept, emitted-nothing, kept-same, pair-from-move}
 use Rattle.tcp_replay.proofs.Phases.{gives_up-not_ended, resets_on_abort-knows, time_wait-synchronized, at-synchronized, knows-closing}
 use Rattle.tcp_replay.proofs.Moves.{kept-alone, kept-given_up, kept-orderly}
-use Rattle.tcp_replay.proofs.AloneCalls.{unless-kept, send-open, CanOpen, can-open, alone-connection, alone-passive, send-unclosed, alone-with_text, receive-open, alone-bytes_received, or-false, alone-close_asked, alone-close_begun, alone-own_reset, alone-retransmit, alone-reorder}
+use Rattle.tcp_replay.proofs.AloneCalls.{unless-kept, send-open, CanOpen, can-open, alone-connection, alone-passive, send-unclosed, alone-with_text, receive-open, alone-bytes_received, or-false, alone-close_asked, alone-close_begun, alone-own_reset, alone-retransmit, alone-reorder, alone-acknowledged}
 
 -- an end that changed, and nothing else of its party
 pub pair-kept : (p q : PartyState) (s : State) → Kept p q s → IsSoundPair p q → IsSoundPair (record p { endpoint = s }) q
@@ -206,6 +206,16 @@ pair-aborted p q h =
     let s = p.endpoint in
     pair-kept p q _ (unless-kept (λ x. Kept p q x) (open_refusal s) s (with_abort s) (kept-same p q h)
     (λ _. kept-given_up p q (record s { owed = record s.owed { reset = reset_after_abort s } }) Aborted refl (kept-own_reset p q s (kept-same p q h)))) h
+
+-- ACKNOWLEDGE
+kept-acknowledged : (p q : PartyState) (s : State) → Kept p q s → Kept p q (after_acknowledge s)
+unfolding after_acknowledge
+kept-acknowledged p q s h =
+    kept-alone p q s _ h refl (alone-acknowledged s p.accepted p.closed h.here.alone) (record { peer = h.here.speaks.peer; reset = h.here.speaks.reset }) refl refl h.here.between
+
+pub pair-acknowledged : (p q : PartyState) → IsSoundPair p q → IsSoundPair (party_after_acknowledge p) q
+unfolding party_after_acknowledge
+pair-acknowledged p q h = pair-kept p q _ (kept-acknowledged p q p.endpoint (kept-same p q h)) h
 
 -- TIMERS
 kept-retransmit : (p q : PartyState) (s : State) → Kept p q s → Kept p q (after_retransmit s)

@@ -11,14 +11,14 @@ use Rattle.tcp_replay.specs.declared.event.Side.{Side}
 use Rattle.tcp_replay.specs.declared.event.Side.TheVariants.{A, B}
 use Rattle.tcp_replay.specs.declared.outcome.Outcome.TheVariants as outcomes
 use Rattle.tcp_replay.specs.declared.outcome.StepError.{StepError}
-use Rattle.tcp_replay.specs.Events.{EventContent, side_of, HasBytes, IsDamage, Connect, Listen, Send, Receive, Close, Abort, Timer, Emit, Deliver, Damage}
+use Rattle.tcp_replay.specs.Events.{EventContent, side_of, HasBytes, IsDamage, Connect, Listen, Send, Receive, Close, Abort, Acknowledge, Timer, Emit, Deliver, Damage}
 use Rattle.tcp_replay.specs.World.{WorldState, PartyState, max_life, both, new_party, new_world_with, party_of, other, world_from, Effect, effect_of, refusal_of, outcome_of, world_with_effect, stay_or, world_after, run_of, world_after_all}
 use Rattle.tcp_replay.specs.Safe.{IsSafeDirection, EmitsTruth, IsSafe}
 use Rattle.tcp_replay.specs.Sound.{IsSoundEnd, AreOwn, IsSoundPair, AreSoundEnds}
 use Rattle.tcp_replay.proofs.Lists.{one_if}
 use Rattle.tcp_replay.proofs.Alone.{alone-new}
 use Rattle.tcp_replay.proofs.Steps.{pair-swapped}
-use Rattle.tcp_replay.proofs.Users.{pair-connected, pair-listening, pair-sent, pair-received, pair-close, pair-aborted, pair-timer}
+use Rattle.tcp_replay.proofs.Users.{pair-connected, pair-listening, pair-sent, pair-received, pair-close, pair-aborted, pair-acknowledged, pair-timer}
 use Rattle.tcp_replay.proofs.Deliveries.{own-decodes, pair-emitted, pair-delivered, pair-damaged, finds-damage}
 
 -- ANY EVENT that isn't refused, at the party whose side it names
@@ -31,6 +31,7 @@ ends-effect life p q (Send side bytes) most fits e h = pair-sent p q bytes fits 
 ends-effect life p q (Receive side room) most fits e h = pair-received p q room h
 ends-effect life p q (Close side) most fits e h = pair-close p q h
 ends-effect life p q (Abort side) most fits e h = pair-aborted p q h
+ends-effect life p q (Acknowledge side) most fits e h = pair-acknowledged p q h
 ends-effect life p q (Timer side which) most fits e h = pair-timer p q which h
 ends-effect life p q (Emit side) most fits e h = pair-emitted p q h
 ends-effect life p q (Deliver from k) most fits e h = pair-swapped _ _ (pair-delivered q p life k most e (pair-swapped _ _ h))

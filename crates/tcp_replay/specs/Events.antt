@@ -14,6 +14,7 @@ pub data EventContent : Type 0 where
   Receive : Side → ℕ → EventContent
   Close : Side → EventContent
   Abort : Side → EventContent
+  Acknowledge : Side → EventContent
   Timer : Side → Which → EventContent
   Emit : Side → EventContent
   Deliver : Side → ℕ → EventContent
@@ -26,6 +27,7 @@ event_content (code.Send side bytes) = Send side bytes.items
 event_content (code.Receive side room) = Receive side room
 event_content (code.Close side) = Close side
 event_content (code.Abort side) = Abort side
+event_content (code.Acknowledge side) = Acknowledge side
 event_content (code.Timer side which) = Timer side which
 event_content (code.Emit side) = Emit side
 event_content (code.Deliver from k) = Deliver from k
@@ -39,6 +41,7 @@ side_of (Send side bytes) = side
 side_of (Receive side room) = side
 side_of (Close side) = side
 side_of (Abort side) = side
+side_of (Acknowledge side) = side
 side_of (Timer side which) = side
 side_of (Emit side) = side
 side_of (Deliver from k) = from

@@ -8,3 +8,4 @@ pub mod Safe
 pub mod Alone
 pub mod Sound
 pub mod Refusals
+pub mod Names

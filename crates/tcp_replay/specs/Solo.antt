@@ -1,12 +1,12 @@
 -- One end, what its user did and had, and what came of each event: the fold of calls, timers, emissions and arrivals
 -- (RFC 9293, 3.10), whoever its peer is.
-use Rattle.std.specs.Prelude.{ℕ, Bool, false, ◌||◌, is_ok, List, [], ◌∷◌, ◌++◌, length, map, Vec, Option, None, option_to_list, option_map, ◌≡◌, ◌<◌}
+use Rattle.std.specs.Prelude.{ℕ, Bool, false, ◌||◌, is_ok, List, [], ◌∷◌, ◌++◌, length, map, Vec, Option, None, Ok, option_to_list, option_map, ◌≡◌, ◌<◌}
 use Rattle.tcp_numbers.specs.declared.addr.Addr.{Addr}
 use Rattle.tcp_conn.specs.declared.config.Config.{Config}
 use Rattle.tcp_conn.specs.Config.{IsGoodConfig}
 use Rattle.tcp_conn.specs.State.{State}
 use Rattle.tcp_conn.specs.NewEnd.{new_end}
-use Rattle.tcp_conn.specs.Calls.{opening_answer, after_connect, after_listen, send_answer, after_send, receive_answer, after_receive, received_bytes, close_answer, after_close, abort_answer, after_abort}
+use Rattle.tcp_conn.specs.Calls.{opening_answer, after_connect, after_listen, send_answer, after_send, receive_answer, after_receive, received_bytes, close_answer, after_close, abort_answer, after_abort, after_acknowledge}
 use Rattle.tcp_conn.specs.Timers.{timer_answer, after_timer}
 use Rattle.tcp_conn.specs.Due.{due_of}
 use Rattle.tcp_conn.specs.Writing.{bytes_of, destination_of}
@@ -18,7 +18,7 @@ use Rattle.tcp_replay.specs.declared.outcome.SoloError.{SoloError}
 use Rattle.tcp_replay.specs.declared.outcome.SoloError.TheVariants as solos
 use Rattle.tcp_replay.specs.declared.outcome.StepError.TheVariants.{NoMemory}
 use Rattle.tcp_replay.specs.declared.solo_log.SoloLog.{SoloLog}
-use Rattle.tcp_replay.specs.SoloEvents.{SoloContent, Connect, Listen, Send, Receive, Close, Abort, Timer, Emit, Arrive}
+use Rattle.tcp_replay.specs.SoloEvents.{SoloContent, Connect, Listen, Send, Receive, Close, Abort, Acknowledge, Timer, Emit, Arrive}
 use Rattle.tcp_replay.specs.World.{front_taken, is_end_of_stream}
 
 pub record SoloState : Type 0 where
@@ -45,6 +45,7 @@ end_after s (Send text) = after_send s text
 end_after s (Receive room) = after_receive s room
 end_after s Close = after_close s
 end_after s Abort = after_abort s
+end_after s Acknowledge = after_acknowledge s
 end_after s (Timer which) = after_timer s which
 end_after s Emit = after_emission s
 end_after s (Arrive src dst bytes) = after_arrival s src dst bytes
@@ -83,6 +84,7 @@ solo_outcome s count (Send text) = outcomes.Sent (send_answer s text)
 solo_outcome s count (Receive room) = outcomes.Got (receive_answer s room)
 solo_outcome s count Close = outcomes.Call (close_answer s)
 solo_outcome s count Abort = outcomes.Call (abort_answer s)
+solo_outcome s count Acknowledge = outcomes.Call (Ok tt)
 solo_outcome s count (Timer which) = outcomes.Timer (timer_answer s which)
 solo_outcome s count Emit = outcomes.Emitted (option_map (λ _. count) (segment_due s))
 solo_outcome s count (Arrive src dst bytes) = outcomes.Arrived (arrival_answer s src dst bytes)

@@ -13,6 +13,7 @@ pub data SoloContent : Type 0 where
   Receive : ℕ → SoloContent
   Close : SoloContent
   Abort : SoloContent
+  Acknowledge : SoloContent
   Timer : Which → SoloContent
   Emit : SoloContent
   Arrive : List ℕ → List ℕ → List ℕ → SoloContent
@@ -24,6 +25,7 @@ solo_content (code.Send bytes) = Send bytes.items
 solo_content (code.Receive room) = Receive room
 solo_content code.Close = Close
 solo_content code.Abort = Abort
+solo_content code.Acknowledge = Acknowledge
 solo_content (code.Timer which) = Timer which
 solo_content code.Emit = Emit
 solo_content (code.Arrive src dst bytes) = Arrive src.0 dst.0 bytes.items

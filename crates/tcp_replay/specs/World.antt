@@ -15,7 +15,7 @@ use Rattle.tcp_conn.specs.State.{State}
 use Rattle.tcp_conn.specs.Config.{default_limit, HasBadCapacity, HasBadMss, HasBadShift, HasBadLimit, IsGoodConfig}
 use Rattle.tcp_conn.specs.NewEnd.{new_end}
 use Rattle.tcp_conn.specs.Receiver.{next_wanted}
-use Rattle.tcp_conn.specs.Calls.{opening_answer, after_connect, after_listen, send_answer, after_send, receive_answer, after_receive, received_bytes, close_answer, after_close, abort_answer, after_abort}
+use Rattle.tcp_conn.specs.Calls.{opening_answer, after_connect, after_listen, send_answer, after_send, receive_answer, after_receive, received_bytes, close_answer, after_close, abort_answer, after_abort, after_acknowledge}
 use Rattle.tcp_conn.specs.Timers.{timer_answer, after_timer}
 use Rattle.tcp_conn.specs.Emission.{emitted_bytes, after_emission}
 use Rattle.tcp_conn.specs.Arrival.{arrival_answer, after_arrival}
@@ -27,7 +27,7 @@ use Rattle.tcp_replay.specs.declared.outcome.WorldError.{WorldError}
 use Rattle.tcp_replay.specs.declared.outcome.WorldError.TheVariants as worlds
 use Rattle.tcp_replay.specs.declared.outcome.StepError.{StepError}
 use Rattle.tcp_replay.specs.declared.outcome.StepError.TheVariants.{NoSuchSegment, NoChange, PlaceOutside, Expired}
-use Rattle.tcp_replay.specs.Events.{EventContent, side_of, Connect, Listen, Send, Receive, Close, Abort, Timer, Emit, Deliver, Damage}
+use Rattle.tcp_replay.specs.Events.{EventContent, side_of, Connect, Listen, Send, Receive, Close, Abort, Acknowledge, Timer, Emit, Deliver, Damage}
 
 -- a segment that was emitted, and the positions at which it was: that of its sequence number in its own direction, and the next
 -- that the end wanted of the other, which it acknowledges
@@ -123,6 +123,9 @@ party_after_close p = record p { endpoint = after_close p.endpoint; closed = p.c
 
 unfoldable pub party_after_abort : PartyState → PartyState
 party_after_abort p = record p { endpoint = after_abort p.endpoint }
+
+unfoldable pub party_after_acknowledge : PartyState → PartyState
+party_after_acknowledge p = record p { endpoint = after_acknowledge p.endpoint }
 
 unfoldable pub party_after_timer : PartyState → Which → PartyState
 party_after_timer p timer = record p { endpoint = after_timer p.endpoint timer }
@@ -228,6 +231,7 @@ effect_of life p q (Send side bytes) = effect_here (party_after_send p bytes) q 
 effect_of life p q (Receive side room) = effect_here (party_after_receive p room) q (outcomes.Got (receive_answer p.endpoint room)) true
 effect_of life p q (Close side) = effect_here (party_after_close p) q (outcomes.Call (close_answer p.endpoint)) false
 effect_of life p q (Abort side) = effect_here (party_after_abort p) q (outcomes.Call (abort_answer p.endpoint)) false
+effect_of life p q (Acknowledge side) = effect_here (party_after_acknowledge p) q (outcomes.Call (Ok tt)) false
 effect_of life p q (Timer side which) = effect_here (party_after_timer p which) q (outcomes.Timer (timer_answer p.endpoint which)) false
 effect_of life p q (Emit side) = effect_here (party_after_emission p) q (emission_outcome p) true
 effect_of life p q (Deliver from k) = effect_there p q (segment_at p k) (delivery_refusal life p q k) false

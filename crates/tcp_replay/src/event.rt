@@ -1,13 +1,42 @@
 ghost use Rattle.std.specs.Prelude.{◌≡◌};
 ghost use Rattle.tcp_replay.specs.Events.{event_content, side_of};
 
+use std::fmt;
 use tcp_conn::Timer;
 
 /// One of the two ends.
-#[derive(Clone, Copy, Debug, PartialEq, Eq)]
+#[derive(Clone, Copy, Debug, PartialEq, Eq, Hash)]
 pub enum Side {
+    /// The first end.
     A,
+    /// The second end.
     B,
+}
+
+impl Side {
+    ghost use Rattle.tcp_replay.specs.Names.{side_name};
+
+    /// `A` or `B`. It is displayed so.
+    #[must_use]
+    pub fn name(self) -> &'static str
+        ensures { result.now ≡ side_name self }
+    {
+        match self {
+            Side::A => "A",
+            Side::B => "B",
+        }
+    }
+}
+
+impl fmt::Display for Side {
+    ghost use Rattle.std.specs.Prelude.{Some};
+    ghost use Rattle.tcp_replay.specs.Names.{side_name};
+
+    ghost output = { λ side. Some (side_name side) };
+
+    fn fmt<W: fmt::Write>(&self, f: &mut fmt::Formatter<W>) -> fmt::Result {
+        f.write_str(self.name())
+    }
 }
 
 /// What can happen to the two ends.
@@ -25,6 +54,8 @@ pub enum Event {
     Close(Side),
     /// The user of this side gives the connection up.
     Abort(Side),
+    /// The user of this side has the window told now.
+    Acknowledge(Side),
     /// A timer of this side runs out.
     Timer(Side, Timer),
     /// This side emits the segment that is due, if there is one.
@@ -48,6 +79,7 @@ impl Event {
             | Event::Receive(side, _)
             | Event::Close(side)
             | Event::Abort(side)
+            | Event::Acknowledge(side)
             | Event::Timer(side, _)
             | Event::Emit(side)
             | Event::Deliver(side, _)

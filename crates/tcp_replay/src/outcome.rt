@@ -11,7 +11,7 @@ use tcp_conn::{Arrival, CallError, ConfigError, Received};
 /// What came of an event.
 #[derive(Clone, Copy, Debug, PartialEq, Eq)]
 pub enum Outcome {
-    /// What `connect`, `listen`, `close` or `abort` answered.
+    /// What `connect`, `listen`, `close` or `abort` answered; of `acknowledge` Ok.
     Call(Result<(), CallError>),
     /// How many bytes `send` took.
     Sent(Result<usize, CallError>),

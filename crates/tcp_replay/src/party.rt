@@ -4,7 +4,7 @@ ghost use Rattle.tcp_conn.specs.Config.{HasBadCapacity, HasBadMss, HasBadShift, 
 ghost use Rattle.tcp_conn.specs.Calls.{opening_answer, send_answer, receive_answer, close_answer, abort_answer};
 ghost use Rattle.tcp_conn.specs.Timers.{timer_answer};
 ghost use Rattle.tcp_conn.specs.Arrival.{arrival_answer};
-ghost use Rattle.tcp_replay.specs.World.{PartyState, new_party, address_of, party_after_connect, party_after_listen, party_after_send, is_end_of_stream, party_after_receive, party_after_close, party_after_abort, party_after_timer, party_after_emission, emission_outcome, party_after_arrival, arrival_outcome, sent_at, segment_at, bytes_with_damage, delivery_refusal, damage_refusal};
+ghost use Rattle.tcp_replay.specs.World.{PartyState, new_party, address_of, party_after_connect, party_after_listen, party_after_send, is_end_of_stream, party_after_receive, party_after_close, party_after_abort, party_after_acknowledge, party_after_timer, party_after_emission, emission_outcome, party_after_arrival, arrival_outcome, sent_at, segment_at, bytes_with_damage, delivery_refusal, damage_refusal};
 
 use crate::growth::{emit_for, receive_to, send_from};
 use crate::outcome::{Outcome, StepError};
@@ -119,6 +119,16 @@ impl<A: Allocator + Copy> Party<A> {
         ensures outcome { result ≡ Outcome.Call (abort_answer self.old.endpoint) }
     {
         Outcome::Call(self.endpoint.abort())
+    }
+
+    /// The user has the window told now.
+    #[tactic(auto, unfolding(crate::specs::World::party_after_acknowledge))]
+    pub(crate) fn acknowledge(&mut self) -> Outcome
+        ensures state { self.new ≡ party_after_acknowledge self.old }
+        ensures outcome { result ≡ Outcome.Call (Ok tt) }
+    {
+        self.endpoint.acknowledge();
+        Outcome::Call(Ok(()))
     }
 
     /// A timer runs out.

@@ -16,6 +16,8 @@ pub enum SoloEvent {
     Close,
     /// The user gives the connection up.
     Abort,
+    /// The user has the window told now.
+    Acknowledge,
     /// A timer runs out.
     Timer(Timer),
     /// The end emits the segment that is due, if there is one.

@@ -125,6 +125,10 @@ impl<A: Allocator + Copy> SoloLog<A> {
             SoloEvent::Receive(room) => self.receive(alloc, *room),
             SoloEvent::Close => Ok(Outcome::Call(self.endpoint.close())),
             SoloEvent::Abort => Ok(Outcome::Call(self.endpoint.abort())),
+            SoloEvent::Acknowledge => {
+                self.endpoint.acknowledge();
+                Ok(Outcome::Call(Ok(())))
+            }
             SoloEvent::Timer(timer) => Ok(Outcome::Timer(self.endpoint.timer(*timer))),
             SoloEvent::Emit => self.emit(alloc),
             SoloEvent::Arrive(src, dst, bytes) => Ok(arrive(&mut self.endpoint, *src, *dst, bytes)),

@@ -60,6 +60,7 @@ fn step_at<A: Allocator + Copy>(
         Event::Receive(_, room) => here.receive(alloc, *room),
         Event::Close(_) => Ok(here.close()),
         Event::Abort(_) => Ok(here.abort()),
+        Event::Acknowledge(_) => Ok(here.acknowledge()),
         Event::Timer(_, timer) => Ok(here.timer(*timer)),
         Event::Emit(_) => here.emit(alloc),
         Event::Deliver(_, k) => deliver(life, here, *k, there),

@@ -1,7 +1,9 @@
 -- An event in the script's words.
 use Rattle.std.specs.Prelude.{ℕ, List, [], ◌++◌, codes, decimal}
 use Rattle.tcp_replay.specs.Events.{EventContent, Receive, Timer, Deliver, Damage, side_of}
-use Rattle.tcp_script.specs.Names.{kind_of, kind_name, side_name, timer_name}
+use Rattle.tcp_replay.specs.Names.{side_name}
+use Rattle.tcp_conn.specs.Names.{timer_name}
+use Rattle.tcp_script.specs.Names.{kind_of, kind_name}
 
 -- the words after the side; the bytes that are sent aren't repeated
 abbrev pub others_text : EventContent → List ℕ

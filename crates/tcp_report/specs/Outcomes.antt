@@ -12,7 +12,7 @@ use Rattle.tcp_replay.specs.declared.outcome.Outcome.TheVariants as outcomes
 use Rattle.tcp_replay.specs.declared.outcome.StepError.{StepError}
 use Rattle.tcp_replay.specs.Refusals.{step_error_number}
 use Rattle.tcp_replay.specs.World.{WorldState, party_of, other, segment_at}
-use Rattle.tcp_answers.specs.Names.{phase_name}
+use Rattle.tcp_conn.specs.Names.{phase_name}
 use Rattle.tcp_answers.specs.Answers.{refused_text, send_text, receive_text, segment_text, arrival_text}
 use Rattle.tcp_report.specs.Names.{yes_or_no}
 

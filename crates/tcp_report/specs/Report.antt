@@ -4,9 +4,9 @@ use Rattle.tcp_replay.specs.declared.event.Side.{Side}
 use Rattle.tcp_replay.specs.declared.event.Side.TheVariants.{A, B}
 use Rattle.tcp_replay.specs.Events.{EventContent, Send, Deliver, Damage, side_of}
 use Rattle.tcp_replay.specs.World.{PartyState, WorldState, new_world_with, party_of, step_answer, world_after, world_after_all}
-use Rattle.tcp_script.specs.Names.{side_name}
+use Rattle.tcp_replay.specs.Names.{side_name}
 use Rattle.tcp_script.specs.Script.{TurnContent, ScriptContent}
-use Rattle.tcp_answers.specs.Names.{phase_name, ending_name}
+use Rattle.tcp_conn.specs.Names.{phase_name, ending_name}
 use Rattle.tcp_report.specs.Names.{yes_or_no}
 use Rattle.tcp_report.specs.Events.{event_text}
 use Rattle.tcp_report.specs.Outcomes.{answer_text, is_refused}

@@ -1,14 +1,13 @@
 use std::alloc::AllocError;
 use tcp_conn::ConfigError;
 use tcp_replay::Side;
-use tcp_script::side_name;
 use thiserror::Error;
 
 /// Why no report of a script is made.
 #[derive(Clone, Copy, Debug, PartialEq, Eq, Error)]
 pub enum ReportError {
     /// The end of this side can't be made as the script has it; never for want of memory.
-    #[error("the end of side {side} can't be made: {1}", side = side_name(*.0))]
+    #[error("the end of side {0} can't be made: {1}")]
     Config(Side, ConfigError),
     /// Memory ran out.
     #[error("no memory for the report")]

@@ -5,7 +5,7 @@ ghost use Rattle.tcp_report.specs.Events.{others_text, event_text};
 
 use std::alloc::AllocError;
 use tcp_replay::Event;
-use tcp_script::{kind_name, kind_of, side_name, timer_name};
+use tcp_script::{kind_name, kind_of};
 
 /// The words after the side, but for the bytes that are sent.
 fn push_others(text: &mut String, event: &Event) -> Result<(), AllocError>
@@ -13,10 +13,7 @@ fn push_others(text: &mut String, event: &Event) -> Result<(), AllocError>
 {
     match event {
         Event::Receive(_, room) => write!(text, " {room}"),
-        Event::Timer(_, timer) => {
-            let timer = timer_name(*timer);
-            write!(text, " {timer}")
-        }
+        Event::Timer(_, timer) => write!(text, " {timer}"),
         Event::Deliver(_, k) => write!(text, " {k}"),
         Event::Damage(_, k, place, value) => write!(text, " {k} {place} {value}"),
         _ => Ok(()),
@@ -29,7 +26,7 @@ pub(crate) fn push_event(text: &mut String, event: &Event) -> Result<(), AllocEr
     ensures { OnOk result (string_bytes text.new ≡ string_bytes text.old ++ event_text (event_content event.now)) }
 {
     let kind = kind_name(kind_of(event));
-    let side = side_name(event.side());
+    let side = event.side();
     write!(text, "{kind} {side}")?;
     push_others(text, event)
 }

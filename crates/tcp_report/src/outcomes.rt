@@ -5,7 +5,7 @@ ghost use Rattle.tcp_report.specs.Outcomes.{call_text, address_of_side, emission
 
 use crate::names::yes_or_no;
 use std::alloc::{AllocError, Global};
-use tcp_answers::{phase_name, push_arrival, push_receive, push_refused, push_segment, push_send};
+use tcp_answers::{push_arrival, push_receive, push_refused, push_segment, push_send};
 use tcp_conn::{CallError, Phase};
 use tcp_replay::{Outcome, Side, StepError, World};
 use tcp_wire::Addr;
@@ -44,10 +44,7 @@ fn push_call(
     ensures { OnOk result (string_bytes text.new ≡ string_bytes text.old ++ call_text answer phase) }
 {
     match answer {
-        Ok(()) => {
-            let phase = phase_name(phase);
-            write!(text, "ok {phase}")
-        }
+        Ok(()) => write!(text, "ok {phase}"),
         Err(error) => push_refused(text, error.number()),
     }
 }
@@ -101,7 +98,7 @@ fn push_outcome(
         Outcome::Emitted(k) => push_emission(text, world, side, k),
         Outcome::Arrived(arrival) => {
             push_arrival(text, arrival)?;
-            let phase = phase_name(world.endpoint(other(side)).phase());
+            let phase = world.endpoint(other(side)).phase();
             write!(text, " {phase}")
         }
     }

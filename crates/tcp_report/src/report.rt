@@ -9,10 +9,9 @@ use crate::error::ReportError;
 use crate::names::yes_or_no;
 use crate::turns::push_event_lines;
 use std::alloc::{AllocError, Global};
-use tcp_answers::{ending_name, phase_name};
 use tcp_conn::ConfigError;
 use tcp_replay::{Side, World, WorldError};
-use tcp_script::{Script, Turn, side_name};
+use tcp_script::{Script, Turn};
 
 /// A report, and whether it tells of no refusal.
 #[derive(Debug, Drop)]
@@ -47,10 +46,9 @@ fn push_end_line(text: &mut String, world: &World, side: Side) -> Result<(), All
     ensures { OnOk result (string_bytes text.new ≡ string_bytes text.old ++ end_line side (party_of world.now side)) }
 {
     let end = world.endpoint(side);
-    let name = side_name(side);
-    let phase = phase_name(end.phase());
-    let ending = ending_name(end.ending());
-    write!(text, "end {name} {phase} {ending}")?;
+    let phase = end.phase();
+    let ending = end.ending();
+    write!(text, "end {side} {phase} {ending}")?;
     push_counts(text, world, side)?;
     text.push_str("\n")
 }

@@ -1,11 +1,13 @@
--- The words that scripts and reports share: kinds of events, sides and timers.
+-- The words of a script: kinds of events, sides and timers.
 use Rattle.std.specs.Prelude.{ℕ, if◌then◌else◌, List, bytes_eq, codes, Option, Some, None}
 use Rattle.tcp_conn.specs.declared.phase.Timer.{Timer}
 use Rattle.tcp_conn.specs.declared.phase.Timer.TheVariants.{Retransmit, Reorder, TimeWait}
+use Rattle.tcp_conn.specs.Names.{timer_name}
 use Rattle.tcp_replay.specs.declared.event.Side.{Side}
 use Rattle.tcp_replay.specs.declared.event.Side.TheVariants.{A, B}
 use Rattle.tcp_replay.specs.Events.{EventContent}
 use Rattle.tcp_replay.specs.Events as events
+use Rattle.tcp_replay.specs.Names.{side_name}
 use Rattle.tcp_script.specs.declared.names.Kind.{Kind}
 use Rattle.tcp_script.specs.declared.names.Kind.TheVariants as kinds
 
@@ -17,6 +19,7 @@ kind_of (events.Send side bytes) = kinds.Send
 kind_of (events.Receive side room) = kinds.Receive
 kind_of (events.Close side) = kinds.Close
 kind_of (events.Abort side) = kinds.Abort
+kind_of (events.Acknowledge side) = kinds.Acknowledge
 kind_of (events.Timer side timer) = kinds.Timer
 kind_of (events.Emit side) = kinds.Emit
 kind_of (events.Deliver from k) = kinds.Deliver
@@ -29,21 +32,13 @@ kind_name kinds.Send = codes "send"
 kind_name kinds.Receive = codes "receive"
 kind_name kinds.Close = codes "close"
 kind_name kinds.Abort = codes "abort"
+kind_name kinds.Acknowledge = codes "acknowledge"
 kind_name kinds.Timer = codes "timer"
 kind_name kinds.Emit = codes "emit"
 kind_name kinds.Deliver = codes "deliver"
 kind_name kinds.Damage = codes "damage"
 
-abbrev pub side_name : Side → List ℕ
-side_name A = codes "A"
-side_name B = codes "B"
-
-abbrev pub timer_name : Timer → List ℕ
-timer_name Retransmit = codes "retransmit"
-timer_name Reorder = codes "reorder"
-timer_name TimeWait = codes "timewait"
-
--- what a word names, if anything
+-- what a word of a script names, if anything: no line says `acknowledge`
 abbrev pub kind_named : List ℕ → Option Kind
 kind_named word =
     if bytes_eq word (kind_name kinds.Connect) then Some kinds.Connect

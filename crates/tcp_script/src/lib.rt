@@ -1,5 +1,4 @@
-//! Scripts of what happens to the two ends of one connection, read from their texts, and the words that reports share
-//! with them.
+//! Scripts of what happens to the two ends of one connection, read from their texts.
 #![tactic(auto)]
 
 mod error;
@@ -11,6 +10,6 @@ mod settings;
 mod statement;
 
 pub use error::ScriptError;
-pub use names::{Kind, kind_name, kind_of, read_timer, side_name, timer_name};
+pub use names::{Kind, kind_name, kind_of, read_timer};
 pub use script::{Script, Turn, read_script, read_script_bytes};
 pub use settings::read_shift;

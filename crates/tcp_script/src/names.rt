@@ -1,4 +1,4 @@
-//! The words that scripts and reports share: kinds of events, sides and timers.
+//! The words of a script: kinds of events, sides and timers.
 ghost use Rattle.std.specs.Prelude.{◌≡◌};
 ghost use Rattle.tcp_replay.specs.Events.{event_content};
 ghost use Rattle.tcp_script.specs.Names as spec;
@@ -9,15 +9,27 @@ use tcp_replay::{Event, Side};
 /// What happens in an event, whatever it names.
 #[derive(Clone, Copy, Debug, PartialEq, Eq)]
 pub enum Kind {
+    /// The user opens.
     Connect,
+    /// The user waits for the other side.
     Listen,
+    /// The user sends.
     Send,
+    /// The user asks for bytes.
     Receive,
+    /// The user has no more to send.
     Close,
+    /// The user gives the connection up.
     Abort,
+    /// The user has the window told. No line of a script says it.
+    Acknowledge,
+    /// A timer runs out.
     Timer,
+    /// The side emits what is due.
     Emit,
+    /// A segment of the side arrives.
     Deliver,
+    /// A segment of the side arrives with one byte changed.
     Damage,
 }
 
@@ -32,6 +44,7 @@ pub fn kind_of(event: &Event) -> Kind
         Event::Receive(_, _) => Kind::Receive,
         Event::Close(_) => Kind::Close,
         Event::Abort(_) => Kind::Abort,
+        Event::Acknowledge(_) => Kind::Acknowledge,
         Event::Timer(_, _) => Kind::Timer,
         Event::Emit(_) => Kind::Emit,
         Event::Deliver(_, _) => Kind::Deliver,
@@ -50,6 +63,7 @@ pub fn kind_name(kind: Kind) -> &'static str
         Kind::Receive => "receive",
         Kind::Close => "close",
         Kind::Abort => "abort",
+        Kind::Acknowledge => "acknowledge",
         Kind::Timer => "timer",
         Kind::Emit => "emit",
         Kind::Deliver => "deliver",
@@ -57,28 +71,7 @@ pub fn kind_name(kind: Kind) -> &'static str
     }
 }
 
-/// The name of a side.
-pub fn side_name(side: Side) -> &'static str
-    ensures { result.now ≡ spec.side_name side }
-{
-    match side {
-        Side::A => "A",
-        Side::B => "B",
-    }
-}
-
-/// The name of a timer.
-pub fn timer_name(timer: Timer) -> &'static str
-    ensures { result.now ≡ spec.timer_name timer }
-{
-    match timer {
-        Timer::Retransmit => "retransmit",
-        Timer::Reorder => "reorder",
-        Timer::TimeWait => "timewait",
-    }
-}
-
-/// The kind that a word names.
+/// The kind that a word of a script names. No line says `acknowledge`.
 pub(crate) fn read_kind(word: &[u8]) -> Option<Kind>
     ensures { result ≡ spec.kind_named word.now }
 {
@@ -119,10 +112,10 @@ pub(crate) fn read_kind(word: &[u8]) -> Option<Kind>
 pub(crate) fn read_side(word: &[u8]) -> Option<Side>
     ensures { result ≡ spec.side_named word.now }
 {
-    if word == side_name(Side::A).as_bytes() {
+    if word == Side::A.name().as_bytes() {
         return Some(Side::A);
     }
-    if word == side_name(Side::B).as_bytes() {
+    if word == Side::B.name().as_bytes() {
         return Some(Side::B);
     }
     None
@@ -132,13 +125,13 @@ pub(crate) fn read_side(word: &[u8]) -> Option<Side>
 pub fn read_timer(word: &[u8]) -> Option<Timer>
     ensures { result ≡ spec.timer_named word.now }
 {
-    if word == timer_name(Timer::Retransmit).as_bytes() {
+    if word == Timer::Retransmit.name().as_bytes() {
         return Some(Timer::Retransmit);
     }
-    if word == timer_name(Timer::Reorder).as_bytes() {
+    if word == Timer::Reorder.name().as_bytes() {
         return Some(Timer::Reorder);
     }
-    if word == timer_name(Timer::TimeWait).as_bytes() {
+    if word == Timer::TimeWait.name().as_bytes() {
         return Some(Timer::TimeWait);
     }
     None

@@ -35,8 +35,11 @@ pub struct Script {
     pub version: u8,
     /// How many positions a segment lives, from 2 to 2,147,483,648 (RFC 9293, 3.4).
     pub life: u32,
+    /// What side A is made from.
     pub a: Config,
+    /// What side B is made from.
     pub b: Config,
+    /// The events, each with its turns.
     pub events: Vec<Turn>,
 }
 

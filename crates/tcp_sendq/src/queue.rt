@@ -42,7 +42,7 @@ impl SendQueue {
     }
 }
 
-impl<A: Allocator + Copy> SendQueue<A> {
+impl<A: Allocator> SendQueue<A> {
     /// An empty queue of `capacity` bytes, whose memory is taken from `alloc` now: no later call takes any.
     pub fn new_in(alloc: A, capacity: usize) -> Result<Self, QueueError>
         ensures empty { IfOk result (λ q. q ≡ empty_queue capacity) }

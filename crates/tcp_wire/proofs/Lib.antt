@@ -3,6 +3,7 @@ pub mod OptionLaws
 pub mod AreaLaws
 pub mod BlockReading
 pub mod ReadOptions
+pub mod Listed
 pub mod WrittenOptions
 pub mod Reading
 pub mod Outcome

@@ -1,6 +1,9 @@
 -- Options, read one behind the other.
-use Rattle.std.proofs.Common.{◌≡◌, ℕ, suc, ◌+◌, ◌-◌, ◌≤◌, List, [], ◌∷◌, ◌++◌, length, map, Option, Some, None, Result, Ok, Err, MatchResult, refl, sym, ap, subst, ◌∙◌, add-zero, arith}
-use Rattle.std.proofs.lemmas.List.{map_push, length-append}
+use Rattle.std.specs.Prelude.{option_map, Bool, true, false, ◌||◌}
+use Rattle.std.proofs.lemmas.Bool.{le-ltb}
+use Rattle.std.proofs.lemmas.Bool.Decides.{nat_tests}
+use Rattle.std.proofs.Common.{◌≡◌, ℕ, zero, suc, ◌+◌, ◌-◌, ◌<◌, ◌≤◌, ◌⊎◌, inl, inr, ltb, get_or, List, [], ◌∷◌, ◌++◌, length, map, drop, Option, Some, None, Result, Ok, Err, MatchResult, refl, sym, ap, subst, ◌∙◌, add-zero, arith}
+use Rattle.std.proofs.lemmas.List.{map_push, length-append, length-drop}
 use Rattle.tcp_wire.specs.declared.fault.DecodeError.{DecodeError}
 use Rattle.tcp_wire.specs.declared.option.TcpOption.{TcpOption}
 use Rattle.tcp_wire.specs.Options.{OptionContent, spelling, spellings}
@@ -117,3 +120,71 @@ pub checked_first : {A : Type 0} (r : Result A DecodeError) (o : OptionContent) 
 checked_first (Ok u) o (Ok listed) outer is inside = is ∙ sym (ap (λ (r : Result (List OptionContent × ℕ) DecodeError). Ok (listed_or_none r)) is)
 checked_first (Ok u) o (Err e) outer is inside = absurd cc
 checked_first (Err e) o inner outer is fails = is ∙ ap (with_first o) fails
+
+pub checked_behind : {A : Type 0} (r : Result A DecodeError) (n at len : ℕ) (bytes behind : List ℕ) (first : Option (OptionContent × List ℕ)) → 1 ≤ n → len ≤ length bytes
+    → option_at bytes ≡ first → option_map (λ (found : OptionContent × List ℕ). found.1) first ≡ Some (drop len bytes) → behind ≡ drop len bytes
+    → MatchResult r (λ u. options_in (n - 1) (at + len) behind ≡ Ok (listed_or_none (options_in (n - 1) (at + len) behind))) (λ e. options_in (n - 1) (at + len) behind ≡ Err e)
+    → MatchResult r (λ u. options_in n at bytes ≡ Ok (listed_or_none (options_in n at bytes))) (λ e. options_in n at bytes ≡ Err e)
+checked_behind r n at len bytes behind None some inside found rest is checked = absurd cc
+checked_behind r n at len bytes behind (Some (o, tail)) some inside found rest is checked =
+    let same : tail ≡ behind = cc in
+    let place : at + (length bytes - length behind) ≡ at + len = omega (arith, ap length is, length-drop len bytes) in
+    checked_first r o (options_in (n - 1) (at + len) behind) (options_in n at bytes)
+    (checked_more n at bytes behind o some (found ∙ ap (λ (xs : List ℕ). Some (o, xs)) same)
+    ∙ ap (λ (k : ℕ). with_first o (options_in (n - 1) k behind)) place)
+    checked
+
+-- ---- how long the first option is
+
+or_true : (b : Bool) → (b || true) ≡ true
+or_true true = refl
+or_true false = refl
+
+is_beyond : (n len : ℕ) → n + 2 < len → ltb (n + 2) len ≡ true
+is_beyond n len past = grind (arith, nat_tests)
+
+drop-two : (len kind : ℕ) (rest : List ℕ) → 2 ≤ len → drop len (kind ∷ len ∷ rest) ≡ drop (len - 2) rest
+drop-two zero kind rest least = absurd (omega (arith, least))
+drop-two (suc zero) kind rest least = absurd (omega (arith, least))
+drop-two (suc (suc n)) kind rest least = let same : suc (suc n) - 2 ≡ n = omega arith in ap (λ (m : ℕ). drop m rest) (sym same)
+
+pub no_first : (bytes : List ℕ) → (length bytes ≡ 0) ⊎ (get_or bytes 0 0 ≡ 0) → option_at bytes ≡ None
+unfolding option_at
+no_first [] none = refl
+no_first (zero ∷ rest) none = refl
+no_first (suc k ∷ rest) (inl none) = absurd (omega (arith, none))
+no_first (suc k ∷ rest) (inr none) = absurd (omega (arith, none))
+
+pub nop_first : (bytes : List ℕ) → get_or bytes 0 0 ≡ 1 → option_map (λ (found : OptionContent × List ℕ). found.1) (option_at bytes) ≡ Some (drop 1 bytes)
+unfolding option_at
+nop_first [] one = absurd (omega (arith, one))
+nop_first (zero ∷ rest) one = absurd (omega (arith, one))
+nop_first (suc zero ∷ rest) one = refl
+nop_first (suc (suc k) ∷ rest) one = absurd (omega (arith, one))
+
+pub short_first : (bytes : List ℕ) → (get_or bytes 0 0 ≡ 1 → ⊥) → (length bytes < 2) ⊎ ((get_or bytes 1 0 < 2) ⊎ (length bytes < get_or bytes 1 0)) → option_at bytes ≡ None
+unfolding option_at
+short_first [] other short = refl
+short_first (zero ∷ rest) other short = refl
+short_first (suc zero ∷ rest) other short = absurd (other refl)
+short_first (suc (suc k) ∷ []) other short = refl
+short_first (suc (suc k) ∷ len ∷ rest) other (inl short) = absurd (omega (arith, short))
+short_first (suc (suc k) ∷ len ∷ rest) other (inr (inl small)) =
+    let low : ltb len 2 ≡ true = grind (arith, nat_tests, small) in
+    rw low refl
+short_first (suc (suc k) ∷ len ∷ rest) other (inr (inr past)) =
+    let beyond : ltb (length rest + 2) len ≡ true = is_beyond (length rest) len (omega (arith, past)) in
+    rw (beyond, or_true (ltb len 2)) refl
+
+pub long_first : (bytes : List ℕ) → (get_or bytes 0 0 ≡ 0 → ⊥) → (get_or bytes 0 0 ≡ 1 → ⊥) → 2 ≤ get_or bytes 1 0 → 2 ≤ length bytes → get_or bytes 1 0 ≤ length bytes
+    → option_map (λ (found : OptionContent × List ℕ). found.1) (option_at bytes) ≡ Some (drop (get_or bytes 1 0) bytes)
+unfolding option_at
+long_first [] zero' one least two inside = absurd (omega (arith, two))
+long_first (zero ∷ rest) zero' one least two inside = absurd (zero' refl)
+long_first (suc zero ∷ rest) zero' one least two inside = absurd (one refl)
+long_first (suc (suc k) ∷ []) zero' one least two inside = absurd (omega (arith, two))
+long_first (suc (suc k) ∷ len ∷ rest) zero' one least two inside =
+    let enough : ltb len 2 ≡ false = le-ltb _ _ least in
+    let within : ltb (length rest + 2) len ≡ false = le-ltb _ _ (omega (arith, inside)) in
+    let behind : drop len (suc (suc k) ∷ len ∷ rest) ≡ drop (len - 2) rest = drop-two len (suc (suc k)) rest least in
+    rw (enough, within) (ap (λ (xs : List ℕ). Some xs) (sym behind))

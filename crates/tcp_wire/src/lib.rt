@@ -8,6 +8,7 @@ mod header;
 mod option;
 mod option_reading;
 mod option_writing;
+mod options_left;
 mod raw;
 mod segment;
 
@@ -16,6 +17,7 @@ pub use encoding::{encode, write_around};
 pub use fault::DecodeError;
 pub use header::{Header, text_offset};
 pub use option::TcpOption;
+pub use options_left::OptionsLeft;
 pub use raw::RawSegment;
 pub use segment::Segment;
 pub use tcp_numbers::{Addr, Flags, Seq, checks, checksum, laws, word_sum};

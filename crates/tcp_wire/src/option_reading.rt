@@ -1,4 +1,4 @@
-ghost use Rattle.std.specs.Prelude.{◌≡◌, ◌↔◌, ◌+◌, ◌*◌, ◌/◌, ◌<◌, ◌≤◌, List, [], length, map, Ok, Err, Some, None, IsTrue, IfSome, IfOk, MatchOption, MatchResult};
+ghost use Rattle.std.specs.Prelude.{◌≡◌, ◌↔◌, ◌+◌, ◌*◌, ◌/◌, ◌<◌, ◌≤◌, List, [], length, map, drop, option_map, Ok, Err, Some, None, IsTrue, IfSome, IfOk, MatchOption, MatchResult};
 ghost use Rattle.tcp_wire.specs.Options.{has_own_length, spelling};
 ghost use Rattle.tcp_wire.specs.Decoded.{blocks_in, known_option, option_of, option_at, count_zeros, padding_at, options_in};
 ghost use Rattle.tcp_wire.specs.Wire.{header_len};
@@ -46,7 +46,7 @@ fn option_from(kind: u8, body: &[u8]) -> TcpOption<'_>
 
 /// The option whose spelling begins these bytes, and the bytes after it.
 #[tactic(auto, unfolding(crate::specs::Decoded::option_at))]
-fn read_option(bytes: &[u8]) -> Option<(TcpOption<'_>, &[u8])>
+pub(crate) fn read_option(bytes: &[u8]) -> Option<(TcpOption<'_>, &[u8])>
     requires { length bytes.now ≤ 40 }
     ensures value { MatchOption result (option_at bytes.now ≡ None) (λ r. option_at bytes.now ≡ Some (option_content r.0, r.1.now)) }
     ensures shorter { IfSome result (λ r. length r.1.now < length bytes.now) }
@@ -65,6 +65,30 @@ fn read_option(bytes: &[u8]) -> Option<(TcpOption<'_>, &[u8])>
         }
         _ => None,
     }
+}
+
+/// How many bytes the option takes whose spelling begins these bytes. No option is made.
+#[tactic(auto, using(crate::proofs::ReadOptions::no_first, crate::proofs::ReadOptions::nop_first, crate::proofs::ReadOptions::long_first, crate::proofs::ReadOptions::short_first))]
+fn first_len(bytes: &[u8]) -> Option<usize>
+    requires { length bytes.now ≤ 40 }
+    ensures value { MatchOption result (option_at bytes.now ≡ None) (λ len. option_map (λ found. found.1) (option_at bytes.now) ≡ Some (drop len bytes.now)) }
+    ensures least { IfSome result (λ len. 1 ≤ len) }
+    ensures inside { IfSome result (λ len. len ≤ length bytes.now) }
+{
+    if bytes.is_empty() || bytes[0] == 0 {
+        return None;
+    }
+    if bytes[0] == 1 {
+        return Some(1);
+    }
+    if bytes.len() < 2 {
+        return None;
+    }
+    let len = usize::from(bytes[1]);
+    if len < 2 || bytes.len() < len {
+        return None;
+    }
+    Some(len)
 }
 
 /// How many zeros these bytes are, which stand from place `at` of the segment on; a fault where they
@@ -128,11 +152,8 @@ pub(crate) fn check_options(bytes: &[u8], at: usize, left: usize) -> Result<(), 
     if left == 0 {
         return check_padding(bytes, at);
     }
-    match read_option(bytes) {
-        Some((_, behind)) => {
-            let rest_at = at + (bytes.len() - behind.len());
-            check_options(behind, rest_at, left - 1)
-        }
+    match first_len(bytes) {
+        Some(len) => check_options(&bytes[len..], at + len, left - 1),
         None => check_padding(bytes, at),
     }
 }

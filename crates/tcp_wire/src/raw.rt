@@ -3,8 +3,9 @@ ghost use Rattle.tcp_wire.specs.Wire.{max_area_len, max_text_len};
 
 use crate::header::Header;
 use crate::option::TcpOption;
-use crate::option_reading::read_options;
-use crate::segment::Segment;
+use crate::option_reading::{check_options, read_options};
+use crate::options_left::OptionsLeft;
+use crate::segment::{HEADER_LEN, MAX_OPTIONS, Segment};
 use arrayvec::ArrayVec;
 
 /// A segment as it arrived (RFC 9293, 3.1): its header by value, its options and its text as the slices of what arrived. It
@@ -50,6 +51,17 @@ impl<'a> RawSegment<'a> {
         ensures bodies { BodiesLie self.now.area.ref_ptr result.items }
     {
         self.list().0
+    }
+
+    /// The same one by one, without a list.
+    #[tactic(auto, using(crate::proofs::Listed::first_listed, crate::proofs::Listed::none_listed))]
+    pub fn options_left(&self) -> OptionsLeft<'a>
+        ensures { result ≡ (raw_content self.now).options }
+    {
+        match check_options(self.area, HEADER_LEN, MAX_OPTIONS) {
+            Ok(()) => OptionsLeft::of(self.area),
+            Err(_) => OptionsLeft::of(&[]),
+        }
     }
 
     /// The segment with its options listed.

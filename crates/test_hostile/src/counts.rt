@@ -1,6 +1,5 @@
 //! What is counted.
 use std::io;
-use tcp_answers::phase_name;
 use tcp_conn::{Arrival, Phase};
 
 /// A count.
@@ -81,7 +80,7 @@ impl Arrivals {
         println!(rt; "dropped: {}", self.dropped.0)?;
         println!(rt; "processed: {}", self.processed.0)?;
         for (phase, count) in PHASES.iter().zip(&self.phases) {
-            println!(rt; "in {}: {}", phase_name(*phase), count.0)?;
+            println!(rt; "in {phase}: {}", count.0)?;
         }
         Ok(())
     }

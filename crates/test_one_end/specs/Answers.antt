@@ -3,8 +3,8 @@ use Rattle.std.specs.Prelude.{ℕ, List, [], ◌∷◌, ◌++◌, length, codes,
 use Rattle.tcp_conn.specs.declared.outcome.CallError.{CallError}
 use Rattle.tcp_conn.specs.Outcome.{call_error_number}
 use Rattle.tcp_conn.specs.State.{State}
+use Rattle.tcp_conn.specs.Names.{phase_name, ending_name}
 use Rattle.tcp_answers.specs.Answers.{refused_text}
-use Rattle.tcp_answers.specs.Names.{phase_name, ending_name}
 
 -- a call that answers nothing but its refusal
 abbrev pub call_text : Result (Unit {0}) CallError → List ℕ

@@ -3,7 +3,7 @@ ghost use Rattle.std.specs.Prelude.{◌≡◌, ◌++◌, OnOk, string_bytes};
 ghost use Rattle.test_one_end.specs.Answers.{call_text, state_text};
 
 use std::alloc::AllocError;
-use tcp_answers::{ending_name, phase_name, push_refused};
+use tcp_answers::push_refused;
 use tcp_conn::{CallError, Endpoint};
 
 pub(crate) fn push_call(text: &mut String, answer: Result<(), CallError>) -> Result<(), AllocError>
@@ -19,8 +19,8 @@ pub(crate) fn push_call(text: &mut String, answer: Result<(), CallError>) -> Res
 pub(crate) fn push_state(text: &mut String, end: &Endpoint) -> Result<(), AllocError>
     ensures { OnOk result (string_bytes text.new ≡ string_bytes text.old ++ state_text end.now) }
 {
-    let phase = phase_name(end.phase());
-    let ending = ending_name(end.ending());
+    let phase = end.phase();
+    let ending = end.ending();
     let unread = end.unread();
     let released = end.released();
     let ordered = end.ordered();

@@ -29,6 +29,7 @@ pub(crate) fn read_event(alloc: Global, word: &[u8], rest: &[u8]) -> Result<Solo
         b"listen" => Ok(SoloEvent::Listen),
         b"close" => Ok(SoloEvent::Close),
         b"abort" => Ok(SoloEvent::Abort),
+        b"acknowledge" => Ok(SoloEvent::Acknowledge),
         b"emit" => Ok(SoloEvent::Emit),
         b"send" => Ok(SoloEvent::Send(read_bytes(alloc, rest)?)),
         b"receive" => read_receive(rest),

@@ -10,7 +10,6 @@ use events::{connection, missing_segment};
 use std::alloc::Global;
 use std::io;
 use std::process::ExitCode;
-use tcp_answers::{ending_name, phase_name};
 use tcp_conn::Config;
 use tcp_replay::{Event, Outcome, Side, World, every_run_is_safe};
 use tcp_wire::{Addr, Seq};
@@ -51,8 +50,8 @@ fn print_side(rt: &impl Print, name: &str, world: &World, side: Side) -> io::Res
     let is_one_more = world.sent(side, count).is_some();
     println!(rt; "  {count} segments, the first of {first} bytes, one more {is_one_more}")?;
     print_progress(rt, world, side)?;
-    let phase = phase_name(world.endpoint(side).phase());
-    let ending = ending_name(world.endpoint(side).ending());
+    let phase = world.endpoint(side).phase();
+    let ending = world.endpoint(side).ending();
     let closed = world.closed(side);
     let ended = world.ended(side);
     println!(rt;

@@ -4,9 +4,20 @@ use Rattle.tcp_reasm.specs.Reassembly.{Run, stamp_of_run}
 use Rattle.tcp_reasm.specs.Store.{runs_in, ranked, laid, turned, held_to, gap_to}
 use Rattle.tcp_reasm.proofs.Gaps.{turn_goes_on}
 use Rattle.std.proofs.lemmas.List.{drop_all}
-use Rattle.tcp_reasm.proofs.Rings.{laid_nothing}
+use Rattle.std.proofs.lemmas.Grind.{common_steps}
+use Rattle.tcp_reasm.proofs.Rings.{laid_nothing, take_put, drop_put, put_laid}
 use Rattle.tcp_reasm.proofs.Turns.{turn_laid, turn_unread}
 use Rattle.tcp_reasm.proofs.lay.lay.Goals as goal
+
+pub returns-then-is_empty-clause-unread : goal.returns-then-is_empty-clause-unread
+returns-then-is_empty-clause-unread c =
+    ap (take c.args.unread) c.write.ensures.bytes ∙ take_put c.args.unread (c.args.unread + c.args.place) c.args.text.now (turned c.args.start c.args.block.now) (omega arith)
+
+pub returns-then-is_empty-clause-window : goal.returns-then-is_empty-clause-window
+returns-then-is_empty-clause-window c =
+    ap (drop c.args.unread) c.write.ensures.bytes
+    ∙ drop_put c.args.unread c.args.place (c.args.unread + c.args.place) c.args.text.now (turned c.args.start c.args.block.now) refl
+    ∙ put_laid c.args.table.now c.args.place c.args.text.now (drop c.args.unread (turned c.args.start c.args.block.now)) (grind (arith, common_steps, c.is_empty.ensures))
 
 pub loop-next-preserved : goal.loop-next-preserved
 loop-next-preserved c =
@@ -25,9 +36,9 @@ loop-next-preserved c =
       least = omega arith;
       most = omega arith;
       size = omega arith;
-      unread = turn_unread c.args.unread from c.args.start middle c.loop-next.block c.write.new.block c.write.ensures.bytes ∙ c.loop-next.invariant.unread;
+      unread = turn_unread c.args.unread from c.args.start middle c.loop-next.block c.write-in-loop-next.new.block c.write-in-loop-next.ensures.bytes ∙ c.loop-next.invariant.unread;
       window =
-          turn_laid all place next from to end c.args.start c.args.unread text middle c.loop-next.block c.write.new.block (omega arith) (omega arith) refl is_from c.gap_to-to.ensures.value is_middle c.write.ensures.bytes
+          turn_laid all place next from to end c.args.start c.args.unread text middle c.loop-next.block c.write-in-loop-next.new.block (omega arith) (omega arith) refl is_from c.gap_to-to.ensures.value is_middle c.write-in-loop-next.ensures.bytes
           ∙ c.loop-next.invariant.window;
     }
 

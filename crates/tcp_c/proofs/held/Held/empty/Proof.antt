@@ -19,7 +19,7 @@ use denote.Steps.{nothing}
 use denote.Triple.Walked.{Stays, stay_dropped, walk_of, Goes-dropped}
 use Rattle.core.proofs.cell.Inside.{Good, one}
 use Rattle.std.proofs.raw_atomic.Walks.{proved_at, leaves}
-use Rattle.std.proofs.alloc.Global.TheLaws as heap_laws
+use Rattle.region_heap.proofs.still.Still.TheLaws as heap_laws
 use Rattle.std_alloc.proofs.ResultValues.{and_tt}
 use Rattle.tcp_c.specs.Held.{end_row}
 use Rattle.tcp_c.proofs.Values.{both, Heap, Held, held_in}

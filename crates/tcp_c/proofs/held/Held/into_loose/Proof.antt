@@ -17,8 +17,8 @@ use denote.RawPtr.{block_ptr}
 use denote.Steps.{nothing, heard}
 use denote.Triple.Walked.{Stays, stay_dropped, walk_of, Goes-dropped}
 use Rattle.std.proofs.raw_atomic.Walks.{proved_at, leaves}
-use Rattle.std.proofs.alloc.Global.TheLaws as heap_laws
-use Rattle.std.specs.contracts.impls.GlobalAllocator.TheImpl.{ghosts}
+use Rattle.region_heap.proofs.still.Still.TheLaws as heap_laws
+use Rattle.region_heap.specs.contracts.still.StillAllocator.TheImpl.{ghosts}
 use Rattle.tcp_c.specs.Held.{end_row}
 use Rattle.tcp_c.proofs.Values.{both, Heap, Held, loose_good, loose_in, held_out}
 use Rattle.tcp_c.specs.contracts.held.Held.into_loose.{ended, clauses}

@@ -22,10 +22,10 @@ invariant_of-self g c =
     let piece = piece_of 0 end 0 in
     let count : c.union_of-count.result.to ≡ (union_of piece piece (runs_in table)).to =
     ap (λ (run : Run). run.to) c.union_of-count.ensures ∙ ap (λ (entries : List Entry). (union_of piece piece (runs_in entries)).to) c.deref.ensures.0 in
-    let rest : runs_in c.rest_of-self-inside.result.items ≡ map (moved c.union_of-count.result.to) (rest_of piece (runs_in table)) =
-    c.rest_of-self-inside.ensures.items ∙ ap (λ (entries : List Entry). map (moved c.union_of-count.result.to) (rest_of piece (runs_in entries))) c.deref-3.ensures.0 in
-    subst (λ (bytes : List ℕ). IsKept bytes c.self.inside.start (c.self.inside.unread + c.union_of-count.result.to) (runs_in c.rest_of-self-inside.result.items)) (sym now)
-    (advanced_kept block after c.self.inside.start c.self.inside.unread c.union_of-count.result.to end 0 table c.rest_of-self-inside.result.items c.self.invariant size c.requires.some (omega (arith, seen.0, seen.1)) count rest (omega (arith, length-map c.rest_of-self-inside.result.items run_of, c.rest_of-self-inside.ensures.few)))
+    let rest : runs_in c.leave_rest.new.table.items ≡ map (moved c.union_of-count.result.to) (rest_of piece (runs_in table)) =
+    c.leave_rest.ensures.items in
+    subst (λ (bytes : List ℕ). IsKept bytes c.self.inside.start (c.self.inside.unread + c.union_of-count.result.to) (runs_in c.leave_rest.new.table.items)) (sym now)
+    (advanced_kept block after c.self.inside.start c.self.inside.unread c.union_of-count.result.to end 0 table c.leave_rest.new.table.items c.self.invariant size c.requires.some (omega (arith, seen.0, seen.1)) count rest (omega (arith, length-map c.leave_rest.new.table.items run_of, c.leave_rest.ensures.few)))
 
 pub returns-clause-after : goal.returns-clause-after
 returns-clause-after g c =
@@ -36,7 +36,7 @@ returns-clause-after g c =
     let text : List ℕ = c.args.text.now in
     let end : ℕ = length text in
     let table : List Entry = c.self.inside.table.items in
-    let left : List Entry = c.rest_of-self-inside.result.items in
+    let left : List Entry = c.leave_rest.new.table.items in
     let given : ℕ = c.union_of-count.result.to in
     let lent : c.deref_mut.result.now ≡ block = c.deref_mut.ensures.value in
     let size : length after ≡ length block = c.lay.ensures.len ∙ ap length lent in
@@ -46,7 +46,7 @@ returns-clause-after g c =
     let count : given ≡ (union_of piece piece (runs_in table)).to =
     ap (λ (run : Run). run.to) c.union_of-count.ensures ∙ ap (λ (entries : List Entry). (union_of piece piece (runs_in entries)).to) c.deref.ensures.0 in
     let rest : runs_in left ≡ map (moved given) (rest_of piece (runs_in table)) =
-    c.rest_of-self-inside.ensures.items ∙ ap (λ (entries : List Entry). map (moved given) (rest_of piece (runs_in entries))) c.deref-3.ensures.0 in
+    c.leave_rest.ensures.items in
     let front : take unread (turned start after) ≡ take unread (turned start block) = c.lay.ensures.unread ∙ ap (λ (bytes : List ℕ). take unread (turned start bytes)) lent in
     let behind : drop unread (turned start after) ≡ laid (stamp_of_run (ranked (runs_in table))) 0 0 text (drop unread (turned start block)) =
     c.lay.ensures.window

@@ -1,0 +1,106 @@
+/* The congestion window (see congestion.h). C alone, tested and not proved. */
+#include "congestion.h"
+
+/* In segments: the initial window (RFC 6928, 2), and the least that a window is halved to (RFC 5681, 3.1). */
+enum { INITIAL = 10, LEAST = 2 };
+
+static uint64_t smaller(uint64_t a, uint64_t b) { return a < b ? a : b; }
+static uint64_t greater(uint64_t a, uint64_t b) { return a < b ? b : a; }
+
+void congestion_init(struct congestion *congestion, uint32_t mss)
+{
+    *congestion = (struct congestion){.mss = mss, .cwnd = (uint64_t)INITIAL * mss, .ssthresh = UINT64_MAX};
+}
+
+void congestion_agreed(struct congestion *congestion, uint32_t mss)
+{
+    if (congestion->given == 0 && congestion->timeouts == 0)
+        congestion->cwnd = (uint64_t)INITIAL * mss;
+    congestion->mss = mss;
+}
+
+static uint64_t flight_of(const struct congestion *congestion) { return congestion->given - congestion->released; }
+
+/* For each segment that has left the network another one may go out once a loss was found (RFC 5681, 3.2), and before
+   that for each two: then no more is on its way than half a window when it is found (RFC 6937). */
+uint64_t congestion_room(const struct congestion *congestion)
+{
+    uint64_t left = congestion->loss == CONGESTION_RECOVERY ? congestion->left : congestion->left / 2;
+    uint64_t window = congestion->cwnd + left, flight = flight_of(congestion);
+    return window > flight ? window - flight : 0;
+}
+
+/* The window grows where the user fills it (RFC 7661, 4.3): by what was acknowledged in slow start, at most two
+   segments (RFC 3465, 2.2), and by a segment each window behind it (RFC 5681, 3.1). */
+static void grow(struct congestion *congestion, uint64_t acked, uint64_t flight)
+{
+    if (2 * flight < congestion->cwnd)
+        return;
+    if (congestion->cwnd < congestion->ssthresh) {
+        congestion->cwnd += smaller(acked, 2 * congestion->mss);
+        return;
+    }
+    congestion->grown += acked;
+    if (congestion->grown >= congestion->cwnd) {
+        congestion->grown -= congestion->cwnd;
+        congestion->cwnd += congestion->mss;
+    }
+}
+
+void congestion_acknowledged(struct congestion *congestion, uint64_t released, int tells_blocks)
+{
+    uint64_t acked = released - congestion->released, flight = flight_of(congestion);
+    congestion->released = released;
+    if (acked == 0 && tells_blocks && congestion->loss != CONGESTION_TIMED_OUT)
+        congestion->left = smaller(congestion->left + congestion->mss, flight);
+    congestion->left -= smaller(congestion->left, acked);
+    congestion->again -= smaller(congestion->again, acked);
+    if (acked > 0 && congestion->loss != CONGESTION_RECOVERY)
+        grow(congestion, acked, flight);
+    if (congestion->loss != CONGESTION_OPEN && released >= congestion->recover) {
+        congestion->loss = CONGESTION_OPEN;
+        congestion->left = congestion->again = 0;
+    }
+}
+
+void congestion_lost(struct congestion *congestion, uint32_t loss, uint32_t count, uint64_t now)
+{
+    uint64_t flight = smaller(flight_of(congestion), congestion->cwnd);
+    uint32_t timed_out = loss == CONGESTION_TIMED_OUT;
+    congestion->again = 0;
+    congestion->credit = (int64_t)congestion->mss;
+    congestion->counted = now;
+    /* One halving for all that was given before it (RFC 6582, 3.2). */
+    if (!timed_out && congestion->loss != CONGESTION_OPEN)
+        return;
+    if (flight > 0 && count <= 1)
+        congestion->ssthresh = greater(flight / 2, LEAST * congestion->mss);
+    congestion->cwnd = timed_out ? congestion->mss : congestion->ssthresh;
+    congestion->left = timed_out ? 0 : congestion->left;
+    congestion->loss = loss;
+    congestion->recover = congestion->given;
+    congestion->losses += !timed_out;
+    congestion->timeouts += timed_out;
+}
+
+void congestion_idle(struct congestion *congestion)
+{
+    congestion->cwnd = smaller(congestion->cwnd, INITIAL * congestion->mss);
+}
+
+void congestion_resent(struct congestion *congestion, uint64_t bytes)
+{
+    congestion->again += bytes;
+    congestion->credit -= (int64_t)bytes;
+}
+
+int congestion_may_resend(struct congestion *congestion, uint64_t now, uint64_t trip)
+{
+    uint64_t earned = smaller(now - congestion->counted, 1000) * 1000 * congestion->cwnd / greater(trip, 1000);
+    int64_t most = (int64_t)greater(LEAST * congestion->mss, congestion->cwnd / 4);
+    congestion->credit += (int64_t)earned;
+    if (congestion->credit > most)
+        congestion->credit = most;
+    congestion->counted = now;
+    return congestion->again < congestion->cwnd && congestion->credit > 0;
+}

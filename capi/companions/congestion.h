@@ -1,0 +1,71 @@
+/*
+ * congestion.h: the congestion window of one end (RFC 5681, with the initial window of RFC 6928), and the pace of what
+ * goes out again. flow.h stands on it.
+ *
+ * This is C alone, tested and not proved: it knows no end, and counts bytes of the own direction. What an end is given
+ * to send is limited, and not what it emits, since each segment that it emits carries an acknowledgement.
+ */
+#ifndef TCPCORE_CONGESTION_H
+#define TCPCORE_CONGESTION_H
+
+#include <stdint.h>
+
+/* What a loss has left to do. */
+enum {
+    CONGESTION_OPEN = 0,      /* nothing */
+    CONGESTION_RECOVERY = 1,  /* a segment was lost: the window was halved, until `recover` is acknowledged */
+    CONGESTION_TIMED_OUT = 2  /* the timeout ran out: slow start from one segment (RFC 5681, 3.1) */
+};
+
+/* All counts are of bytes. Of its fields the caller writes `given` alone. */
+struct congestion {
+    uint64_t mss;       /* of a full segment */
+    uint64_t cwnd;      /* the congestion window */
+    uint64_t ssthresh;  /* below it the window grows by slow start */
+    uint64_t given;     /* what the end was given to send */
+    uint64_t released;  /* of it what the peer has acknowledged */
+    uint64_t recover;   /* what was given when the last loss was found */
+    uint64_t grown;     /* acknowledged towards the next segment of congestion avoidance */
+    uint64_t left;      /* not acknowledged, but out of the network by what the peer told */
+    uint64_t again;     /* sent again, and not yet acknowledged */
+    int64_t credit;     /* what may go out again now */
+    uint64_t counted;   /* when that was counted */
+    uint32_t loss;      /* CONGESTION_OPEN .. CONGESTION_TIMED_OUT */
+    uint32_t losses;    /* how often the window was halved */
+    uint32_t timeouts;  /* how often it went down to one segment */
+};
+
+/* Sets the window of a connection that begins: ten segments (RFC 6928, 2). `mss` is above 0. */
+void congestion_init(struct congestion *congestion, uint32_t mss);
+
+/* A full segment has `mss` bytes, as both SYNs say. Where nothing was given yet the window is ten of these. */
+void congestion_agreed(struct congestion *congestion, uint32_t mss);
+
+/* The bytes that may be given now. */
+uint64_t congestion_room(const struct congestion *congestion);
+
+/*
+ * An acknowledgement has come, and of what was given `released` bytes are acknowledged now. One that releases nothing
+ * but `tells_blocks` says that a segment has left the network (RFC 2018, 4).
+ */
+void congestion_acknowledged(struct congestion *congestion, uint64_t released, int tells_blocks);
+
+/*
+ * It was found that segments were lost, by blocks (CONGESTION_RECOVERY) or since the timeout ran out
+ * (CONGESTION_TIMED_OUT), for the `count`-th time without progress.
+ */
+void congestion_lost(struct congestion *congestion, uint32_t loss, uint32_t count, uint64_t now);
+
+/* Nothing was sent for so long that nothing is known of the path (RFC 5681, 4.1). */
+void congestion_idle(struct congestion *congestion);
+
+/* So many bytes went out again. */
+void congestion_resent(struct congestion *congestion, uint64_t bytes);
+
+/*
+ * Whether more may go out again, at `now`, in milliseconds, with a round trip of `trip` microseconds: as much as the
+ * window, and no faster than a window each round trip.
+ */
+int congestion_may_resend(struct congestion *congestion, uint64_t now, uint64_t trip);
+
+#endif

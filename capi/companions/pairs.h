@@ -1,0 +1,41 @@
+/*
+ * pairs.h: connections by both addresses and both ports (a pair of sockets identifies a connection: RFC 9293, 4).
+ *
+ * This is C beside tcpcore.h and table.h, tested and not proved. Nodes stand in the structs of their connections, the
+ * buckets are the caller's. Nobody outside can choose who shares a bucket, since that is up to a secret.
+ */
+#ifndef TCPCORE_PAIRS_H
+#define TCPCORE_PAIRS_H
+
+#include "table.h"
+
+/* A pair of sockets, and its place. */
+struct pair {
+    tcpcore_addr client, server;
+    uint16_t client_port, server_port;
+    struct pair *next; /* of its bucket */
+};
+
+struct pairs {
+    struct table secret;   /* for its secret alone */
+    struct pair **buckets;
+    uint32_t count;        /* buckets */
+    uint32_t used, most;   /* pairs, and the most there were at once */
+};
+
+/* No pairs, in `count` buckets, at least 1. */
+void pairs_init(struct pairs *pairs, struct pair **buckets, uint32_t count, const uint8_t secret[16]);
+
+/* 64 secret bits of a pair; the lower half is good for an initial sequence number (RFC 9293, 3.4.1). */
+uint64_t pairs_secret(struct pairs *pairs, const struct pair *pair);
+
+/* The pair of these sockets, or NULL. */
+struct pair *pairs_find(struct pairs *pairs, const struct pair *key);
+
+/* Adds a pair that isn't there; it stays where it is until it is removed. */
+void pairs_add(struct pairs *pairs, struct pair *pair);
+
+/* Removes a pair that is there. */
+void pairs_remove(struct pairs *pairs, struct pair *pair);
+
+#endif

@@ -1,0 +1,510 @@
+/* The test of congestion.c and flow.c: numbers worked out from the RFCs, and two ends over a wire in memory with a
+   clock of its own. */
+#include "../flow.h"
+#include "check.h"
+
+#include <string.h>
+
+enum { MSS = 1000, SENDS = 100000, KEEPS = 60000 };
+
+/* RFC 6928, 2; RFC 5681, 3.1: ten segments, then what was acknowledged more, at most two segments for each one. */
+static void slow_start(void)
+{
+    struct congestion c;
+    congestion_init(&c, MSS);
+    CHECK(congestion_room(&c), 10 * MSS);
+    c.given = 10 * MSS;
+    CHECK(congestion_room(&c), 0);
+    congestion_acknowledged(&c, MSS, 0);
+    CHECK(c.cwnd, 11 * MSS);
+    CHECK(congestion_room(&c), 2 * MSS);
+    congestion_acknowledged(&c, MSS + 500, 0);
+    CHECK(c.cwnd, 11 * MSS + 500);
+    congestion_acknowledged(&c, 6 * MSS, 0);
+    CHECK(c.cwnd, 13 * MSS + 500);
+    /* Less than half of the window is in flight: it doesn't grow (RFC 7661, 4.3). */
+    congestion_acknowledged(&c, 7 * MSS, 0);
+    CHECK(c.cwnd, 13 * MSS + 500);
+}
+
+/* RFC 5681, 3.1 and 3.2: half of what is in flight, once for all that was given before; then a segment each window. */
+static void halving(void)
+{
+    struct congestion c;
+    congestion_init(&c, MSS);
+    c.cwnd = c.given = 20 * MSS;
+    congestion_lost(&c, CONGESTION_RECOVERY, 0, 5);
+    CHECK(c.cwnd, 10 * MSS);
+    CHECK(c.losses, 1);
+    congestion_lost(&c, CONGESTION_RECOVERY, 0, 6);
+    CHECK(c.cwnd, 10 * MSS);
+    CHECK(c.losses, 1);
+    congestion_acknowledged(&c, 19 * MSS, 0);
+    CHECK(c.loss, CONGESTION_RECOVERY);
+    congestion_acknowledged(&c, 20 * MSS, 0);
+    CHECK(c.loss, CONGESTION_OPEN);
+    CHECK(c.cwnd, 10 * MSS);
+    for (uint64_t at = 20 * MSS; at < 30 * MSS; at += MSS) {
+        c.given = at + 10 * MSS;
+        CHECK(c.cwnd, 10 * MSS);
+        congestion_acknowledged(&c, at + MSS, 0);
+    }
+    for (uint64_t at = 30 * MSS; at < 41 * MSS; at += MSS) {
+        c.given = at + 11 * MSS;
+        CHECK(c.cwnd, 11 * MSS);
+        congestion_acknowledged(&c, at + MSS, 0);
+    }
+    CHECK(c.cwnd, 12 * MSS);
+    /* Never below two segments. */
+    c.given = c.released + MSS;
+    congestion_lost(&c, CONGESTION_RECOVERY, 0, 7);
+    CHECK(c.cwnd, 2 * MSS);
+}
+
+/* RFC 5681, 3.1: one segment, then slow start up to half of what was in flight when the timeout first ran out. */
+static void timing_out(void)
+{
+    struct congestion c;
+    congestion_init(&c, MSS);
+    c.cwnd = c.given = 20 * MSS;
+    congestion_acknowledged(&c, 0, 1);
+    congestion_lost(&c, CONGESTION_TIMED_OUT, 1, 5);
+    CHECK(c.cwnd, MSS);
+    CHECK(c.ssthresh, 10 * MSS);
+    CHECK(c.left, 0);
+    congestion_lost(&c, CONGESTION_TIMED_OUT, 2, 9);
+    CHECK(c.ssthresh, 10 * MSS);
+    CHECK(c.timeouts, 2);
+    /* What blocks tell behind a timeout is of what went out before it. */
+    congestion_acknowledged(&c, 0, 1);
+    CHECK(c.left, 0);
+    congestion_acknowledged(&c, MSS, 0);
+    CHECK(c.cwnd, 2 * MSS);
+    congestion_acknowledged(&c, 20 * MSS, 0);
+    CHECK(c.loss, CONGESTION_OPEN);
+    CHECK(c.cwnd, 4 * MSS);
+}
+
+/* RFC 6937 and RFC 5681, 3.2: one for two that have left the network, and one for one once a loss was found. */
+static void leaving(void)
+{
+    struct congestion c;
+    congestion_init(&c, MSS);
+    c.given = 10 * MSS;
+    congestion_acknowledged(&c, 0, 1);
+    congestion_acknowledged(&c, 0, 1);
+    CHECK(congestion_room(&c), MSS);
+    congestion_acknowledged(&c, 0, 0);
+    CHECK(congestion_room(&c), MSS);
+    for (int at = 0; at < 20; at++)
+        congestion_acknowledged(&c, 0, 1);
+    CHECK(c.left, 10 * MSS);
+    congestion_lost(&c, CONGESTION_RECOVERY, 0, 5);
+    CHECK(congestion_room(&c), 5 * MSS);
+    congestion_acknowledged(&c, 4 * MSS, 0);
+    CHECK(c.left, 6 * MSS);
+    congestion_acknowledged(&c, 10 * MSS, 0);
+    CHECK(c.left, 0);
+}
+
+/* RFC 5681, 4.1. */
+static void idle(void)
+{
+    struct congestion c;
+    congestion_init(&c, MSS);
+    c.cwnd = 50 * MSS;
+    congestion_idle(&c);
+    CHECK(c.cwnd, 10 * MSS);
+    c.cwnd = 3 * MSS;
+    congestion_idle(&c);
+    CHECK(c.cwnd, 3 * MSS);
+}
+
+/* A window of 20 segments in 10 ms: two in each, and no more than the window without an acknowledgement. */
+static void pace(void)
+{
+    struct congestion c;
+    congestion_init(&c, MSS);
+    c.cwnd = c.given = 40 * MSS;
+    congestion_lost(&c, CONGESTION_RECOVERY, 0, 5);
+    int count = 0;
+    for (uint64_t now = 5; now < 15; now++)
+        for (; congestion_may_resend(&c, now, 10000); count++)
+            congestion_resent(&c, MSS);
+    CHECK(count, 19);
+    CHECK(congestion_may_resend(&c, 30, 10000), 1);
+    for (; congestion_may_resend(&c, 30, 10000); count++)
+        congestion_resent(&c, MSS);
+    CHECK(count, 20);
+    congestion_acknowledged(&c, 3 * MSS, 0);
+    CHECK(congestion_may_resend(&c, 31, 10000), 1);
+    /* Behind a pause no more than a quarter of the window goes out at once. */
+    congestion_lost(&c, CONGESTION_RECOVERY, 0, 40);
+    for (count = 0; congestion_may_resend(&c, 1000, 10000); count++)
+        congestion_resent(&c, MSS);
+    CHECK(count, 5);
+}
+
+/* One end with its flow. */
+struct side {
+    tcpcore_end end;
+    struct flow flow;
+    tcpcore_addr addr;
+    uint8_t block[TCPCORE_MEMORY(SENDS, KEEPS)];
+};
+
+static struct side a, b;
+static uint64_t now;
+static uint8_t segments[64][TCPCORE_EMIT_ROOM];
+static size_t lengths[64];
+
+static void make(struct side *side, uint8_t last, uint16_t mss, uint32_t delay)
+{
+    tcpcore_config config = {.addr = {{10, 0, 0, last}}, .port = last, .mss = mss, .isn = UINT32_MAX - 3000,
+                             .send_capacity = SENDS, .recv_capacity = KEEPS, .limit = TCPCORE_LIMIT, .sack = 1};
+    memset(side, 0, sizeof *side);
+    side->addr = config.addr;
+    CHECK(tcpcore_new(&side->end, &config, side->block, sizeof side->block), TCPCORE_DONE);
+    flow_init(&side->flow, &config, &TIMERS_RULES, delay);
+}
+
+/* Puts all that is due into `segments`; how many there are. */
+static int emit(struct side *from)
+{
+    tcpcore_addr to;
+    int count = 0;
+    flow_run(&from->flow, &from->end, now);
+    while (flow_emit(&from->flow, &from->end, segments[count], TCPCORE_EMIT_ROOM, &to, lengths + count, now) ==
+           TCPCORE_DONE)
+        count++;
+    flow_run(&from->flow, &from->end, now);
+    return count;
+}
+
+static uint32_t deliver(struct side *from, struct side *to, int at)
+{
+    uint32_t answer = flow_arrive(&to->flow, &to->end, from->addr, to->addr, segments[at], lengths[at], now);
+    flow_run(&to->flow, &to->end, now);
+    return answer;
+}
+
+static int carry(struct side *from, struct side *to)
+{
+    int count = emit(from);
+    for (int at = 0; at < count; at++)
+        CHECK(deliver(from, to, at), TCPCORE_DONE);
+    return count;
+}
+
+/* A handshake with a round trip of 10 ms. */
+static void open_with(uint16_t mss, uint32_t delay)
+{
+    now = 5000;
+    make(&a, 1, MSS, delay);
+    make(&b, 2, mss, delay);
+    CHECK(tcpcore_listen(&b.end), TCPCORE_DONE);
+    CHECK(tcpcore_connect(&a.end, b.addr, 2), TCPCORE_DONE);
+    CHECK(carry(&a, &b), 1);
+    now += 10;
+    CHECK(carry(&b, &a), 1);
+    CHECK(carry(&a, &b), 1);
+    CHECK(emit(&b), 0);
+}
+
+static void open_both(uint32_t delay) { open_with(MSS, delay); }
+
+static void free_both(void)
+{
+    CHECK(tcpcore_free(&a.end), TCPCORE_DONE);
+    CHECK(tcpcore_free(&b.end), TCPCORE_DONE);
+}
+
+static size_t give(struct side *side, size_t length)
+{
+    static const char TEXT[100000];
+    size_t taken;
+    CHECK(flow_send(&side->flow, &side->end, TEXT, length, &taken), TCPCORE_DONE);
+    return taken;
+}
+
+/* RFC 9293, 3.8.6.3; RFC 5681, 4.2: the second full segment, or 40 ms, or at once. */
+static void delayed(void)
+{
+    open_both(FLOW_DELAY);
+    CHECK(give(&a, 500), 500);
+    CHECK(carry(&a, &b), 1);
+    CHECK(emit(&b), 0);
+    CHECK(flow_wait(&b.flow, now), 40);
+    now += 15;
+    CHECK(give(&a, MSS), MSS);
+    CHECK(carry(&a, &b), 1);
+    CHECK(emit(&b), 0);
+    CHECK(flow_wait(&b.flow, now), 25);
+    CHECK(give(&a, 500), 500);
+    CHECK(carry(&a, &b), 1);
+    CHECK(b.flow.is_urgent, 0);
+    CHECK(carry(&b, &a), 1);
+    CHECK(flow_wait(&b.flow, now), -1);
+    CHECK(give(&a, 500), 500);
+    CHECK(carry(&a, &b), 1);
+    now += 39;
+    CHECK(emit(&b), 0);
+    now += 1;
+    CHECK(flow_wait(&b.flow, now), 0);
+    CHECK(carry(&b, &a), 1);
+    /* With text of the own it goes out at once. */
+    CHECK(give(&a, 500), 500);
+    CHECK(carry(&a, &b), 1);
+    CHECK(give(&b, 10), 10);
+    CHECK(carry(&b, &a), 1);
+    CHECK(emit(&b), 0);
+    /* A FIN. */
+    CHECK(tcpcore_close(&a.end), TCPCORE_DONE);
+    CHECK(carry(&a, &b), 1);
+    CHECK(b.flow.is_urgent, 1);
+    CHECK(carry(&b, &a), 1);
+    free_both();
+    /* And with no delay each emission acknowledges. */
+    open_both(0);
+    CHECK(give(&a, 500), 500);
+    CHECK(carry(&a, &b), 1);
+    CHECK(emit(&b), 1);
+    free_both();
+}
+
+/* RFC 5681, 4.2: out of order, and where a gap is filled wholly or in part. */
+static void broken(void)
+{
+    open_both(FLOW_DELAY);
+    uint8_t old[20];
+    memcpy(old, segments[0], sizeof old);
+    CHECK(give(&a, 5 * MSS), 5 * MSS);
+    CHECK(emit(&a), 5);
+    static const int ORDER[] = {0, 4, 1, 3, 2};
+    static const int IS_URGENT[] = {0, 1, 1, 1, 1};
+    for (int at = 0; at < 5; at++) {
+        CHECK(deliver(&a, &b, ORDER[at]), TCPCORE_DONE);
+        CHECK(b.flow.is_urgent, IS_URGENT[at]);
+        if (b.flow.is_urgent) {
+            uint8_t out[TCPCORE_EMIT_ROOM];
+            tcpcore_addr to;
+            size_t length;
+            CHECK(flow_emit(&b.flow, &b.end, out, sizeof out, &to, &length, now), TCPCORE_DONE);
+            CHECK(b.flow.is_urgent, 0);
+        }
+    }
+    /* What came before is acknowledged again, at once. */
+    CHECK(deliver(&a, &b, 0), TCPCORE_DROPPED);
+    CHECK(b.flow.is_urgent, 1);
+    CHECK(emit(&b), 1);
+    /* Without text, too: the acknowledgement of the handshake. */
+    CHECK(b.flow.is_urgent, 0);
+    CHECK(flow_arrive(&b.flow, &b.end, a.addr, b.addr, old, sizeof old, now), TCPCORE_DROPPED);
+    CHECK(b.flow.is_urgent, 1);
+    free_both();
+}
+
+/* What is given is limited, to full segments where there is more. */
+static void given(void)
+{
+    open_both(0);
+    CHECK(give(&a, 100000), 10 * MSS);
+    CHECK(give(&a, 100000), 0);
+    CHECK(carry(&a, &b), 10);
+    CHECK(carry(&b, &a), 1);
+    CHECK(a.flow.congestion.cwnd, 12 * MSS);
+    CHECK(give(&a, 11 * MSS + 500), 11 * MSS + 500);
+    /* What comes twice and tells no blocks says nothing. */
+    CHECK(deliver(&b, &a, 0), TCPCORE_DONE);
+    CHECK(a.flow.congestion.left, 0);
+    CHECK(flow_room(&a.flow, 400), 400);
+    CHECK(flow_room(&a.flow, 5000), 0);
+    a.flow.congestion.cwnd = 200 * MSS;
+    CHECK(flow_room(&a.flow, 200000), 88 * MSS);
+    a.flow.congestion.cwnd = 12 * MSS;
+    /* After a pause of more than the timeout ten segments again. */
+    CHECK(carry(&a, &b), 12);
+    CHECK(carry(&b, &a), 1);
+    CHECK(a.flow.congestion.cwnd, 14 * MSS);
+    now += 1001;
+    flow_run(&a.flow, &a.end, now);
+    CHECK(a.flow.congestion.cwnd, 10 * MSS);
+    free_both();
+}
+
+/* Segments are the peer's where these are smaller (RFC 9293, 3.7.1). */
+static void agreed(void)
+{
+    open_with(600, 0);
+    CHECK(a.flow.congestion.mss, 600);
+    CHECK(give(&a, 100000), 6000);
+    CHECK(carry(&a, &b), 10);
+    CHECK(carry(&b, &a), 1);
+    CHECK(give(&a, 6500), 6500);
+    CHECK(give(&a, 6000), 600);
+    free_both();
+}
+
+/* One segment after the timeout, then two for the one that was acknowledged (RFC 5681, 3.1). */
+static void after_timeout(void)
+{
+    open_both(0);
+    CHECK(give(&a, 10 * MSS), 10 * MSS);
+    CHECK(emit(&a), 10);
+    now += (uint64_t)flow_wait(&a.flow, now);
+    CHECK(emit(&a), 1);
+    CHECK(a.flow.congestion.timeouts, 1);
+    now += 10;
+    CHECK(deliver(&a, &b, 0), TCPCORE_DONE);
+    CHECK(emit(&a), 0);
+    CHECK(carry(&b, &a), 1);
+    CHECK(a.flow.congestion.cwnd, 2 * MSS);
+    /* Two in a round trip of 10 ms. */
+    CHECK(emit(&a), 1);
+    CHECK(flow_wait(&a.flow, now), 1);
+    now += 5;
+    CHECK(emit(&a), 1);
+    now += 5;
+    CHECK(emit(&a), 0);
+    CHECK(a.flow.resent, 3);
+    /* An acknowledgement doesn't wait for the pace: the next one that goes out again carries it. */
+    CHECK(give(&b, 2 * MSS), 2 * MSS);
+    CHECK(carry(&b, &a), 2);
+    CHECK(emit(&a), 1);
+    CHECK(lengths[0], 20 + MSS);
+    CHECK(emit(&a), 0);
+    free_both();
+}
+
+/* A peer whose window is shut is probed, and nothing was lost. */
+static void shut(void)
+{
+    open_both(0);
+    for (size_t at = 0, taken; at < 60 * MSS; at += taken) {
+        taken = give(&a, 60 * MSS - at);
+        carry(&a, &b);
+        carry(&b, &a);
+    }
+    CHECK(a.flow.is_shut, 1);
+    uint64_t cwnd = a.flow.congestion.cwnd;
+    CHECK(give(&a, MSS), MSS);
+    CHECK(emit(&a), 0);
+    now += (uint64_t)flow_wait(&a.flow, now);
+    CHECK(emit(&a), 1);
+    CHECK(lengths[0], 21);
+    CHECK(a.flow.congestion.cwnd, cwnd);
+    CHECK(a.flow.congestion.timeouts, 0);
+    free_both();
+}
+
+/* A loss that Reorder finds, a round trip after the first block: half the window, and what is lost goes out again. */
+static void reordered(void)
+{
+    open_both(0);
+    CHECK(give(&a, 10 * MSS), 10 * MSS);
+    CHECK(emit(&a), 10);
+    for (int at = 1; at < 10; at++)
+        if (at != 3)
+            CHECK(deliver(&a, &b, at), TCPCORE_DONE);
+    CHECK(carry(&b, &a), 1);
+    CHECK(emit(&a), 0);
+    CHECK(flow_wait(&a.flow, now), 10);
+    now += 9;
+    CHECK(emit(&a), 0);
+    now += 1;
+    CHECK(emit(&a), 1);
+    CHECK(a.flow.congestion.losses, 1);
+    CHECK(a.flow.congestion.cwnd, 5 * MSS);
+    CHECK(deliver(&a, &b, 0), TCPCORE_DONE);
+    /* The second one waits for its pace: 5 segments in 10 ms. */
+    CHECK(flow_wait(&a.flow, now), 1);
+    now += 1;
+    CHECK(emit(&a), 1);
+    CHECK(a.flow.resent, 2);
+    CHECK(deliver(&a, &b, 0), TCPCORE_DONE);
+    CHECK(carry(&b, &a), 1);
+    CHECK(a.flow.congestion.loss, CONGESTION_OPEN);
+    CHECK(emit(&a), 0);
+    free_both();
+}
+
+static void read(struct side *side, size_t room)
+{
+    uint8_t out[60 * MSS];
+    size_t count;
+    CHECK(flow_receive(&side->flow, &side->end, out, room, &count), TCPCORE_DONE);
+    CHECK(count, room);
+}
+
+/* RFC 9293, 3.8.6.2.2: a window that was shut is told once a full segment fits; one that is half open by itself. */
+static void window(void)
+{
+    open_both(FLOW_DELAY);
+    CHECK(give(&a, MSS), MSS);
+    CHECK(carry(&a, &b), 1);
+    read(&b, MSS);
+    CHECK(emit(&b), 0);
+    now += FLOW_DELAY;
+    CHECK(carry(&b, &a), 1);
+    for (size_t at = 0, taken; at < 40 * MSS; at += taken) {
+        taken = give(&a, 40 * MSS - at);
+        carry(&a, &b);
+        carry(&b, &a);
+    }
+    /* 20,000 bytes are told, less than half of 60,000. */
+    read(&b, MSS - 1);
+    CHECK(emit(&b), 0);
+    read(&b, 1);
+    CHECK(carry(&b, &a), 1);
+    CHECK(segments[0][14] << 8 | segments[0][15], 21 * MSS);
+    for (int at = 0; at < 10; at++) {
+        read(&b, MSS);
+        CHECK(emit(&b), at < 9);
+    }
+    free_both();
+}
+
+/* Reordering is given a round trip from the last segment on that went out again. */
+static void reordered_anew(void)
+{
+    open_both(0);
+    CHECK(give(&a, 10 * MSS), 10 * MSS);
+    CHECK(emit(&a), 10);
+    for (int at = 2; at < 10; at++)
+        CHECK(deliver(&a, &b, at), TCPCORE_DONE);
+    CHECK(carry(&b, &a), 1);
+    CHECK(emit(&a), 0);
+    now += 10;
+    CHECK(emit(&a), 1);
+    now += 8;
+    CHECK(emit(&a), 1);
+    CHECK(flow_wait(&a.flow, now), 10);
+    now += 9;
+    CHECK(emit(&a), 0);
+    CHECK(a.flow.resent, 2);
+    now += 1;
+    CHECK(emit(&a), 1);
+    CHECK(a.flow.congestion.losses, 1);
+    free_both();
+}
+
+int main(void)
+{
+    slow_start();
+    halving();
+    timing_out();
+    leaving();
+    idle();
+    pace();
+    delayed();
+    broken();
+    given();
+    agreed();
+    after_timeout();
+    reordered();
+    reordered_anew();
+    shut();
+    window();
+    printf("flow: %d checks\n", checks);
+    return 0;
+}

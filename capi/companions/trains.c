@@ -1,0 +1,107 @@
+/* Packets above the MTU (see trains.h). C beside tcpcore.h, tested and not proved. */
+#include "trains.h"
+
+#include <linux/virtio_net.h>
+#include <string.h>
+
+/* The control bits (RFC 9293, 3.1), and places of the TCP header. */
+enum { PSH = 8, ACK = 16, TCP_HEADER = 20, OFFSET = 12, FLAGS = 13, CHECKSUM = 16, HEADERS = IP_HEADER + TCP_HEADER };
+
+/* No packet is longer than this. */
+enum { MOST = 65000 };
+
+static uint32_t number_of(const uint8_t *segment)
+{
+    return (uint32_t)segment[4] << 24 | (uint32_t)segment[5] << 16 | (uint32_t)segment[6] << 8 | segment[7];
+}
+
+/* The sum of 16-bit words (RFC 1071, 1), added to another and folded. */
+static uint16_t sum_of(const uint8_t *bytes, size_t length, uint64_t sum)
+{
+    for (; length > 1; bytes += 2, length -= 2)
+        sum += (uint64_t)(bytes[0] << 8 | bytes[1]);
+    sum += length ? (uint64_t)bytes[0] << 8 : 0;
+    while (sum >> 16)
+        sum = (sum & 0xffff) + (sum >> 16);
+    return (uint16_t)sum;
+}
+
+static void write16(uint8_t *at, uint16_t value)
+{
+    at[0] = (uint8_t)(value >> 8);
+    at[1] = (uint8_t)value;
+}
+
+/* Whether it is text alone: no options, and no bits but ACK and PSH. */
+static int is_text(const uint8_t *segment, size_t length)
+{
+    return length > TCP_HEADER && segment[OFFSET] == TCP_HEADER << 2 && (segment[FLAGS] & ~PSH) == ACK;
+}
+
+/* Whether it follows on what is there: the next number, the same connection, acknowledgement and window; each segment
+   but the last is as long as the first. */
+static int follows(const struct train *train, const uint8_t *packet, const uint8_t *segment, size_t length)
+{
+    const uint8_t *front = train->bytes + TUN_HEADER, *first = front + IP_HEADER;
+    size_t text = train->length - TUN_HEADER - HEADERS;
+    return is_text(first, train->length - TUN_HEADER - IP_HEADER) && is_text(segment, length) &&
+           text % train->text == 0 && length - TCP_HEADER <= train->text && train->length + length < MOST &&
+           number_of(first) + (uint32_t)text == number_of(segment) && memcmp(front + 12, packet + 12, 8) == 0 &&
+           memcmp(first, segment, 4) == 0 && memcmp(first + 8, segment + 8, 4) == 0 &&
+           memcmp(first + 14, segment + 14, 2) == 0;
+}
+
+int trains_add(struct train *train, tcpcore_addr src, tcpcore_addr dst, const void *segment, size_t length)
+{
+    uint8_t header[IP_HEADER], *end = train->bytes + train->length;
+    const uint8_t *bytes = segment;
+    size_t total = ip_write(header, src, dst, length);
+    if (train->length == 0) {
+        memcpy(train->bytes + TUN_HEADER, header, IP_HEADER);
+        memcpy(train->bytes + TUN_HEADER + IP_HEADER, segment, length);
+        train->length = TUN_HEADER + total;
+        train->text = length - TCP_HEADER;
+        return 1;
+    }
+    if (!follows(train, header, bytes, length))
+        return 0;
+    memcpy(end, bytes + TCP_HEADER, length - TCP_HEADER);
+    train->length += length - TCP_HEADER;
+    train->bytes[TUN_HEADER + IP_HEADER + FLAGS] |= bytes[FLAGS];
+    return 1;
+}
+
+void trains_finish(struct train *train)
+{
+    uint8_t *packet = train->bytes + TUN_HEADER;
+    size_t length = train->length - TUN_HEADER - IP_HEADER;
+    struct virtio_net_hdr front = {0};
+    tcpcore_addr src, dst;
+    if (length > TCP_HEADER + train->text) {
+        front = (struct virtio_net_hdr){
+            .flags = VIRTIO_NET_HDR_F_NEEDS_CSUM, .gso_type = VIRTIO_NET_HDR_GSO_TCPV4, .hdr_len = HEADERS,
+            .gso_size = (uint16_t)train->text, .csum_start = IP_HEADER, .csum_offset = CHECKSUM};
+        memcpy(&src, packet + 12, sizeof src);
+        memcpy(&dst, packet + 16, sizeof dst);
+        ip_write(packet, src, dst, length);
+        write16(packet + IP_HEADER + CHECKSUM, sum_of(packet + 12, 8, 6 + length));
+    }
+    memcpy(train->bytes, &front, TUN_HEADER);
+}
+
+const uint8_t *trains_read(void *bytes, size_t length, size_t *count)
+{
+    struct virtio_net_hdr front = {0};
+    uint8_t *packet = (uint8_t *)bytes + TUN_HEADER;
+    if (length < TUN_HEADER)
+        return NULL;
+    memcpy(&front, bytes, TUN_HEADER);
+    *count = length - TUN_HEADER;
+    size_t start = front.csum_start, place = start + front.csum_offset;
+    if (front.flags & VIRTIO_NET_HDR_F_NEEDS_CSUM) {
+        if (start > *count || place + 2 > *count)
+            return NULL;
+        write16(packet + place, (uint16_t)~sum_of(packet + start, *count - start, 0));
+    }
+    return packet;
+}

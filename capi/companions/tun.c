@@ -1,0 +1,115 @@
+/* A TUN device inside a namespace (see tun.h). A child enters the namespace and hands the descriptor over. */
+#define _GNU_SOURCE
+#include "tun.h"
+
+#include <arpa/inet.h>
+#include <fcntl.h>
+#include <linux/if_tun.h>
+#include <net/if.h>
+#include <net/route.h>
+#include <sched.h>
+#include <stdio.h>
+#include <string.h>
+#include <sys/ioctl.h>
+#include <sys/socket.h>
+#include <sys/wait.h>
+#include <unistd.h>
+
+static int fails(const char *what)
+{
+    perror(what);
+    return -1;
+}
+
+/* Enters the namespaces, that of users first: it decides what may be done in the other one. */
+static int enter(const struct tun_config *config)
+{
+    char name[64];
+    int net = open(config->space, O_RDONLY | O_CLOEXEC);
+    snprintf(name, sizeof name, "/proc/%d/ns/user", (int)config->pid);
+    int user = config->pid && geteuid() != 0 ? open(name, O_RDONLY | O_CLOEXEC) : -1;
+    if (net < 0 || (user >= 0 && setns(user, CLONE_NEWUSER) != 0) || setns(net, CLONE_NEWNET) != 0)
+        return fails(config->space);
+    return 0;
+}
+
+static struct sockaddr of_addr(uint32_t addr)
+{
+    struct sockaddr_in in = {.sin_family = AF_INET, .sin_addr.s_addr = htonl(addr)};
+    struct sockaddr out;
+    memcpy(&out, &in, sizeof out);
+    return out;
+}
+
+/* Address, MTU, up, and the default route; the loopback device too. */
+static int bring_up(const struct tun_config *config)
+{
+    int control = socket(AF_INET, SOCK_DGRAM | SOCK_CLOEXEC, 0);
+    struct ifreq request = {.ifr_mtu = (int)config->mtu}, lo = {.ifr_name = "lo", .ifr_flags = IFF_UP | IFF_RUNNING};
+    char name[IFNAMSIZ];
+    struct rtentry route = {.rt_dst = of_addr(0), .rt_genmask = of_addr(0), .rt_flags = RTF_UP, .rt_dev = name};
+    snprintf(name, sizeof name, "%s", config->name);
+    memcpy(request.ifr_name, name, sizeof name);
+    int bad = control < 0 || ioctl(control, SIOCSIFMTU, &request) != 0;
+    request.ifr_addr = of_addr(config->addr);
+    bad = bad || ioctl(control, SIOCSIFADDR, &request) != 0;
+    request.ifr_addr = of_addr(~(uint32_t)(UINT64_C(0xffffffff) >> config->prefix));
+    bad = bad || ioctl(control, SIOCSIFNETMASK, &request) != 0;
+    request.ifr_flags = IFF_UP | IFF_RUNNING;
+    bad = bad || ioctl(control, SIOCSIFFLAGS, &request) != 0 || ioctl(control, SIOCSIFFLAGS, &lo) != 0 ||
+          ioctl(control, SIOCADDRT, &route) != 0;
+    if (control >= 0)
+        close(control);
+    return bad ? fails(config->name) : 0;
+}
+
+static int make(const struct tun_config *config)
+{
+    short flags = (short)(IFF_TUN | IFF_NO_PI | (config->offloads ? IFF_VNET_HDR : 0));
+    struct ifreq request = {.ifr_flags = flags};
+    int device = open("/dev/net/tun", O_RDWR | O_NONBLOCK | O_CLOEXEC), header = TUN_HEADER;
+    snprintf(request.ifr_name, sizeof request.ifr_name, "%s", config->name);
+    if (device < 0 || ioctl(device, TUNSETIFF, &request) != 0)
+        return fails("/dev/net/tun");
+    if (config->offloads && (ioctl(device, TUNSETVNETHDRSZ, &header) != 0 ||
+                             ioctl(device, TUNSETOFFLOAD, TUN_F_CSUM | TUN_F_TSO4) != 0))
+        return fails("offloads");
+    return bring_up(config) == 0 ? device : -1;
+}
+
+/* One descriptor over a socket: sent where `device` isn't negative, else received. */
+static int pass(int channel, int device)
+{
+    char byte = 0;
+    union { struct cmsghdr head; char bytes[CMSG_SPACE(sizeof(int))]; } control = {.bytes = {0}};
+    struct iovec piece = {&byte, 1};
+    struct msghdr message = {.msg_iov = &piece, .msg_iovlen = 1, .msg_control = &control,
+                             .msg_controllen = sizeof control};
+    if (device < 0) {
+        if (recvmsg(channel, &message, MSG_CMSG_CLOEXEC) == 1 && CMSG_FIRSTHDR(&message))
+            memcpy(&device, CMSG_DATA(CMSG_FIRSTHDR(&message)), sizeof device);
+        return device;
+    }
+    *CMSG_FIRSTHDR(&message) = (struct cmsghdr){
+        .cmsg_len = CMSG_LEN(sizeof device), .cmsg_level = SOL_SOCKET, .cmsg_type = SCM_RIGHTS};
+    memcpy(CMSG_DATA(CMSG_FIRSTHDR(&message)), &device, sizeof device);
+    return sendmsg(channel, &message, 0) == 1 ? 0 : -1;
+}
+
+int tun_open(const struct tun_config *config)
+{
+    int channel[2], device;
+    if (socketpair(AF_UNIX, SOCK_STREAM | SOCK_CLOEXEC, 0, channel) != 0)
+        return fails("socketpair");
+    pid_t child = fork();
+    if (child == 0) {
+        device = enter(config) == 0 ? make(config) : -1;
+        _exit(device < 0 || pass(channel[1], device) != 0);
+    }
+    close(channel[1]);
+    device = child < 0 ? fails("fork") : pass(channel[0], -1);
+    close(channel[0]);
+    if (child > 0)
+        waitpid(child, NULL, 0);
+    return device;
+}

@@ -1,0 +1,27 @@
+/*
+ * tun.h: a TUN device inside a network namespace, brought up with address and default route, read and written from
+ * outside it.
+ */
+#ifndef TCPCORE_TUN_H
+#define TCPCORE_TUN_H
+
+#include <stdint.h>
+#include <sys/types.h>
+
+/* The least header that a device with offloads puts in front of a packet (struct virtio_net_hdr). */
+enum { TUN_HEADER = 10 };
+
+struct tun_config {
+    const char *space;  /* the file of the namespace, as /proc/PID/ns/net */
+    pid_t pid;          /* the process whose user namespace is entered first, or 0 */
+    const char *name;   /* of the device */
+    uint32_t addr;      /* the namespace's address, its highest byte first in the number */
+    uint32_t prefix;    /* bits of its network's number */
+    uint32_t mtu;       /* of the device, 576 to 65,535 */
+    int offloads;       /* whether packets of more than the MTU are exchanged, each behind a TUN_HEADER */
+};
+
+/* Makes the device and brings it up. Its descriptor doesn't block; -1 where it can't be had, with a line on stderr. */
+int tun_open(const struct tun_config *config);
+
+#endif

@@ -1,0 +1,171 @@
+"""The stack that a call of the library takes at most, by its disassembly: depth.py OBJDUMP BOUND MEASURED FILE..
+
+The files are the static library and the layer's object, for x86-64 or aarch64. A function's own bytes are read from
+what it does to the stack pointer, and the calls make a graph. That tells the depth only where nothing is called but by
+its name, nothing is called again below itself (but what AGAIN names), and the stack pointer moves by constants: all
+three are tested. An address of a function may stand nowhere but in a call or a jump, and in the jump table of the
+function itself; so what jumps through a register stays within its function.
+
+The deepest sum over the functions tcpcore_* is printed, without what memcpy, memmove and memset take. It has to be at
+most BOUND, and at least MEASURED less the frame of the test and what memset takes.
+"""
+
+import re
+import subprocess
+import sys
+
+# Not followed: functions that the program brings.
+OUTSIDE = {"memcpy", "memmove", "memset", "__stack_chk_fail"}
+# What calls itself, and how often: once for each option of a segment, of which there are at most 40 (RFC 9293, 3.1).
+AGAIN = {"tcp_wire::option_reading::check_options": 40}
+# What a measurement counts beside: the frame of the test, and what memset takes.
+BESIDE = 256
+HEAD = re.compile(r"^[0-9a-f]+ <(?P<name>.+)>:$")
+LINE = re.compile(r"^ +[0-9a-f]+:\t(?P<word>\S+)[ \t]*(?P<rest>.*)$")
+PLACE = re.compile(r"<(?P<name>.+?)(?P<offset>\+0x[0-9a-f]+)?>$")
+RELOCATION = re.compile(r"^\s+[0-9a-f]+: (?P<kind>R_\S+)\s+(?P<name>.+)$")
+TABLE = re.compile(r"^RELOCATION RECORDS FOR \[(?P<section>.+)\]:$")
+ROW = re.compile(r"^[0-9a-f]{16} R_\S+ +(?P<name>.+)$")
+
+
+class Fault(Exception):
+    """The disassembly doesn't tell the depth."""
+
+
+class X86:
+    link, below = 8, 128  # bytes: what a call writes, and what a function that calls none may use below its frame
+    call, jump, through = re.compile(r"call"), re.compile(r"j"), re.compile(r"\*")
+
+    @staticmethod
+    def moved(word, rest):
+        """By how many bytes an instruction moves the stack pointer down, or None where that can't be said."""
+        if word.startswith("push"):
+            return 8
+        if not rest.endswith(",%rsp") or word.startswith(("cmp", "test")):
+            return 0
+        if found := re.match(r"\$(-?)0x([0-9a-f]+),", rest):
+            value = -int(found[2], 16) if found[1] else int(found[2], 16)
+            value -= (1 << 64) * (value >= 1 << 63)
+            return {"sub": max(value, 0), "add": max(-value, 0), "and": -value - 1}.get(word.rstrip("q"))
+        # The frame is given up, in part or back to a frame pointer.
+        return 0 if re.match(r"(0x[0-9a-f]+\(%rsp\)|-?0x[0-9a-f]+\(%rbp\)|%rbp),", rest) else None
+
+
+class Aarch64:
+    link, below = 0, 0
+    call, jump, through = re.compile(r"blr?$"), re.compile(r"(b|br|b\..*|cbn?z|tbn?z)$"), re.compile(r"x\d+$")
+
+    @staticmethod
+    def moved(word, rest):
+        if found := re.search(r"\[sp, #-(\d+)\]!$", rest):
+            return int(found[1])
+        if not re.match(r"sp, ", rest):
+            return 0
+        if found := re.match(r"sp, sp, #(0x[0-9a-f]+|\d+)(, lsl #12)?$", rest):
+            value = int(found[1], 0) << (12 if found[2] else 0)
+            return {"sub": value, "add": 0}.get(word)
+        return 0 if re.match(r"sp, x29", rest) else None
+
+
+class Function:
+    def __init__(self, frame):
+        self.frame, self.calls = frame, set()
+
+
+def plain(name):
+    """The function that a relocation names: by its own name, or by its section's."""
+    return re.sub(r"^\.text\.", "", re.sub(r"[-+]0x[0-9a-f]+$", "", name))
+
+
+class Reader:
+    """The functions of a disassembly."""
+
+    def __init__(self, text):
+        self.functions = {}
+        self.machine = X86 if "elf64-x86-64" in text else Aarch64
+        self.name = self.goes = None
+        for line in text.split("\n"):
+            if found := HEAD.match(line):
+                self.name = found["name"]
+                self.functions.setdefault(self.name, Function(self.machine.link))
+            elif found := LINE.match(line):
+                rest, _, place = found["rest"].partition(" # ")
+                self.instruction(found["word"], re.sub(r" +// .*", "", rest).strip(), place)
+            elif found := RELOCATION.match(line):
+                self.relocation(plain(found["name"]))
+
+    def instruction(self, word, rest, told):
+        machine, function = self.machine, self.functions[self.name]
+        moved = machine.moved(word, rest)
+        if moved is None:
+            raise Fault(f"{self.name} moves the stack pointer by '{word} {rest}'")
+        function.frame += moved
+        is_call = machine.call.match(word)
+        self.goes = is_call or machine.jump.match(word)
+        if is_call and machine.through.match(rest):
+            raise Fault(f"{self.name} calls through a register: '{word} {rest}'")
+        # An address in the same section has no relocation; with one the instruction names its own place, or page 0.
+        place = PLACE.search(told if word != "adr" and not self.goes else rest)
+        if place and not self.goes and (place["name"] != self.name or not place["offset"]):
+            raise Fault(f"{self.name} takes the address of {place['name']}")
+        if place and self.goes and (is_call or place["name"] != self.name):
+            function.calls.add(place["name"])
+
+    def relocation(self, name):
+        function = self.functions[self.name]
+        if self.goes:
+            # Until it is filled in the instruction itself names its own place.
+            function.calls.discard(self.name)
+            function.calls.add(name)
+        elif name in self.functions or name == ".text":
+            raise Fault(f"{self.name} takes the address of {name}")
+
+
+def check_tables(text, functions):
+    """In data the address of code may only stand in the jump table of its own function."""
+    section = ""
+    for line in text.split("\n"):
+        if found := TABLE.match(line):
+            section = found["section"]
+        elif (found := ROW.match(line)) and section.startswith((".rodata", ".data")):
+            name = plain(found["name"])
+            if (name in functions or found["name"].startswith(".text")) and section != f".rodata.{name}":
+                raise Fault(f"{section} has the address of {name}")
+
+
+def depth(functions, machine, name, above=()):
+    """The bytes of the deepest chain from here on, and the chain."""
+    if name in above:
+        raise Fault(f"{name} is called again below itself, by {above[-1]}")
+    if name in OUTSIDE:
+        return 0, ()
+    if name not in functions:
+        raise Fault(f"{name} isn't here, and {above[-1]} calls it")
+    times = AGAIN.get(name, 0)
+    calls = sorted(functions[name].calls - ({name} if times else set()))
+    bytes_, chain = max((depth(functions, machine, call, (*above, name)) for call in calls), default=(machine.below, ()))
+    return (1 + times) * functions[name].frame + bytes_, (name, *chain)
+
+
+def main():
+    objdump, bound, measured, files = sys.argv[1], int(sys.argv[2]), int(sys.argv[3]), sys.argv[4:]
+    functions = {}
+    for file in files:
+        words = [[objdump, "-d", "-r", "--no-show-raw-insn", file], [objdump, "-r", "-w", file]]
+        told = [subprocess.run(word, check=True, capture_output=True, text=True).stdout for word in words]
+        reader = Reader(told[0])
+        functions.update(reader.functions)
+        check_tables(told[1], reader.functions)
+    entries = [name for name in functions if name.startswith("tcpcore_")]
+    deepest, chain = max(depth(functions, reader.machine, name) for name in entries)
+    print(f"depth: {deepest} bytes of {bound}, {measured} measured: {' > '.join(chain)}")
+    if len(entries) < 13 or not measured - BESIDE <= deepest <= bound:
+        raise Fault(f"{len(entries)} entries; the depth has to be from {measured - BESIDE} to {bound}")
+
+
+if __name__ == "__main__":
+    try:
+        main()
+    except Fault as fault:
+        print(f"depth: {fault}")
+        sys.exit(1)

@@ -1,0 +1,106 @@
+-- What has to be answered at once has an answer that is due.
+use Rattle.std.proofs.Common.{◌≡◌, ℕ, List, refl}
+use Rattle.std.specs.Prelude.{Bool, true, false, ◌||◌, ◌&&◌, if◌then◌else◌, Option, Some, None, is_some, Result, Ok, Err}
+use Rattle.std.specs.Option.{option_or}
+use Rattle.tcp_wire.specs.Decoded.{decode_answer}
+use Rattle.tcp_wire.specs.Wire.{Content}
+use Rattle.tcp_wire.specs.declared.fault.DecodeError.{DecodeError}
+use Rattle.tcp_conn.specs.declared.due.Due.{Due}
+use Rattle.tcp_conn.specs.declared.judgement.Judgement.{Judgement}
+use Rattle.tcp_conn.specs.declared.judgement.Judgement.TheVariants.{Foreign, ResetIgnored, Stray, AckOfListen, OpensNothing, PeerOpens, AckOfNoSyn, PeerRefuses, PeerAccepts, Unacceptable, PeerResets, ResetElsewhere, SynInWindow, NoAck, AcksUnsent, HandshakeRefused, HandshakeRefusedShut, Taken, TakenShut}
+use Rattle.tcp_conn.specs.declared.link.Owed.{Owed}
+use Rattle.tcp_conn.specs.declared.link.WaitingReset.{WaitingReset}
+use Rattle.tcp_conn.specs.Arrival.{after_arrival, after_judgement, after_peer_accepts, after_peer_opens, after_reading, first_reset}
+use Rattle.tcp_conn.specs.AtOnce.{UrgentIsDue, answers_at_once, breaks_order, is_urgent, is_urgent_reading}
+use Rattle.tcp_conn.specs.Due.{ack_due, due_of, reset_due, syn_due, text_due}
+use Rattle.tcp_conn.specs.State.{State}
+
+-- a reset, a SYN or an acknowledgement
+abbrev owes : Owed → Bool
+owes o = is_some o.reset || (o.syn || o.ack)
+
+some-or : (one other : Option Due) → is_some (option_or one other) ≡ (is_some one || is_some other)
+some-or None other = refl
+some-or (Some due) other = refl
+
+some-reset : (reset : Option WaitingReset) → is_some (reset_due reset) ≡ is_some reset
+some-reset None = refl
+some-reset (Some reset) = refl
+
+some-if : (b : Bool) (due : Due) → is_some (if b then Some due else None) ≡ b
+some-if true due = refl
+some-if false due = refl
+
+with-text : (reset syn text ack : Bool) → (reset || (syn || ack)) ≡ true → (reset || (syn || (text || ack))) ≡ true
+with-text true syn text ack e = refl
+with-text false true text ack e = refl
+with-text false false true ack e = refl
+with-text false false false ack e = e
+
+owed-due : (s : State) → owes s.owed ≡ true → is_some (due_of s) ≡ true
+unfolding due_of
+owed-due s e =
+    rw (
+      some-or (reset_due s.owed.reset) (option_or (syn_due s.owed) (option_or (text_due s) (ack_due s.owed))),
+      some-reset s.owed.reset,
+      some-or (syn_due s.owed) (option_or (text_due s) (ack_due s.owed)),
+      some-if s.owed.syn Due.Syn,
+      some-or (text_due s) (ack_due s.owed),
+      some-if s.owed.ack Due.Acknowledgement,
+    )
+    (with-text (is_some s.owed.reset) s.owed.syn (is_some (text_due s)) s.owed.ack e)
+
+-- WHAT OWES
+or-right : (b : Bool) → b || true ≡ true
+or-right true = refl
+or-right false = refl
+
+by-ack : (o : Owed) → o.ack ≡ true → owes o ≡ true
+by-ack o e = rw (e, or-right o.syn, or-right (is_some o.reset)) refl
+
+by-syn : (o : Owed) → o.syn ≡ true → owes o ≡ true
+by-syn o e = rw (e, or-right (is_some o.reset)) refl
+
+by-reset : (o : Owed) → is_some o.reset ≡ true → owes o ≡ true
+by-reset o e = rw e refl
+
+first-some : (waiting : Option WaitingReset) (reset : WaitingReset) → is_some (first_reset waiting reset) ≡ true
+first-some None reset = refl
+first-some (Some waiting) reset = refl
+
+and-left : (a b : Bool) → (a && b) ≡ true → a ≡ true
+and-left true b e = refl
+and-left false b e = e
+
+urgent-owes : (j : Judgement) (had_gap : Bool) (s : State) (src : List ℕ) (v : Content)
+    → is_urgent j had_gap (after_judgement j s src v) v ≡ true → owes (after_judgement j s src v).owed ≡ true
+unfolding after_peer_opens after_peer_accepts
+urgent-owes Foreign had_gap s src v e = absurd (cc)
+urgent-owes ResetIgnored had_gap s src v e = absurd (cc)
+urgent-owes Stray had_gap s src v e = by-reset (after_judgement Stray s src v).owed (first-some s.owed.reset _)
+urgent-owes AckOfListen had_gap s src v e = by-reset (after_judgement AckOfListen s src v).owed (first-some s.owed.reset _)
+urgent-owes OpensNothing had_gap s src v e = absurd (cc)
+urgent-owes PeerOpens had_gap s src v e = by-syn (after_judgement PeerOpens s src v).owed refl
+urgent-owes AckOfNoSyn had_gap s src v e = by-reset (after_judgement AckOfNoSyn s src v).owed (first-some s.owed.reset _)
+urgent-owes PeerRefuses had_gap s src v e = absurd (cc)
+urgent-owes PeerAccepts had_gap s src v e = by-ack (after_judgement PeerAccepts s src v).owed refl
+urgent-owes Unacceptable had_gap s src v e = by-ack (after_judgement Unacceptable s src v).owed refl
+urgent-owes PeerResets had_gap s src v e = absurd (cc)
+urgent-owes ResetElsewhere had_gap s src v e = by-ack (after_judgement ResetElsewhere s src v).owed refl
+urgent-owes SynInWindow had_gap s src v e = by-ack (after_judgement SynInWindow s src v).owed refl
+urgent-owes NoAck had_gap s src v e = absurd (cc)
+urgent-owes AcksUnsent had_gap s src v e = by-ack (after_judgement AcksUnsent s src v).owed refl
+urgent-owes HandshakeRefused had_gap s src v e = by-reset (after_judgement HandshakeRefused s src v).owed (first-some s.owed.reset _)
+urgent-owes HandshakeRefusedShut had_gap s src v e = by-ack (after_judgement HandshakeRefusedShut s src v).owed refl
+urgent-owes Taken had_gap s src v e =
+    let after = after_judgement Taken s src v in by-ack after.owed (and-left after.owed.ack (breaks_order had_gap after v) e)
+urgent-owes TakenShut had_gap s src v e = by-ack (after_judgement TakenShut s src v).owed e
+
+of-reading : (s : State) (src dst : List ℕ) (r : Result Content DecodeError) → is_urgent_reading s src dst r ≡ true
+    → is_some (due_of (after_reading s src dst r)) ≡ true
+of-reading s src dst (Ok v) e = owed-due _ (urgent-owes _ _ s src v e)
+of-reading s src dst (Err fault) e = absurd (cc)
+
+pub urgent_lem : UrgentIsDue
+unfolding answers_at_once after_arrival
+urgent_lem s src dst bytes e = of-reading s src dst (decode_answer src dst bytes) e

@@ -1,0 +1,74 @@
+//! What an end tells of itself (RFC 9293, 3.10.6): its peer, what the two SYNs agreed on, and what it keeps for its peer.
+ghost use Rattle.std.specs.Prelude.{◌≡◌, ◌≤◌};
+ghost use Rattle.tcp_conn.specs.Config.{max_mss};
+ghost use Rattle.tcp_conn.specs.Due.{mss_in_use};
+ghost use Rattle.tcp_conn.specs.Status.{in_flight_of, negotiated_of, peer_of, queued_of, room_of};
+
+use crate::endpoint::Endpoint;
+use crate::link::{Negotiated, Peer};
+use std::alloc::Allocator;
+
+impl<A: Allocator> Endpoint<A> {
+    /// The peer's address and port: from `connect` on, or from the SYN on that came in LISTEN, and past an end too. `None`
+    /// before (RFC 9293, 3.10.6, foreign socket).
+    #[must_use]
+    pub fn peer(&self) -> Option<Peer>
+        ensures { result ≡ peer_of self.now }
+    {
+        if self.sender.nxt() == 0 {
+            return None;
+        }
+        Some(self.peer)
+    }
+
+    /// The MSS in use: the smaller of the peer's and the own maximum segment size (RFC 9293, 3.7.1).
+    pub(crate) fn mss_in_use(&self) -> u16
+        ensures value { result ≡ mss_in_use self.now }
+        ensures most { result ≤ max_mss }
+    {
+        self.config.mss.min(self.link.peer_mss)
+    }
+
+    /// What the two SYNs agreed on, as it is in use; `None` until the peer's SYN was taken.
+    #[must_use]
+    pub fn negotiated(&self) -> Option<Negotiated>
+        ensures { result ≡ negotiated_of self.now }
+    {
+        if !self.receiver.is_opened() {
+            return None;
+        }
+        Some(Negotiated {
+            mss: self.mss_in_use(),
+            scaling: self.link.scaling,
+            own_shift: self.own_shift(),
+            peer_shift: self.link.peer_shift,
+            sack: self.link.sack,
+        })
+    }
+
+    /// How many bytes of a long text `send` would take now: as many as the send queue has room for, and at most what the
+    /// direction may still carry.
+    #[must_use]
+    pub fn room(&self) -> usize
+        ensures { result ≡ room_of self.now }
+    {
+        self.sender.room(self.config.limit)
+    }
+
+    /// The bytes that `send` took and no acknowledgement has released.
+    #[must_use]
+    pub fn queued(&self) -> usize
+        ensures { result ≡ queued_of self.now }
+    {
+        self.sender.queued()
+    }
+
+    /// The text bytes that were sent and aren't acknowledged, at most [`queued`](Self::queued): the text between SND.UNA and
+    /// SND.NXT (RFC 9293, 3.3.1). SYN and FIN aren't counted.
+    #[must_use]
+    pub fn in_flight(&self) -> usize
+        ensures { result ≡ in_flight_of self.now }
+    {
+        self.sender.count_below(self.sender.nxt())
+    }
+}

@@ -1,0 +1,30 @@
+//! A segment that comes to an address and a port where no end is.
+ghost use Rattle.std.specs.Prelude.{◌≡◌, ◌≤◌, length, option_map};
+ghost use Rattle.tcp_conn.specs.Stray.{stray_reset, with_front};
+
+use crate::arrival::reset_of_stray;
+use crate::forms::reset_from;
+use tcp_wire::{Addr, RawSegment, write_around};
+
+/// The bytes of a reset.
+pub const RESET_LEN: usize = 20;
+
+/// Writes the reset that answers bytes which came from `src` to `dst`, where no end has that address and port, at the start
+/// of `out`, and answers its length, [`RESET_LEN`]; it goes from `dst` to `src` (RFC 9293, 3.10.7.1). `None`, and `out`
+/// stays, where the bytes are no segment, or a reset.
+#[must_use]
+#[tactic(auto, unfolding(crate::specs::Stray::stray_reset))]
+pub fn stray_reset(src: Addr, dst: Addr, bytes: &[u8], out: &mut [u8]) -> Option<usize>
+    requires { RESET_LEN ≤ length out.old }
+    ensures len { result ≡ option_map (λ _. RESET_LEN) (stray_reset src.0 dst.0 bytes.now) }
+    ensures bytes { out.new ≡ with_front (stray_reset src.0 dst.0 bytes.now) out.old }
+{
+    let Ok(segment) = RawSegment::parse(src, dst, bytes) else {
+        return None;
+    };
+    if segment.header.flags.is_rst() {
+        return None;
+    }
+    let answer = reset_from(segment.header.dst_port, reset_of_stray(src, &segment));
+    Some(write_around(&answer, &[], 0, 0, dst, src, out))
+}

@@ -1,6 +1,0 @@
-use Rattle.std.proofs.Common.{arith}
-use Rattle.std.proofs.lemmas.Grind.{common_steps}
-use Rattle.tcp_script.proofs.names.side_name.Goals as goal
-
-pub returns-in-A : goal.returns-in-A
-returns-in-A c = grind (arith, common_steps)

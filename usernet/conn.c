@@ -1,0 +1,318 @@
+/* The connections of the namespace (see usernet.h). C over tcpcore.h and its companions, tested and not proved. */
+#define _GNU_SOURCE
+#include "usernet.h"
+
+#include <errno.h>
+#include <netinet/in.h>
+#include <netinet/tcp.h>
+#include <stdlib.h>
+#include <string.h>
+#include <sys/epoll.h>
+#include <sys/socket.h>
+#include <unistd.h>
+
+/* The control bits (RFC 9293, 3.1). */
+enum { FIN = 1, SYN = 2, RST = 4, ACK = 16 };
+
+static const struct timers_rules RULES = {
+    .first_rto = 1000, .least_rto = 200, .greatest_rto = 60000, .granularity = 1, .time_wait = 2000,
+    .r1 = 3, .r2 = 100000, .syn_limit = 180000, .syn_ack_limit = 60000};
+
+static uint16_t read16(const uint8_t *at) { return (uint16_t)(at[0] << 8 | at[1]); }
+
+static uint32_t read32(const uint8_t *at) { return (uint32_t)read16(at) << 16 | read16(at + 2); }
+
+/* A pair is its connection's first field. */
+static struct conn *conn_of(struct pair *pair) { return (struct conn *)(void *)pair; }
+
+static struct tcpcore_status status_of(const struct conn *conn)
+{
+    struct tcpcore_status status;
+    tcpcore_status(&conn->end, &status);
+    return status;
+}
+
+/* Makes a connection with the addresses and ports of `key`, which has none yet; NULL where no memory is left. */
+static struct conn *conn_new(struct usernet *net, const struct pair *key, int socket)
+{
+    struct conn *conn = malloc(sizeof *conn + ROOM);
+    if (!conn)
+        return NULL;
+    *conn = (struct conn){.pair = *key, .socket = socket};
+    timers_init(&conn->timers, &RULES);
+    pairs_add(&net->pairs, &conn->pair);
+    return conn;
+}
+
+/* Frees it; where `resets`, the host is told by a reset. */
+static void drop(struct usernet *net, struct conn *conn, int resets)
+{
+    struct linger now = {.l_onoff = 1, .l_linger = 0};
+    pairs_remove(&net->pairs, &conn->pair);
+    wheel_put(&net->wheel, &conn->node, net->now, -1);
+    if (resets && conn->socket >= 0)
+        setsockopt(conn->socket, SOL_SOCKET, SO_LINGER, &now, sizeof now);
+    if (conn->socket >= 0)
+        close(conn->socket);
+    if (conn->is_open)
+        tcpcore_free(&conn->end);
+    free(conn->kept);
+    free(conn);
+}
+
+/* Emits all that is due. */
+static void emit(struct usernet *net, struct conn *conn)
+{
+    uint8_t segment[TCPCORE_EMIT_ROOM];
+    tcpcore_addr to;
+    size_t length;
+    while (tcpcore_emit(&conn->end, segment, sizeof segment, &to, &length) == TCPCORE_DONE) {
+        timers_emitted(&conn->timers, segment, length, net->now);
+        send_segment(net, segment, length, conn->pair.server, to);
+    }
+    send_rest(net);
+}
+
+/* Makes the connection's end, CLOSED; whether it could. */
+static int make_end(struct usernet *net, struct conn *conn)
+{
+    uint32_t isn = (uint32_t)(250 * net->now + pairs_secret(&net->pairs, &conn->pair));
+    tcpcore_config config = {.addr = conn->pair.server, .port = conn->pair.server_port, .mss = net->mss, .isn = isn,
+                             .send_capacity = CAPACITY, .recv_capacity = CAPACITY, .limit = UINT64_C(1) << 62,
+                             .window_shift = SHIFT, .scales = 1, .sack = 1};
+    conn->end = (tcpcore_end)TCPCORE_END_INIT;
+    conn->is_open = tcpcore_new(&conn->end, &config, conn->block, ROOM) == TCPCORE_DONE;
+    return conn->is_open;
+}
+
+/* Answers a segment for which there is no end (RFC 9293, 3.10.7.1). */
+static void stray(struct usernet *net, const struct ip_packet *packet)
+{
+    uint8_t segment[TCPCORE_RESET_ROOM];
+    size_t length;
+    if (tcpcore_stray_reset(packet->src, packet->dst, packet->segment, packet->length, segment, sizeof segment, &length) !=
+        TCPCORE_DONE)
+        return;
+    send_segment(net, segment, length, packet->dst, packet->src);
+    send_rest(net);
+    net->counters[STRAYS]++;
+}
+
+static int watch(struct usernet *net, struct conn *conn)
+{
+    struct epoll_event event = {.events = EPOLLIN | EPOLLOUT | EPOLLRDHUP | EPOLLET, .data.ptr = conn};
+    int one = 1;
+    setsockopt(conn->socket, IPPROTO_TCP, TCP_NODELAY, &one, sizeof one);
+    setsockopt(conn->socket, SOL_SOCKET, SO_KEEPALIVE, &one, sizeof one);
+    return epoll_ctl(net->events, EPOLL_CTL_ADD, conn->socket, &event) == 0;
+}
+
+/* The host's socket answered: the namespace sees ESTABLISHED, or a reset. Whether there is an end now. */
+static int host_answered(struct usernet *net, struct conn *conn)
+{
+    int fault = 0;
+    socklen_t length = sizeof fault;
+    getsockopt(conn->socket, SOL_SOCKET, SO_ERROR, &fault, &length);
+    if (fault == 0 && conn->can_write && make_end(net, conn)) {
+        tcpcore_listen(&conn->end);
+        tcpcore_arrive(&conn->end, conn->pair.client, conn->pair.server, conn->kept, conn->kept_end);
+        conn->kept_end = 0;
+        net->counters[OPENED]++;
+        return 1;
+    }
+    net->counters[REFUSED]++;
+    stray(net, &(struct ip_packet){conn->pair.client, conn->pair.server, conn->kept, conn->kept_end});
+    drop(net, conn, 1);
+    return 0;
+}
+
+/* A SYN came: the host connects to the same address and port, and keeps the SYN until it has. */
+static void open_conn(struct usernet *net, const struct pair *key, const struct ip_packet *packet)
+{
+    struct sockaddr_in to = {.sin_family = AF_INET, .sin_port = htons(key->server_port)};
+    int host = socket(AF_INET, SOCK_STREAM | SOCK_NONBLOCK | SOCK_CLOEXEC, 0);
+    uint8_t *kept = malloc(packet->length);
+    struct conn *conn = host >= 0 && kept ? conn_new(net, key, host) : NULL;
+    memcpy(&to.sin_addr, &packet->dst, sizeof to.sin_addr);
+    if (memcmp(&packet->dst, &net->gateway, sizeof net->gateway) == 0)
+        to.sin_addr.s_addr = htonl(INADDR_LOOPBACK);
+    if (conn) {
+        memcpy(kept, packet->segment, packet->length);
+        conn->kept = kept, conn->kept_end = packet->length;
+        conn->first = read32(kept + 4);
+        if ((connect(host, (struct sockaddr *)&to, sizeof to) == 0 || errno == EINPROGRESS) && watch(net, conn))
+            return;
+        drop(net, conn, 1);
+    } else {
+        free(kept);
+        if (host >= 0)
+            close(host);
+    }
+    net->counters[REFUSED]++;
+    stray(net, packet);
+}
+
+void conn_publish(struct usernet *net, int socket, uint16_t port)
+{
+    struct pair key = {.client = net->own, .client_port = port, .server = net->gateway};
+    struct conn *conn;
+    do
+        key.server_port = net->next_port = (uint16_t)(net->next_port < 32768 ? 32768 : net->next_port + 1);
+    while (pairs_find(&net->pairs, &key));
+    conn = conn_new(net, &key, socket);
+    if (!conn) {
+        close(socket);
+    } else if (!make_end(net, conn) || !watch(net, conn)) {
+        drop(net, conn, 1);
+    } else {
+        tcpcore_connect(&conn->end, conn->pair.client, port);
+        net->counters[PUBLISHED]++;
+        wheel_wake(&net->wheel, &conn->node);
+    }
+}
+
+/* Whether a SYN may open anew what is in TIME-WAIT: its number lies behind all that came (RFC 9293, 3.10.7.4). */
+static int reopens(const struct conn *conn, const uint8_t *bytes)
+{
+    struct tcpcore_status status = status_of(conn);
+    uint32_t after = read32(bytes + 4) - (conn->first + (uint32_t)status.next);
+    return status.phase == TCPCORE_PHASE_TIME_WAIT && after < UINT32_C(1) << 31;
+}
+
+void arrive(struct usernet *net, const struct ip_packet *packet)
+{
+    const uint8_t *bytes = packet->segment;
+    if (packet->length < 20) {
+        net->counters[MALFORMED]++;
+        return;
+    }
+    struct pair key = {packet->src, packet->dst, read16(bytes), read16(bytes + 2), NULL};
+    struct conn *conn = conn_of(pairs_find(&net->pairs, &key));
+    int opens = (bytes[13] & (SYN | ACK | RST | FIN)) == SYN;
+    if (conn && conn->is_open && opens && reopens(conn, bytes))
+        drop(net, conn, 0), conn = NULL;
+    if (!conn && opens) {
+        open_conn(net, &key, packet);
+    } else if (!conn) {
+        stray(net, packet);
+    } else if (conn->is_open) {
+        uint32_t at_once;
+        uint32_t answer = tcpcore_take(&conn->end, packet->src, packet->dst, bytes, packet->length, &at_once);
+        net->counters[MALFORMED] += answer >= TCPCORE_TOO_SHORT && answer <= TCPCORE_BAD_PADDING;
+        if (answer == TCPCORE_DONE)
+            timers_arrived(&conn->timers, bytes, packet->length, net->now);
+        if (at_once)
+            emit(net, conn); /* out of order, or a gap was filled (RFC 5681, 4.2) */
+        wheel_wake(&net->wheel, &conn->node);
+    } else if (bytes[13] & RST) {
+        drop(net, conn, 1); /* the client doesn't wait for the host any longer */
+    }
+}
+
+/* What the client sent goes to the host's socket, as far as that takes it. */
+static void carry_up(struct usernet *net, struct conn *conn)
+{
+    static uint8_t text[65536];
+    uint32_t answer = TCPCORE_DONE;
+    size_t count;
+    while (conn->can_write && !conn->client_done && answer == TCPCORE_DONE) {
+        const uint8_t *from = conn->kept + conn->kept_at;
+        count = conn->kept_end - conn->kept_at;
+        if (count == 0) {
+            answer = tcpcore_receive(&conn->end, text, sizeof text, &count);
+            from = text;
+        }
+        if (answer == TCPCORE_END_OF_STREAM)
+            shutdown(conn->socket, SHUT_WR), conn->client_done = 1;
+        if (answer != TCPCORE_DONE || count == 0)
+            continue;
+        ssize_t taken = send(conn->socket, from, count, MSG_NOSIGNAL);
+        if (taken < 0 && errno != EAGAIN) {
+            tcpcore_abort(&conn->end);
+            return;
+        }
+        size_t left = count - (size_t)(taken > 0 ? taken : 0);
+        net->counters[UP] += count - left;
+        conn->can_write = left == 0;
+        if (from != text) {
+            conn->kept_at = conn->kept_end - left;
+        } else if (left > 0) {
+            uint8_t *kept = realloc(conn->kept, left);
+            if (!kept) {
+                tcpcore_abort(&conn->end);
+                return;
+            }
+            memcpy(kept, text + count - left, left);
+            conn->kept = kept, conn->kept_at = 0, conn->kept_end = left;
+        }
+    }
+}
+
+/* What the host sent goes into the end's queue, as far as it has room. */
+static void carry_down(struct usernet *net, struct conn *conn)
+{
+    static uint8_t text[CAPACITY];
+    while (conn->can_read && !conn->host_done) {
+        size_t room = (size_t)status_of(conn).room, taken = 0;
+        ssize_t count = room == 0 ? 0 : recv(conn->socket, text, room, 0);
+        if (room == 0 || (count < 0 && errno == EAGAIN)) {
+            conn->can_read = room == 0;
+            return;
+        }
+        if (count == 0) {
+            conn->host_done = 1;
+            tcpcore_close(&conn->end);
+        } else if (count < 0 || tcpcore_send(&conn->end, text, (size_t)count, &taken) != TCPCORE_DONE) {
+            tcpcore_abort(&conn->end);
+            return;
+        }
+        net->counters[DOWN] += taken;
+    }
+}
+
+/* Looks at one connection: its timers, both ways, what is due, and whether it has ended. */
+static void turn(struct usernet *net, struct conn *conn)
+{
+    if (!conn->is_open && !host_answered(net, conn))
+        return;
+    if (timers_run(&conn->timers, &conn->end, net->now) & TIMERS_GAVE_UP)
+        net->counters[GAVE_UP]++;
+    if (conn->socket >= 0 && conn->timers.phase >= TCPCORE_PHASE_ESTABLISHED) {
+        carry_up(net, conn);
+        carry_down(net, conn);
+    }
+    emit(net, conn);
+    timers_run(&conn->timers, &conn->end, net->now);
+    struct tcpcore_status status = status_of(conn);
+    int is_orderly = status.ending == TCPCORE_ENDING_ORDERLY;
+    if (is_orderly && conn->socket >= 0)
+        carry_up(net, conn); /* what came with the last acknowledgement */
+    if (conn->host_done && conn->client_done && conn->socket >= 0) {
+        close(conn->socket);
+        conn->socket = -1;
+    }
+    if (status.phase == TCPCORE_PHASE_CLOSED && (!is_orderly || conn->socket < 0))
+        drop(net, conn, !is_orderly);
+    else
+        wheel_put(&net->wheel, &conn->node, net->now, timers_wait(&conn->timers, net->now));
+}
+
+void turn_all(struct usernet *net)
+{
+    struct wheel_node *node;
+    while ((node = wheel_take(&net->wheel, net->now)))
+        turn(net, (struct conn *)(void *)((char *)node - offsetof(struct conn, node)));
+}
+
+void end_all(struct usernet *net)
+{
+    for (uint32_t at = 0; at < BUCKETS; at++)
+        while (net->buckets[at]) {
+            struct conn *conn = conn_of(net->buckets[at]);
+            if (conn->is_open) {
+                tcpcore_abort(&conn->end);
+                emit(net, conn);
+            }
+            drop(net, conn, 1);
+        }
+}

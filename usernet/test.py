@@ -1,0 +1,238 @@
+"""Real clients in a namespace, real servers on the host's side, usernet between them: test.py [--short] [--only WORD]
+
+Every byte is compared. Each client runs once as it is and once with one percent of the packets lost, one percent doubled
+and one percent late. All stands in two namespaces that are made here: "servers" is the host of usernet.
+"""
+
+import argparse
+import contextlib
+import hashlib
+import http.client
+import http.server
+import os
+import pathlib
+import resource
+import select
+import shutil
+import signal
+import socket
+import subprocess
+import sys
+import tempfile
+import threading
+import time
+
+import world
+from world import GATEWAY, need
+
+MIB = 1 << 20
+
+
+def sha256_of(path):
+    with open(path, "rb") as file:
+        return hashlib.file_digest(file, "sha256").hexdigest()
+
+
+def fetch(place, name, wanted, seconds):
+    """curl of one file, its digest compared on the way."""
+    text = f"curl -sf --max-time {seconds} http://{GATEWAY}:8080/{name} | sha256sum"
+    need(name, place.client("bash", "-o", "pipefail", "-c", text).split()[0], wanted)
+
+
+def download(place):
+    fetch(place, "large", place.digest("large"), 120)
+
+
+def download_past_all_numbers(place):
+    """5 GiB: the sequence numbers wrap, and a signed 32-bit count would too."""
+    fetch(place, "huge", place.digest("huge"), 300)
+
+
+def downloads_at_once(place):
+    text = (f"seq 200 | xargs -P 200 -I N sh -c 'curl -sf --max-time 120 http://{GATEWAY}:8080/small | sha256sum'"
+            " | sort | uniq -c")
+    need("200 at once", place.client("bash", "-c", text).split(), ["200", place.digest("small"), "-"])
+
+
+def upload(place):
+    name = place.folder / "large"
+    answer = place.client("curl", "-sf", "--max-time", "120", "-T", str(name), f"http://{GATEWAY}:8081/")
+    need("upload", answer, place.digest("large"))
+
+
+def git_clone(place):
+    target = place.folder / "clone"
+    shutil.rmtree(target, ignore_errors=True)
+    place.client("git", "clone", "-q", f"http://{GATEWAY}:8080/repository.git", str(target))
+    place.client("git", "-C", str(target), "fsck", "--strict")
+
+
+def iperf(place):
+    for words in [], ["-R"], ["--bidir"]:
+        place.client("iperf3", "-c", GATEWAY, "-t", "2", *words)
+
+
+def redis(place):
+    text = place.client("redis-benchmark", "-h", GATEWAY, "-n", "5000", "-c", "50", "-t", "ping,set,get,lrange_100", "-q")
+    need("redis answers", text.count("requests per second") >= 4, True)
+
+
+def postgres(place):
+    words = ["-h", GATEWAY, "-U", "postgres"]
+    place.client("pgbench", "-i", "-q", *words, "postgres")
+    text = place.client("pgbench", "-c", "8", "-j", "2", "-t", "100", *words, "postgres")
+    need("pgbench", "800/800" in text, True)
+
+
+def keep_alive(place):
+    place.client(sys.executable, __file__, "--requests", GATEWAY)
+
+
+def requests(host):
+    """A hundred requests over one connection, small and large."""
+    connection = http.client.HTTPConnection(host, 8081, timeout=60)
+    for i in range(100):
+        connection.request("GET", f"/{i * 977}")
+        body = connection.getresponse().read()
+        need(f"answer {i}", body, bytes(j % 251 for j in range(i * 977)))
+
+
+def secure_copy(place):
+    source, target = place.folder / "small", place.folder / "copied"
+    words = ["-q", "-F", str(place.folder / "ssh_config")]
+    need("ssh", place.client("ssh", *words, "host", "echo", "hello").strip(), "hello")
+    place.client("scp", *words, str(source), f"host:{target}")
+    need("scp there", sha256_of(target), place.digest("small"))
+    place.client("scp", *words, f"host:{target}", str(place.folder / "back"))
+    need("scp back", sha256_of(place.folder / "back"), place.digest("small"))
+
+
+def refused(place):
+    """A port at which nobody listens is refused at once, and a published one carries in."""
+    began = time.monotonic()
+    status = place.client_status("curl", "-s", "--max-time", "20", f"http://{GATEWAY}:9/")
+    need("curl's status", status, 7)
+    need("at once", time.monotonic() - began < 5, True)
+
+
+def published(place):
+    """From the host into the namespace; and a reset where nobody listens there."""
+    with place.start_client(sys.executable, "-m", "http.server", "8000", "--directory", str(place.folder)):
+        place.until(lambda: place.server_status("curl", "-sf", "-o", "/dev/null", "http://127.0.0.1:7000/small") == 0)
+        text = "curl -sf --max-time 60 http://127.0.0.1:7000/small | sha256sum"
+        need("carried in", place.server("bash", "-c", text).split()[0], place.digest("small"))
+    status = place.server_status("curl", "-s", "--max-time", "20", "http://127.0.0.1:7001/")
+    need("curl was reset, or refused", status in (7, 56), True)
+
+
+def half_close(place):
+    """Each side closes in turn: what comes after the first close still arrives."""
+    place.client(sys.executable, __file__, "--half-close", GATEWAY)
+
+
+def half_closing(host):
+    with socket.create_connection((host, 8082), timeout=60) as connection:
+        connection.sendall(b"x" * 100000)
+        connection.shutdown(socket.SHUT_WR)
+        found = b"".join(iter(lambda: connection.recv(65536), b""))
+        need("echoed after the close", found, b"x" * 100000)
+
+
+def killed_server(place):
+    """A server that is killed in mid-transfer: its client fails and doesn't hang."""
+    with place.serve_slowly() as server:
+        client = place.start_client("curl", "-s", "-o", "/dev/null", "--max-time", "60", f"http://{GATEWAY}:8083/")
+        time.sleep(0.5)
+        server.kill()
+        with client:
+            need("curl failed", client.wait(20) != 0, True)
+
+
+def killed_clients(place):
+    """Clients that are killed in mid-transfer: nothing of them is left."""
+    clients = [place.start_client("curl", "-s", "-o", "/dev/null", "--limit-rate", "100k",
+                                  f"http://{GATEWAY}:8080/large") for _ in range(20)]
+    time.sleep(1)
+    need("connections", place.counters()["now"] >= 20, True)
+    for client in clients:
+        client.kill()
+        client.wait()
+    place.until(lambda: place.counters()["now"] == 0, 20)
+
+
+def many(place, at_once, in_turn):
+    """So many connections at once and in turn: memory and descriptors come back."""
+    before = place.descriptors()
+    place.client(sys.executable, __file__, "--many", GATEWAY, str(at_once), str(in_turn))
+    need("most at once", place.counters()["most"] >= at_once, True)
+    place.until(lambda: place.counters()["now"] == 0, 30)
+    need("descriptors left", place.descriptors(), before)
+
+
+def connect_many(host, at_once, in_turn):
+    resource.setrlimit(resource.RLIMIT_NOFILE, (at_once + 1000,) * 2)
+    ends = [socket.create_connection((host, 8082), timeout=60) for _ in range(at_once)]
+    for i, end in enumerate(ends):
+        end.sendall(b"%d" % i)
+    for i, end in enumerate(ends):
+        need(f"echo {i}", end.recv(100), b"%d" % i)
+        end.close()
+    for i in range(in_turn):
+        with socket.create_connection((host, 8082), timeout=60) as end:
+            end.sendall(b"%d" % i)
+            need(f"echo in turn {i}", end.recv(100), b"%d" % i)
+
+
+def killed_program(place):
+    """The program is killed: its clients and servers are told by their kernels, or by the device that is gone."""
+    client = place.start_client("curl", "-s", "-o", "/dev/null", "--max-time", "60", "--limit-rate", "100k",
+                                f"http://{GATEWAY}:8080/large")
+    time.sleep(0.5)
+    place.program.kill()
+    place.program.wait()
+    place.until(lambda: "8080" not in place.server("ss", "-Htn", "state", "established"), 20)
+    client.kill()
+    client.wait()
+
+
+CLIENTS = [download, downloads_at_once, upload, git_clone, iperf, redis, postgres, keep_alive, secure_copy, refused,
+           published, half_close, killed_server, killed_clients]
+
+
+def run(place, name, call, *words):
+    began = time.monotonic()
+    call(place, *words)
+    print(f"{name:<44} {time.monotonic() - began:6.1f} s", flush=True)
+
+
+def main():
+    parser = argparse.ArgumentParser()
+    parser.add_argument("--short", action="store_true")
+    parser.add_argument("--only")
+    words = parser.parse_args()
+    count = 0
+    with world.World(16 * MIB if words.short else 1024 * MIB) as place:
+        for fault in [0, 1]:
+            with place.usernet(fault):
+                calls = [(call, ()) for call in CLIENTS]
+                calls.append((many, ((2000, 1000) if words.short else (10000, 100000)) if fault == 0 else (200, 200)))
+                if fault == 0 and not words.short:
+                    calls.append((download_past_all_numbers, ()))
+                calls.append((killed_program, ()))
+                for call, rest in calls:
+                    if not words.only or words.only in call.__name__:
+                        run(place, call.__name__ + (", faults" if fault else ""), call, *rest)
+                        count += 1
+    need("tests", count > 0, True)
+    print(f"usernet: {count} passed")
+
+
+if __name__ == "__main__":
+    if "--requests" in sys.argv:
+        requests(sys.argv[2])
+    elif "--half-close" in sys.argv:
+        half_closing(sys.argv[2])
+    elif "--many" in sys.argv:
+        connect_many(sys.argv[2], int(sys.argv[3]), int(sys.argv[4]))
+    else:
+        main()
