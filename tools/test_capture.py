@@ -145,8 +145,11 @@ if sys.argv[1] == "serve":
     print("ready", flush=True)
     while True:
         end, _ = server.accept()
-        while piece := end.recv(65536):
-            end.sendall(piece)
+        try:
+            while piece := end.recv(65536):
+                end.sendall(piece)
+        except ConnectionError:
+            pass
         end.close()
 for size in 1, 5000, 300000:
     with socket.create_connection(("10.8.0.2", 7)) as end:
