@@ -248,7 +248,7 @@ impl<A: Allocator> Reassembly<A> {
         ensures value { result ≡ length (blocks self.now) }
         ensures few { result ≤ max_blocks }
     {
-        self.table.len().min(MAX_BLOCKS)
+        MAX_BLOCKS.min(self.table.len())
     }
 
     /// How many runs are held, at most 16.
