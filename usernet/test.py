@@ -1,7 +1,8 @@
 """Real clients in a namespace, real servers on the host's side, usernet between them: test.py [--short] [--only WORD]
 
-Every byte is compared. Each client runs once as it is and once with one percent of the packets lost, one percent doubled
-and one percent late. All stands in two namespaces that are made here: "servers" is the host of usernet.
+Files, answers and echoes are compared byte for byte; iperf3, redis-benchmark and pgbench judge by themselves. Each client
+runs once as it is and once with one percent of the packets lost, one percent doubled and one percent late. All stands in
+two namespaces that are made here: "servers" is the host of usernet.
 """
 
 import argparse

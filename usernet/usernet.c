@@ -158,7 +158,7 @@ static int set_up(char **words, int *shows)
     struct tun_config device = {.name = "tun0", .addr = 0x0a000264, .prefix = 24, .mtu = 1500};
     struct rlimit files;
     uint8_t secret[16];
-    struct epoll_event event = {.events = EPOLLIN, .data.ptr = &net};
+    struct epoll_event event = {.events = EPOLLIN, .data.u64 = LISTENERS};
     if (!read_words(words, &device, shows))
         return fputs("usernet PID|--netns NAME [--publish HOST:PORT:PORT] [--mtu N] [--no-offloads] [--stats]"
                      " [--fault PERCENT]\n", stderr), 0;
@@ -173,23 +173,23 @@ static int set_up(char **words, int *shows)
         epoll_ctl(net.events, EPOLL_CTL_ADD, net.device, &event) != 0)
         return 0;
     pairs_init(&net.pairs, net.buckets, BUCKETS, secret);
-    for (struct published *at = published; at->socket > 0; at++) {
-        event.data.ptr = at;
-        epoll_ctl(net.events, EPOLL_CTL_ADD, at->socket, &event);
+    for (uint64_t at = 0; at < LISTENERS && published[at].socket > 0; at++) {
+        event.data.u64 = at;
+        epoll_ctl(net.events, EPOLL_CTL_ADD, published[at].socket, &event);
     }
     for (int signal = 0; signal < 3; signal++)
         sigaction((int[]){SIGTERM, SIGINT, SIGUSR1}[signal], &(struct sigaction){.sa_handler = on_signal}, NULL);
     return 1;
 }
 
+/* An event's number is that of what listens, LISTENERS for the device, and else the place of a connection. */
 static void take_event(const struct epoll_event *event)
 {
     struct conn *conn = event->data.ptr;
-    struct published *at = event->data.ptr;
-    if (at >= published && at < published + LISTENERS) {
-        int socket = accept4(at->socket, NULL, NULL, SOCK_NONBLOCK | SOCK_CLOEXEC);
+    if (event->data.u64 < LISTENERS) {
+        int socket = accept4(published[event->data.u64].socket, NULL, NULL, SOCK_NONBLOCK | SOCK_CLOEXEC);
         if (socket >= 0)
-            conn_publish(&net, socket, at->port);
+            conn_publish(&net, socket, published[event->data.u64].port);
         return;
     }
     conn->can_read |= (event->events & (EPOLLIN | EPOLLRDHUP | EPOLLHUP | EPOLLERR)) != 0;
@@ -209,7 +209,7 @@ int main(int count, char **words)
         int has_packets = 0, found = epoll_wait(net.events, events, EVENTS, wheel_wait(&net.wheel, net.now));
         net.now = milliseconds();
         for (int at = 0; at < found; at++)
-            if (events[at].data.ptr == &net)
+            if (events[at].data.u64 == LISTENERS)
                 has_packets = 1;
             else
                 take_event(&events[at]);
