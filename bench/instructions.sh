@@ -5,8 +5,7 @@
 #   late; thirty-nine of forty held. Ours at capacities of 64 KiB and of 1 MiB.
 # - acknowledgement: one that is written, carried and taken; what a second one adds to two segments in order.
 # - one_byte: a segment of one byte with half an acknowledgement.
-# - connection: two ends made, handshake, orderly close. Ours have capacities of 512 bytes: `new` fills the receive block with zeros, which
-#   callgrind counts by bytes, and lwIP's ends have no block of their own.
+# - connection: two ends made, handshake, orderly close. lwIP's ends have no block of their own.
 # Then one call of `checksum`, `decode` and `encode` on such a segment. `bench/instructions.sh --cpu=x86-64-v3` counts a program for
 # that processor. It wants gcc, valgrind, apt-get and the network; our program is built anew where it is stale.
 set -eu
@@ -57,7 +56,7 @@ segments early 40
 row acknowledgement "$(acknowledgement "$ours" 65536)" "$(acknowledgement "$ours" 1048576)" "$(acknowledgement "$out/shipped")" \
     "$(acknowledgement "$out/best")"
 segments one_byte 2
-row connection "$(turn connection "$ours" 512)" - "$(turn connection "$out/shipped")" "$(turn connection "$out/best")"
+row connection "$(turn connection "$ours" 65536)" "$(turn connection "$ours" 1048576)" "$(turn connection "$out/shipped")" "$(turn connection "$out/best")"
 for call in checksum decode encode; do
     row $call "$(turn $call "$ours")"
 done

@@ -63,7 +63,7 @@
  *
  * STACK
  *   A call takes less than TCPCORE_STACK bytes. That isn't proved: the tests read it from the disassembly (tests/depth.py:
- *   nothing calls through a pointer, and what calls itself does so once for each option of a segment) and measure it
+ *   nothing calls through a pointer, and nothing calls itself) and measure it
  *   (tests/stack.c).
  *
  * THREADS
@@ -182,7 +182,7 @@ enum {
 #define TCPCORE_MEMORY(send, receive) (TCPCORE_UNITS(send) + TCPCORE_UNITS(receive) + 704 + 15)
 
 /* The bytes of stack that a call takes at most. */
-#define TCPCORE_STACK 10240
+#define TCPCORE_STACK 2048
 
 /* The room that tcpcore_emit wants, in bytes: more than the longest segment of an end. */
 #define TCPCORE_EMIT_ROOM 1520

@@ -14,7 +14,7 @@ import sys
 TOP = pathlib.Path(__file__).resolve().parent.parent
 COMMENT = re.compile(r"^<!-- (\S+) -->$", re.MULTILINE)
 BLOCK = re.compile(r"^<!-- (\S+) -->\n\n((?:(?:    .*)?\n)+)", re.MULTILINE)
-FOLDERS = ("crates", "capi", "docs", "live", "bench", "differential", "tests", "usernet", "tools")
+FOLDERS = ("crates", "capi", "docs", "live", "bench", "differential", "tests", "usernet", "tools", "web")
 PATH = re.compile(r"`?\b((?:" + "|".join(FOLDERS) + r")/[\w./-]*[\w/])")
 BUILT = re.compile(r"(^|/)out(/|$)")
 LONGEST = 120

@@ -162,12 +162,20 @@ def killed_clients(place):
 
 
 def many(place, at_once, in_turn):
-    """So many connections at once and in turn: memory and descriptors come back."""
-    before = place.descriptors()
-    place.client(sys.executable, __file__, "--many", GATEWAY, str(at_once), str(in_turn))
+    """So many connections at once and then in turn: memory, descriptors and the time of one stay level."""
+    descriptors, held = place.descriptors(), place.counters()["held"]
+    place.client(sys.executable, __file__, "--many", GATEWAY, str(at_once), "0")
     need("most at once", place.counters()["most"] >= at_once, True)
     place.until(lambda: place.counters()["now"] == 0, 30)
-    need("descriptors left", place.descriptors(), before)
+    resident, spent = place.resident(), [place.processor_seconds()]
+    for _ in range(2):
+        place.client(sys.executable, __file__, "--many", GATEWAY, "0", str(in_turn // 2))
+        spent.append(place.processor_seconds())
+    place.until(lambda: place.counters()["now"] == 0, 30)
+    need("later ones take as long", spent[2] - spent[1] <= 2 * (spent[1] - spent[0]), True)
+    need("descriptors left", place.descriptors(), descriptors)
+    need("less than 16 KiB left", place.counters()["held"] < held + MIB // 64, True)
+    need("resident memory grew by less than 4 MiB", place.resident() < resident + 4 * MIB, True)
 
 
 def connect_many(host, at_once, in_turn):

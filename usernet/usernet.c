@@ -3,8 +3,8 @@
  *     usernet PID|--netns NAME [--publish HOST:PORT:PORT ..] [--mtu 1500] [--no-offloads] [--stats] [--fault PERCENT]
  * Each connection of the namespace ends in an end of ours (../capi/tcpcore.h), behind which a socket of the host goes
  * on to the same address and port; 10.0.2.2 is the host's loopback. The namespace is 10.0.2.100. IPv4 and TCP alone:
- * all else is passed over. It prints "ready", ends on SIGTERM or SIGINT with every connection reset, and tells its
- * counters with --stats: at its end, and on SIGUSR1. --fault loses, doubles and delays so many percent, for tests.
+ * all else is passed over. It prints "ready", ends on SIGTERM or SIGINT with every connection reset, and tells counts
+ * and bytes held with --stats, at its end and on SIGUSR1. --fault loses, doubles and delays so many percent, for tests.
  */
 #define _GNU_SOURCE
 #include "companions/faults.h"
@@ -12,6 +12,7 @@
 #include "usernet.h"
 
 #include <arpa/inet.h>
+#include <malloc.h>
 #include <signal.h>
 #include <stdio.h>
 #include <stdlib.h>
@@ -43,9 +44,7 @@ static uint64_t milliseconds(void)
 static void to_device(const void *packet, size_t length, void *context)
 {
     (void)context;
-    net.counters[EMITTED]++;
-    if (write(net.device, packet, length) < 0)
-        return; /* what the device can't take is lost, and sent again */
+    net.counters[EMITTED] += write(net.device, packet, length) > 0; /* what it can't take is lost, and sent again */
 }
 
 void send_rest(struct usernet *of)
@@ -98,7 +97,8 @@ static void tell(void)
 {
     static const char *const names[COUNTERS] = {"opened", "refused", "published", "strays", "gave_up", "malformed",
                                                 "arrived", "emitted", "up", "down"};
-    printf("now %u most %u", net.pairs.used, net.pairs.most);
+    struct mallinfo2 held = mallinfo2();
+    printf("now %u most %u held %zu", net.pairs.used, net.pairs.most, held.uordblks + held.hblkhd);
     for (int at = 0; at < COUNTERS; at++)
         printf(" %s %llu%s", names[at], (unsigned long long)net.counters[at], at == DOWN ? "\n" : "");
     fflush(stdout);

@@ -264,6 +264,15 @@ LogLevel ERROR
     def descriptors(self):
         return len(os.listdir(f"/proc/{self.program.pid}/fd"))
 
+    def processor_seconds(self):
+        """The processor time that the program has had."""
+        return int(pathlib.Path(f"/proc/{self.program.pid}/schedstat").read_text().split()[0]) / 1e9
+
+    def resident(self):
+        """The bytes of memory that are there for the program."""
+        pages = pathlib.Path(f"/proc/{self.program.pid}/statm").read_text().split()[1]
+        return int(pages) * os.sysconf("SC_PAGESIZE")
+
 
 class Child(subprocess.Popen):
     """A process that is killed when it is left."""

@@ -2,9 +2,9 @@
 
 The files are the static library and the layer's object, for x86-64 or aarch64. A function's own bytes are read from
 what it does to the stack pointer, and the calls make a graph. That tells the depth only where nothing is called but by
-its name, nothing is called again below itself (but what AGAIN names), and the stack pointer moves by constants: all
-three are tested. An address of a function may stand nowhere but in a call or a jump, and in the jump table of the
-function itself; so what jumps through a register stays within its function.
+its name, nothing is called again below itself, and the stack pointer moves by constants: all three are tested. An
+address of a function may stand nowhere but in a call or a jump, and in the jump table of the function itself; so what
+jumps through a register stays within its function.
 
 The deepest sum over the functions tcpcore_* is printed, without what memcpy, memmove and memset take. It has to be at
 most BOUND, and at least MEASURED less the frame of the test and what memset takes.
@@ -16,8 +16,6 @@ import sys
 
 # Not followed: functions that the program brings.
 OUTSIDE = {"memcpy", "memmove", "memset", "__stack_chk_fail"}
-# What calls itself, and how often: once for each option of a segment, of which there are at most 40 (RFC 9293, 3.1).
-AGAIN = {"tcp_wire::option_reading::check_options": 40}
 # What a measurement counts beside: the frame of the test, and what memset takes.
 BESIDE = 256
 HEAD = re.compile(r"^[0-9a-f]+ <(?P<name>.+)>:$")
@@ -73,8 +71,8 @@ class Function:
 
 
 def plain(name):
-    """The function that a relocation names: by its own name, or by its section's."""
-    return re.sub(r"^\.text\.", "", re.sub(r"[-+]0x[0-9a-f]+$", "", name))
+    """The function that a relocation names: by its own name, or by its section's (another where it seldom runs)."""
+    return re.sub(r"^\.text\.(unlikely\.)?", "", re.sub(r"[-+]0x[0-9a-f]+$", "", name))
 
 
 class Reader:
@@ -108,7 +106,8 @@ class Reader:
         place = PLACE.search(told if word != "adr" and not self.goes else rest)
         if place and not self.goes and (place["name"] != self.name or not place["offset"]):
             raise Fault(f"{self.name} takes the address of {place['name']}")
-        if place and self.goes and (is_call or place["name"] != self.name):
+        # A local label (.L) stands in the function's own section.
+        if place and self.goes and not place["name"].startswith(".L") and (is_call or place["name"] != self.name):
             function.calls.add(place["name"])
 
     def relocation(self, name):
@@ -141,10 +140,9 @@ def depth(functions, machine, name, above=()):
         return 0, ()
     if name not in functions:
         raise Fault(f"{name} isn't here, and {above[-1]} calls it")
-    times = AGAIN.get(name, 0)
-    calls = sorted(functions[name].calls - ({name} if times else set()))
+    calls = sorted(functions[name].calls)
     bytes_, chain = max((depth(functions, machine, call, (*above, name)) for call in calls), default=(machine.below, ()))
-    return (1 + times) * functions[name].frame + bytes_, (name, *chain)
+    return functions[name].frame + bytes_, (name, *chain)
 
 
 def main():

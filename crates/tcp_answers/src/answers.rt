@@ -3,20 +3,23 @@ ghost use Rattle.std.specs.Prelude.{◌≡◌, ◌++◌, OnOk, string_bytes};
 ghost use Rattle.tcp_wire.specs.Decoded.{decode_answer};
 ghost use Rattle.tcp_answers.specs.Answers.{refused_text, send_text, receive_text, segment_text, arrival_text};
 
-use std::alloc::{AllocError, Global};
+use std::alloc::{AllocError, Allocator};
 use tcp_conn::{Arrival, CallError, Received};
 use tcp_text::{push_bytes, push_fault, push_summary};
 use tcp_wire::{Addr, decode};
 
 /// Appends a refusal, with its number.
-pub fn push_refused(text: &mut String, number: u8) -> Result<(), AllocError>
+pub fn push_refused<A: Allocator>(text: &mut String<A>, number: u8) -> Result<(), AllocError>
     ensures { OnOk result (string_bytes text.new ≡ string_bytes text.old ++ refused_text number) }
 {
     write!(text, "refused {number}")
 }
 
 /// Appends how many bytes were taken, or the refusal.
-pub fn push_send(text: &mut String, answer: Result<usize, CallError>) -> Result<(), AllocError>
+pub fn push_send<A: Allocator>(
+    text: &mut String<A>,
+    answer: Result<usize, CallError>,
+) -> Result<(), AllocError>
     ensures { OnOk result (string_bytes text.new ≡ string_bytes text.old ++ send_text answer) }
 {
     match answer {
@@ -26,9 +29,9 @@ pub fn push_send(text: &mut String, answer: Result<usize, CallError>) -> Result<
 }
 
 /// Appends the bytes that were handed over, if any, or the refusal.
-pub fn push_receive(
-    alloc: Global,
-    text: &mut String,
+pub fn push_receive<A: Allocator + Copy>(
+    alloc: A,
+    text: &mut String<A>,
     answer: Result<Received, CallError>,
     bytes: &[u8],
 ) -> Result<(), AllocError>
@@ -46,7 +49,12 @@ pub fn push_receive(
 }
 
 /// Appends a summary of what the bytes of a segment say.
-pub fn push_segment(text: &mut String, src: Addr, dst: Addr, bytes: &[u8]) -> Result<(), AllocError>
+pub fn push_segment<A: Allocator>(
+    text: &mut String<A>,
+    src: Addr,
+    dst: Addr,
+    bytes: &[u8],
+) -> Result<(), AllocError>
     ensures { OnOk result (string_bytes text.new ≡ string_bytes text.old ++ segment_text (decode_answer src.0 dst.0 bytes.now)) }
 {
     match decode(src, dst, bytes) {
@@ -56,7 +64,7 @@ pub fn push_segment(text: &mut String, src: Addr, dst: Addr, bytes: &[u8]) -> Re
 }
 
 /// Appends what became of bytes that arrived.
-pub fn push_arrival(text: &mut String, arrival: Arrival) -> Result<(), AllocError>
+pub fn push_arrival<A: Allocator>(text: &mut String<A>, arrival: Arrival) -> Result<(), AllocError>
     ensures { OnOk result (string_bytes text.new ≡ string_bytes text.old ++ arrival_text arrival) }
 {
     match arrival {

@@ -1,6 +1,6 @@
 -- What C tells of a new end (RFC 9293, 3.4.1 and 3.7.1; RFC 7323, 2.2; RFC 2018, 2).
 use Rattle.std.specs.Prelude.{ℕ, ◌+◌, not, ◌==◌, if◌then◌else◌, Some, None}
-use Rattle.tcp_conn.specs.declared.config.Config.{Config}
+use Rattle.tcp_halves.specs.declared.config.Config.{Config}
 use Rattle.region_heap.specs.Memory.{rounded}
 use Rattle.tcp_c.specs.declared.records.CConfig.{CConfig}
 

@@ -1,8 +1,8 @@
 -- What a replay answers, and what it has written then.
 use Rattle.std.specs.Prelude.{◌≡◌, ◌≢◌, ℕ, Bool, List, Option, Result, Ok, Err}
 use Rattle.std.specs.Io.KnownBytes.{Appends}
-use Rattle.tcp_conn.specs.declared.config.ConfigError.{ConfigError}
-use Rattle.tcp_conn.specs.declared.config.ConfigError.TheVariants as configs
+use Rattle.tcp_halves.specs.declared.config.ConfigError.{ConfigError}
+use Rattle.tcp_halves.specs.declared.config.ConfigError.TheVariants as configs
 use Rattle.tcp_replay.specs.declared.event.Side.{Side}
 use Rattle.tcp_replay.specs.declared.outcome.WorldError.TheVariants as worlds
 use Rattle.tcp_replay.specs.World.{HasNamedFault, HasGoodConfigs}

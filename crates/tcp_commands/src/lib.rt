@@ -7,5 +7,5 @@ mod replay_script;
 mod show_list;
 
 pub use errors::ToolError;
-pub use replay_script::replay;
+pub use replay_script::{replay, report_of};
 pub use show_list::show;

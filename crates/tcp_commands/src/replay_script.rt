@@ -4,12 +4,12 @@ ghost use Rattle.tcp_commands.specs.Replay.{IsReport, OnText, BeforeWriting, Wri
 
 use crate::errors::ToolError;
 use counted_io::{Input, Output, read_all, write_all};
-use std::alloc::Global;
+use std::alloc::{Allocator, Global};
 use tcp_report::{Report, make_report};
 use tcp_script::read_script_bytes;
 
-/// The report of a text.
-fn report_of(alloc: Global, text: &[u8]) -> Result<Report, ToolError>
+/// The report of a text whose bytes can be any; its first bad line, or what can't be made of it.
+pub fn report_of<A: Allocator + Copy>(alloc: A, text: &[u8]) -> Result<Report<A>, ToolError>
     ensures report { IfOk result (λ report. IsReport text.now (string_bytes report.text) report.is_well) }
     ensures refusal { IfErr result (RefusesText text.now) }
     ensures unread { IfErr result (λ e. e ≢ ToolError.ReadFault) }

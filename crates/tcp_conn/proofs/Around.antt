@@ -5,9 +5,9 @@ use Rattle.tcp_wire.specs.declared.option.TcpOption.{TcpOption}
 use Rattle.tcp_wire.specs.Options.{OptionContent}
 use Rattle.tcp_wire.specs.View.{option_content, content_of, text_offset}
 use Rattle.tcp_wire.proofs.Lemmas.{IsAround, is_around}
-use Rattle.tcp_conn.specs.declared.due.Due.{Due}
+use Rattle.tcp_halves.specs.declared.due.Due.{Due}
 use Rattle.tcp_conn.specs.declared.emission.TheConstants.{EMIT_ROOM}
-use Rattle.tcp_conn.specs.Config.{max_mss}
+use Rattle.tcp_halves.specs.Config.{max_mss}
 use Rattle.tcp_conn.specs.State.{State}
 use Rattle.tcp_conn.specs.Due.{Lies, count_of}
 use Rattle.tcp_conn.specs.Blocks.{blocks_to_report, sack_options}

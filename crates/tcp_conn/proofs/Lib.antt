@@ -1,7 +1,9 @@
 pub mod Around
-pub mod Placing
-pub mod Reported
 pub mod Segments
 pub mod PhaseRows
 mod Strays
 mod Urgent
+pub mod Rests
+mod AtRest
+mod RestArrival
+mod RestLaw

@@ -11,10 +11,10 @@ use Rattle.tcp_wire.specs.Wire.{Content, IsValid, header_len, option_bytes, wire
 use Rattle.tcp_wire.specs.View.{text_offset}
 use Rattle.tcp_wire.proofs.Lemmas.{blocks_bytes_length}
 use Rattle.tcp_reasm.specs.Reassembly.{Inbox, blocks}
-use Rattle.tcp_conn.specs.declared.due.Due.{Due}
-use Rattle.tcp_conn.specs.declared.link.WaitingReset.{WaitingReset}
+use Rattle.tcp_halves.specs.declared.due.Due.{Due}
+use Rattle.tcp_halves.specs.declared.link.WaitingReset.{WaitingReset}
 use Rattle.tcp_conn.specs.declared.emission.TheConstants.{EMIT_ROOM}
-use Rattle.tcp_conn.specs.Config.{max_mss, max_shift}
+use Rattle.tcp_halves.specs.Config.{max_mss, max_shift}
 use Rattle.tcp_conn.specs.State.{State, Sending, place_of}
 use Rattle.tcp_conn.specs.Endpoint.{FitsFields}
 use Rattle.tcp_conn.specs.Due.{Lies, start_of, count_of, is_fin}

@@ -7,20 +7,20 @@ use Rattle.tcp_wire.specs.Wire.{Content}
 use Rattle.tcp_wire.specs.declared.fault.DecodeError.{DecodeError}
 use Rattle.tcp_conn.specs.declared.judgement.Judgement.{Judgement}
 use Rattle.tcp_conn.specs.declared.judgement.Judgement.TheVariants.{Foreign, ResetIgnored, Stray, AckOfListen, OpensNothing, PeerOpens, AckOfNoSyn, PeerRefuses, PeerAccepts, Unacceptable, PeerResets, ResetElsewhere, SynInWindow, NoAck, AcksUnsent, HandshakeRefused, HandshakeRefusedShut, Taken, TakenShut}
-use Rattle.tcp_conn.specs.declared.link.Peer.{Peer}
-use Rattle.tcp_conn.specs.declared.link.WaitingReset.{WaitingReset}
-use Rattle.tcp_conn.specs.declared.outcome.Arrival.{Arrival}
-use Rattle.tcp_conn.specs.declared.outcome.Arrival.TheVariants.{Malformed}
-use Rattle.tcp_conn.specs.declared.phase.Ending.TheVariants as endings
-use Rattle.tcp_conn.specs.declared.phase.Phase.{Phase}
-use Rattle.tcp_conn.specs.declared.phase.Phase.TheVariants as phases
-use Rattle.tcp_conn.specs.declared.phase.Phase.TheVariants.{SynReceived, Established, FinWait1}
-use Rattle.tcp_conn.specs.Phase.{is_closed, phase_after_fin, is_syn_received, is_last_ack, takes_text, phase_after_own_fin}
-use Rattle.tcp_conn.specs.Options.{link_of}
+use Rattle.tcp_halves.specs.declared.link.Peer.{Peer}
+use Rattle.tcp_halves.specs.declared.link.WaitingReset.{WaitingReset}
+use Rattle.tcp_halves.specs.declared.outcome.Arrival.{Arrival}
+use Rattle.tcp_halves.specs.declared.outcome.Arrival.TheVariants.{Malformed}
+use Rattle.tcp_halves.specs.declared.phase.Ending.TheVariants as endings
+use Rattle.tcp_halves.specs.declared.phase.Phase.{Phase}
+use Rattle.tcp_halves.specs.declared.phase.Phase.TheVariants as phases
+use Rattle.tcp_halves.specs.declared.phase.Phase.TheVariants.{SynReceived, Established, FinWait1}
+use Rattle.tcp_halves.specs.Phase.{is_closed, phase_after_fin, is_syn_received, is_last_ack, takes_text, phase_after_own_fin}
+use Rattle.tcp_halves.specs.Options.{link_of}
 use Rattle.tcp_conn.specs.State.{with_ack_owed, State, Sending}
 use Rattle.tcp_conn.specs.Windows.{window_from}
-use Rattle.tcp_conn.specs.Sender.{with_window, after_ack, is_fin_acked, after_window_update, with_syn_sent, with_syn_acked}
-use Rattle.tcp_conn.specs.Receiver.{after_text, is_fin_due, with_fin, with_syn}
+use Rattle.tcp_halves.specs.Sender.{with_window, after_ack, is_fin_acked, after_window_update, with_syn_sent, with_syn_acked}
+use Rattle.tcp_halves.specs.Receiver.{after_text, is_fin_due, with_fin, with_syn}
 use Rattle.tcp_conn.specs.Blocks.{after_blocks, reported_blocks}
 use Rattle.tcp_conn.specs.Endings.{after_giving_up, after_orderly_end}
 use Rattle.tcp_conn.specs.Judgement.{count_numbers, answer_of, judgement, position_near}

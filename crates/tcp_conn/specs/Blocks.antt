@@ -1,12 +1,12 @@
--- Blocks (RFC 2018, 3 to 5): those that an end reports of what it holds, and what those that its peer reports
--- do to the half that sends.
-use Rattle.std.specs.Prelude.{ℕ, Bool, if◌then◌else◌, ◌&&◌, List, [], ◌∷◌, length, nat_lt, ◌+◌, ◌*◌, nat_le, ◌++◌, map}
-use Rattle.tcp_wire.specs.Options.{OptionContent, Nop, Mss, WindowScale, SackPermitted, Sack, Unknown}
-use Rattle.tcp_wire.specs.Position.{number, position_of}
-use Rattle.tcp_sendq.specs.SendQueue as queues
+-- Blocks (RFC 2018, 3 and 4): those that an end reports of what it holds. What those that its peer reports do to the half
+-- that sends is in Marks.
+use Rattle.std.specs.Prelude.{ℕ, if◌then◌else◌, List, [], ◌∷◌, length, ◌+◌, ◌*◌, map}
+use Rattle.tcp_wire.specs.Options.{OptionContent, Nop, Sack}
+use Rattle.tcp_wire.specs.Position.{number}
 use Rattle.tcp_reasm.specs.Reassembly.{blocks}
-use Rattle.tcp_conn.specs.State.{place_of, Sending, State}
-use Rattle.tcp_conn.specs.Sender.{count_below}
+use Rattle.tcp_conn.specs.State.{State}
+pub use Rattle.tcp_halves.specs.Marks.{reported_blocks, is_of_flight, marks_text, with_marks, after_blocks}
+unfoldable pub use Rattle.tcp_halves.specs.Marks.{after_block}
 
 -- BLOCKS: while a run is held and selective acknowledgement is in use (RFC 2018, 4), as numbers
 abbrev pub block_numbers : ℕ → ℕ × ℕ → ℕ × ℕ
@@ -23,32 +23,3 @@ sack_options (block ∷ blocks) = Nop ∷ Nop ∷ Sack (block ∷ blocks) ∷ []
 abbrev pub sack_length : List (ℕ × ℕ) → ℕ
 sack_length [] = 0
 sack_length (block ∷ blocks) = 4 + 8 * length (block ∷ blocks)
-
--- the blocks that a segment reports, in turn (RFC 2018, 3)
-abbrev pub reported_blocks : List OptionContent → List (ℕ × ℕ)
-reported_blocks [] = []
-reported_blocks (Sack blocks ∷ options) = blocks ++ reported_blocks options
-reported_blocks (Nop ∷ options) = reported_blocks options
-reported_blocks (Mss size ∷ options) = reported_blocks options
-reported_blocks (WindowScale shift ∷ options) = reported_blocks options
-reported_blocks (SackPermitted ∷ options) = reported_blocks options
-reported_blocks (Unknown kind body ∷ options) = reported_blocks options
-
--- MARKS (RFC 2018, 5): a block of what was sent and isn't acknowledged. Its text is marked, never the FIN
-abbrev pub is_of_flight : Sending → ℕ → ℕ → Bool
-is_of_flight s left right = nat_lt s.una left && (nat_lt left right && nat_le right s.nxt)
-
-abbrev pub marks_text : Sending → ℕ → ℕ → Bool
-marks_text s left right = is_of_flight s left right && nat_lt (place_of s left) (count_below s right)
-
-abbrev pub with_marks : Sending → ℕ → ℕ → Sending
-with_marks s left right = record s { queue = queues.after_mark s.queue (place_of s left) (count_below s right) }
-
-unfoldable pub after_block : Sending → ℕ → ℕ → Sending
-after_block s left right = if marks_text s left right then with_marks s left right else s
-
--- each block in turn (RFC 2018, 5), its edges read near SND.UNA
-abbrev pub after_blocks : ℕ → Sending → List (ℕ × ℕ) → Sending
-after_blocks iss s [] = s
-after_blocks iss s (block ∷ blocks) =
-    after_blocks iss (after_block s (position_of iss s.una block.0) (position_of iss s.una block.1)) blocks

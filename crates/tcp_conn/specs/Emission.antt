@@ -1,12 +1,12 @@
 -- What an emission answers, and the end after it (RFC 9293, 3.3.1, 3.4 and 3.8).
-use Rattle.std.specs.Prelude.{ℕ, Bool, false, not, ◌&&◌, List, Option, Some, None, ◌+◌, max, ◌++◌, drop, option_map}
-use Rattle.std.specs.declared.ops.Range.{Range}
+use Rattle.std.specs.Prelude.{ℕ, Bool, false, not, ◌&&◌, List, Option, Some, None, ◌++◌, drop, option_map}
 use Rattle.tcp_wire.specs.Wire.{wire_length}
-use Rattle.tcp_conn.specs.declared.due.Due.{Due}
-use Rattle.tcp_conn.specs.declared.due.Due.TheVariants.{Reset, Syn, Resend, NewText, ResentFin}
-use Rattle.tcp_conn.specs.declared.link.Owed.{Owed}
-use Rattle.tcp_conn.specs.State.{Sending, State}
-use Rattle.tcp_conn.specs.Due.{end_of, due_of}
+use Rattle.tcp_halves.specs.declared.due.Due.{Due}
+use Rattle.tcp_halves.specs.declared.due.Due.TheVariants.{Reset, Syn, NewText}
+use Rattle.tcp_halves.specs.declared.link.Owed.{Owed}
+use Rattle.tcp_conn.specs.State.{State}
+use Rattle.tcp_conn.specs.Due.{due_of}
+pub use Rattle.tcp_halves.specs.Due.{range_after, resend_after, sending_after}
 use Rattle.tcp_conn.specs.Forms.{segment_of}
 use Rattle.tcp_conn.specs.Writing.{bytes_of, destination_of}
 
@@ -15,18 +15,6 @@ emitted_bytes s = option_map (bytes_of s) (due_of s)
 
 -- AFTER AN EMISSION: what was emitted waits and is owed no more, SND.NXT is at least the position after it,
 -- and a segment with an acknowledgement settles the one that is owed
-abbrev pub range_after : ℕ → Option (Range ℕ) → Option (Range ℕ)
-range_after start None = None
-range_after start (Some range) = Some (record range { start = start })
-
-abbrev pub resend_after : Sending → Due → Option (Range ℕ)
-resend_after s (Resend start count) = range_after (start + count) s.resend
-resend_after s (ResentFin start) = range_after (start + 1) s.resend
-resend_after s other = s.resend
-
-abbrev pub sending_after : Sending → Due → Sending
-sending_after s due = record s { nxt = max s.nxt (end_of s due); resend = resend_after s due }
-
 abbrev pub owed_after : Bool → Owed → Due → Owed
 owed_after opened o (Reset reset) = record o { reset = None }
 owed_after opened o Syn = record o { syn = false; ack = o.ack && not opened }

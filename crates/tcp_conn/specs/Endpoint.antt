@@ -2,9 +2,9 @@
 use Rattle.std.specs.Prelude.{◌<◌, ◌≤◌, ◌^◌, unwrap_or}
 use Rattle.tcp_sendq.specs.SendQueue.{Queue}
 use Rattle.tcp_reasm.specs.Reassembly.{Inbox}
-use Rattle.tcp_conn.specs.declared.config.Config.{Config}
-use Rattle.tcp_conn.specs.declared.link.Link.{Link}
-use Rattle.tcp_conn.specs.Config.{max_shift, max_mss, stream_limit}
+use Rattle.tcp_halves.specs.declared.config.Config.{Config}
+use Rattle.tcp_halves.specs.declared.link.Link.{Link}
+use Rattle.tcp_halves.specs.Config.{max_shift, max_mss, stream_limit}
 use Rattle.tcp_conn.specs.State.{KeepsWithin, State, HoldsWithin}
 
 -- its segments fit the room that it asks for, its fields their places, and what it keeps its capacities

@@ -1,18 +1,19 @@
 -- The forms of the segments that an end emits (RFC 9293, 3.1 and 3.10; RFC 7323, 2.2; RFC 2018, 2 and 3).
-use Rattle.std.specs.Prelude.{ℕ, Bool, false, ◌==◌, if◌then◌else◌, not, ◌&&◌, List, [], ◌∷◌, length, Option, Some, None, min, take, is_some, ◌+◌, ◌++◌, drop}
-use Rattle.tcp_wire.specs.Flags.{fin, ack, syn, rst, psh}
+use Rattle.std.specs.Prelude.{ℕ, Bool, if◌then◌else◌, not, ◌&&◌, List, [], ◌∷◌, Option, Some, None, min, is_some, ◌+◌, ◌++◌}
+use Rattle.tcp_wire.specs.Flags.{ack, syn, rst}
 use Rattle.tcp_wire.specs.Options.{OptionContent, Nop, Mss, WindowScale, SackPermitted}
 use Rattle.tcp_wire.specs.Position.{number}
 use Rattle.tcp_wire.specs.Wire.{Content}
 use Rattle.tcp_numbers.specs.declared.seq.Seq.{Seq}
 use Rattle.tcp_reasm.specs.Reassembly.{window}
-use Rattle.tcp_conn.specs.declared.due.Due.{Due}
-use Rattle.tcp_conn.specs.declared.due.Due.TheVariants.{Reset, Syn, Resend, NewText, Fin, ResentFin, Acknowledgement}
-use Rattle.tcp_conn.specs.declared.link.WaitingReset.{WaitingReset}
-use Rattle.tcp_conn.specs.State.{State, Sending, place_of}
+use Rattle.tcp_halves.specs.declared.due.Due.{Due}
+use Rattle.tcp_halves.specs.declared.due.Due.TheVariants.{Reset, Syn, Resend, NewText, Fin, ResentFin, Acknowledgement}
+use Rattle.tcp_halves.specs.declared.link.WaitingReset.{WaitingReset}
+use Rattle.tcp_conn.specs.State.{State}
 use Rattle.tcp_conn.specs.Windows.{max_window, advertised_window}
 use Rattle.tcp_conn.specs.Blocks.{sack_options, blocks_to_report}
-use Rattle.tcp_conn.specs.Due.{start_of, is_fin, count_of}
+use Rattle.tcp_halves.specs.Due.{start_of}
+pub use Rattle.tcp_halves.specs.Due.{text_of, pushes, flags_of}
 
 -- A RESET has no window and no options (RFC 9293, 3.10.7.1)
 abbrev pub reset_ack : Option Seq → ℕ
@@ -71,17 +72,7 @@ syn_segment s = record {
   text = [];
 }
 
--- ANY OTHER SEGMENT. Its text:
-abbrev pub text_of : Sending → Due → List ℕ
-text_of s due = take (count_of due) (drop (place_of s (start_of s due)) s.queue.bytes)
-
--- PSH is set where the text ends with the last byte of the queue
-abbrev pub pushes : Sending → Due → Bool
-pushes s due = if count_of due == 0 then false else place_of s (start_of s due) + count_of due == length s.queue.bytes
-
-abbrev pub flags_of : Sending → Due → ℕ
-flags_of s due = ack + (if pushes s due then psh else 0) + (if is_fin due then fin else 0)
-
+-- ANY OTHER SEGMENT
 abbrev pub plain_segment : State → Due → Content
 plain_segment s due = record {
   src_port = s.config.port;

@@ -1,13 +1,13 @@
 -- A new end (RFC 9293, 3.3.2).
 use Rattle.std.specs.Prelude.{false}
-use Rattle.tcp_conn.specs.declared.config.Config.{Config}
-use Rattle.tcp_conn.specs.declared.phase.Ending.TheVariants.{NotEnded}
-use Rattle.tcp_conn.specs.declared.phase.Phase.TheVariants as phases
-use Rattle.tcp_conn.specs.declared.phase.Phase.TheVariants.{Closed}
-use Rattle.tcp_conn.specs.Link.{nothing_owed, new_link, no_peer}
+use Rattle.tcp_halves.specs.declared.config.Config.{Config}
+use Rattle.tcp_halves.specs.declared.phase.Ending.TheVariants.{NotEnded}
+use Rattle.tcp_halves.specs.declared.phase.Phase.TheVariants as phases
+use Rattle.tcp_halves.specs.declared.phase.Phase.TheVariants.{Closed}
+use Rattle.tcp_halves.specs.Link.{nothing_owed, new_link, no_peer}
 use Rattle.tcp_conn.specs.State.{State}
-use Rattle.tcp_conn.specs.Sender.{new_sending}
-use Rattle.tcp_conn.specs.Receiver.{new_receiving}
+use Rattle.tcp_halves.specs.Sender.{new_sending}
+use Rattle.tcp_halves.specs.Receiver.{new_receiving}
 
 -- CLOSED, empty, nothing owed
 abbrev pub new_end : Config → State

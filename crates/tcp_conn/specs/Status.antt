@@ -2,10 +2,10 @@
 -- its peer.
 use Rattle.std.specs.Prelude.{ℕ, ◌-◌, if◌then◌else◌, length, min, nat_lt, Option, Some, None}
 use Rattle.tcp_sendq.specs.SendQueue.{room}
-use Rattle.tcp_conn.specs.declared.link.Negotiated.{Negotiated}
-use Rattle.tcp_conn.specs.declared.link.Peer.{Peer}
+use Rattle.tcp_halves.specs.declared.link.Negotiated.{Negotiated}
+use Rattle.tcp_halves.specs.declared.link.Peer.{Peer}
 use Rattle.tcp_conn.specs.Due.{mss_in_use}
-use Rattle.tcp_conn.specs.Sender.{count_below}
+use Rattle.tcp_halves.specs.Sender.{count_below}
 use Rattle.tcp_conn.specs.State.{State, accepted_count}
 use Rattle.tcp_conn.specs.Windows.{own_shift}
 

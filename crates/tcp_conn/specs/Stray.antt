@@ -4,7 +4,7 @@ use Rattle.tcp_wire.specs.Decoded.{decode_answer}
 use Rattle.tcp_wire.specs.Flags.{has, rst}
 use Rattle.tcp_wire.specs.Wire.{Content, encoded_bytes, header_len}
 use Rattle.tcp_wire.specs.declared.fault.DecodeError.{DecodeError}
-use Rattle.tcp_conn.specs.declared.config.Config.{Config}
+use Rattle.tcp_halves.specs.declared.config.Config.{Config}
 use Rattle.tcp_conn.specs.Arrival.{after_arrival, reset_of_stray}
 use Rattle.tcp_conn.specs.Emission.{emitted_bytes}
 use Rattle.tcp_conn.specs.Forms.{reset_from}

@@ -1,8 +1,8 @@
 -- The window field of a segment (RFC 9293, 3.1), and how it is scaled (RFC 7323, 2.3).
 use Rattle.std.specs.Prelude.{ℕ, if◌then◌else◌, min, ◌^◌, unwrap_or, ◌*◌, ◌/◌}
 use Rattle.tcp_reasm.specs.Reassembly.{Inbox, window}
-use Rattle.tcp_conn.specs.declared.config.Config.{Config}
-use Rattle.tcp_conn.specs.declared.link.Link.{Link}
+use Rattle.tcp_halves.specs.declared.config.Config.{Config}
+use Rattle.tcp_halves.specs.declared.link.Link.{Link}
 use Rattle.tcp_conn.specs.State.{State}
 
 -- the greatest window field (RFC 9293, 3.1)

@@ -1,9 +1,9 @@
 -- What is written of a segment that is due, and where it goes (RFC 9293, 3.1 and 3.8).
 use Rattle.std.specs.Prelude.{ℕ, List}
 use Rattle.tcp_wire.specs.Wire.{encoded_bytes}
-use Rattle.tcp_conn.specs.declared.due.Due.{Due}
-use Rattle.tcp_conn.specs.declared.due.Due.TheVariants.{Reset}
-use Rattle.tcp_conn.specs.declared.link.Peer.{Peer}
+use Rattle.tcp_halves.specs.declared.due.Due.{Due}
+use Rattle.tcp_halves.specs.declared.due.Due.TheVariants.{Reset}
+use Rattle.tcp_halves.specs.declared.link.Peer.{Peer}
 use Rattle.tcp_conn.specs.State.{State}
 use Rattle.tcp_conn.specs.Forms.{segment_of}
 

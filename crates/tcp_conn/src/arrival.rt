@@ -1,5 +1,6 @@
 //! What an arrival does (RFC 9293, 3.10.7): each judgement's effect, a method for each rule.
-ghost use Rattle.std.specs.Prelude.{◌≡◌};
+ghost use Rattle.std.specs.Prelude.{◌≡◌, length, nat_lt};
+ghost use Rattle.tcp_reasm.specs.Reassembly.{runs};
 ghost use Rattle.tcp_wire.specs.View.{raw_content};
 ghost use Rattle.tcp_conn.specs.Arrival.{after_acked_text, after_arrival, after_fin, after_its_ack, after_its_text, after_judgement, after_news, after_own_fin, after_own_syn, after_peer_accepts, after_peer_opens, after_reported_blocks, after_taking, after_taking_shut, arrival_answer, reset_at_ack, reset_of_stray, with_reset};
 ghost use Rattle.tcp_conn.specs.AtOnce.{answers_at_once, breaks_order, is_urgent};
@@ -8,11 +9,9 @@ ghost use Rattle.tcp_conn.specs.State.{IsWithin};
 
 use crate::endpoint::Endpoint;
 use crate::judgement::{Judgement, count_numbers};
-use crate::link::{Peer, WaitingReset};
-use crate::options::link_of;
-use crate::outcome::{Arrival, Taken};
-use crate::phase::{Ending, Phase};
+use crate::phases::{is_closed, is_syn_received, phase_after_fin, takes_text};
 use std::alloc::Allocator;
+use tcp_halves::{Arrival, Ending, Peer, Phase, Taken, WaitingReset, link_of};
 use tcp_wire::{Addr, RawSegment, Seq};
 
 /// A reset at the number that a segment acknowledges (RFC 9293, 3.10.7.1).
@@ -68,7 +67,7 @@ impl<A: Allocator> Endpoint<A> {
         let taken = match RawSegment::parse(src, dst, bytes) {
             Ok(segment) => {
                 let judgement = self.judge(src, dst, &segment);
-                let had_gap = self.receiver.has_gap();
+                let had_gap = self.has_gap();
                 self.follow(judgement, src, &segment);
                 Taken {
                     arrival: judgement.answer(),
@@ -102,11 +101,18 @@ impl<A: Allocator> Endpoint<A> {
         }
     }
 
+    /// Whether a run is held, so that something before it is missing.
+    pub(crate) fn has_gap(&self) -> bool
+        ensures { result ≡ nat_lt 0 (length (runs self.now.receiving.inbox.held)) }
+    {
+        self.receiver.inbox.held_runs() > 0
+    }
+
     /// Whether it had a FIN, or text that came out of order or filled all or part of a gap.
     fn breaks_order(&self, had_gap: bool, segment: &RawSegment<'_>) -> bool
         ensures { result ≡ breaks_order had_gap self.now (raw_content segment.now) }
     {
-        let is_early = had_gap || self.receiver.has_gap();
+        let is_early = had_gap || self.has_gap();
         segment.header.flags.is_fin() || !segment.text.is_empty() && is_early
     }
 
@@ -199,7 +205,7 @@ impl<A: Allocator> Endpoint<A> {
         ensures { self.new ≡ after_taking_shut self.old (raw_content segment.now) }
     {
         self.take_its_ack(segment);
-        self.owed.ack = self.owed.ack || !self.phase.is_closed();
+        self.owed.ack = self.owed.ack || !is_closed(self.phase);
     }
 
     /// Its acknowledgement, window and blocks (RFC 9293, 3.10.7.4, fifth).
@@ -219,7 +225,7 @@ impl<A: Allocator> Endpoint<A> {
     fn take_own_syn(&mut self, segment: &RawSegment<'_>)
         ensures { self.new ≡ after_own_syn self.old (raw_content segment.now) }
     {
-        if self.phase.is_syn_received() {
+        if is_syn_received(self.phase) {
             self.phase = if self.closing {
                 Phase::FinWait1
             } else {
@@ -248,7 +254,7 @@ impl<A: Allocator> Endpoint<A> {
         ensures { self.new ≡ after_news self.old (raw_content segment.now) }
     {
         let ack = self.position_near(segment.header.ack);
-        if !self.sender.is_current(ack) {
+        if ack < self.sender.una {
             return;
         }
         let window = self.window_from(segment.header.window);
@@ -291,7 +297,7 @@ impl<A: Allocator> Endpoint<A> {
     fn take_its_text(&mut self, segment: &RawSegment<'_>)
         ensures { self.new ≡ after_its_text self.old (raw_content segment.now) }
     {
-        if self.phase.takes_text() && !segment.text.is_empty() {
+        if takes_text(self.phase) && !segment.text.is_empty() {
             self.receiver.place(segment.header.seq, segment.text);
             self.owed.ack = true;
         }
@@ -302,14 +308,14 @@ impl<A: Allocator> Endpoint<A> {
     fn take_fin(&mut self, segment: &RawSegment<'_>)
         ensures { self.new ≡ after_fin self.old (raw_content segment.now) }
     {
-        if !self.phase.takes_text() || !segment.header.flags.is_fin() {
+        if !takes_text(self.phase) || !segment.header.flags.is_fin() {
             return;
         }
         self.owed.ack = true;
         let number = segment.header.seq.plus(segment.text.len() as u32);
         if self.receiver.is_fin_due(number) {
             self.receiver.take_fin();
-            self.phase = self.phase.after_fin();
+            self.phase = phase_after_fin(self.phase);
         }
     }
 }

@@ -1,14 +1,13 @@
-//! Blocks (RFC 2018, 3 to 5): what an end reports of what it holds, and what its peer reports.
+//! Blocks (RFC 2018, 3 and 4): what an end reports of what it holds.
 ghost use Rattle.std.specs.Prelude.{◌≡◌, ◌≤◌, length, map};
 ghost use Rattle.tcp_wire.specs.View.{block, option_content};
 ghost use Rattle.tcp_reasm.specs.Reassembly.{blocks};
-ghost use Rattle.tcp_conn.specs.Blocks.{after_block, after_blocks, block_numbers, blocks_to_report, reported_blocks, sack_length, sack_options};
+ghost use Rattle.tcp_conn.specs.Blocks.{block_numbers, blocks_to_report, sack_length, sack_options};
 
 use crate::endpoint::Endpoint;
-use crate::sender::Sender;
 use arrayvec::ArrayVec;
 use std::alloc::Allocator;
-use tcp_wire::{OptionsLeft, Seq, TcpOption};
+use tcp_wire::{Seq, TcpOption};
 
 /// The sequence numbers of blocks that are counted from the next byte in order.
 fn block_numbers(next: Seq, blocks: &[(u32, u32)]) -> ArrayVec<(Seq, Seq), 4>
@@ -43,8 +42,8 @@ impl<A: Allocator> Endpoint<A> {
         if !self.link.sack {
             return ArrayVec::new();
         }
-        let blocks = self.receiver.blocks();
-        block_numbers(self.receiver.next(), blocks.as_slice())
+        let blocks = self.receiver.inbox.blocks();
+        block_numbers(self.receiver.next, blocks.as_slice())
     }
 
     /// The bytes that they take among the options: two Nops, kind and length byte, and eight for each block. No block is made
@@ -56,63 +55,9 @@ impl<A: Allocator> Endpoint<A> {
         if !self.link.sack {
             return 0;
         }
-        match self.receiver.block_count() {
+        match self.receiver.inbox.block_count() {
             0 => 0,
             count => 4 + 8 * count as u16,
-        }
-    }
-}
-
-impl<A: Allocator> Sender<A> {
-    /// Marks the text of a block of what is in flight (RFC 2018, 5). The FIN is never marked.
-    #[tactic(auto, unfolding(crate::specs::Blocks::after_block, tcp_sendq::specs::SendQueue::after_mark))]
-    pub(crate) fn mark(&mut self, left: u64, right: u64)
-        ensures state { self.new ≡ after_block self.old left right }
-        ensures una { self.new.una ≡ self.old.una }
-        ensures capacity { self.new.queue.capacity ≡ self.old.queue.capacity }
-        ensures queued { length self.new.queue.bytes ≤ self.new.queue.capacity }
-    {
-        let from = self.place_of(left);
-        let to = self.count_below(right);
-        let of_flight = self.una < left && left < right && right <= self.nxt;
-        if of_flight && from < to as u64 {
-            self.queue.mark(from as usize, to);
-        }
-    }
-
-    /// Marks the text of each block in turn, its edges read near SND.UNA.
-    pub(crate) fn mark_blocks(&mut self, iss: Seq, blocks: &[(Seq, Seq)])
-        ensures state { self.new ≡ after_blocks iss.0 self.old (map block blocks.now) }
-        ensures capacity { self.new.queue.capacity ≡ self.old.queue.capacity }
-        ensures queued { length self.new.queue.bytes ≤ self.new.queue.capacity }
-    {
-        match blocks {
-            [] => {
-                // So that the proof knows what always holds of a sender.
-                let _ = &self.una;
-            }
-            [first, rest @ ..] => {
-                let left = self.position_of(iss, first.0);
-                let right = self.position_of(iss, first.1);
-                self.mark(left, right);
-                self.mark_blocks(iss, rest);
-            }
-        }
-    }
-
-    /// The blocks of all options.
-    pub(crate) fn mark_reported(&mut self, iss: Seq, options: OptionsLeft<'_>)
-        ensures state { self.new ≡ after_blocks iss.0 self.old (reported_blocks options.entry) }
-        ensures capacity { self.new.queue.capacity ≡ self.old.queue.capacity }
-        ensures queued { length self.new.queue.bytes ≤ self.new.queue.capacity }
-    {
-        // So that the proof knows what always holds of a sender.
-        let _ = &self.una;
-        let mut left = options;
-        while let Some(option) = left.next() {
-            if let TcpOption::Sack(blocks) = option {
-                self.mark_blocks(iss, blocks.as_slice());
-            }
         }
     }
 }

@@ -3,10 +3,9 @@ ghost use Rattle.tcp_conn.specs.Calls.{abort_answer, after_abort, after_acknowle
 ghost use Rattle.tcp_conn.specs.State.{IsWithin};
 
 use crate::endpoint::Endpoint;
-use crate::link::{Peer, WaitingReset};
-use crate::outcome::{CallError, Received};
-use crate::phase::{Ending, Phase};
+use crate::phases::{gives_up, is_closed, is_ended, is_listening, resets_on_abort, takes_text};
 use std::alloc::Allocator;
+use tcp_halves::{CallError, Ending, Peer, Phase, Received, WaitingReset};
 use tcp_wire::Addr;
 
 impl<A: Allocator> Endpoint<A> {
@@ -50,10 +49,10 @@ impl<A: Allocator> Endpoint<A> {
     fn opening_refusal(&self) -> Option<CallError>
         ensures { result ≡ opening_refusal self.now }
     {
-        if self.ending.is_ended() {
+        if is_ended(self.ending) {
             return Some(CallError::Ended(self.ending));
         }
-        if !self.phase.is_closed() {
+        if !is_closed(self.phase) {
             return Some(CallError::AlreadyOpen);
         }
         None
@@ -63,10 +62,10 @@ impl<A: Allocator> Endpoint<A> {
     fn open_refusal(&self) -> Option<CallError>
         ensures { result ≡ open_refusal self.now }
     {
-        if self.ending.is_ended() {
+        if is_ended(self.ending) {
             return Some(CallError::Ended(self.ending));
         }
-        if self.phase.is_closed() {
+        if is_closed(self.phase) {
             return Some(CallError::NotOpen);
         }
         None
@@ -97,7 +96,7 @@ impl<A: Allocator> Endpoint<A> {
         if let Some(refusal) = self.open_refusal() {
             return Some(refusal);
         }
-        if self.phase.is_listening() {
+        if is_listening(self.phase) {
             return Some(CallError::NotConnected);
         }
         if self.closing {
@@ -124,15 +123,15 @@ impl<A: Allocator> Endpoint<A> {
         if let Some(refusal) = self.receive_refusal() {
             return Err(refusal);
         }
-        let nothing = self.receiver.unread() == 0;
+        let nothing = self.receiver.inbox.unread() == 0;
         let was_shut = self.advertised_window() == 0;
         let count = self.receiver.read(out);
-        let opens = self.phase.takes_text() && was_shut && self.advertised_window() > 0;
+        let opens = takes_text(self.phase) && was_shut && self.advertised_window() > 0;
         self.owed.ack = self.owed.ack || opens;
         if !nothing {
             return Ok(Received::Bytes(count));
         }
-        if self.receiver.is_finished() {
+        if self.receiver.finished {
             Ok(Received::EndOfStream)
         } else {
             Ok(Received::Nothing)
@@ -143,10 +142,10 @@ impl<A: Allocator> Endpoint<A> {
     fn receive_refusal(&self) -> Option<CallError>
         ensures { result ≡ receive_refusal self.now }
     {
-        if self.ending.gives_up() {
+        if gives_up(self.ending) {
             return Some(CallError::Ended(self.ending));
         }
-        if self.phase.is_closed() && !self.ending.is_ended() {
+        if is_closed(self.phase) && !is_ended(self.ending) {
             return Some(CallError::NotOpen);
         }
         None
@@ -162,7 +161,7 @@ impl<A: Allocator> Endpoint<A> {
     {
         // So that the proof knows what always holds of an end.
         let _ = &self.config;
-        self.owed.ack = self.owed.ack || self.phase.takes_text();
+        self.owed.ack = self.owed.ack || takes_text(self.phase);
     }
 
     /// The user has no more to send (RFC 9293, 3.10.4). Before the handshake has an answer the connection ends as aborted; in
@@ -229,10 +228,10 @@ impl<A: Allocator> Endpoint<A> {
     fn take_abort(&mut self)
         ensures { self.new ≡ with_abort self.old }
     {
-        if self.phase.resets_on_abort() {
+        if resets_on_abort(self.phase) {
             self.owed.reset = Some(WaitingReset {
                 to: self.peer,
-                seq: self.number_of(self.sender.nxt()),
+                seq: self.number_of(self.sender.nxt),
                 ack: None,
             });
         }

@@ -1,39 +1,20 @@
 //! An emission (RFC 9293, 3.7, 3.8 and 3.10), and the end after it.
 ghost use Rattle.std.specs.Prelude.{◌≡◌, ◌≤◌, IfSome, length, option_map};
 ghost use Rattle.tcp_wire.specs.Wire.{header_len, wire_length};
-ghost use Rattle.tcp_conn.specs.Config.{max_mss};
+ghost use Rattle.tcp_halves.specs.Config.{max_mss};
 ghost use Rattle.tcp_conn.specs.Due.{Lies};
-ghost use Rattle.tcp_conn.specs.Emission.{after_emission, buffer_after, destination, pending_length, sending_after, state_after};
+ghost use Rattle.tcp_conn.specs.Emission.{after_emission, buffer_after, destination, pending_length, state_after};
 ghost use Rattle.tcp_conn.specs.Forms.{plain_segment, segment_of};
 ghost use Rattle.tcp_conn.specs.State.{IsWithin};
 
-use crate::due::Due;
 use crate::endpoint::Endpoint;
 use crate::forms::HEADER_LEN;
-use crate::sender::Sender;
 use std::alloc::Allocator;
+use tcp_halves::Due;
 use tcp_wire::Addr;
 
 /// The bytes that `emit` asks room for: more than the longest segment that an end writes.
 pub const EMIT_ROOM: usize = 1520;
-
-impl<A: Allocator> Sender<A> {
-    /// What was due has gone out: SND.NXT is at least the position after it, and what it sent again is done with.
-    pub(crate) fn mark_sent(&mut self, due: Due)
-        requires { Lies self.old max_mss due }
-        ensures state { self.new ≡ sending_after self.old due }
-        ensures capacity { self.new.queue.capacity ≡ self.old.queue.capacity }
-        ensures queued { length self.new.queue.bytes ≤ self.new.queue.capacity }
-    {
-        let end = self.end_of(due);
-        self.nxt = self.nxt.max(end);
-        if matches!(due, Due::Resend(..) | Due::ResentFin(_)) {
-            if let Some(range) = &mut self.resend {
-                range.start = end;
-            }
-        }
-    }
-}
 
 impl<A: Allocator> Endpoint<A> {
     /// The length of a segment with text.
@@ -91,7 +72,7 @@ impl<A: Allocator> Endpoint<A> {
             Due::Reset(_) => self.owed.reset = None,
             Due::Syn => {
                 self.owed.syn = false;
-                self.owed.ack = self.owed.ack && !self.receiver.is_opened();
+                self.owed.ack = self.owed.ack && !self.receiver.opened;
             }
             Due::NewText(..) => {
                 self.owed.ack = false;

@@ -1,9 +1,19 @@
 ghost use Rattle.std.specs.Prelude.{◌≡◌};
+ghost use Rattle.tcp_halves.specs.Link.{only_reset_owed};
 ghost use Rattle.tcp_conn.specs.Endings.{after_giving_up, after_orderly_end};
 
 use crate::endpoint::Endpoint;
-use crate::phase::{Ending, Phase};
 use std::alloc::Allocator;
+use tcp_halves::{Ending, Owed, Phase};
+
+/// Nothing is owed but a waiting reset.
+fn keep_only_reset(owed: &mut Owed)
+    ensures { owed.new ≡ only_reset_owed owed.old }
+{
+    owed.syn = false;
+    owed.ack = false;
+    owed.probe = false;
+}
 
 impl<A: Allocator> Endpoint<A> {
     /// The connection ends by a reset or an abort: what is queued, held and unread is given up, and nothing is owed but a waiting
@@ -15,7 +25,7 @@ impl<A: Allocator> Endpoint<A> {
         self.ending = ending;
         self.sender.give_up();
         self.receiver.give_up();
-        self.owed.keep_only_reset();
+        keep_only_reset(&mut self.owed);
     }
 
     /// The connection ends in order: what is unread can still be read.
@@ -24,7 +34,7 @@ impl<A: Allocator> Endpoint<A> {
     {
         self.phase = Phase::Closed;
         self.ending = Ending::Orderly;
-        self.sender.stop();
-        self.owed.keep_only_reset();
+        self.sender.resend = None;
+        keep_only_reset(&mut self.owed);
     }
 }

@@ -1,14 +1,10 @@
 ghost use Rattle.std.specs.Prelude.{◌≡◌, ◌≤◌, ◌+◌, length};
-ghost use Rattle.tcp_conn.specs.Config.{stream_limit};
-ghost use Rattle.tcp_conn.specs.Receiver.{next_wanted};
+ghost use Rattle.tcp_halves.specs.Config.{stream_limit};
+ghost use Rattle.tcp_halves.specs.Receiver.{next_wanted};
 
-use crate::config::Config;
-use crate::link::{Link, Owed, Peer};
-use crate::phase::{Ending, Phase};
-use crate::receiver::Receiver;
-use crate::sender::Sender;
 use std::alloc::{Allocator, Global};
 use std::marker::Model;
+use tcp_halves::{Config, Ending, Link, Owed, Peer, Phase, Receiver, Sender};
 
 /// One end of a TCP connection (RFC 9293, 3.3). After it was made no call of it takes memory.
 #[derive(Debug, Drop)]
@@ -71,7 +67,7 @@ impl<A: Allocator> Endpoint<A> {
     pub fn unread(&self) -> usize
         ensures { result ≡ length self.now.receiving.inbox.unread }
     {
-        self.receiver.unread()
+        self.receiver.inbox.unread()
     }
 
     /// SND.UNA (RFC 9293, 3.3.1) as a position of the own direction: the oldest that isn't acknowledged. The SYN is at 0, byte
@@ -81,7 +77,7 @@ impl<A: Allocator> Endpoint<A> {
         ensures value { result ≡ self.now.sending.una }
         ensures most { result ≤ 2 + stream_limit }
     {
-        self.sender.una()
+        self.sender.una
     }
 
     /// RCV.NXT (RFC 9293, 3.3.1) as a position of the peer's direction: 1 and the bytes that came in order, and 1 more once the
@@ -90,7 +86,10 @@ impl<A: Allocator> Endpoint<A> {
     pub fn next(&self) -> u64
         ensures { result ≡ next_wanted self.now.receiving }
     {
-        self.receiver.next_wanted()
+        self.receiver
+            .ordered
+            .saturating_add(1)
+            .saturating_add(u64::from(self.receiver.finished))
     }
 
     /// The text bytes that acknowledgements have released.
@@ -98,7 +97,7 @@ impl<A: Allocator> Endpoint<A> {
     pub fn released(&self) -> u64
         ensures { result ≡ self.now.sending.released }
     {
-        self.sender.released()
+        self.sender.released
     }
 
     /// The text bytes that came in order up to now, also past an end; it stays at its greatest value once there.
@@ -106,6 +105,6 @@ impl<A: Allocator> Endpoint<A> {
     pub fn ordered(&self) -> u64
         ensures { result ≡ self.now.receiving.ordered }
     {
-        self.receiver.ordered()
+        self.receiver.ordered
     }
 }

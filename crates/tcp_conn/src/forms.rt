@@ -1,20 +1,18 @@
 //! The forms of the segments that an end emits (RFC 9293, 3.1 and 3.10; RFC 7323, 2.2; RFC 2018, 2).
-ghost use Rattle.std.specs.Prelude.{◌≡◌, ◌<◌, ◌≤◌, ◌^◌, ◌++◌, [], length, map};
+ghost use Rattle.std.specs.Prelude.{◌≡◌, ◌≤◌, ◌++◌, [], length, map};
 ghost use Rattle.tcp_wire.specs.Position.{number};
-ghost use Rattle.tcp_wire.specs.View.{content, content_of, option_content};
-ghost use Rattle.tcp_wire.specs.Wire.{IsValid, wire_length};
+ghost use Rattle.tcp_wire.specs.View.{content_of, option_content};
+ghost use Rattle.tcp_wire.specs.Wire.{IsValid};
 ghost use Rattle.tcp_conn.specs.Blocks.{blocks_to_report, sack_options};
-ghost use Rattle.tcp_conn.specs.Config.{max_mss};
+ghost use Rattle.tcp_halves.specs.Config.{max_mss};
 ghost use Rattle.tcp_conn.specs.Due.{Lies};
-ghost use Rattle.tcp_conn.specs.Forms.{flags_of, is_sack_offered, permission_options, plain_segment, pushes, reset_from, reset_segment, scale_options, shift_offered, syn_options, syn_segment, text_of};
+ghost use Rattle.tcp_conn.specs.Forms.{is_sack_offered, permission_options, plain_segment, reset_from, reset_segment, scale_options, shift_offered, syn_options, syn_segment, text_of};
 
-use crate::due::Due;
 use crate::endpoint::Endpoint;
-use crate::link::WaitingReset;
-use crate::sender::Sender;
 use crate::windows::MAX_WINDOW;
 use arrayvec::ArrayVec;
 use std::alloc::Allocator;
+use tcp_halves::{Due, WaitingReset};
 use tcp_wire::{Flags, Header, Seq, TcpOption};
 
 /// The bytes of a segment without options and text (RFC 9293, 3.1).
@@ -65,20 +63,6 @@ pub(crate) fn reset_from(port: u16, reset: WaitingReset) -> Header
     }
 }
 
-impl<A: Allocator> Sender<A> {
-    /// Whether the text ends with the last byte of the queue.
-    pub(crate) fn pushes(&self, due: Due) -> bool
-        requires { Lies self.now max_mss due }
-        ensures { result ≡ pushes self.now due }
-    {
-        let count = due.count();
-        if count == 0 {
-            return false;
-        }
-        self.place_of(self.start_of(due)) + count as u64 == self.queue.len() as u64
-    }
-}
-
 impl<A: Allocator> Endpoint<A> {
     /// The sequence number of a position of the own direction (RFC 9293, 3.4).
     pub(crate) fn number_of(&self, position: u64) -> Seq
@@ -91,7 +75,7 @@ impl<A: Allocator> Endpoint<A> {
     pub(crate) fn shift_offered(&self) -> Option<u8>
         ensures { result ≡ shift_offered self.now }
     {
-        if self.receiver.is_opened() && !self.link.scaling {
+        if self.receiver.opened && !self.link.scaling {
             None
         } else {
             self.config.window_shift
@@ -102,7 +86,7 @@ impl<A: Allocator> Endpoint<A> {
     pub(crate) fn is_sack_offered(&self) -> bool
         ensures { result ≡ is_sack_offered self.now }
     {
-        if self.receiver.is_opened() {
+        if self.receiver.opened {
             self.link.sack
         } else {
             self.config.sack
@@ -124,19 +108,19 @@ impl<A: Allocator> Endpoint<A> {
     pub(crate) fn syn_header(&self) -> Header
         ensures { content_of result (syn_options self.now) 0 [] ≡ syn_segment self.now }
     {
-        let opened = self.receiver.is_opened();
+        let opened = self.receiver.opened;
         Header {
             src_port: self.config.port,
             dst_port: self.peer.port,
             seq: self.number_of(0),
-            ack: if opened { self.receiver.next() } else { Seq(0) },
+            ack: if opened { self.receiver.next } else { Seq(0) },
             reserved: 0,
             flags: if opened {
                 Flags::SYN.union(Flags::ACK)
             } else {
                 Flags::SYN
             },
-            window: self.receiver.window().min(MAX_WINDOW) as u16,
+            window: self.receiver.inbox.window().min(MAX_WINDOW) as u16,
             urgent: 0,
         }
     }
@@ -149,24 +133,6 @@ impl<A: Allocator> Endpoint<A> {
         reset_from(self.config.port, reset)
     }
 
-    /// The control bits of any other segment: ACK, PSH where the text ends with the last byte of the queue, FIN.
-    fn flags(&self, due: Due) -> Flags
-        requires { Lies self.now.sending max_mss due }
-        ensures value { result.0 ≡ flags_of self.now.sending due }
-        ensures fits { result.0 < 2 ^ 8 }
-    {
-        let push = if self.sender.pushes(due) {
-            Flags::ACK.union(Flags::PSH)
-        } else {
-            Flags::ACK
-        };
-        if due.is_fin() {
-            push.union(Flags::FIN)
-        } else {
-            push
-        }
-    }
-
     /// The fixed header of any other segment.
     pub(crate) fn plain_header(&self, due: Due) -> Header
         requires lies { Lies self.now.sending max_mss due }
@@ -176,9 +142,9 @@ impl<A: Allocator> Endpoint<A> {
             src_port: self.config.port,
             dst_port: self.peer.port,
             seq: self.number_of(self.sender.start_of(due)),
-            ack: self.receiver.next(),
+            ack: self.receiver.next,
             reserved: 0,
-            flags: self.flags(due),
+            flags: self.sender.flags(due),
             window: self.advertised_window(),
             urgent: 0,
         }

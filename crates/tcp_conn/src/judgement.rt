@@ -6,9 +6,9 @@ ghost use Rattle.tcp_wire.specs.Wire.{max_text_len};
 ghost use Rattle.tcp_conn.specs.Judgement.{acceptable_judgement, ack_judgement, acks_syn, answer_of, closed_judgement, count_numbers, is_foreign, judgement, listen_judgement, phase_judgement, position_near, present_judgement, syn_sent_judgement, unacceptable_judgement};
 
 use crate::endpoint::Endpoint;
-use crate::outcome::Arrival;
-use crate::phase::Phase;
+use crate::phases::{has_peer, is_syn_received};
 use std::alloc::Allocator;
+use tcp_halves::{Arrival, Phase};
 use tcp_wire::{Addr, RawSegment, Seq};
 
 /// Which rule applies to a segment that arrives (RFC 9293, 3.10.7): one case for each, also where two do the same.
@@ -140,7 +140,7 @@ impl<A: Allocator> Endpoint<A> {
     {
         let for_other = dst != self.config.addr || segment.header.dst_port != self.config.port;
         let from_other = src != self.peer.addr || segment.header.src_port != self.peer.port;
-        for_other || self.phase.has_peer() && from_other
+        for_other || has_peer(self.phase) && from_other
     }
 
     /// The rules of its phase.
@@ -160,14 +160,14 @@ impl<A: Allocator> Endpoint<A> {
     pub(crate) fn position_near(&self, number: Seq) -> u64
         ensures { result ≡ position_near self.now number.0 }
     {
-        self.sender.position_of(self.config.isn, number)
+        number.position(self.config.isn, self.sender.una)
     }
 
     /// Whether it acknowledges the own SYN, and nothing else was sent.
     fn acks_syn(&self, segment: &RawSegment<'_>) -> bool
         ensures { result ≡ acks_syn self.now (raw_content segment.now) }
     {
-        self.sender.is_nxt(self.position_near(segment.header.ack))
+        self.position_near(segment.header.ack) == self.sender.nxt
     }
 
     /// Arrival in SYN-SENT (RFC 9293, 3.10.7.3).
@@ -217,7 +217,7 @@ impl<A: Allocator> Endpoint<A> {
         ensures { result ≡ acceptable_judgement self.now (raw_content segment.now) }
     {
         if segment.header.flags.is_rst() {
-            return if segment.header.seq == self.receiver.next() {
+            return if segment.header.seq == self.receiver.next {
                 Judgement::PeerResets
             } else {
                 Judgement::ResetElsewhere
@@ -240,7 +240,7 @@ impl<A: Allocator> Endpoint<A> {
         if segment.header.flags.is_rst() {
             return Judgement::ResetIgnored;
         }
-        let shut = self.receiver.window() == 0;
+        let shut = self.receiver.inbox.window() == 0;
         if shut && segment.header.flags.is_ack() && !segment.header.flags.is_syn() {
             return self.judge_ack(
                 segment,
@@ -256,7 +256,7 @@ impl<A: Allocator> Endpoint<A> {
     fn judge_ack(&self, segment: &RawSegment<'_>, good: Judgement, refused: Judgement) -> Judgement
         ensures { result ≡ ack_judgement self.now (raw_content segment.now) good refused }
     {
-        if self.phase.is_syn_received() {
+        if is_syn_received(self.phase) {
             return if self.acks_syn(segment) {
                 good
             } else {

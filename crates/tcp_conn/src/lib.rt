@@ -2,37 +2,33 @@
 //! bytes go in, segments and bytes for the user come out.
 #![tactic(auto)]
 
-mod acceptable;
 mod arrival;
 mod blocks;
+mod buffers;
 mod calls;
-mod config;
 mod due;
 mod emission;
 mod endings;
 mod endpoint;
+mod fault;
 mod forms;
 mod judgement;
 pub mod laws;
-mod link;
-mod names;
 mod new_end;
-mod options;
-mod outcome;
-mod phase;
-mod receiver;
-mod sender;
+mod phases;
+mod rest;
 mod status;
 mod stray;
 mod timers;
 mod windows;
 mod writing;
 
-pub use config::{Config, ConfigError, DEFAULT_LIMIT, MAX_LIMIT, MAX_MSS, MAX_SHIFT, MIN_MSS};
 pub use emission::EMIT_ROOM;
 pub use endpoint::Endpoint;
-pub use link::{Negotiated, Peer};
-pub use outcome::{Arrival, CallError, Received, Taken};
-pub use phase::{Ending, Phase, Timer};
+pub use rest::{REST_LEN, Rest};
 pub use stray::{RESET_LEN, stray_reset};
+pub use tcp_halves::{
+    Arrival, CallError, Config, ConfigError, DEFAULT_LIMIT, Ending, MAX_LIMIT, MAX_MSS, MAX_SHIFT,
+    MIN_MSS, Negotiated, Peer, Phase, Received, Taken, Timer,
+};
 pub use tcp_sendq::MAX_CAPACITY;

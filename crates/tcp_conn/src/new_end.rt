@@ -1,18 +1,16 @@
 ghost use Rattle.std.specs.Prelude.{◌≡◌, ◌↔◌, ◌+◌, length, IfOk, OnOk};
-ghost use Rattle.tcp_conn.specs.Config.{HasBadCapacity, HasBadMss, HasBadShift, HasBadLimit, IsGoodConfig, IsConfig};
+ghost use Rattle.tcp_halves.specs.Config.{HasBadCapacity, HasBadMss, HasBadShift, HasBadLimit, IsGoodConfig, IsConfig};
 ghost use Rattle.tcp_conn.specs.State.{IsWithin};
-ghost use Rattle.tcp_conn.specs.Sender.{new_sending};
-ghost use Rattle.tcp_conn.specs.Receiver.{new_receiving};
+ghost use Rattle.tcp_halves.specs.Sender.{new_sending};
+ghost use Rattle.tcp_halves.specs.Receiver.{new_receiving};
 ghost use Rattle.tcp_conn.specs.NewEnd.{new_end};
 
-use crate::config::{Config, ConfigError};
 use crate::endpoint::Endpoint;
-use crate::link::{Link, Owed, Peer};
-use crate::options::DEFAULT_MSS;
-use crate::phase::{Ending, Phase};
-use crate::receiver::Receiver;
-use crate::sender::Sender;
+use crate::fault::fault_of;
 use std::alloc::{Allocator, Global};
+use tcp_halves::{
+    Config, ConfigError, DEFAULT_MSS, Ending, Link, Owed, Peer, Phase, Receiver, Sender,
+};
 use tcp_wire::Addr;
 
 impl Endpoint {
@@ -61,7 +59,7 @@ impl<A: Allocator> Endpoint<A> {
         ensures within { IfOk result IsWithin }
     {
         let Addr(_in_range) = config.addr;
-        if let Some(fault) = config.fault() {
+        if let Some(fault) = fault_of(&config) {
             return Err(fault);
         }
         let Ok(sender) = Sender::new_in(send, &config) else {

@@ -1,12 +1,12 @@
 //! What an end tells of itself (RFC 9293, 3.10.6): its peer, what the two SYNs agreed on, and what it keeps for its peer.
 ghost use Rattle.std.specs.Prelude.{◌≡◌, ◌≤◌};
-ghost use Rattle.tcp_conn.specs.Config.{max_mss};
+ghost use Rattle.tcp_halves.specs.Config.{max_mss};
 ghost use Rattle.tcp_conn.specs.Due.{mss_in_use};
 ghost use Rattle.tcp_conn.specs.Status.{in_flight_of, negotiated_of, peer_of, queued_of, room_of};
 
 use crate::endpoint::Endpoint;
-use crate::link::{Negotiated, Peer};
 use std::alloc::Allocator;
+use tcp_halves::{Negotiated, Peer};
 
 impl<A: Allocator> Endpoint<A> {
     /// The peer's address and port: from `connect` on, or from the SYN on that came in LISTEN, and past an end too. `None`
@@ -15,7 +15,7 @@ impl<A: Allocator> Endpoint<A> {
     pub fn peer(&self) -> Option<Peer>
         ensures { result ≡ peer_of self.now }
     {
-        if self.sender.nxt() == 0 {
+        if self.sender.nxt == 0 {
             return None;
         }
         Some(self.peer)
@@ -34,7 +34,7 @@ impl<A: Allocator> Endpoint<A> {
     pub fn negotiated(&self) -> Option<Negotiated>
         ensures { result ≡ negotiated_of self.now }
     {
-        if !self.receiver.is_opened() {
+        if !self.receiver.opened {
             return None;
         }
         Some(Negotiated {
@@ -60,7 +60,7 @@ impl<A: Allocator> Endpoint<A> {
     pub fn queued(&self) -> usize
         ensures { result ≡ queued_of self.now }
     {
-        self.sender.queued()
+        self.sender.queue.len()
     }
 
     /// The text bytes that were sent and aren't acknowledged, at most [`queued`](Self::queued): the text between SND.UNA and
@@ -69,6 +69,6 @@ impl<A: Allocator> Endpoint<A> {
     pub fn in_flight(&self) -> usize
         ensures { result ≡ in_flight_of self.now }
     {
-        self.sender.count_below(self.sender.nxt())
+        self.sender.count_below(self.sender.nxt)
     }
 }

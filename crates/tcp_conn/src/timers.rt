@@ -1,11 +1,12 @@
 ghost use Rattle.std.specs.Prelude.{◌≡◌};
 ghost use Rattle.tcp_conn.specs.State.{IsWithin};
 ghost use Rattle.tcp_conn.specs.Timers.{after_reorder, after_retransmit, after_time_wait, after_timer, needs_probe, sends_again, timer_answer};
-ghost use Rattle.tcp_conn.specs.declared.phase.Timer.TheVariants.{Reorder, Retransmit, TimeWait};
+ghost use Rattle.tcp_halves.specs.declared.phase.Timer.TheVariants.{Reorder, Retransmit, TimeWait};
 
 use crate::endpoint::Endpoint;
-use crate::phase::Timer;
+use crate::phases::{is_handshake, is_time_wait, sends_text};
 use std::alloc::Allocator;
+use tcp_halves::Timer;
 
 impl<A: Allocator> Endpoint<A> {
     /// A timer has run out (RFC 9293, 3.10.8): whether its rule applies. Where it doesn't, nothing changes.
@@ -29,23 +30,23 @@ impl<A: Allocator> Endpoint<A> {
     pub fn timers(&self) -> (bool, bool, bool)
         ensures { result ≡ (timer_answer self.now Retransmit, timer_answer self.now Reorder, timer_answer self.now TimeWait) }
     {
-        let retransmit = self.phase.is_handshake() || self.sends_again() || self.needs_probe();
-        let reorder = self.phase.sends_text() && self.sender.marks_end().is_some();
-        (retransmit, reorder, self.phase.is_time_wait())
+        let retransmit = is_handshake(self.phase) || self.sends_again() || self.needs_probe();
+        let reorder = sends_text(self.phase) && self.sender.queue.last_mark_end().is_some();
+        (retransmit, reorder, is_time_wait(self.phase))
     }
 
     /// Whether something in flight is to go out again at the retransmission timeout.
     fn sends_again(&self) -> bool
         ensures { result ≡ sends_again self.now }
     {
-        self.phase.sends_text() && self.sender.is_in_flight()
+        sends_text(self.phase) && self.sender.una < self.sender.nxt
     }
 
     /// Whether a probe is to be granted at the retransmission timeout.
     fn needs_probe(&self) -> bool
         ensures { result ≡ needs_probe self.now }
     {
-        self.phase.sends_text() && self.sender.is_probe_needed()
+        sends_text(self.phase) && self.sender.is_probe_needed()
     }
 
     /// The retransmission timeout (RFC 9293, 3.8.1 and 3.8.6.1).
@@ -54,7 +55,7 @@ impl<A: Allocator> Endpoint<A> {
         ensures answer { result ≡ timer_answer self.old Retransmit }
         ensures state { self.new ≡ after_retransmit self.old }
     {
-        let handshake = self.phase.is_handshake();
+        let handshake = is_handshake(self.phase);
         let again = self.sends_again();
         let probe = self.needs_probe();
         if again {
@@ -71,10 +72,10 @@ impl<A: Allocator> Endpoint<A> {
         ensures answer { result ≡ timer_answer self.old Reorder }
         ensures state { self.new ≡ after_reorder self.old }
     {
-        if !self.phase.sends_text() {
+        if !sends_text(self.phase) {
             return false;
         }
-        let Some(end) = self.sender.marks_end() else {
+        let Some(end) = self.sender.queue.last_mark_end() else {
             return false;
         };
         self.sender.resend_gaps(end);
@@ -87,7 +88,7 @@ impl<A: Allocator> Endpoint<A> {
         ensures answer { result ≡ timer_answer self.old TimeWait }
         ensures state { self.new ≡ after_time_wait self.old }
     {
-        if !self.phase.is_time_wait() {
+        if !is_time_wait(self.phase) {
             return false;
         }
         self.end_in_order();

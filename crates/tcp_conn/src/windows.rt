@@ -1,5 +1,5 @@
 ghost use Rattle.std.specs.Prelude.{◌≡◌, ◌≤◌};
-ghost use Rattle.tcp_conn.specs.Config.{max_shift};
+ghost use Rattle.tcp_halves.specs.Config.{max_shift};
 ghost use Rattle.tcp_conn.specs.Windows.{advertised_window, own_shift, window_from};
 
 use crate::endpoint::Endpoint;
@@ -25,7 +25,7 @@ impl<A: Allocator> Endpoint<A> {
     pub(crate) fn advertised_window(&self) -> u16
         ensures { result ≡ advertised_window self.now self.now.receiving.inbox }
     {
-        (self.receiver.window() >> self.own_shift()).min(MAX_WINDOW) as u16
+        (self.receiver.inbox.window() >> self.own_shift()).min(MAX_WINDOW) as u16
     }
 
     /// The window that a field of the peer advertises (RFC 7323, 2.3).

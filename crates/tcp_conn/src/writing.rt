@@ -1,39 +1,21 @@
 //! A segment that is due is written.
 ghost use Rattle.std.specs.Prelude.{◌≡◌, ◌≤◌, ◌+◌, ◌++◌, drop, length, map};
-ghost use Rattle.tcp_wire.specs.Checksum.{AreBytes};
 ghost use Rattle.tcp_wire.specs.View.{option_content, text_offset};
 ghost use Rattle.tcp_wire.specs.Wire.{header_len, max_area_len, encoded_bytes, wire_length};
 ghost use Rattle.tcp_conn.specs.Blocks.{blocks_to_report, sack_options};
-ghost use Rattle.tcp_conn.specs.Config.{max_mss};
-ghost use Rattle.tcp_conn.specs.Due.{Lies, count_of};
+ghost use Rattle.tcp_halves.specs.Config.{max_mss};
+ghost use Rattle.tcp_conn.specs.Due.{Lies};
 ghost use Rattle.tcp_conn.specs.Endpoint.{FitsFields};
-ghost use Rattle.tcp_conn.specs.Forms.{plain_segment, reset_segment, segment_of, syn_segment, text_of};
+ghost use Rattle.tcp_conn.specs.Forms.{plain_segment, reset_segment, segment_of, syn_segment};
 ghost use Rattle.tcp_conn.specs.Writing.{bytes_of, destination_of};
 
 use crate::blocks::sack_options;
-use crate::due::Due;
 use crate::emission::EMIT_ROOM;
 use crate::endpoint::Endpoint;
 use crate::forms::HEADER_LEN;
-use crate::link::WaitingReset;
-use crate::sender::Sender;
 use std::alloc::Allocator;
+use tcp_halves::{Due, WaitingReset};
 use tcp_wire::{Addr, TcpOption, write_around};
-
-impl<A: Allocator> Sender<A> {
-    /// Copies the text of what is due.
-    pub(crate) fn copy(&self, due: Due, out: &mut [u8])
-        requires lies { Lies self.now max_mss due }
-        requires len { length out.old ≡ count_of due }
-        ensures text { out.new ≡ text_of self.now due }
-        ensures bytes { AreBytes out.new }
-    {
-        if !out.is_empty() {
-            let place = self.place_of(self.start_of(due));
-            self.queue.copy(place as usize, out);
-        }
-    }
-}
 
 impl<A: Allocator> Endpoint<A> {
     /// Each of its numbers fits its field of a segment, as callers learn; it does nothing when it runs.
@@ -41,7 +23,7 @@ impl<A: Allocator> Endpoint<A> {
         ensures { FitsFields self.now }
     {
         let _peer_port = self.peer.port;
-        let _next = self.receiver.next();
+        let _next = self.receiver.next;
     }
 
     /// Writes the own SYN at the start of `out`, and answers its length.

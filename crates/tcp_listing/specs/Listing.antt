@@ -6,7 +6,7 @@ use Rattle.tcp_wire.specs.Wire.{Content}
 use Rattle.tcp_wire.specs.Decoded.{decode_answer}
 use Rattle.tcp_text.specs.Lines.{ascii_lines}
 use Rattle.tcp_text.specs.Words.{words_of, bytes_of, addr_of}
-use Rattle.tcp_text.specs.Segments.{fields_text, named_fault_text}
+use Rattle.tcp_text.specs.Segments.{meaning_text, is_malformed}
 use Rattle.tcp_listing.specs.declared.packet.Packet.{Packet}
 use Rattle.tcp_listing.specs.declared.listing.Listing.{Listing}
 
@@ -16,7 +16,7 @@ pub record PacketContent : Type 0 where
   pub dst : List ℕ
   pub bytes : List ℕ
 
-abbrev pub packet_content : Packet → PacketContent
+abbrev pub packet_content : {A : Type 0} → Packet A → PacketContent
 packet_content p = record { src = p.src.0; dst = p.dst.0; bytes = p.bytes.items }
 
 abbrev pub packet_from : List ℕ → List ℕ → List ℕ → PacketContent
@@ -37,14 +37,6 @@ packet_of line = packet_of_words (words_of line)
 -- WHAT ITS BYTES SAY
 abbrev pub meaning_of : PacketContent → Result Content DecodeError
 meaning_of p = decode_answer p.src p.dst p.bytes
-
-abbrev pub meaning_text : Result Content DecodeError → List ℕ
-meaning_text (Ok v) = fields_text v
-meaning_text (Err e) = named_fault_text e
-
-abbrev pub is_malformed : Result Content DecodeError → Bool
-is_malformed (Ok v) = false
-is_malformed (Err e) = true
 
 -- THE SEGMENTS of a list up to its first bad line, each with the number of its line and what its bytes say
 abbrev pub Segments : Type 0
@@ -88,7 +80,7 @@ pub record ListingContent : Type 0 where
   pub text : List ℕ
   pub answer : Result Bool ℕ
 
-abbrev pub listing_content : Listing → ListingContent
+abbrev pub listing_content : {A : Type 0} → Listing A → ListingContent
 listing_content l = record { text = string_bytes l.text; answer = l.answer }
 
 abbrev pub listing_of_segments : Segments → Option ℕ → ListingContent

@@ -3,21 +3,24 @@ ghost use Rattle.std.specs.Prelude.{◌≡◌};
 ghost use Rattle.tcp_text.specs.Words.{Reads};
 ghost use Rattle.tcp_listing.specs.Listing.{packet_content, packet_of};
 
-use std::alloc::Global;
+use std::alloc::{Allocator, Global};
 use tcp_text::{LineError, SPACE, cut, read_addr, read_bytes};
 use tcp_wire::Addr;
 
 /// Bytes that came from one address to another.
 #[derive(Debug, Drop)]
-pub(crate) struct Packet {
+pub(crate) struct Packet<A: Allocator = Global> {
     pub(crate) src: Addr,
     pub(crate) dst: Addr,
-    pub(crate) bytes: Vec<u8>,
+    pub(crate) bytes: Vec<u8, A>,
 }
 
 /// The packet of a line.
 #[tactic(auto, unfolding(crate::specs::Listing::packet_of))]
-pub(crate) fn read_packet(alloc: Global, line: &[u8]) -> Result<Packet, LineError>
+pub(crate) fn read_packet<A: Allocator + Copy>(
+    alloc: A,
+    line: &[u8],
+) -> Result<Packet<A>, LineError>
     ensures { Reads packet_content result (packet_of line.now) }
 {
     let (src, rest) = cut(SPACE, line);

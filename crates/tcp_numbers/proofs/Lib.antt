@@ -2,3 +2,4 @@ pub mod WordSums
 pub mod LaneSums
 pub mod Positions
 pub mod Lemmas
+pub mod FlagNames

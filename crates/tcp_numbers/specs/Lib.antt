@@ -2,3 +2,4 @@ pub mod Position
 pub mod Laws
 pub mod Checksum
 pub mod Flags
+pub mod Texts

@@ -1,10 +1,10 @@
 -- A block seen from one of its places on: what is written, read and left.
-use Rattle.std.proofs.Common.{◌≡◌, ℕ, zero, suc, ◌+◌, ◌-◌, ◌<◌, ◌≤◌, List, [], ◌∷◌, ◌++◌, length, take, drop, refl, sym, ◌∙◌, ap, arith, append_assoc, length-append, length-drop, length-take}
-use Rattle.std.specs.Prelude.{min}
-use Rattle.std.proofs.lemmas.List.{take-append-drop, take_min, drop_min, drop-drop, drop-append-le, take-append-le}
+use Rattle.std.proofs.Common.{◌≡◌, ◌⊎◌, inl, inr, ℕ, zero, suc, ◌+◌, ◌-◌, ◌<◌, ◌≤◌, List, [], ◌∷◌, ◌++◌, length, take, drop, refl, sym, ◌∙◌, ap, arith, append_assoc, length-append, length-drop, length-take}
+use Rattle.std.specs.Prelude.{min, replicate}
+use Rattle.std.proofs.lemmas.List.{take-append-drop, take_min, drop_min, drop-drop, drop-append-le, take-append-le, length-replicate, take-replicate, drop-replicate}
 use Rattle.tcp_reasm.specs.declared.table.Run.{Run as Entry}
 use Rattle.tcp_reasm.specs.Reassembly.{stamp_of_run}
-use Rattle.tcp_reasm.specs.Store.{turned, put, runs_in, ranked, laid, fresh_byte}
+use Rattle.tcp_reasm.specs.Store.{turned, filled, put, IsRing, runs_in, ranked, laid, fresh_byte}
 
 pub length_put : (start : ℕ) (text bytes : List ℕ) → length (put start text bytes) ≡ length bytes
 length_put start text [] = refl
@@ -16,10 +16,6 @@ pub put_nothing : (start : ℕ) (bytes : List ℕ) → put start [] bytes ≡ by
 put_nothing start [] = refl
 put_nothing zero (byte ∷ bytes) = refl
 put_nothing (suc start) (byte ∷ bytes) = ap (λ rest. byte ∷ rest) (put_nothing start bytes)
-
-pub put_none : (start : ℕ) (text bytes : List ℕ) → length text ≡ 0 → bytes ≡ put start text bytes
-put_none start [] bytes none = sym (put_nothing start bytes)
-put_none start (x ∷ text) bytes none = absurd (omega (arith, none))
 
 nothing_left : (start : ℕ) (text : List ℕ) (end : ℕ) → start + length text ≡ end → end ≡ 0 → take start [] ++ (text ++ drop end []) ≡ []
 nothing_left zero [] zero e h = refl
@@ -74,6 +70,15 @@ take_put (suc n) at text [] h = refl
 take_put (suc n) zero text (byte ∷ bytes) h = absurd (omega arith)
 take_put (suc n) (suc at) text (byte ∷ bytes) h = ap (λ rest. byte ∷ rest) (take_put n at text bytes (omega arith))
 
+-- before another list
+put_before : (start : ℕ) (text bytes others : List ℕ) → start + length text ≤ length bytes → put start text (bytes ++ others) ≡ put start text bytes ++ others
+put_before zero [] [] others h = put_nothing 0 others
+put_before zero (new ∷ text) [] others h = absurd (omega (arith, h))
+put_before (suc start) text [] others h = absurd (omega (arith, h))
+put_before zero [] (byte ∷ bytes) others h = refl
+put_before zero (new ∷ text) (byte ∷ bytes) others h = ap (λ rest. new ∷ rest) (put_before zero text bytes others (omega arith))
+put_before (suc start) text (byte ∷ bytes) others h = ap (λ rest. byte ∷ rest) (put_before start text bytes others (omega arith))
+
 -- before a place
 pub drop_put_before : (n start : ℕ) (text bytes : List ℕ) → start + length text ≤ n → drop n (put start text bytes) ≡ drop n bytes
 drop_put_before n start text [] h = refl
@@ -95,6 +100,14 @@ take_put_before (suc n) (suc start) text (byte ∷ bytes) h = ap (λ rest. byte 
 
 pub length_turned : (start : ℕ) (bytes : List ℕ) → length (turned start bytes) ≡ length bytes
 length_turned start bytes = omega (arith, length-append (drop start bytes) (take start bytes), length-drop start bytes, length-take start bytes)
+
+-- a text that ends before the block's end
+pub turned_put_before : (start place : ℕ) (text block after : List ℕ) → place + length text ≤ length block - start → after ≡ put (start + place) text block → turned start after ≡ put place text (turned start block)
+turned_put_before start place text block after fits a =
+    ap (turned start) a
+    ∙ ap (λ (back : List ℕ). back ++ take start (put (start + place) text block)) (drop_put start place (start + place) text block refl)
+    ∙ ap (λ (front : List ℕ). put place text (drop start block) ++ front) (take_put start (start + place) text block (omega arith))
+    ∙ sym (put_before place text (drop start block) (take start block) (omega (arith, fits, length-drop start block)))
 
 -- a text that begins before the block's end: what of it fits before the end, and the rest from the block's start on
 pub turned_put_split : (start place room : ℕ) (text block middle after : List ℕ) → place + room ≡ length block - start → start ≤ length block → place + length text ≤ length block →
@@ -215,6 +228,97 @@ turned_over start count past block e before starts =
     ∙ append_assoc (drop past front) back (take past front)
     ∙ ap (λ (x : List ℕ). x ++ (back ++ take past front)) (sym (drop_past count past back front size))
     ∙ ap (λ (x : List ℕ). drop count (back ++ front) ++ x) (sym (take_past count past back front size))
+
+-- the start, so many bytes further on in the block
+pub further_on : (start count capacity further : ℕ) (block : List ℕ) → length block ≡ capacity → start ≤ capacity → count ≤ capacity →
+    ((count < capacity - start) × (further ≡ start + count)) ⊎ ((capacity - start ≤ count) × (further ≡ count - (capacity - start))) →
+    turned further block ≡ drop count (turned start block) ++ take count (turned start block)
+further_on start count capacity further block size starts fits (inl h) =
+    ap (λ n. turned n block) h.1 ∙ turned_before start count block (omega (arith, h.0)) (omega arith)
+further_on start count capacity further block size starts fits (inr h) =
+    turned_over start count further block (omega (arith, h.0, h.1)) (omega (arith, h.0, h.1)) (omega arith)
+
+-- ---- zeros behind what was written
+
+pub length_filled : (size : ℕ) (bytes : List ℕ) → length bytes ≤ size → length (filled size bytes) ≡ size
+length_filled size bytes h = omega (arith, length-append bytes (replicate (size - length bytes) 0), length-replicate {A = ℕ} (size - length bytes) 0)
+
+-- no more is written than there is room for
+put_within : (size at : ℕ) (text before after : List ℕ) → filled size after ≡ put at text (filled size before) → length before ≤ size → length after ≤ size
+put_within size at text before after e h =
+    omega (arith, length-append after (replicate (size - length after) 0), ap length e, length_put at text (filled size before), length_filled size before h)
+
+-- what always holds of a ring, afterwards
+pub ring_written : (room larger capacity start at : ℕ) (text before after : List ℕ) → IsRing room capacity start before → room ≤ larger → filled capacity after ≡ put at text (filled capacity before) → IsRing larger capacity start after
+ring_written room larger capacity start at text before after ring more e = record {
+  within = put_within capacity at text before after e ring.within;
+  fits = omega (arith, ring.fits, more);
+  most = ring.most;
+  starts = ring.starts;
+}
+
+-- over bytes that were written
+pub filled_over : (size start : ℕ) (text bytes : List ℕ) → start + length text ≤ length bytes → filled size (put start text bytes) ≡ put start text (filled size bytes)
+filled_over size start text bytes h =
+    ap (λ n. put start text bytes ++ replicate (size - n) 0) (length_put start text bytes)
+    ∙ sym (put_before start text bytes (replicate (size - length bytes) 0) h)
+
+first_filled : (count size : ℕ) (bytes : List ℕ) → count ≤ length bytes + size → take count bytes ++ replicate (count - length bytes) 0 ≡ take count (bytes ++ replicate size 0)
+first_filled zero size bytes h = let none : 0 - length bytes ≡ 0 = omega arith in ap (λ n. replicate {A = ℕ} n 0) none
+first_filled (suc count) size [] h =
+    let whole : suc count - 0 ≡ suc count = omega arith in
+    ap (λ n. replicate {A = ℕ} n 0) whole ∙ sym (take-replicate {X = ℕ} (suc count) size 0 (omega (arith, h)))
+first_filled (suc count) size (byte ∷ bytes) h =
+    let less : suc count - suc (length bytes) ≡ count - length bytes = omega arith in
+    ap (λ n. byte ∷ (take count bytes ++ replicate n 0)) less ∙ ap (λ rest. byte ∷ rest) (first_filled count size bytes (omega (arith, h)))
+
+length_filled_least : (size : ℕ) (bytes : List ℕ) → size ≤ length (filled size bytes)
+length_filled_least size bytes = omega (arith, length-append bytes (replicate (size - length bytes) 0), length-replicate {A = ℕ} (size - length bytes) 0)
+
+read_from : (count start size : ℕ) (bytes : List ℕ) → start + count ≤ length bytes + size →
+    take count (drop start bytes) ++ replicate (count - (length bytes - start)) 0 ≡ take count (drop start (bytes ++ replicate size 0))
+read_from count zero size bytes h =
+    let same : count - (length bytes - 0) ≡ count - length bytes = omega arith in
+    ap (λ n. take count bytes ++ replicate n 0) same ∙ first_filled count size bytes (omega (arith, h))
+read_from count (suc start) size [] h =
+    let whole : count - (0 - suc start) ≡ count = omega arith in
+    ap (λ (x : List ℕ). x ++ replicate (count - (0 - suc start)) 0) (take_nil count)
+    ∙ ap (λ n. replicate n 0) whole
+    ∙ sym (take-replicate {X = ℕ} count (size - suc start) 0 (omega (arith, h)))
+    ∙ sym (ap (take count) (drop-replicate {X = ℕ} (suc start) size 0))
+read_from count (suc start) size (byte ∷ bytes) h =
+    let same : suc (length bytes) - suc start ≡ length bytes - start = omega arith in
+    ap (λ n. take count (drop start bytes) ++ replicate (count - n) 0) same ∙ read_from count start size bytes (omega (arith, h))
+
+-- as far as a text's first place
+pub length_reached : (start : ℕ) (bytes : List ℕ) → length (take start bytes ++ replicate (start - length bytes) 0) ≡ start
+length_reached start bytes =
+    omega (arith, length-append (take start bytes) (replicate (start - length bytes) 0), length-take start bytes, length-replicate {A = ℕ} (start - length bytes) 0)
+
+-- over the end of what was written, or behind it
+pub filled_behind : (size start : ℕ) (text bytes : List ℕ) → length bytes ≤ start + length text → start + length text ≤ size →
+    filled size ((take start bytes ++ replicate (start - length bytes) 0) ++ text) ≡ put start text (filled size bytes)
+filled_behind size start text bytes over fits =
+    let end = start + length text in
+    let front = take start bytes ++ replicate (start - length bytes) 0 in
+    let whole = filled size bytes in
+    let left : size - length (front ++ text) ≡ size - end = omega (arith, length_reached start bytes, length-append front text) in
+    let behind : size - end ≡ (size - length bytes) - (end - length bytes) = omega arith in
+    let zeros : replicate (size - end) 0 ≡ drop end whole =
+    ap (λ n. replicate {A = ℕ} n 0) behind
+    ∙ sym (drop-replicate {X = ℕ} (end - length bytes) (size - length bytes) 0)
+    ∙ sym (drop_past end (end - length bytes) bytes (replicate (size - length bytes) 0) (omega arith)) in
+    ap (λ n. (front ++ text) ++ replicate n 0) left
+    ∙ append_assoc front text (replicate (size - end) 0)
+    ∙ ap (λ (x : List ℕ). front ++ (text ++ x)) zeros
+    ∙ ap (λ (x : List ℕ). x ++ (text ++ drop end whole)) (first_filled start (size - length bytes) bytes (omega arith))
+    ∙ put_is start text whole end refl (omega (arith, length_filled_least size bytes))
+
+-- reading over the end of what was written, or behind it
+pub read_filled : (count left start size : ℕ) (bytes : List ℕ) → left ≡ count - (length bytes - start) → start + count ≤ size →
+    take count (drop start bytes) ++ replicate left 0 ≡ take count (drop start (filled size bytes))
+read_filled count left start size bytes l fits =
+    ap (λ n. take count (drop start bytes) ++ replicate n 0) l ∙ read_from count start (size - length bytes) bytes (omega arith)
 
 -- a part of what is left behind a place
 pub split_drop : (n m k : ℕ) (bytes : List ℕ) → n + m ≡ k → take m (drop n bytes) ++ drop k bytes ≡ drop n bytes

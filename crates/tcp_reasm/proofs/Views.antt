@@ -1,5 +1,5 @@
--- What a call makes of the block and the table is seen as what the definitions make of an inbox.
-use Rattle.std.proofs.Common.{◌≡◌, ℕ, suc, ◌+◌, ◌-◌, ◌<◌, ◌≤◌, ◌⊎◌, inl, inr, List, [], ◌∷◌, ◌++◌, length, take, drop, refl, sym, ◌∙◌, ap, arith, length-drop, length-take, append-nil}
+-- What a call makes of the ring and the table is seen as what the definitions make of an inbox.
+use Rattle.std.proofs.Common.{◌≡◌, ℕ, suc, ◌+◌, ◌-◌, ◌<◌, ◌≤◌, inl, inr, List, [], ◌∷◌, ◌++◌, length, take, drop, refl, sym, ◌∙◌, ap, arith, length-drop, length-take, append-nil}
 use Rattle.std.specs.Prelude.{min, map, replicate, Option, Some, None}
 use Rattle.std.specs.List.{AllByRecursion}
 use Rattle.std.proofs.lemmas.Bool.{cases_lt}
@@ -7,14 +7,11 @@ use Rattle.std.proofs.lemmas.List.{drop-drop, drop-append-le, take-append-le, dr
 use Rattle.tcp_reasm.specs.declared.table.Run.{Run as Entry}
 use Rattle.tcp_reasm.specs.Reassembly.{Cell, Inbox, IsInbox, Run, max_runs, overlay, greatest_stamp, bytes_in_order, runs, runs_newest_first, with_ranks, with_overlay, stamp_of_run, after_read, without_held, empty_inbox, blocks, max_blocks}
 use Rattle.tcp_reasm.specs.Laws.{SomeCovers, cell_at}
-use Rattle.tcp_reasm.specs.Store.{turned, run_of, runs_in, ranked, cells, inbox_of, IsInside, AreAway, IsKept, rest_of, union_of, moved, laid, overlay_at}
+use Rattle.tcp_reasm.specs.Store.{run_of, runs_in, ranked, cells, inbox_of, IsInside, AreAway, IsKept, rest_of, union_of, moved, laid, overlay_at}
 use Rattle.tcp_reasm.proofs.Described.{Described, described_newest, described_count, described_ranks, stamp_or}
 use Rattle.tcp_reasm.proofs.Joins.{piece_of, joined_described, moved_described, kept_described, after_first, ranked_joined, ranked_moved, union_count, length_rest, union_wraps, union_within, length_ranked, moved_inside, moved_away, joined_inside, joined_are_away}
 use Rattle.tcp_reasm.proofs.Laying.{length_cells, length_laid, cells_none, cells_append, overlay_cells, drop_cells, in_order_cells, none_in_order, greatest_cells, stamp_missing, stamp_beyond, first_missing}
-use Rattle.tcp_reasm.proofs.Rings.{length_turned, take_further, turned_before, turned_over}
-
-window_bytes : (start unread : ℕ) (block : List ℕ) → length (drop unread (turned start block)) ≡ length block - unread
-window_bytes start unread block = omega (arith, length-drop unread (turned start block), length_turned start block)
+use Rattle.tcp_reasm.proofs.Rings.{take_further, length_turned as length_advanced}
 
 -- the places with a piece laid over them
 pub laid_over : (bytes text : List ℕ) (start end : ℕ) (all : List Run) → start + length text ≡ end → AllByRecursion (IsInside (length bytes)) all →
@@ -73,27 +70,27 @@ inbox_parts capacity other unread others held places c u h =
     ap (λ n. inbox n unread held) c ∙ ap (λ (bytes : List ℕ). inbox other bytes held) u ∙ ap (λ (ps : List (Option Cell)). inbox other others ps) h
 
 -- a piece that is held
-pub held_view : (block after : List ℕ) (start unread : ℕ) (table table' : List Entry) (place end n : ℕ) (text : List ℕ) → 0 < place → place + length text ≡ end → place < end → unread ≤ length block → end ≤ length block - unread →
-    AllByRecursion (IsInside (length block - unread)) (runs_in table) → AreAway (runs_in table) →
-    length after ≡ length block → take unread (turned start after) ≡ take unread (turned start block) →
-    drop unread (turned start after) ≡ laid (stamp_of_run (ranked (runs_in table))) 0 place text (drop unread (turned start block)) →
+pub held_view : (ring after : List ℕ) (unread : ℕ) (table table' : List Entry) (place end n : ℕ) (text : List ℕ) → 0 < place → place + length text ≡ end → place < end → unread ≤ length ring → end ≤ length ring - unread →
+    AllByRecursion (IsInside (length ring - unread)) (runs_in table) → AreAway (runs_in table) →
+    length after ≡ length ring → take unread after ≡ take unread ring →
+    drop unread after ≡ laid (stamp_of_run (ranked (runs_in table))) 0 place text (drop unread ring) →
     (let piece = piece_of place end n in runs_in table' ≡ union_of piece piece (runs_in table) ∷ rest_of piece (runs_in table)) →
-    inbox_of after start unread table' ≡ with_overlay (inbox_of block start unread table) (overlay_at (inbox_of block start unread table) place text)
-held_view block after start unread table table' place end n text gap e some room fits inside away size front behind joined =
+    inbox_of after unread table' ≡ with_overlay (inbox_of ring unread table) (overlay_at (inbox_of ring unread table) place text)
+held_view ring after unread table table' place end n text gap e some room fits inside away size front behind joined =
     let all = runs_in table in
-    let bytes = drop unread (turned start block) in
-    let over = overlay_at (inbox_of block start unread table) place text in
-    let wide : length bytes ≡ length block - unread = window_bytes start unread block in
+    let bytes = drop unread ring in
+    let over = overlay_at (inbox_of ring unread table) place text in
+    let wide : length bytes ≡ length ring - unread = length-drop unread ring in
     let are_inside : AllByRecursion (IsInside (length bytes)) all = rw wide inside in
     let none : bytes_in_order over ≡ [] = held_over bytes text place end all gap e are_inside in
-    let unread_same : take unread (turned start after) ≡ take unread (turned start block) ++ bytes_in_order over =
-    front ∙ sym (append-nil (take unread (turned start block))) ∙ ap (λ (rest : List ℕ). take unread (turned start block) ++ rest) (sym none) in
-    let held_same : cells (stamp_of_run (ranked (runs_in table'))) 0 (drop unread (turned start after)) ≡ with_ranks (drop (length (bytes_in_order over)) over) =
-    ap (λ (rs : List Run). cells (stamp_of_run (ranked rs)) 0 (drop unread (turned start after))) joined
+    let unread_same : take unread after ≡ take unread ring ++ bytes_in_order over =
+    front ∙ sym (append-nil (take unread ring)) ∙ ap (λ (rest : List ℕ). take unread ring ++ rest) (sym none) in
+    let held_same : cells (stamp_of_run (ranked (runs_in table'))) 0 (drop unread after) ≡ with_ranks (drop (length (bytes_in_order over)) over) =
+    ap (λ (rs : List Run). cells (stamp_of_run (ranked rs)) 0 (drop unread after)) joined
     ∙ ap (cells (stamp_of_run (ranked (union_of (piece_of place end n) (piece_of place end n) all ∷ rest_of (piece_of place end n) all))) 0) behind
     ∙ sym (ranks_over bytes text place end n all e some (omega arith) are_inside away)
     ∙ ap (λ (front_bytes : List ℕ). with_ranks (drop (length front_bytes) over)) (sym none) in
-    inbox_parts (length after) (length block) (take unread (turned start after)) (take unread (turned start block) ++ bytes_in_order over) (cells (stamp_of_run (ranked (runs_in table'))) 0 (drop unread (turned start after))) (with_ranks (drop (length (bytes_in_order over)) over))
+    inbox_parts (length after) (length ring) (take unread after) (take unread ring ++ bytes_in_order over) (cells (stamp_of_run (ranked (runs_in table'))) 0 (drop unread after)) (with_ranks (drop (length (bytes_in_order over)) over))
     size unread_same held_same
 
 nothing_first : (count : ℕ) (all : List Run) → AllByRecursion (λ (run : Run). count < run.from) all → SomeCovers all count → ⊥
@@ -150,76 +147,76 @@ ranks_after bytes text end n count all e some fits inside away is_count =
     ∙ ap (λ (rs : List Run). cells (stamp_of_run rs) 0 (drop count after)) (ranked_moved 0 end (suc (length all)) n count all)
 
 -- a piece that begins at the next byte
-pub advanced_view : (block after : List ℕ) (start unread count : ℕ) (table table' : List Entry) (end n : ℕ) (text : List ℕ) → length text ≡ end → 0 < end → unread ≤ length block → end ≤ length block - unread →
-    AllByRecursion (IsInside (length block - unread)) (runs_in table) → AreAway (runs_in table) →
-    length after ≡ length block → take unread (turned start after) ≡ take unread (turned start block) →
-    drop unread (turned start after) ≡ laid (stamp_of_run (ranked (runs_in table))) 0 0 text (drop unread (turned start block)) →
+pub advanced_view : (ring after : List ℕ) (unread count : ℕ) (table table' : List Entry) (end n : ℕ) (text : List ℕ) → length text ≡ end → 0 < end → unread ≤ length ring → end ≤ length ring - unread →
+    AllByRecursion (IsInside (length ring - unread)) (runs_in table) → AreAway (runs_in table) →
+    length after ≡ length ring → take unread after ≡ take unread ring →
+    drop unread after ≡ laid (stamp_of_run (ranked (runs_in table))) 0 0 text (drop unread ring) →
     (let piece = piece_of 0 end n in count ≡ (union_of piece piece (runs_in table)).to) →
     (let piece = piece_of 0 end n in runs_in table' ≡ map (moved count) (rest_of piece (runs_in table))) →
-    (let q = inbox_of block start unread table in let over = overlay_at q 0 text in
-    (inbox_of after start (unread + count) table' ≡ with_overlay q over) × (count ≡ length (bytes_in_order over)))
-advanced_view block after start unread count table table' end n text e some room fits inside away size front behind is_count moved_up =
+    (let q = inbox_of ring unread table in let over = overlay_at q 0 text in
+    (inbox_of after (unread + count) table' ≡ with_overlay q over) × (count ≡ length (bytes_in_order over)))
+advanced_view ring after unread count table table' end n text e some room fits inside away size front behind is_count moved_up =
     let all = runs_in table in
-    let bytes = drop unread (turned start block) in
+    let bytes = drop unread ring in
     let new_bytes = laid (stamp_of_run (ranked all)) 0 0 text bytes in
-    let over = overlay_at (inbox_of block start unread table) 0 text in
+    let over = overlay_at (inbox_of ring unread table) 0 text in
     let piece = piece_of 0 end n in
-    let wide : length bytes ≡ length block - unread = window_bytes start unread block in
+    let wide : length bytes ≡ length ring - unread = length-drop unread ring in
     let are_inside : AllByRecursion (IsInside (length bytes)) all = rw wide inside in
     let in_order : bytes_in_order over ≡ take count new_bytes = in_order_over bytes text end n all e some (omega arith) are_inside away ∙ ap (λ k. take k new_bytes) (sym is_count) in
     let within : count ≤ length bytes = omega (arith, union_within (length bytes) piece piece all (omega arith) are_inside) in
     let counted : length (bytes_in_order over) ≡ count = ap length in_order ∙ omega (arith, length-take count new_bytes, length_laid (stamp_of_run (ranked all)) 0 0 text bytes) in
-    let unread_same : take (unread + count) (turned start after) ≡ take unread (turned start block) ++ bytes_in_order over =
-    sym (take_further unread count (turned start after))
-    ∙ ap (λ (x : List ℕ). x ++ take count (drop unread (turned start after))) front
-    ∙ ap (λ (x : List ℕ). take unread (turned start block) ++ take count x) behind
-    ∙ ap (λ (x : List ℕ). take unread (turned start block) ++ x) (sym in_order) in
-    let held_same : cells (stamp_of_run (ranked (runs_in table'))) 0 (drop (unread + count) (turned start after)) ≡ with_ranks (drop (length (bytes_in_order over)) over) =
-    ap (λ (rs : List Run). cells (stamp_of_run (ranked rs)) 0 (drop (unread + count) (turned start after))) moved_up
-    ∙ ap (cells (stamp_of_run (ranked (map (moved count) (rest_of piece all)))) 0) (sym (drop-drop count unread (turned start after)) ∙ ap (drop count) behind)
+    let unread_same : take (unread + count) after ≡ take unread ring ++ bytes_in_order over =
+    sym (take_further unread count after)
+    ∙ ap (λ (x : List ℕ). x ++ take count (drop unread after)) front
+    ∙ ap (λ (x : List ℕ). take unread ring ++ take count x) behind
+    ∙ ap (λ (x : List ℕ). take unread ring ++ x) (sym in_order) in
+    let held_same : cells (stamp_of_run (ranked (runs_in table'))) 0 (drop (unread + count) after) ≡ with_ranks (drop (length (bytes_in_order over)) over) =
+    ap (λ (rs : List Run). cells (stamp_of_run (ranked rs)) 0 (drop (unread + count) after)) moved_up
+    ∙ ap (cells (stamp_of_run (ranked (map (moved count) (rest_of piece all)))) 0) (sym (drop-drop count unread after) ∙ ap (drop count) behind)
     ∙ sym (ranks_after bytes text end n count all e some (omega arith) are_inside away is_count)
     ∙ ap (λ k. with_ranks (drop k over)) (sym counted) in (
-      inbox_parts (length after) (length block) (take (unread + count) (turned start after)) (take unread (turned start block) ++ bytes_in_order over) (cells (stamp_of_run (ranked (runs_in table'))) 0 (drop (unread + count) (turned start after))) (with_ranks (drop (length (bytes_in_order over)) over))
+      inbox_parts (length after) (length ring) (take (unread + count) after) (take unread ring ++ bytes_in_order over) (cells (stamp_of_run (ranked (runs_in table'))) 0 (drop (unread + count) after)) (with_ranks (drop (length (bytes_in_order over)) over))
           size unread_same held_same,
       sym counted,
     )
 
 -- ---- a table alone
 
-pub blocks_view : (block : List ℕ) (start unread : ℕ) (table : List Entry) → AllByRecursion (IsInside (length block - unread)) (runs_in table) → AreAway (runs_in table) →
-    runs_newest_first (runs (inbox_of block start unread table).held) ≡ ranked (runs_in table)
-blocks_view block start unread table inside away =
-    let bytes = drop unread (turned start block) in
-    let wide : length bytes ≡ length block - unread = window_bytes start unread block in
+pub blocks_view : (ring : List ℕ) (unread : ℕ) (table : List Entry) → AllByRecursion (IsInside (length ring - unread)) (runs_in table) → AreAway (runs_in table) →
+    runs_newest_first (runs (inbox_of ring unread table).held) ≡ ranked (runs_in table)
+blocks_view ring unread table inside away =
+    let bytes = drop unread ring in
+    let wide : length bytes ≡ length ring - unread = length-drop unread ring in
     described_newest (stamp_of_run (ranked (runs_in table))) bytes (ranked (runs_in table)) (kept_described (length bytes) (runs_in table) (rw wide inside) away)
 
-pub count_view : (block : List ℕ) (start unread : ℕ) (table : List Entry) → AllByRecursion (IsInside (length block - unread)) (runs_in table) → AreAway (runs_in table) →
-    length (runs (inbox_of block start unread table).held) ≡ length (runs_in table)
-count_view block start unread table inside away =
-    let bytes = drop unread (turned start block) in
-    let wide : length bytes ≡ length block - unread = window_bytes start unread block in
+pub count_view : (ring : List ℕ) (unread : ℕ) (table : List Entry) → AllByRecursion (IsInside (length ring - unread)) (runs_in table) → AreAway (runs_in table) →
+    length (runs (inbox_of ring unread table).held) ≡ length (runs_in table)
+count_view ring unread table inside away =
+    let bytes = drop unread ring in
+    let wide : length bytes ≡ length ring - unread = length-drop unread ring in
     described_count (stamp_of_run (ranked (runs_in table))) bytes (ranked (runs_in table)) (kept_described (length bytes) (runs_in table) (rw wide inside) away) ∙ length_ranked (runs_in table)
 
-pub missing_view : (block : List ℕ) (start unread : ℕ) (table : List Entry) → AllByRecursion (IsInside (length block - unread)) (runs_in table) →
-    cell_at (inbox_of block start unread table).held 0 ≡ None
-missing_view block start unread table inside =
-    first_missing (stamp_of_run (ranked (runs_in table))) (drop unread (turned start block)) (stamp_missing (length block - unread) (runs_in table) inside)
+pub missing_view : (ring : List ℕ) (unread : ℕ) (table : List Entry) → AllByRecursion (IsInside (length ring - unread)) (runs_in table) →
+    cell_at (inbox_of ring unread table).held 0 ≡ None
+missing_view ring unread table inside =
+    first_missing (stamp_of_run (ranked (runs_in table))) (drop unread ring) (stamp_missing (length ring - unread) (runs_in table) inside)
 
-pub length_held : (block : List ℕ) (start unread : ℕ) (table : List Entry) → length (inbox_of block start unread table).held ≡ length block - unread
-length_held block start unread table =
-    length_cells (stamp_of_run (ranked (runs_in table))) 0 (drop unread (turned start block)) ∙ window_bytes start unread block
+pub length_held : (ring : List ℕ) (unread : ℕ) (table : List Entry) → length (inbox_of ring unread table).held ≡ length ring - unread
+length_held ring unread table =
+    length_cells (stamp_of_run (ranked (runs_in table))) 0 (drop unread ring) ∙ length-drop unread ring
 
 -- nothing held
-pub bare_view : (block : List ℕ) (start unread : ℕ) → (inbox_of block start unread []).held ≡ replicate (length block - unread) None
-bare_view block start unread =
-    cells_none (stamp_of_run []) 0 (drop unread (turned start block)) (λ i h. refl)
-    ∙ ap (λ n. replicate n None) (window_bytes start unread block)
+pub bare_view : (ring : List ℕ) (unread : ℕ) → (inbox_of ring unread []).held ≡ replicate (length ring - unread) None
+bare_view ring unread =
+    cells_none (stamp_of_run []) 0 (drop unread ring) (λ i h. refl)
+    ∙ ap (λ n. replicate n None) (length-drop unread ring)
 
 -- ---- what is seen of the parts
 
-pub seen_parts : (block : List ℕ) (start unread : ℕ) (table : List Entry) (q : Inbox) → inbox_of block start unread table ≡ q → unread ≤ length block → (length q.unread ≡ unread) × (q.capacity ≡ length block)
-seen_parts block start unread table q e fits =
-    (omega (arith, ap (λ (p : Inbox). length p.unread) e, length-take unread (turned start block), length_turned start block), ap (λ (p : Inbox). p.capacity) (sym e))
+pub seen_parts : (ring : List ℕ) (unread : ℕ) (table : List Entry) (q : Inbox) → inbox_of ring unread table ≡ q → unread ≤ length ring → (length q.unread ≡ unread) × (q.capacity ≡ length ring)
+seen_parts ring unread table q e fits =
+    (omega (arith, ap (λ (p : Inbox). length p.unread) e, length-take unread ring), ap (λ (p : Inbox). p.capacity) (sym e))
 
 pub none_moved : (all : List Run) → map (moved 0) all ≡ all
 none_moved [] = refl
@@ -231,42 +228,48 @@ none_moved (run ∷ others) =
     ∙ ap (λ rs. run ∷ rs) (none_moved others)
 
 -- a piece behind a gap: nothing comes in order with it
-pub none_view : (block : List ℕ) (start unread : ℕ) (table : List Entry) (q : Inbox) (place end : ℕ) (text : List ℕ) → inbox_of block start unread table ≡ q → 0 < place → place + length text ≡ end →
-    AllByRecursion (IsInside (length block - unread)) (runs_in table) → bytes_in_order (overlay_at q place text) ≡ []
-none_view block start unread table q place end text seen gap e inside =
-    let bytes = drop unread (turned start block) in
-    let wide : length bytes ≡ length block - unread = window_bytes start unread block in
+pub none_view : (ring : List ℕ) (unread : ℕ) (table : List Entry) (q : Inbox) (place end : ℕ) (text : List ℕ) → inbox_of ring unread table ≡ q → 0 < place → place + length text ≡ end →
+    AllByRecursion (IsInside (length ring - unread)) (runs_in table) → bytes_in_order (overlay_at q place text) ≡ []
+none_view ring unread table q place end text seen gap e inside =
+    let bytes = drop unread ring in
+    let wide : length bytes ≡ length ring - unread = length-drop unread ring in
     ap (λ (p : Inbox). bytes_in_order (overlay_at p place text)) (sym seen)
     ∙ held_over bytes text place end (runs_in table) gap e (rw wide inside)
 
 -- how many runs there are with it
-pub runs_view : (block : List ℕ) (start unread : ℕ) (table : List Entry) (q : Inbox) (place end n : ℕ) (text : List ℕ) → inbox_of block start unread table ≡ q → place + length text ≡ end → place < end → end ≤ length block - unread →
-    AllByRecursion (IsInside (length block - unread)) (runs_in table) → AreAway (runs_in table) →
+pub runs_view : (ring : List ℕ) (unread : ℕ) (table : List Entry) (q : Inbox) (place end n : ℕ) (text : List ℕ) → inbox_of ring unread table ≡ q → place + length text ≡ end → place < end → end ≤ length ring - unread →
+    AllByRecursion (IsInside (length ring - unread)) (runs_in table) → AreAway (runs_in table) →
     length (runs (overlay_at q place text)) ≡ suc (length (rest_of (piece_of place end n) (runs_in table)))
-runs_view block start unread table q place end n text seen e some fits inside away =
-    let bytes = drop unread (turned start block) in
-    let wide : length bytes ≡ length block - unread = window_bytes start unread block in
+runs_view ring unread table q place end n text seen e some fits inside away =
+    let bytes = drop unread ring in
+    let wide : length bytes ≡ length ring - unread = length-drop unread ring in
     ap (λ (p : Inbox). length (runs (overlay_at p place text))) (sym seen)
     ∙ count_over bytes text place end n (runs_in table) e some (omega arith) (rw wide inside) away
 
+pub empty_view : (ring : List ℕ) → inbox_of ring 0 [] ≡ empty_inbox (length ring)
+empty_view ring = ap (λ (places : List (Option Cell)). inbox (length ring) [] places) (bare_view ring 0 ∙ ap (λ n. replicate n None) (omega arith))
+
+-- where nothing is left the bytes tell nothing
+bare_same : (ring after : List ℕ) (left : ℕ) (table : List Entry) → length after ≡ length ring → left ≡ 0 → length table ≡ 0 → inbox_of after left table ≡ inbox_of ring left table
+bare_same ring after left [] size none bare =
+    ap (λ n. inbox_of after n []) none ∙ empty_view after ∙ ap empty_inbox size ∙ sym (empty_view ring) ∙ ap (λ n. inbox_of ring n []) (sym none)
+bare_same ring after left (run ∷ table) size none bare = absurd (omega (arith, bare))
+
 -- the user takes bytes
-read_places : (block : List ℕ) (start unread count : ℕ) (table : List Entry) → count ≤ unread → unread ≤ length block → AllByRecursion (IsInside (length block - unread)) (runs_in table) →
-    let bytes = turned start block in
-    cells (stamp_of_run (ranked (runs_in table))) 0 (drop (unread - count) (drop count bytes ++ take count bytes)) ≡ (inbox_of block start unread table).held ++ replicate count None
-read_places block start unread count table few fits inside =
-    let bytes = turned start block in
+read_places : (ring : List ℕ) (unread count : ℕ) (table : List Entry) → count ≤ unread → unread ≤ length ring → AllByRecursion (IsInside (length ring - unread)) (runs_in table) →
+    cells (stamp_of_run (ranked (runs_in table))) 0 (drop (unread - count) (drop count ring ++ take count ring)) ≡ (inbox_of ring unread table).held ++ replicate count None
+read_places ring unread count table few fits inside =
     let stamps = stamp_of_run (ranked (runs_in table)) in
-    let size : length bytes ≡ length block = length_turned start block in
-    let window : length (drop unread bytes) ≡ length block - unread = window_bytes start unread block in
+    let window : length (drop unread ring) ≡ length ring - unread = length-drop unread ring in
     let whole : count + (unread - count) ≡ unread = omega arith in
     ap (cells stamps 0) (
-    drop-append-le (unread - count) (drop count bytes) (take count bytes) (omega (arith, length-drop count bytes))
-    ∙ ap (λ (x : List ℕ). x ++ take count bytes) (drop-drop (unread - count) count bytes ∙ ap (λ n. drop n bytes) whole)
+    drop-append-le (unread - count) (drop count ring) (take count ring) (omega (arith, length-drop count ring))
+    ∙ ap (λ (x : List ℕ). x ++ take count ring) (drop-drop (unread - count) count ring ∙ ap (λ n. drop n ring) whole)
     )
-    ∙ cells_append stamps 0 (length block - unread) (drop unread bytes) (take count bytes) (omega arith)
-    ∙ ap (λ (x : List (Option Cell)). cells stamps 0 (drop unread bytes) ++ x)
-    (cells_none stamps (length block - unread) (take count bytes) (λ i h. stamp_beyond (length block - unread) i (runs_in table) inside h)
-    ∙ ap (λ n. replicate n None) (omega (arith, length-take count bytes)))
+    ∙ cells_append stamps 0 (length ring - unread) (drop unread ring) (take count ring) (omega arith)
+    ∙ ap (λ (x : List (Option Cell)). cells stamps 0 (drop unread ring) ++ x)
+    (cells_none stamps (length ring - unread) (take count ring) (λ i h. stamp_beyond (length ring - unread) i (runs_in table) inside h)
+    ∙ ap (λ n. replicate n None) (omega (arith, length-take count ring)))
 
 read_bytes : (bytes : List ℕ) (unread count : ℕ) → count ≤ unread → unread ≤ length bytes → take (unread - count) (drop count bytes ++ take count bytes) ≡ drop count (take unread bytes)
 read_bytes bytes unread count few fits =
@@ -275,37 +278,30 @@ read_bytes bytes unread count few fits =
     ∙ sym (drop-take count (unread - count) bytes)
     ∙ ap (λ n. drop count (take n bytes)) whole
 
-pub read_view : (block : List ℕ) (start further unread count n : ℕ) (table : List Entry) → count ≡ min n unread → unread ≤ length block → AllByRecursion (IsInside (length block - unread)) (runs_in table) →
-    turned further block ≡ drop count (turned start block) ++ take count (turned start block) →
-    inbox_of block further (unread - count) table ≡ after_read (inbox_of block start unread table) n
+pub read_view : (ring after : List ℕ) (unread count n : ℕ) (table : List Entry) → count ≡ min n unread → unread ≤ length ring → AllByRecursion (IsInside (length ring - unread)) (runs_in table) →
+    after ≡ drop count ring ++ take count ring → inbox_of after (unread - count) table ≡ after_read (inbox_of ring unread table) n
 unfolding after_read
-read_view block start further unread count n table c fits inside on =
-    let bytes = turned start block in
-    let size : length (take unread bytes) ≡ unread = omega (arith, length-take unread bytes, length_turned start block) in
-    let is_count : count ≡ min n (length (take unread bytes)) = omega arith in
-    inbox_parts (length block) (length block) (take (unread - count) (turned further block)) (drop n (take unread bytes)) (cells (stamp_of_run (ranked (runs_in table))) 0 (drop (unread - count) (turned further block))) ((inbox_of block start unread table).held ++ replicate (min n (length (take unread bytes))) None)
-    refl
-    (ap (take (unread - count)) on ∙ read_bytes bytes unread count (omega arith) (omega (arith, length_turned start block)) ∙ ap (λ k. drop k (take unread bytes)) is_count ∙ drop_min n (take unread bytes))
+read_view ring after unread count n table c fits inside on =
+    let size : length (take unread ring) ≡ unread = omega (arith, length-take unread ring) in
+    let is_count : count ≡ min n (length (take unread ring)) = omega arith in
+    inbox_parts (length after) (length ring) (take (unread - count) after) (drop n (take unread ring)) (cells (stamp_of_run (ranked (runs_in table))) 0 (drop (unread - count) after)) ((inbox_of ring unread table).held ++ replicate (min n (length (take unread ring))) None)
+    (ap length on ∙ length_advanced count ring)
+    (ap (take (unread - count)) on ∙ read_bytes ring unread count (omega arith) fits ∙ ap (λ k. drop k (take unread ring)) is_count ∙ drop_min n (take unread ring))
     (ap (λ (x : List ℕ). cells (stamp_of_run (ranked (runs_in table))) 0 (drop (unread - count) x)) on
-    ∙ read_places block start unread count table (omega arith) fits inside
-    ∙ ap (λ k. (inbox_of block start unread table).held ++ replicate k None) is_count)
+    ∙ read_places ring unread count table (omega arith) fits inside
+    ∙ ap (λ k. (inbox_of ring unread table).held ++ replicate k None) is_count)
 
--- the start, so many bytes further on in the block
-pub further_on : (start count capacity further : ℕ) (block : List ℕ) → length block ≡ capacity → start ≤ capacity → count ≤ capacity →
-    ((count < capacity - start) × (further ≡ start + count)) ⊎ ((capacity - start ≤ count) × (further ≡ count - (capacity - start))) →
-    turned further block ≡ drop count (turned start block) ++ take count (turned start block)
-further_on start count capacity further block size starts fits (inl h) =
-    ap (λ n. turned n block) h.1 ∙ turned_before start count block (omega (arith, h.0)) (omega arith)
-further_on start count capacity further block size starts fits (inr h) =
-    turned_over start count further block (omega (arith, h.0, h.1)) (omega (arith, h.0, h.1)) (omega arith)
+-- all is taken, and nothing is held
+pub emptied_view : (ring after : List ℕ) (unread count n : ℕ) (table : List Entry) → count ≡ min n unread → unread ≤ length ring → AllByRecursion (IsInside (length ring - unread)) (runs_in table) →
+    length after ≡ length ring → unread - count ≡ 0 → length table ≡ 0 → inbox_of after (unread - count) table ≡ after_read (inbox_of ring unread table) n
+emptied_view ring after unread count n table c fits inside size none bare =
+    let on : List ℕ = drop count ring ++ take count ring in
+    bare_same on after (unread - count) table (omega (arith, size, length_advanced count ring)) none bare ∙ read_view ring on unread count n table c fits inside refl
 
-pub empty_view : (block : List ℕ) (start : ℕ) → inbox_of block start 0 [] ≡ empty_inbox (length block)
-empty_view block start = ap (λ (places : List (Option Cell)). inbox (length block) [] places) (bare_view block start 0 ∙ ap (λ n. replicate n None) (omega arith))
-
-pub bare_is_without : (block : List ℕ) (start unread : ℕ) (table : List Entry) → unread ≤ length block → inbox_of block start unread [] ≡ without_held (inbox_of block start unread table)
-bare_is_without block start unread table fits =
-    let size : length (take unread (turned start block)) ≡ unread = omega (arith, length-take unread (turned start block), length_turned start block) in
-    ap (λ (places : List (Option Cell)). inbox (length block) (take unread (turned start block)) places) (bare_view block start unread ∙ ap (λ n. replicate (length block - n) None) (sym size))
+pub bare_is_without : (ring : List ℕ) (unread : ℕ) (table : List Entry) → unread ≤ length ring → inbox_of ring unread [] ≡ without_held (inbox_of ring unread table)
+bare_is_without ring unread table fits =
+    let size : length (take unread ring) ≡ unread = omega (arith, length-take unread ring) in
+    ap (λ (places : List (Option Cell)). inbox (length ring) (take unread ring) places) (bare_view ring unread ∙ ap (λ n. replicate (length ring - n) None) (sym size))
 
 -- ---- the edges
 
@@ -316,64 +312,62 @@ edges_ranked : (all : List Run) → map edges_of (ranked all) ≡ map edges_of a
 edges_ranked [] = refl
 edges_ranked (run ∷ others) = ap (λ (rest : List (ℕ × ℕ)). edges_of run ∷ rest) (edges_ranked others)
 
-pub blocks_are : (block : List ℕ) (start unread count : ℕ) (table : List Entry) → count ≡ min (length table) max_blocks → AllByRecursion (IsInside (length block - unread)) (runs_in table) → AreAway (runs_in table) →
-    map edges_of (runs_in (take count table)) ≡ blocks (inbox_of block start unread table)
+pub blocks_are : (ring : List ℕ) (unread count : ℕ) (table : List Entry) → count ≡ min (length table) max_blocks → AllByRecursion (IsInside (length ring - unread)) (runs_in table) → AreAway (runs_in table) →
+    map edges_of (runs_in (take count table)) ≡ blocks (inbox_of ring unread table)
 unfolding blocks
-blocks_are block start unread count table c inside away =
+blocks_are ring unread count table c inside away =
     ap (λ (entries : List Entry). map edges_of (runs_in entries)) (ap (λ n. take n table) (omega (arith, c)) ∙ take_min max_blocks table)
     ∙ ap (map edges_of) (sym (take-map run_of max_blocks table))
     ∙ sym (take-map edges_of max_blocks (runs_in table))
     ∙ ap (take max_blocks) (sym (edges_ranked (runs_in table)))
     ∙ take-map edges_of max_blocks (ranked (runs_in table))
-    ∙ ap (λ (rs : List Run). map edges_of (take max_blocks rs)) (sym (blocks_view block start unread table inside away))
+    ∙ ap (λ (rs : List Run). map edges_of (take max_blocks rs)) (sym (blocks_view ring unread table inside away))
 
 -- ---- what always holds, afterwards
 
-pub advanced_kept : (block after : List ℕ) (start unread count end n : ℕ) (table table' : List Entry) → IsKept block start unread (runs_in table) → length after ≡ length block → 0 < end → end ≤ length block - unread →
+pub advanced_kept : (ring after : List ℕ) (unread count end n : ℕ) (table table' : List Entry) → IsKept ring unread (runs_in table) → length after ≡ length ring → 0 < end → end ≤ length ring - unread →
     (let piece = piece_of 0 end n in count ≡ (union_of piece piece (runs_in table)).to) →
     (let piece = piece_of 0 end n in runs_in table' ≡ map (moved count) (rest_of piece (runs_in table))) → length (runs_in table') ≤ max_runs →
-    IsKept after start (unread + count) (runs_in table')
-advanced_kept block after start unread count end n table table' kept size some fits is_count moved_up few =
+    IsKept after (unread + count) (runs_in table')
+advanced_kept ring after unread count end n table table' kept size some fits is_count moved_up few =
     let piece = piece_of 0 end n in
     let all = runs_in table in
-    let room = length block - unread in
+    let room = length ring - unread in
     let rest_is : runs_in table' ≡ map (moved (union_of piece piece all).to) (rest_of piece all) = moved_up ∙ ap (λ k. map (moved k) (rest_of piece all)) is_count in
     let left : length after - (unread + count) ≡ room - (union_of piece piece all).to = omega arith in
     let within : (union_of piece piece all).to ≤ room = union_within room piece piece all fits kept.inside in
     record {
       some = omega (arith, kept.some);
       most = omega (arith, kept.most);
-      starts = omega (arith, kept.starts);
       fits = omega (arith, kept.fits);
       inside = rw (left, rest_is) (moved_inside room piece all refl kept.inside kept.away);
       away = rw rest_is (moved_away room piece all refl kept.inside kept.away);
       few = few;
     }
 
-pub held_kept : (block after : List ℕ) (start unread place end n : ℕ) (table table' : List Entry) → IsKept block start unread (runs_in table) → length after ≡ length block → 0 < place → place < end → end ≤ length block - unread →
+pub held_kept : (ring after : List ℕ) (unread place end n : ℕ) (table table' : List Entry) → IsKept ring unread (runs_in table) → length after ≡ length ring → 0 < place → place < end → end ≤ length ring - unread →
     (let piece = piece_of place end n in runs_in table' ≡ union_of piece piece (runs_in table) ∷ rest_of piece (runs_in table)) → length (runs_in table') ≤ max_runs →
-    IsKept after start unread (runs_in table')
-held_kept block after start unread place end n table table' kept size gap some fits joined_up few =
+    IsKept after unread (runs_in table')
+held_kept ring after unread place end n table table' kept size gap some fits joined_up few =
     let piece = piece_of place end n in
     let all = runs_in table in
-    let room = length block - unread in
+    let room = length ring - unread in
     let left : length after - unread ≡ room = omega arith in
     record {
       some = omega (arith, kept.some);
       most = omega (arith, kept.most);
-      starts = omega (arith, kept.starts);
       fits = omega (arith, kept.fits);
       inside = rw (left, joined_up) (joined_inside room piece all (gap, some, fits) kept.inside);
       away = rw joined_up (joined_are_away room piece all kept.inside kept.away);
       few = few;
     }
 
-pub seen_held : (block : List ℕ) (start unread : ℕ) (table : List Entry) (q : Inbox) → inbox_of block start unread table ≡ q → length q.held ≡ length block - unread
-seen_held block start unread table q e = ap (λ (p : Inbox). length p.held) (sym e) ∙ length_held block start unread table
+pub seen_held : (ring : List ℕ) (unread : ℕ) (table : List Entry) (q : Inbox) → inbox_of ring unread table ≡ q → length q.held ≡ length ring - unread
+seen_held ring unread table q e = ap (λ (p : Inbox). length p.held) (sym e) ∙ length_held ring unread table
 
 -- ---- what always holds
 
-pub inside_more : (low high : ℕ) (all : List Run) → low ≤ high → AllByRecursion (IsInside low) all → AllByRecursion (IsInside high) all
+inside_more : (low high : ℕ) (all : List Run) → low ≤ high → AllByRecursion (IsInside low) all → AllByRecursion (IsInside high) all
 inside_more low high [] h inside = tt
 inside_more low high (run ∷ others) h inside = ((inside.0.0, inside.0.1, omega (arith, inside.0.2)), inside_more low high others h inside.1)
 
@@ -382,13 +376,23 @@ none_first [] e = refl
 none_first (None ∷ places) e = refl
 none_first (Some cell ∷ places) e = absurd (cc)
 
-pub kept_sound : (block : List ℕ) (start unread : ℕ) (table : List Entry) → IsKept block start unread (runs_in table) → IsInbox (inbox_of block start unread table)
-kept_sound block start unread table kept =
-    let parts = seen_parts block start unread table (inbox_of block start unread table) refl kept.fits in
+pub read_kept : (ring after : List ℕ) (unread left : ℕ) (table : List Entry) → IsKept ring unread (runs_in table) → length after ≡ length ring → left ≤ unread → IsKept after left (runs_in table)
+read_kept ring after unread left table kept size less = record {
+  some = omega (arith, kept.some, size);
+  most = omega (arith, kept.most, size);
+  fits = omega (arith, kept.fits, size);
+  inside = inside_more (length ring - unread) (length after - left) (runs_in table) (omega (arith, size)) kept.inside;
+  away = kept.away;
+  few = kept.few;
+}
+
+pub kept_sound : (ring : List ℕ) (unread : ℕ) (table : List Entry) → IsKept ring unread (runs_in table) → IsInbox (inbox_of ring unread table)
+kept_sound ring unread table kept =
+    let parts = seen_parts ring unread table (inbox_of ring unread table) refl kept.fits in
     record {
       least = omega (arith, kept.some);
       most = kept.most;
-      whole = omega (arith, length_held block start unread table, parts.0, kept.fits);
-      few = omega (arith, count_view block start unread table kept.inside kept.away, kept.few);
-      missing = none_first (inbox_of block start unread table).held (missing_view block start unread table kept.inside);
+      whole = omega (arith, length_held ring unread table, parts.0, kept.fits);
+      few = omega (arith, count_view ring unread table kept.inside kept.away, kept.few);
+      missing = none_first (inbox_of ring unread table).held (missing_view ring unread table kept.inside);
     }

@@ -1,5 +1,5 @@
 -- How the store is seen (RFC 9293, 3.10.7.4; RFC 2018, 4), what always holds of it, and what the private steps do.
-use Rattle.std.specs.Prelude.{ℕ, zero, suc, min, max, ◌-◌, ◌<◌, ◌≤◌, ◌⊎◌, Bool, List, [], ◌∷◌, ◌++◌, length, map, take, drop, Option, Some, None, nat_lt, nat_le, ◌&&◌, if◌then◌else◌}
+use Rattle.std.specs.Prelude.{ℕ, zero, suc, min, max, ◌-◌, ◌<◌, ◌≤◌, ◌⊎◌, Bool, List, [], ◌∷◌, ◌++◌, length, map, take, drop, replicate, Option, Some, None, nat_lt, nat_le, ◌&&◌, if◌then◌else◌}
 use Rattle.std.specs.List.{AllByRecursion}
 use Rattle.tcp_reasm.specs.declared.table.Run.{Run as Entry}
 use Rattle.tcp_reasm.specs.Reassembly.{Cell, Inbox, Run, is_within, stamp_of_run, overlay, greatest_stamp, runs, max_runs, max_capacity}
@@ -9,6 +9,10 @@ use Rattle.tcp_reasm.specs.Reassembly.{Cell, Inbox, Run, is_within, stamp_of_run
 -- a block of bytes seen from one of its places on, over its end
 abbrev pub turned : ℕ → List ℕ → List ℕ
 turned start bytes = drop start bytes ++ take start bytes
+
+-- the bytes that were written, and as many times 0 behind them as there is room for
+abbrev pub filled : ℕ → List ℕ → List ℕ
+filled size bytes = bytes ++ replicate (size - length bytes) 0
 
 abbrev pub run_of : Entry → Run
 run_of entry = record { from = entry.from; to = entry.to; stamp = 0 }
@@ -31,12 +35,12 @@ abbrev pub cells : (ℕ → ℕ) → ℕ → List ℕ → List (Option Cell)
 cells stamps place [] = []
 cells stamps place (byte ∷ bytes) = cell_of (stamps place) byte ∷ cells stamps (suc place) bytes
 
--- the unread bytes stand first from the start on, and the window's places after them
-abbrev pub inbox_of : List ℕ → ℕ → ℕ → List Entry → Inbox
-inbox_of block start unread table = record {
-  capacity = length block;
-  unread = take unread (turned start block);
-  held = cells (stamp_of_run (ranked (runs_in table))) 0 (drop unread (turned start block));
+-- the unread bytes stand first in the ring, and the window's places after them
+abbrev pub inbox_of : List ℕ → ℕ → List Entry → Inbox
+inbox_of ring unread table = record {
+  capacity = length ring;
+  unread = take unread ring;
+  held = cells (stamp_of_run (ranked (runs_in table))) 0 (drop unread ring);
 }
 
 -- ---- what always holds
@@ -53,12 +57,18 @@ abbrev pub AreAway : List Run → Type 0
 AreAway [] = Unit {0}
 AreAway (run ∷ others) = AllByRecursion (Away run) others × AreAway others
 
-pub record IsKept (block : List ℕ) (start unread : ℕ) (table : List Run) : Type 0 where
-  pub some : 0 < length block
-  pub most : length block ≤ max_capacity
-  pub starts : start < length block
-  pub fits : unread ≤ length block
-  pub inside : AllByRecursion (IsInside (length block - unread)) table
+-- of a block with so much room: no more was written than there are bytes, and all of them have their room
+pub record IsRing (room capacity start : ℕ) (written : List ℕ) : Type 0 where
+  pub within : length written ≤ capacity
+  pub fits : capacity ≤ room
+  pub most : capacity ≤ max_capacity
+  pub starts : start ≤ capacity
+
+pub record IsKept (ring : List ℕ) (unread : ℕ) (table : List Run) : Type 0 where
+  pub some : 0 < length ring
+  pub most : length ring ≤ max_capacity
+  pub fits : unread ≤ length ring
+  pub inside : AllByRecursion (IsInside (length ring - unread)) table
   pub away : AreAway table
   pub few : length table ≤ max_runs
 

@@ -5,7 +5,7 @@ ghost use Rattle.tcp_reasm.specs.Store.{inbox_of, runs_in, IsKept, overlay_at, h
 
 use crate::lay::lay;
 use crate::piece::piece_of;
-use crate::ring::copy;
+use crate::ring::Ring;
 use crate::table::{MAX_RUNS, Run, edges_of, leave_rest, rest_of, union_of};
 use crate::{Placed, ReasmError};
 use arrayvec::ArrayVec;
@@ -19,14 +19,13 @@ pub const MAX_CAPACITY: usize = 1_048_576;
 const MAX_BLOCKS: usize = 4;
 
 /// A peer's text: the bytes that came in order and wait for the user, and those that came early and are held until
-/// the bytes before them come. Only `new` takes memory, one block of the capacity: it is a ring, in which a byte is
-/// written once, at its place, and isn't moved when it comes in order.
+/// the bytes before them come. Only `new` takes memory, one block of the capacity, which isn't touched before bytes
+/// come: it is a ring, in which a byte is written once, at its place, and isn't moved when it comes in order.
 #[derive(Debug, Drop)]
 pub struct Reassembly<A: Allocator = Global> {
-    /// As many bytes as are unread or have a place in the window; from 1 to [`MAX_CAPACITY`].
-    block: Vec<u8, A>,
-    /// Where the first unread byte stands in the block. The others follow, and the window after them, over its end.
-    start: usize,
+    /// As many bytes as are unread or have a place in the window, from 1 to [`MAX_CAPACITY`]: the unread bytes stand
+    /// first, and the window's after them.
+    ring: Ring<A>,
     /// How many bytes came in order and weren't read yet.
     unread: usize,
     /// The runs of the window that are held, the newest first. None of them touch.
@@ -36,9 +35,9 @@ pub struct Reassembly<A: Allocator = Global> {
 impl<A: Allocator> Model for Reassembly<A> {
     ghost Value = { Inbox };
 
-    ghost view = { λ r. inbox_of r.block.items r.start r.unread r.table.items };
+    ghost view = { λ r. inbox_of r.ring r.unread r.table.items };
 
-    ghost invariant = { λ r. IsKept r.block.items r.start r.unread (runs_in r.table.items) };
+    ghost invariant = { λ r. IsKept r.ring r.unread (runs_in r.table.items) };
 }
 
 impl Reassembly {
@@ -62,12 +61,11 @@ impl<A: Allocator> Reassembly<A> {
         if capacity < 1 || capacity > MAX_CAPACITY {
             return Err(ReasmError::BadCapacity);
         }
-        let Ok(block) = vec![in alloc; 0; capacity] else {
+        let Ok(ring) = Ring::new_in(alloc, capacity) else {
             return Err(ReasmError::NoMemory);
         };
         Ok(Reassembly {
-            block,
-            start: 0,
+            ring,
             unread: 0,
             table: ArrayVec::new(),
         })
@@ -82,7 +80,7 @@ impl<A: Allocator> Reassembly<A> {
         ensures some { 0 < result }
         ensures most { result ≤ max_capacity }
     {
-        self.block.len()
+        self.ring.len()
     }
 
     /// How many bytes came in order and wait to be read.
@@ -103,7 +101,7 @@ impl<A: Allocator> Reassembly<A> {
         ensures places { length self.now.held ≡ result }
         ensures most { self.now.capacity ≤ max_capacity }
     {
-        (self.block.len() - self.unread) as u32
+        (self.ring.len() - self.unread) as u32
     }
 
     /// Places a text whose first byte lies at `offset` from the next byte in order. What lies before that byte or
@@ -127,7 +125,7 @@ impl<A: Allocator> Reassembly<A> {
         ensures missing { EndsAtMissing self.new }
     {
         let (start, text) = piece_of(offset, text);
-        let window = self.block.len() - self.unread;
+        let window = self.ring.len() - self.unread;
         if text.is_empty() || window <= start {
             return Placed::NotKept;
         }
@@ -170,7 +168,7 @@ impl<A: Allocator> Reassembly<A> {
         };
         let count = union_of(&self.table, piece).to;
         let unread = self.unread;
-        lay(&mut self.block, self.start, unread, &self.table, 0, text);
+        lay(&mut self.ring, unread, &self.table, 0, text);
         leave_rest(&mut self.table, piece, count);
         self.unread += count as usize;
         count as usize
@@ -198,14 +196,7 @@ impl<A: Allocator> Reassembly<A> {
         }
         table.insert(0, union_of(&self.table, piece));
         let unread = self.unread;
-        lay(
-            &mut self.block,
-            self.start,
-            unread,
-            &self.table,
-            start,
-            text,
-        );
+        lay(&mut self.ring, unread, &self.table, start, text);
         self.table = table;
         true
     }
@@ -218,14 +209,15 @@ impl<A: Allocator> Reassembly<A> {
         ensures after { self.new ≡ after_read self.old (length out.old) }
     {
         let count = out.len().min(self.unread);
-        copy(&self.block, self.start, &mut out[..count]);
-        let until_end = self.block.len() - self.start;
-        self.start = if count < until_end {
-            self.start + count
-        } else {
-            count - until_end
-        };
+        self.ring.copy(&mut out[..count]);
         self.unread -= count;
+        // Where nothing is left the next byte goes to the block's first place: for a user who keeps up, little of the
+        // block is touched, however much comes.
+        if self.unread == 0 && self.table.is_empty() {
+            self.ring.rewind();
+            return count;
+        }
+        self.ring.advance(count);
         count
     }
 

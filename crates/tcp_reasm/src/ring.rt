@@ -1,45 +1,158 @@
-//! A block of bytes as a ring: its places are counted from a start on, over its end.
-ghost use Rattle.std.specs.Prelude.{◌≡◌, ◌+◌, ◌≤◌, length, take};
-ghost use Rattle.tcp_reasm.specs.Store.{turned, put};
+//! A ring of bytes in one block: its places are counted from a start on, over the block's end.
+ghost use Rattle.std.specs.Prelude.{◌≡◌, ℕ, ◌+◌, ◌≤◌, ◌++◌, length, List, take, drop, vec_capacity, IfOk};
+ghost use Rattle.tcp_reasm.specs.Reassembly.{max_capacity};
+ghost use Rattle.tcp_reasm.specs.Store.{turned, filled, put, IsRing};
 
-/// Writes a text over the bytes of a block from a place after the start on.
-pub(crate) fn write(block: &mut [u8], start: usize, place: usize, text: &[u8])
-    requires starts { start ≤ length block.old }
-    requires fits { place + length text.now ≤ length block.old }
-    ensures len { length block.new ≡ length block.old }
-    ensures bytes { turned start block.new ≡ put place text.now (turned start block.old) }
+use std::alloc::{AllocError, Allocator, Global};
+use std::marker::Model;
+
+/// As many bytes as its capacity, each of them 0 until it is written. Memory that nothing was written to isn't touched.
+#[derive(Debug, Drop)]
+pub(crate) struct Ring<A: Allocator = Global> {
+    /// The bytes of the block up to the last that was written. Those behind it, up to the capacity, are 0.
+    block: Vec<u8, A>,
+    /// How many bytes there are, at most [`MAX_CAPACITY`](crate::MAX_CAPACITY).
+    capacity: u32,
+    /// Where the first byte stands in the block. The others follow it, over the block's end.
+    start: u32,
+}
+
+impl<A: Allocator> Model for Ring<A> {
+    ghost Value = { List ℕ };
+
+    ghost view = { λ r. turned r.start (filled r.capacity r.block.items) };
+
+    ghost invariant = { λ r. IsRing (vec_capacity r.block) r.capacity r.start r.block.items };
+}
+
+impl<A: Allocator> Ring<A> {
+    /// So many bytes. Their memory is taken now, and isn't touched.
+    pub(crate) fn new_in(alloc: A, capacity: usize) -> Result<Self, AllocError>
+        requires { capacity ≤ max_capacity }
+        ensures { IfOk result (λ ring. length ring ≡ capacity) }
+    {
+        let block = Vec::with_capacity(alloc, capacity)?;
+        Ok(Ring {
+            block,
+            capacity: capacity as u32,
+            start: 0,
+        })
+    }
+
+    /// How many bytes there are.
+    pub(crate) fn len(&self) -> usize
+        ensures { result ≡ length self.now }
+    {
+        self.capacity as usize
+    }
+
+    /// Writes a text over the bytes from a place on.
+    pub(crate) fn write(&mut self, place: usize, text: &[u8])
+        requires { place + length text.now ≤ length self.old }
+        ensures { self.new ≡ put place text.now self.old }
+    {
+        let start = self.start as usize;
+        let until_end = self.capacity as usize - start;
+        if place + text.len() <= until_end {
+            write_at(&mut self.block, start + place, text);
+        } else if place < until_end {
+            let (front, back) = text.split_at(until_end - place);
+            write_at(&mut self.block, start + place, front);
+            write_at(&mut self.block, 0, back);
+        } else {
+            write_at(&mut self.block, place - until_end, text);
+        }
+    }
+
+    /// Copies the first bytes, as many as there is room for.
+    pub(crate) fn copy(&self, out: &mut [u8])
+        requires { length out.old ≤ length self.now }
+        ensures { out.new ≡ take (length out.old) self.now }
+    {
+        let start = self.start as usize;
+        let until_end = self.capacity as usize - start;
+        if out.len() <= until_end {
+            copy_at(&self.block, start, out);
+        } else {
+            let (front, back) = out.split_at_mut(until_end);
+            copy_at(&self.block, start, front);
+            copy_at(&self.block, 0, back);
+        }
+    }
+
+    /// Puts the first bytes behind the others.
+    pub(crate) fn advance(&mut self, count: usize)
+        requires { count ≤ length self.old }
+        ensures { self.new ≡ drop count self.old ++ take count self.old }
+    {
+        let until_end = (self.capacity - self.start) as usize;
+        self.start = if count < until_end {
+            self.start + count as u32
+        } else {
+            (count - until_end) as u32
+        };
+    }
+
+    /// Puts the first byte where the block begins. Nothing is said of what the bytes are then.
+    pub(crate) fn rewind(&mut self)
+        ensures { length self.new ≡ length self.old }
+    {
+        self.start = 0;
+    }
+}
+
+/// Writes a text over the bytes of a block from an index on. The block grows where the text ends behind it: it has
+/// the room, so that no memory is taken.
+fn write_at<A: Allocator>(block: &mut Vec<u8, A>, at: usize, text: &[u8])
+    requires { at + length text.now ≤ vec_capacity block.old }
+    ensures capacity { vec_capacity block.old ≤ vec_capacity block.new }
+    ensures bytes { (n : ℕ) → at + length text.now ≤ n →
+        filled n block.new.items ≡ put at text.now (filled n block.old.items) }
 {
-    let until_end = block.len() - start;
-    if place <= until_end {
-        let (front, back) = text.split_at(text.len().min(until_end - place));
-        write_at(block, start + place, front);
-        write_at(block, 0, back);
+    let end = at + text.len();
+    if end <= block.len() {
+        block[at..end].copy_from_slice(text);
     } else {
-        write_at(block, place - until_end, text);
+        grow(block, at, text);
     }
 }
 
-/// Writes a text over some bytes from an index on. Most texts don't go over the block's end: then nothing is left to write.
-#[tactic(auto, using(crate::proofs::Rings::put_none))]
-fn write_at(bytes: &mut [u8], at: usize, text: &[u8])
-    requires { at + length text.now ≤ length bytes.old }
-    ensures len { length bytes.new ≡ length bytes.old }
-    ensures bytes { bytes.new ≡ put at text.now bytes.old }
+/// Writes a text that ends behind a block's end.
+#[cold]
+#[inline(never)]
+fn grow<A: Allocator>(block: &mut Vec<u8, A>, at: usize, text: &[u8])
+    requires room { at + length text.now ≤ vec_capacity block.old }
+    requires behind { length block.old.items ≤ at + length text.now }
+    ensures capacity { vec_capacity block.old ≤ vec_capacity block.new }
+    ensures bytes { (n : ℕ) → at + length text.now ≤ n →
+        filled n block.new.items ≡ put at text.now (filled n block.old.items) }
 {
-    if text.is_empty() {
-        return;
-    }
-    bytes[at..at + text.len()].copy_from_slice(text);
+    let _ = block.resize(at, 0);
+    let _ = block.extend_from_slice(text);
 }
 
-/// Copies the first bytes from the start on, as many as there is room for.
-pub(crate) fn copy(block: &[u8], start: usize, out: &mut [u8])
-    requires starts { start ≤ length block.now }
-    requires fits { length out.old ≤ length block.now }
-    ensures { out.new ≡ take (length out.old) (turned start block.now) }
+/// Fills `out` with the bytes of a block from an index on, and with 0 behind its end.
+fn copy_at(block: &[u8], at: usize, out: &mut [u8])
+    requires { at + length out.old ≤ max_capacity }
+    ensures { (n : ℕ) → at + length out.old ≤ n → out.new ≡ take (length out.old) (drop at (filled n block.now)) }
 {
-    let before_end = out.len().min(block.len() - start);
-    let rest = out.len() - before_end;
-    out[..before_end].copy_from_slice(&block[start..start + before_end]);
-    out[before_end..].copy_from_slice(&block[..rest]);
+    let end = at + out.len();
+    if end <= block.len() {
+        out.copy_from_slice(&block[at..end]);
+    } else {
+        copy_behind(block, at, out);
+    }
+}
+
+/// Does so where what is asked for ends behind the block's end.
+#[cold]
+#[inline(never)]
+fn copy_behind(block: &[u8], at: usize, out: &mut [u8])
+    ensures { (n : ℕ) → at + length out.old ≤ n → out.new ≡ take (length out.old) (drop at (filled n block.now)) }
+{
+    let written = &block[block.len().min(at)..];
+    let count = written.len().min(out.len());
+    let (front, back) = out.split_at_mut(count);
+    front.copy_from_slice(&written[..count]);
+    back.fill(0);
 }

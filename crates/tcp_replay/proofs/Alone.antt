@@ -2,11 +2,11 @@
 use Rattle.std.proofs.Common.{◌≡◌, ℕ, List, [], refl, sym, ◌∙◌, ⊎_elim, arith}
 use Rattle.std.specs.Prelude.{Bool, true, false, ◌||◌, Option, Some, None, IfSome}
 use Rattle.std.proofs.lemmas.Bool.{or_cases, false≢true}
-use Rattle.tcp_conn.specs.declared.config.Config.{Config}
+use Rattle.tcp_halves.specs.declared.config.Config.{Config}
 use Rattle.tcp_conn.specs.Config.{IsConfig}
-use Rattle.tcp_conn.specs.declared.link.WaitingReset.{WaitingReset}
-use Rattle.tcp_conn.specs.declared.phase.Ending.{Ending}
-use Rattle.tcp_conn.specs.declared.phase.Ending.TheVariants.{NotEnded}
+use Rattle.tcp_halves.specs.declared.link.WaitingReset.{WaitingReset}
+use Rattle.tcp_halves.specs.declared.phase.Ending.{Ending}
+use Rattle.tcp_halves.specs.declared.phase.Ending.TheVariants.{NotEnded}
 use Rattle.tcp_conn.specs.Phase.{has_peer, gives_up}
 use Rattle.tcp_conn.specs.State.{State, Sending, with_ack_owed}
 use Rattle.tcp_conn.specs.NewEnd.{new_end}

@@ -7,7 +7,7 @@ use Rattle.tcp_wire.specs.Flags.{ack, has}
 use Rattle.tcp_wire.specs.Wire.{Content, IsValid}
 use Rattle.tcp_numbers.specs.declared.seq.Seq.{Seq}
 use Rattle.tcp_conn.specs.declared.judgement.Judgement.{Judgement}
-use Rattle.tcp_conn.specs.declared.phase.Ending.TheVariants.{Reset}
+use Rattle.tcp_halves.specs.declared.phase.Ending.TheVariants.{Reset}
 use Rattle.tcp_conn.specs.Phase.{is_listening, is_syn_sent, gives_up, has_peer}
 use Rattle.tcp_conn.specs.State.{State, with_ack_owed}
 use Rattle.tcp_conn.specs.Judgement.{count_numbers, judgement}

@@ -8,14 +8,14 @@ use Rattle.tcp_wire.specs.Checksum.{AreBytes}
 use Rattle.tcp_sendq.specs.SendQueue.{Queue, without_marks, end_of_marks, last_mark_end}
 use Rattle.tcp_sendq.proofs.Places.{end_of_marks-le}
 use Rattle.tcp_reasm.specs.Reassembly.{after_read}
-use Rattle.tcp_conn.specs.declared.link.Peer.{Peer}
-use Rattle.tcp_conn.specs.declared.link.WaitingReset.{WaitingReset}
-use Rattle.tcp_conn.specs.declared.outcome.CallError.{CallError}
-use Rattle.tcp_conn.specs.declared.outcome.CallError.TheVariants.{NotOpen, AlreadyOpen, Closing, Ended, StreamFull, NotConnected}
-use Rattle.tcp_conn.specs.declared.phase.Ending.TheVariants.{NotEnded, Aborted}
-use Rattle.tcp_conn.specs.declared.phase.Phase.TheVariants.{Listen}
-use Rattle.tcp_conn.specs.declared.phase.Timer.{Timer}
-use Rattle.tcp_conn.specs.declared.phase.Timer.TheVariants.{Retransmit, Reorder, TimeWait}
+use Rattle.tcp_halves.specs.declared.link.Peer.{Peer}
+use Rattle.tcp_halves.specs.declared.link.WaitingReset.{WaitingReset}
+use Rattle.tcp_halves.specs.declared.outcome.CallError.{CallError}
+use Rattle.tcp_halves.specs.declared.outcome.CallError.TheVariants.{NotOpen, AlreadyOpen, Closing, Ended, StreamFull, NotConnected}
+use Rattle.tcp_halves.specs.declared.phase.Ending.TheVariants.{NotEnded, Aborted}
+use Rattle.tcp_halves.specs.declared.phase.Phase.TheVariants.{Listen}
+use Rattle.tcp_halves.specs.declared.phase.Timer.{Timer}
+use Rattle.tcp_halves.specs.declared.phase.Timer.TheVariants.{Retransmit, Reorder, TimeWait}
 use Rattle.tcp_conn.specs.Phase.{has_peer, is_closed, is_listening, is_handshake, is_time_wait, takes_text, sends_text, resets_on_abort, is_ended, gives_up}
 use Rattle.tcp_conn.specs.State.{State, Sending}
 use Rattle.tcp_conn.specs.Sender.{count_sendable, with_text, with_all_resent, with_gaps_resent}

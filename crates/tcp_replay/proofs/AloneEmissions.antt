@@ -8,9 +8,9 @@ use Rattle.std.specs.declared.ops.Range.{Range}
 use Rattle.tcp_wire.specs.Checksum.{AreBytes}
 use Rattle.tcp_wire.specs.Wire.{IsValid}
 use Rattle.tcp_numbers.specs.declared.seq.Seq.{Seq}
-use Rattle.tcp_conn.specs.declared.due.Due.{Due}
-use Rattle.tcp_conn.specs.declared.due.Due.TheVariants.{Reset, Syn, Resend, NewText, Fin, ResentFin, Acknowledgement}
-use Rattle.tcp_conn.specs.declared.link.WaitingReset.{WaitingReset}
+use Rattle.tcp_halves.specs.declared.due.Due.{Due}
+use Rattle.tcp_halves.specs.declared.due.Due.TheVariants.{Reset, Syn, Resend, NewText, Fin, ResentFin, Acknowledgement}
+use Rattle.tcp_halves.specs.declared.link.WaitingReset.{WaitingReset}
 use Rattle.tcp_conn.specs.Phase.{has_peer, is_handshake, sends_text, gives_up}
 use Rattle.tcp_conn.specs.State.{State, Sending, place_of}
 use Rattle.tcp_conn.specs.Endpoint.{FitsFields}

@@ -6,14 +6,14 @@ use Rattle.std.proofs.lemmas.Bool.{cond_both, and_parts, false≢true}
 use Rattle.tcp_wire.specs.Flags.{fin, syn, has}
 use Rattle.tcp_wire.specs.Position.{number}
 use Rattle.tcp_wire.specs.Wire.{Content}
-use Rattle.tcp_conn.specs.declared.due.Due.{Due}
+use Rattle.tcp_halves.specs.declared.due.Due.{Due}
 use Rattle.tcp_conn.specs.declared.judgement.Judgement.{Judgement}
 use Rattle.tcp_conn.specs.declared.judgement.Judgement.TheVariants.{Foreign}
-use Rattle.tcp_conn.specs.declared.link.Peer.{Peer}
-use Rattle.tcp_conn.specs.declared.outcome.CallError.{CallError}
-use Rattle.tcp_conn.specs.declared.phase.Ending.TheVariants.{Reset, Aborted}
-use Rattle.tcp_conn.specs.declared.phase.Timer.{Timer}
-use Rattle.tcp_conn.specs.declared.phase.Timer.TheVariants.{Retransmit, Reorder, TimeWait}
+use Rattle.tcp_halves.specs.declared.link.Peer.{Peer}
+use Rattle.tcp_halves.specs.declared.outcome.CallError.{CallError}
+use Rattle.tcp_halves.specs.declared.phase.Ending.TheVariants.{Reset, Aborted}
+use Rattle.tcp_halves.specs.declared.phase.Timer.{Timer}
+use Rattle.tcp_halves.specs.declared.phase.Timer.TheVariants.{Retransmit, Reorder, TimeWait}
 use Rattle.tcp_conn.specs.Phase.{is_last_ack, is_time_wait, takes_text, gives_up, phase_after_own_fin}
 use Rattle.tcp_reasm.specs.Reassembly.{after_read}
 use Rattle.tcp_conn.specs.State.{State, Receiving}

@@ -7,7 +7,7 @@ use Rattle.tcp_wire.specs.Flags.{fin, has}
 use Rattle.tcp_wire.specs.Wire.{Content}
 use Rattle.tcp_sendq.specs.SendQueue.{marks_with, can_mark, after_mark}
 use Rattle.tcp_sendq.proofs.Kept.{length-marks_with}
-use Rattle.tcp_conn.specs.declared.phase.Phase.TheVariants.{Established, FinWait1}
+use Rattle.tcp_halves.specs.declared.phase.Phase.TheVariants.{Established, FinWait1}
 use Rattle.tcp_conn.specs.Phase.{is_closed, is_syn_received, is_last_ack, takes_text, gives_up, phase_after_own_fin, phase_after_fin, has_peer, is_handshake}
 use Rattle.tcp_conn.specs.State.{State, Sending, place_of}
 use Rattle.tcp_conn.specs.Windows.{window_from}

@@ -7,7 +7,7 @@ use Rattle.tcp_wire.specs.Flags.{syn, rst, ack, has}
 use Rattle.tcp_wire.specs.Wire.{Content, IsValid}
 use Rattle.tcp_conn.specs.declared.judgement.Judgement.{Judgement}
 use Rattle.tcp_conn.specs.declared.judgement.Judgement.TheVariants.{HandshakeRefusedShut, Taken, TakenShut}
-use Rattle.tcp_conn.specs.declared.phase.Ending.TheVariants.{Reset}
+use Rattle.tcp_halves.specs.declared.phase.Ending.TheVariants.{Reset}
 use Rattle.tcp_conn.specs.Phase.{is_listening, is_syn_sent}
 use Rattle.tcp_conn.specs.State.{State, with_ack_owed}
 use Rattle.tcp_conn.specs.Judgement.{judgement}

@@ -5,8 +5,8 @@ use Rattle.std.proofs.lemmas.Bool.{cond_both, ltb-true, eqb-true, and_parts}
 use Rattle.std.specs.declared.ops.Range.{Range}
 use Rattle.tcp_sendq.specs.SendQueue.{next_unmarked}
 use Rattle.std.specs.Option.{option_or}
-use Rattle.tcp_conn.specs.declared.due.Due.{Due}
-use Rattle.tcp_conn.specs.declared.due.Due.TheVariants.{Reset, Syn, Resend, NewText, Fin, ResentFin, Acknowledgement}
+use Rattle.tcp_halves.specs.declared.due.Due.{Due}
+use Rattle.tcp_halves.specs.declared.due.Due.TheVariants.{Reset, Syn, Resend, NewText, Fin, ResentFin, Acknowledgement}
 use Rattle.tcp_conn.specs.Phase.{sends_text, gives_up}
 use Rattle.tcp_conn.specs.State.{State, Sending, place_of, position_at, end_of_text}
 use Rattle.tcp_conn.specs.Sender.{count_unsent}

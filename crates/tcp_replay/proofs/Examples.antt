@@ -6,9 +6,9 @@ use Rattle.tcp_wire.specs.Wire.{encoded_bytes}
 use Rattle.tcp_wire.specs.Decoded.{decode_answer, layout_of, options_in, option_at, padding_at}
 use Rattle.tcp_sendq.specs.SendQueue.{next_unmarked, without_marks, after_mark, can_mark}
 use Rattle.tcp_reasm.specs.Reassembly.{after_place, place_answer, with_ranks, after_read, blocks, runs_newest_first}
-use Rattle.tcp_conn.specs.declared.config.Config.{Config}
-use Rattle.tcp_conn.specs.declared.phase.Ending.TheVariants.{Orderly}
-use Rattle.tcp_conn.specs.declared.phase.Timer.TheVariants.{TimeWait}
+use Rattle.tcp_halves.specs.declared.config.Config.{Config}
+use Rattle.tcp_halves.specs.declared.phase.Ending.TheVariants.{Orderly}
+use Rattle.tcp_halves.specs.declared.phase.Timer.TheVariants.{TimeWait}
 use Rattle.tcp_conn.specs.Config.{default_limit}
 use Rattle.tcp_conn.specs.Acceptable.{is_acceptable}
 use Rattle.tcp_conn.specs.Options.{link_of}

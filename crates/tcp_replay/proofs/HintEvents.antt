@@ -10,11 +10,11 @@ use Rattle.tcp_wire.specs.Wire.{Content}
 use Rattle.tcp_reasm.specs.Reassembly.{Cell, Run, blocks, runs, insertion_by_stamp, runs_newest_first, max_blocks}
 use Rattle.tcp_reasm.specs.Laws.{IsHeld, IsMaximal}
 use Rattle.tcp_reasm.proofs.Maximal.{runs_are_maximal_lem}
-use Rattle.tcp_conn.specs.declared.due.Due.{Due}
-use Rattle.tcp_conn.specs.declared.due.Due.TheVariants.{Reset, Syn, Resend, NewText, Fin, ResentFin, Acknowledgement}
-use Rattle.tcp_conn.specs.declared.phase.Ending.TheVariants.{Aborted}
-use Rattle.tcp_conn.specs.declared.phase.Timer.{Timer}
-use Rattle.tcp_conn.specs.declared.phase.Timer.TheVariants.{Retransmit, Reorder, TimeWait}
+use Rattle.tcp_halves.specs.declared.due.Due.{Due}
+use Rattle.tcp_halves.specs.declared.due.Due.TheVariants.{Reset, Syn, Resend, NewText, Fin, ResentFin, Acknowledgement}
+use Rattle.tcp_halves.specs.declared.phase.Ending.TheVariants.{Aborted}
+use Rattle.tcp_halves.specs.declared.phase.Timer.{Timer}
+use Rattle.tcp_halves.specs.declared.phase.Timer.TheVariants.{Retransmit, Reorder, TimeWait}
 use Rattle.tcp_conn.specs.Phase.{is_time_wait}
 use Rattle.tcp_conn.specs.State.{State, Sending}
 use Rattle.tcp_conn.specs.Blocks.{reported_blocks, block_numbers, blocks_to_report, sack_options}

@@ -5,9 +5,9 @@ use Rattle.tcp_wire.specs.Position.{number}
 use Rattle.tcp_wire.specs.Wire.{Content}
 use Rattle.tcp_wire.specs.Decoded.{decode_answer}
 use Rattle.tcp_wire.specs.declared.fault.DecodeError.{DecodeError}
-use Rattle.tcp_conn.specs.declared.config.Config.{Config}
-use Rattle.tcp_conn.specs.declared.due.Due.{Due}
-use Rattle.tcp_conn.specs.declared.phase.Timer.{Timer as Which}
+use Rattle.tcp_halves.specs.declared.config.Config.{Config}
+use Rattle.tcp_halves.specs.declared.due.Due.{Due}
+use Rattle.tcp_halves.specs.declared.phase.Timer.{Timer as Which}
 use Rattle.tcp_conn.specs.Judgement.{judgement}
 use Rattle.tcp_conn.specs.Arrival.{after_judgement, after_arrival}
 use Rattle.tcp_conn.specs.Forms.{segment_of}

@@ -6,8 +6,8 @@ use Rattle.tcp_wire.specs.Position.{offset}
 use Rattle.tcp_wire.specs.Wire.{Content}
 use Rattle.tcp_reasm.specs.Reassembly.{after_place}
 use Rattle.tcp_reasm.proofs.Placing.{after_place-keeps}
-use Rattle.tcp_conn.specs.declared.phase.Ending.{Ending}
-use Rattle.tcp_conn.specs.declared.phase.Ending.TheVariants.{Reset}
+use Rattle.tcp_halves.specs.declared.phase.Ending.{Ending}
+use Rattle.tcp_halves.specs.declared.phase.Ending.TheVariants.{Reset}
 use Rattle.tcp_conn.specs.Phase.{is_syn_received, is_last_ack, takes_text, gives_up, phase_after_own_fin}
 use Rattle.tcp_conn.specs.State.{State, Sending, Receiving}
 use Rattle.tcp_conn.specs.Windows.{window_from}

@@ -3,7 +3,7 @@ use Rattle.std.proofs.Common.{◌≡◌, ℕ, ◌+◌, ◌<◌, ◌≤◌, refl,
 use Rattle.std.specs.Prelude.{true, not, ◌||◌, ◌==◌, if◌then◌else◌, nat_le, length, Option, Some, None, Result, Ok, Err, OnOk, OnErr, IfErr, IfSome, IfNone}
 use Rattle.std.proofs.lemmas.Bool.{cond_both, and_parts, or_cases, leb-true}
 use Rattle.tcp_wire.specs.Flags.{rst, ack, has}
-use Rattle.tcp_conn.specs.declared.config.Config.{Config}
+use Rattle.tcp_halves.specs.declared.config.Config.{Config}
 use Rattle.tcp_conn.specs.State.{State}
 use Rattle.tcp_conn.specs.Receiver.{next_wanted}
 use Rattle.tcp_replay.specs.declared.event.Side.{Side}

@@ -1,10 +1,10 @@
 -- The moves of one end against its peer: what a rule may do to it, its user's data and its peer being as they were.
 use Rattle.std.proofs.Common.{◌≡◌, ℕ, ◌+◌, ◌≤◌, refl, sym, ap, ◌∙◌, arith}
 use Rattle.std.specs.Prelude.{Bool, true, false, ◌||◌}
-use Rattle.tcp_conn.specs.declared.config.Config.{Config}
-use Rattle.tcp_conn.specs.declared.link.WaitingReset.{WaitingReset}
-use Rattle.tcp_conn.specs.declared.phase.Ending.{Ending}
-use Rattle.tcp_conn.specs.declared.phase.Ending.TheVariants.{NotEnded}
+use Rattle.tcp_halves.specs.declared.config.Config.{Config}
+use Rattle.tcp_halves.specs.declared.link.WaitingReset.{WaitingReset}
+use Rattle.tcp_halves.specs.declared.phase.Ending.{Ending}
+use Rattle.tcp_halves.specs.declared.phase.Ending.TheVariants.{NotEnded}
 use Rattle.tcp_conn.specs.Phase.{has_peer, gives_up}
 use Rattle.tcp_conn.specs.State.{State, Sending, Receiving, with_ack_owed}
 use Rattle.tcp_conn.specs.Endings.{after_orderly_end, after_giving_up}

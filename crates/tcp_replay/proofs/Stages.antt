@@ -10,7 +10,7 @@ use Rattle.tcp_wire.proofs.Lemmas.{position_of_number, offset_of_later, offset_o
 use Rattle.tcp_reasm.specs.Reassembly.{window, after_place, place_answer}
 use Rattle.tcp_reasm.specs.Agreement.{LiesAt, advance_of, Advances}
 use Rattle.tcp_reasm.proofs.Agreement.{after_place-agrees}
-use Rattle.tcp_conn.specs.declared.phase.Ending.TheVariants.{NotEnded}
+use Rattle.tcp_halves.specs.declared.phase.Ending.TheVariants.{NotEnded}
 use Rattle.tcp_conn.specs.Phase.{has_peer, is_closed, is_syn_received, is_last_ack, takes_text, gives_up, phase_after_own_fin, phase_after_fin}
 use Rattle.tcp_conn.specs.State.{State, Sending}
 use Rattle.tcp_conn.specs.Windows.{window_from}

@@ -1,7 +1,7 @@
 -- What an event must keep at the party where it happens, for both directions to stay sound.
 use Rattle.std.proofs.Common.{◌≡◌, ℕ, zero, suc, List, [], ◌∷◌, ◌++◌, refl, sym, ◌∙◌, ap, subst, ⊎_elim, inl, inr, arith, append-nil}
 use Rattle.std.specs.Prelude.{◌⊎◌, Option, Some, None, option_to_list, slice_get}
-use Rattle.tcp_conn.specs.declared.config.Config.{Config}
+use Rattle.tcp_halves.specs.declared.config.Config.{Config}
 use Rattle.tcp_conn.specs.State.{State}
 use Rattle.tcp_replay.specs.World.{PartyState, SentSegment}
 use Rattle.tcp_replay.specs.Safe.{witness_of, gave_up}

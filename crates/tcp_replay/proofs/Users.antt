@@ -4,14 +4,14 @@ use Rattle.std.specs.Prelude.{min, true, false, ◌||◌, ◌==◌, if◌then◌
 use Rattle.std.proofs.lemmas.Bool.{cond_both, eqb-true, or_right, false≢true}
 use Rattle.std.proofs.lemmas.List.{nil_from_length}
 use Rattle.tcp_wire.specs.Checksum.{AreBytes}
-use Rattle.tcp_conn.specs.declared.link.WaitingReset.{WaitingReset}
-use Rattle.tcp_conn.specs.declared.outcome.CallError.{CallError}
-use Rattle.tcp_conn.specs.declared.outcome.Received.{Received}
-use Rattle.tcp_conn.specs.declared.outcome.Received.TheVariants.{Bytes, Nothing, EndOfStream}
-use Rattle.tcp_conn.specs.declared.phase.Ending.TheVariants.{Aborted}
-use Rattle.tcp_conn.specs.declared.phase.Phase.TheVariants.{Listen}
-use Rattle.tcp_conn.specs.declared.phase.Timer.{Timer}
-use Rattle.tcp_conn.specs.declared.phase.Timer.TheVariants.{Retransmit, Reorder, TimeWait}
+use Rattle.tcp_halves.specs.declared.link.WaitingReset.{WaitingReset}
+use Rattle.tcp_halves.specs.declared.outcome.CallError.{CallError}
+use Rattle.tcp_halves.specs.declared.outcome.Received.{Received}
+use Rattle.tcp_halves.specs.declared.outcome.Received.TheVariants.{Bytes, Nothing, EndOfStream}
+use Rattle.tcp_halves.specs.declared.phase.Ending.TheVariants.{Aborted}
+use Rattle.tcp_halves.specs.declared.phase.Phase.TheVariants.{Listen}
+use Rattle.tcp_halves.specs.declared.phase.Timer.{Timer}
+use Rattle.tcp_halves.specs.declared.phase.Timer.TheVariants.{Retransmit, Reorder, TimeWait}
 use Rattle.tcp_conn.specs.Phase.{is_time_wait, resets_on_abort, gives_up, has_peer}
 use Rattle.tcp_conn.specs.State.{State, Sending}
 use Rattle.tcp_conn.specs.Sender.{count_sendable, with_text, with_all_resent}

@@ -4,8 +4,8 @@ use Rattle.std.specs.Prelude.{min, Bool, true, false, Option, Some, None}
 use Rattle.std.specs.List.{AllByRecursion}
 use Rattle.tcp_wire.specs.declared.fault.DecodeError.TheVariants.{BadChecksum}
 use Rattle.tcp_reasm.proofs.Agreement.{empty_inbox-agrees}
-use Rattle.tcp_conn.specs.declared.config.Config.{Config}
-use Rattle.tcp_conn.specs.declared.outcome.Arrival.TheVariants.{Malformed}
+use Rattle.tcp_halves.specs.declared.config.Config.{Config}
+use Rattle.tcp_halves.specs.declared.outcome.Arrival.TheVariants.{Malformed}
 use Rattle.tcp_conn.specs.Config.{IsConfig}
 use Rattle.tcp_replay.specs.declared.event.Side.{Side}
 use Rattle.tcp_replay.specs.declared.event.Side.TheVariants.{A, B}

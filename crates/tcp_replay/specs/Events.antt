@@ -1,7 +1,7 @@
 -- What can happen to two ends, as numbers and lists: an event of the code says one of these (RFC 9293, 3.10).
 use Rattle.std.specs.Prelude.{ℕ, ◌<◌, List}
 use Rattle.tcp_wire.specs.Checksum.{AreBytes}
-use Rattle.tcp_conn.specs.declared.phase.Timer.{Timer as Which}
+use Rattle.tcp_halves.specs.declared.phase.Timer.{Timer as Which}
 use Rattle.tcp_replay.specs.declared.event.Side.{Side}
 use Rattle.tcp_replay.specs.declared.event.Event.{Event}
 use Rattle.tcp_replay.specs.declared.event.Event.TheVariants as code
@@ -20,7 +20,7 @@ pub data EventContent : Type 0 where
   Deliver : Side → ℕ → EventContent
   Damage : Side → ℕ → ℕ → ℕ → EventContent
 
-abbrev pub event_content : Event → EventContent
+abbrev pub event_content : {A : Type 0} → Event A → EventContent
 event_content (code.Connect side) = Connect side
 event_content (code.Listen side) = Listen side
 event_content (code.Send side bytes) = Send side bytes.items

@@ -2,7 +2,7 @@
 -- (RFC 9293, 3.10), whoever its peer is.
 use Rattle.std.specs.Prelude.{ℕ, Bool, false, ◌||◌, is_ok, List, [], ◌∷◌, ◌++◌, length, map, Vec, Option, None, Ok, option_to_list, option_map, ◌≡◌, ◌<◌}
 use Rattle.tcp_numbers.specs.declared.addr.Addr.{Addr}
-use Rattle.tcp_conn.specs.declared.config.Config.{Config}
+use Rattle.tcp_halves.specs.declared.config.Config.{Config}
 use Rattle.tcp_conn.specs.Config.{IsGoodConfig}
 use Rattle.tcp_conn.specs.State.{State}
 use Rattle.tcp_conn.specs.NewEnd.{new_end}

@@ -3,14 +3,14 @@ use Rattle.std.specs.Prelude.{◌≡◌, ℕ, suc, ◌^◌, Bool, true, false, �
 use Rattle.byteorder.specs.Endian.{big_from}
 use Rattle.tcp_wire.specs.Flags.{rst, ack, has}
 use Rattle.tcp_wire.specs.Position.{position_of}
-use Rattle.tcp_conn.specs.declared.config.Config.{Config}
-use Rattle.tcp_conn.specs.declared.config.ConfigError.{ConfigError}
-use Rattle.tcp_conn.specs.declared.config.ConfigError.TheVariants as faults
-use Rattle.tcp_conn.specs.declared.link.Peer.{Peer}
-use Rattle.tcp_conn.specs.declared.outcome.CallError.{CallError}
-use Rattle.tcp_conn.specs.declared.outcome.Received.{Received}
-use Rattle.tcp_conn.specs.declared.outcome.Received.TheVariants.{Bytes, EndOfStream}
-use Rattle.tcp_conn.specs.declared.phase.Timer.{Timer as Which}
+use Rattle.tcp_halves.specs.declared.config.Config.{Config}
+use Rattle.tcp_halves.specs.declared.config.ConfigError.{ConfigError}
+use Rattle.tcp_halves.specs.declared.config.ConfigError.TheVariants as faults
+use Rattle.tcp_halves.specs.declared.link.Peer.{Peer}
+use Rattle.tcp_halves.specs.declared.outcome.CallError.{CallError}
+use Rattle.tcp_halves.specs.declared.outcome.Received.{Received}
+use Rattle.tcp_halves.specs.declared.outcome.Received.TheVariants.{Bytes, EndOfStream}
+use Rattle.tcp_halves.specs.declared.phase.Timer.{Timer as Which}
 use Rattle.tcp_conn.specs.State.{State}
 use Rattle.tcp_conn.specs.Config.{default_limit, HasBadCapacity, HasBadMss, HasBadShift, HasBadLimit, IsGoodConfig}
 use Rattle.tcp_conn.specs.NewEnd.{new_end}

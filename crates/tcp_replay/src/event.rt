@@ -1,6 +1,7 @@
 ghost use Rattle.std.specs.Prelude.{◌≡◌};
 ghost use Rattle.tcp_replay.specs.Events.{event_content, side_of};
 
+use std::alloc::{Allocator, Global};
 use std::fmt;
 use tcp_conn::Timer;
 
@@ -39,15 +40,15 @@ impl fmt::Display for Side {
     }
 }
 
-/// What can happen to the two ends.
+/// What can happen to the two ends. Its bytes may lie in other memory than theirs.
 #[derive(Debug, Drop)]
-pub enum Event {
+pub enum Event<A: Allocator = Global> {
     /// The user of this side opens to the other side's address and port.
     Connect(Side),
     /// The user of this side waits for the other one.
     Listen(Side),
     /// The user of this side sends these bytes.
-    Send(Side, Vec<u8>),
+    Send(Side, Vec<u8, A>),
     /// The user of this side asks for at most so many bytes.
     Receive(Side, usize),
     /// The user of this side has no more to send.
@@ -67,7 +68,7 @@ pub enum Event {
     Damage(Side, usize, usize, u8),
 }
 
-impl Event {
+impl<A: Allocator> Event<A> {
     /// The side whose user, timer or emission it names; of a delivery the side that emitted the segment.
     pub fn side(&self) -> Side
         ensures { result ≡ side_of (event_content self.now) }

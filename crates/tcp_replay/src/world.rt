@@ -38,12 +38,12 @@ impl<A: Allocator> Model for World<A> {
 
 /// One event at the party whose side it names, and at the other one.
 #[tactic(auto, unfolding(crate::specs::World::effect_of))]
-fn step_at<A: Allocator + Copy>(
+fn step_at<A: Allocator + Copy, E: Allocator>(
     alloc: A,
     life: u32,
     here: &mut Party<A>,
     there: &mut Party<A>,
-    event: &Event,
+    event: &Event<E>,
 ) -> Result<Outcome, StepError>
     ensures here { OnOk result (here.new ≡ (effect_of life here.old there.old (event_content event.now)).here) }
     ensures there { OnOk result (there.new ≡ (effect_of life here.old there.old (event_content event.now)).there) }
@@ -69,12 +69,12 @@ fn step_at<A: Allocator + Copy>(
 }
 
 /// One event at the two parties.
-fn step_parties<A: Allocator + Copy>(
+fn step_parties<A: Allocator + Copy, E: Allocator>(
     alloc: A,
     life: u32,
     a: &mut Party<A>,
     b: &mut Party<A>,
-    event: &Event,
+    event: &Event<E>,
 ) -> Result<Outcome, StepError>
     ensures state { OnOk result (both life a.new b.new ≡ world_with_effect (both life a.old b.old) (event_content event.now)) }
     ensures outcome { IfOk result (λ o. o ≡ outcome_of (both life a.old b.old) (event_content event.now)) }
@@ -161,7 +161,7 @@ impl<A: Allocator + Copy> World<A> {
 
     /// Applies one event. Whatever is refused changes nothing; what the world needs to grow for an event it
     /// takes before anything else.
-    pub fn step(&mut self, event: &Event) -> Result<Outcome, StepError>
+    pub fn step<E: Allocator>(&mut self, event: &Event<E>) -> Result<Outcome, StepError>
         ensures state { OnOk result (self.new ≡ world_with_effect self.old (event_content event.now)) }
         ensures outcome { IfOk result (λ o. o ≡ outcome_of self.old (event_content event.now)) }
         ensures bytes { OnOk result (HasBytes (event_content event.now)) }
@@ -183,7 +183,7 @@ impl<A: Allocator + Copy> World<A> {
 
     /// Applies events in turn, and stops at the first that is refused, with its index from 0. What came before
     /// it stays done.
-    pub fn run(&mut self, events: &[Event]) -> Result<(), (usize, StepError)>
+    pub fn run<E: Allocator>(&mut self, events: &[Event<E>]) -> Result<(), (usize, StepError)>
         ensures done { OnOk result ((stop_of self.old (map event_content events.now) ≡ None) × (self.new ≡ run_of self.old (map event_content events.now))) }
         // A refusal that isn't for memory is the first one of the list.
         ensures refused { IfErr result (λ stop. stop.1 ≢ StepError.NoMemory → (stop_of self.old (map event_content events.now) ≡ Some stop) × (self.new ≡ run_of self.old (map event_content events.now))) }

@@ -22,7 +22,8 @@ use Rattle.tcp_replay.specs.declared.event.Side.TheVariants.{A, B}
 use Rattle.tcp_replay.specs.Events.{Connect, Listen, Emit, Deliver}
 use Rattle.tcp_replay.proofs.Examples.{a, b}
 use Rattle.tcp_replay.specs.World.{party_after_connect, party_after_listen, party_after_send, party_after_receive, party_after_close, party_after_timer, party_after_emission, party_after_arrival, effect_of, max_life, world_after_all}
-use Rattle.tcp_text.specs.Texts.{flags_text, blocks_text}
+use Rattle.tcp_text.specs.Texts.{blocks_text}
+use Rattle.tcp_wire.specs.Texts.{flags_text}
 use Rattle.tcp_text.specs.Segments.{summary_text}
 use Rattle.tcp_script.specs.Script.{ScriptContent, once}
 use Rattle.tcp_report.specs.Events.{event_text}

@@ -1,6 +1,6 @@
 -- Why no report of a script is made.
 use Rattle.std.specs.Prelude.{◌≢◌}
-use Rattle.tcp_conn.specs.declared.config.ConfigError.TheVariants as configs
+use Rattle.tcp_halves.specs.declared.config.ConfigError.TheVariants as configs
 use Rattle.tcp_replay.specs.declared.outcome.WorldError.TheVariants as worlds
 use Rattle.tcp_replay.specs.World.{HasNamedFault}
 use Rattle.tcp_script.specs.Script.{ScriptContent}

@@ -3,3 +3,5 @@ pub mod Faults
 pub mod Names
 pub mod Outcomes
 pub mod Report
+pub mod Runs
+pub mod Steps

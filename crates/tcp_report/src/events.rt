@@ -3,12 +3,12 @@ ghost use Rattle.std.specs.Prelude.{◌≡◌, ◌++◌, OnOk, string_bytes};
 ghost use Rattle.tcp_replay.specs.Events.{event_content};
 ghost use Rattle.tcp_report.specs.Events.{others_text, event_text};
 
-use std::alloc::AllocError;
+use std::alloc::{AllocError, Allocator};
 use tcp_replay::Event;
 use tcp_script::{kind_name, kind_of};
 
 /// The words after the side, but for the bytes that are sent.
-fn push_others(text: &mut String, event: &Event) -> Result<(), AllocError>
+fn push_others<A: Allocator>(text: &mut String<A>, event: &Event<A>) -> Result<(), AllocError>
     ensures { OnOk result (string_bytes text.new ≡ string_bytes text.old ++ others_text (event_content event.now)) }
 {
     match event {
@@ -22,7 +22,10 @@ fn push_others(text: &mut String, event: &Event) -> Result<(), AllocError>
 
 /// Appends an event, but for the bytes that are sent.
 #[tactic(auto, unfolding(crate::specs::Events::event_text))]
-pub(crate) fn push_event(text: &mut String, event: &Event) -> Result<(), AllocError>
+pub(crate) fn push_event<A: Allocator>(
+    text: &mut String<A>,
+    event: &Event<A>,
+) -> Result<(), AllocError>
     ensures { OnOk result (string_bytes text.new ≡ string_bytes text.old ++ event_text (event_content event.now)) }
 {
     let kind = kind_name(kind_of(event));

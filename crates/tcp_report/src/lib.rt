@@ -1,4 +1,4 @@
-//! The report of a script: what came of each event between two new ends, and how both stand at last.
+//! The report of a script: what came of each event between two new ends, and how both stand at last and after each event.
 #![tactic(auto)]
 
 mod error;
@@ -6,7 +6,12 @@ mod events;
 mod names;
 mod outcomes;
 mod report;
+mod shown;
+mod states;
+mod steps;
 mod turns;
 
 pub use error::ReportError;
 pub use report::{Report, make_report};
+pub use shown::show_segment;
+pub use steps::make_steps;

@@ -4,7 +4,7 @@ ghost use Rattle.tcp_replay.specs.World.{party_of, other, segment_at};
 ghost use Rattle.tcp_report.specs.Outcomes.{call_text, address_of_side, emission_text, outcome_text, answer_text, is_refused};
 
 use crate::names::yes_or_no;
-use std::alloc::{AllocError, Global};
+use std::alloc::{AllocError, Allocator};
 use tcp_answers::{push_arrival, push_receive, push_refused, push_segment, push_send};
 use tcp_conn::{CallError, Phase};
 use tcp_replay::{Outcome, Side, StepError, World};
@@ -13,7 +13,7 @@ use tcp_wire::Addr;
 /// What a step answered.
 pub(crate) type StepResult = Result<Outcome, StepError>;
 
-fn other(side: Side) -> Side
+pub(crate) fn other(side: Side) -> Side
     ensures { result ≡ other side }
 {
     match side {
@@ -22,22 +22,22 @@ fn other(side: Side) -> Side
     }
 }
 
-fn address_of(world: &World, side: Side) -> Addr
+pub(crate) fn address_of<A: Allocator>(world: &World<A>, side: Side) -> Addr
     ensures { result.0 ≡ address_of_side world.now side }
 {
     world.endpoint(side).config().addr
 }
 
 /// The bytes of segment `k` of a side, none where there is none.
-fn segment_at(world: &World, side: Side, k: usize) -> &[u8]
+fn segment_at<A: Allocator>(world: &World<A>, side: Side, k: usize) -> &[u8]
     ensures { result.now ≡ segment_at (party_of world.now side) k }
 {
     world.sent(side, k).unwrap_or(&[])
 }
 
 /// With the phase that the side is in then.
-fn push_call(
-    text: &mut String,
+fn push_call<A: Allocator>(
+    text: &mut String<A>,
     answer: Result<(), CallError>,
     phase: Phase,
 ) -> Result<(), AllocError>
@@ -49,9 +49,9 @@ fn push_call(
     }
 }
 
-fn push_emission(
-    text: &mut String,
-    world: &World,
+fn push_emission<A: Allocator>(
+    text: &mut String<A>,
+    world: &World<A>,
     side: Side,
     emitted: Option<usize>,
 ) -> Result<(), AllocError>
@@ -78,10 +78,10 @@ fn after(bytes: &[u8], count: usize) -> &[u8]
 
 /// Appends what came of an event that names this side, which had been handed `had` bytes before it.
 #[tactic(auto, unfolding(crate::specs::Outcomes::outcome_text))]
-fn push_outcome(
-    alloc: Global,
-    text: &mut String,
-    world: &World,
+fn push_outcome<A: Allocator + Copy>(
+    alloc: A,
+    text: &mut String<A>,
+    world: &World<A>,
     side: Side,
     had: usize,
     outcome: Outcome,
@@ -105,10 +105,10 @@ fn push_outcome(
 }
 
 /// The same, or why the event was refused.
-pub(crate) fn push_step_result(
-    alloc: Global,
-    text: &mut String,
-    world: &World,
+pub(crate) fn push_step_result<A: Allocator + Copy>(
+    alloc: A,
+    text: &mut String<A>,
+    world: &World<A>,
     side: Side,
     had: usize,
     answer: StepResult,

@@ -8,23 +8,27 @@ ghost use Rattle.tcp_report.specs.Faults.{HasReportFault};
 use crate::error::ReportError;
 use crate::names::yes_or_no;
 use crate::turns::push_event_lines;
-use std::alloc::{AllocError, Global};
+use std::alloc::{AllocError, Allocator, Global};
 use tcp_conn::ConfigError;
 use tcp_replay::{Side, World, WorldError};
 use tcp_script::{Script, Turn};
 
 /// A report, and whether it tells of no refusal.
 #[derive(Debug, Drop)]
-pub struct Report {
+pub struct Report<A: Allocator = Global> {
     /// A line for each event, and then one for each side.
-    pub text: String,
+    pub text: String<A>,
     /// Whether no call and no step was refused.
     pub is_well: bool,
 }
 
 /// Appends what a side had and did, in numbers.
 #[tactic(auto, unfolding(crate::specs::Report::counts_text))]
-fn push_counts(text: &mut String, world: &World, side: Side) -> Result<(), AllocError>
+pub(crate) fn push_counts<A: Allocator>(
+    text: &mut String<A>,
+    world: &World<A>,
+    side: Side,
+) -> Result<(), AllocError>
     ensures { OnOk result (string_bytes text.new ≡ string_bytes text.old ++ counts_text (party_of world.now side)) }
 {
     let end = world.endpoint(side);
@@ -42,7 +46,11 @@ fn push_counts(text: &mut String, world: &World, side: Side) -> Result<(), Alloc
 
 /// Appends the last line of a side.
 #[tactic(auto, unfolding(crate::specs::Report::end_line))]
-fn push_end_line(text: &mut String, world: &World, side: Side) -> Result<(), AllocError>
+fn push_end_line<A: Allocator>(
+    text: &mut String<A>,
+    world: &World<A>,
+    side: Side,
+) -> Result<(), AllocError>
     ensures { OnOk result (string_bytes text.new ≡ string_bytes text.old ++ end_line side (party_of world.now side)) }
 {
     let end = world.endpoint(side);
@@ -54,11 +62,11 @@ fn push_end_line(text: &mut String, world: &World, side: Side) -> Result<(), All
 }
 
 /// Appends the whole report of events between two new ends; answers whether none was refused.
-fn push_report(
-    alloc: Global,
-    text: &mut String,
-    world: &mut World,
-    events: &[Turn],
+fn push_report<A: Allocator + Copy>(
+    alloc: A,
+    text: &mut String<A>,
+    world: &mut World<A>,
+    events: &[Turn<A>],
 ) -> Result<bool, AllocError>
     ensures lines { OnOk result (string_bytes text.new ≡ string_bytes text.old ++ (event_lines 1 world.old (map turn_content events.now) ++ end_lines (world_after_turns world.old (map turn_content events.now)))) }
     ensures well { IfOk result (λ well. well ≡ is_well world.old (map turn_content events.now)) }
@@ -70,13 +78,16 @@ fn push_report(
 }
 
 /// Two new ends.
-fn new_world(alloc: Global, script: &Script) -> Result<World, ReportError>
+pub(crate) fn new_world<A: Allocator + Copy>(
+    alloc: A,
+    script: &Script<A>,
+) -> Result<World<A>, ReportError>
     requires { HasLife script.now }
     ensures new { IfOk result (λ world. world ≡ first_world (script_content script.now)) }
     ensures good { OnOk result (HasGoodConfigs script.now.a script.now.b) }
     ensures fault { IfErr result (HasReportFault (script_content script.now)) }
 {
-    match World::with_lifetime(alloc, script.a, script.b, script.life) {
+    match World::with_lifetime_in(alloc, script.a, script.b, script.life) {
         Ok(world) => Ok(world),
         Err(WorldError::Config(_, ConfigError::NoMemory)) => Err(ReportError::NoMemory),
         Err(WorldError::Config(side, fault)) => Err(ReportError::Config(side, fault)),
@@ -84,7 +95,11 @@ fn new_world(alloc: Global, script: &Script) -> Result<World, ReportError>
 }
 
 /// The report of events that happen in turn to the ends of a world.
-fn report_from(alloc: Global, world: &mut World, events: &[Turn]) -> Result<Report, AllocError>
+fn report_from<A: Allocator + Copy>(
+    alloc: A,
+    world: &mut World<A>,
+    events: &[Turn<A>],
+) -> Result<Report<A>, AllocError>
     ensures text { IfOk result (λ report. string_bytes report.text ≡ event_lines 1 world.old (map turn_content events.now) ++ end_lines (world_after_turns world.old (map turn_content events.now))) }
     ensures well { IfOk result (λ report. report.is_well ≡ is_well world.old (map turn_content events.now)) }
 {
@@ -96,7 +111,10 @@ fn report_from(alloc: Global, world: &mut World, events: &[Turn]) -> Result<Repo
 /// The report of a script whose events happen in turn to two new ends, with a lifetime that two ends can have. Want of memory
 /// can come at any turn.
 #[tactic(auto, unfolding(crate::specs::Report::report_text, crate::specs::Report::report_is_well))]
-pub fn make_report(alloc: Global, script: &Script) -> Result<Report, ReportError>
+pub fn make_report<A: Allocator + Copy>(
+    alloc: A,
+    script: &Script<A>,
+) -> Result<Report<A>, ReportError>
     requires { HasLife script.now }
     ensures text { IfOk result (λ report. string_bytes report.text ≡ report_text (script_content script.now)) }
     ensures well { IfOk result (λ report. report.is_well ≡ report_is_well (script_content script.now)) }

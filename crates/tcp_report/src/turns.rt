@@ -8,12 +8,15 @@ ghost use Rattle.tcp_report.specs.Report.{event_line, event_in_turn, turns_from,
 
 use crate::events::push_event;
 use crate::outcomes::{StepResult, is_refused, push_step_result};
-use std::alloc::{AllocError, Global};
+use std::alloc::{AllocError, Allocator};
 use tcp_replay::{Event, StepError, World};
 use tcp_script::Turn;
 
 /// One event, refused or not. Where memory is refused the world is as it was.
-fn apply(world: &mut World, event: &Event) -> Result<StepResult, AllocError>
+fn apply<A: Allocator + Copy>(
+    world: &mut World<A>,
+    event: &Event<A>,
+) -> Result<StepResult, AllocError>
     ensures answer { IfOk result (λ answer. answer ≡ step_answer world.old (event_content event.now)) }
     ensures state { OnOk result (world.new ≡ world_after world.old (event_content event.now)) }
 {
@@ -25,12 +28,12 @@ fn apply(world: &mut World, event: &Event) -> Result<StepResult, AllocError>
 
 /// Applies an event and appends its line; answers whether it was refused.
 #[tactic(auto, unfolding(crate::specs::Report::event_line))]
-fn push_event_line(
-    alloc: Global,
-    text: &mut String,
-    world: &mut World,
+fn push_event_line<A: Allocator + Copy>(
+    alloc: A,
+    text: &mut String<A>,
+    world: &mut World<A>,
     number: usize,
-    event: &Event,
+    event: &Event<A>,
 ) -> Result<bool, AllocError>
     ensures line { OnOk result (string_bytes text.new ≡ string_bytes text.old ++ event_line number world.old (event_content event.now)) }
     ensures refused { IfOk result (λ refused. refused ≡ is_refused (step_answer world.old (event_content event.now))) }
@@ -48,7 +51,11 @@ fn push_event_line(
 }
 
 /// One turn of an event: the number of a segment that it names has grown by `turn`.
-fn apply_turn(world: &mut World, event: &Event, turn: usize) -> Result<StepResult, AllocError>
+fn apply_turn<A: Allocator + Copy>(
+    world: &mut World<A>,
+    event: &Event<A>,
+    turn: usize,
+) -> Result<StepResult, AllocError>
     ensures answer { IfOk result (λ answer. answer ≡ step_answer world.old (event_in_turn (event_content event.now) turn)) }
     ensures state { OnOk result (world.new ≡ world_after world.old (event_in_turn (event_content event.now) turn)) }
 {
@@ -66,7 +73,11 @@ fn apply_turn(world: &mut World, event: &Event, turn: usize) -> Result<StepResul
 
 /// Applies all turns of an event, refused ones too; answers how many were refused.
 #[tactic(auto, using(crate::proofs::Repeats::next_turn, crate::proofs::Repeats::no_turn_left), unfolding(crate::specs::Report::refusals, tcp_replay::specs::World::world_after_all))]
-fn apply_turns(world: &mut World, event: &Event, times: u32) -> Result<u32, AllocError>
+fn apply_turns<A: Allocator + Copy>(
+    world: &mut World<A>,
+    event: &Event<A>,
+    times: u32,
+) -> Result<u32, AllocError>
     ensures refused { IfOk result (λ refused. refused ≡ refusals world.old (turns_from (event_content event.now) 0 times)) }
     ensures state { OnOk result (world.new ≡ world_after_all world.old (turns_from (event_content event.now) 0 times)) }
 {
@@ -84,11 +95,11 @@ fn apply_turns(world: &mut World, event: &Event, times: u32) -> Result<u32, Allo
 
 /// Appends what the turns of an event came to: for `send` how many bytes were taken since `accepted` were, for others how many
 /// turns weren't refused.
-fn push_count(
-    text: &mut String,
-    world: &World,
+fn push_count<A: Allocator>(
+    text: &mut String<A>,
+    world: &World<A>,
     accepted: usize,
-    event: &Event,
+    event: &Event<A>,
     times: u32,
     refused: u32,
 ) -> Result<(), AllocError>
@@ -108,11 +119,11 @@ fn push_count(
 
 /// Applies all turns of an event and appends their line; answers how many were refused.
 #[tactic(auto, unfolding(crate::specs::Report::repeat_text, crate::specs::Report::repeat_line))]
-fn push_repeat_line(
-    text: &mut String,
-    world: &mut World,
+fn push_repeat_line<A: Allocator + Copy>(
+    text: &mut String<A>,
+    world: &mut World<A>,
     number: usize,
-    event: &Event,
+    event: &Event<A>,
     times: u32,
 ) -> Result<u32, AllocError>
     ensures line { OnOk result (string_bytes text.new ≡ string_bytes text.old ++ repeat_line number world.old times (event_content event.now)) }
@@ -131,12 +142,12 @@ fn push_repeat_line(
 
 /// Applies an event as often as the script says and appends its line; answers whether no turn was refused.
 #[tactic(auto, unfolding(crate::specs::Report::refusals, tcp_replay::specs::World::world_after_all))]
-fn push_turn_line(
-    alloc: Global,
-    text: &mut String,
-    world: &mut World,
+pub(crate) fn push_turn_line<A: Allocator + Copy>(
+    alloc: A,
+    text: &mut String<A>,
+    world: &mut World<A>,
     number: usize,
-    turn: &Turn,
+    turn: &Turn<A>,
 ) -> Result<bool, AllocError>
     ensures line { OnOk result (string_bytes text.new ≡ string_bytes text.old ++ turn_line number world.old (turn_content turn.now)) }
     ensures well { IfOk result (λ well. well ≡ (refusals world.old (events_of (turn_content turn.now)) == 0)) }
@@ -152,11 +163,11 @@ fn push_turn_line(
 
 /// Applies all events in turn, refused ones too, and appends their lines; answers whether no turn was refused.
 #[tactic(auto, unfolding(crate::specs::Report::event_lines, crate::specs::Report::is_well, crate::specs::Report::world_after_turns))]
-pub(crate) fn push_event_lines(
-    alloc: Global,
-    text: &mut String,
-    world: &mut World,
-    events: &[Turn],
+pub(crate) fn push_event_lines<A: Allocator + Copy>(
+    alloc: A,
+    text: &mut String<A>,
+    world: &mut World<A>,
+    events: &[Turn<A>],
 ) -> Result<bool, AllocError>
     ensures lines { OnOk result (string_bytes text.new ≡ string_bytes text.old ++ event_lines 1 world.old (map turn_content events.now)) }
     ensures well { IfOk result (λ well. well ≡ is_well world.old (map turn_content events.now)) }

@@ -2,8 +2,8 @@
 -- script; and a first bad line.
 use Rattle.std.proofs.Common.{◌≡◌, ℕ, [], ◌∷◌, ◌++◌, List, refl}
 use Rattle.std.specs.Prelude.{codes, Ok, Err, None, Some, true, false}
-use Rattle.tcp_conn.specs.declared.config.Config.{Config}
-use Rattle.tcp_conn.specs.declared.phase.Timer.TheVariants.{Retransmit}
+use Rattle.tcp_halves.specs.declared.config.Config.{Config}
+use Rattle.tcp_halves.specs.declared.phase.Timer.TheVariants.{Retransmit}
 use Rattle.tcp_replay.specs.declared.event.Side.TheVariants.{A, B}
 use Rattle.tcp_replay.specs.Events.{Listen, Connect, Receive, Timer, Emit, Deliver}
 use Rattle.tcp_text.specs.Lines.{numbered_from}

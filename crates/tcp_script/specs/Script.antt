@@ -2,7 +2,7 @@
 use Rattle.std.specs.Prelude.{◌≡◌, ℕ, ◌==◌, ◌≤◌, ◌^◌, true, false, Bool, if◌then◌else◌, List, [], ◌∷◌, ◌++◌, length, drop, map, bytes_eq, codes, Option, Some, None, Result, Ok, Err}
 use Rattle.std.specs.Option.{option_and_then, option_map_or}
 use Rattle.tcp_conn.specs.Config.{default_limit, stream_limit}
-use Rattle.tcp_conn.specs.declared.config.Config.{Config}
+use Rattle.tcp_halves.specs.declared.config.Config.{Config}
 use Rattle.tcp_replay.specs.World.{max_life}
 use Rattle.tcp_replay.specs.declared.event.Side.{Side}
 use Rattle.tcp_replay.specs.declared.event.Side.TheVariants.{A, B}
@@ -35,10 +35,10 @@ pub record ScriptContent : Type 0 where
   pub events : List TurnContent
 
 -- what a script of the code says
-abbrev pub turn_content : Turn → TurnContent
+abbrev pub turn_content : {A : Type 0} → Turn A → TurnContent
 turn_content t = record { times = t.times; event = event_content t.event }
 
-abbrev pub script_content : Script → ScriptContent
+abbrev pub script_content : {A : Type 0} → Script A → ScriptContent
 script_content s = record { version = s.version; life = s.life; a = s.a; b = s.b; events = map turn_content s.events.items }
 
 -- WHERE NO LINE SAYS OTHERWISE
@@ -121,7 +121,7 @@ abbrev pub SaysVersion1 : List ℕ → Type 0
 SaysVersion1 text = is_version_2 text ≡ false → script_of text ≡ of_event_answer (event_script_of text)
 
 -- the lifetime can be one of two ends
-pub record HasLife (s : Script) : Type 0 where
+pub record HasLife {A : Type 0} (s : Script A) : Type 0 where
   pub least : 2 ≤ s.life
   pub most : s.life ≤ max_life
 
@@ -138,7 +138,7 @@ GoesOnToEnd (Err (BadLine line)) meaning new = meaning ≡ Err line
 GoesOnToEnd (Err NoMemory) meaning new = Unit {0}
 
 -- what reading a script answers, where there is memory
-abbrev pub ReadsScript : Result Script ScriptError → Result ScriptContent ℕ → Type 0
+abbrev pub ReadsScript : {A : Type 0} → Result (Script A) ScriptError → Result ScriptContent ℕ → Type 0
 ReadsScript (Ok s) meaning = meaning ≡ Ok (script_content s)
 ReadsScript (Err (BadLine line)) meaning = meaning ≡ Err line
 ReadsScript (Err NoMemory) meaning = Unit {0}

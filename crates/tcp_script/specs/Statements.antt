@@ -57,7 +57,7 @@ pub data StatementContent : Type 0 where
   setting : Side → Setting → StatementContent
   event : EventContent → StatementContent
 
-abbrev pub statement_content : Statement → StatementContent
+abbrev pub statement_content : {A : Type 0} → Statement A → StatementContent
 statement_content (code.Setting side x) = setting side x
 statement_content (code.Event e) = event (event_content e)
 

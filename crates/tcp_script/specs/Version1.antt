@@ -1,7 +1,7 @@
 -- The whole script of version 1, or its first bad line: a function from its text.
 use Rattle.std.specs.Prelude.{ℕ, ◌==◌, if◌then◌else◌, List, [], ◌∷◌, ◌++◌, length, Option, Some, None, Result, Ok, Err}
 use Rattle.std.specs.Option.{option_and_then, option_map_or}
-use Rattle.tcp_conn.specs.declared.config.Config.{Config}
+use Rattle.tcp_halves.specs.declared.config.Config.{Config}
 use Rattle.tcp_replay.specs.declared.event.Side.{Side}
 use Rattle.tcp_replay.specs.declared.event.Side.TheVariants.{A, B}
 use Rattle.tcp_replay.specs.Events.{EventContent}

@@ -17,7 +17,7 @@ pub data LineContent : Type 0 where
   limit : Side → ℕ → LineContent
   repeat : ℕ → EventContent → LineContent
 
-abbrev pub line_content : Line → LineContent
+abbrev pub line_content : {A : Type 0} → Line A → LineContent
 line_content (code.Statement x) = statement (statement_content x)
 line_content (code.Life positions) = life positions
 line_content (code.Limit side bytes) = limit side bytes
@@ -81,7 +81,7 @@ abbrev pub line_of : ℕ → List ℕ → Option LineContent
 line_of version line = if version == 2 then option_or (added_line_of line) (version_1_line_of line) else version_1_line_of line
 
 -- a lifetime that a line sets can be one of two ends
-abbrev pub HasLineLife : Line → Type 0
+abbrev pub HasLineLife : {A : Type 0} → Line A → Type 0
 HasLineLife (code.Life positions) = (2 ≤ positions) × (positions ≤ max_life)
 HasLineLife other = Unit {0}
 

@@ -5,7 +5,7 @@ ghost use Rattle.tcp_text.specs.Words.{further_pieces, Reads};
 ghost use Rattle.tcp_script.specs.Statements.{bare_event, event_with_word, event_with_three, event_of, event_after_kind, event_of_words};
 
 use crate::names::{Kind, read_kind, read_side, read_timer};
-use std::alloc::Global;
+use std::alloc::Allocator;
 use tcp_replay::{Event, Side};
 use tcp_text::{LineError, SPACE, cut, read_bytes, read_number};
 
@@ -16,7 +16,7 @@ pub(crate) const MAX_PLACE: u64 = 4_294_967_295;
 const MAX_ROOM: u64 = 1_048_576;
 
 /// An event that names nothing but its side.
-fn bare(kind: Kind, side: Side) -> Option<Event>
+fn bare<A: Allocator>(kind: Kind, side: Side) -> Option<Event<A>>
     ensures { option_map event_content result ≡ bare_event kind side }
 {
     match kind {
@@ -30,7 +30,12 @@ fn bare(kind: Kind, side: Side) -> Option<Event>
 }
 
 /// An event with one word after its side.
-fn with_word(alloc: Global, kind: Kind, side: Side, word: &[u8]) -> Result<Event, LineError>
+fn with_word<A: Allocator + Copy>(
+    alloc: A,
+    kind: Kind,
+    side: Side,
+    word: &[u8],
+) -> Result<Event<A>, LineError>
     ensures { Reads event_content result (event_with_word kind side word.now) }
 {
     match kind {
@@ -52,7 +57,13 @@ fn with_word(alloc: Global, kind: Kind, side: Side, word: &[u8]) -> Result<Event
 }
 
 /// An event with three words after its side.
-fn with_three(kind: Kind, from: Side, k: &[u8], place: &[u8], value: &[u8]) -> Option<Event>
+fn with_three<A: Allocator>(
+    kind: Kind,
+    from: Side,
+    k: &[u8],
+    place: &[u8],
+    value: &[u8],
+) -> Option<Event<A>>
     ensures { option_map event_content result ≡ event_with_three kind from k.now place.now value.now }
 {
     if kind != Kind::Damage {
@@ -65,12 +76,12 @@ fn with_three(kind: Kind, from: Side, k: &[u8], place: &[u8], value: &[u8]) -> O
 }
 
 /// The event with these words after its side.
-fn after_side(
-    alloc: Global,
+fn after_side<A: Allocator + Copy>(
+    alloc: A,
     kind: Kind,
     side: Side,
     rest: Option<&[u8]>,
-) -> Result<Event, LineError>
+) -> Result<Event<A>, LineError>
     ensures { Reads event_content result (event_of kind side (further_pieces 32 rest.entry)) }
 {
     let Some(rest) = rest else {
@@ -89,7 +100,11 @@ fn after_side(
 }
 
 /// The event of a line with these words after its kind.
-fn after_kind(alloc: Global, kind: Kind, rest: Option<&[u8]>) -> Result<Event, LineError>
+fn after_kind<A: Allocator + Copy>(
+    alloc: A,
+    kind: Kind,
+    rest: Option<&[u8]>,
+) -> Result<Event<A>, LineError>
     ensures { Reads event_content result (event_after_kind kind (further_pieces 32 rest.entry)) }
 {
     let (side, rest) = cut(SPACE, rest.ok_or(LineError::BadForm)?);
@@ -98,11 +113,11 @@ fn after_kind(alloc: Global, kind: Kind, rest: Option<&[u8]>) -> Result<Event, L
 }
 
 /// The event of a line with these words after its first.
-pub(crate) fn read_event(
-    alloc: Global,
+pub(crate) fn read_event<A: Allocator + Copy>(
+    alloc: A,
     word: &[u8],
     rest: Option<&[u8]>,
-) -> Result<Event, LineError>
+) -> Result<Event<A>, LineError>
     ensures { Reads event_content result (event_of_words word.now (further_pieces 32 rest.entry)) }
 {
     let kind = read_kind(word).ok_or(LineError::BadForm)?;

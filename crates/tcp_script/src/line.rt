@@ -7,7 +7,7 @@ ghost use Rattle.tcp_script.specs.Version2.{line_content, number_from, life_of, 
 use crate::events::{MAX_PLACE, read_event};
 use crate::names::read_side;
 use crate::statement::{CONFIG, Statement, read_statement};
-use std::alloc::Global;
+use std::alloc::{Allocator, Global};
 use tcp_replay::{Event, MAX_LIFE, Side};
 use tcp_text::{LineError, SPACE, cut, read_number};
 
@@ -25,15 +25,15 @@ const MAX_LIMIT: u64 = 9_223_372_036_854_775_807;
 
 /// What a line says.
 #[derive(Debug, Drop)]
-pub(crate) enum Line {
+pub(crate) enum Line<A: Allocator = Global> {
     /// What version 1 has too.
-    Statement(Statement),
+    Statement(Statement<A>),
     /// How many positions a segment lives.
     Life(u32),
     /// The limit of this side's stream, in bytes.
     Limit(Side, u64),
     /// An event with so many turns.
-    Repeat(u32, Event),
+    Repeat(u32, Event<A>),
 }
 
 /// The number of a word, where it is from `least` to `most`.
@@ -49,7 +49,7 @@ fn read_number_from(word: &[u8], least: u64, most: u64) -> Option<u64>
     Some(n)
 }
 
-fn read_life(key: &[u8], value: &[u8]) -> Option<Line>
+fn read_life<A: Allocator>(key: &[u8], value: &[u8]) -> Option<Line<A>>
     ensures line { option_map line_content result ≡ life_of key.now value.now }
     ensures life { IfSome result HasLineLife }
 {
@@ -60,7 +60,7 @@ fn read_life(key: &[u8], value: &[u8]) -> Option<Line>
     Some(Line::Life(life as u32))
 }
 
-fn read_limit(side: &[u8], key: &[u8], value: &[u8]) -> Option<Line>
+fn read_limit<A: Allocator>(side: &[u8], key: &[u8], value: &[u8]) -> Option<Line<A>>
     ensures line { option_map line_content result ≡ limit_of side.now key.now value.now }
     ensures life { IfSome result HasLineLife }
 {
@@ -71,7 +71,7 @@ fn read_limit(side: &[u8], key: &[u8], value: &[u8]) -> Option<Line>
 }
 
 /// The line with these words after `config`.
-fn read_config(rest: Option<&[u8]>) -> Option<Line>
+fn read_config<A: Allocator>(rest: Option<&[u8]>) -> Option<Line<A>>
     ensures line { option_map line_content result ≡ config_of_words (further_pieces 32 rest.entry) }
     ensures life { IfSome result HasLineLife }
 {
@@ -88,7 +88,7 @@ fn read_config(rest: Option<&[u8]>) -> Option<Line>
 }
 
 /// The greatest number of a segment that an event of so many turns names.
-fn last_number(times: u32, event: &Event) -> Option<usize>
+fn last_number<A: Allocator>(times: u32, event: &Event<A>) -> Option<usize>
     requires { 1 ≤ times }
     ensures { IsNumberWithin result (last_number times (event_content event.now)) }
 {
@@ -100,7 +100,7 @@ fn last_number(times: u32, event: &Event) -> Option<usize>
 }
 
 /// An event of so many turns, where the last one's number can be named.
-fn repeat(times: u32, event: Event) -> Option<Line>
+fn repeat<A: Allocator>(times: u32, event: Event<A>) -> Option<Line<A>>
     requires { 1 ≤ times }
     ensures line { option_map line_content result ≡ repeated times (event_content event) }
     ensures life { IfSome result HasLineLife }
@@ -112,7 +112,7 @@ fn repeat(times: u32, event: Event) -> Option<Line>
 }
 
 /// The line with these words after `repeat`.
-fn read_repeat(alloc: Global, rest: Option<&[u8]>) -> Result<Line, LineError>
+fn read_repeat<A: Allocator + Copy>(alloc: A, rest: Option<&[u8]>) -> Result<Line<A>, LineError>
     ensures line { Reads line_content result (repeat_of_words (further_pieces 32 rest.entry)) }
     ensures life { IfOk result HasLineLife }
 {
@@ -125,7 +125,7 @@ fn read_repeat(alloc: Global, rest: Option<&[u8]>) -> Result<Line, LineError>
 
 /// The line that version 2 has and version 1 has not.
 #[tactic(auto, unfolding(crate::specs::Version2::added_line_of))]
-fn read_added_line(alloc: Global, line: &[u8]) -> Result<Line, LineError>
+fn read_added_line<A: Allocator + Copy>(alloc: A, line: &[u8]) -> Result<Line<A>, LineError>
     ensures line { Reads line_content result (added_line_of line.now) }
     ensures life { IfOk result HasLineLife }
 {
@@ -140,7 +140,11 @@ fn read_added_line(alloc: Global, line: &[u8]) -> Result<Line, LineError>
 }
 
 /// The line of a script of a version.
-pub(crate) fn read_line(alloc: Global, version: u8, line: &[u8]) -> Result<Line, LineError>
+pub(crate) fn read_line<A: Allocator + Copy>(
+    alloc: A,
+    version: u8,
+    line: &[u8],
+) -> Result<Line<A>, LineError>
     ensures line { Reads line_content result (line_of version line.now) }
     ensures life { IfOk result HasLineLife }
 {

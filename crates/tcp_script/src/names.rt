@@ -3,6 +3,7 @@ ghost use Rattle.std.specs.Prelude.{◌≡◌};
 ghost use Rattle.tcp_replay.specs.Events.{event_content};
 ghost use Rattle.tcp_script.specs.Names as spec;
 
+use std::alloc::Allocator;
 use tcp_conn::Timer;
 use tcp_replay::{Event, Side};
 
@@ -34,7 +35,7 @@ pub enum Kind {
 }
 
 /// The kind of an event.
-pub fn kind_of(event: &Event) -> Kind
+pub fn kind_of<A: Allocator>(event: &Event<A>) -> Kind
     ensures { result ≡ spec.kind_of (event_content event.now) }
 {
     match event {

@@ -10,7 +10,7 @@ use crate::error::ScriptError;
 use crate::line::{Line, read_line};
 use crate::settings::set;
 use crate::statement::Statement;
-use std::alloc::Global;
+use std::alloc::{Allocator, Global};
 use tcp_conn::{Config, DEFAULT_LIMIT, MAX_LIMIT};
 use tcp_replay::{Event, MAX_LIFE, Side};
 use tcp_text::{LineError, Lines, cut};
@@ -21,16 +21,16 @@ const VERSION_2: &[u8] = b"tcpkit 2";
 
 /// An event, and how many turns it has.
 #[derive(Debug, Drop)]
-pub struct Turn {
+pub struct Turn<A: Allocator = Global> {
     /// None where the event isn't repeated.
     pub times: Option<u32>,
     /// The event of the first turn. The number of a segment that it names grows by 1 each turn.
-    pub event: Event,
+    pub event: Event<A>,
 }
 
 /// What a script says: what the two ends are made from, and what happens to them in turn.
 #[derive(Debug, Drop)]
-pub struct Script {
+pub struct Script<A: Allocator = Global> {
     /// 1, or 2 where the first line says so.
     pub version: u8,
     /// How many positions a segment lives, from 2 to 2,147,483,648 (RFC 9293, 3.4).
@@ -40,7 +40,7 @@ pub struct Script {
     /// What side B is made from.
     pub b: Config,
     /// The events, each with its turns.
-    pub events: Vec<Turn>,
+    pub events: Vec<Turn<A>, A>,
 }
 
 /// The end of address 10.0.0.`host` where no line says otherwise, with this limit.
@@ -52,9 +52,9 @@ fn default_config(host: u8, isn: u32, limit: u64) -> Config
     config
 }
 
-impl Script {
+impl<A: Allocator + Copy> Script<A> {
     /// The script of a version without lines, with this limit of both streams.
-    fn new(alloc: Global, version: u8, limit: u64) -> Script
+    fn new(alloc: A, version: u8, limit: u64) -> Script<A>
         ensures script { script_content result ≡ script_without_lines version limit }
         ensures life { HasLife result }
     {
@@ -68,7 +68,7 @@ impl Script {
     }
 
     /// Goes on by an event.
-    fn push(&mut self, times: Option<u32>, event: Event) -> Result<(), LineError>
+    fn push(&mut self, times: Option<u32>, event: Event<A>) -> Result<(), LineError>
         ensures turn { GoesOn result (Some (with_turn (script_content self.old) times (event_content event))) (script_content self.new) }
         ensures life { HasLife self.old → HasLife self.new }
     {
@@ -79,7 +79,7 @@ impl Script {
     }
 
     /// Goes on by what a line says. What sets a value is refused after an event.
-    fn add(&mut self, line: Line) -> Result<(), LineError>
+    fn add(&mut self, line: Line<A>) -> Result<(), LineError>
         requires { HasLineLife line }
         ensures line { GoesOn result (with_line_content (script_content self.old) (line_content line)) (script_content self.new) }
         ensures life { HasLife self.old → HasLife self.new }
@@ -98,7 +98,7 @@ impl Script {
     }
 
     /// Goes on by a line.
-    fn read_line(&mut self, alloc: Global, line: &[u8]) -> Result<(), LineError>
+    fn read_line(&mut self, alloc: A, line: &[u8]) -> Result<(), LineError>
         ensures line { GoesOn result (with_line (script_content self.old) line.now) (script_content self.new) }
         ensures life { HasLife self.old → HasLife self.new }
     {
@@ -110,7 +110,7 @@ impl Script {
 
     /// Goes on by all lines in turn, up to the first that is bad.
     #[tactic(auto, unfolding(crate::specs::Script::script_from))]
-    fn read_lines(&mut self, alloc: Global, lines: Lines<'_>) -> Result<(), ScriptError>
+    fn read_lines(&mut self, alloc: A, lines: Lines<'_>) -> Result<(), ScriptError>
         ensures lines { GoesOnToEnd result (script_from (script_content self.old) lines.entry) (script_content self.new) }
         ensures life { HasLife self.old → HasLife self.new }
     {
@@ -135,7 +135,10 @@ fn is_version_2(text: &[u8]) -> bool
 
 /// The script of a text whose bytes can be any, or its first bad line; want of memory can come at any line.
 #[tactic(auto, unfolding(crate::specs::Script::script_of))]
-pub fn read_script_bytes(alloc: Global, text: &[u8]) -> Result<Script, ScriptError>
+pub fn read_script_bytes<A: Allocator + Copy>(
+    alloc: A,
+    text: &[u8],
+) -> Result<Script<A>, ScriptError>
     ensures script { ReadsScript result (script_of text.now) }
     ensures version_1 { SaysVersion1 text.now }
     ensures life { IfOk result HasLife }
@@ -157,7 +160,7 @@ pub fn read_script_bytes(alloc: Global, text: &[u8]) -> Result<Script, ScriptErr
 }
 
 /// The script of a text, or its first bad line; want of memory can come at any line.
-pub fn read_script(alloc: Global, text: &str) -> Result<Script, ScriptError>
+pub fn read_script<A: Allocator + Copy>(alloc: A, text: &str) -> Result<Script<A>, ScriptError>
     ensures script { ReadsScript result (script_of text.now) }
     ensures version_1 { SaysVersion1 text.now }
     ensures life { IfOk result HasLife }

@@ -6,7 +6,7 @@ ghost use Rattle.tcp_script.specs.Statements.{statement_content, setting_of_word
 use crate::events::read_event;
 use crate::names::read_side;
 use crate::settings::{Setting, read_setting};
-use std::alloc::Global;
+use std::alloc::{Allocator, Global};
 use tcp_replay::{Event, Side};
 use tcp_text::{LineError, SPACE, cut};
 
@@ -15,14 +15,14 @@ pub(crate) const CONFIG: &[u8] = b"config";
 
 /// What a line says.
 #[derive(Debug, Drop)]
-pub(crate) enum Statement {
+pub(crate) enum Statement<A: Allocator = Global> {
     /// A value of this side's `Config`.
     Setting(Side, Setting),
-    Event(Event),
+    Event(Event<A>),
 }
 
 /// The setting with these words after `config`.
-fn read_config(rest: Option<&[u8]>) -> Option<Statement>
+fn read_config<A: Allocator>(rest: Option<&[u8]>) -> Option<Statement<A>>
     ensures { option_map statement_content result ≡ setting_of_words (further_pieces 32 rest.entry) }
 {
     let (side, rest) = cut(SPACE, rest?);
@@ -36,7 +36,10 @@ fn read_config(rest: Option<&[u8]>) -> Option<Statement>
 
 /// The statement of a line.
 #[tactic(auto, unfolding(crate::specs::Statements::statement_of))]
-pub(crate) fn read_statement(alloc: Global, line: &[u8]) -> Result<Statement, LineError>
+pub(crate) fn read_statement<A: Allocator + Copy>(
+    alloc: A,
+    line: &[u8],
+) -> Result<Statement<A>, LineError>
     ensures { Reads statement_content result (statement_of line.now) }
 {
     let (kind, rest) = cut(SPACE, line);

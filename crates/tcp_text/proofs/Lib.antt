@@ -1,5 +1,4 @@
 pub mod Cuts
 pub mod Digits
-pub mod FlagNames
 pub mod LineCounts
 pub mod WordCounts

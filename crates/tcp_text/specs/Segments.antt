@@ -1,11 +1,12 @@
 -- How segments and the faults of bytes that are none are written.
-use Rattle.std.specs.Prelude.{ℕ, List, [], ◌∷◌, ◌++◌, length, codes, decimal}
+use Rattle.std.specs.Prelude.{ℕ, Bool, true, false, List, [], ◌∷◌, ◌++◌, length, codes, decimal, Result, Ok, Err}
 use Rattle.tcp_wire.specs.declared.fault.DecodeError.{DecodeError}
 use Rattle.tcp_wire.specs.declared.fault.DecodeError.TheVariants.{TooShort, TooLong, BadChecksum, BadOffset, BadOption, BadPadding}
 use Rattle.tcp_wire.specs.Refusals.{decode_error_number}
 use Rattle.tcp_wire.specs.Options.{OptionContent, Nop, Mss, WindowScale, SackPermitted, Sack, Unknown}
 use Rattle.tcp_wire.specs.Wire.{Content}
-use Rattle.tcp_text.specs.Texts.{bytes_text, flags_text, blocks_text, options_text}
+use Rattle.tcp_text.specs.Texts.{bytes_text, blocks_text, options_text}
+use Rattle.tcp_wire.specs.Texts.{flags_text}
 
 -- ALL FIELDS of a segment: ports and numbers, the other fields of the fixed header, and what comes after it
 unfoldable pub numbers_text : Content → List ℕ
@@ -56,3 +57,12 @@ fault_name (BadPadding place) = codes "BadPadding at " ++ decimal place
 
 unfoldable pub named_fault_text : DecodeError → List ℕ
 named_fault_text e = fault_text e ++ (codes " " ++ (fault_name e))
+
+-- WHAT BYTES SAY: all fields of the segment that they are, or why they are none
+abbrev pub meaning_text : Result Content DecodeError → List ℕ
+meaning_text (Ok v) = fields_text v
+meaning_text (Err e) = named_fault_text e
+
+abbrev pub is_malformed : Result Content DecodeError → Bool
+is_malformed (Ok v) = false
+is_malformed (Err e) = true

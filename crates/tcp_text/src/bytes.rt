@@ -5,12 +5,12 @@ ghost use Rattle.tcp_text.specs.Texts.{bytes_text};
 
 use crate::line::LineError;
 use hex::FromHexError;
-use std::alloc::{AllocError, Global};
+use std::alloc::{AllocError, Allocator};
 
 const NO_BYTES: &[u8] = b"-";
 
 /// The bytes of a word in hexadecimal digits of either case, two for each byte; `-` has none.
-pub fn read_bytes(alloc: Global, word: &[u8]) -> Result<Vec<u8>, LineError>
+pub fn read_bytes<A: Allocator + Copy>(alloc: A, word: &[u8]) -> Result<Vec<u8, A>, LineError>
     ensures { Reads (λ bytes. bytes.items) result (bytes_of word.now) }
 {
     if word == NO_BYTES {
@@ -27,7 +27,11 @@ pub fn read_bytes(alloc: Global, word: &[u8]) -> Result<Vec<u8>, LineError>
 }
 
 /// Appends bytes in lower case hexadecimal, or `-` for none.
-pub fn push_bytes(alloc: Global, text: &mut String, bytes: &[u8]) -> Result<(), AllocError>
+pub fn push_bytes<A: Allocator + Copy>(
+    alloc: A,
+    text: &mut String<A>,
+    bytes: &[u8],
+) -> Result<(), AllocError>
     ensures { OnOk result (string_bytes text.new ≡ string_bytes text.old ++ bytes_text bytes.now) }
 {
     if bytes.is_empty() {

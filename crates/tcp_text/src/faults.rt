@@ -2,11 +2,11 @@
 ghost use Rattle.std.specs.Prelude.{◌≡◌, ◌++◌, OnOk, string_bytes};
 ghost use Rattle.tcp_text.specs.Segments.{fault_text, fault_name, named_fault_text};
 
-use std::alloc::AllocError;
+use std::alloc::{AllocError, Allocator};
 use tcp_wire::DecodeError;
 
 /// Appends a fault by its number.
-pub fn push_fault(text: &mut String, fault: DecodeError) -> Result<(), AllocError>
+pub fn push_fault<A: Allocator>(text: &mut String<A>, fault: DecodeError) -> Result<(), AllocError>
     ensures { OnOk result (string_bytes text.new ≡ string_bytes text.old ++ fault_text fault) }
 {
     let number = fault.number();
@@ -14,7 +14,7 @@ pub fn push_fault(text: &mut String, fault: DecodeError) -> Result<(), AllocErro
 }
 
 /// A fault's name, with its place where it has one.
-fn push_name(text: &mut String, fault: DecodeError) -> Result<(), AllocError>
+fn push_name<A: Allocator>(text: &mut String<A>, fault: DecodeError) -> Result<(), AllocError>
     ensures { OnOk result (string_bytes text.new ≡ string_bytes text.old ++ fault_name fault) }
 {
     match fault {
@@ -29,7 +29,10 @@ fn push_name(text: &mut String, fault: DecodeError) -> Result<(), AllocError>
 
 /// Appends a fault by its number and its name, with its place where it has one.
 #[tactic(auto, unfolding(crate::specs::Segments::named_fault_text))]
-pub fn push_named_fault(text: &mut String, fault: DecodeError) -> Result<(), AllocError>
+pub fn push_named_fault<A: Allocator>(
+    text: &mut String<A>,
+    fault: DecodeError,
+) -> Result<(), AllocError>
     ensures { OnOk result (string_bytes text.new ≡ string_bytes text.old ++ named_fault_text fault) }
 {
     push_fault(text, fault)?;

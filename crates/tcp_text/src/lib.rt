@@ -1,14 +1,14 @@
 //! The text forms of scripts, lists and reports: lines, words, numbers, addresses and bytes are read; bytes,
-//! flags, blocks, options, segments and faults are written.
+//! blocks, options, segments and faults are written.
 #![tactic(auto)]
 
 mod addresses;
 mod bytes;
 mod cutting;
 mod faults;
-mod flags;
 mod line;
 mod lines;
+mod meaning;
 mod numbers;
 mod options;
 mod segments;
@@ -17,9 +17,9 @@ pub use addresses::read_addr;
 pub use bytes::{push_bytes, read_bytes};
 pub use cutting::{SPACE, cut};
 pub use faults::{push_fault, push_named_fault};
-pub use flags::push_flags;
 pub use line::LineError;
 pub use lines::Lines;
+pub use meaning::push_meaning;
 pub use numbers::read_number;
 pub use options::{push_blocks, push_options};
 pub use segments::{push_fields, push_summary};

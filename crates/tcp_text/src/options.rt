@@ -4,10 +4,10 @@ ghost use Rattle.tcp_wire.specs.View.{block, option_content};
 ghost use Rattle.tcp_text.specs.Texts.{block_text, blocks_text, option_text, options_text};
 
 use crate::bytes::push_bytes;
-use std::alloc::{AllocError, Global};
+use std::alloc::{AllocError, Allocator};
 use tcp_wire::{Seq, TcpOption};
 
-fn push_block(text: &mut String, edges: &(Seq, Seq)) -> Result<(), AllocError>
+fn push_block<A: Allocator>(text: &mut String<A>, edges: &(Seq, Seq)) -> Result<(), AllocError>
     ensures { OnOk result (string_bytes text.new ≡ string_bytes text.old ++ block_text (block edges.now)) }
 {
     write!(text, "{}-{}", edges.0.0, edges.1.0)
@@ -16,7 +16,10 @@ fn push_block(text: &mut String, edges: &(Seq, Seq)) -> Result<(), AllocError>
 /// Appends blocks (RFC 2018, 3), each as its left edge and the number after its last, joined by `+`, or `-` for
 /// none.
 #[tactic(auto, unfolding(crate::specs::Texts::blocks_text))]
-pub fn push_blocks(text: &mut String, blocks: &[(Seq, Seq)]) -> Result<(), AllocError>
+pub fn push_blocks<A: Allocator>(
+    text: &mut String<A>,
+    blocks: &[(Seq, Seq)],
+) -> Result<(), AllocError>
     ensures { OnOk result (string_bytes text.new ≡ string_bytes text.old ++ blocks_text (map block blocks.now)) }
 {
     let Some((first, others)) = blocks.split_first() else {
@@ -30,7 +33,11 @@ pub fn push_blocks(text: &mut String, blocks: &[(Seq, Seq)]) -> Result<(), Alloc
     Ok(())
 }
 
-fn push_option(alloc: Global, text: &mut String, option: &TcpOption<'_>) -> Result<(), AllocError>
+fn push_option<A: Allocator + Copy>(
+    alloc: A,
+    text: &mut String<A>,
+    option: &TcpOption<'_>,
+) -> Result<(), AllocError>
     ensures { OnOk result (string_bytes text.new ≡ string_bytes text.old ++ option_text (option_content option.now)) }
 {
     match option {
@@ -51,9 +58,9 @@ fn push_option(alloc: Global, text: &mut String, option: &TcpOption<'_>) -> Resu
 
 /// Appends options joined by commas, or `-` for none.
 #[tactic(auto, unfolding(crate::specs::Texts::options_text))]
-pub fn push_options(
-    alloc: Global,
-    text: &mut String,
+pub fn push_options<A: Allocator + Copy>(
+    alloc: A,
+    text: &mut String<A>,
     options: &[TcpOption<'_>],
 ) -> Result<(), AllocError>
     ensures { OnOk result (string_bytes text.new ≡ string_bytes text.old ++ options_text (map option_content options.now)) }

@@ -4,14 +4,13 @@ ghost use Rattle.tcp_wire.specs.View.{content, option_content, block};
 ghost use Rattle.tcp_text.specs.Segments.{numbers_text, control_text, rest_text, fields_text, first_blocks, summary_text};
 
 use crate::bytes::push_bytes;
-use crate::flags::push_flags;
 use crate::options::{push_blocks, push_options};
-use std::alloc::{AllocError, Global};
+use std::alloc::{AllocError, Allocator};
 use tcp_wire::{Segment, Seq, TcpOption};
 
 /// Ports and numbers.
 #[tactic(auto, unfolding(crate::specs::Segments::numbers_text))]
-fn push_numbers(text: &mut String, segment: &Segment<'_>) -> Result<(), AllocError>
+fn push_numbers<A: Allocator>(text: &mut String<A>, segment: &Segment<'_>) -> Result<(), AllocError>
     ensures { OnOk result (string_bytes text.new ≡ string_bytes text.old ++ numbers_text (content segment.now)) }
 {
     let src_port = segment.header.src_port;
@@ -23,20 +22,26 @@ fn push_numbers(text: &mut String, segment: &Segment<'_>) -> Result<(), AllocErr
 
 /// The other fields of the fixed header.
 #[tactic(auto, unfolding(crate::specs::Segments::control_text))]
-fn push_control(text: &mut String, segment: &Segment<'_>) -> Result<(), AllocError>
+fn push_control<A: Allocator>(text: &mut String<A>, segment: &Segment<'_>) -> Result<(), AllocError>
     ensures { OnOk result (string_bytes text.new ≡ string_bytes text.old ++ control_text (content segment.now)) }
 {
     let reserved = segment.header.reserved;
+    let flags = segment.header.flags;
     let window = segment.header.window;
     let urgent = segment.header.urgent;
-    write!(text, " reserved {reserved} flags ")?;
-    push_flags(text, segment.header.flags)?;
-    write!(text, " window {window} urgent {urgent}")
+    write!(
+        text,
+        " reserved {reserved} flags {flags} window {window} urgent {urgent}"
+    )
 }
 
 /// What comes after the fixed header.
 #[tactic(auto, unfolding(crate::specs::Segments::rest_text))]
-fn push_rest(alloc: Global, text: &mut String, segment: &Segment<'_>) -> Result<(), AllocError>
+fn push_rest<A: Allocator + Copy>(
+    alloc: A,
+    text: &mut String<A>,
+    segment: &Segment<'_>,
+) -> Result<(), AllocError>
     ensures { OnOk result (string_bytes text.new ≡ string_bytes text.old ++ rest_text (content segment.now)) }
 {
     let pad = segment.pad;
@@ -47,9 +52,9 @@ fn push_rest(alloc: Global, text: &mut String, segment: &Segment<'_>) -> Result<
 }
 
 /// Appends all fields of a segment, its checksum aside.
-pub fn push_fields(
-    alloc: Global,
-    text: &mut String,
+pub fn push_fields<A: Allocator + Copy>(
+    alloc: A,
+    text: &mut String<A>,
     segment: &Segment<'_>,
 ) -> Result<(), AllocError>
     ensures { OnOk result (string_bytes text.new ≡ string_bytes text.old ++ fields_text (content segment.now)) }
@@ -73,18 +78,20 @@ fn first_blocks<'a>(options: &'a [TcpOption<'_>]) -> &'a [(Seq, Seq)]
 
 /// Appends flags, numbers, window, the text's length and the blocks of a segment.
 #[tactic(auto, unfolding(crate::specs::Segments::summary_text))]
-pub fn push_summary(text: &mut String, segment: &Segment<'_>) -> Result<(), AllocError>
+pub fn push_summary<A: Allocator>(
+    text: &mut String<A>,
+    segment: &Segment<'_>,
+) -> Result<(), AllocError>
     ensures { OnOk result (string_bytes text.new ≡ string_bytes text.old ++ summary_text (content segment.now)) }
 {
+    let flags = segment.header.flags;
     let seq = segment.header.seq.0;
     let ack = segment.header.ack.0;
     let window = segment.header.window;
     let count = segment.text.len();
-    text.push_str("flags ")?;
-    push_flags(text, segment.header.flags)?;
     write!(
         text,
-        " seq {seq} ack {ack} window {window} text {count} sack "
+        "flags {flags} seq {seq} ack {ack} window {window} text {count} sack "
     )?;
     push_blocks(text, first_blocks(segment.options.as_slice()))
 }

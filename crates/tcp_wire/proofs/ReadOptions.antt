@@ -115,16 +115,25 @@ checked_more n at bytes behind o some found =
     ∙ ap (λ (r : Option (OptionContent × List ℕ)). with_option r (padding_at at bytes) (λ x. with_first x.0 (options_in (n - 1) (at + length (spelling x.0)) x.1))) found
     ∙ ap (λ (p : ℕ). with_first o (options_in (n - 1) p behind)) place
 
+-- a check of these options and what comes after them
+abbrev pub Checks : {A : Type 0} → Result A DecodeError → Result (List OptionContent × ℕ) DecodeError → Type 0
+Checks r listed = MatchResult r (λ u. listed ≡ Ok (listed_or_none listed)) (λ e. listed ≡ Err e)
+
 pub checked_first : {A : Type 0} (r : Result A DecodeError) (o : OptionContent) (inner outer : Result (List OptionContent × ℕ) DecodeError) → outer ≡ with_first o inner
-    → MatchResult r (λ u. inner ≡ Ok (listed_or_none inner)) (λ e. inner ≡ Err e) → MatchResult r (λ u. outer ≡ Ok (listed_or_none outer)) (λ e. outer ≡ Err e)
+    → Checks r inner → Checks r outer
 checked_first (Ok u) o (Ok listed) outer is inside = is ∙ sym (ap (λ (r : Result (List OptionContent × ℕ) DecodeError). Ok (listed_or_none r)) is)
 checked_first (Ok u) o (Err e) outer is inside = absurd cc
 checked_first (Err e) o inner outer is fails = is ∙ ap (with_first o) fails
 
+pub checked_padding : {A : Type 0} (r : Result A DecodeError) (n at : ℕ) (bytes : List ℕ) → (n ≡ 0) ⊎ (option_at bytes ≡ None)
+    → Checks r (padding_at at bytes) → Checks r (options_in n at bytes)
+checked_padding r zero at bytes ended checks = subst (Checks r) (sym (checked_none at bytes)) checks
+checked_padding r (suc n) at bytes (inl none) checks = absurd (omega (arith, none))
+checked_padding r (suc n) at bytes (inr none) checks = subst (Checks r) (sym (checked_end (suc n) at bytes none)) checks
+
 pub checked_behind : {A : Type 0} (r : Result A DecodeError) (n at len : ℕ) (bytes behind : List ℕ) (first : Option (OptionContent × List ℕ)) → 1 ≤ n → len ≤ length bytes
     → option_at bytes ≡ first → option_map (λ (found : OptionContent × List ℕ). found.1) first ≡ Some (drop len bytes) → behind ≡ drop len bytes
-    → MatchResult r (λ u. options_in (n - 1) (at + len) behind ≡ Ok (listed_or_none (options_in (n - 1) (at + len) behind))) (λ e. options_in (n - 1) (at + len) behind ≡ Err e)
-    → MatchResult r (λ u. options_in n at bytes ≡ Ok (listed_or_none (options_in n at bytes))) (λ e. options_in n at bytes ≡ Err e)
+    → Checks r (options_in (n - 1) (at + len) behind) → Checks r (options_in n at bytes)
 checked_behind r n at len bytes behind None some inside found rest is checked = absurd cc
 checked_behind r n at len bytes behind (Some (o, tail)) some inside found rest is checked =
     let same : tail ≡ behind = cc in

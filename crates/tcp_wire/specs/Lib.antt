@@ -2,6 +2,7 @@ pub use Rattle.tcp_numbers.specs.Position
 pub use Rattle.tcp_numbers.specs.Laws
 pub use Rattle.tcp_numbers.specs.Checksum
 pub use Rattle.tcp_numbers.specs.Flags
+pub use Rattle.tcp_numbers.specs.Texts
 pub mod Options
 pub mod Wire
 pub mod Fault

@@ -10,7 +10,9 @@ use tcp_numbers::{Flags, Seq};
 /// The fields of the fixed header (RFC 9293, 3.1), the Data Offset and the checksum aside.
 #[derive(Clone, Copy, Debug, PartialEq, Eq)]
 pub struct Header {
+    /// The port that it comes from.
     pub src_port: u16,
+    /// The port that it goes to.
     pub dst_port: u16,
     /// The number of the first byte of text, or of the SYN.
     pub seq: Seq,
@@ -18,9 +20,11 @@ pub struct Header {
     pub ack: Seq,
     /// The low four bits after the Data Offset, 0 to 15.
     pub reserved: u8,
+    /// The control bits.
     pub flags: Flags,
     /// The window field, as it stands in the segment.
     pub window: u16,
+    /// The urgent pointer, carried and not used.
     pub urgent: u16,
 }
 

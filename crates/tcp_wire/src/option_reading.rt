@@ -143,17 +143,17 @@ pub(crate) fn read_options(area: &[u8]) -> Result<(ArrayVec<TcpOption<'_>, 40>, 
 
 /// Whether at most `left` options stand in these bytes, which begin at place `at` of the segment, and zeros alone after
 /// them. No list is made.
-#[tactic(auto, using(crate::proofs::ReadOptions::checked_none, crate::proofs::ReadOptions::checked_end))]
 pub(crate) fn check_options(bytes: &[u8], at: usize, left: usize) -> Result<(), DecodeError>
     requires short { length bytes.now ≤ 40 }
     requires place { at + length bytes.now ≤ 60 }
     ensures { MatchResult result (λ r. options_in left at bytes.now ≡ Ok (listed_or_none (options_in left at bytes.now))) (λ e. options_in left at bytes.now ≡ Err e) }
 {
-    if left == 0 {
-        return check_padding(bytes, at);
+    let (mut rest, mut at, mut left) = (bytes, at, left);
+    while left > 0 {
+        let Some(len) = first_len(rest) else { break };
+        rest = &rest[len..];
+        at += len;
+        left -= 1;
     }
-    match first_len(bytes) {
-        Some(len) => check_options(&bytes[len..], at + len, left - 1),
-        None => check_padding(bytes, at),
-    }
+    check_padding(rest, at)
 }

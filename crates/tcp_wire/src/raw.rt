@@ -12,9 +12,11 @@ use arrayvec::ArrayVec;
 /// holds no room for options, as `Segment` does, so it is cheap to make and to lend.
 #[derive(Clone, Copy, Debug)]
 pub struct RawSegment<'a> {
+    /// The fields of the fixed header.
     pub header: Header,
     /// The bytes of the options and of the zeros after them.
     pub area: &'a [u8],
+    /// The bytes of the stream that it carries.
     pub text: &'a [u8],
     pub ghost area_fits: { length area.now ≤ max_area_len },
     pub ghost text_fits: { length text.now ≤ max_text_len },

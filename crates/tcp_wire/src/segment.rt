@@ -18,10 +18,13 @@ pub(crate) const MAX_LEN: usize = 65515;
 /// A segment (RFC 9293, 3.1), its checksum aside.
 #[derive(Clone, Debug, PartialEq, Eq, Drop)]
 pub struct Segment<'a> {
+    /// The fields of the fixed header.
     pub header: Header,
+    /// The options in their order, without the end of their list (kind 0).
     pub options: ArrayVec<TcpOption<'a>, 40>,
     /// The count of zero bytes after the options, from the end of their list (kind 0) on.
     pub pad: u8,
+    /// The bytes of the stream that it carries.
     pub text: &'a [u8],
 }
 

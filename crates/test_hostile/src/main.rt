@@ -2,18 +2,21 @@
 //! eleven phases. Each arriving segment is answered. On the log up to each event plain code checks three facts: what
 //! the end sends is its user's, what it hands over came in an acceptable segment, and what it acknowledges is in order.
 //! What is printed first is how many arrivals were answered in which way; then how often a fact didn't hold, which is
-//! never; and last the same where the checks take either initial number for one more than it is, which is to be found.
+//! never; then the same where the checks take either initial number for one more than it is, which is to be found; and last
+//! how often what rests in the place of an end in TIME-WAIT differed from the end, which is never.
 #![tactic(auto)]
 
 mod arrivals;
 mod counts;
 mod facts;
 mod generator;
+mod rests;
 mod segments;
 mod streams;
 
 use counts::{Arrivals, Checked};
 use facts::Watch;
+use rests::{Rested, run_rests, run_wrong_rests};
 use std::alloc::{AllocError, Global};
 use std::io;
 use std::process::ExitCode;
@@ -105,6 +108,13 @@ fn run_streams(alloc: Global, tally: &mut Tally) -> Result<(), AllocError> {
     Ok(())
 }
 
+/// What rested in the own end's place, and what did in another's.
+fn print_rests(rt: &impl Print, right: &Rested, wrong: &Rested) -> io::Result<()> {
+    right.print(rt)?;
+    println!(rt; "in another's place:")?;
+    wrong.print_differences(rt)
+}
+
 fn print_counts(rt: &impl Print, tally: &Tally) -> io::Result<()> {
     println!(rt; "{STREAMS} streams, 10 arrivals each")?;
     tally.arrivals.print(rt)?;
@@ -114,13 +124,24 @@ fn print_counts(rt: &impl Print, tally: &Tally) -> io::Result<()> {
     tally.skewed.print_violations(rt)
 }
 
+/// Each end beside what rests, and what came of it.
+fn show_rests(rt: &(impl Print + AllocGlobal)) -> ExitCode {
+    let (Ok(right), Ok(wrong)) = (run_rests(rt.alloc()), run_wrong_rests(rt.alloc())) else {
+        return ExitCode::FAILURE;
+    };
+    match print_rests(rt, &right, &wrong) {
+        Ok(()) => ExitCode::SUCCESS,
+        Err(_) => ExitCode::FAILURE,
+    }
+}
+
 fn main(rt: HostRuntime) -> ExitCode {
     let mut tally = Tally::default();
     if run_streams(rt.alloc(), &mut tally).is_err() {
         return ExitCode::FAILURE;
     }
     match print_counts(&rt, &tally) {
-        Ok(()) => ExitCode::SUCCESS,
+        Ok(()) => show_rests(&rt),
         Err(_) => ExitCode::FAILURE,
     }
 }

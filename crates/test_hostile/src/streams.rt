@@ -14,6 +14,7 @@ const ARRIVALS: u32 = 10;
 #[derive(Drop)]
 pub(crate) struct Stream {
     pub(crate) config: Config,
+    pub(crate) numbers: Numbers,
     pub(crate) events: Vec<SoloEvent>,
     /// How many events the way to the phase has.
     pub(crate) start: usize,
@@ -160,6 +161,7 @@ pub(crate) fn stream_of(alloc: Global, number: u32) -> Result<Stream, AllocError
     }
     Ok(Stream {
         config,
+        numbers,
         events,
         start,
     })

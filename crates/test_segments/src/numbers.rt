@@ -1,6 +1,6 @@
 //! Rows on sequence numbers and control bits.
 use crate::words::{number, two_words};
-use tcp_text::{LineError, push_flags, read_number};
+use tcp_text::{LineError, read_number};
 use tcp_wire::{Flags, Seq};
 
 const IN_WINDOW: &[u8] = b"in-window";
@@ -35,7 +35,7 @@ fn flags_of(word: &[u8]) -> Result<Flags, LineError> {
 /// Appends the names of control bits, or what a call on two of them answers.
 pub(crate) fn push_bits(text: &mut String, call: &[u8], rest: &[u8]) -> Result<(), LineError> {
     if call == FLAGS {
-        push_flags(text, flags_of(rest)?)?;
+        write!(text, "{}", flags_of(rest)?)?;
         return Ok(());
     }
     let (first, second) = two_words(rest)?;
@@ -43,7 +43,7 @@ pub(crate) fn push_bits(text: &mut String, call: &[u8], rest: &[u8]) -> Result<(
     let second = flags_of(second)?;
     match call {
         b"contains" => write!(text, "{}", first.contains(second))?,
-        b"union" => push_flags(text, first.union(second))?,
+        b"union" => write!(text, "{}", first.union(second))?,
         _ => return Err(LineError::BadForm),
     }
     Ok(())

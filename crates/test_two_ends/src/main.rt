@@ -84,7 +84,8 @@ fn run_missing_segment(rt: &(impl Print + AllocGlobal), world: &mut World) -> io
 fn print_refusals(rt: &(impl Print + AllocGlobal), world: &mut World) -> io::Result<()> {
     run_missing_segment(rt, world)?;
     print_side(rt, "A", world, Side::A)?;
-    match world.step(&Event::Connect(Side::A)) {
+    let event: Event = Event::Connect(Side::A);
+    match world.step(&event) {
         Ok(Outcome::Call(Err(refusal))) => println!(rt; "connect: {refusal}"),
         _ => Ok(()),
     }

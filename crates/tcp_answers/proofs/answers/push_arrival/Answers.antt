@@ -3,4 +3,4 @@ use Rattle.std.proofs.lemmas.Grind.{common_steps}
 use Rattle.tcp_answers.proofs.answers.push_arrival.Goals as goal
 
 pub returns-in-Dropped : goal.returns-in-Dropped
-returns-in-Dropped c = grind (arith, common_steps)
+returns-in-Dropped g c = grind (arith, common_steps)

@@ -3,7 +3,7 @@ use Rattle.tcp_listing.specs.Listing.{segments_of, segment_lines, count_malforme
 use Rattle.tcp_listing.proofs.listing.push_lines.Given as goal
 
 abbrev pub invariant-loop-number : goal.invariant-loop-number
-invariant-loop-number l =
+invariant-loop-number g l =
     (string_bytes l.text ++ segment_lines (segments_of l.number-iterator) ≡ string_bytes l.fn.text ++ segment_lines (segments_of l.fn.lines))
     × (l.segments + length (segments_of l.number-iterator) ≡ length (segments_of l.fn.lines))
     × (l.malformed + count_malformed (segments_of l.number-iterator) ≡ count_malformed (segments_of l.fn.lines))

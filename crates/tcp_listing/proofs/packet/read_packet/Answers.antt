@@ -5,6 +5,6 @@ use Rattle.tcp_listing.proofs.packet.read_packet.Goals as goal
 
 pub returns-then-is_some : goal.returns-then-is_some
 unfolding packet_of
-returns-then-is_some c =
+returns-then-is_some g c =
     rw (c.cut.ensures.pieces, c.in_ok-ok_or.ensures.ok_part, c.cut-2.ensures.pieces, c.in_ok-ok_or-2.ensures.ok_part, c.cut-3.ensures.pieces)
     (packet_of_words-four c.cut.result.0.now c.cut-2.result.0.now c.cut-3.result.0.now c.cut-3.result.1 (sym c.if-is_some.ensures))

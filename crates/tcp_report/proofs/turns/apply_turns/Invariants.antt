@@ -5,7 +5,7 @@ use Rattle.tcp_report.specs.Report.{turns_from, refusals}
 use Rattle.tcp_report.proofs.turns.apply_turns.Given as goal
 
 abbrev pub invariant-loop-turn : goal.invariant-loop-turn
-invariant-loop-turn l =
+invariant-loop-turn g l =
     let rest = turns_from (event_content l.event) l.turn (l.times - l.turn) in
     let all = turns_from (event_content l.event) 0 l.times in
     (l.refused + refusals l.world rest ≡ refusals l.fn.world all)
@@ -14,4 +14,4 @@ invariant-loop-turn l =
     × (l.turn ≤ l.times)
 
 abbrev pub decreases-loop-turn : goal.decreases-loop-turn
-decreases-loop-turn l = l.times - l.turn
+decreases-loop-turn g l = l.times - l.turn

@@ -4,7 +4,7 @@ use Rattle.tcp_report.specs.Report.{event_lines, is_well, world_after_turns}
 use Rattle.tcp_report.proofs.turns.push_event_lines.Given as goal
 
 abbrev pub invariant-loop-i : goal.invariant-loop-i
-invariant-loop-i l =
+invariant-loop-i g l =
     let rest = map turn_content (drop l.i l.events) in
     let all = map turn_content l.events in
     (string_bytes l.text ++ event_lines (l.i + 1) l.world rest ≡ string_bytes l.fn.text ++ event_lines 1 l.fn.world all)

@@ -3,4 +3,4 @@ use Rattle.std.proofs.lemmas.Grind.{common_steps}
 use Rattle.tcp_script.proofs.names.kind_of.Goals as goal
 
 pub returns-in-Close : goal.returns-in-Close
-returns-in-Close c = grind (arith, common_steps)
+returns-in-Close g c = grind (arith, common_steps)

@@ -3,4 +3,4 @@ use Rattle.std.proofs.lemmas.Grind.{common_steps}
 use Rattle.tcp_text.proofs.options.push_blocks.Goals as goal
 
 pub loop-edges-preserved : goal.loop-edges-preserved
-loop-edges-preserved c = grind (arith, common_steps)
+loop-edges-preserved g c = grind (arith, common_steps)

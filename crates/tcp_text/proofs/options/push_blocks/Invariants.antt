@@ -5,6 +5,6 @@ use Rattle.tcp_text.specs.Texts.{block_text, blocks_text}
 use Rattle.tcp_text.proofs.options.push_blocks.Given as goal
 
 abbrev pub invariant-loop-edges : goal.invariant-loop-edges
-invariant-loop-edges l =
+invariant-loop-edges g l =
     string_bytes l.text ++ flat_map (λ edges. codes "+" ++ block_text edges) (map block (drop l.edges-index l.others))
     ≡ string_bytes l.fn.text ++ blocks_text (map block l.blocks)

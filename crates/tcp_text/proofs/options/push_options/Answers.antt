@@ -3,4 +3,4 @@ use Rattle.std.proofs.lemmas.Grind.{common_steps}
 use Rattle.tcp_text.proofs.options.push_options.Goals as goal
 
 pub loop-option-preserved : goal.loop-option-preserved
-loop-option-preserved c = grind (arith, common_steps)
+loop-option-preserved g c = grind (arith, common_steps)

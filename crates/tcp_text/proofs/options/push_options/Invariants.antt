@@ -5,6 +5,6 @@ use Rattle.tcp_text.specs.Texts.{option_text, options_text}
 use Rattle.tcp_text.proofs.options.push_options.Given as goal
 
 abbrev pub invariant-loop-option : goal.invariant-loop-option
-invariant-loop-option l =
+invariant-loop-option g l =
     string_bytes l.text ++ flat_map (λ option. codes "," ++ option_text option) (map option_content (drop l.option-index l.others))
     ≡ string_bytes l.fn.text ++ options_text (map option_content l.options)

@@ -7,6 +7,10 @@ pub returns-then-not-nothing-clause-state : goal.returns-then-not-nothing-clause
 unfolding after_receive
 returns-then-not-nothing-clause-state g c = grind (arith, common_steps)
 
-pub returns-clause-state : goal.returns-clause-state
+pub returns-then-self-2-clause-state : goal.returns-then-self-2-clause-state
 unfolding after_receive
-returns-clause-state g c = grind (arith, common_steps)
+returns-then-self-2-clause-state g c = grind (arith, common_steps)
+
+pub returns-else-self-2-clause-state : goal.returns-else-self-2-clause-state
+unfolding after_receive
+returns-else-self-2-clause-state g c = grind (arith, common_steps)

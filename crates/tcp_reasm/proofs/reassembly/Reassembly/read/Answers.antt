@@ -1,39 +1,32 @@
-use Rattle.tcp_reasm.proofs.Views.{kept_sound, inside_more}
-use Rattle.std.proofs.Common.{◌≡◌, ◌++◌, ◌-◌, inl, inr, ℕ, List, ap, arith, ◌∙◌, refl, length, take, drop}
+use Rattle.std.proofs.Common.{◌≡◌, ◌-◌, ℕ, List, ap, arith, ◌∙◌, length}
+use Rattle.std.proofs.lemmas.Grind.{common_steps}
+use Rattle.tcp_reasm.specs.declared.table.Run.{Run as Entry}
 use Rattle.tcp_reasm.specs.Reassembly.{after_read}
-use Rattle.tcp_reasm.specs.Store.{turned, runs_in}
-use Rattle.tcp_reasm.proofs.Views.{read_view, further_on}
+use Rattle.tcp_reasm.proofs.Rings.{length_turned}
+use Rattle.tcp_reasm.proofs.Views.{kept_sound, read_view, emptied_view, read_kept}
 use Rattle.tcp_reasm.proofs.reassembly.Reassembly.read.Goals as goal
-use Rattle.tcp_reasm.proofs.reassembly.Reassembly.read.Goals.{then-count-until_end, else-count-until_end}
+
+pub returns-then-is_empty-clause-after : goal.returns-then-is_empty-clause-after
+returns-then-is_empty-clause-after g c =
+    let table : List Entry = c.self.inside.table.items in
+    let bare : length table ≡ 0 = grind (arith, common_steps, c.is_empty.ensures, c.if-is_empty.true) in
+    emptied_view c.self.inside.ring c.rewind.new.self c.self.inside.unread c.min-count.result (length c.args.out.now) table c.min-count.ensures c.self.invariant.fits c.self.invariant.inside c.rewind.ensures c.if-self-eq0.true bare
+    ∙ ap (λ q. after_read q (length c.args.out.now)) c.self.view_is
+
+pub returns-then-is_empty-clause-sound : goal.returns-then-is_empty-clause-sound
+returns-then-is_empty-clause-sound g c =
+    let left : ℕ = c.self.inside.unread - c.min-count.result in
+    kept_sound c.rewind.new.self left c.self.inside.table.items (read_kept c.self.inside.ring c.rewind.new.self c.self.inside.unread left c.self.inside.table.items c.self.invariant c.rewind.ensures (omega arith))
 
 pub returns-clause-after : goal.returns-clause-after
 returns-clause-after g c =
-    let block : List ℕ = c.self.inside.block.items in
-    let start : ℕ = c.self.inside.start in
-    let count : ℕ = c.min-count.result in
-    let further : ℕ = c.if-count-until_end.self in
-    let size : length block ≡ c.len.result = omega (arith, ap length c.deref.ensures.value, c.deref.ensures.len, c.len.ensures) in
-    let on : turned further block ≡ drop count (turned start block) ++ take count (turned start block) =
-    further_on start count (length block) further block refl (omega arith) (omega arith) (elim c.if-count-until_end.branch [
-      | then-count-until_end w ↦ inl (omega (arith, w.if-count-until_end.true), w.self-is)
-      | else-count-until_end w ↦ inr (omega (arith, w.if-count-until_end.false), omega (arith, w.self-is))
-    ]) in
-    read_view block start further c.self.inside.unread count (length c.args.out.now) c.self.inside.table.items c.min-count.ensures c.self.invariant.fits c.self.invariant.inside on
+    read_view c.self.inside.ring c.advance.new.self c.self.inside.unread c.min-count.result (length c.args.out.now) c.self.inside.table.items c.min-count.ensures c.self.invariant.fits c.self.invariant.inside c.advance.ensures
     ∙ ap (λ q. after_read q (length c.args.out.now)) c.self.view_is
 
+pub invariant_of-self-2 : goal.invariant_of-self-2
+invariant_of-self-2 g c =
+    read_kept c.self.inside.ring c.advance.new.self c.self.inside.unread (c.self.inside.unread - c.min-count.result) c.self.inside.table.items c.self.invariant
+    (ap length c.advance.ensures ∙ length_turned c.min-count.result c.self.inside.ring) (omega arith)
+
 pub returns-clause-sound : goal.returns-clause-sound
-returns-clause-sound g c =
-    let block : List ℕ = c.self.inside.block.items in
-    let size : length block ≡ c.len.result = omega (arith, ap length c.deref.ensures.value, c.deref.ensures.len, c.len.ensures) in
-    kept_sound block c.if-count-until_end.self (c.self.inside.unread - c.min-count.result) c.self.inside.table.items (record {
-      some = c.self.invariant.some;
-      most = c.self.invariant.most;
-      starts = elim c.if-count-until_end.branch [
-        | then-count-until_end w ↦ omega (arith, w.if-count-until_end.true, w.self-is, size, c.self.invariant.starts)
-        | else-count-until_end w ↦ omega (arith, w.if-count-until_end.false, w.self-is, size, c.self.invariant.starts, c.self.invariant.fits, c.min-count.ensures)
-      ];
-      fits = omega (arith, c.self.invariant.fits);
-      inside = inside_more (length block - c.self.inside.unread) (length block - (c.self.inside.unread - c.min-count.result)) (runs_in c.self.inside.table.items) (omega arith) c.self.invariant.inside;
-      away = c.self.invariant.away;
-      few = c.self.invariant.few;
-    })
+returns-clause-sound g c = kept_sound c.advance.new.self (c.self.inside.unread - c.min-count.result) c.self.inside.table.items (invariant_of-self-2 g c)

@@ -1,0 +1,151 @@
+-- An arrival at an end at rest: the judgement and its effect are told by what rests.
+use Rattle.std.proofs.Common.{◌≡◌, ℕ, List, refl, sym, ap, subst, ◌∙◌}
+use Rattle.std.specs.Prelude.{Bool, true, false, ◌||◌, ◌&&◌, ◌==◌, not, if◌then◌else◌, bytes_eq, Result, Ok, Err}
+use Rattle.tcp_wire.specs.Flags.{ack, has, rst, syn}
+use Rattle.tcp_wire.specs.Position.{is_before}
+use Rattle.tcp_wire.specs.Wire.{Content}
+use Rattle.tcp_wire.specs.declared.fault.DecodeError.{DecodeError}
+use Rattle.tcp_conn.specs.declared.judgement.Judgement.{Judgement}
+use Rattle.tcp_conn.specs.declared.judgement.Judgement.TheVariants as judgements
+use Rattle.tcp_halves.specs.declared.outcome.Arrival.{Arrival}
+use Rattle.tcp_halves.specs.declared.outcome.Arrival.TheVariants.{Malformed}
+use Rattle.tcp_halves.specs.declared.phase.Ending.{Ending}
+use Rattle.tcp_halves.specs.declared.phase.Ending.TheVariants as endings
+use Rattle.tcp_halves.specs.declared.phase.Phase.TheVariants as phases
+use Rattle.tcp_conn.specs.Acceptable.{is_acceptable}
+use Rattle.tcp_conn.specs.Arrival.{after_judgement, after_reading, answer_to_reading, first_reset, reset_of_stray}
+use Rattle.tcp_conn.specs.Judgement.{ack_judgement, acceptable_judgement, answer_of, closed_judgement, count_numbers, is_foreign, judgement, listen_judgement, phase_judgement, present_judgement, syn_sent_judgement, unacceptable_judgement}
+use Rattle.tcp_conn.specs.Phase.{has_peer, is_closed, is_listening, is_syn_sent}
+use Rattle.tcp_conn.specs.Rest.{Resting, phase_at_rest, resting}
+use Rattle.tcp_conn.specs.State.{State}
+use Rattle.tcp_conn.proofs.Rests.{unsent-number, with-ack}
+use Rattle.tcp_conn.proofs.AtRest.{Goes, IsAtRest, ends, owes, recorded, takes, takes-shut}
+
+-- THE JUDGEMENT, by what rests
+ack-judged : Resting → Content → Judgement → Judgement
+ack-judged r v good = if is_before r.seq v.ack then judgements.AcksUnsent else good
+
+acceptable-judged : Resting → Content → Judgement
+acceptable-judged r v =
+    if has rst v.flags then (if v.seq == r.next then judgements.PeerResets else judgements.ResetElsewhere)
+    else (if has syn v.flags then judgements.SynInWindow
+    else (if not (has ack v.flags) then judgements.NoAck
+    else ack-judged r v judgements.Taken))
+
+unacceptable-judged : Resting → Content → Judgement
+unacceptable-judged r v =
+    if has rst v.flags then judgements.ResetIgnored
+    else (if (r.window == 0) && (has ack v.flags && not (has syn v.flags)) then ack-judged r v judgements.TakenShut
+    else judgements.Unacceptable)
+
+present-judged : Resting → Content → Judgement
+present-judged r v = if is_acceptable r.next r.window v.seq (count_numbers v) then acceptable-judged r v else unacceptable-judged r v
+
+abbrev phase-judged : Ending → Resting → Content → Judgement
+phase-judged endings.NotEnded r v = present-judged r v
+phase-judged other r v = closed_judgement v
+
+is-other : Resting → List ℕ → List ℕ → Content → Bool
+is-other r src dst v =
+    (not (bytes_eq dst r.addr.0) || not (v.dst_port == r.port))
+    || (has_peer (phase_at_rest r.ending) && (not (bytes_eq src r.peer.addr.0) || not (v.src_port == r.peer.port)))
+
+pub judged : Resting → List ℕ → List ℕ → Content → Judgement
+judged r src dst v = if is-other r src dst v then judgements.Foreign else phase-judged r.ending r v
+
+ack-is : (s : State) (v : Content) (good refused : Judgement) → IsAtRest s → s.phase ≡ phases.TimeWait → ack_judgement s v good refused ≡ ack-judged (resting s) v good
+unfolding ack_judgement ack-judged
+ack-is s v good refused h waits =
+    rw (waits, h.acked, unsent-number s.config.isn.0 s.sending.nxt v.ack h.isn) refl
+
+present-is : (s : State) (v : Content) → IsAtRest s → s.phase ≡ phases.TimeWait → present_judgement s v ≡ present-judged (resting s) v
+unfolding present_judgement acceptable_judgement unacceptable_judgement present-judged acceptable-judged unacceptable-judged
+present-is s v h waits =
+    rw (ack-is s v judgements.Taken judgements.HandshakeRefused h waits, ack-is s v judgements.TakenShut judgements.HandshakeRefusedShut h waits) refl
+
+phase-is : (s : State) (v : Content) (ending : Ending) → s.phase ≡ phase_at_rest ending → IsAtRest s → phase_judgement s v ≡ phase-judged ending (resting s) v
+unfolding phase_judgement
+phase-is s v endings.NotEnded e h = ap (λ phase. if is_closed phase then closed_judgement v else (if is_listening phase then listen_judgement v else (if is_syn_sent phase then syn_sent_judgement s v else present_judgement s v))) e ∙ present-is s v h e
+phase-is s v endings.Orderly e h = rw e refl
+phase-is s v endings.Reset e h = rw e refl
+phase-is s v endings.Aborted e h = rw e refl
+
+judgement-is : (s : State) (src dst : List ℕ) (v : Content) → IsAtRest s → judgement s src dst v ≡ judged (resting s) src dst v
+unfolding judgement is_foreign judged is-other
+judgement-is s src dst v h =
+    rw (phase-is s v s.ending h.phase h, h.phase) refl
+
+-- WHAT A JUDGEMENT DOES to what rests
+abbrev effect : Judgement → Resting → List ℕ → Content → Resting
+effect judgements.Stray r src v = record r { reset = first_reset r.reset (reset_of_stray src v) }
+effect judgements.PeerResets r src v = record r { ending = endings.Reset; ack = false }
+effect judgements.Unacceptable r src v = with-ack r
+effect judgements.ResetElsewhere r src v = with-ack r
+effect judgements.SynInWindow r src v = with-ack r
+effect judgements.AcksUnsent r src v = with-ack r
+effect judgements.TakenShut r src v = with-ack r
+effect other r src v = r
+
+abbrev Follows : State → List ℕ → Content → Judgement → Type 0
+Follows s src v j = Goes (after_judgement j s src v) (effect j (resting s) src v)
+
+pub stays : (s : State) → IsAtRest s → Goes s (resting s)
+stays s h = record { rests = refl; at_rest = h }
+
+follows-if : (s : State) (src : List ℕ) (v : Content) (b : Bool) (x y : Judgement) → Follows s src v x → Follows s src v y → Follows s src v (if b then x else y)
+follows-if s src v true x y hx hy = hx
+follows-if s src v false x y hx hy = hy
+
+ack-follows : (s : State) (src : List ℕ) (v : Content) (good : Judgement) → IsAtRest s → Follows s src v good → Follows s src v (ack-judged (resting s) v good)
+unfolding ack-judged
+ack-follows s src v good h follows = follows-if s src v (is_before (resting s).seq v.ack) judgements.AcksUnsent good (owes s h) follows
+
+acceptable-follows : (s : State) (src : List ℕ) (v : Content) → IsAtRest s → s.phase ≡ phases.TimeWait → Follows s src v (acceptable-judged (resting s) v)
+unfolding acceptable-judged
+acceptable-follows s src v h waits =
+    follows-if s src v (has rst v.flags) (if v.seq == s.receiving.next then judgements.PeerResets else judgements.ResetElsewhere) _
+    (follows-if s src v (v.seq == s.receiving.next) judgements.PeerResets judgements.ResetElsewhere (ends s endings.Reset h refl) (owes s h))
+    (follows-if s src v (has syn v.flags) judgements.SynInWindow (if not (has ack v.flags) then judgements.NoAck else ack-judged (resting s) v judgements.Taken) (owes s h)
+    (follows-if s src v (not (has ack v.flags)) judgements.NoAck (ack-judged (resting s) v judgements.Taken) (stays s h)
+    (ack-follows s src v judgements.Taken h (takes s v h waits))))
+
+unacceptable-follows : (s : State) (src : List ℕ) (v : Content) → IsAtRest s → s.phase ≡ phases.TimeWait → Follows s src v (unacceptable-judged (resting s) v)
+unfolding unacceptable-judged
+unacceptable-follows s src v h waits =
+    follows-if s src v (has rst v.flags) judgements.ResetIgnored _ (stays s h)
+    (follows-if s src v (((resting s).window == 0) && (has ack v.flags && not (has syn v.flags))) (ack-judged (resting s) v judgements.TakenShut) judgements.Unacceptable
+    (ack-follows s src v judgements.TakenShut h (takes-shut s v h waits)) (owes s h))
+
+phase-follows : (s : State) (src : List ℕ) (v : Content) (ending : Ending) → s.phase ≡ phase_at_rest ending → IsAtRest s → Follows s src v (phase-judged ending (resting s) v)
+unfolding present-judged closed_judgement
+phase-follows s src v endings.NotEnded e h =
+    follows-if s src v (is_acceptable s.receiving.next (resting s).window v.seq (count_numbers v)) (acceptable-judged (resting s) v) (unacceptable-judged (resting s) v)
+    (acceptable-follows s src v h e) (unacceptable-follows s src v h e)
+phase-follows s src v endings.Orderly e h = follows-if s src v (has rst v.flags) judgements.ResetIgnored judgements.Stray (stays s h) (recorded s (reset_of_stray src v) h)
+phase-follows s src v endings.Reset e h = follows-if s src v (has rst v.flags) judgements.ResetIgnored judgements.Stray (stays s h) (recorded s (reset_of_stray src v) h)
+phase-follows s src v endings.Aborted e h = follows-if s src v (has rst v.flags) judgements.ResetIgnored judgements.Stray (stays s h) (recorded s (reset_of_stray src v) h)
+
+judged-follows : (s : State) (src dst : List ℕ) (v : Content) → IsAtRest s → Follows s src v (judged (resting s) src dst v)
+unfolding judged
+judged-follows s src dst v h =
+    follows-if s src v (is-other (resting s) src dst v) judgements.Foreign (phase-judged s.ending (resting s) v) (stays s h) (phase-follows s src v s.ending h.phase h)
+
+-- AN ARRIVAL
+abbrev pub reading-answer : Resting → List ℕ → List ℕ → Result Content DecodeError → Arrival
+reading-answer r src dst (Ok v) = answer_of (judged r src dst v)
+reading-answer r src dst (Err fault) = Malformed fault
+
+abbrev pub reading-effect : Resting → List ℕ → List ℕ → Result Content DecodeError → Resting
+reading-effect r src dst (Ok v) = effect (judged r src dst v) r src v
+reading-effect r src dst (Err fault) = r
+
+pub arrival-is : (s : State) (src dst : List ℕ) (reading : Result Content DecodeError) → IsAtRest s
+    → answer_to_reading s src dst reading ≡ reading-answer (resting s) src dst reading
+arrival-is s src dst (Ok v) h = ap answer_of (judgement-is s src dst v h)
+arrival-is s src dst (Err fault) h = refl
+
+pub arrival-goes : (s : State) (src dst : List ℕ) (reading : Result Content DecodeError) → IsAtRest s
+    → Goes (after_reading s src dst reading) (reading-effect (resting s) src dst reading)
+arrival-goes s src dst (Ok v) h =
+    subst (λ j. Goes (after_judgement j s src v) (effect (judged (resting s) src dst v) (resting s) src v)) (sym (judgement-is s src dst v h)) (judged-follows s src dst v h)
+arrival-goes s src dst (Err fault) h = stays s h

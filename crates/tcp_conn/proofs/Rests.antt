@@ -1,0 +1,155 @@
+-- What rests in the place of an end in TIME-WAIT does as the end does.
+use Rattle.std.proofs.Common.{◌≡◌, ℕ, ◌-◌, ◌%◌, ◌^◌, ◌<◌, List, [], ◌∷◌, refl, ap, ◌∙◌, arith}
+use Rattle.std.specs.Prelude.{Bool, true, false, ◌||◌, ◌&&◌, not, if◌then◌else◌, nat_lt, nat_le}
+use Rattle.std.proofs.lemmas.Bool.Decides.{nat_tests}
+use Rattle.tcp_numbers.specs.Position.{number, distance, is_before, near, natural_of, position_of}
+use Rattle.tcp_numbers.proofs.Positions.{position_of_later}
+use Rattle.tcp_wire.specs.Wire.{Content}
+use Rattle.tcp_halves.specs.declared.phase.Ending.TheVariants.{NotEnded}
+use Rattle.tcp_halves.specs.declared.phase.Phase.TheVariants as phases
+use Rattle.tcp_conn.specs.Arrival.{after_acked_text, after_fin, after_its_ack, after_its_text, after_news, after_own_fin, after_own_syn, after_taking, after_taking_shut, blocks_used, is_current, with_ack_owed_unless_closed, with_news}
+use Rattle.tcp_halves.specs.Marks.{after_block, after_blocks, marks_text}
+use Rattle.tcp_conn.specs.Judgement.{position_near}
+use Rattle.tcp_conn.specs.Phase.{is_closed}
+use Rattle.tcp_conn.specs.Rest.{Resting, as_state, phase_at_rest, resting}
+use Rattle.tcp_conn.specs.Sender.{acks_unsent, after_ack, after_window_update, is_fin_acked, is_newer, with_acked}
+use Rattle.tcp_halves.specs.Sender.{Sending}
+use Rattle.tcp_conn.specs.State.{State}
+use Rattle.tcp_conn.specs.Windows.{window_from}
+
+-- NUMBERS
+pub number-kept : (n : ℕ) → n < 2 ^ 32 → number n 0 ≡ n
+number-kept n fits = omega arith
+
+pub window-kept : (n : ℕ) → n - 0 ≡ n
+window-kept n = omega arith
+
+pub kept : (r : Resting) → r.seq < 2 ^ 32 → resting (as_state r) ≡ r
+kept r fits = rw (number-kept r.seq fits, window-kept r.window) refl
+
+-- where all that was sent is acknowledged, an acknowledgement is of what wasn't sent where its number comes behind that of SND.NXT
+pub unsent-number : (iss nxt w : ℕ) → iss < 2 ^ 32 → nat_lt nxt (position_of iss nxt w) ≡ is_before (number iss nxt) w
+unfolding position_of
+unsent-number iss nxt w fits =
+    let same : distance iss w ≡ distance iss (w % 2 ^ 32) = omega arith in
+    let from : distance (number iss nxt) (w % 2 ^ 32) ≡ distance (number iss nxt) w = omega arith in
+    ap (λ d. nat_lt nxt (natural_of (near nxt d))) same ∙ position_of_later iss nxt (w % 2 ^ 32) fits (omega arith)
+    ∙ ap (λ d. nat_lt 0 d && nat_lt d (2 ^ 31)) from
+
+pub unsent : (r : Resting) (v : Content) → r.seq < 2 ^ 32 → acks_unsent (as_state r).sending (position_near (as_state r) v.ack) ≡ is_before r.seq v.ack
+unsent r v fits = unsent-number r.seq 0 v.ack fits ∙ ap (λ n. is_before n v.ack) (number-kept r.seq fits)
+
+-- AN ACKNOWLEDGEMENT IN TIME-WAIT changes nothing that is kept
+pub if-same : {A : Type 0} (b : Bool) (x : A) → (if b then x else x) ≡ x
+if-same true x = refl
+if-same false x = refl
+
+pub or-false : (b : Bool) → b || false ≡ b
+or-false true = refl
+or-false false = refl
+
+and-true : (b : Bool) → b && true ≡ b
+and-true true = refl
+and-true false = refl
+
+-- the numbers that the sending half keeps
+abbrev pub Keeps : Sending → Sending → Type 0
+Keeps s s' = (s'.una ≡ s.una) × (s'.nxt ≡ s.nxt)
+
+keeps-if : (b : Bool) (s x y : Sending) → Keeps s x → Keeps s y → Keeps s (if b then x else y)
+keeps-if true s x y hx hy = hx
+keeps-if false s x y hx hy = hy
+
+block-keeps : (s : Sending) (left right : ℕ) → Keeps s (after_block s left right)
+unfolding after_block
+block-keeps s left right = keeps-if (marks_text s left right) s _ s (refl, refl) (refl, refl)
+
+blocks-keep : (iss : ℕ) (s : Sending) (blocks : List (ℕ × ℕ)) → Keeps s (after_blocks iss s blocks)
+blocks-keep iss s [] = (refl, refl)
+blocks-keep iss s (block ∷ blocks) =
+    let one = block-keeps s (position_of iss s.una block.0) (position_of iss s.una block.1) in
+    let rest = blocks-keep iss (after_block s (position_of iss s.una block.0) (position_of iss s.una block.1)) blocks in
+    (rest.0 ∙ one.0, rest.1 ∙ one.1)
+
+window-keeps : (s : Sending) (seq ack window : ℕ) → Keeps s (after_window_update s seq ack window)
+unfolding after_window_update
+window-keeps s seq ack window = keeps-if (is_newer s seq ack) s _ s (refl, refl) (refl, refl)
+
+pub news-keep : (s : State) (v : Content) → Keeps s.sending (after_news s v).sending
+unfolding after_news
+news-keep s v =
+    let update = after_window_update s.sending v.seq v.ack (window_from s.link v.window) in
+    let updated = window-keeps s.sending v.seq v.ack (window_from s.link v.window) in
+    let marked = blocks-keep s.config.isn.0 update (blocks_used s v) in
+    keeps-if (is_current s v) s.sending (with_news s v) s.sending (marked.0 ∙ updated.0, marked.1 ∙ updated.1) (refl, refl)
+
+none-more : (una nxt ack : ℕ) → una ≡ nxt → nat_lt una ack && nat_le ack nxt ≡ false
+none-more una nxt ack e = grind (arith, nat_tests, e)
+
+-- where all that was sent is acknowledged nothing is released
+acked-text : (s : State) (v : Content) → s.sending.una ≡ s.sending.nxt → after_acked_text s v ≡ s
+unfolding after_acked_text after_ack
+acked-text s v e = ap (λ b. record s { sending = if b then with_acked s.sending (position_near s v.ack) else s.sending }) (none-more s.sending.una s.sending.nxt (position_near s v.ack) e)
+
+own-syn : (s : State) (v : Content) → s.phase ≡ phases.TimeWait → after_own_syn s v ≡ s
+unfolding after_own_syn
+own-syn s v waits = rw (waits, and-true s.owed.syn) refl
+
+own-fin : (s : State) → s.phase ≡ phases.TimeWait → after_own_fin s ≡ s
+unfolding after_own_fin
+own-fin s waits = rw waits (if-same (is_fin_acked s.sending) (record s { phase = phases.TimeWait }))
+
+its-text : (s : State) (v : Content) → s.phase ≡ phases.TimeWait → after_its_text s v ≡ s
+unfolding after_its_text
+its-text s v waits = rw (waits, or-false s.owed.ack) refl
+
+its-fin : (s : State) (v : Content) → s.phase ≡ phases.TimeWait → after_fin s v ≡ s
+unfolding after_fin
+its-fin s v waits = rw (waits, or-false s.owed.ack) refl
+
+pub news-phase : (s : State) (v : Content) → (after_news s v).phase ≡ s.phase
+unfolding after_news
+news-phase s v = refl
+
+pub its-ack : (s : State) (v : Content) → s.phase ≡ phases.TimeWait → s.sending.una ≡ s.sending.nxt → after_its_ack s v ≡ after_news s v
+unfolding after_its_ack
+its-ack s v waits acked =
+    ap (λ s'. after_own_fin (after_news (after_acked_text s' v) v)) (own-syn s v waits)
+    ∙ ap (λ s'. after_own_fin (after_news s' v)) (acked-text s v acked)
+    ∙ own-fin (after_news s v) (news-phase s v ∙ waits)
+
+pub taking : (s : State) (v : Content) → s.phase ≡ phases.TimeWait → s.sending.una ≡ s.sending.nxt → after_taking s v ≡ after_news s v
+unfolding after_taking
+taking s v waits acked =
+    ap (λ s'. after_fin (after_its_text s' v) v) (its-ack s v waits acked)
+    ∙ ap (λ s'. after_fin s' v) (its-text (after_news s v) v (news-phase s v ∙ waits))
+    ∙ its-fin (after_news s v) v (news-phase s v ∙ waits)
+
+pub news-rest : (s : State) (v : Content) → resting (after_news s v) ≡ resting s
+unfolding after_news
+news-rest s v = ap (λ n. record (resting s) { seq = number s.config.isn.0 n }) (news-keep s v).1
+
+pub taken : (s : State) (v : Content) → s.phase ≡ phases.TimeWait → s.sending.una ≡ s.sending.nxt → resting (after_taking s v) ≡ resting s
+taken s v waits acked = ap resting (taking s v waits acked) ∙ news-rest s v
+
+abbrev pub with-ack : Resting → Resting
+with-ack r = record r { ack = true }
+
+or-true : (b : Bool) → b || true ≡ true
+or-true true = refl
+or-true false = refl
+
+pub taken-shut : (s : State) (v : Content) → s.phase ≡ phases.TimeWait → s.sending.una ≡ s.sending.nxt
+    → resting (after_taking_shut s v) ≡ with-ack (resting s)
+unfolding after_taking_shut
+taken-shut s v waits acked =
+    ap (λ s'. resting (with_ack_owed_unless_closed s')) (its-ack s v waits acked)
+    ∙ ap (λ b. record (resting (after_news s v)) { ack = b }) (ap (λ phase. (after_news s v).owed.ack || not (is_closed phase)) (news-phase s v ∙ waits) ∙ or-true (after_news s v).owed.ack)
+    ∙ ap with-ack (news-rest s v)
+
+-- and so it is of what rests
+pub taken_at_rest : (r : Resting) (v : Content) → r.seq < 2 ^ 32 → r.ending ≡ NotEnded → resting (after_taking (as_state r) v) ≡ r
+taken_at_rest r v fits goes = taken (as_state r) v (ap phase_at_rest goes) refl ∙ kept r fits
+
+pub taken_shut_at_rest : (r : Resting) (v : Content) → r.seq < 2 ^ 32 → r.ending ≡ NotEnded → resting (after_taking_shut (as_state r) v) ≡ record r { ack = true }
+taken_shut_at_rest r v fits goes = taken-shut (as_state r) v (ap phase_at_rest goes) refl ∙ ap with-ack (kept r fits)

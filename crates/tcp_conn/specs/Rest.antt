@@ -1,0 +1,134 @@
+-- A SMALL TIME-WAIT (RFC 9293, 3.3.2 and 3.10.7.4): what is kept of an end that only answers late segments, in place of the
+-- end and its buffers.
+use Rattle.std.specs.Prelude.{ℕ, ◌≡◌, ◌<◌, ◌^◌, Bool, true, not, ◌&&◌, ◌==◌, List, [], ◌∷◌, length, Option, Some, Result}
+use Rattle.tcp_wire.specs.Position.{number}
+use Rattle.tcp_numbers.specs.declared.addr.Addr.{Addr}
+use Rattle.tcp_reasm.specs.Reassembly.{window}
+use Rattle.tcp_halves.specs.declared.link.Peer.{Peer}
+use Rattle.tcp_halves.specs.declared.link.WaitingReset.{WaitingReset}
+use Rattle.tcp_halves.specs.declared.outcome.Arrival.{Arrival}
+use Rattle.tcp_halves.specs.declared.outcome.CallError.{CallError}
+use Rattle.tcp_halves.specs.declared.phase.Ending.{Ending}
+use Rattle.tcp_halves.specs.declared.phase.Ending.TheVariants.{NotEnded}
+use Rattle.tcp_halves.specs.declared.phase.Phase.{Phase}
+use Rattle.tcp_halves.specs.declared.phase.Phase.TheVariants.{Closed, TimeWait}
+use Rattle.tcp_halves.specs.declared.phase.Timer.{Timer}
+use Rattle.tcp_conn.specs.Arrival.{arrival_answer, after_arrival}
+use Rattle.tcp_conn.specs.AtOnce.{has_gap}
+use Rattle.tcp_conn.specs.Calls.{abort_answer, after_abort}
+use Rattle.tcp_conn.specs.Config.{default_config}
+use Rattle.tcp_conn.specs.Emission.{after_emission, buffer_after, destination, pending_length}
+use Rattle.tcp_conn.specs.Link.{new_link, nothing_owed}
+use Rattle.tcp_conn.specs.Phase.{is_ended, is_time_wait}
+use Rattle.tcp_conn.specs.Receiver.{new_receiving}
+use Rattle.tcp_conn.specs.Sender.{new_sending}
+use Rattle.tcp_conn.specs.State.{State}
+use Rattle.tcp_conn.specs.Timers.{timer_answer, after_timer}
+use Rattle.tcp_conn.specs.Windows.{own_shift}
+
+-- what is kept
+pub record Resting : Type 0 where
+  pub addr : Addr
+  pub port : ℕ
+  pub peer : Peer
+  -- SND.NXT and RCV.NXT, as numbers
+  pub seq : ℕ
+  pub next : ℕ
+  -- RCV.WND, and the shift by which it is advertised
+  pub window : ℕ
+  pub shift : ℕ
+  -- what is owed to the wire
+  pub ack : Bool
+  pub reset : Option WaitingReset
+  pub ending : Ending
+
+-- TIME-WAIT, and CLOSED once the connection has ended
+abbrev pub phase_at_rest : Ending → Phase
+phase_at_rest NotEnded = TimeWait
+phase_at_rest other = Closed
+
+-- AN END CAN REST in TIME-WAIT, where nothing is unread or held, and all that was sent is acknowledged
+abbrev pub can_rest : State → Bool
+can_rest s =
+    (is_time_wait s.phase && not (is_ended s.ending)) && ((length s.receiving.inbox.unread == 0) && not (has_gap s))
+    && ((s.sending.una == s.sending.nxt) && not s.owed.syn)
+
+abbrev pub resting : State → Resting
+resting s = record {
+  addr = s.config.addr;
+  port = s.config.port;
+  peer = s.peer;
+  seq = number s.config.isn.0 s.sending.nxt;
+  next = s.receiving.next;
+  window = window s.receiving.inbox;
+  shift = own_shift s.config s.link;
+  ack = s.owed.ack;
+  reset = s.owed.reset;
+  ending = s.ending;
+}
+
+-- THE END THAT IT STANDS FOR: nothing queued, in flight, unread or held, the own positions counted from SND.NXT
+abbrev pub as_state : Resting → State
+as_state r = record {
+  config = record (default_config r.addr r.port (record { 0 = r.seq })) { window_shift = Some r.shift };
+  phase = phase_at_rest r.ending;
+  ending = r.ending;
+  closing = true;
+  peer = r.peer;
+  link = record new_link { scaling = true };
+  sending = new_sending 0;
+  receiving = record (new_receiving r.window) { opened = true; next = r.next; finished = true };
+  owed = record nothing_owed { ack = r.ack; reset = r.reset };
+}
+
+-- WHAT CAN HAPPEN to an end in TIME-WAIT: bytes arrive from an address at another, a timer runs out, what is due is written into
+-- a buffer, the user gives up
+pub data Event : Type 0 where
+  Arrives : List ℕ → List ℕ → List ℕ → Event
+  RunsOut : Timer → Event
+  Emits : List ℕ → Event
+  Aborts : Event
+
+abbrev pub after_event : State → Event → State
+after_event s (Arrives src dst bytes) = after_arrival s src dst bytes
+after_event s (RunsOut timer) = after_timer s timer
+after_event s (Emits out) = after_emission s
+after_event s Aborts = after_abort s
+
+-- and what it answers; an emission by whom it goes to, and what the buffer holds then
+pub data Answer : Type 0 where
+  Arrived : Arrival → Answer
+  Applied : Bool → Answer
+  Emitted : Option (List ℕ) → List ℕ → Answer
+  Aborted : Result (Unit {0}) CallError → Answer
+
+abbrev pub answer_to : State → Event → Answer
+answer_to s (Arrives src dst bytes) = Arrived (arrival_answer s src dst bytes)
+answer_to s (RunsOut timer) = Applied (timer_answer s timer)
+answer_to s (Emits out) = Emitted (destination s) (buffer_after s out)
+answer_to s Aborts = Aborted (abort_answer s)
+
+-- what is seen of an end when something happens to it
+pub record Seen : Type 0 where
+  pub phase : Phase
+  pub ending : Ending
+  pub pending : Option ℕ
+  pub answer : Answer
+
+abbrev pub seen_at : State → Event → Seen
+seen_at s event = record { phase = s.phase; ending = s.ending; pending = pending_length s; answer = answer_to s event }
+
+-- of an end, and of what rests in its place, which does as the end that it stands for
+abbrev pub seen_of_end : State → List Event → List Seen
+seen_of_end s [] = []
+seen_of_end s (event ∷ events) = seen_at s event ∷ seen_of_end (after_event s event) events
+
+abbrev pub seen_of_rest : Resting → List Event → List Seen
+seen_of_rest r [] = []
+seen_of_rest r (event ∷ events) = seen_at (as_state r) event ∷ seen_of_rest (resting (after_event (as_state r) event)) events
+
+-- NOBODY CAN TELL THEM APART, whatever happens and however often
+abbrev pub RestIsTheEnd : Type 0
+RestIsTheEnd =
+    (s : State) (events : List Event) → s.config.isn.0 < 2 ^ 32 → can_rest s ≡ true
+    → seen_of_rest (resting s) events ≡ seen_of_end s events

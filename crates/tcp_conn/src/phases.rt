@@ -1,0 +1,107 @@
+//! What the states of a connection have in common (RFC 9293, 3.3.2), and how it ended.
+ghost use Rattle.std.specs.Prelude.{◌≡◌};
+ghost use Rattle.tcp_halves.specs.Phase.{gives_up, has_peer, is_closed, is_ended, is_handshake, is_listening, is_syn_received, is_time_wait, phase_after_fin, resets_on_abort, sends_text, takes_text};
+
+use tcp_halves::{Ending, Phase};
+
+/// Whether there is no connection.
+pub(crate) fn is_closed(phase: Phase) -> bool
+    ensures { result ≡ is_closed phase }
+{
+    matches!(phase, Phase::Closed)
+}
+
+/// Whether it waits for a peer.
+pub(crate) fn is_listening(phase: Phase) -> bool
+    ensures { result ≡ is_listening phase }
+{
+    matches!(phase, Phase::Listen)
+}
+
+/// Whether the peer is known.
+pub(crate) fn has_peer(phase: Phase) -> bool
+    ensures { result ≡ has_peer phase }
+{
+    !is_closed(phase) && !is_listening(phase)
+}
+
+/// Whether the own answer to the peer's SYN waits for its acknowledgement.
+pub(crate) fn is_syn_received(phase: Phase) -> bool
+    ensures { result ≡ is_syn_received phase }
+{
+    matches!(phase, Phase::SynReceived)
+}
+
+/// Whether both sides closed, and segments may still be about.
+pub(crate) fn is_time_wait(phase: Phase) -> bool
+    ensures { result ≡ is_time_wait phase }
+{
+    matches!(phase, Phase::TimeWait)
+}
+
+/// Whether the own SYN waits for its acknowledgement.
+pub(crate) fn is_handshake(phase: Phase) -> bool
+    ensures { result ≡ is_handshake phase }
+{
+    matches!(phase, Phase::SynSent | Phase::SynReceived)
+}
+
+/// Whether the peer's text and FIN are taken.
+pub(crate) fn takes_text(phase: Phase) -> bool
+    ensures { result ≡ takes_text phase }
+{
+    matches!(
+        phase,
+        Phase::Established | Phase::FinWait1 | Phase::FinWait2
+    )
+}
+
+/// Whether an abort owes the peer a reset (RFC 9293, 3.10.5).
+pub(crate) fn resets_on_abort(phase: Phase) -> bool
+    ensures { result ≡ resets_on_abort phase }
+{
+    matches!(
+        phase,
+        Phase::SynReceived
+            | Phase::Established
+            | Phase::FinWait1
+            | Phase::FinWait2
+            | Phase::CloseWait
+    )
+}
+
+/// The phase after the peer's FIN (RFC 9293, 3.10.7.4, eighth).
+pub(crate) fn phase_after_fin(phase: Phase) -> Phase
+    ensures { result ≡ phase_after_fin phase }
+{
+    match phase {
+        Phase::Established => Phase::CloseWait,
+        Phase::FinWait1 => Phase::Closing,
+        Phase::FinWait2 => Phase::TimeWait,
+        _ => phase,
+    }
+}
+
+/// Whether text and FIN go out.
+pub(crate) fn sends_text(phase: Phase) -> bool
+    ensures { result ≡ sends_text phase }
+{
+    matches!(
+        phase,
+        Phase::Established | Phase::FinWait1 | Phase::CloseWait | Phase::Closing | Phase::LastAck
+    )
+}
+
+/// Whether the connection has ended.
+pub(crate) fn is_ended(ending: Ending) -> bool
+    ensures { result ≡ is_ended ending }
+{
+    !matches!(ending, Ending::NotEnded)
+}
+
+/// Whether what was queued, held and unread was given up.
+pub(crate) fn gives_up(ending: Ending) -> bool
+    ensures { result ≡ gives_up ending }
+{
+    matches!(ending, Ending::Reset | Ending::Aborted)
+}

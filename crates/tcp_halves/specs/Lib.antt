@@ -1,0 +1,11 @@
+pub mod Phase
+pub mod Config
+pub mod Options
+pub mod Link
+pub mod Outcome
+pub mod Names
+pub mod Sender
+pub mod Receiver
+pub mod Acceptable
+pub mod Marks
+pub mod Due

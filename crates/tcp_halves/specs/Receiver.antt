@@ -1,0 +1,69 @@
+-- The half that receives (RFC 9293, 3.4 and 3.10.7.4).
+use Rattle.std.specs.Prelude.{ℕ, ◌-◌, Bool, false, ◌==◌, true, ◌&&◌, if◌then◌else◌, List, length, ◌≡◌, min, nat_lt, ◌^◌, ◌+◌, ◌%◌}
+use Rattle.tcp_wire.specs.Position.{number, offset}
+use Rattle.tcp_reasm.specs.Agreement.{advance_of}
+use Rattle.tcp_reasm.specs.Reassembly.{Inbox, window, after_read, empty_inbox, after_place, place_answer, without_held}
+
+-- the half that receives
+pub record Receiving : Type 0 where
+  -- the peer's SYN was taken
+  pub opened : Bool
+  -- RCV.NXT, a number
+  pub next : ℕ
+  -- text bytes that came in order; it stays at its greatest value once there
+  pub ordered : ℕ
+  -- the peer's FIN was taken
+  pub finished : Bool
+  pub inbox : Inbox
+
+-- the greatest count that is kept
+abbrev pub max_ordered : ℕ
+max_ordered = 2 ^ 64 - 1
+
+-- no SYN of the peer was taken yet
+abbrev pub new_receiving : ℕ → Receiving
+new_receiving capacity = record { opened = false; next = 0; ordered = 0; finished = false; inbox = empty_inbox capacity }
+
+-- the next position of the peer's direction that is wanted: after what came in order, and after the peer's FIN once it was
+-- taken. It stays at its greatest value once there
+abbrev pub next_wanted : Receiving → ℕ
+next_wanted r = min max_ordered (1 + r.ordered + (if r.finished then 1 else 0))
+
+-- the peer's SYN with this number is taken (RFC 9293, 3.10.7.2)
+abbrev pub with_syn : Receiving → ℕ → Receiving
+with_syn r seq = record r { opened = true; next = number seq 1 }
+
+-- the receiver once its inbox has become this one, by which n bytes more are in order
+abbrev pub with_inbox : Receiving → Inbox → ℕ → Receiving
+with_inbox r inbox n = record r {
+  next = (r.next + n) % 2 ^ 32;
+  ordered = min max_ordered (r.ordered + n);
+  inbox = inbox;
+}
+
+-- TEXT (RFC 9293, 3.10.7.4, seventh): it is placed at its distance from RCV.NXT
+unfoldable pub after_text : Receiving → ℕ → List ℕ → Receiving
+after_text r seq text =
+    with_inbox r (after_place r.inbox (offset r.next seq) text) (advance_of (place_answer r.inbox (offset r.next seq) text))
+
+-- THE PEER'S FIN (RFC 9293, 3.10.7.4, eighth) is taken in its turn alone: its number is RCV.NXT, and the window
+-- is open
+abbrev pub is_fin_due : Receiving → ℕ → Bool
+is_fin_due r number = (number == r.next) && nat_lt 0 (window r.inbox)
+
+-- held pieces are given up
+abbrev pub with_fin : Receiving → Receiving
+with_fin r = record r { next = number r.next 1; finished = true; inbox = without_held r.inbox }
+
+-- the user takes at most n unread bytes
+abbrev pub after_handing : Receiving → ℕ → Receiving
+after_handing r n = record r { inbox = after_read r.inbox n }
+
+-- what is unread and held is given up
+abbrev pub without_bytes : Receiving → Receiving
+without_bytes r = record r { inbox = empty_inbox r.inbox.capacity }
+
+-- what is unread stays within the capacity together with the window, which has one place for each byte that is held or may come
+pub record HoldsWithin (capacity : ℕ) (inbox : Inbox) : Type 0 where
+  pub size : inbox.capacity ≡ capacity
+  pub received : length inbox.unread + length inbox.held ≡ capacity

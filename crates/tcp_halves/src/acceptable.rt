@@ -1,0 +1,35 @@
+ghost use Rattle.std.specs.Prelude.{◌≡◌, ◌≤◌, ◌+◌};
+ghost use Rattle.tcp_reasm.specs.Reassembly.{max_capacity, window};
+ghost use Rattle.tcp_wire.specs.Wire.{max_text_len};
+ghost use Rattle.tcp_halves.specs.Acceptable.{is_acceptable};
+
+use crate::receiver::Receiver;
+use std::alloc::Allocator;
+use tcp_wire::Seq;
+
+/// Whether a segment with so many numbers of its own is acceptable, where RCV.NXT and the window are these (RFC 9293,
+/// 3.10.7.4).
+#[tactic(auto, using(tcp_wire::proofs::Lemmas::first_inside, tcp_wire::proofs::Lemmas::last_inside), unfolding(crate::specs::Acceptable::is_acceptable))]
+pub fn is_acceptable(next: Seq, window: u32, seq: Seq, count: u32) -> bool
+    requires count { count ≤ max_text_len + 2 }
+    requires window { window ≤ max_capacity }
+    ensures { result ≡ is_acceptable next.0 window seq.0 count }
+{
+    if count == 0 && window == 0 {
+        return seq == next;
+    }
+    if count == 0 {
+        return seq.in_window(next, window);
+    }
+    window > 0 && (seq.in_window(next, window) || seq.plus(count - 1).in_window(next, window))
+}
+
+impl<A: Allocator> Receiver<A> {
+    /// Whether a segment with so many numbers of its own is acceptable (RFC 9293, 3.10.7.4).
+    pub fn is_acceptable(&self, seq: Seq, count: u32) -> bool
+        requires { count ≤ max_text_len + 2 }
+        ensures { result ≡ is_acceptable self.now.next (window self.now.inbox) seq.0 count }
+    {
+        is_acceptable(self.next, self.window(), seq, count)
+    }
+}

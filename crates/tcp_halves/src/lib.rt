@@ -1,0 +1,25 @@
+//! The two halves of an end of a TCP connection (RFC 9293, 3.3.1): what sends, what receives, and what both are told.
+//! The end itself, with its calls, arrivals and emissions, stands in `tcp_conn`.
+#![tactic(auto)]
+
+mod acceptable;
+mod config;
+mod due;
+mod link;
+mod marks;
+mod names;
+mod options;
+mod outcome;
+mod phase;
+mod receiver;
+mod sender;
+
+pub use acceptable::is_acceptable;
+pub use config::{Config, ConfigError, DEFAULT_LIMIT, MAX_LIMIT, MAX_MSS, MAX_SHIFT, MIN_MSS};
+pub use due::Due;
+pub use link::{Link, Negotiated, Owed, Peer, WaitingReset};
+pub use options::{DEFAULT_MSS, link_of};
+pub use outcome::{Arrival, CallError, Received, Taken};
+pub use phase::{Ending, Phase, Timer};
+pub use receiver::Receiver;
+pub use sender::Sender;

@@ -1,0 +1,150 @@
+ghost use Rattle.std.specs.Prelude.{◌≡◌, ◌↔◌, ◌⊎◌, ◌+◌, ◌^◌, ◌<◌, ◌≤◌, ◌≤ℤ◌, ◌<ℤ◌, pos, negsuc, length, take, drop, min, ◌++◌, IfOk};
+ghost use Rattle.tcp_reasm.specs.Reassembly.{max_capacity, window};
+ghost use Rattle.tcp_halves.specs.Receiver.{Receiving};
+ghost use Rattle.tcp_wire.specs.Position.{offset};
+ghost use Rattle.tcp_wire.specs.Wire.{max_text_len};
+ghost use Rattle.tcp_halves.specs.Receiver.{new_receiving, with_syn, after_text, is_fin_due, with_fin, after_handing, without_bytes};
+
+use crate::config::Config;
+use arrayvec::ArrayVec;
+use std::alloc::{Allocator, Global};
+use std::marker::Model;
+use tcp_reasm::{ReasmError, Reassembly};
+use tcp_wire::Seq;
+
+/// The half of an end that receives (RFC 9293, 3.3.1). Its fields can be read from above, and whatever changes them
+/// keeps what always holds of it.
+#[derive(Debug, Drop)]
+pub struct Receiver<A: Allocator = Global> {
+    /// Whether the peer's SYN was taken.
+    pub opened: bool,
+    /// RCV.NXT, once the peer's SYN was taken.
+    pub next: Seq,
+    /// The text bytes that came in order; it stays at its greatest value once there.
+    pub ordered: u64,
+    /// Whether the peer's FIN was taken.
+    pub finished: bool,
+    /// What came, in order and early.
+    pub inbox: Reassembly<A>,
+}
+
+impl<A: Allocator> Model for Receiver<A> {
+    ghost use Rattle.std.specs.Prelude.{◌≡◌, ◌+◌, ◌^◌, ◌<◌, length};
+    ghost use Rattle.tcp_halves.specs.Receiver.{Receiving};
+
+    ghost Value = { Receiving };
+
+    ghost view = { λ r. record { opened = r.opened; next = r.next.0; ordered = r.ordered; finished = r.finished; inbox = r.inbox } };
+
+    ghost invariant = { λ r. (r.next.0 < 2 ^ 32) × (r.ordered < 2 ^ 64) × (length r.inbox.unread + length r.inbox.held ≡ r.inbox.capacity) };
+}
+
+impl<A: Allocator> Receiver<A> {
+    /// A receiver that waits for the peer's SYN.
+    pub fn new_in(alloc: A, config: &Config) -> Result<Self, ReasmError>
+        ensures ok { IfOk result (λ r. r ≡ new_receiving config.now.recv_capacity) }
+        ensures bad_capacity { (result ≡ Err ReasmError.BadCapacity) ↔ ((config.now.recv_capacity < 1) ⊎ (max_capacity < config.now.recv_capacity)) }
+        ensures whole { IfOk result (λ r. length r.inbox.unread + length r.inbox.held ≡ r.inbox.capacity) }
+    {
+        let inbox = Reassembly::new_in(alloc, config.recv_capacity)?;
+        Ok(Receiver {
+            opened: false,
+            next: Seq(0),
+            ordered: 0,
+            finished: false,
+            inbox,
+        })
+    }
+}
+
+impl<A: Allocator> Receiver<A> {
+    /// RCV.WND.
+    pub(crate) fn window(&self) -> u32
+        ensures value { result ≡ window self.now.inbox }
+        ensures most { result ≤ max_capacity }
+    {
+        self.inbox.window()
+    }
+
+    /// Takes the peer's SYN (RFC 9293, 3.10.7.2 and 3.10.7.3).
+    pub fn take_syn(&mut self, seq: Seq)
+        ensures state { self.new ≡ with_syn self.old seq.0 }
+        ensures capacity { self.new.inbox.capacity ≡ self.old.inbox.capacity }
+        ensures whole { length self.new.inbox.unread + length self.new.inbox.held ≡ self.new.inbox.capacity }
+    {
+        self.opened = true;
+        self.next = seq.plus(1);
+    }
+
+    /// How far ahead of RCV.NXT a number lies; below 0 where it comes before it.
+    #[tactic(auto, using(tcp_wire::proofs::Lemmas::offset_ahead, tcp_wire::proofs::Lemmas::offset_behind))]
+    fn offset_of(&self, seq: Seq) -> i64
+        ensures value { result ≡ offset self.now.next seq.0 }
+        ensures least { negsuc 2147483647 ≤ℤ result }
+        ensures most { result <ℤ pos 2147483648 }
+    {
+        let ahead = i64::from(seq.minus(self.next));
+        if ahead < 1 << 31 {
+            ahead
+        } else {
+            ahead - (1 << 32)
+        }
+    }
+
+    /// Places text whose first byte has this number (RFC 9293, 3.10.7.4, seventh).
+    #[tactic(auto, using(crate::proofs::Placing::length_placed, crate::proofs::Placing::capacity_placed), unfolding(crate::specs::Receiver::after_text))]
+    pub fn place(&mut self, seq: Seq, text: &[u8])
+        requires { length text.now ≤ max_text_len }
+        ensures state { self.new ≡ after_text self.old seq.0 text.now }
+        ensures capacity { self.new.inbox.capacity ≡ self.old.inbox.capacity }
+        ensures whole { length self.new.inbox.unread + length self.new.inbox.held ≡ self.new.inbox.capacity }
+    {
+        let offset = self.offset_of(seq);
+        let before = self.inbox.window();
+        self.inbox.place(offset, text);
+        let count = before - self.inbox.window();
+        self.next = self.next.plus(count);
+        self.ordered = self.ordered.saturating_add(u64::from(count));
+    }
+
+    /// Whether a FIN with this number is the next to come, and the window is open (RFC 9293, 3.10.7.4, eighth).
+    pub fn is_fin_due(&self, number: Seq) -> bool
+        ensures { result ≡ is_fin_due self.now number.0 }
+    {
+        number == self.next && self.window() > 0
+    }
+
+    /// Takes the peer's FIN, and gives up what is held.
+    #[tactic(auto, using(crate::proofs::Placing::whole_without_held))]
+    pub fn take_fin(&mut self)
+        ensures state { self.new ≡ with_fin self.old }
+        ensures capacity { self.new.inbox.capacity ≡ self.old.inbox.capacity }
+        ensures whole { length self.new.inbox.unread + length self.new.inbox.held ≡ self.new.inbox.capacity }
+    {
+        self.next = self.next.plus(1);
+        self.finished = true;
+        self.inbox.clear_held();
+    }
+
+    /// Hands over the longest prefix of the unread bytes that fits `out`, and answers its length.
+    #[tactic(auto, using(crate::proofs::Placing::whole_read, crate::proofs::Placing::capacity_read))]
+    pub fn read(&mut self, out: &mut [u8]) -> usize
+        ensures count { result ≡ min (length out.old) (length self.old.inbox.unread) }
+        ensures bytes { out.new ≡ take result self.old.inbox.unread ++ drop result out.old }
+        ensures state { self.new ≡ after_handing self.old (length out.old) }
+        ensures capacity { self.new.inbox.capacity ≡ self.old.inbox.capacity }
+        ensures whole { length self.new.inbox.unread + length self.new.inbox.held ≡ self.new.inbox.capacity }
+    {
+        self.inbox.read(out)
+    }
+
+    /// The connection has ended by a reset or an abort: what is unread and held is given up.
+    #[tactic(auto, using(crate::proofs::Placing::whole_empty))]
+    pub fn give_up(&mut self)
+        ensures state { self.new ≡ without_bytes self.old }
+        ensures capacity { self.new.inbox.capacity ≡ self.old.inbox.capacity }
+        ensures whole { length self.new.inbox.unread + length self.new.inbox.held ≡ self.new.inbox.capacity }
+    {
+        self.inbox.clear();
+    }
+}

@@ -1,0 +1,230 @@
+ghost use Rattle.std.specs.Prelude.{◌≡◌, ◌<◌, ◌≤◌, ◌+◌, ◌-◌, ◌==◌, ◌↔◌, ◌⊎◌, min, length, IfOk};
+ghost use Rattle.tcp_sendq.specs.SendQueue.{max_capacity, room};
+ghost use Rattle.tcp_halves.specs.Sender.{Sending, accepted_count, place_of, end_of_text};
+ghost use Rattle.tcp_halves.specs.Config.{stream_limit};
+ghost use Rattle.tcp_halves.specs.Sender.{new_sending, with_syn_sent, with_syn_acked, acks_unsent, count_below, after_ack, with_window, after_window_update, with_all_resent, with_gaps_resent, count_sendable, with_text, count_unsent, is_probe_needed, is_fin_acked, without_text, IsSender};
+
+use crate::config::Config;
+use std::alloc::{Allocator, Global};
+use std::marker::Model;
+use std::ops::Range;
+use tcp_sendq::{QueueError, SendQueue};
+use tcp_wire::Seq;
+
+/// The half of an end that sends (RFC 9293, 3.3.1). Positions count from the SYN, which is at 0; byte i of
+/// the queue is at `1 + released + i`, the FIN after the last byte. Its fields can be read from above, and whatever
+/// changes them keeps what always holds of it.
+#[derive(Debug, Drop)]
+pub struct Sender<A: Allocator = Global> {
+    /// SND.UNA, the oldest position that isn't acknowledged; at most `nxt`.
+    pub una: u64,
+    /// SND.NXT, the next position to be sent; at most that after the FIN of a full direction.
+    pub nxt: u64,
+    /// The text bytes that were released by acknowledgement.
+    pub released: u64,
+    /// The text after them.
+    pub queue: SendQueue<A>,
+    /// What a retransmission has still to send again.
+    pub resend: Option<Range<u64>>,
+    /// SND.WND, in bytes.
+    pub wnd: u32,
+    /// SND.WL1 and SND.WL2, the numbers of the segment that the window was taken from.
+    pub wl1: Seq,
+    pub wl2: Seq,
+}
+
+impl<A: Allocator> Model for Sender<A> {
+    ghost use Rattle.tcp_halves.specs.Sender.{Sending};
+
+    ghost Value = { Sending };
+
+    ghost use Rattle.tcp_halves.specs.Sender.{IsSender};
+
+    ghost view = { λ s. record { una = s.una; nxt = s.nxt; released = s.released; queue = s.queue; resend = s.resend; wnd = s.wnd; wl1 = s.wl1.0; wl2 = s.wl2.0 } };
+
+    ghost invariant = { λ s. IsSender (record { una = s.una; nxt = s.nxt; released = s.released; queue = s.queue; resend = s.resend; wnd = s.wnd; wl1 = s.wl1.0; wl2 = s.wl2.0 }) };
+}
+
+impl<A: Allocator> Sender<A> {
+    /// A sender of which nothing was asked yet.
+    pub fn new_in(alloc: A, config: &Config) -> Result<Self, QueueError>
+        ensures ok { IfOk result (λ s. s ≡ new_sending config.now.send_capacity) }
+        ensures bad_capacity { (result ≡ Err QueueError.BadCapacity) ↔ ((config.now.send_capacity < 1) ⊎ (max_capacity < config.now.send_capacity)) }
+    {
+        let queue = SendQueue::new_in(alloc, config.send_capacity)?;
+        Ok(Sender {
+            una: 0,
+            nxt: 0,
+            released: 0,
+            queue,
+            resend: None,
+            wnd: 0,
+            wl1: Seq(0),
+            wl2: Seq(0),
+        })
+    }
+}
+
+impl<A: Allocator> Sender<A> {
+    /// How many bytes the direction has accepted from its user.
+    pub fn accepted_count(&self) -> u64
+        ensures value { result ≡ accepted_count self.now }
+        ensures limit { result ≤ stream_limit }
+    {
+        self.released + self.queue.len() as u64
+    }
+
+    /// The position after the last byte that was accepted.
+    pub(crate) fn end_of_text(&self) -> u64
+        ensures { result ≡ end_of_text self.now }
+    {
+        1 + self.accepted_count()
+    }
+
+    /// The place in the queue of the byte at a position.
+    pub(crate) fn place_of(&self, position: u64) -> u64
+        ensures { result ≡ place_of self.now position }
+    {
+        position.saturating_sub(1 + self.released)
+    }
+
+    /// How many queued bytes lie before a position.
+    pub fn count_below(&self, position: u64) -> usize
+        ensures { result ≡ count_below self.now position }
+    {
+        self.place_of(position).min(self.queue.len() as u64) as usize
+    }
+
+    /// The own SYN is sent (RFC 9293, 3.10.1).
+    pub fn send_syn(&mut self)
+        ensures state { self.new ≡ with_syn_sent self.old }
+        ensures capacity { self.new.queue.capacity ≡ self.old.queue.capacity }
+        ensures queued { length self.new.queue.bytes ≤ self.new.queue.capacity }
+    {
+        self.una = 0;
+        self.nxt = 1;
+    }
+
+    /// The own SYN is acknowledged, by a segment that advertises a window (RFC 9293, 3.10.7.3 and 3.10.7.4).
+    pub fn take_syn_ack(&mut self, seq: Seq, ack: Seq, window: u32)
+        ensures state { self.new ≡ with_window (with_syn_acked self.old) seq.0 ack.0 window }
+        ensures capacity { self.new.queue.capacity ≡ self.old.queue.capacity }
+        ensures queued { length self.new.queue.bytes ≤ self.new.queue.capacity }
+    {
+        self.una = self.nxt;
+        self.wnd = window;
+        self.wl1 = seq;
+        self.wl2 = ack;
+    }
+
+    /// Whether it acknowledges what wasn't sent.
+    pub fn acks_unsent(&self, ack: u64) -> bool
+        ensures { result ≡ acks_unsent self.now ack }
+    {
+        self.nxt < ack
+    }
+
+    /// Releases the text below an acknowledgement of what was sent and not acknowledged before (RFC 9293, 3.10.7.4).
+    #[tactic(auto, unfolding(crate::specs::Sender::after_ack))]
+    pub fn take_ack(&mut self, ack: u64)
+        ensures state { self.new ≡ after_ack self.old ack }
+        ensures capacity { self.new.queue.capacity ≡ self.old.queue.capacity }
+        ensures queued { length self.new.queue.bytes ≤ self.new.queue.capacity }
+    {
+        if self.una < ack && ack <= self.nxt {
+            let count = self.count_below(ack);
+            self.una = ack;
+            self.released += count as u64;
+            self.queue.release(count);
+        }
+    }
+
+    /// Takes a window, unless the last was taken from a newer segment (RFC 9293, 3.10.7.4).
+    #[tactic(auto, unfolding(crate::specs::Sender::after_window_update))]
+    pub fn update_window(&mut self, seq: Seq, ack: Seq, window: u32)
+        ensures state { self.new ≡ after_window_update self.old seq.0 ack.0 window }
+        ensures capacity { self.new.queue.capacity ≡ self.old.queue.capacity }
+        ensures queued { length self.new.queue.bytes ≤ self.new.queue.capacity }
+    {
+        let follows = self.wl1 == seq && (self.wl2.before(ack) || self.wl2 == ack);
+        if self.wl1.before(seq) || follows {
+            self.wnd = window;
+            self.wl1 = seq;
+            self.wl2 = ack;
+        }
+    }
+
+    /// Sends all that is in flight again, and forgets what the peer reported of it (RFC 9293, 3.8.1; RFC 2018, 5).
+    #[tactic(auto, unfolding(tcp_sendq::specs::SendQueue::without_marks))]
+    pub fn resend_all(&mut self)
+        ensures state { self.new ≡ with_all_resent self.old }
+        ensures capacity { self.new.queue.capacity ≡ self.old.queue.capacity }
+        ensures queued { length self.new.queue.bytes ≤ self.new.queue.capacity }
+    {
+        self.queue.forget_marks();
+        self.resend = Some(self.una..self.nxt);
+    }
+
+    /// Sends what lies before the place `end` again (RFC 2018, 5).
+    pub fn resend_gaps(&mut self, end: usize)
+        requires { end ≤ length self.old.queue.bytes }
+        ensures state { self.new ≡ with_gaps_resent self.old end }
+        ensures capacity { self.new.queue.capacity ≡ self.old.queue.capacity }
+        ensures queued { length self.new.queue.bytes ≤ self.new.queue.capacity }
+    {
+        self.resend = Some(self.una..1 + self.released + end as u64);
+    }
+
+    /// Whether a probe is needed: nothing is in flight, text is unsent, and the window is shut (RFC 9293, 3.8.6.1).
+    pub fn is_probe_needed(&self) -> bool
+        ensures { result ≡ is_probe_needed self.now }
+    {
+        self.una == self.nxt && self.count_unsent() > 0 && self.wnd == 0
+    }
+
+    /// How many bytes of a long text fit the queue and the limit of the direction.
+    pub fn room(&self, limit: u64) -> usize
+        ensures { result ≡ min (room self.now.queue) (limit - accepted_count self.now) }
+    {
+        let left = limit.saturating_sub(self.accepted_count());
+        (self.queue.room() as u64).min(left) as usize
+    }
+
+    /// Takes the longest prefix of `text` that fits the queue and the limit of the direction, and answers its length.
+    pub fn send(&mut self, limit: u64, text: &[u8]) -> usize
+        requires { limit ≤ stream_limit }
+        ensures count { result ≡ count_sendable self.old limit text.now }
+        ensures state { self.new ≡ with_text self.old limit text.now }
+        ensures capacity { self.new.queue.capacity ≡ self.old.queue.capacity }
+        ensures queued { length self.new.queue.bytes ≤ self.new.queue.capacity }
+    {
+        let count = self.room(limit).min(text.len());
+        let _ = self.queue.offer(&text[..count]);
+        count
+    }
+
+    /// How many queued bytes weren't sent yet.
+    pub(crate) fn count_unsent(&self) -> u64
+        ensures { result ≡ count_unsent self.now }
+    {
+        (self.queue.len() as u64).saturating_sub(self.place_of(self.nxt))
+    }
+
+    /// Whether the own FIN was sent, and all that was sent is acknowledged.
+    pub fn is_fin_acked(&self) -> bool
+        ensures { result ≡ is_fin_acked self.now }
+    {
+        self.end_of_text() < self.nxt && self.una == self.nxt
+    }
+
+    /// It has ended by a reset or an abort: what is queued is given up.
+    pub fn give_up(&mut self)
+        ensures state { self.new ≡ without_text self.old }
+        ensures capacity { self.new.queue.capacity ≡ self.old.queue.capacity }
+        ensures queued { length self.new.queue.bytes ≤ self.new.queue.capacity }
+    {
+        self.resend = None;
+        let count = self.queue.len();
+        self.queue.release(count);
+    }
+}

@@ -1,0 +1,66 @@
+-- What the module answers: a text, or the line of a fault.
+use Rattle.std.specs.Prelude.{◌≡◌, ℕ, List, [], ◌∷◌, ◌++◌, codes, decimal, Option, Some, None, Ok, if◌then◌else◌, ◌==◌}
+use Rattle.tcp_conn.specs.Config.{config_error_number}
+use Rattle.tcp_replay.specs.declared.event.Side.{Side}
+use Rattle.tcp_replay.specs.declared.event.Side.TheVariants.{A, B}
+use Rattle.tcp_replay.specs.Names.{side_name}
+use Rattle.tcp_replay.specs.World.{HasGoodConfigs}
+use Rattle.tcp_script.specs.Script.{ScriptContent, script_of}
+use Rattle.tcp_report.specs.Steps.{steps_text, shown_segment}
+use Rattle.tcp_commands.specs.declared.errors.ToolError.{ToolError}
+use Rattle.tcp_commands.specs.declared.errors.ToolError.TheVariants.{BadLine, NoMemory, ReadFault, WriteFault, Config as ConfigFault}
+use Rattle.tcp_commands.specs.Replay.{RefusesText}
+
+-- the numbers of the answers
+abbrev pub well : ℕ
+well = 0
+
+abbrev pub refused : ℕ
+refused = 1
+
+abbrev pub fault : ℕ
+fault = 2
+
+abbrev pub no_memory : ℕ
+no_memory = 3
+
+abbrev pub no_room : ℕ
+no_room = 4
+
+abbrev pub no_segment : ℕ
+no_segment = 5
+
+-- A FAULT's line, as the program writes it
+abbrev pub config_fault_text : Side → ℕ → List ℕ
+config_fault_text side number = codes "tcpkit: config " ++ (side_name side ++ (codes " " ++ (decimal number ++ (10 ∷ []))))
+
+abbrev pub fault_text : ToolError → List ℕ
+fault_text (BadLine line) = codes "tcpkit: 41 line " ++ (decimal line ++ (10 ∷ []))
+fault_text (ConfigFault side error) = config_fault_text side (config_error_number error)
+fault_text NoMemory = codes "tcpkit: 42" ++ (10 ∷ [])
+fault_text ReadFault = codes "tcpkit: 43" ++ (10 ∷ [])
+fault_text WriteFault = codes "tcpkit: 44" ++ (10 ∷ [])
+
+-- the text has a fault, and this is its line
+pub record IsFaultLine (text line : List ℕ) : Type 0 where
+  pub error : ToolError
+  pub cause : RefusesText text error
+  pub line_is : line ≡ fault_text error
+
+-- THE STEPS of a text, which is a script of two ends that can be made
+pub record IsSteps (text steps : List ℕ) : Type 0 where
+  pub script : ScriptContent
+  pub meaning : script_of text ≡ Ok script
+  pub configs : HasGoodConfigs script.a script.b
+  pub steps_are : steps ≡ steps_text script
+
+-- THE SEGMENT of a side with this number, if its run has one: what it says
+pub record IsSegment (text : List ℕ) (side : Side) (k : ℕ) (shown : Option (List ℕ)) : Type 0 where
+  pub script : ScriptContent
+  pub meaning : script_of text ≡ Ok script
+  pub configs : HasGoodConfigs script.a script.b
+  pub shown_is : shown ≡ shown_segment script side k
+
+-- the side of a number
+abbrev pub side_of : ℕ → Option Side
+side_of n = if n == 0 then Some A else if n == 1 then Some B else None

@@ -1,0 +1,36 @@
+//! What a call answers, and how it writes its text.
+ghost use Rattle.std.specs.Prelude.{◌≡◌, ◌≤◌, length, take, nat_le, if◌then◌else◌};
+ghost use Rattle.tcp_web.specs.Answers.{no_room};
+
+/// No call and no step was refused; or there is the segment.
+pub const WELL: u32 = 0;
+
+/// A line of the report says `refused`.
+pub const REFUSED: u32 = 1;
+
+/// The script has a fault, whose line is written.
+pub const FAULT: u32 = 2;
+
+/// The block is too small.
+pub const NO_MEMORY: u32 = 3;
+
+/// There is too little room for the text.
+pub const NO_ROOM: u32 = 4;
+
+/// The side emits no segment of this number, or the number of the side is neither 0 nor 1.
+pub const NO_SEGMENT: u32 = 5;
+
+/// Writes a text, tells its length, and gives this answer; [`NO_ROOM`] where it is too long, and then nothing is written.
+pub(crate) fn put(text: &[u8], out: &mut [u8], count: &mut usize, answer: u32) -> u32
+    ensures count { count.new ≡ length text.now }
+    ensures room { length out.new ≡ length out.old }
+    ensures answer { result ≡ (if nat_le (length text.now) (length out.old) then answer else no_room) }
+    ensures text { length text.now ≤ length out.old → take (length text.now) out.new ≡ text.now }
+{
+    *count = text.len();
+    if text.len() > out.len() {
+        return NO_ROOM;
+    }
+    out[..text.len()].copy_from_slice(text);
+    answer
+}

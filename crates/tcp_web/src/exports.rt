@@ -1,0 +1,110 @@
+//! The exported functions.
+ghost use Rattle.std.specs.Prelude.{◌≡◌, ◌≢◌, ◌≤◌, ◌⊎◌, true, false, take, Some, None, IfSome, IsNone};
+ghost use Rattle.tcp_commands.specs.Replay.{IsReport};
+ghost use Rattle.tcp_web.specs.Answers.{well, refused, fault, no_memory, no_room, no_segment, side_of, fault_text, IsFaultLine, IsSteps, IsSegment};
+
+use crate::answers::{FAULT, NO_MEMORY, NO_SEGMENT, REFUSED, WELL, put};
+use crate::faults::fault_line;
+use crate::texts::{segment_of, steps_of};
+use region_heap::{Block, Region};
+use std::alloc::Allocator;
+use tcp_commands::{ToolError, report_of};
+use tcp_replay::Side;
+
+/// Writes the line of a fault; where memory ran out nothing, and the block is too small.
+fn put_fault<A: Allocator>(alloc: A, error: ToolError, out: &mut [u8], count: &mut usize) -> u32
+    ensures fault { result ≡ fault → take count.new out.new ≡ fault_text error }
+    ensures answers { result ≢ fault → (result ≡ no_memory) ⊎ (result ≡ no_room) }
+{
+    *count = 0;
+    if error == ToolError::NoMemory {
+        return NO_MEMORY;
+    }
+    match fault_line(alloc, error) {
+        Ok(line) => put(line.as_bytes(), out, count, FAULT),
+        Err(_) => NO_MEMORY,
+    }
+}
+
+/// Writes the report of a script, or the line of its fault.
+#[unsafe(no_mangle)]
+pub extern "C" fn tcp_web_replay(
+    memory: Block,
+    script: &[u8],
+    out: &mut [u8],
+    count: &mut usize,
+) -> u32
+    ensures well { result ≡ well → IsReport script.now (take count.new out.new) true }
+    ensures refused { result ≡ refused → IsReport script.now (take count.new out.new) false }
+    ensures fault { result ≡ fault → IsFaultLine script.now (take count.new out.new) }
+    ensures answers { result ≤ no_room }
+{
+    let region = Region::new(memory);
+    match report_of(&region, script) {
+        Ok(report) => {
+            let answer = if report.is_well { WELL } else { REFUSED };
+            put(report.text.as_bytes(), out, count, answer)
+        }
+        Err(error) => put_fault(&region, error, out, count),
+    }
+}
+
+/// Writes the steps of a script: how both ends stand before its events and after each, with the report's line of each; or the
+/// line of its fault. [`WELL`] says that they are written, refused calls or not.
+#[unsafe(no_mangle)]
+pub extern "C" fn tcp_web_steps(
+    memory: Block,
+    script: &[u8],
+    out: &mut [u8],
+    count: &mut usize,
+) -> u32
+    ensures well { result ≡ well → IsSteps script.now (take count.new out.new) }
+    ensures fault { result ≡ fault → IsFaultLine script.now (take count.new out.new) }
+    ensures answers { result ≤ no_room }
+    ensures unrefused { result ≢ refused }
+{
+    let region = Region::new(memory);
+    match steps_of(&region, script) {
+        Ok(steps) => put(steps.as_bytes(), out, count, WELL),
+        Err(error) => put_fault(&region, error, out, count),
+    }
+}
+
+/// The side of a number.
+fn side_of(number: u32) -> Option<Side>
+    ensures { result ≡ side_of number }
+{
+    match number {
+        0 => Some(Side::A),
+        1 => Some(Side::B),
+        _ => None,
+    }
+}
+
+/// Writes what one segment says that a side, 0 for A and 1 for B, emits in the run of a script, the segment of this number from 0;
+/// or the line of the script's fault.
+#[unsafe(no_mangle)]
+pub extern "C" fn tcp_web_show(
+    memory: Block,
+    script: &[u8],
+    side: u32,
+    number: usize,
+    out: &mut [u8],
+    count: &mut usize,
+) -> u32
+    ensures well { result ≡ well → IfSome (side_of side) (λ side. IsSegment script.now side number (Some (take count.new out.new))) }
+    ensures fault { result ≡ fault → IsFaultLine script.now (take count.new out.new) }
+    ensures none { result ≡ no_segment → IfSome (side_of side) (λ side. IsSegment script.now side number None) }
+    ensures no_side { IsNone (side_of side) → result ≡ no_segment }
+{
+    *count = 0;
+    let Some(side) = side_of(side) else {
+        return NO_SEGMENT;
+    };
+    let region = Region::new(memory);
+    match segment_of(&region, script, side, number) {
+        Ok(Some(shown)) => put(shown.as_bytes(), out, count, WELL),
+        Ok(None) => NO_SEGMENT,
+        Err(error) => put_fault(&region, error, out, count),
+    }
+}

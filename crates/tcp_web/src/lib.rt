@@ -1,0 +1,22 @@
+//! The replay for a page, a WebAssembly module that imports nothing: each exported function works in a block of memory that it
+//! is handed, and writes its text to where its caller says. web/MODULE.md tells how they are called.
+//!
+//! ```c
+//! typedef struct { void *at; size_t size; } tcp_web_block;
+//!
+//! uint32_t tcp_web_replay(tcp_web_block memory, const uint8_t *script, size_t script_length, uint8_t *out, size_t out_length, size_t *count);
+//! uint32_t tcp_web_steps(tcp_web_block memory, const uint8_t *script, size_t script_length, uint8_t *out, size_t out_length, size_t *count);
+//! uint32_t tcp_web_show(tcp_web_block memory, const uint8_t *script, size_t script_length, uint32_t side, size_t number, uint8_t *out, size_t out_length, size_t *count);
+//! ```
+//!
+//! The caller owes what no code here can test: the block is aligned to 16, its size is a multiple of 16, and no piece of memory
+//! that a call is passed overlaps another.
+#![tactic(auto)]
+
+mod answers;
+mod exports;
+mod faults;
+mod texts;
+
+pub use answers::{FAULT, NO_MEMORY, NO_ROOM, NO_SEGMENT, REFUSED, WELL};
+pub use exports::{tcp_web_replay, tcp_web_show, tcp_web_steps};

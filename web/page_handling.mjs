@@ -1,0 +1,300 @@
+// Tests how the page is handled: keys, clicks, editing, faults, links, narrow and dark windows.
+import fs from "node:fs";
+import { at, wanted } from "./cases.mjs";
+
+const FIRST = fs.readFileSync(at("crates/tcpkit/data/first-run.script"), "utf8");
+const FIRST_REPORT = fs.readFileSync(at("crates/tcpkit/stdout"), "utf8");
+
+async function keys(tab, tools, expect) {
+    await tools.edit(FIRST);
+    await tools.go(0);
+    const steps = FIRST_REPORT.split("\n").length - 3;
+    const place = async () => Number((await tools.shown()).place.split(" ")[0]);
+    const presses = [["ArrowDown", 1], ["ArrowDown", 2], ["ArrowRight", 3], ["ArrowUp", 2], ["ArrowLeft", 1],
+        ["PageDown", 11], ["PageUp", 1], ["End", steps], ["ArrowDown", steps], ["Home", 0], ["ArrowUp", 0]];
+    await tools.run(() => document.getElementById("ladder").focus());
+    for (const [key, wanted_place] of presses) {
+        await tab.key(key);
+        expect(`in the ladder, ${key}`, await place(), wanted_place);
+    }
+    const ways = () => tools.run(
+        () => [document.getElementById("back").disabled, document.getElementById("next").disabled]);
+    expect("no way back", await ways(), [true, false]);
+    await tools.go(steps);
+    expect("no way on", await ways(), [false, true]);
+    await tools.go(0);
+    await tools.run(() => document.activeElement.blur());
+    await tab.key("ArrowRight");
+    expect("ArrowRight in the page", await place(), 1);
+    await tools.run(() => document.getElementById("step").focus());
+    await tab.key("ArrowRight");
+    expect("ArrowRight at the slider", await place(), 2);
+    await tools.run(() => document.getElementById("script").focus());
+    await tab.key("ArrowRight");
+    expect("ArrowRight in the script", await place(), 2);
+    await tools.run(() => document.getElementById("next").click());
+    expect("the button Next", await place(), 3);
+    await tools.run(() => document.getElementById("back").click());
+    expect("the button Back", await place(), 2);
+}
+
+// What a click on an arrow shows is what the report says of its segment, as the listing has it.
+async function clicks(tab, tools, expect) {
+    await tools.edit(FIRST);
+    await tools.go(0);
+    await tools.run(() => { document.getElementById("ladder").scrollTop = 0; });
+    for (const [number, text] of [["2", "616263"], ["1", "-"]]) {
+        const line = FIRST_REPORT.split("\n").find(one => one.includes(` emit A ${number} `));
+        const [, flags, seq, ack, window] = /flags (\S+) seq (\d+) ack (\d+) window (\d+)/.exec(line);
+        const [x, y] = await tools.run(which => {
+            const shaft = document.querySelector(`#picture .arrow[data-side="A"][data-number="${which}"] .shaft`);
+            const point = shaft.getPointAtLength(shaft.getTotalLength() * 0.25), matrix = shaft.getScreenCTM();
+            return [point.x * matrix.a + matrix.e, point.y * matrix.d + matrix.f];
+        }, number);
+        await tab.click(x, y);
+        const { listing, told, letters } = await tools.shown();
+        expect(`a click on segment ${number}`, listing,
+            `1 > 2 seq ${seq} ack ${ack} reserved 0 flags ${flags} window ${window} urgent 0 options - pad 0 ` +
+            `text ${text}`);
+        expect(`whose segment ${number} is`,
+            told.startsWith(`A's segment ${number}, emitted at event ${line.split(" ")[0]}`), true);
+        expect(`the letters of segment ${number}`, letters.includes("abc"), text !== "-");
+    }
+    await tools.run(() => document.getElementById("segment-next").click());
+    expect("the segment after", (await tools.shown()).told.startsWith("A's segment 2, "), true);
+    const row = await tools.run(() => {
+        const box = document.getElementById("canvas").getBoundingClientRect();
+        return [box.left + 4, box.top, box.height];
+    });
+    await tab.click(row[0], row[1] + row[2] * 4.5 / 21);
+    expect("a click on a row", (await tools.shown()).place, "5 of 20");
+}
+
+// A script whose last line is typed gives the stored report.
+async function editing(tab, tools, expect) {
+    const lines = FIRST.split("\n");
+    await tools.run(() => { document.getElementById("report").open = true; });
+    await tools.edit(lines.slice(0, -2).join("\n") + "\n");
+    const before = (await tools.shown()).report.split("\n").slice(0, -3);
+    expect("before the last line", before, FIRST_REPORT.split("\n").slice(0, -4));
+    await tools.run(() => {
+        const field = document.getElementById("script");
+        field.focus();
+        field.setSelectionRange(field.value.length, field.value.length);
+    });
+    for (const letter of lines.at(-2)) {
+        await tab.type(letter);
+    }
+    expect("with the last line", (await tools.shown()).report, FIRST_REPORT);
+}
+
+async function faults(tab, tools, expect) {
+    const visible = () => tools.run(() => {
+        const callout = document.getElementById("callout"), mark = document.querySelector("#marks .bad");
+        return callout.hidden || !mark ? null
+            : { below: callout.getBoundingClientRect().top - mark.getBoundingClientRect().top,
+                text: callout.textContent };
+    });
+    for (const [script, line, cause, cure] of [
+        ["listen B\nconect A\nemit A\n", 2, "no line begins with “conect”", "Lines of a script"],
+        ["listen B\n\nemit A 1\n", 3, "missing, misspelled or too many", "emit SIDE"],
+        ["listen  B\n", 1, "doubled space", "one space"],
+        ["listen B\nconfig A mss 64\n", 2, "after the first event", "before the first event"],
+        ["listen B\n# \u00e4\n", 2, "above 7f", "ASCII"],
+        ["repeat 2 emit A\n", 1, "version 2", "tcpkit 2"],
+        ["config A mss 100\nconfig A mss 63\nlisten B\n", 2, "the mss isn't from 64 to 1460", "mss of side A"],
+        ["config B send 9\nconfig B recv 0\n", 2, "a capacity isn't from 1 to 1048576", "side B"],
+        ["config B shift 15\n", 1, "the shift isn't from 0 to 14", "side B"],
+        ["tcpkit 2\nconfig B limit 4611686018427387905\n", 2, "the limit isn't from 1", "side B"],
+    ]) {
+        await tools.edit(script);
+        await tab.until(() => !document.getElementById("callout").hidden);
+        const found = await visible();
+        expect(`a fault's line in ${JSON.stringify(script)}`, found?.text.startsWith(`Line ${line}: `), true);
+        expect(`cause and cure in ${JSON.stringify(script)}`,
+            [found?.text.includes(cause), found?.text.includes(cure)], [true, true]);
+        expect(`its place in ${JSON.stringify(script)}`, found?.below, 20);
+        expect("nothing to save then", await tools.run(() => document.getElementById("save").disabled), true);
+    }
+    await tools.edit(FIRST);
+    expect("no fault any more", [await visible(), (await tools.shown()).is_fault], [null, false]);
+}
+
+// What is told of a fault doesn't cover its line, also where there is little room.
+async function covered(tab, tools, expect) {
+    await tab.size(360, 1200);
+    for (const line of [0, 3, 7, 11, 19]) {
+        await tools.edit(FIRST.split("\n").map((one, number) => number === line ? `${one} 0 0 0` : one).join("\n"));
+        await tab.until(() => !document.getElementById("callout").hidden);
+        await tools.run(top => { document.getElementById("script").scrollTop = top; }, line > 10 ? 200 : 0);
+        await tab.until(() => document.querySelector("#marks .bad") !== null);
+        expect(`a fault at line ${line} isn't covered`, await tools.run(() => {
+            const callout = document.getElementById("callout").getBoundingClientRect();
+            const mark = document.querySelector("#marks .bad").getBoundingClientRect();
+            const box = document.getElementById("script").getBoundingClientRect();
+            return [callout.bottom <= mark.top || callout.top >= mark.bottom - 1, callout.top >= box.top,
+                callout.bottom <= box.bottom];
+        }), [true, true, true]);
+    }
+    await tab.size(1600, 6000);
+}
+
+async function links(tab, tools, expect, address) {
+    const script = "# a < b & \"c\" +/=\nlisten B\nconnect A\nemit A\n" + "send A 2a2a\n".repeat(50);
+    await tools.edit(script);
+    await tools.run(() => document.getElementById("link").click());
+    await tab.until(() => document.getElementById("said").textContent !== "");
+    const link = await tools.run(() => location.href);
+    expect("the link names the page", link.startsWith(`${address}#script=`), true);
+    expect("the link is short", link.length < address.length + 200, true);
+    await tab.send("Page.navigate", { url: "about:blank" });
+    await tab.open(link);
+    expect("the link's script", await tools.run(() => document.getElementById("script").value), script);
+    // A link whose script has a fault: there is no run yet, and nothing to step through.
+    await tools.edit("listen\n");
+    await tools.run(() => document.getElementById("link").click());
+    await tab.until(before => location.href !== before, link);
+    const faulty = await tools.run(() => location.href);
+    await tab.send("Page.navigate", { url: "about:blank" });
+    await tab.open(faulty);
+    await tab.until(() => !document.getElementById("callout").hidden);
+    await tab.key("ArrowRight");
+    expect("a link to a fault", await tools.run(() => [
+        document.getElementById("callout").textContent.startsWith("Line 1: "), document.getElementById("next").disabled,
+        document.getElementById("picture").childElementCount,
+    ]), [true, true, 0]);
+    await tools.edit(script);
+    expect("mended", (await tools.shown()).place, "0 of 53");
+    await tools.run(() => { location.hash = "#script=%%%"; });
+    await tab.until(() => document.getElementById("said").textContent.includes("no script"));
+    expect("a link without a script leaves the script", await tools.run(() => document.getElementById("script").value),
+        script);
+}
+
+// Nothing sticks out of a window, and no words of the ladder.
+async function widths(tab, tools, expect, height) {
+    for (const width of [360, 500, 900, 1600]) {
+        await tab.size(width, height);
+        const count = await tools.run(() => document.getElementById("example").options.length);
+        for (let example = 0; example < count - 1; example += 1) {
+            await tools.run(choose_example, example);
+            const out = await tools.run(() => {
+                const most = document.documentElement.clientWidth;
+                const box = document.getElementById("picture").getBoundingClientRect();
+                const texts = [...document.querySelectorAll("#picture text")].map(text => text.getBoundingClientRect());
+                const boxes = [...document.querySelectorAll("section, button, select, #ladder, .editor, article")];
+                return {
+                    page: document.documentElement.scrollWidth - most,
+                    boxes: boxes.filter(part => part.getBoundingClientRect().right > Math.min(
+                        most, part.parentElement.closest("section, main").getBoundingClientRect().right) + 0.5).length,
+                    words: texts.filter(text => text.left < box.left - 0.5 || text.right > box.right + 0.5).length,
+                    shown: texts.length > 10,
+                };
+            });
+            expect(`example ${example} at ${width}`, out, { page: 0, boxes: 0, words: 0, shown: true });
+        }
+    }
+    await tab.size(1600, height);
+}
+
+function choose_example(number) {
+    const field = document.getElementById("example");
+    field.value = String(number);
+    field.dispatchEvent(new Event("change"));
+}
+
+// The examples have what their titles say, by their reports.
+async function examples(tools, expect) {
+    await tools.run(() => { document.getElementById("report").open = true; });
+    for (const [number, title, has, crosses] of [
+        [0, "Handshake and close", [/end A CLOSED orderly/, /end B CLOSED orderly/], 0],
+        [1, "A loss mended by blocks", [/ sack \d+-\d+$/m, /end B ESTABLISHED not-ended accepted 0 delivered 19/], 1],
+        [2, "A shut window and its probe", [/ window 0 /, / text 1 /, /end B .* delivered 8 /], 1],
+        [3, "A reset", [/flags RST/, /end A CLOSED reset/], 1],
+        [4, "Both closing at once", [/CLOSING/, /end A CLOSED orderly/, /end B CLOSED orderly/], 0],
+        [5, "Numbers that wrap", [/ seq 429496729\d /, / seq 4 /, /end B .* delivered 9 /], 0],
+    ]) {
+        await tools.run(choose_example, number);
+        const { report, is_fault } = await tools.shown(), drawn = await tools.drawn(), asked = wanted(report);
+        expect(`${title}: its title`,
+            await tools.run(() => document.getElementById("example").selectedOptions[0].text), title);
+        expect(`${title}: its report`, [is_fault, ...has.map(form => form.test(report))],
+            [false, ...has.map(() => true)]);
+        expect(`${title}: its picture`, [drawn.arrows, drawn.crosses, drawn.blocks],
+            [asked.arrows, crosses, asked.blocks]);
+        expect(`${title}: its crosses`, asked.crosses, crosses);
+    }
+}
+
+// How far two colours are apart (WCAG 2.1, 1.4.3): 4.5 is asked for.
+async function themes(tab, tools, expect) {
+    await tools.edit(FIRST);
+    await tools.go(10);
+    for (const theme of ["light", "dark"]) {
+        await tab.theme(theme);
+        const apart = await tools.run(() => {
+            const luminance = colour => {
+                const parts = colour.match(/[\d.]+/g).slice(0, 3).map(part => part / 255).map(
+                    part => part <= 0.03928 ? part / 12.92 : ((part + 0.055) / 1.055) ** 2.4);
+                return 0.2126 * parts[0] + 0.7152 * parts[1] + 0.0722 * parts[2];
+            };
+            const ground = getComputedStyle(document.documentElement).backgroundColor;
+            const from = colour => {
+                const [low, high] = [luminance(colour), luminance(ground)].sort((one, two) => one - two);
+                return (high + 0.05) / (low + 0.05);
+            };
+            const style = (part, name) => getComputedStyle(document.querySelector(part))[name];
+            const colours = [style("body", "color"), style("footer p", "color"), style("#picture text", "fill"),
+                style("#heads .phase", "fill"), style(".shaft", "stroke"), style("#gutter span", "color")];
+            return { is_dark: luminance(ground) < 0.1, least: Math.min(...colours.map(from)) };
+        });
+        expect(`${theme}: ground`, apart.is_dark, theme === "dark");
+        expect(`${theme}: colours`, apart.least >= 4.5, true);
+    }
+    await tab.theme("light");
+}
+
+// Each control has a name, and is reached by Tab, with a frame around it.
+async function access(tab, tools, expect) {
+    expect("controls without a name", await tools.run(() => {
+        const name = part => part.getAttribute("aria-label")
+            ?? (part.tagName === "BUTTON" ? part : part.labels[0])?.textContent.trim();
+        const parts = [...document.querySelectorAll("button, select, input, textarea")];
+        return parts.filter(part => !name(part)).map(part => part.id);
+    }), []);
+    await tools.run(() => { document.activeElement.blur(); window.scrollTo(0, 0); });
+    const reached = new Set();
+    for (let turn = 0; turn < 25; turn += 1) {
+        await tab.key("Tab");
+        const found = await tools.run(() => {
+            const part = document.activeElement, style = getComputedStyle(part);
+            return [part.id || part.tagName, style.outlineStyle !== "none" && parseFloat(style.outlineWidth) >= 2];
+        });
+        if (found[0] !== "BODY" && !reached.has(found[0])) {
+            reached.add(found[0]);
+            expect(`focus on ${found[0]}`, found[1], true);
+        }
+    }
+    const asked = ["example", "script", "link", "save", "back", "step", "next", "ladder"];
+    expect("reached by Tab", asked.filter(name => !reached.has(name)), []);
+    const foot = await tools.run(() => document.querySelector("footer").textContent);
+    expect("the foot", ["JavaScript", "engine", "compiler"].map(word => foot.includes(word)), [true, true, true]);
+}
+
+export async function handling(tab, tools, expect, address) {
+    const height = 6000;
+    await keys(tab, tools, expect);
+    await clicks(tab, tools, expect);
+    await editing(tab, tools, expect);
+    await faults(tab, tools, expect);
+    await covered(tab, tools, expect);
+    await examples(tools, expect);
+    await widths(tab, tools, expect, height);
+    await themes(tab, tools, expect);
+    await access(tab, tools, expect);
+    await links(tab, tools, expect, address);
+    const others = tab.requests.filter(name => !name.startsWith("blob:") && name.split("#")[0] !== address);
+    expect("nothing else is loaded", [others, tab.requests.includes(address)], [[], true]);
+    const fetched = await tools.run(() => fetch("data:text/plain,a").then(() => "loaded", () => "refused"));
+    expect("nothing can be", fetched, "refused");
+}
