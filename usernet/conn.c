@@ -47,11 +47,10 @@ static struct conn *conn_new(struct usernet *net, const struct pair *key, int so
 /* Frees it; where `resets`, the host is told by a reset. */
 static void drop(struct usernet *net, struct conn *conn, int resets)
 {
-    struct linger now = {.l_onoff = 1, .l_linger = 0};
     pairs_remove(&net->pairs, &conn->pair);
     wheel_put(&net->wheel, &conn->node, net->now, -1);
     if (resets && conn->socket >= 0)
-        setsockopt(conn->socket, SOL_SOCKET, SO_LINGER, &now, sizeof now);
+        setsockopt(conn->socket, SOL_SOCKET, SO_LINGER, &(struct linger){.l_onoff = 1}, sizeof(struct linger));
     if (conn->socket >= 0)
         close(conn->socket);
     if (conn->is_open)
@@ -86,14 +85,14 @@ static int make_end(struct usernet *net, struct conn *conn)
 }
 
 /* Answers a segment for which there is no end (RFC 9293, 3.10.7.1). */
-static void stray(struct usernet *net, const struct ip_packet *packet)
+static void stray(struct usernet *net, const struct ip_packet *from)
 {
     uint8_t segment[TCPCORE_RESET_ROOM];
     size_t length;
-    if (tcpcore_stray_reset(packet->src, packet->dst, packet->segment, packet->length, segment, sizeof segment, &length) !=
+    if (tcpcore_stray_reset(from->src, from->dst, from->segment, from->length, segment, sizeof segment, &length) !=
         TCPCORE_DONE)
         return;
-    send_segment(net, segment, length, packet->dst, packet->src);
+    send_segment(net, segment, length, from->dst, from->src);
     send_rest(net);
     net->counters[STRAYS]++;
 }
@@ -101,9 +100,8 @@ static void stray(struct usernet *net, const struct ip_packet *packet)
 static int watch(struct usernet *net, struct conn *conn)
 {
     struct epoll_event event = {.events = EPOLLIN | EPOLLOUT | EPOLLRDHUP | EPOLLET, .data.ptr = conn};
-    int one = 1;
-    setsockopt(conn->socket, IPPROTO_TCP, TCP_NODELAY, &one, sizeof one);
-    setsockopt(conn->socket, SOL_SOCKET, SO_KEEPALIVE, &one, sizeof one);
+    setsockopt(conn->socket, IPPROTO_TCP, TCP_NODELAY, &(int){1}, sizeof(int));
+    setsockopt(conn->socket, SOL_SOCKET, SO_KEEPALIVE, &(int){1}, sizeof(int));
     return epoll_ctl(net->events, EPOLL_CTL_ADD, conn->socket, &event) == 0;
 }
 
@@ -111,8 +109,7 @@ static int watch(struct usernet *net, struct conn *conn)
 static int host_answered(struct usernet *net, struct conn *conn)
 {
     int fault = 0;
-    socklen_t length = sizeof fault;
-    getsockopt(conn->socket, SOL_SOCKET, SO_ERROR, &fault, &length);
+    getsockopt(conn->socket, SOL_SOCKET, SO_ERROR, &fault, &(socklen_t){sizeof fault});
     if (fault == 0 && conn->can_write && make_end(net, conn)) {
         tcpcore_listen(&conn->end);
         tcpcore_arrive(&conn->end, conn->pair.client, conn->pair.server, conn->kept, conn->kept_end);
@@ -209,15 +206,14 @@ void arrive(struct usernet *net, const struct ip_packet *packet)
     }
 }
 
-/* What the client sent goes to the host's socket, as far as that takes it. */
-static void carry_up(struct usernet *net, struct conn *conn)
+/* What the client sent goes to the host's socket, as far as that takes it; 0 where the connection can't go on. */
+static int carry_up(struct usernet *net, struct conn *conn)
 {
     static uint8_t text[65536];
     uint32_t answer = TCPCORE_DONE;
-    size_t count;
     while (conn->can_write && !conn->client_done && answer == TCPCORE_DONE) {
         const uint8_t *from = conn->kept + conn->kept_at;
-        count = conn->kept_end - conn->kept_at;
+        size_t count = conn->kept_end - conn->kept_at;
         if (count == 0) {
             answer = tcpcore_receive(&conn->end, text, sizeof text, &count);
             from = text;
@@ -227,10 +223,8 @@ static void carry_up(struct usernet *net, struct conn *conn)
         if (answer != TCPCORE_DONE || count == 0)
             continue;
         ssize_t taken = send(conn->socket, from, count, MSG_NOSIGNAL);
-        if (taken < 0 && errno != EAGAIN) {
-            tcpcore_abort(&conn->end);
-            return;
-        }
+        if (taken < 0 && errno != EAGAIN)
+            return 0;
         size_t left = count - (size_t)(taken > 0 ? taken : 0);
         net->counters[UP] += count - left;
         conn->can_write = left == 0;
@@ -238,18 +232,17 @@ static void carry_up(struct usernet *net, struct conn *conn)
             conn->kept_at = conn->kept_end - left;
         } else if (left > 0) {
             uint8_t *kept = realloc(conn->kept, left);
-            if (!kept) {
-                tcpcore_abort(&conn->end);
-                return;
-            }
+            if (!kept)
+                return 0;
             memcpy(kept, text + count - left, left);
             conn->kept = kept, conn->kept_at = 0, conn->kept_end = left;
         }
     }
+    return 1;
 }
 
-/* What the host sent goes into the end's queue, as far as it has room. */
-static void carry_down(struct usernet *net, struct conn *conn)
+/* What the host sent goes into the end's queue, as far as it has room; 0 where the connection can't go on. */
+static int carry_down(struct usernet *net, struct conn *conn)
 {
     static uint8_t text[CAPACITY];
     while (conn->can_read && !conn->host_done) {
@@ -257,17 +250,17 @@ static void carry_down(struct usernet *net, struct conn *conn)
         ssize_t count = room == 0 ? 0 : recv(conn->socket, text, room, 0);
         if (room == 0 || (count < 0 && errno == EAGAIN)) {
             conn->can_read = room == 0;
-            return;
+            return 1;
         }
         if (count == 0) {
             conn->host_done = 1;
             tcpcore_close(&conn->end);
         } else if (count < 0 || tcpcore_send(&conn->end, text, (size_t)count, &taken) != TCPCORE_DONE) {
-            tcpcore_abort(&conn->end);
-            return;
+            return 0;
         }
         net->counters[DOWN] += taken;
     }
+    return 1;
 }
 
 /* Looks at one connection: its timers, both ways, what is due, and whether it has ended. */
@@ -277,20 +270,17 @@ static void turn(struct usernet *net, struct conn *conn)
         return;
     if (timers_run(&conn->timers, &conn->end, net->now) & TIMERS_GAVE_UP)
         net->counters[GAVE_UP]++;
-    if (conn->socket >= 0 && conn->timers.phase >= TCPCORE_PHASE_ESTABLISHED) {
-        carry_up(net, conn);
-        carry_down(net, conn);
-    }
+    if (conn->socket >= 0 && conn->timers.phase >= TCPCORE_PHASE_ESTABLISHED &&
+        (!carry_up(net, conn) || !carry_down(net, conn)))
+        tcpcore_abort(&conn->end);
     emit(net, conn);
     timers_run(&conn->timers, &conn->end, net->now);
     struct tcpcore_status status = status_of(conn);
     int is_orderly = status.ending == TCPCORE_ENDING_ORDERLY;
     if (is_orderly && conn->socket >= 0)
         carry_up(net, conn); /* what came with the last acknowledgement */
-    if (conn->host_done && conn->client_done && conn->socket >= 0) {
-        close(conn->socket);
-        conn->socket = -1;
-    }
+    if (conn->host_done && conn->client_done && conn->socket >= 0)
+        close(conn->socket), conn->socket = -1;
     if (status.phase == TCPCORE_PHASE_CLOSED && (!is_orderly || conn->socket < 0))
         drop(net, conn, !is_orderly);
     else

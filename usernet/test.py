@@ -161,6 +161,12 @@ def killed_clients(place):
     place.until(lambda: place.counters()["now"] == 0, 20)
 
 
+def counted_again(place):
+    """Each request for the counts is answered, however soon it comes after another."""
+    for _ in range(1000):
+        place.counters()
+
+
 def many(place, at_once, in_turn):
     """So many connections at once and then in turn: memory, descriptors and the time of one stay level."""
     descriptors, held = place.descriptors(), place.counters()["held"]
@@ -205,12 +211,18 @@ def killed_program(place):
 
 
 CLIENTS = [download, downloads_at_once, upload, git_clone, iperf, redis, postgres, keep_alive, secure_copy, refused,
-           published, half_close, killed_server, killed_clients]
+           published, half_close, killed_server, killed_clients, counted_again]
+
+
+def take_too_long(*_):
+    raise AssertionError(f"it took more than {world.LIMIT} seconds")
 
 
 def run(place, name, call, *words):
     began = time.monotonic()
+    signal.alarm(world.LIMIT)
     call(place, *words)
+    signal.alarm(0)
     print(f"{name:<44} {time.monotonic() - began:6.1f} s", flush=True)
 
 
@@ -219,6 +231,7 @@ def main():
     parser.add_argument("--short", action="store_true")
     parser.add_argument("--only")
     words = parser.parse_args()
+    signal.signal(signal.SIGALRM, take_too_long)
     count = 0
     with world.World(16 * MIB if words.short else 1024 * MIB) as place:
         for fault in [0, 1]:

@@ -19,18 +19,19 @@
 #include <string.h>
 #include <sys/epoll.h>
 #include <sys/resource.h>
+#include <sys/signalfd.h>
 #include <sys/socket.h>
 #include <time.h>
 #include <unistd.h>
 
-enum { EVENTS = 256, BATCH = 128, LISTENERS = 16, HEADERS = 40 };
+enum { EVENTS = 256, BATCH = 128, LISTENERS = 16, DEVICE = LISTENERS, SIGNALS, HEADERS = 40 };
 
 /* A socket that listens, and the port of the namespace behind it. */
 struct published { int socket; uint16_t port; };
 
 static struct usernet net = {.mss = 1460, .offloads = 1, .own = {{10, 0, 2, 100}}, .gateway = {{10, 0, 2, 2}}};
 static struct published published[LISTENERS];
-static volatile sig_atomic_t stops, tells;
+static int signals, shows, stops;
 static struct faults up, down = {.state = 1}; /* the path between device and ends */
 static struct train train;
 
@@ -104,7 +105,21 @@ static void tell(void)
     fflush(stdout);
 }
 
-static void on_signal(int signal) { *(signal == SIGUSR1 ? &tells : &stops) = 1; }
+/* SIGUSR1 asks for the counts, another signal ends the program. */
+static void read_signal(void)
+{
+    struct signalfd_siginfo found = {0};
+    if (read(signals, &found, sizeof found) < 0 || found.ssi_signo != SIGUSR1)
+        stops = 1;
+    else if (shows)
+        tell();
+}
+
+static int watch(int descriptor, uint64_t number)
+{
+    struct epoll_event event = {.events = EPOLLIN, .data.u64 = number};
+    return epoll_ctl(net.events, EPOLL_CTL_ADD, descriptor, &event) == 0;
+}
 
 /* Listens for HOST:PORT:PORT. */
 static int publish(const char *word)
@@ -112,26 +127,26 @@ static int publish(const char *word)
     struct sockaddr_in at = {.sin_family = AF_INET};
     char host[16];
     uint16_t port, inner;
-    static struct published *free = published;
-    int one = 1;
-    if (free == published + LISTENERS || sscanf(word, "%15[0-9.]:%hu:%hu", host, &port, &inner) != 3 ||
+    static uint64_t count;
+    int listener = socket(AF_INET, SOCK_STREAM | SOCK_NONBLOCK | SOCK_CLOEXEC, 0);
+    if (count == LISTENERS || sscanf(word, "%15[0-9.]:%hu:%hu", host, &port, &inner) != 3 ||
         inet_pton(AF_INET, host, &at.sin_addr) != 1)
         return 0;
     at.sin_port = htons(port);
-    free->port = inner;
-    free->socket = socket(AF_INET, SOCK_STREAM | SOCK_NONBLOCK | SOCK_CLOEXEC, 0);
-    setsockopt(free->socket, SOL_SOCKET, SO_REUSEADDR, &one, sizeof one);
-    return bind(free->socket, (struct sockaddr *)&at, sizeof at) == 0 && listen(free++->socket, 1024) == 0;
+    published[count] = (struct published){listener, inner};
+    setsockopt(listener, SOL_SOCKET, SO_REUSEADDR, &(int){1}, sizeof(int));
+    return bind(listener, (struct sockaddr *)&at, sizeof at) == 0 && listen(listener, 1024) == 0 &&
+           watch(listener, count++);
 }
 
 /* Reads the program's words; whether they are any. */
-static int read_words(char **words, struct tun_config *device, int *shows)
+static int read_words(char **words, struct tun_config *device)
 {
     static char space[256];
     for (char **word = words + 1; *word; word++) {
         int has_more = word[1] != NULL;
         if (strcmp(*word, "--stats") == 0)
-            *shows = 1;
+            shows = 1;
         else if (strcmp(*word, "--no-offloads") == 0)
             net.offloads = 0;
         else if (strcmp(*word, "--netns") == 0 && has_more)
@@ -153,36 +168,33 @@ static int read_words(char **words, struct tun_config *device, int *shows)
     return *space && device->mtu >= 576 && device->mtu <= 65535 && up.percent <= 20;
 }
 
-static int set_up(char **words, int *shows)
+static int set_up(char **words)
 {
     struct tun_config device = {.name = "tun0", .addr = 0x0a000264, .prefix = 24, .mtu = 1500};
     struct rlimit files;
     uint8_t secret[16];
-    struct epoll_event event = {.events = EPOLLIN, .data.u64 = LISTENERS};
-    if (!read_words(words, &device, shows))
+    sigset_t taken;
+    net.events = epoll_create1(EPOLL_CLOEXEC);
+    if (!read_words(words, &device))
         return fputs("usernet PID|--netns NAME [--publish HOST:PORT:PORT] [--mtu N] [--no-offloads] [--stats]"
                      " [--fault PERCENT]\n", stderr), 0;
     getrlimit(RLIMIT_NOFILE, &files);
     files.rlim_cur = files.rlim_max;
     setrlimit(RLIMIT_NOFILE, &files);
     net.device = tun_open(&device);
-    net.events = epoll_create1(EPOLL_CLOEXEC);
     net.now = milliseconds();
     wheel_init(&net.wheel, net.now);
-    if (net.device < 0 || getentropy(secret, sizeof secret) != 0 ||
-        epoll_ctl(net.events, EPOLL_CTL_ADD, net.device, &event) != 0)
+    sigemptyset(&taken);
+    sigaddset(&taken, SIGTERM), sigaddset(&taken, SIGINT), sigaddset(&taken, SIGUSR1);
+    sigprocmask(SIG_BLOCK, &taken, NULL);
+    signals = signalfd(-1, &taken, SFD_NONBLOCK | SFD_CLOEXEC);
+    if (net.device < 0 || getentropy(secret, sizeof secret) || !watch(net.device, DEVICE) || !watch(signals, SIGNALS))
         return 0;
     pairs_init(&net.pairs, net.buckets, BUCKETS, secret);
-    for (uint64_t at = 0; at < LISTENERS && published[at].socket > 0; at++) {
-        event.data.u64 = at;
-        epoll_ctl(net.events, EPOLL_CTL_ADD, published[at].socket, &event);
-    }
-    for (int signal = 0; signal < 3; signal++)
-        sigaction((int[]){SIGTERM, SIGINT, SIGUSR1}[signal], &(struct sigaction){.sa_handler = on_signal}, NULL);
     return 1;
 }
 
-/* An event's number is that of what listens, LISTENERS for the device, and else the place of a connection. */
+/* An event's number is that of what listens, DEVICE, SIGNALS, and else the place of a connection. */
 static void take_event(const struct epoll_event *event)
 {
     struct conn *conn = event->data.ptr;
@@ -200,8 +212,7 @@ static void take_event(const struct epoll_event *event)
 int main(int count, char **words)
 {
     struct epoll_event events[EVENTS];
-    int shows = 0;
-    if (count == 0 || !set_up(words, &shows))
+    if (count == 0 || !set_up(words))
         return 1;
     puts("ready");
     fflush(stdout);
@@ -209,16 +220,15 @@ int main(int count, char **words)
         int has_packets = 0, found = epoll_wait(net.events, events, EVENTS, wheel_wait(&net.wheel, net.now));
         net.now = milliseconds();
         for (int at = 0; at < found; at++)
-            if (events[at].data.u64 == LISTENERS)
+            if (events[at].data.u64 == DEVICE)
                 has_packets = 1;
+            else if (events[at].data.u64 == SIGNALS)
+                read_signal();
             else
                 take_event(&events[at]);
         if (has_packets)
             read_device();
         turn_all(&net);
-        if (tells && shows)
-            tell();
-        tells = 0;
     }
     end_all(&net);
     if (shows)
