@@ -16,6 +16,8 @@ from world import CLIENTS, GATEWAY, SERVERS
 
 
 TURNS, SECONDS, IN_TURN, OPEN, PORT = 3, 3, 500, 1000, 8084
+# The processes of `traffic connect`.
+PROCESSES = 8
 TRAFFIC = pathlib.Path(__file__).resolve().parent / "out/traffic"
 
 
@@ -72,8 +74,10 @@ def turn(place, kind):
         found = {}
         found["up, Mbit/s"], found["up, s a GiB"] = stream(place, pid)
         found["down, Mbit/s"], found["down, s a GiB"] = stream(place, pid, "-R")
+        before = processor(pid)
         words = place.client(TRAFFIC, "connect", GATEWAY, PORT, IN_TURN).split()
         found["connections a second"], found["connect, µs"], found["first byte, µs"] = map(float, words)
+        found["processor µs a connection"] = (processor(pid) - before) / (PROCESSES * IN_TURN) * 1e6
         idle = resident(pid)
         with place.start_client(TRAFFIC, "hold", GATEWAY, PORT, OPEN) as client:
             place.until(lambda: count_open(place) >= OPEN, 60)

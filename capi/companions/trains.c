@@ -1,6 +1,7 @@
 /* Packets above the MTU (see trains.h). C beside tcpcore.h, tested and not proved. */
 #include "trains.h"
 
+#include <arpa/inet.h>
 #include <linux/virtio_net.h>
 #include <string.h>
 
@@ -15,15 +16,27 @@ static uint32_t number_of(const uint8_t *segment)
     return (uint32_t)segment[4] << 24 | (uint32_t)segment[5] << 16 | (uint32_t)segment[6] << 8 | segment[7];
 }
 
-/* The sum of 16-bit words (RFC 1071, 1), added to another and folded. */
-static uint16_t sum_of(const uint8_t *bytes, size_t length, uint64_t sum)
+static uint16_t folded(uint64_t sum)
 {
-    for (; length > 1; bytes += 2, length -= 2)
-        sum += (uint64_t)(bytes[0] << 8 | bytes[1]);
-    sum += length ? (uint64_t)bytes[0] << 8 : 0;
     while (sum >> 16)
         sum = (sum & 0xffff) + (sum >> 16);
     return (uint16_t)sum;
+}
+
+/* The sum of 16-bit words, added to another and folded: eight bytes at a time in this machine's order, which is turned
+   at the end (RFC 1071, 2, B and C). */
+static uint16_t sum_of(const uint8_t *bytes, size_t length, uint64_t sum)
+{
+    uint32_t words[2];
+    uint64_t even = 0, odd = 0;
+    for (; length >= sizeof words; bytes += sizeof words, length -= sizeof words) {
+        memcpy(words, bytes, sizeof words);
+        even += words[0];
+        odd += words[1];
+    }
+    memset(words, 0, sizeof words);
+    memcpy(words, bytes, length);
+    return folded(sum + ntohs(folded(even + odd + words[0] + words[1])));
 }
 
 static void write16(uint8_t *at, uint16_t value)
