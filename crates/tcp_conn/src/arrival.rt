@@ -239,6 +239,7 @@ impl<A: Allocator> Endpoint<A> {
     }
 
     /// Text is acknowledged (RFC 9293, 3.10.7.4, fifth).
+    #[inline(always)]
     #[tactic(auto, unfolding(crate::specs::Arrival::after_acked_text))]
     fn take_acked_text(&mut self, segment: &RawSegment<'_>)
         ensures { self.new ≡ after_acked_text self.old (raw_content segment.now) }

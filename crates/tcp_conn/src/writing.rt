@@ -60,6 +60,7 @@ impl<A: Allocator> Endpoint<A> {
 
     /// Writes a segment with text and these options at the start of `out`, and answers its length. The text goes from the
     /// queue to its place in `out`, and the rest is written around it.
+    #[inline(always)]
     fn write_text(&self, due: Due, options: &[TcpOption<'_>], out: &mut [u8]) -> usize
         requires lies { Lies self.now.sending max_mss due }
         requires options { map option_content options.now ≡ sack_options (blocks_to_report self.now) }

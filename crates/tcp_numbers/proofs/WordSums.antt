@@ -1,7 +1,6 @@
 -- The word sum: step by step, over joined bytes, and after one changed byte.
 use Rattle.std.proofs.Common.{◌≡◌, ℕ, suc, ◌+◌, ◌-◌, ◌*◌, ◌/◌, ◌%◌, ◌<◌, ◌≤◌, List, [], ◌∷◌, ◌++◌, length, take, drop, get_or, refl, sym, ap, ◌∙◌, ◌⊎◌, inl, inr, length-append, arith}
-use Rattle.std.proofs.lemmas.List.{length-take-le, take-append-drop, length-drop, take_all, drop_all, take_rest, drop_more, get_or-drop}
-use Rattle.std.proofs.lemmas.Bool.{cases_lt}
+use Rattle.std.proofs.lemmas.List.{length-take-le, take-append-drop, length-drop, take_rest, drop_more, get_or-drop}
 use Rattle.byteorder.specs.Endian.{big_number, big_from}
 use Rattle.tcp_numbers.specs.Checksum.{AreBytes, word_sum, without_field, pseudo_header, segment_sum, Checks, completion, field, DiffersInOnePlace}
 
@@ -74,20 +73,6 @@ pub word_sum-split : (half n : ℕ) (xs : List ℕ) → n ≡ half + half → n 
 word_sum-split half n xs even inside =
     ap word_sum (sym (take-append-drop n xs)) ∙ word_sum-append half (take n xs) (drop n xs) (length-take-le n xs inside ∙ even)
 
--- a front that is a whole block, or all there is
-pub word_sum-block : (n : ℕ) (xs : List ℕ) → n ≤ 4096 → n ≤ length xs → (n < 4096 → n ≡ length xs)
-    → word_sum (take n xs) + word_sum (take (length xs - n) (drop n xs)) ≡ word_sum xs
-word_sum-block n xs few inside all =
-    let behind : word_sum (take (length xs - n) (drop n xs)) ≡ word_sum (drop n xs) = ap word_sum (take_rest xs n) in
-    elim (cases_lt n 4096) [
-      | inl lt ↦
-          let end = all lt in
-          let front : word_sum (take n xs) ≡ word_sum xs = ap word_sum (take_all n xs (omega (arith, end))) in
-          let none : word_sum (drop n xs) ≡ 0 = ap word_sum (drop_all n xs (omega (arith, end))) in
-          omega (arith, behind, front, none)
-      | inr le ↦ omega (arith, behind, word_sum-split 2048 n xs (omega (arith, few, le)) inside)
-    ]
-
 -- without the checksum field, its own word is missing
 word_sum-without_field : (bytes : List ℕ) → 18 ≤ length bytes → word_sum bytes ≡ word_sum (without_field bytes) + (256 * get_or bytes 16 0 + get_or bytes 17 0)
 word_sum-without_field bytes long =
@@ -98,14 +83,16 @@ word_sum-without_field bytes long =
     let zero_word = word_sum-append 8 (take 16 bytes) (0 ∷ 0 ∷ drop 18 bytes) (length-take-le 16 bytes (omega arith)) in
     omega (arith, front, words, zero_word)
 
--- the field, by the sum over all bytes less the field that stands there
-pub field_is : (src dst bytes : List ℕ) (sum own : ℕ) → 20 ≤ length bytes → sum ≡ word_sum (pseudo_header src dst (length bytes)) + word_sum bytes
-    → own ≡ big_from 0 2 (take (length bytes - 16) (drop 16 bytes)) → completion (sum - own) ≡ field src dst bytes
-field_is src dst bytes sum own long sum_is own_is =
+-- the field, by a number that is the sum over all bytes modulo 65535, less the field that stands there
+pub field_is : (src dst bytes : List ℕ) (sum own : ℕ) → 20 ≤ length bytes → own < 65536
+    → sum % 65535 ≡ (word_sum (pseudo_header src dst (length bytes)) + word_sum bytes) % 65535
+    → own ≡ big_from 0 2 (take (length bytes - 16) (drop 16 bytes)) → completion (sum + 65535 - own) ≡ field src dst bytes
+field_is src dst bytes sum own long low sum_is own_is =
     let len : length (without_field bytes) ≡ length bytes =
     omega (arith, length-append (take 16 bytes) (0 ∷ 0 ∷ drop 18 bytes), length-take-le 16 bytes (omega arith), length-drop 18 bytes) in
     let pseudo = ap (λ (n : ℕ). word_sum (pseudo_header src dst n)) len in
     let behind = ap (big_from 0 2) (take_rest bytes 16) in
     let own' : own ≡ 256 * get_or bytes 16 0 + get_or bytes 17 0 = omega (arith, own_is, behind, get_or-drop 16 bytes 0 0, get_or-drop 16 bytes 1 0) in
-    let same : sum - own ≡ segment_sum src dst (without_field bytes) = omega (arith, pseudo, word_sum-without_field bytes (omega arith)) in
-    ap completion same
+    let same : (sum + 65535 - own) % 65535 ≡ segment_sum src dst (without_field bytes) % 65535 =
+    omega (arith, low, sum_is, own', pseudo, word_sum-without_field bytes (omega arith)) in
+    ap (λ (n : ℕ). (65535 - n) % 65535) same

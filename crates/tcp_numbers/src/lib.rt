@@ -3,7 +3,7 @@
 
 mod addr;
 mod flags;
-mod lanes;
+mod folding;
 pub mod laws;
 mod seq;
 mod sums;

@@ -3,11 +3,12 @@ ghost use Rattle.tcp_numbers.specs.Checksum.{header_len, max_len};
 ghost use Rattle.tcp_numbers.specs.Checksum.{word_sum, segment_sum, Checks, field, pseudo_header, DiffersInOnePlace};
 
 use crate::addr::Addr;
-use crate::lanes::{BLOCK, block_sum};
+use crate::folding::folded_sum;
 use byteorder::{BigEndian, ByteOrder};
 
 /// The whole-number sum of the 16-bit words in network order, an odd last byte being a high half. There are at most
 /// 65515 bytes, and no bytes give 0.
+#[tactic(auto, using(crate::proofs::WordSums::word_sum_more))]
 pub fn word_sum(bytes: &[u8]) -> u32
     requires { length bytes.now ≤ max_len }
     ensures exact { result ≡ word_sum bytes.now }
@@ -15,10 +16,12 @@ pub fn word_sum(bytes: &[u8]) -> u32
 {
     let mut sum = 0;
     let mut rest = bytes;
-    while !rest.is_empty() {
-        let len = rest.len().min(BLOCK);
-        sum += block_sum(&rest[..len]);
-        rest = &rest[len..];
+    while rest.len() >= 2 {
+        sum += u32::from(BigEndian::read_u16(rest));
+        rest = &rest[2..];
+    }
+    if let [high] = rest {
+        sum += 256 * u32::from(*high);
     }
     sum
 }
@@ -49,7 +52,7 @@ pub fn checksum(src: Addr, dst: Addr, bytes: &[u8]) -> u16
     ensures { result ≡ field src.0 dst.0 bytes.now }
 {
     let own = u32::from(BigEndian::read_u16(&bytes[16..]));
-    let sum = pseudo_sum(src, dst, bytes.len()) + word_sum(bytes) - own;
+    let sum = pseudo_sum(src, dst, bytes.len()) + folded_sum(bytes) + 65535 - own;
     ((65535 - sum % 65535) % 65535) as u16
 }
 
@@ -61,5 +64,5 @@ pub fn checks(src: Addr, dst: Addr, bytes: &[u8]) -> bool
     // One changed byte never checks.
     ensures one_place { IsTrue result → (other : List ℕ) → DiffersInOnePlace bytes.now other → ¬ Checks src.0 dst.0 other }
 {
-    (pseudo_sum(src, dst, bytes.len()) + word_sum(bytes)) % 65535 == 0
+    (pseudo_sum(src, dst, bytes.len()) + folded_sum(bytes)) % 65535 == 0
 }

@@ -47,6 +47,7 @@ impl<A: Allocator> Ring<A> {
     }
 
     /// Writes a text over the bytes from a place on.
+    #[inline(always)]
     pub(crate) fn write(&mut self, place: usize, text: &[u8])
         requires { place + length text.now ≤ length self.old }
         ensures { self.new ≡ put place text.now self.old }

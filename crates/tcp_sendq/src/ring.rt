@@ -2,8 +2,26 @@
 ghost use Rattle.std.specs.Prelude.{◌≡◌, ◌+◌, ◌≤◌, ◌++◌, length, take, drop};
 
 /// Fills `out` with the bytes from the place `at` on of those in `front`, which go on in `back`.
-#[tactic(auto, using(crate::proofs::Joined::joined, std::proofs::lemmas::List::drop_min, std::proofs::lemmas::List::take_min))]
+#[inline(always)]
+#[tactic(auto, using(crate::proofs::Joined::joined, crate::proofs::Joined::inside))]
 pub(crate) fn copy_from(front: &[u8], back: &[u8], at: usize, out: &mut [u8])
+    requires { at + length out.old ≤ length front.now + length back.now }
+    ensures { out.new ≡ take (length out.old) (drop at (front.now ++ back.now)) }
+{
+    // Most texts stand in one piece.
+    let end = at + out.len();
+    if end <= front.len() {
+        out.copy_from_slice(&front[at..end]);
+    } else {
+        copy_over_end(front, back, at, out);
+    }
+}
+
+/// Does so where they go on in `back`.
+#[cold]
+#[inline(never)]
+#[tactic(auto, using(crate::proofs::Joined::joined, std::proofs::lemmas::List::drop_min, std::proofs::lemmas::List::take_min))]
+fn copy_over_end(front: &[u8], back: &[u8], at: usize, out: &mut [u8])
     requires { at + length out.old ≤ length front.now + length back.now }
     ensures { out.new ≡ take (length out.old) (drop at (front.now ++ back.now)) }
 {

@@ -79,6 +79,7 @@ fn write_unsummed(
 
 /// Writes header, options, padding and checksum around the text of a segment, which stands in `out` already, from byte
 /// `text_offset` on. Answers the length of the whole segment. The rest of `out` stays.
+#[inline(always)]
 pub fn write_around(
     header: &Header,
     options: &[TcpOption<'_>],

@@ -3,7 +3,7 @@ use Rattle.std.proofs.lemmas.Grind.{common_steps}
 use Rattle.std.proofs.lemmas.List.{append-nil, take_at, nil_from_length, take_min, drop_min}
 use Rattle.tcp_sendq.proofs.Joined.{drop-joined, take-joined}
 use borrow.Rule.Slice.PartMut.{post_of}
-use Rattle.tcp_sendq.proofs.ring.copy_from.Goals as goal
+use Rattle.tcp_sendq.proofs.ring.copy_over_end.Goals as goal
 
 pub returns : goal.returns
 returns c =
