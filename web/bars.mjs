@@ -62,10 +62,18 @@ function receive_bar(state) {
     return bar("Receive buffer", told, pieces, span, span < whole);
 }
 
-const COUNTS = ["accepted", "released", "ordered", "delivered", "sent", "ended"];
+// The counts of a side, and what they mean.
+const COUNTS = [
+    ["accepted", "bytes that the user sent and the end took"],
+    ["released", "of these, acknowledged by the peer, and gone from the send queue"],
+    ["ordered", "bytes that came in order from the peer"],
+    ["delivered", "of these, handed to the user"],
+    ["sent", "segments that the side emitted"],
+    ["ended", "whether the user was handed the end of the peer's stream"],
+];
 
 export function end_drawn(state) {
-    const counts = COUNTS.map(name => `<div><dt>${name}</dt><dd>${escaped(state[name])}</dd></div>`);
+    const counts = COUNTS.map(([name, meaning]) => `<div title="${meaning}"><dt>${name}</dt><dd>${escaped(state[name])}</dd></div>`);
     return `<h3>${state.side} <span class="phase">${escaped(state.phase)}</span> ` +
         `<small>${escaped(state.ending)}</small></h3>` + send_bar(state) + receive_bar(state) +
         `<p class="peer">The peer's window: <b>${escaped(state.peer)}</b></p><dl>${counts.join("")}</dl>`;

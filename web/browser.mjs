@@ -59,6 +59,7 @@ export async function browser(command) {
     await send("Runtime.enable", {}, sessionId);
     await send("Page.enable", {}, sessionId);
     await send("Network.enable", {}, sessionId);
+    await send("Performance.enable", { timeDomain: "threadTicks" }, sessionId);
 
     const tab = {
         errors,
@@ -95,6 +96,11 @@ export async function browser(command) {
             await tab.run(() => new Promise(done => requestAnimationFrame(() => requestAnimationFrame(() => done(0)))));
         },
         theme: value => tab.send("Emulation.setEmulatedMedia", { features: [{ name: "prefers-color-scheme", value }] }),
+        // The processor time that the page's thread has taken, in milliseconds.
+        async spent() {
+            const { metrics } = await tab.send("Performance.getMetrics");
+            return 1000 * metrics.find(({ name }) => name === "TaskDuration").value;
+        },
         async key(key, code = key) {
             const codes = { ArrowLeft: 37, ArrowUp: 38, ArrowRight: 39, ArrowDown: 40, Home: 36, End: 35, PageUp: 33,
                 PageDown: 34, Tab: 9, Escape: 27 };

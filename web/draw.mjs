@@ -1,6 +1,6 @@
 // Draws a run (run.mjs) as a ladder: two lifelines, and from the top down a row for each event.
-import { SIDES, other, phase_of, state_of } from "./run.mjs";
-import { MALFORMED, segments_told } from "./told.mjs";
+import { SIDES, event_at, event_line, fields_of, other, phase_of, state_of } from "./run.mjs";
+import { MALFORMED, printable, segments_told } from "./told.mjs";
 
 const LIGHT = { ground: "#ffffff", ink: "#1c2024", line: "#9aa4ae", accent: "#0a5bb5", band: "#e4effb" };
 const DARK = { ground: "#14171a", ink: "#e8eaed", line: "#646e78", accent: "#7db8f7", band: "#1b3047" };
@@ -11,7 +11,7 @@ function rules(colours) {
         `.life{stroke:${line}}.shaft,.head,.cross,.mark{stroke:${ink}}.full{fill:${ink}}.open{fill:${ground}}` +
         `.shaft,.cross,.jag{fill:none}.band{fill:${band}}.ladder .phase{fill:${accent}}.edge{fill:${accent}}` +
         `.chosen .shaft,.chosen .head,.chosen .cross{stroke:${accent}}.chosen .full{fill:${accent}}` +
-        `.ladder .label.chosen text{fill:${accent}}`;
+        `.ladder .label.chosen text{fill:${accent}}.ladder .now text{stroke:${band}}`;
 }
 
 export const STYLE = ".ladder text{font-family:ui-monospace,'DejaVu Sans Mono',Menlo,Consolas,monospace;" +
@@ -72,29 +72,35 @@ function text_at(x, y, side, words) {
 }
 
 // A segment's flags and numbers, as its line in the report has them.
-function lines_of(segment) {
-    if (segment.flags === null) {
-        return [segments_told(segment), "", ""];
+function lines_of(event) {
+    const fields = fields_of(event);
+    if (fields === null) {
+        return [segments_told(event.segment), "", ""];
     }
-    const { flags, seq, ack, window, text, sack } = segment;
+    const { flags, seq, ack, window, text, sack } = fields;
     const blocks = sack === "-" ? "" : `sack ${sack}`;
-    return [`${segment.number} ${flags}`, `seq ${seq} ack ${ack} win ${window} len ${text}`, blocks];
+    return [`${event.segment.number} ${flags}`, `seq ${seq} ack ${ack} win ${window} len ${text}`, blocks];
 }
 
-function one_line(segment) {
-    return lines_of(segment).filter(line => line !== "").join(" ");
+// The letters of a label in one line: those of the report's line from the number on, without `flags ` and ` sack -`,
+// and with `win` and `len` for `window` and `text`. Groups, whose labels are short, count as nothing.
+function letters_of(run, segment) {
+    const line = event_line(run, segment.row), start = line.indexOf(" emit ") + " emit A ".length;
+    const left_out = "flags ".length + "dow".length + "t".length + (line.endsWith(" sack -") ? " sack -".length : 0);
+    return segment.count > 1 ? 0 : line.length - start - left_out;
 }
 
 function longest_line(run) {
     run.longest ??= SIDES.reduce((most, side) => run.segments[side].reduce(
-        (longest, segment) => Math.max(longest, one_line(segment).length), most), 0);
+        (longest, segment) => Math.max(longest, letters_of(run, segment)), most), 0);
     return run.longest;
 }
 
 // The label over the place where a segment is emitted: one line where that is wide enough, else two.
-function label(form, segment, chosen) {
-    const { side } = segment, y = y_of(form, segment.row) - 6, x = x_of(form, side) + (side === "A" ? 10 : -10);
-    const [name, numbers, blocks] = lines_of(segment), whole = one_line(segment);
+function label(form, event, chosen, is_now) {
+    const { segment, side } = event, y = y_of(form, segment.row) - 6, x = x_of(form, side) + (side === "A" ? 10 : -10);
+    const lines = lines_of(event), [name, numbers, blocks] = lines;
+    const whole = lines.filter(line => line !== "").join(" ");
     const two = form.is_narrow && numbers ? [blocks, numbers] : [numbers, blocks];
     const [rest, below] = whole.length <= form.letters ? [whole.slice(name.length).trim(), ""] : two;
     const up = below === "" ? y : y - 13;
@@ -103,7 +109,8 @@ function label(form, segment, chosen) {
     if (below !== "") {
         texts.push(text_at(x, y, side, cut(below, form.letters)));
     }
-    const classes = segment === chosen ? "label chosen" : "label", count = blocks ? blocks.split("+").length : 0;
+    const classes = `label${segment === chosen ? " chosen" : ""}${is_now ? " now" : ""}`;
+    const count = blocks ? blocks.split("+").length : 0;
     return `<g class="${classes}" data-side="${side}" data-number="${segment.number}" data-blocks="${count}">` +
         `${texts.join("")}</g>`;
 }
@@ -128,10 +135,12 @@ function head_at(x, y, dx, dy, is_full) {
 
 function arrow_drawn(form, arrow, chosen) {
     const { segment, kind } = arrow, [x1, y1, x2, y2] = ends_of(form, arrow);
-    const dx = x2 - x1, dy = y2 - y1, line = `M${x1} ${y1}L${x2.toFixed(1)} ${y2.toFixed(1)}`;
+    const dx = x2 - x1, dy = y2 - y1, to_head = 1 - 12 / Math.hypot(dx, dy);
+    const line = `M${x1} ${y1}L${x2.toFixed(1)} ${y2.toFixed(1)}`;
     const parts = [`<path class="hit" d="${line}"/>`, `<path class="shaft" d="${line}"/>`];
     if (kind === "turns" || arrow.count > 1) {
-        parts.push(`<path class="shaft" d="M${x1} ${y1 + 4}L${(x2 - dx * 0.02).toFixed(1)} ${(y2 + 3).toFixed(1)}"/>`);
+        const [x, y] = [x1 + dx * to_head, y1 + dy * to_head + 4];
+        parts.push(`<path class="shaft" d="M${x1} ${y1 + 4}L${x.toFixed(1)} ${y.toFixed(1)}"/>`);
     }
     if (kind === "damaged") {
         const [mx, my] = [x1 + dx * 0.5, y1 + dy * 0.5];
@@ -192,8 +201,8 @@ function received(outcome) {
     if (outcome[0] !== "bytes") {
         return outcome[0] === "done" ? "receive" : `receive: ${outcome[0]}`;
     }
-    const count = outcome[1].length / 2;
-    return count <= 4 ? `receive: ${outcome[1]}` : `receive: ${count} bytes`;
+    const count = outcome[1].length / 2, letters = count <= 8 ? printable(outcome[1]) : null;
+    return letters !== null ? `receive: “${letters}”` : count <= 4 ? `receive: ${outcome[1]}` : `receive: ${count} bytes`;
 }
 
 function arrival_told(event) {
@@ -213,7 +222,7 @@ const MARKS = {
     refused: (x, y) => `<path class="mark open" d="M${x} ${y - 6}l6 6l-6 6l-6 -6z"/>`,
 };
 
-function notes_drawn(run, form, event) {
+function notes_drawn(run, form, event, is_now) {
     const y = y_of(form, event.row), parts = [], note = note_of(event);
     for (const side of SIDES) {
         const x = x_of(form, side), phase = phase_of(run, event.row, side);
@@ -238,7 +247,7 @@ function notes_drawn(run, form, event) {
             parts.push(MARKS[note.mark](x, y));
         }
     }
-    return `<g class="event" data-row="${event.row}">${parts.join("")}</g>`;
+    return `<g class="event${is_now ? " now" : ""}" data-row="${event.row}">${parts.join("")}</g>`;
 }
 
 // The rows from one to another, both drawn: `now` is the current event, `chosen` the segment that is shown.
@@ -266,11 +275,11 @@ export function rows_drawn(run, form, first, last, { now = 0, chosen = null } = 
     }
     parts.push(passing_drawn(form, passing), ...shown);
     for (let row = first; row <= last; row += 1) {
-        const event = run.events[row];
+        const event = event_at(run, row);
         if (event.segment) {
-            parts.push(label(form, event.segment, chosen));
+            parts.push(label(form, event, chosen, row === now));
         }
-        parts.push(notes_drawn(run, form, event));
+        parts.push(notes_drawn(run, form, event, row === now));
     }
     return parts.join("");
 }
@@ -299,11 +308,11 @@ export function whole_drawn(run, width, title) {
 // What the arrows' forms mean, as items of a list.
 export function key_drawn() {
     const kinds = [["arrived", "arrives"], ["again", "arrives again"], ["dropped", "dropped"], ["damaged", "damaged"],
-        ["lost", "lost"], ["turns", "several, of a repeat"]];
-    const form = { left: 2, right: 46, row: 16, point: 9 };
+        ["lost", "lost"], ["turns", "turns of a repeat"]];
+    const form = { left: 2, right: 52, row: 16, point: 9 };
     return kinds.map(([kind, words]) => {
         const arrow = { kind, segment: { side: "A", count: 1, row: 1 }, from: 1, to: 1, first: 0, count: 1 };
-        return `<li><svg class="ladder" width="50" height="24" aria-hidden="true">${arrow_drawn(form, arrow, null)
+        return `<li><svg class="ladder" width="56" height="24" aria-hidden="true">${arrow_drawn(form, arrow, null)
             .replace(/<text.*?<\/text>/g, "").replace(/<title>.*?<\/title>/g, "")}</svg> ${words}</li>`;
     }).join("");
 }

@@ -1,6 +1,6 @@
 // The page: the script is replayed by the module as it is edited, and what comes of it is shown.
 import { calls, WELL, REFUSED, FAULT } from "./module.mjs";
-import { other, phase_of, places_of, read_run, segment_at, state_of } from "./run.mjs";
+import { comment_at, event_at, other, places_of, read_run, segment_at, state_of } from "./run.mjs";
 import { fault_of, FORMS, NO_MEMORY_FAULT, printable, segments_told, sentence } from "./told.mjs";
 import { key_drawn, whole_drawn } from "./draw.mjs";
 import { end_drawn } from "./bars.mjs";
@@ -17,7 +17,7 @@ const text_view = editor(field, at("gutter"), at("marks"), at("callout"));
 const view = ladder(at("ladder"), at("heads"), at("canvas"), at("picture"), { on_row: go, on_segment: choose });
 
 // What is shown: the last script that was taken, its run, and the current event.
-let core = null, taken = "", run = null, places = [], refused_lines = new Set(), step = 0, chosen = null, waiting = 0;
+let core = null, taken = "", run = null, places = null, refused_lines = new Set(), step = 0, chosen = null, waiting = 0;
 
 function replay(is_typing) {
     const script = field.value;
@@ -36,7 +36,7 @@ function replay(is_typing) {
     taken = script;
     run = read_run(text);
     places = places_of(script);
-    refused_lines = new Set(run.events.filter(event => event?.refused).map(event => places[event.row].line));
+    refused_lines = new Set(run.refused.map(row => places.at[row]));
     slider.max = run.count;
     text_view.show_fault(null, is_typing);
     view.show_run(run);
@@ -51,7 +51,7 @@ function show_report() {
 // Makes an event the current one; 0 is before the first.
 function go(row) {
     step = Math.max(0, Math.min(run.count, row));
-    const event = run.events[step];
+    const event = event_at(run, step);
     slider.value = step;
     const told = event === null
         ? "Before the first event. The arrow keys, the slider and the buttons step through the events."
@@ -61,7 +61,7 @@ function go(row) {
     at("back").disabled = step === 0;
     at("next").disabled = step === run.count;
     at("sentence").textContent = told;
-    at("comment").textContent = places[step].comment;
+    at("comment").textContent = comment_at(places, step);
     at("ends-place").textContent = step === 0 ? "before the first event" : `after event ${step}`;
     for (const side of ["A", "B"]) {
         at(`end-${side}`).innerHTML = end_drawn(state_of(run, step, side));
@@ -69,7 +69,7 @@ function go(row) {
     chosen = null;
     const segment = event?.segment ?? event?.arrow?.segment ?? null;
     view.show_step(step, segment);
-    text_view.show_lines(places[step].line, refused_lines);
+    text_view.show_lines(places.at[step], refused_lines);
     if (segment !== null) {
         show_segment(segment, event.arrow?.first ?? segment.number);
     } else {
@@ -198,7 +198,7 @@ function listen() {
         }
     });
     at("gutter").addEventListener("click", event => {
-        const row = places.findIndex(place => place.line !== null && String(place.line) === event.target.dataset.line);
+        const row = places.at.indexOf(Number(event.target.dataset.line));
         if (row > 0) {
             go(row);
         }

@@ -11,7 +11,8 @@ import { looks } from "./page_looks.mjs";
 
 const [page, chromium, draw] = process.argv.slice(2);
 const address = pathToFileURL(path.resolve(page)).href;
-const TEN_THOUSAND = 10000, MOST_MS = 400, MOST_FRAME = 50, MOST_NODES = 3000;
+// A quiet machine takes 60 ms; one whose processors others use, or a slower one, may take four times as long.
+const TEN_THOUSAND = 10000, MOST_MS = 250, MOST_FRAME = 50, MOST_NODES = 3000;
 let passed = 0, failed = 0;
 
 function expect(name, found, asked) {
@@ -92,9 +93,9 @@ async function ten_thousand(tools) {
     }
     const { place } = await tools.shown();
     expect("10,000 events", place.endsWith(` of ${TEN_THOUSAND}`), true);
-    const told = times.map(time => Math.round(time)).join(", ");
-    console.log(`page: 10,000 events in ${told} ms, the first with a cold module`);
-    expect(`10,000 events within ${MOST_MS} ms`, Math.min(...times) <= MOST_MS, true);
+    const told = times.map(({ time, spent }) => `${Math.round(time)} (${Math.round(spent)})`).join(", ");
+    console.log(`page: 10,000 events in ${told} ms (of a processor's time), the first with a cold module`);
+    expect(`10,000 events within ${MOST_MS} ms`, Math.min(...times.map(({ spent }) => spent)) <= MOST_MS, true);
     const { median, slowest, nodes, rows } = await tools.scrolled();
     const [usual, longest] = [median, slowest].map(time => Math.round(time));
     console.log(`page: scrolled through, a frame in ${usual} ms, the slowest in ${longest}, ${nodes} nodes`);

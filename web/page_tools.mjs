@@ -72,18 +72,22 @@ export async function setup(tab) {
             const [a, b] = [...document.querySelectorAll("#heads .phase")].map(phase => phase.textContent);
             return { A: a, B: b };
         }),
-        // How long an edit takes until its picture is on the screen.
-        timed: script => run(async text => {
-            const field = document.getElementById("script"), painted = () => new Promise(done => requestAnimationFrame(
-                () => setTimeout(done, 0)));
-            document.getElementById("report").open = false;
-            field.value = text;
-            await painted();
-            const start = performance.now();
-            field.dispatchEvent(new Event("input"));
-            await painted();
-            return performance.now() - start;
-        }, script),
+        // How long an edit takes until its picture is on the screen, and how much processor time, in milliseconds.
+        async timed(script) {
+            await run(async text => {
+                document.getElementById("report").open = false;
+                document.getElementById("script").value = text;
+                await new Promise(done => requestAnimationFrame(() => setTimeout(done, 0)));
+            }, script);
+            const before = await tab.spent();
+            const time = await run(async () => {
+                const start = performance.now();
+                document.getElementById("script").dispatchEvent(new Event("input"));
+                await new Promise(done => requestAnimationFrame(() => setTimeout(done, 0)));
+                return performance.now() - start;
+            });
+            return { time, spent: await tab.spent() - before };
+        },
         scrolled: () => run(async () => {
             const box = document.getElementById("ladder"), picture = document.getElementById("picture");
             let nodes = 0, rows = true;

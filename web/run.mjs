@@ -7,22 +7,54 @@ export function other(side) {
     return side === "A" ? "B" : "A";
 }
 
-// The run of the lines of `tcp_web_steps`: two state lines, and for each event its line and two state lines. State
-// lines are many and long, and few of them are looked at: of them it is kept where they stand.
+// The run of the lines of `tcp_web_steps`: two state lines, and for each event its line and two state lines. Lines are
+// many, and few of them are looked at: of most it is kept where they stand.
 export function read_run(text) {
     const starts = starts_of(text), count = (starts.length - 3) / 3;
-    const run = { text, starts, count, events: [null], segments: { A: [], B: [] }, arrows: [] };
+    const run = { text, starts, count, events: new Array(count + 1), emitted: new Map(), refused: [],
+        segments: { A: [], B: [] }, arrows: [] };
     for (let row = 1; row <= count; row += 1) {
-        const event = read_event(line_at(run, 3 * row - 1), row);
-        run.events.push(event);
-        if (event.kind === "emit") {
-            add_segment(run, event);
-        } else if (event.kind === "deliver" || event.kind === "damage") {
-            add_arrivals(run, event);
-        }
+        add_row(run, row);
     }
     add_lost(run);
     return run;
+}
+
+// An event, which is read once it is looked at; null before the first.
+export function event_at(run, row) {
+    run.events[row] ??= row === 0 ? null : read_event(run, row);
+    return run.events[row];
+}
+
+// What a row adds to the picture: a segment, arrows, a refusal. Lines of one emission are the longest: of them no more
+// is read than the side and the number.
+function add_row(run, row) {
+    const { text } = run, at = text.indexOf(" ", run.starts[3 * row - 1]) + 1;
+    if (text.startsWith("emit ", at)) {
+        const word = text.slice(at + 7, text.indexOf(" ", at + 7));
+        add_segment(run, row, text[at + 5], Number(word), text.startsWith("none", at + 7) ? 0 : 1);
+        return;
+    }
+    if (text.startsWith("repeat ", at)) {
+        add_repeated(run, row);
+    }
+    if (text.startsWith("deliver ", at) || text.startsWith("damage ", at)) {
+        add_arrivals(run, event_at(run, row));
+    }
+    if (event_line(run, row).includes(" refused ") && event_at(run, row).refused > 0) {
+        run.refused.push(row);
+    }
+}
+
+// The segments of a `repeat`, or their arrivals.
+function add_repeated(run, row) {
+    const [, , , kind, side] = event_line(run, row).split(" ", 5);
+    if (kind === "emit") {
+        const number = sent_at(run, row - 1, side);
+        add_segment(run, row, side, number, sent_at(run, row, side) - number);
+    } else if (kind === "deliver" || kind === "damage") {
+        add_arrivals(run, event_at(run, row));
+    }
 }
 
 // Where each line begins, and where the text ends.
@@ -36,6 +68,11 @@ function starts_of(text) {
 
 function line_at({ text, starts }, number) {
     return text.slice(starts[number], starts[number + 1] - 1);
+}
+
+// An event's line of the report.
+export function event_line(run, row) {
+    return line_at(run, 3 * row - 1);
 }
 
 // What a state line says of a side after an event; before the first event it is event 0.
@@ -60,34 +97,39 @@ export function runs_of(word) {
 // How many words of an event's line in the script are repeated in the report, beside its name and side.
 const WORDS = { deliver: 1, damage: 3, timer: 1, receive: 1 };
 
-function read_event(line, row) {
-    const words = line.split(" "), is_repeat = words[1] === "repeat", at = is_repeat ? 3 : 1;
+function read_event(run, row) {
+    const words = event_line(run, row).split(" "), is_repeat = words[1] === "repeat", at = is_repeat ? 3 : 1;
     const kind = words[at], outcome_at = at + 2 + (WORDS[kind] ?? 0);
     // A number of the table of refusals, or of a `repeat` how many turns were refused.
     const refused = words.at(-2) === "refused" ? Number(words.at(-1)) : 0;
     return {
         row, kind, is_repeat, refused, side: words[at + 1], turns: is_repeat ? Number(words[2]) : 1,
         words: words.slice(at + 2, outcome_at), outcome: words.slice(outcome_at),
-        number: kind === "deliver" || kind === "damage" ? Number(words[at + 2]) : null, segment: null, arrow: null,
+        number: kind === "deliver" || kind === "damage" ? Number(words[at + 2]) : null, arrow: null,
+        segment: run.emitted.get(row) ?? null,
     };
 }
 
-// One emitted segment, or those of a `repeat`, whose fields the report leaves out.
-function add_segment(run, event) {
-    const { side, row, outcome, is_repeat } = event;
-    let segment = null;
-    if (is_repeat) {
-        const number = Number(state_of(run, row - 1, side).sent);
-        const count = Number(state_of(run, row, side).sent) - number;
-        segment = { side, row, number, count, flags: null, arrows: [] };
-    } else if (outcome[0] !== "none") {
-        const [number, , flags, , seq, , ack, , window, , text, , sack] = outcome;
-        segment = { side, row, number: Number(number), count: 1, flags, seq, ack, window, text, sack, arrows: [] };
-    }
-    if (segment !== null && segment.count > 0) {
-        event.segment = segment;
+// One emitted segment, or so many of a `repeat`, the first with this number.
+function add_segment(run, row, side, number, count) {
+    if (count > 0) {
+        const segment = { side, row, number, count, arrows: [] };
         run.segments[side].push(segment);
+        run.emitted.set(row, segment);
     }
+}
+
+function sent_at(run, row, side) {
+    return Number(state_of(run, row, side).sent);
+}
+
+// What the report tells of an emitted segment; null of those of a `repeat`, whose fields it leaves out.
+export function fields_of(event) {
+    if (event.is_repeat) {
+        return null;
+    }
+    const [, , flags, , seq, , ack, , window, , text, , sack] = event.outcome;
+    return { flags, seq, ack, window, text, sack };
 }
 
 // The place in a side's list of the segment, or group of them, that has a number; or where the list ends.
@@ -167,18 +209,27 @@ function arrived_of(segment) {
     return count;
 }
 
-// The line of the script that each event stands in, from 0; and the comment above it that comes last. A script that was
-// taken has no line of another form.
+// The lines of a script, and in which of them, from 0, each event stands. A script that was taken has no line of
+// another form.
 export function places_of(script) {
-    const places = [{ line: null, comment: "" }];
-    let comment = [], is_open = false;
-    script.split("\n").forEach((line, at) => {
-        if (line.startsWith("#")) {
-            comment = is_open ? [...comment, line] : [line];
-        } else if (line !== "" && !line.startsWith("config ") && line !== "tcpkit 2") {
-            places.push({ line: at, comment: comment.map(one => one.slice(1).trim()).join(" ") });
+    const lines = script.split("\n"), at = [null];
+    lines.forEach((line, number) => {
+        if (line !== "" && !line.startsWith("#") && !line.startsWith("config ") && line !== "tcpkit 2") {
+            at.push(number);
         }
-        is_open = line.startsWith("#");
     });
-    return places;
+    return { lines, at };
+}
+
+// The comment above an event that comes last.
+export function comment_at({ lines, at }, row) {
+    let end = at[row] ?? 0;
+    while (end > 0 && !lines[end - 1].startsWith("#")) {
+        end -= 1;
+    }
+    let start = end;
+    while (start > 0 && lines[start - 1].startsWith("#")) {
+        start -= 1;
+    }
+    return lines.slice(start, end).map(line => line.slice(1).trim()).join(" ");
 }

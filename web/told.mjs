@@ -1,5 +1,5 @@
 // What the page says in words: of an event, of a refusal, of a fault (docs/FORMATS.md).
-import { other } from "./run.mjs";
+import { fields_of, other } from "./run.mjs";
 
 // Of a refused call or step: its cause, and its cure.
 const REFUSALS = {
@@ -112,7 +112,7 @@ export function sentence(event) {
         return `${side}'s ${event.words[0]} timer runs out` +
             (outcome[0] === "yes" ? "." : ": nothing follows from it.");
     case "emit":
-        return event.segment ? emission_told(event.segment) : `${side} has nothing to emit.`;
+        return event.segment ? emission_told(event) : `${side} has nothing to emit.`;
     case "deliver":
         return `${side}'s segment ${event.number} arrives at ${peer}${event.arrow?.is_again ? " again" : ""}. ` +
             came_of(outcome, peer);
@@ -128,12 +128,12 @@ function came_of(outcome, side) {
     return OUTCOMES[outcome[0]]?.(side) ?? `${side} finds it malformed (${MALFORMED[outcome[1]] ?? outcome[1]}).`;
 }
 
-function emission_told(segment) {
-    const blocks = segment.sack === "-" ? "" : `, and reports what came early: ${segment.sack.replaceAll("+", ", ")}`;
+function emission_told(event) {
+    const { segment } = event, { flags, text, sack } = fields_of(event);
+    const blocks = sack === "-" ? "" : `, and reports what came early: ${sack.replaceAll("+", ", ")}`;
     const lost = segment.arrows[0].kind === "lost" ? " It is lost." : "";
-    const text = segment.text === "0" ? "no text" : `${plural(Number(segment.text), "byte")} of text`;
-    const flags = segment.flags.replaceAll(",", " ");
-    return `${segment.side} emits segment ${segment.number}: ${flags}, ${text}${blocks}.${lost}`;
+    const bytes = text === "0" ? "no text" : `${plural(Number(text), "byte")} of text`;
+    return `${segment.side} emits segment ${segment.number}: ${flags.replaceAll(",", " ")}, ${bytes}${blocks}.${lost}`;
 }
 
 function repeat_told(event) {

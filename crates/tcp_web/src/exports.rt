@@ -1,5 +1,5 @@
 //! The exported functions.
-ghost use Rattle.std.specs.Prelude.{◌≡◌, ◌≢◌, ◌≤◌, ◌⊎◌, true, false, take, Some, None, IfSome, IsNone};
+ghost use Rattle.std.specs.Prelude.{◌≡◌, ◌≢◌, ◌≤◌, ◌<◌, ◌⊎◌, true, false, length, take, Some, None, IfSome, IsNone};
 ghost use Rattle.tcp_commands.specs.Replay.{IsReport};
 ghost use Rattle.tcp_web.specs.Answers.{well, refused, fault, no_memory, no_room, no_segment, side_of, fault_text, IsFaultLine, IsSteps, IsSegment};
 
@@ -15,6 +15,9 @@ use tcp_replay::Side;
 fn put_fault<A: Allocator>(alloc: A, error: ToolError, out: &mut [u8], count: &mut usize) -> u32
     ensures fault { result ≡ fault → take count.new out.new ≡ fault_text error }
     ensures answers { result ≢ fault → (result ≡ no_memory) ⊎ (result ≡ no_room) }
+    ensures fits { result ≤ fault → count.new ≤ length out.old }
+    ensures no_memory { result ≡ no_memory → count.new ≡ 0 }
+    ensures no_room { result ≡ no_room → length out.old < count.new }
 {
     *count = 0;
     if error == ToolError::NoMemory {
@@ -37,6 +40,9 @@ pub extern "C" fn tcp_web_replay(
     ensures well { result ≡ well → IsReport script.now (take count.new out.new) true }
     ensures refused { result ≡ refused → IsReport script.now (take count.new out.new) false }
     ensures fault { result ≡ fault → IsFaultLine script.now (take count.new out.new) }
+    ensures fits { result ≤ fault → count.new ≤ length out.old }
+    ensures no_memory { result ≡ no_memory → count.new ≡ 0 }
+    ensures no_room { result ≡ no_room → length out.old < count.new }
     ensures answers { result ≤ no_room }
 {
     let region = Region::new(memory);
@@ -60,6 +66,9 @@ pub extern "C" fn tcp_web_steps(
 ) -> u32
     ensures well { result ≡ well → IsSteps script.now (take count.new out.new) }
     ensures fault { result ≡ fault → IsFaultLine script.now (take count.new out.new) }
+    ensures fits { result ≤ fault → count.new ≤ length out.old }
+    ensures no_memory { result ≡ no_memory → count.new ≡ 0 }
+    ensures no_room { result ≡ no_room → length out.old < count.new }
     ensures answers { result ≤ no_room }
     ensures unrefused { result ≢ refused }
 {
@@ -96,6 +105,12 @@ pub extern "C" fn tcp_web_show(
     ensures fault { result ≡ fault → IsFaultLine script.now (take count.new out.new) }
     ensures none { result ≡ no_segment → IfSome (side_of side) (λ side. IsSegment script.now side number None) }
     ensures no_side { IsNone (side_of side) → result ≡ no_segment }
+    ensures nothing { result ≡ no_segment → count.new ≡ 0 }
+    ensures fits { result ≤ fault → count.new ≤ length out.old }
+    ensures no_memory { result ≡ no_memory → count.new ≡ 0 }
+    ensures no_room { result ≡ no_room → length out.old < count.new }
+    ensures answers { result ≤ no_segment }
+    ensures unrefused { result ≢ refused }
 {
     *count = 0;
     let Some(side) = side_of(side) else {
