@@ -2,6 +2,7 @@
  * The thin layer between C and the proved library: NULL, lengths, copied structs, and buffers or places over the struct, then the
  * library's own call. What that finds goes to a local first: the library rests on pointers of which no two are to the same bytes.
  */
+#include "layout.h"
 #include "tcpcore.h"
 
 #include <string.h>
@@ -14,44 +15,9 @@ struct handle {
 
 #define OWNER 2
 
-/* Where each field of the library's structs lies, and how many bytes it takes (crate tcp_c, src/records.rt). */
-#define FIELD(type, field, at, size) \
-    _Static_assert(offsetof(type, field) == (at) && sizeof((type){0}.field) == (size), #field " isn't the library's")
-
 _Static_assert(sizeof(size_t) == 8 && sizeof(void *) == 8, "the words of the library");
 _Static_assert(sizeof(struct handle) == OWNER * sizeof(uint64_t), "the handle is the struct's first words");
 _Static_assert(sizeof(tcpcore_end) == (OWNER + 1) * sizeof(uint64_t), "the handle and the struct's own address");
-FIELD(tcpcore_addr, byte, 0, 4);
-_Static_assert(sizeof(tcpcore_addr) == 4, "the address of the library");
-FIELD(tcpcore_config, addr, 0, 4);
-FIELD(tcpcore_config, port, 4, 2);
-FIELD(tcpcore_config, mss, 6, 2);
-FIELD(tcpcore_config, isn, 8, 4);
-FIELD(tcpcore_config, send_capacity, 16, 8);
-FIELD(tcpcore_config, recv_capacity, 24, 8);
-FIELD(tcpcore_config, limit, 32, 8);
-FIELD(tcpcore_config, window_shift, 40, 1);
-FIELD(tcpcore_config, scales, 41, 1);
-FIELD(tcpcore_config, sack, 42, 1);
-_Static_assert(sizeof(tcpcore_config) == 48, "the config of the library");
-FIELD(struct tcpcore_status, phase, 0, 4);
-FIELD(struct tcpcore_status, ending, 4, 4);
-FIELD(struct tcpcore_status, unread, 8, 8);
-FIELD(struct tcpcore_status, released, 16, 8);
-FIELD(struct tcpcore_status, ordered, 24, 8);
-FIELD(struct tcpcore_status, una, 32, 8);
-FIELD(struct tcpcore_status, next, 40, 8);
-FIELD(struct tcpcore_status, room, 48, 8);
-FIELD(struct tcpcore_status, queued, 56, 8);
-FIELD(struct tcpcore_status, in_flight, 64, 8);
-FIELD(struct tcpcore_status, mss, 72, 4);
-FIELD(struct tcpcore_status, own_shift, 76, 1);
-FIELD(struct tcpcore_status, peer_shift, 77, 1);
-FIELD(struct tcpcore_status, scaling, 78, 1);
-FIELD(struct tcpcore_status, sack, 79, 1);
-/* The library's status ends here: it writes nothing behind. */
-FIELD(struct tcpcore_status, reserved, 80, 48);
-_Static_assert(sizeof(struct tcpcore_status) == 128, "the status of every version");
 
 /* Memory as the library takes it: it begins at a multiple of UNIT, and its size is one. */
 struct block {
@@ -81,6 +47,13 @@ uint32_t tcp_c_stray_reset(const tcpcore_addr *, const tcpcore_addr *, const uin
 uint32_t tcp_c_timers(struct handle *, uint32_t *);
 uint32_t tcp_c_peer(struct handle *, tcpcore_addr *, uint16_t *);
 uint32_t tcp_c_status(struct handle *, struct tcpcore_status *);
+uint32_t tcp_c_rest(struct handle *, struct tcpcore_rest *);
+uint32_t tcp_c_rest_arrive(struct tcpcore_rest *, const tcpcore_addr *, const tcpcore_addr *, const uint8_t *, size_t);
+uint32_t tcp_c_rest_timer(struct tcpcore_rest *, uint32_t);
+uint32_t tcp_c_rest_emit(struct tcpcore_rest *, uint8_t *, size_t, tcpcore_addr *, size_t *);
+uint32_t tcp_c_rest_pending(const struct tcpcore_rest *, uint32_t *);
+uint32_t tcp_c_rest_abort(struct tcpcore_rest *);
+uint32_t tcp_c_rest_status(const struct tcpcore_rest *, uint32_t *, uint32_t *);
 
 static struct handle *handle(tcpcore_end *end) { return (struct handle *)end->opaque; }
 
@@ -114,34 +87,58 @@ struct place {
     size_t size;
 };
 
+/* The struct that a call is for. */
+struct object {
+    const void *at;
+    size_t size;
+};
+
+static struct object end_at(const tcpcore_end *end) { return (struct object){end, sizeof *end}; }
+
+static struct object rest_at(const struct tcpcore_rest *rest) { return (struct object){rest, sizeof *rest}; }
+
 /* Whether it may be written there: not over the struct, and not over the buffer of the same call. */
-static int is_apart(struct place place, const tcpcore_end *end, const void *bytes, size_t length)
+static int is_apart(struct place place, struct object object, const void *bytes, size_t length)
 {
-    return !overlap(place.at, place.size, end, sizeof *end) && !overlap(place.at, place.size, bytes, length);
+    return !overlap(place.at, place.size, object.at, object.size) && !overlap(place.at, place.size, bytes, length);
 }
 
-/* The same with a buffer beside the struct, and a place for what the call finds. */
-static uint32_t refusal_with(const tcpcore_end *end, const void *bytes, size_t length, struct place place)
+/* Why a call isn't made, with a struct, a buffer beside it, and a place for what the call finds. */
+static uint32_t refusal_beside(struct object object, const void *bytes, size_t length, struct place place)
 {
-    if (!end || !place.at || (!bytes && length > 0))
+    if (!object.at || !place.at || (!bytes && length > 0))
         return TCPCORE_NULL;
     if (length > PTRDIFF_MAX)
         return TCPCORE_LENGTH;
-    return overlap(end, sizeof *end, bytes, length) || !is_apart(place, end, bytes, length) ? TCPCORE_OVERLAP : refusal(end);
+    int apart = !overlap(object.at, object.size, bytes, length) && is_apart(place, object, bytes, length);
+    return apart ? TCPCORE_DONE : TCPCORE_OVERLAP;
 }
 
 /* The same with two places. */
-static uint32_t refusal_with_two(const tcpcore_end *end, const void *bytes, size_t length, struct place one, struct place other)
+static uint32_t refusal_beside_two(struct object object, const void *bytes, size_t length, struct place one, struct place other)
 {
-    uint32_t answer = one.at ? refusal_with(end, bytes, length, other) : TCPCORE_NULL;
-    int apart = is_apart(one, end, bytes, length) && !overlap(one.at, one.size, other.at, other.size);
+    uint32_t answer = one.at ? refusal_beside(object, bytes, length, other) : TCPCORE_NULL;
+    int apart = is_apart(one, object, bytes, length) && !overlap(one.at, one.size, other.at, other.size);
     return answer != TCPCORE_DONE || apart ? answer : TCPCORE_OVERLAP;
 }
 
-/* Writes what a call has found, but over the struct or the buffer. */
-static void put(struct place place, const tcpcore_end *end, const void *bytes, size_t length, const void *found)
+/* The same with an end, which has to lie where it was made. */
+static uint32_t refusal_with(const tcpcore_end *end, const void *bytes, size_t length, struct place place)
 {
-    if (place.at && is_apart(place, end, bytes, length > PTRDIFF_MAX ? 0 : length))
+    uint32_t answer = refusal_beside(end_at(end), bytes, length, place);
+    return answer != TCPCORE_DONE ? answer : refusal(end);
+}
+
+static uint32_t refusal_with_two(const tcpcore_end *end, const void *bytes, size_t length, struct place one, struct place other)
+{
+    uint32_t answer = refusal_beside_two(end_at(end), bytes, length, one, other);
+    return answer != TCPCORE_DONE ? answer : refusal(end);
+}
+
+/* Writes what a call has found, but over the struct or the buffer. */
+static void put(struct place place, struct object object, const void *bytes, size_t length, const void *found)
+{
+    if (place.at && is_apart(place, object, bytes, length > PTRDIFF_MAX ? 0 : length))
         memcpy(place.at, found, place.size);
 }
 
@@ -218,7 +215,7 @@ uint32_t tcpcore_send(tcpcore_end *end, const void *text, size_t length, size_t 
     uint32_t answer = refusal_with(end, text, length, place);
     if (answer == TCPCORE_DONE)
         answer = tcp_c_send(handle(end), front(text), length, &found);
-    put(place, end, text, length, &found);
+    put(place, end_at(end), text, length, &found);
     return answer;
 }
 
@@ -229,7 +226,7 @@ uint32_t tcpcore_receive(tcpcore_end *end, void *out, size_t room, size_t *count
     uint32_t answer = refusal_with(end, out, room, place);
     if (answer == TCPCORE_DONE)
         answer = tcp_c_receive(handle(end), start(out), room, &found);
-    put(place, end, out, room, &found);
+    put(place, end_at(end), out, room, &found);
     return answer;
 }
 
@@ -271,7 +268,7 @@ uint32_t tcpcore_take(tcpcore_end *end, tcpcore_addr src, tcpcore_addr dst, cons
     uint32_t answer = refusal_with(end, bytes, length, place);
     if (answer == TCPCORE_DONE)
         answer = tcp_c_take(handle(end), &src, &dst, front(bytes), length, &found);
-    put(place, end, bytes, length, &found);
+    put(place, end_at(end), bytes, length, &found);
     return answer;
 }
 
@@ -283,8 +280,8 @@ uint32_t tcpcore_emit(tcpcore_end *end, void *out, size_t room, tcpcore_addr *to
     uint32_t answer = refusal_with_two(end, out, room, where, place);
     if (answer == TCPCORE_DONE)
         answer = tcp_c_emit(handle(end), start(out), room, &address, &found);
-    put(where, end, out, room, &address);
-    put(place, end, out, room, &found);
+    put(where, end_at(end), out, room, &address);
+    put(place, end_at(end), out, room, &found);
     return answer;
 }
 
@@ -297,7 +294,7 @@ uint32_t tcpcore_pending(const tcpcore_end *end, uint32_t *due)
         struct handle copy = copy_of(end);
         answer = tcp_c_pending(&copy, &found);
     }
-    put(place, end, NULL, 0, &found);
+    put(place, end_at(end), NULL, 0, &found);
     return answer;
 }
 
@@ -340,7 +337,7 @@ uint32_t tcpcore_timers(const tcpcore_end *end, uint32_t *due)
         struct handle copy = copy_of(end);
         answer = tcp_c_timers(&copy, &found);
     }
-    put(place, end, NULL, 0, &found);
+    put(place, end_at(end), NULL, 0, &found);
     return answer;
 }
 
@@ -354,8 +351,8 @@ uint32_t tcpcore_peer(const tcpcore_end *end, tcpcore_addr *addr, uint16_t *port
         struct handle copy = copy_of(end);
         answer = tcp_c_peer(&copy, &address, &found);
     }
-    put(where, end, NULL, 0, &address);
-    put(place, end, NULL, 0, &found);
+    put(where, end_at(end), NULL, 0, &address);
+    put(place, end_at(end), NULL, 0, &found);
     return answer;
 }
 
@@ -368,7 +365,70 @@ uint32_t tcpcore_status(const tcpcore_end *end, struct tcpcore_status *status)
         struct handle copy = copy_of(end);
         answer = tcp_c_status(&copy, &found);
     }
-    put(place, end, NULL, 0, &found);
+    put(place, end_at(end), NULL, 0, &found);
+    return answer;
+}
+
+uint32_t tcpcore_rest(const tcpcore_end *end, struct tcpcore_rest *rest)
+{
+    struct tcpcore_rest found = {0};
+    struct place place = {rest, sizeof *rest};
+    uint32_t answer = refusal_with(end, NULL, 0, place);
+    if (answer == TCPCORE_DONE) {
+        struct handle copy = copy_of(end);
+        answer = tcp_c_rest(&copy, &found);
+    }
+    put(place, end_at(end), NULL, 0, &found);
+    return answer;
+}
+
+uint32_t tcpcore_rest_arrive(struct tcpcore_rest *rest, tcpcore_addr src, tcpcore_addr dst, const void *bytes, size_t length)
+{
+    static uint8_t nothing;
+    uint32_t answer = refusal_beside(rest_at(rest), bytes, length, (struct place){&nothing, 0});
+    return answer != TCPCORE_DONE ? answer : tcp_c_rest_arrive(rest, &src, &dst, front(bytes), length);
+}
+
+uint32_t tcpcore_rest_timer(struct tcpcore_rest *rest, uint32_t timer)
+{
+    return rest ? tcp_c_rest_timer(rest, timer) : TCPCORE_NULL;
+}
+
+uint32_t tcpcore_rest_emit(struct tcpcore_rest *rest, void *out, size_t room, tcpcore_addr *to, size_t *length)
+{
+    tcpcore_addr address = {{0, 0, 0, 0}};
+    size_t found = 0;
+    struct place where = {to, sizeof *to}, place = {length, sizeof *length};
+    uint32_t answer = refusal_beside_two(rest_at(rest), out, room, where, place);
+    if (answer == TCPCORE_DONE)
+        answer = tcp_c_rest_emit(rest, start(out), room, &address, &found);
+    put(where, rest_at(rest), out, room, &address);
+    put(place, rest_at(rest), out, room, &found);
+    return answer;
+}
+
+uint32_t tcpcore_rest_pending(const struct tcpcore_rest *rest, uint32_t *due)
+{
+    uint32_t found = 0;
+    struct place place = {due, sizeof *due};
+    uint32_t answer = refusal_beside(rest_at(rest), NULL, 0, place);
+    if (answer == TCPCORE_DONE)
+        answer = tcp_c_rest_pending(rest, &found);
+    put(place, rest_at(rest), NULL, 0, &found);
+    return answer;
+}
+
+uint32_t tcpcore_rest_abort(struct tcpcore_rest *rest) { return rest ? tcp_c_rest_abort(rest) : TCPCORE_NULL; }
+
+uint32_t tcpcore_rest_status(const struct tcpcore_rest *rest, uint32_t *phase, uint32_t *ending)
+{
+    uint32_t found[2] = {0, 0};
+    struct place one = {phase, sizeof *phase}, other = {ending, sizeof *ending};
+    uint32_t answer = refusal_beside_two(rest_at(rest), NULL, 0, one, other);
+    if (answer == TCPCORE_DONE)
+        answer = tcp_c_rest_status(rest, &found[0], &found[1]);
+    put(one, rest_at(rest), NULL, 0, &found[0]);
+    put(other, rest_at(rest), NULL, 0, &found[1]);
     return answer;
 }
 
@@ -400,12 +460,14 @@ static const char *const TEXTS[] = {
     [TCPCORE_LENGTH] = "a length is above PTRDIFF_MAX",
     [TCPCORE_COPIED] = "the struct was copied, moved or never set",
     [TCPCORE_OVERLAP] = "a buffer or a pointer overlaps the struct or another one",
+    [TCPCORE_NO_REST] = "no rest is in the struct",
     [TCPCORE_NOTHING] = "nothing to read yet",
     [TCPCORE_END_OF_STREAM] = "the peer has closed, and all its bytes were read",
     [TCPCORE_NOT_DUE] = "no segment is due",
     [TCPCORE_NO_RULE] = "this timer isn't running",
     [TCPCORE_DROPPED] = "the segment was passed over",
     [TCPCORE_NOT_MINE] = "the segment is another connection's",
+    [TCPCORE_NOT_AT_REST] = "not in TIME-WAIT, or bytes are unread",
 };
 
 const char *tcpcore_strerror(uint32_t answer)

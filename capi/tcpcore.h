@@ -34,7 +34,8 @@
  *
  *      Retransmit runs while the peer's window is shut, too: it lets the end probe the window (RFC 9293, 3.8.6.1).
  *      A timer whose bit is clear stands still.
- *   6. Free the end: tcpcore_free.
+ *   6. Free the end: tcpcore_free. Where there are many, each can be freed in TIME-WAIT once all was read: tcpcore_rest tells what
+ *      takes its place, 48 bytes that answer late segments as it would.
  *
  * WHICH END A SEGMENT IS FOR
  *   A single end on its address needs no choice: hand it whatever comes. With several ends the caller deals out the
@@ -78,6 +79,7 @@
  *   is made in it. Then, and where tcpcore_new was refused, it is the caller's again, whatever its bytes are, and may serve the
  *   next end. Leaving an end without tcpcore_free loses nothing but the block.
  *   Buffers belong to the caller; no call keeps a pointer to one.
+ *   What rests in the place of an end, struct tcpcore_rest, is the caller's as a whole: nothing else belongs to it.
  *
  * ANSWERS
  *   Each function answers one number of the table below. A refusal changes no end. What a call writes through a pointer
@@ -88,7 +90,7 @@
  *
  * WHAT IS TRUSTED
  *   What a call does to an end is proved of the library. Not proved: tcpcore.c, the C compiler, the three functions of the
- *   C library, that a block of TCPCORE_MEMORY bytes is enough, and that this header agrees with the library: tcpcore.c
+ *   C library, that a block of TCPCORE_MEMORY bytes is enough, and that this header agrees with the library: layout.h
  *   asserts where each field lies, and tests/fields.c reads each one back through what an end does. A pointer to memory
  *   that isn't there, or isn't yours, can't be found: such a call may do anything.
  */
@@ -103,7 +105,7 @@ extern "C" {
 #endif
 
 /* The version of this header: it grows with each change of a struct, a call or an answer. */
-#define TCPCORE_VERSION 2
+#define TCPCORE_VERSION 3
 
 /* The answers; tcpcore_strerror has a text for each. */
 enum {
@@ -138,13 +140,15 @@ enum {
     TCPCORE_LENGTH = 36,    /* a length is above PTRDIFF_MAX */
     TCPCORE_COPIED = 37,    /* the struct was copied or moved, or never set */
     TCPCORE_OVERLAP = 38,   /* a buffer or a pointer that is written through lies over the struct, or over the buffer */
+    TCPCORE_NO_REST = 39,   /* tcpcore_rest_..: no rest is in the struct: never told, or its bytes are no rest's */
     /* The call was made and found this. */
     TCPCORE_NOTHING = 51,       /* tcpcore_receive: nothing to read yet */
     TCPCORE_END_OF_STREAM = 52, /* tcpcore_receive: the peer closed, and all its bytes were handed over */
     TCPCORE_NOT_DUE = 53,       /* no segment is due; tcpcore_stray_reset: no reset answers the bytes */
     TCPCORE_NO_RULE = 54,       /* tcpcore_timer: the timer's bit was clear; nothing changed */
     TCPCORE_DROPPED = 55,       /* an arrival: the segment was passed over; an answer to it may be due */
-    TCPCORE_NOT_MINE = 56       /* an arrival: the segment is another connection's; nothing changed */
+    TCPCORE_NOT_MINE = 56,      /* an arrival: the segment is another connection's; nothing changed */
+    TCPCORE_NOT_AT_REST = 57    /* tcpcore_rest: the end isn't in TIME-WAIT, or has bytes unread */
 };
 
 /* The phases (RFC 9293, 3.3.2). */
@@ -189,6 +193,9 @@ enum {
 
 /* The room that tcpcore_stray_reset wants, in bytes: the length of a reset. */
 #define TCPCORE_RESET_ROOM 20
+
+/* The room that tcpcore_rest_emit wants, in bytes: the length of what a rest sends. */
+#define TCPCORE_REST_ROOM 20
 
 /* A limit below which no segment, however old, is taken for another: 2^31 less 16 bytes. */
 #define TCPCORE_LIMIT UINT64_C(2147483632)
@@ -244,6 +251,29 @@ struct tcpcore_status {
     uint8_t scaling;   /* 1 where windows are scaled (RFC 7323, 2.2) */
     uint8_t sack;      /* 1 where selective acknowledgement is in use (RFC 2018, 2) */
     uint64_t reserved[6]; /* 0. Fields of later versions take their place from here: the struct's size stays */
+};
+
+/*
+ * What rests in the place of an end in TIME-WAIT, in 48 bytes, as tcpcore_rest tells it: a plain value, which may be copied,
+ * moved and stored; a copy is another that rests there. All zero there is none. (The tag alone is a type, as of tcpcore_status.)
+ */
+struct tcpcore_rest {
+    uint32_t mark;           /* the library's word where there is one */
+    tcpcore_addr addr;       /* the own address */
+    tcpcore_addr peer_addr;  /* the peer's address */
+    uint16_t port;           /* the own port */
+    uint16_t peer_port;      /* the peer's port */
+    uint32_t seq;            /* SND.NXT, as a number: all before it is acknowledged */
+    uint32_t next;           /* RCV.NXT, as a number */
+    uint32_t window;         /* RCV.WND in bytes, at most 1,048,576 */
+    tcpcore_addr reset_addr; /* whom a reset goes to that waits. Not looked at where `reset` is 0; nor are the next three */
+    uint32_t reset_seq;      /* its sequence number */
+    uint32_t reset_ack;      /* what it acknowledges; not looked at where `reset` is 1 */
+    uint16_t reset_port;     /* the port that it goes to */
+    uint8_t shift;           /* the shift by which the window is told, at most 14 */
+    uint8_t ack;             /* 1 where an acknowledgement is owed */
+    uint16_t reset;          /* 0 where no reset waits, 1 where one does that acknowledges nothing, 2 where it acknowledges */
+    uint16_t ending;         /* TCPCORE_ENDING_NOT_ENDED .. TCPCORE_ENDING_ABORTED */
 };
 
 /*
@@ -381,6 +411,53 @@ uint32_t tcpcore_peer(const tcpcore_end *end, tcpcore_addr *addr, uint16_t *port
  *   DONE; NO_END; NULL; OVERLAP; COPIED.
  */
 uint32_t tcpcore_status(const tcpcore_end *end, struct tcpcore_status *status);
+
+/*
+ * Tells what can take the end's place in TIME-WAIT, once nothing is unread: *rest takes no memory, and answers and emits as the
+ * end would, whatever comes. The end stays as it is, and only one of the two may answer: the caller frees the end, and hands the
+ * segments of the connection to *rest.
+ *   DONE; NOT_AT_REST: the end is in another phase, or bytes are unread; ask again later. NO_END; NULL; OVERLAP; COPIED.
+ */
+uint32_t tcpcore_rest(const tcpcore_end *end, struct tcpcore_rest *rest);
+
+/*
+ * A segment has come, for what rests, which answers it as the end would (RFC 9293, 3.10.7.4, and 3.10.7.1 once the connection has
+ * ended). Emit then what is due, and where anything was start TCPCORE_TIMER_TIME_WAIT anew.
+ *   As tcpcore_arrive, with NO_REST in place of NO_END; never COPIED.
+ */
+uint32_t tcpcore_rest_arrive(struct tcpcore_rest *rest, tcpcore_addr src, tcpcore_addr dst, const void *bytes, size_t length);
+
+/*
+ * Timer `timer` has run out. TCPCORE_TIMER_TIME_WAIT, which runs on from the end's, closes the connection in order; no other
+ * timer has a rule.
+ *   DONE: its rule was applied. NO_RULE: there was none; nothing changed. NO_TIMER; NO_REST; NULL.
+ */
+uint32_t tcpcore_rest_timer(struct tcpcore_rest *rest, uint32_t timer);
+
+/*
+ * Writes the segment that is due to `out`: an acknowledgement, or a reset that waits; TCPCORE_REST_ROOM bytes.
+ *   As tcpcore_emit, but ROOM: `room` is below TCPCORE_REST_ROOM; with NO_REST in place of NO_END; never COPIED.
+ */
+uint32_t tcpcore_rest_emit(struct tcpcore_rest *rest, void *out, size_t room, tcpcore_addr *to, size_t *length);
+
+/*
+ * Tells the length of the segment that tcpcore_rest_emit would write now, TCPCORE_REST_ROOM, or 0 where none is due.
+ *   DONE; NO_REST; NULL; OVERLAP.
+ */
+uint32_t tcpcore_rest_pending(const struct tcpcore_rest *rest, uint32_t *due);
+
+/*
+ * Gives the connection up: CLOSED, aborted; no reset goes out in TIME-WAIT (RFC 9293, 3.10.5).
+ *   DONE; ENDED; NO_REST; NULL.
+ */
+uint32_t tcpcore_rest_abort(struct tcpcore_rest *rest);
+
+/*
+ * Tells the phase, TIME-WAIT, or CLOSED once the connection has ended, and how it did. In CLOSED, once nothing is due, the struct
+ * may be forgotten.
+ *   DONE; NO_REST; NULL; OVERLAP.
+ */
+uint32_t tcpcore_rest_status(const struct tcpcore_rest *rest, uint32_t *phase, uint32_t *ending);
 
 /*
  * The text of an answer, such as "nothing to read yet". It is never NULL, nobody frees it, and any thread may ask for

@@ -4,12 +4,12 @@ import ctypes
 import os
 from collections import namedtuple
 
-VERSION = 2
+VERSION = 3
 DONE, TOO_SHORT, TOO_LONG, BAD_CHECKSUM, BAD_OFFSET, BAD_OPTION, BAD_PADDING = range(7)
 NOT_OPEN, ALREADY_OPEN, CLOSING, ENDED, STREAM_FULL, NOT_CONNECTED = range(11, 17)
 BAD_CAPACITY, NO_MEMORY, BAD_MSS, BAD_SHIFT, BAD_LIMIT = range(21, 26)
-NO_END, IN_USE, ROOM, NO_TIMER, NULL, LENGTH, COPIED, OVERLAP = range(31, 39)
-NOTHING, END_OF_STREAM, NOT_DUE, NO_RULE, DROPPED, NOT_MINE = range(51, 57)
+NO_END, IN_USE, ROOM, NO_TIMER, NULL, LENGTH, COPIED, OVERLAP, NO_REST = range(31, 40)
+NOTHING, END_OF_STREAM, NOT_DUE, NO_RULE, DROPPED, NOT_MINE, NOT_AT_REST = range(51, 58)
 PHASES = (
     "CLOSED LISTEN SYN-SENT SYN-RECEIVED ESTABLISHED FIN-WAIT-1 FIN-WAIT-2 CLOSE-WAIT CLOSING LAST-ACK TIME-WAIT".split()
 )
@@ -17,6 +17,7 @@ ENDINGS = ("not-ended", "orderly", "reset", "aborted")
 RETRANSMIT, REORDER, TIME_WAIT = range(3)
 EMIT_ROOM = 1520
 RESET_ROOM = 20
+REST_ROOM = 20
 
 LIMIT = 2_147_483_632
 
@@ -78,7 +79,29 @@ class StatusStruct(ctypes.Structure):
     ]
 
 
+class RestStruct(ctypes.Structure):
+    _fields_ = [
+        ("mark", ctypes.c_uint32),
+        ("addr", AddrStruct),
+        ("peer_addr", AddrStruct),
+        ("port", ctypes.c_uint16),
+        ("peer_port", ctypes.c_uint16),
+        ("seq", ctypes.c_uint32),
+        ("next", ctypes.c_uint32),
+        ("window", ctypes.c_uint32),
+        ("reset_addr", AddrStruct),
+        ("reset_seq", ctypes.c_uint32),
+        ("reset_ack", ctypes.c_uint32),
+        ("reset_port", ctypes.c_uint16),
+        ("shift", ctypes.c_uint8),
+        ("ack", ctypes.c_uint8),
+        ("reset", ctypes.c_uint16),
+        ("ending", ctypes.c_uint16),
+    ]
+
+
 END, SIZE, OUT = ctypes.POINTER(EndStruct), ctypes.c_size_t, ctypes.POINTER(ctypes.c_size_t)
+REST, WORD = ctypes.POINTER(RestStruct), ctypes.POINTER(ctypes.c_uint32)
 CALLS = {
     "new": [END, ctypes.POINTER(ConfigStruct), ctypes.c_char_p, SIZE],
     "room": [ctypes.POINTER(ConfigStruct)],
@@ -99,6 +122,13 @@ CALLS = {
     "timers": [END, ctypes.POINTER(ctypes.c_uint32)],
     "peer": [END, ctypes.POINTER(AddrStruct), ctypes.POINTER(ctypes.c_uint16)],
     "status": [END, ctypes.POINTER(StatusStruct)],
+    "rest": [END, REST],
+    "rest_arrive": [REST, AddrStruct, AddrStruct, ctypes.c_char_p, SIZE],
+    "rest_timer": [REST, ctypes.c_uint32],
+    "rest_emit": [REST, ctypes.c_char_p, SIZE, ctypes.POINTER(AddrStruct), OUT],
+    "rest_pending": [REST, WORD],
+    "rest_abort": [REST],
+    "rest_status": [REST, WORD, WORD],
     "strerror": [ctypes.c_uint32],
     "version": [],
 }
@@ -143,6 +173,55 @@ def stray_reset(src, dst, data):
     out, count = ctypes.create_string_buffer(RESET_ROOM), ctypes.c_size_t()
     answer = library()["stray_reset"](source, destination, data, len(data), out, RESET_ROOM, count)
     return ctypes.string_at(out, count.value) if answer == DONE else None
+
+
+class Rest:
+    """What rests in the place of an end in TIME-WAIT: made by `End.rest`, or of the bytes of another."""
+
+    def __init__(self, data):
+        self.struct, self.calls = RestStruct.from_buffer_copy(data), library()
+        # Bytes that are no rest's are found here.
+        self.status()
+
+    def __bytes__(self):
+        return bytes(self.struct)
+
+    def ask(self, name, *args):
+        """A call that is done or refused."""
+        answer = self.calls[f"rest_{name}"](self.struct, *args)
+        if answer != DONE:
+            raise Refused(answer)
+
+    def arrive(self, src, dst, data):
+        """The answer's number."""
+        source, destination = AddrStruct.from_buffer_copy(src), AddrStruct.from_buffer_copy(dst)
+        return self.calls["rest_arrive"](self.struct, source, destination, data, len(data))
+
+    def timer(self, timer):
+        """Whether the timer's rule was applied."""
+        return self.calls["rest_timer"](self.struct, timer) == DONE
+
+    def emit(self):
+        """The address and the bytes of a segment, or None."""
+        segment, to, count = ctypes.create_string_buffer(REST_ROOM), AddrStruct(), ctypes.c_size_t()
+        if self.calls["rest_emit"](self.struct, segment, REST_ROOM, to, count) != DONE:
+            return None
+        return bytes(to.byte), ctypes.string_at(segment, count.value)
+
+    def pending(self):
+        """The length of the segment that is due, 0 where none is."""
+        due = ctypes.c_uint32()
+        self.ask("pending", due)
+        return due.value
+
+    def abort(self):
+        self.ask("abort")
+
+    def status(self):
+        """The phase and the ending."""
+        phase, ending = ctypes.c_uint32(), ctypes.c_uint32()
+        self.ask("status", phase, ending)
+        return PHASES[phase.value], ENDINGS[ending.value]
 
 
 class End:
@@ -268,3 +347,13 @@ class End:
         self.ask("status", self.told)
         told = {name: getattr(self.told, name) for name in Status._fields}
         return Status(**told | {"phase": PHASES[told["phase"]], "ending": ENDINGS[told["ending"]]})
+
+    def rest(self):
+        """What can take this end's place in TIME-WAIT, once nothing is unread, or None before."""
+        struct = RestStruct()
+        answer = self.calls["rest"](self.end, struct)
+        if answer == NOT_AT_REST:
+            return None
+        if answer != DONE:
+            raise Refused(answer)
+        return Rest(bytes(struct))

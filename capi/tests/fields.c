@@ -75,7 +75,24 @@ static void layout(void)
     FIELD(struct tcpcore_status, scaling);
     FIELD(struct tcpcore_status, sack);
     FIELD(struct tcpcore_status, reserved);
-    printf(" of %zu\n", sizeof(struct tcpcore_status));
+    printf(" of %zu\ntcpcore_rest:", sizeof(struct tcpcore_status));
+    FIELD(struct tcpcore_rest, mark);
+    FIELD(struct tcpcore_rest, addr);
+    FIELD(struct tcpcore_rest, peer_addr);
+    FIELD(struct tcpcore_rest, port);
+    FIELD(struct tcpcore_rest, peer_port);
+    FIELD(struct tcpcore_rest, seq);
+    FIELD(struct tcpcore_rest, next);
+    FIELD(struct tcpcore_rest, window);
+    FIELD(struct tcpcore_rest, reset_addr);
+    FIELD(struct tcpcore_rest, reset_seq);
+    FIELD(struct tcpcore_rest, reset_ack);
+    FIELD(struct tcpcore_rest, reset_port);
+    FIELD(struct tcpcore_rest, shift);
+    FIELD(struct tcpcore_rest, ack);
+    FIELD(struct tcpcore_rest, reset);
+    FIELD(struct tcpcore_rest, ending);
+    printf(" of %zu\n", sizeof(struct tcpcore_rest));
 }
 
 static void make(struct side *side)
@@ -302,6 +319,99 @@ static void stray(void)
     need("free", tcpcore_free(&a.end));
 }
 
+static void free_both(void)
+{
+    need("free", tcpcore_free(&a.end));
+    need("free", tcpcore_free(&b.end));
+}
+
+static void bring(struct side *from, struct side *to)
+{
+    struct segment segment;
+    while (tcpcore_emit(&from->end, segment.bytes, sizeof segment.bytes, &segment.dst, &segment.length) == TCPCORE_DONE)
+        tcpcore_arrive(&to->end, from->config.addr, segment.dst, segment.bytes, segment.length);
+}
+
+static void print_peer(const char *name, tcpcore_addr addr, unsigned int port)
+{
+    printf("%s %d.%d.%d.%d port %u, ", name, addr.byte[0], addr.byte[1], addr.byte[2], addr.byte[3], port);
+}
+
+static void tell_rest(const struct tcpcore_rest *rest)
+{
+    uint32_t phase, ending, due;
+    need("rest_status", tcpcore_rest_status(rest, &phase, &ending));
+    need("rest_pending", tcpcore_rest_pending(rest, &due));
+    printf("rest: %s, %s, due %u: ", PHASES[phase], ENDINGS[ending], due);
+    print_peer("own", rest->addr, rest->port);
+    print_peer("peer", rest->peer_addr, rest->peer_port);
+    printf("seq %u, next %u, window %u, shift %u, ack %u, reset %u", rest->seq, rest->next, rest->window, rest->shift,
+           rest->ack, rest->reset);
+    if (rest->reset > 0) {
+        print_peer(" to", rest->reset_addr, rest->reset_port);
+        printf("seq %u, ack %u", rest->reset_seq, rest->reset_ack);
+    }
+    printf(", ending %u\n", rest->ending);
+}
+
+static void emit_rest(struct tcpcore_rest *rest)
+{
+    unsigned char out[TCPCORE_REST_ROOM];
+    tcpcore_addr to;
+    size_t length;
+    need("rest_emit", tcpcore_rest_emit(rest, out, sizeof out, &to, &length));
+    printf("rest emits %zu bytes: to %d.%d.%d.%d, ports %u and %u, number %u, acknowledges %u, flags %d, window %u\n", length,
+           to.byte[0], to.byte[1], to.byte[2], to.byte[3], word(out), word(out + 2), word(out + 4) << 16 | word(out + 6),
+           word(out + 8) << 16 | word(out + 10), out[13], word(out + 14));
+}
+
+static void hand_to_rest(struct tcpcore_rest *rest, const struct segment *segment)
+{
+    uint32_t answer = tcpcore_rest_arrive(rest, b.config.addr, segment->dst, segment->bytes, segment->length);
+    printf("rest takes %zu bytes: %s\n", segment->length, tcpcore_strerror(answer));
+}
+
+/* What rests in the place of A: the peer's FIN comes again, in TIME-WAIT and once that is over, and then a new SYN. */
+static void rested(void)
+{
+    struct tcpcore_rest rest;
+    static const unsigned char text[10];
+    size_t taken;
+    make(&a);
+    make(&b);
+    need("listen", tcpcore_listen(&b.end));
+    need("connect", tcpcore_connect(&a.end, b.config.addr, b.config.port));
+    bring(&a, &b);
+    bring(&b, &a);
+    need("send", tcpcore_send(&a.end, text, sizeof text, &taken));
+    need("close", tcpcore_close(&a.end));
+    bring(&a, &b);
+    bring(&b, &a);
+    printf("rest of A: %s\n", tcpcore_strerror(tcpcore_rest(&a.end, &rest)));
+    need("close", tcpcore_close(&b.end));
+    struct segment fin = emitted(&b);
+    hand(&b, &a, &fin);
+    need("rest", tcpcore_rest(&a.end, &rest));
+    free_both();
+    tell_rest(&rest);
+    emit_rest(&rest);
+    tell_rest(&rest);
+    hand_to_rest(&rest, &fin);
+    emit_rest(&rest);
+    need("rest_timer", tcpcore_rest_timer(&rest, TCPCORE_TIMER_TIME_WAIT));
+    hand_to_rest(&rest, &fin);
+    tell_rest(&rest);
+    emit_rest(&rest);
+    make(&b);
+    need("connect", tcpcore_connect(&b.end, a.config.addr, a.config.port));
+    struct segment syn = emitted(&b);
+    need("free", tcpcore_free(&b.end));
+    hand_to_rest(&rest, &syn);
+    tell_rest(&rest);
+    emit_rest(&rest);
+    printf("rest gives up: %s\n", tcpcore_strerror(tcpcore_rest_abort(&rest)));
+}
+
 static void close_both(void)
 {
     need("close", tcpcore_close(&a.end));
@@ -318,12 +428,6 @@ static void close_both(void)
     tell(&b);
     need("timer", tcpcore_timer(&a.end, TCPCORE_TIMER_TIME_WAIT));
     tell(&a);
-}
-
-static void free_both(void)
-{
-    need("free", tcpcore_free(&a.end));
-    need("free", tcpcore_free(&b.end));
 }
 
 int main(void)
@@ -344,5 +448,6 @@ int main(void)
     agree();
     free_both();
     stray();
+    rested();
     return 0;
 }

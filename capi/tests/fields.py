@@ -6,7 +6,19 @@ import sys
 
 sys.path.insert(0, os.path.dirname(os.path.dirname(os.path.realpath(__file__))))
 import tcpcore  # noqa: E402
-from tcpcore import DONE, NOT_CONNECTED, NOT_DUE, TIME_WAIT, Config, End, Refused, stray_reset, strerror  # noqa: E402
+from tcpcore import (  # noqa: E402
+    DONE,
+    NOT_AT_REST,
+    NOT_CONNECTED,
+    NOT_DUE,
+    TIME_WAIT,
+    Config,
+    End,
+    Refused,
+    Rest,
+    stray_reset,
+    strerror,
+)
 
 
 def dotted(addr):
@@ -52,7 +64,7 @@ class Side:
 
 
 def layout():
-    for name in ("end", "addr", "config", "status"):
+    for name in ("end", "addr", "config", "status", "rest"):
         struct = getattr(tcpcore, f"{name.capitalize()}Struct")
         fields = ((field, getattr(struct, field)) for field, _ in struct._fields_)
         told = " ".join(f"{field} {place.offset}+{place.size}" for field, place in fields)
@@ -207,6 +219,83 @@ def free_both(a, b):
     b.end.free()
 
 
+def bring(source, target):
+    while due := source.end.emit():
+        target.end.arrive(source.config.addr, *due)
+
+
+def tell_rest(rest):
+    (phase, ending), told = rest.status(), rest.struct
+    reset = ""
+    if told.reset:
+        to = f"{dotted(told.reset_addr.byte)} port {told.reset_port}"
+        reset = f" to {to}, seq {told.reset_seq}, ack {told.reset_ack}"
+    print(
+        f"rest: {phase}, {ending}, due {rest.pending()}: own {dotted(told.addr.byte)} port {told.port}, "
+        f"peer {dotted(told.peer_addr.byte)} port {told.peer_port}, seq {told.seq}, next {told.next}, "
+        f"window {told.window}, shift {told.shift}, ack {told.ack}, reset {told.reset}{reset}, ending {told.ending}"
+    )
+
+
+def emit_rest(rest):
+    to, out = rest.emit()
+    print(
+        f"rest emits {len(out)} bytes: to {dotted(to)}, ports {word(out, 0)} and {word(out, 2)}, "
+        f"number {word(out, 4) << 16 | word(out, 6)}, acknowledges {word(out, 8) << 16 | word(out, 10)}, "
+        f"flags {out[13]}, window {word(out, 14)}"
+    )
+
+
+def hand_to_rest(rest, source, segment):
+    answer = rest.arrive(source.config.addr, *segment)
+    print(f"rest takes {len(segment[1])} bytes: {strerror(answer)}")
+
+
+def gives_up(rest):
+    try:
+        rest.abort()
+    except Refused as refused:
+        return refused.args[0]
+    return DONE
+
+
+def rested(a, b):
+    a.make()
+    b.make()
+    b.end.listen()
+    a.end.connect(b.config.addr, b.config.port)
+    bring(a, b)
+    bring(b, a)
+    a.end.send(bytes(10))
+    a.end.close()
+    bring(a, b)
+    bring(b, a)
+    print(f"rest of A: {strerror(NOT_AT_REST if a.end.rest() is None else DONE)}")
+    b.end.close()
+    fin = b.end.emit()
+    hand(b, a, fin)
+    rest = a.end.rest()
+    free_both(a, b)
+    tell_rest(rest)
+    emit_rest(rest)
+    rest = Rest(bytes(rest))
+    tell_rest(rest)
+    hand_to_rest(rest, b, fin)
+    emit_rest(rest)
+    rest.timer(TIME_WAIT)
+    hand_to_rest(rest, b, fin)
+    tell_rest(rest)
+    emit_rest(rest)
+    b.make()
+    b.end.connect(a.config.addr, a.config.port)
+    syn = b.end.emit()
+    b.end.free()
+    hand_to_rest(rest, b, syn)
+    tell_rest(rest)
+    emit_rest(rest)
+    print(f"rest gives up: {strerror(gives_up(rest))}")
+
+
 def main():
     a = Side("A", Config(bytes([10, 1, 2, 3]), 4660, 1111, 2309737967, 3000, 5001, 3, 0, 3210))
     b = Side("B", Config(bytes([10, 4, 5, 6]), 22136, 1300, 16909060, 700, 4000, None, 2, 803))
@@ -228,6 +317,7 @@ def main():
     agree(a, b)
     free_both(a, b)
     stray(a, b)
+    rested(a, b)
 
 
 if __name__ == "__main__":

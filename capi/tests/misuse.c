@@ -42,6 +42,14 @@ static int is_empty(const tcpcore_end *end)
     return memcmp(end, &EMPTY, sizeof EMPTY) == 0;
 }
 
+static int are_zero(const void *bytes, size_t length)
+{
+    size_t i = 0;
+    while (i < length && ((const unsigned char *)bytes)[i] == 0)
+        i++;
+    return i == length;
+}
+
 /* Each call but new and free answers `wanted`, tells 0, and leaves the buffers as they are. */
 static void every_call(tcpcore_end *end, uint32_t wanted)
 {
@@ -82,9 +90,11 @@ static void every_call(tcpcore_end *end, uint32_t wanted)
     CHECK(memcmp(&to, &NOWHERE, sizeof to), 0);
     CHECK(port, 0);
     CHECK(tcpcore_status(end, &status), wanted);
-    for (size_t i = 0; i < sizeof status; i++)
-        if (((const unsigned char *)&status)[i] != 0)
-            CHECK(((const unsigned char *)&status)[i], 0);
+    CHECK(are_zero(&status, sizeof status), 1);
+    struct tcpcore_rest rest;
+    memset(&rest, 7, sizeof rest);
+    CHECK(tcpcore_rest(end, &rest), wanted);
+    CHECK(are_zero(&rest, sizeof rest), 1);
     for (size_t i = 0; i < sizeof buffer; i++)
         if (buffer[i] != 0xee)
             CHECK(buffer[i], 0xee);
@@ -133,6 +143,7 @@ static void null_pointers(void)
     CHECK(tcpcore_emit(&end, buffer, sizeof buffer, &to, NULL), TCPCORE_NULL);
     CHECK(tcpcore_timers(&end, NULL), TCPCORE_NULL);
     CHECK(tcpcore_status(&end, NULL), TCPCORE_NULL);
+    CHECK(tcpcore_rest(&end, NULL), TCPCORE_NULL);
     uint32_t at_once = 7;
     CHECK(tcpcore_take(&end, THERE, HERE, NULL, 20, &at_once), TCPCORE_NULL);
     CHECK(at_once, 0);
@@ -333,6 +344,7 @@ static void overlaps(void)
         CHECK(tcpcore_emit(&place.end, place.behind, sizeof place.behind, &to, over), TCPCORE_OVERLAP);
         CHECK(tcpcore_timers(&place.end, over), TCPCORE_OVERLAP);
         CHECK(tcpcore_status(&place.end, over), TCPCORE_OVERLAP);
+        CHECK(tcpcore_rest(&place.end, over), TCPCORE_OVERLAP);
         CHECK(tcpcore_take(&place.end, THERE, HERE, place.behind, 20, over), TCPCORE_OVERLAP);
         CHECK(tcpcore_pending(&place.end, over), TCPCORE_OVERLAP);
         uint16_t port;

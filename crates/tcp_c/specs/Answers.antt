@@ -30,6 +30,10 @@ little_room = 33
 abbrev pub no_timer : ℕ
 no_timer = 34
 
+-- the record keeps no rest
+abbrev pub no_rest : ℕ
+no_rest = 39
+
 -- no byte is unread, and more may come
 abbrev pub nothing_unread : ℕ
 nothing_unread = 51
@@ -53,6 +57,10 @@ segment_dropped = 55
 -- the segment is for another end, or from another peer
 abbrev pub segment_not_mine : ℕ
 segment_not_mine = 56
+
+-- the end isn't in TIME-WAIT, or has bytes unread
+abbrev pub not_at_rest : ℕ
+not_at_rest = 57
 
 -- what a call answers: of the end that is held, or that there is none
 abbrev pub answer_of : (State → ℕ) → Option State → ℕ

@@ -2,5 +2,6 @@ pub mod Answers
 pub mod Calls
 pub mod Configs
 pub mod Held
+pub mod Rests
 pub mod Segments
 pub mod Status

@@ -1,36 +1,35 @@
--- What an emission (RFC 9293, 3.7, 3.8 and 3.10) into a buffer of any length tells and does.
+-- What an emission (RFC 9293, 3.7, 3.8 and 3.10) into a buffer of any length tells and does, where it wants at least so many bytes.
 use Rattle.std.specs.Prelude.{ℕ, nat_lt, if◌then◌else◌, List, [], ◌∷◌, length, is_some, unwrap_or, Option, Some, None}
-use Rattle.tcp_conn.specs.declared.emission.TheConstants.{EMIT_ROOM}
 use Rattle.tcp_conn.specs.declared.stray.TheConstants.{RESET_LEN}
 use Rattle.tcp_conn.specs.State.{State}
 use Rattle.tcp_conn.specs.Stray.{with_front}
 use Rattle.tcp_conn.specs.Emission.{pending_length, destination, buffer_after, after_emission}
 use Rattle.tcp_c.specs.Answers.{done, little_room, nothing_due}
 
-abbrev pub emission_number : ℕ → State → ℕ
-emission_number room s =
-    if nat_lt room EMIT_ROOM then little_room else (if is_some (pending_length s) then done else nothing_due)
+abbrev pub emission_number : ℕ → ℕ → State → ℕ
+emission_number least room s =
+    if nat_lt room least then little_room else (if is_some (pending_length s) then done else nothing_due)
 
-abbrev pub after_emission_within : ℕ → State → State
-after_emission_within room s = if nat_lt room EMIT_ROOM then s else after_emission s
+abbrev pub after_emission_within : ℕ → ℕ → State → State
+after_emission_within least room s = if nat_lt room least then s else after_emission s
 
 -- the length of the segment that is written
-abbrev pub written_length : ℕ → State → ℕ
-written_length room s = if nat_lt room EMIT_ROOM then 0 else unwrap_or (pending_length s) 0
+abbrev pub written_length : ℕ → ℕ → State → ℕ
+written_length least room s = if nat_lt room least then 0 else unwrap_or (pending_length s) 0
 
 -- no address
 abbrev pub nowhere : List ℕ
 nowhere = 0 ∷ 0 ∷ 0 ∷ 0 ∷ []
 
 -- where it goes
-abbrev pub written_destination : ℕ → Option State → List ℕ
-written_destination room None = nowhere
-written_destination room (Some s) = if nat_lt room EMIT_ROOM then nowhere else unwrap_or (destination s) nowhere
+abbrev pub written_destination : ℕ → ℕ → Option State → List ℕ
+written_destination least room None = nowhere
+written_destination least room (Some s) = if nat_lt room least then nowhere else unwrap_or (destination s) nowhere
 
 -- what the buffer holds afterwards
-abbrev pub written_buffer : List ℕ → Option State → List ℕ
-written_buffer out None = out
-written_buffer out (Some s) = if nat_lt (length out) EMIT_ROOM then out else buffer_after s out
+abbrev pub written_buffer : ℕ → List ℕ → Option State → List ℕ
+written_buffer least out None = out
+written_buffer least out (Some s) = if nat_lt (length out) least then out else buffer_after s out
 
 -- A RESET FOR NO END (RFC 9293, 3.10.7.1), into a buffer of any length
 abbrev pub stray_number : ℕ → Option (List ℕ) → ℕ

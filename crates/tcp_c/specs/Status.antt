@@ -1,5 +1,5 @@
 -- What is said of an end: its phase (RFC 9293, 3.3.2, in that order) and its ending by number, its counts and its positions.
-use Rattle.std.specs.Prelude.{ℕ, Bool, false, if◌then◌else◌, List, length, Option, Some, None, option_map, unwrap_or, is_some}
+use Rattle.std.specs.Prelude.{ℕ, Bool, false, if◌then◌else◌, List, length, Option, Some, None, unwrap_or, is_some}
 use Rattle.tcp_halves.specs.declared.phase.Phase.{Phase}
 use Rattle.tcp_halves.specs.declared.phase.Phase.TheVariants as phases
 use Rattle.tcp_halves.specs.declared.phase.Ending.{Ending}

@@ -19,6 +19,9 @@ pub const LITTLE_ROOM: u32 = 33;
 /// No timer has this number.
 pub const NO_TIMER: u32 = 34;
 
+/// The record keeps no rest.
+pub const NO_REST: u32 = 39;
+
 /// No byte is unread, and more may come.
 pub const NOTHING_UNREAD: u32 = 51;
 
@@ -36,6 +39,9 @@ pub const SEGMENT_DROPPED: u32 = 55;
 
 /// The segment is for another end, or from another peer.
 pub const SEGMENT_NOT_MINE: u32 = 56;
+
+/// The end isn't in TIME-WAIT, or has bytes unread.
+pub const NOT_AT_REST: u32 = 57;
 
 /// The answer of a call of the user, whatever it tells beside.
 pub(crate) fn call_number<T: Drop>(answer: Result<T, CallError>) -> u32

@@ -20,6 +20,18 @@
 //!     uint8_t own_shift, peer_shift, scaling, sack;
 //! } tcp_c_status_record;
 //!
+//! typedef struct {
+//!     uint32_t mark;
+//!     tcp_c_addr addr, peer_addr;
+//!     uint16_t port, peer_port;
+//!     uint32_t seq, next, window;
+//!     tcp_c_addr reset_addr;
+//!     uint32_t reset_seq, reset_ack;
+//!     uint16_t reset_port;
+//!     uint8_t shift, ack;
+//!     uint16_t reset, ending;
+//! } tcp_c_rest_record;
+//!
 //! typedef struct { void *at; size_t size; } tcp_c_block;
 //!
 //! uint32_t tcp_c_new(tcp_c_handle *handle, const tcp_c_config *config, tcp_c_block block);
@@ -41,6 +53,13 @@
 //! uint32_t tcp_c_status(tcp_c_handle *handle, tcp_c_status_record *status);
 //! uint32_t tcp_c_peer(tcp_c_handle *handle, tcp_c_addr *addr, uint16_t *port);
 //! uint32_t tcp_c_stray_reset(const tcp_c_addr *src, const tcp_c_addr *dst, const uint8_t *bytes, size_t bytes_length, uint8_t *out, size_t out_length, size_t *count);
+//! uint32_t tcp_c_rest(tcp_c_handle *handle, tcp_c_rest_record *rest);
+//! uint32_t tcp_c_rest_arrive(tcp_c_rest_record *rest, const tcp_c_addr *src, const tcp_c_addr *dst, const uint8_t *bytes, size_t bytes_length);
+//! uint32_t tcp_c_rest_timer(tcp_c_rest_record *rest, uint32_t timer);
+//! uint32_t tcp_c_rest_emit(tcp_c_rest_record *rest, uint8_t *out, size_t out_length, tcp_c_addr *to, size_t *count);
+//! uint32_t tcp_c_rest_pending(const tcp_c_rest_record *rest, uint32_t *due);
+//! uint32_t tcp_c_rest_abort(tcp_c_rest_record *rest);
+//! uint32_t tcp_c_rest_status(const tcp_c_rest_record *rest, uint32_t *phase, uint32_t *ending);
 //! ```
 //!
 //! Each answers a number of the table in `answers`, or a refusal's own: 1 to 6 bytes that are no segment
@@ -54,6 +73,8 @@
 //! a lock or by the thread's start or join. Any other bytes are a handle that holds no end, if their first word isn't
 //! [`MARK_OF_LIVE`].
 //!
+//! What rests in the place of an end is a plain value: a copy is another that rests there, and any bytes are one or none.
+//!
 //! An end lies in the block that `tcp_c_new` was passed, all of it: nothing asks for memory. The block is aligned to 16, its size
 //! is a multiple of 16, no byte of it is used by anyone else until `tcp_c_free`, and then it is the caller's again.
 #![tactic(auto)]
@@ -64,6 +85,8 @@ mod held;
 mod loose;
 mod making;
 mod records;
+mod rest_calls;
+mod rests;
 mod room;
 mod segments;
 mod status;
@@ -71,13 +94,18 @@ mod timing;
 mod user;
 
 pub use answers::{
-    DONE, END_OF_STREAM, IN_USE, LITTLE_ROOM, NO_END, NO_RULE, NO_TIMER, NOTHING_DUE,
-    NOTHING_UNREAD, SEGMENT_DROPPED, SEGMENT_NOT_MINE,
+    DONE, END_OF_STREAM, IN_USE, LITTLE_ROOM, NO_END, NO_REST, NO_RULE, NO_TIMER, NOT_AT_REST,
+    NOTHING_DUE, NOTHING_UNREAD, SEGMENT_DROPPED, SEGMENT_NOT_MINE,
 };
 pub use handle::{Handle, MARK_OF_LIVE};
 pub use held::Held;
 pub use making::{tcp_c_free, tcp_c_new};
-pub use records::{CAddr, CConfig, CStatus};
+pub use records::{CAddr, CConfig, CRest, CStatus};
+pub use rest_calls::{
+    tcp_c_rest, tcp_c_rest_abort, tcp_c_rest_arrive, tcp_c_rest_emit, tcp_c_rest_pending,
+    tcp_c_rest_status, tcp_c_rest_timer,
+};
+pub use rests::MARK_OF_REST;
 pub use room::tcp_c_room;
 pub use segments::{tcp_c_arrive, tcp_c_emit, tcp_c_stray_reset, tcp_c_take};
 pub use status::{tcp_c_peer, tcp_c_pending, tcp_c_status};

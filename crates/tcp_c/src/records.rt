@@ -69,3 +69,41 @@ pub struct CStatus {
     /// 1 where selective acknowledgement is in use.
     pub sack: u8,
 }
+
+/// What rests in the place of an end in TIME-WAIT: a plain value, which may be copied, stored and moved.
+#[repr(C)]
+#[derive(Clone, Copy)]
+pub struct CRest {
+    /// `MARK_OF_REST` exactly where it keeps one.
+    pub mark: u32,
+    /// The own address.
+    pub addr: CAddr,
+    /// The peer's address.
+    pub peer_addr: CAddr,
+    /// The own port.
+    pub port: u16,
+    /// The peer's port.
+    pub peer_port: u16,
+    /// SND.NXT: all before it is acknowledged.
+    pub seq: u32,
+    /// RCV.NXT.
+    pub next: u32,
+    /// RCV.WND in bytes, at most 1,048,576.
+    pub window: u32,
+    /// Whom a reset goes to that waits. Nothing reads it where `reset` is 0; so it is with the next three.
+    pub reset_addr: CAddr,
+    /// Its number.
+    pub reset_seq: u32,
+    /// What it acknowledges. Nothing reads it where `reset` is 1.
+    pub reset_ack: u32,
+    /// The port that it goes to.
+    pub reset_port: u16,
+    /// The shift by which the window is advertised, at most 14.
+    pub shift: u8,
+    /// Whether an acknowledgement is owed: 0 is no, anything else yes.
+    pub ack: u8,
+    /// 0 where no reset waits, 1 where one does that acknowledges nothing, 2 where one does that acknowledges.
+    pub reset: u16,
+    /// 0 not ended, 1 orderly, 2 reset, 3 aborted.
+    pub ending: u16,
+}

@@ -3,6 +3,7 @@ ghost use Rattle.std.specs.Prelude.{◌≡◌, length, option_map};
 ghost use Rattle.tcp_conn.specs.Arrival.{arrival_answer, after_arrival};
 ghost use Rattle.tcp_conn.specs.AtOnce.{answers_at_once};
 ghost use Rattle.tcp_conn.specs.Stray.{stray_reset};
+ghost use Rattle.tcp_conn.specs.declared.emission.TheConstants.{EMIT_ROOM};
 ghost use Rattle.tcp_c.specs.Answers.{answer_of, number_written, arrival_number};
 ghost use Rattle.tcp_c.specs.Segments.{emission_number, after_emission_within, written_length, written_destination, written_buffer, stray_number, stray_buffer, stray_length};
 ghost use Rattle.tcp_c.specs.Status.{flag};
@@ -60,11 +61,11 @@ pub extern "C" fn tcp_c_emit(
     to: &mut CAddr,
     count: &mut usize,
 ) -> u32
-    ensures answer { result ≡ answer_of (emission_number (length out.old)) handle.old.held.end }
-    ensures bytes { out.new ≡ written_buffer out.old handle.old.held.end }
-    ensures destination { to.new.byte ≡ written_destination (length out.old) handle.old.held.end }
-    ensures count { count.new ≡ number_written (written_length (length out.old)) handle.old.held.end }
-    ensures state { handle.new.held.end ≡ option_map (after_emission_within (length out.old)) handle.old.held.end }
+    ensures answer { result ≡ answer_of (emission_number EMIT_ROOM (length out.old)) handle.old.held.end }
+    ensures bytes { out.new ≡ written_buffer EMIT_ROOM out.old handle.old.held.end }
+    ensures destination { to.new.byte ≡ written_destination EMIT_ROOM (length out.old) handle.old.held.end }
+    ensures count { count.new ≡ number_written (written_length EMIT_ROOM (length out.old)) handle.old.held.end }
+    ensures state { handle.new.held.end ≡ option_map (after_emission_within EMIT_ROOM (length out.old)) handle.old.held.end }
 {
     to.byte = [0; 4];
     *count = 0;

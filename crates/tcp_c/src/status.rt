@@ -12,7 +12,7 @@ use tcp_conn::{CallError, Ending, Endpoint, Negotiated, Phase};
 use tcp_wire::Addr;
 
 /// The number of a phase, in the order of RFC 9293, 3.3.2.
-fn phase_number(phase: Phase) -> u32
+pub(crate) fn phase_number(phase: Phase) -> u32
     ensures { result ≡ phase_number phase }
 {
     match phase {
@@ -31,7 +31,7 @@ fn phase_number(phase: Phase) -> u32
 }
 
 /// The number of an ending.
-fn ending_number(ending: Ending) -> u32
+pub(crate) fn ending_number(ending: Ending) -> u16
     ensures { result ≡ ending_number ending }
 {
     match ending {
@@ -85,7 +85,7 @@ fn status_of(end: &Endpoint<Region>) -> CStatus
     let agreed = agreed(end);
     CStatus {
         phase: phase_number(end.phase()),
-        ending: ending_number(end.ending()),
+        ending: u32::from(ending_number(end.ending())),
         unread: end.unread(),
         released: end.released(),
         ordered: end.ordered(),

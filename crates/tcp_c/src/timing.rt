@@ -8,7 +8,7 @@ use crate::handle::Handle;
 use tcp_conn::Timer;
 
 /// The timer of a number.
-fn timer_of(number: u32) -> Option<Timer>
+pub(crate) fn timer_of(number: u32) -> Option<Timer>
     ensures { result ≡ timer_of number }
 {
     match number {

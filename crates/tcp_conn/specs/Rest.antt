@@ -1,9 +1,9 @@
 -- A SMALL TIME-WAIT (RFC 9293, 3.3.2 and 3.10.7.4): what is kept of an end that only answers late segments, in place of the
 -- end and its buffers.
-use Rattle.std.specs.Prelude.{ℕ, ◌≡◌, ◌<◌, ◌^◌, Bool, true, not, ◌&&◌, ◌==◌, List, [], ◌∷◌, length, Option, Some, Result}
+use Rattle.std.specs.Prelude.{ℕ, ◌≡◌, ◌<◌, ◌^◌, Bool, true, not, ◌&&◌, ◌==◌, nat_le, List, [], ◌∷◌, length, Option, Some, Result}
 use Rattle.tcp_wire.specs.Position.{number}
 use Rattle.tcp_numbers.specs.declared.addr.Addr.{Addr}
-use Rattle.tcp_reasm.specs.Reassembly.{window}
+use Rattle.tcp_reasm.specs.Reassembly.{max_capacity, window}
 use Rattle.tcp_halves.specs.declared.link.Peer.{Peer}
 use Rattle.tcp_halves.specs.declared.link.WaitingReset.{WaitingReset}
 use Rattle.tcp_halves.specs.declared.outcome.Arrival.{Arrival}
@@ -16,7 +16,7 @@ use Rattle.tcp_halves.specs.declared.phase.Timer.{Timer}
 use Rattle.tcp_conn.specs.Arrival.{arrival_answer, after_arrival}
 use Rattle.tcp_conn.specs.AtOnce.{has_gap}
 use Rattle.tcp_conn.specs.Calls.{abort_answer, after_abort}
-use Rattle.tcp_conn.specs.Config.{default_config}
+use Rattle.tcp_conn.specs.Config.{default_config, max_shift}
 use Rattle.tcp_conn.specs.Emission.{after_emission, buffer_after, destination, pending_length}
 use Rattle.tcp_conn.specs.Link.{new_link, nothing_owed}
 use Rattle.tcp_conn.specs.Phase.{is_ended, is_time_wait}
@@ -25,6 +25,7 @@ use Rattle.tcp_conn.specs.Sender.{new_sending}
 use Rattle.tcp_conn.specs.State.{State}
 use Rattle.tcp_conn.specs.Timers.{timer_answer, after_timer}
 use Rattle.tcp_conn.specs.Windows.{own_shift}
+use Rattle.tcp_conn.specs.declared.rest_fields.RestFields.{RestFields}
 
 -- what is kept
 pub record Resting : Type 0 where
@@ -65,6 +66,25 @@ resting s = record {
   ack = s.owed.ack;
   reset = s.owed.reset;
   ending = s.ending;
+}
+
+-- THE SAME FIELD BY FIELD, where each can be anything: what can be kept, with a window and a shift that an end may have
+-- (RFC 7323, 2.3), and what is kept then
+abbrev pub can_be_kept : RestFields → Bool
+can_be_kept f = nat_le f.window max_capacity && nat_le f.shift max_shift
+
+abbrev pub kept_of : RestFields → Resting
+kept_of f = record {
+  addr = f.addr;
+  port = f.port;
+  peer = f.peer;
+  seq = f.seq.0;
+  next = f.next.0;
+  window = f.window;
+  shift = f.shift;
+  ack = f.ack;
+  reset = f.reset;
+  ending = f.ending;
 }
 
 -- THE END THAT IT STANDS FOR: nothing queued, in flight, unread or held, the own positions counted from SND.NXT

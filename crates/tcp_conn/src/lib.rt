@@ -17,6 +17,7 @@ pub mod laws;
 mod new_end;
 mod phases;
 mod rest;
+mod rest_fields;
 mod status;
 mod stray;
 mod timers;
@@ -26,9 +27,10 @@ mod writing;
 pub use emission::EMIT_ROOM;
 pub use endpoint::Endpoint;
 pub use rest::{REST_LEN, Rest};
+pub use rest_fields::RestFields;
 pub use stray::{RESET_LEN, stray_reset};
 pub use tcp_halves::{
     Arrival, CallError, Config, ConfigError, DEFAULT_LIMIT, Ending, MAX_LIMIT, MAX_MSS, MAX_SHIFT,
-    MIN_MSS, Negotiated, Peer, Phase, Received, Taken, Timer,
+    MIN_MSS, Negotiated, Peer, Phase, Received, Taken, Timer, WaitingReset,
 };
 pub use tcp_sendq::MAX_CAPACITY;

@@ -1,0 +1,65 @@
+/*
+ * Where each field of the library's structs lies, and how many bytes it takes (crate tcp_c, src/records.rt). tcpcore.c alone
+ * includes it.
+ */
+#ifndef TCPCORE_LAYOUT_H
+#define TCPCORE_LAYOUT_H
+
+#include "tcpcore.h"
+
+#define FIELD(type, field, at, size) \
+    _Static_assert(offsetof(type, field) == (at) && sizeof((type){0}.field) == (size), #field " isn't the library's")
+
+FIELD(tcpcore_addr, byte, 0, 4);
+_Static_assert(sizeof(tcpcore_addr) == 4, "the address of the library");
+FIELD(tcpcore_config, addr, 0, 4);
+FIELD(tcpcore_config, port, 4, 2);
+FIELD(tcpcore_config, mss, 6, 2);
+FIELD(tcpcore_config, isn, 8, 4);
+FIELD(tcpcore_config, send_capacity, 16, 8);
+FIELD(tcpcore_config, recv_capacity, 24, 8);
+FIELD(tcpcore_config, limit, 32, 8);
+FIELD(tcpcore_config, window_shift, 40, 1);
+FIELD(tcpcore_config, scales, 41, 1);
+FIELD(tcpcore_config, sack, 42, 1);
+_Static_assert(sizeof(tcpcore_config) == 48, "the config of the library");
+FIELD(struct tcpcore_status, phase, 0, 4);
+FIELD(struct tcpcore_status, ending, 4, 4);
+FIELD(struct tcpcore_status, unread, 8, 8);
+FIELD(struct tcpcore_status, released, 16, 8);
+FIELD(struct tcpcore_status, ordered, 24, 8);
+FIELD(struct tcpcore_status, una, 32, 8);
+FIELD(struct tcpcore_status, next, 40, 8);
+FIELD(struct tcpcore_status, room, 48, 8);
+FIELD(struct tcpcore_status, queued, 56, 8);
+FIELD(struct tcpcore_status, in_flight, 64, 8);
+FIELD(struct tcpcore_status, mss, 72, 4);
+FIELD(struct tcpcore_status, own_shift, 76, 1);
+FIELD(struct tcpcore_status, peer_shift, 77, 1);
+FIELD(struct tcpcore_status, scaling, 78, 1);
+FIELD(struct tcpcore_status, sack, 79, 1);
+/* The library's status ends here: it writes nothing behind. */
+FIELD(struct tcpcore_status, reserved, 80, 48);
+_Static_assert(sizeof(struct tcpcore_status) == 128, "the status of every version");
+
+FIELD(struct tcpcore_rest, mark, 0, 4);
+FIELD(struct tcpcore_rest, addr, 4, 4);
+FIELD(struct tcpcore_rest, peer_addr, 8, 4);
+FIELD(struct tcpcore_rest, port, 12, 2);
+FIELD(struct tcpcore_rest, peer_port, 14, 2);
+FIELD(struct tcpcore_rest, seq, 16, 4);
+FIELD(struct tcpcore_rest, next, 20, 4);
+FIELD(struct tcpcore_rest, window, 24, 4);
+FIELD(struct tcpcore_rest, reset_addr, 28, 4);
+FIELD(struct tcpcore_rest, reset_seq, 32, 4);
+FIELD(struct tcpcore_rest, reset_ack, 36, 4);
+FIELD(struct tcpcore_rest, reset_port, 40, 2);
+FIELD(struct tcpcore_rest, shift, 42, 1);
+FIELD(struct tcpcore_rest, ack, 43, 1);
+FIELD(struct tcpcore_rest, reset, 44, 2);
+FIELD(struct tcpcore_rest, ending, 46, 2);
+_Static_assert(sizeof(struct tcpcore_rest) == 48, "what rests, with no byte between its fields");
+
+#undef FIELD
+
+#endif

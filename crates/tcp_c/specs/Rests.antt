@@ -1,0 +1,121 @@
+-- What rests in the place of an end in TIME-WAIT (RFC 9293, 3.3.2), as a record that C keeps.
+use Rattle.std.specs.Prelude.{ℕ, is_some, not, ◌==◌, if◌then◌else◌, Option, Some, None, option_map, unwrap_or}
+use Rattle.tcp_halves.specs.declared.link.WaitingReset.{WaitingReset}
+use Rattle.tcp_halves.specs.declared.phase.Ending.{Ending}
+use Rattle.tcp_halves.specs.declared.phase.Ending.TheVariants as endings
+use Rattle.tcp_conn.specs.declared.rest_fields.RestFields.{RestFields}
+use Rattle.tcp_conn.specs.Rest.{Resting, as_state, can_be_kept, can_rest, kept_of, resting}
+use Rattle.tcp_conn.specs.State.{State}
+use Rattle.tcp_c.specs.Answers.{done, no_rest, not_at_rest}
+use Rattle.tcp_c.specs.Segments.{nowhere}
+use Rattle.tcp_c.specs.Status.{ending_number, flag}
+use Rattle.tcp_c.specs.declared.records.CRest.{CRest}
+use Rattle.tcp_c.specs.declared.rests.TheConstants.{MARK_OF_REST}
+
+-- the ending of a number
+abbrev pub ending_of : ℕ → Option Ending
+ending_of number =
+    if number == 0 then Some endings.NotEnded
+    else (if number == 1 then Some endings.Orderly
+    else (if number == 2 then Some endings.Reset else (if number == 3 then Some endings.Aborted else None)))
+
+-- the reset that waits: 0 none, 1 one that acknowledges nothing, anything else one that acknowledges
+abbrev pub reset_of : CRest → Option WaitingReset
+reset_of c =
+    if c.reset == 0 then None
+    else Some (record {
+      to = record { addr = record { 0 = c.reset_addr.byte }; port = c.reset_port };
+      seq = record { 0 = c.reset_seq };
+      ack = if c.reset == 1 then None else Some (record { 0 = c.reset_ack });
+    })
+
+-- the fields that C's record says, with this ending
+abbrev pub fields_of : CRest → Ending → RestFields
+fields_of c ending = record {
+  addr = record { 0 = c.addr.byte };
+  port = c.port;
+  peer = record { addr = record { 0 = c.peer_addr.byte }; port = c.peer_port };
+  seq = record { 0 = c.seq };
+  next = record { 0 = c.next };
+  window = c.window;
+  shift = c.shift;
+  ack = not (c.ack == 0);
+  reset = reset_of c;
+  ending = ending;
+}
+
+abbrev pub kept_with : CRest → Option Ending → Option Resting
+kept_with c None = None
+kept_with c (Some ending) = if can_be_kept (fields_of c ending) then Some (kept_of (fields_of c ending)) else None
+
+-- WHAT IS KEPT in C's record; none without the mark, with no ending's number, or with a window or a shift that no end has
+abbrev pub rest_kept : CRest → Option Resting
+rest_kept c = if c.mark == MARK_OF_REST then kept_with c (ending_of c.ending) else None
+
+-- all zero where nothing rests
+abbrev pub no_record : CRest
+no_record = record {
+  mark = 0;
+  addr = record { byte = nowhere };
+  peer_addr = record { byte = nowhere };
+  port = 0;
+  peer_port = 0;
+  seq = 0;
+  next = 0;
+  window = 0;
+  reset_addr = record { byte = nowhere };
+  reset_seq = 0;
+  reset_ack = 0;
+  reset_port = 0;
+  shift = 0;
+  ack = 0;
+  reset = 0;
+  ending = 0;
+}
+
+-- what is written of these fields, where no reset waits
+abbrev pub settled_record : RestFields → CRest
+settled_record f = record no_record {
+  mark = MARK_OF_REST;
+  addr = record { byte = f.addr.0 };
+  peer_addr = record { byte = f.peer.addr.0 };
+  port = f.port;
+  peer_port = f.peer.port;
+  seq = f.seq.0;
+  next = f.next.0;
+  window = f.window;
+  shift = f.shift;
+  ack = flag f.ack;
+  ending = ending_number f.ending;
+}
+
+-- and of a reset that waits, with what it acknowledges, if anything
+abbrev pub with_reset : CRest → WaitingReset → CRest
+with_reset c reset = record c {
+  reset_addr = record { byte = reset.to.addr.0 };
+  reset_port = reset.to.port;
+  reset_seq = reset.seq.0;
+  reset_ack = unwrap_or (option_map (λ ack. ack.0) reset.ack) 0;
+  reset = if is_some reset.ack then 2 else 1;
+}
+
+-- FROM AN END: whether it can rest, and what is kept of it then
+abbrev pub rest_number : State → ℕ
+rest_number s = if can_rest s then done else not_at_rest
+
+abbrev pub rest_told : Option State → Option Resting
+rest_told None = None
+rest_told (Some s) = if can_rest s then Some (resting s) else None
+
+-- the end that it stands for
+abbrev pub rest_stands_for : CRest → Option State
+rest_stands_for c = option_map as_state (rest_kept c)
+
+-- what a call answers: of that end, or that there is none
+abbrev pub rest_answer : (State → ℕ) → Option State → ℕ
+rest_answer answer None = no_rest
+rest_answer answer (Some s) = answer s
+
+-- what is kept after a step of that end
+abbrev pub rest_after : (State → State) → CRest → Option Resting
+rest_after step c = option_map (λ r. resting (step (as_state r))) (rest_kept c)

@@ -1,0 +1,163 @@
+//! The calls of what rests in the place of an end in TIME-WAIT (RFC 9293, 3.3.2): a value that C keeps.
+ghost use Rattle.std.specs.Prelude.{◌≡◌, ◌≢◌, None, length};
+ghost use Rattle.tcp_conn.specs.Arrival.{arrival_answer, after_arrival};
+ghost use Rattle.tcp_conn.specs.Calls.{abort_answer, after_abort};
+ghost use Rattle.tcp_conn.specs.declared.rest.TheConstants.{REST_LEN};
+ghost use Rattle.tcp_c.specs.Answers.{done, answer_of, arrival_number, call_number, number_written};
+ghost use Rattle.tcp_c.specs.Calls.{timer_of, timer_number, after_any_timer};
+ghost use Rattle.tcp_c.specs.Rests.{no_record, rest_after, rest_answer, rest_kept, rest_number, rest_stands_for, rest_told};
+ghost use Rattle.tcp_c.specs.Segments.{after_emission_within, emission_number, written_buffer, written_destination, written_length};
+ghost use Rattle.tcp_c.specs.Status.{ending_number, length_due, phase_number};
+
+use crate::answers::{
+    DONE, LITTLE_ROOM, NO_END, NO_REST, NO_RULE, NO_TIMER, NOT_AT_REST, NOTHING_DUE,
+    arrival_number, call_number,
+};
+use crate::handle::Handle;
+use crate::records::{CAddr, CRest};
+use crate::rests::{no_record, record_of, rest_of};
+use crate::status::{ending_number, phase_number};
+use crate::timing::timer_of;
+use tcp_conn::REST_LEN;
+use tcp_wire::Addr;
+
+/// Tells what can take the end's place, in TIME-WAIT with nothing unread: it answers and emits as the end would. 57 in any other
+/// phase, and while bytes are unread, and zeros. The end stays what it is.
+#[unsafe(no_mangle)]
+pub extern "C" fn tcp_c_rest(handle: &mut Handle, rest: &mut CRest) -> u32
+    ensures answer { result ≡ answer_of rest_number handle.old.held.end }
+    ensures rest { rest_kept rest.new ≡ rest_told handle.old.held.end }
+    ensures none { result ≢ done → rest.new ≡ no_record }
+    ensures state { handle.new.held.end ≡ handle.old.held.end }
+{
+    *rest = no_record();
+    let Some(end) = handle.take() else {
+        return NO_END;
+    };
+    let found = end.rest();
+    handle.put(end);
+    let Some(found) = found else {
+        return NOT_AT_REST;
+    };
+    *rest = record_of(&found);
+    DONE
+}
+
+/// Takes bytes that came from `src` to `dst`, whatever they are, as the end would (RFC 9293, 3.10.7). Answers as `tcp_c_arrive`,
+/// or 39 where the record keeps no rest.
+#[unsafe(no_mangle)]
+pub extern "C" fn tcp_c_rest_arrive(rest: &mut CRest, src: &CAddr, dst: &CAddr, bytes: &[u8]) -> u32
+    ensures answer { result ≡ rest_answer (λ s. arrival_number (arrival_answer s src.now.byte dst.now.byte bytes.now)) (rest_stands_for rest.old) }
+    ensures state { rest_kept rest.new ≡ rest_after (λ s. after_arrival s src.now.byte dst.now.byte bytes.now) rest.old }
+    ensures refused { rest_kept rest.old ≡ None → rest.new ≡ rest.old }
+{
+    let Some(mut kept) = rest_of(rest) else {
+        return NO_REST;
+    };
+    let answer = kept.arrive(Addr(src.byte), Addr(dst.byte), bytes);
+    *rest = record_of(&kept);
+    arrival_number(answer)
+}
+
+/// A timer has run out, by the numbers of `tcp_c_timer` (RFC 9293, 3.10.8). The TIME-WAIT timeout, 2, ends the connection in
+/// order; 54 where its rule doesn't apply, 34 at any other number, 39 where the record keeps no rest.
+#[unsafe(no_mangle)]
+pub extern "C" fn tcp_c_rest_timer(rest: &mut CRest, timer: u32) -> u32
+    ensures answer { result ≡ rest_answer (timer_number (timer_of timer)) (rest_stands_for rest.old) }
+    ensures state { rest_kept rest.new ≡ rest_after (after_any_timer (timer_of timer)) rest.old }
+    ensures refused { rest_kept rest.old ≡ None → rest.new ≡ rest.old }
+{
+    let Some(mut kept) = rest_of(rest) else {
+        return NO_REST;
+    };
+    let answer = match timer_of(timer) {
+        Some(timer) => { if kept.timer(timer) { DONE } else { NO_RULE } }
+        None => NO_TIMER,
+    };
+    *rest = record_of(&kept);
+    answer
+}
+
+/// Writes the segment that is due into the front of `out`, and tells where it goes and its length (RFC 9293, 3.10.7.4). 33 where
+/// `out` has less than [`REST_LEN`] bytes, 53 where none is due, 39 where the record keeps no rest: then nothing changes.
+#[unsafe(no_mangle)]
+pub extern "C" fn tcp_c_rest_emit(
+    rest: &mut CRest,
+    out: &mut [u8],
+    to: &mut CAddr,
+    count: &mut usize,
+) -> u32
+    ensures answer { result ≡ rest_answer (emission_number REST_LEN (length out.old)) (rest_stands_for rest.old) }
+    ensures bytes { out.new ≡ written_buffer REST_LEN out.old (rest_stands_for rest.old) }
+    ensures destination { to.new.byte ≡ written_destination REST_LEN (length out.old) (rest_stands_for rest.old) }
+    ensures count { count.new ≡ number_written (written_length REST_LEN (length out.old)) (rest_stands_for rest.old) }
+    ensures state { rest_kept rest.new ≡ rest_after (after_emission_within REST_LEN (length out.old)) rest.old }
+    ensures refused { rest_kept rest.old ≡ None → rest.new ≡ rest.old }
+{
+    to.byte = [0; 4];
+    *count = 0;
+    let Some(mut kept) = rest_of(rest) else {
+        return NO_REST;
+    };
+    if out.len() < REST_LEN {
+        return LITTLE_ROOM;
+    }
+    let sent = kept.emit(out);
+    *rest = record_of(&kept);
+    let Some((destination, length)) = sent else {
+        return NOTHING_DUE;
+    };
+    let Addr(byte) = destination;
+    to.byte = byte;
+    *count = length;
+    DONE
+}
+
+/// The length of the segment that `tcp_c_rest_emit` would write now, [`REST_LEN`], or 0 where none is due.
+#[unsafe(no_mangle)]
+pub extern "C" fn tcp_c_rest_pending(rest: &CRest, due: &mut u32) -> u32
+    ensures answer { result ≡ rest_answer (λ _. done) (rest_stands_for rest.now) }
+    ensures due { due.new ≡ number_written length_due (rest_stands_for rest.now) }
+{
+    *due = 0;
+    let Some(kept) = rest_of(rest) else {
+        return NO_REST;
+    };
+    if let Some(len) = kept.pending() {
+        *due = len as u32;
+    }
+    DONE
+}
+
+/// Gives the connection up; no reset goes out in TIME-WAIT (RFC 9293, 3.10.5). Refused with 14 where it has ended, 39 where the
+/// record keeps no rest.
+#[unsafe(no_mangle)]
+pub extern "C" fn tcp_c_rest_abort(rest: &mut CRest) -> u32
+    ensures answer { result ≡ rest_answer (λ s. call_number (abort_answer s)) (rest_stands_for rest.old) }
+    ensures state { rest_kept rest.new ≡ rest_after after_abort rest.old }
+    ensures refused { rest_kept rest.old ≡ None → rest.new ≡ rest.old }
+{
+    let Some(mut kept) = rest_of(rest) else {
+        return NO_REST;
+    };
+    let answer = kept.abort();
+    *rest = record_of(&kept);
+    call_number(answer)
+}
+
+/// The phase, 10 in TIME-WAIT and 0 once the connection has ended, and how it did, by the numbers of [`crate::CStatus`]; zeros where
+/// the record keeps no rest.
+#[unsafe(no_mangle)]
+pub extern "C" fn tcp_c_rest_status(rest: &CRest, phase: &mut u32, ending: &mut u32) -> u32
+    ensures answer { result ≡ rest_answer (λ _. done) (rest_stands_for rest.now) }
+    ensures phase { phase.new ≡ number_written (λ s. phase_number s.phase) (rest_stands_for rest.now) }
+    ensures ending { ending.new ≡ number_written (λ s. ending_number s.ending) (rest_stands_for rest.now) }
+{
+    (*phase, *ending) = (0, 0);
+    let Some(kept) = rest_of(rest) else {
+        return NO_REST;
+    };
+    *phase = phase_number(kept.phase());
+    *ending = u32::from(ending_number(kept.ending()));
+    DONE
+}

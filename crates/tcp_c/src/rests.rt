@@ -1,0 +1,154 @@
+//! What rests in the place of an end, as C's record and back.
+ghost use Rattle.std.specs.Prelude.{◌≡◌, Some};
+ghost use Rattle.tcp_c.specs.Rests.{ending_of, fields_of, no_record, reset_of, rest_kept, settled_record, with_reset};
+
+use crate::records::{CAddr, CRest};
+use crate::status::ending_number;
+use tcp_conn::{Ending, Peer, Rest, RestFields, WaitingReset};
+use tcp_wire::{Addr, Seq};
+
+/// The first word of a record that keeps a rest. Any other stands in one that keeps none.
+pub const MARK_OF_REST: u32 = 0x5265_7374;
+
+/// The ending of a number.
+fn ending_of(number: u16) -> Option<Ending>
+    ensures { result ≡ ending_of number }
+{
+    match number {
+        0 => Some(Ending::NotEnded),
+        1 => Some(Ending::Orderly),
+        2 => Some(Ending::Reset),
+        3 => Some(Ending::Aborted),
+        _ => None,
+    }
+}
+
+/// The reset that waits, if one does.
+fn reset_of(stored: &CRest) -> Option<WaitingReset>
+    ensures { result ≡ reset_of stored.now }
+{
+    if stored.reset == 0 {
+        return None;
+    }
+    Some(WaitingReset {
+        to: Peer {
+            addr: Addr(stored.reset_addr.byte),
+            port: stored.reset_port,
+        },
+        seq: Seq(stored.reset_seq),
+        ack: if stored.reset == 1 {
+            None
+        } else {
+            Some(Seq(stored.reset_ack))
+        },
+    })
+}
+
+/// The fields that C's record says, with this ending.
+fn fields_of(stored: &CRest, ending: Ending) -> RestFields
+    ensures { result ≡ fields_of stored.now ending }
+{
+    RestFields {
+        addr: Addr(stored.addr.byte),
+        port: stored.port,
+        peer: Peer {
+            addr: Addr(stored.peer_addr.byte),
+            port: stored.peer_port,
+        },
+        seq: Seq(stored.seq),
+        next: Seq(stored.next),
+        window: stored.window,
+        shift: stored.shift,
+        ack: stored.ack != 0,
+        reset: reset_of(stored),
+        ending,
+    }
+}
+
+/// The rest that C's record keeps, if it keeps one.
+pub(crate) fn rest_of(stored: &CRest) -> Option<Rest>
+    ensures { result ≡ rest_kept stored.now }
+{
+    if stored.mark != MARK_OF_REST {
+        return None;
+    }
+    let ending = ending_of(stored.ending)?;
+    Rest::of(fields_of(stored, ending))
+}
+
+/// All zero.
+pub(crate) fn no_record() -> CRest
+    ensures { result ≡ no_record }
+{
+    let nowhere = CAddr { byte: [0; 4] };
+    CRest {
+        mark: 0,
+        addr: nowhere,
+        peer_addr: nowhere,
+        port: 0,
+        peer_port: 0,
+        seq: 0,
+        next: 0,
+        window: 0,
+        reset_addr: nowhere,
+        reset_seq: 0,
+        reset_ack: 0,
+        reset_port: 0,
+        shift: 0,
+        ack: 0,
+        reset: 0,
+        ending: 0,
+    }
+}
+
+/// Fields with no reset, as C's record.
+fn settled_record(fields: &RestFields) -> CRest
+    ensures { result ≡ settled_record fields.now }
+{
+    let (Addr(own), Addr(peer)) = (fields.addr, fields.peer.addr);
+    CRest {
+        mark: MARK_OF_REST,
+        addr: CAddr { byte: own },
+        peer_addr: CAddr { byte: peer },
+        port: fields.port,
+        peer_port: fields.peer.port,
+        seq: fields.seq.0,
+        next: fields.next.0,
+        window: fields.window,
+        shift: fields.shift,
+        ack: u8::from(fields.ack),
+        ending: ending_number(fields.ending),
+        ..no_record()
+    }
+}
+
+/// The same with a reset that waits.
+fn with_reset(settled: CRest, reset: WaitingReset) -> CRest
+    ensures { result ≡ with_reset settled reset }
+{
+    let Addr(byte) = reset.to.addr;
+    let (kind, reset_ack) = match reset.ack {
+        Some(ack) => (2, ack.0),
+        None => (1, 0),
+    };
+    CRest {
+        reset_addr: CAddr { byte },
+        reset_port: reset.to.port,
+        reset_seq: reset.seq.0,
+        reset_ack,
+        reset: kind,
+        ..settled
+    }
+}
+
+/// C's record of this rest.
+pub(crate) fn record_of(rest: &Rest) -> CRest
+    ensures { rest_kept result ≡ Some rest.now }
+{
+    let fields = rest.fields();
+    let record = settled_record(&fields);
+    match fields.reset {
+        Some(reset) => with_reset(record, reset),
+        None => record,
+    }
+}
