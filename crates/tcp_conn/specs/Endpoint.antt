@@ -1,11 +1,13 @@
 -- What always holds of an end (RFC 9293, 3.1, 3.7.1 and 3.8.6; RFC 7323, 2.3).
 use Rattle.std.specs.Prelude.{◌<◌, ◌≤◌, ◌^◌, unwrap_or}
 use Rattle.tcp_sendq.specs.SendQueue.{Queue}
-use Rattle.tcp_reasm.specs.Reassembly.{Inbox}
+use Rattle.tcp_reasm.specs.Reassembly.{Inbox, IsInbox}
 use Rattle.tcp_halves.specs.declared.config.Config.{Config}
 use Rattle.tcp_halves.specs.declared.link.Link.{Link}
 use Rattle.tcp_halves.specs.Config.{max_shift, max_mss, stream_limit}
-use Rattle.tcp_conn.specs.State.{KeepsWithin, State, HoldsWithin}
+use Rattle.tcp_halves.specs.Receiver.{max_ordered}
+use Rattle.tcp_halves.specs.Sender.{IsSender}
+use Rattle.tcp_conn.specs.State.{IsWithin, KeepsWithin, State, HoldsWithin}
 
 -- its segments fit the room that it asks for, its fields their places, and what it keeps its capacities
 pub record IsEndpoint (c : Config) (link : Link) (queue : Queue) (inbox : Inbox) : Type 0 where
@@ -25,3 +27,12 @@ pub record FitsFields (s : State) : Type 0 where
   pub next : s.receiving.next < 2 ^ 32
   pub mss : s.config.mss ≤ max_mss
   pub shift : unwrap_or s.config.window_shift 0 ≤ max_shift
+
+-- what can be believed of every end, whatever was done to it: it keeps within its capacities, its two halves are sound, RCV.NXT
+-- is a number, and the count of what came in order one of 64 bits
+pub record AlwaysHolds (s : State) : Type 0 where
+  pub within : IsWithin s
+  pub sends : IsSender s.sending
+  pub inbox : IsInbox s.receiving.inbox
+  pub next : s.receiving.next < 2 ^ 32
+  pub ordered : s.receiving.ordered ≤ max_ordered

@@ -1,9 +1,13 @@
 //! What a reader can believe of an end apart from how it is computed. These do nothing when they run: each is there for
 //! the law that it ensures.
 ghost use Rattle.tcp_conn.specs.AtOnce.{UrgentIsDue};
+ghost use Rattle.tcp_conn.specs.Endpoint.{AlwaysHolds};
 ghost use Rattle.tcp_conn.specs.PhaseTable.{PhaseTable};
 ghost use Rattle.tcp_conn.specs.Rest.{RestIsTheEnd};
 ghost use Rattle.tcp_conn.specs.Stray.{AnswersAsClosed};
+
+use crate::endpoint::Endpoint;
+use std::alloc::Allocator;
 
 /// What `close`, `abort` and the timers answer in each state of a connection, and the state that they lead to (RFC 9293,
 /// 3.10.4, 3.10.5 and 3.10.8).
@@ -26,3 +30,15 @@ pub fn what_is_urgent_is_due()
 pub fn rest_is_the_end()
     ensures { RestIsTheEnd }
 {}
+
+/// What can be believed of every end, whatever was done to it (RFC 9293, 3.3.1): what it has queued, unread and held stays within
+/// its capacities, SND.UNA is at most SND.NXT, RCV.NXT is a number, and what came in order is counted by 64 bits.
+pub fn what_always_holds<A: Allocator>(endpoint: &Endpoint<A>)
+    ensures { AlwaysHolds endpoint.now }
+{
+    // So that the proof knows what always holds of an end and of its halves.
+    let _ = &endpoint.config;
+    let _ = &endpoint.sender.una;
+    let _ = &endpoint.receiver.next;
+    let _ = endpoint.receiver.inbox.unread();
+}

@@ -38,7 +38,7 @@ pub wanted-is : (p q : PartyState) → IsSoundPair p q → next_wanted p.endpoin
 wanted-is p q h = omega (arith, h.there.takes.order, h.back.alone.sends.limit, one_if-most p.endpoint.receiving.finished)
 
 -- A SYN
-syn-bits : (opened : Bool) → (has syn (syn + (if opened then ack else 0)) ≡ true) × (has fin (syn + (if opened then ack else 0)) ≡ false) × (has ack (syn + (if opened then ack else 0)) ≡ opened)
+pub syn-bits : (opened : Bool) → (has syn (syn + (if opened then ack else 0)) ≡ true) × (has fin (syn + (if opened then ack else 0)) ≡ false) × (has ack (syn + (if opened then ack else 0)) ≡ opened)
 syn-bits true = (refl, refl, refl)
 syn-bits false = (refl, refl, refl)
 
@@ -139,7 +139,7 @@ pub record GoesOut (p q : PartyState) (due : Due) : Type 0 where
       → StandsAt (witness_of p q) (segment_of p.endpoint due) (position_of p.endpoint.config.isn.0 p.endpoint.sending.una (segment_of p.endpoint due).seq) (next_wanted p.endpoint.receiving)
 
 -- the sequence number stands where it is read
-seq-in : (src dst : List ℕ) (v : Content) → IsValid v → v.seq ≡ seq_in (encoded_bytes src dst v)
+pub seq-in : (src dst : List ℕ) (v : Content) → IsValid v → v.seq ≡ seq_in (encoded_bytes src dst v)
 seq-in src dst v valid = (IsWire_encoded src dst v valid).header.seq
 
 pub own-due : (p q : PartyState) (due : Due) → GoesOut p q due → IsOwn p q (sent_by p.endpoint (bytes_of p.endpoint due))

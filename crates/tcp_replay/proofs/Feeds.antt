@@ -68,20 +68,20 @@ text-at P place (first ∷ text) zero n byte e is t =
 text-at P place (first ∷ text) (suc i) n byte e is t = text-at P (suc place) text i n byte (omega (arith, e)) is t.1
 
 -- HELD BYTES
-held-moved : (P P' : ℕ → ℕ → Type 0) (d : ℕ) → ((i byte : ℕ) → P (i + d) byte → P' i byte) → (from to : ℕ) (held : List (Option Cell)) → from ≡ to + d → AllHeld P from held → AllHeld P' to held
+pub held-moved : (P P' : ℕ → ℕ → Type 0) (d : ℕ) → ((i byte : ℕ) → P (i + d) byte → P' i byte) → (from to : ℕ) (held : List (Option Cell)) → from ≡ to + d → AllHeld P from held → AllHeld P' to held
 held-moved P P' d h from to [] e t = tt
 held-moved P P' d h from to (None ∷ places) e t = held-moved P P' d h (suc from) (suc to) places (omega (arith, e)) t
 held-moved P P' d h from to (Some cell ∷ places) e t =
     (h to cell.byte (subst (λ (n : ℕ). P n cell.byte) e t.0), held-moved P P' d h (suc from) (suc to) places (omega (arith, e)) t.1)
 
-held-same : (P P' : ℕ → ℕ → Type 0) (place : ℕ) (held : List (Option Cell)) → ((n byte : ℕ) → P n byte → P' n byte) → AllHeld P place held → AllHeld P' place held
+pub held-same : (P P' : ℕ → ℕ → Type 0) (place : ℕ) (held : List (Option Cell)) → ((n byte : ℕ) → P n byte → P' n byte) → AllHeld P place held → AllHeld P' place held
 held-same P P' place held h t = held-moved P P' 0 (λ i byte had. h i byte (subst (λ (n : ℕ). P n byte) (omega arith) had)) place place held (omega arith) t
 
-held-none : (P : ℕ → ℕ → Type 0) (place n : ℕ) → AllHeld P place (replicate n None)
+pub held-none : (P : ℕ → ℕ → Type 0) (place n : ℕ) → AllHeld P place (replicate n None)
 held-none P place zero = tt
 held-none P place (suc n) = held-none P (suc place) n
 
-held-more : (P : ℕ → ℕ → Type 0) (place n : ℕ) (held : List (Option Cell)) → AllHeld P place held → AllHeld P place (held ++ replicate n None)
+pub held-more : (P : ℕ → ℕ → Type 0) (place n : ℕ) (held : List (Option Cell)) → AllHeld P place held → AllHeld P place (held ++ replicate n None)
 held-more P place n [] t = held-none P place n
 held-more P place n (None ∷ places) t = held-more P (suc place) n places t
 held-more P place n (Some cell ∷ places) t = (t.0, held-more P (suc place) n places t.1)

@@ -1,0 +1,104 @@
+-- An end that holds sixteen runs: another early piece is refused, and the segment that is next is taken. It may send, and answers
+-- an old SYN.
+use Rattle.std.proofs.Common.{◌≡◌, ℕ, zero, suc, List, [], ◌∷◌, ◌++◌, length, refl, inl, arith}
+use Rattle.std.specs.Prelude.{true, false, pos, Option, Some, None}
+use Rattle.std.proofs.lemmas.Int.{ints}
+use Rattle.tcp_numbers.specs.Position.{offset, position_of}
+use Rattle.tcp_wire.specs.Wire.{Content}
+use Rattle.tcp_reasm.specs.declared.placed.Placed.TheVariants.{Advanced, NotKept}
+use Rattle.tcp_reasm.specs.Reassembly.{Cell, Inbox, place_answer, runs}
+use Rattle.tcp_halves.specs.declared.config.Config.{Config}
+use Rattle.tcp_halves.specs.declared.phase.Phase.TheVariants.{Established}
+use Rattle.tcp_halves.specs.Config.{default_limit}
+use Rattle.tcp_halves.specs.Sender.{new_sending}
+use Rattle.tcp_conn.specs.Endpoint.{AlwaysHolds}
+use Rattle.tcp_conn.specs.Judgement.{is_foreign}
+use Rattle.tcp_conn.specs.NewEnd.{new_end}
+use Rattle.tcp_conn.specs.State.{State}
+use Rattle.tcp_halves.specs.Acceptable.{is_acceptable}
+use Rattle.tcp_progress.specs.Progress.{IsNext}
+use Rattle.tcp_progress.specs.Resent.{IsInFlight, IsUnsent, MaySend}
+use Rattle.tcp_progress.specs.Answered.{IsUnacceptable, MayAnswer}
+
+-- n held bytes, each behind a missing one
+every_other : ℕ → List (Option Cell)
+every_other zero = []
+every_other (suc n) = None ∷ Some (record { byte = n; stamp = suc n }) ∷ every_other n
+
+full : Inbox
+full = record { capacity = 34; unread = []; held = every_other 16 ++ None ∷ None ∷ [] }
+
+config : Config
+config = record { addr = record { 0 = 10 ∷ 0 ∷ 0 ∷ 2 ∷ [] }; port = 2; isn = record { 0 = 5000 }; mss = 1460; send_capacity = 40; recv_capacity = 34; window_shift = None; sack = true; limit = default_limit }
+
+holding : State
+holding = record (new_end config) {
+  phase = Established;
+  peer = record { addr = record { 0 = 10 ∷ 0 ∷ 0 ∷ 1 ∷ [] }; port = 1 };
+  sending = record (new_sending 40) { una = 1; nxt = 1 };
+  receiving = record { opened = true; next = 1001; ordered = 0; finished = false; inbox = full };
+}
+
+-- one byte that is old, and the next
+covering : Content
+covering = record { src_port = 1; dst_port = 2; seq = 1000; ack = 5001; reserved = 0; flags = 16; window = 100; urgent = 0; options = []; pad = 0; text = 97 ∷ 98 ∷ [] }
+
+sixteen_held : length (runs full.held) ≡ 16
+unfolding full every_other
+sixteen_held = refl
+
+seventeenth_refused : place_answer full (pos 33) (99 ∷ []) ≡ NotKept
+unfolding place_answer full every_other
+seventeenth_refused = refl
+
+next_advances : place_answer full (pos 0) (98 ∷ []) ≡ Advanced 2
+unfolding place_answer full every_other
+next_advances = refl
+
+holding_sound : AlwaysHolds holding
+unfolding holding config full every_other
+holding_sound = record {
+  within = (record { size = refl; queued = omega arith }, record { size = refl; received = refl });
+  sends = record { order = omega arith; most = omega arith; limit = omega arith; wnd = omega arith; queued = omega arith };
+  inbox = record { least = omega arith; most = omega arith; whole = refl; few = omega arith; missing = refl };
+  next = omega arith;
+  ordered = omega arith;
+}
+
+covering_next : IsNext holding (10 ∷ 0 ∷ 0 ∷ 1 ∷ []) (10 ∷ 0 ∷ 0 ∷ 2 ∷ []) covering
+unfolding holding config full every_other covering offset position_of is_foreign
+covering_next = record {
+  phase = refl;
+  mine = refl;
+  plain = record { no_rst = refl; no_syn = refl; has_ack = refl; of_sent = omega arith; of_syn = λ never. absurd (cc) };
+  begins = omega (arith, ints);
+  ends = omega (arith, ints);
+  within = omega (arith, ints);
+}
+
+-- three bytes are queued, and so many of them are sent; the peer told that it holds the second, and its window is shut
+sent : ℕ → State
+sent n = record holding { sending = record (new_sending 40) { una = 1; nxt = suc n; queue = record { capacity = 40; bytes = 97 ∷ 98 ∷ 99 ∷ []; marks = false ∷ true ∷ false ∷ [] } } }
+
+sent_may_send : MaySend (sent 3)
+unfolding sent holding config
+sent_may_send = record { phase = refl; reset = refl; syn = refl; limit = omega arith }
+
+held_in_flight : IsInFlight (sent 3).sending 2
+unfolding sent
+held_in_flight = record { unacknowledged = omega arith; sent = omega arith; queued = omega arith; most = omega arith }
+
+text_unsent : IsUnsent (sent 0)
+unfolding sent
+text_unsent = record { idle = refl; waits = inl (omega arith); range = tt }
+
+holding_may_answer : MayAnswer holding
+unfolding holding config
+holding_may_answer = record { phase = refl; reset = refl; syn = refl; limit = omega arith; range = tt }
+
+old_syn : Content
+old_syn = record { src_port = 1; dst_port = 2; seq = 1000; ack = 0; reserved = 0; flags = 2; window = 100; urgent = 0; options = []; pad = 0; text = [] }
+
+old_syn_unacceptable : IsUnacceptable holding (10 ∷ 0 ∷ 0 ∷ 1 ∷ []) (10 ∷ 0 ∷ 0 ∷ 2 ∷ []) old_syn
+unfolding holding config full every_other old_syn is_foreign is_acceptable
+old_syn_unacceptable = record { mine = refl; no_rst = refl; outside = refl; untaken = refl }

@@ -1,0 +1,98 @@
+-- What is owed is told: whatever is due but a reset or a SYN acknowledges RCV.NXT.
+use Rattle.std.proofs.Common.{◌≡◌, ℕ, ◌-◌, refl, ◌∙◌, inl, inr}
+use Rattle.std.specs.Prelude.{Bool, true, false, ◌+◌, ◌&&◌, ◌==◌, nat_le, nat_lt, if◌then◌else◌, min, Option, Some, None, IfSome}
+use Rattle.std.specs.Option.{option_or}
+use Rattle.std.specs.declared.ops.Range.{Range}
+use Rattle.std.proofs.lemmas.Bool.{cases_Bool, cond_both}
+use Rattle.tcp_numbers.specs.Flags.{ack, fin, has, psh}
+use Rattle.tcp_sendq.specs.SendQueue.{next_unmarked}
+use Rattle.tcp_halves.specs.declared.due.Due.{Due}
+use Rattle.tcp_halves.specs.declared.due.Due.TheVariants.{Reset, Syn, Resend, NewText, Fin, ResentFin, Acknowledgement}
+use Rattle.tcp_halves.specs.Due.{fin_of, new_count, new_text_of, pushes, resend_of, resend_start, resent_fin, resent_run}
+use Rattle.tcp_halves.specs.Phase.{sends_text}
+use Rattle.tcp_halves.specs.Sender.{Sending, end_of_text, place_of, position_at}
+use Rattle.tcp_conn.specs.Due.{due_of, text_due, text_limit}
+use Rattle.tcp_conn.specs.Forms.{segment_of}
+use Rattle.tcp_conn.specs.State.{State}
+use Rattle.tcp_progress.specs.Progress.{OwedIsTold, TellsNext}
+
+-- neither a reset nor a SYN
+abbrev IsPlain : Due → Type 0
+IsPlain (Reset reset) = ⊥
+IsPlain Syn = ⊥
+IsPlain (Resend start count) = Unit {0}
+IsPlain (NewText start count) = Unit {0}
+IsPlain (Fin start) = Unit {0}
+IsPlain (ResentFin start) = Unit {0}
+IsPlain Acknowledgement = Unit {0}
+
+-- WHAT THE HALF THAT SENDS HAS DUE
+resent_fin-plain : (d : Sending) (range : Range ℕ) → IfSome (resent_fin d range) IsPlain
+resent_fin-plain d range =
+    cond_both (nat_lt (end_of_text d) range.end && nat_le (resend_start d range) (end_of_text d)) (Some (ResentFin (end_of_text d))) None (λ (o : Option Due). IfSome o IsPlain) (λ _. tt) (λ _. tt)
+
+resent_run-plain : (d : Sending) (limit : ℕ) (range : Range ℕ) (run : Option (ℕ × ℕ)) → IfSome (resent_run d limit range run) IsPlain
+resent_run-plain d limit range None = resent_fin-plain d range
+resent_run-plain d limit range (Some run) =
+    cond_both (nat_lt (position_at d run.0) range.end) (Some (Resend (position_at d run.0) (min limit (min (run.1 - run.0) (range.end - position_at d run.0))))) None (λ (o : Option Due). IfSome o IsPlain) (λ _. tt) (λ _. tt)
+
+resend-plain : (d : Sending) (limit : ℕ) (range : Option (Range ℕ)) → IfSome (resend_of d limit range) IsPlain
+unfolding resend_of
+resend-plain d limit None = tt
+resend-plain d limit (Some range) = resent_run-plain d limit range (next_unmarked d.queue (place_of d (resend_start d range)))
+
+new_text-plain : (d : Sending) (limit : ℕ) (probe : Bool) → IfSome (new_text_of d limit probe) IsPlain
+unfolding new_text_of
+new_text-plain d limit probe = cond_both (new_count d limit probe == 0) None (Some (NewText d.nxt (new_count d limit probe))) (λ (o : Option Due). IfSome o IsPlain) (λ _. tt) (λ _. tt)
+
+fin-plain : (d : Sending) (closing : Bool) → IfSome (fin_of d closing) IsPlain
+fin-plain d closing = cond_both (closing && (d.nxt == end_of_text d)) (Some (Fin d.nxt)) None (λ (o : Option Due). IfSome o IsPlain) (λ _. tt) (λ _. tt)
+
+-- THE FIRST THAT IS DUE, an acknowledgement the last
+record IsFirst (o : Option Due) : Type 0 where
+  due : Due
+  is_due : o ≡ Some due
+  plain : IsPlain due
+
+first-of : (resend text last : Option Due) → IfSome resend IsPlain → IfSome text IsPlain → IfSome last IsPlain
+    → IsFirst (option_or (option_or resend (option_or text last)) (Some Acknowledgement))
+first-of (Some due) text last h h' h'' = record { due = due; is_due = refl; plain = h }
+first-of None (Some due) last h h' h'' = record { due = due; is_due = refl; plain = h' }
+first-of None None (Some due) h h' h'' = record { due = due; is_due = refl; plain = h'' }
+first-of None None None h h' h'' = record { due = Acknowledgement; is_due = refl; plain = tt }
+
+first-due : (s : State) → IsFirst (option_or (text_due s) (Some Acknowledgement))
+first-due s =
+    let d : Sending = s.sending in
+    elim (cases_Bool (sends_text s.phase)) [
+      | inl sends ↦
+          rw sends (first-of (resend_of d (text_limit s) d.resend) (new_text_of d (text_limit s) s.owed.probe) (fin_of d s.closing)
+          (resend-plain d (text_limit s) d.resend) (new_text-plain d (text_limit s) s.owed.probe) (fin-plain d s.closing))
+      | inr silent ↦ rw silent (record { due = Acknowledgement; is_due = refl; plain = tt })
+    ]
+
+-- ITS FORM
+ack-flag : (pushed last : Bool) → has ack (ack + (if pushed then psh else 0) + (if last then fin else 0)) ≡ true
+ack-flag true true = refl
+ack-flag true false = refl
+ack-flag false true = refl
+ack-flag false false = refl
+
+plain-tells : (s : State) (due : Due) → IsPlain due → due_of s ≡ Some due → TellsNext s
+unfolding segment_of
+plain-tells s (Reset reset) plain e = absurd plain
+plain-tells s Syn plain e = absurd plain
+plain-tells s (Resend start count) plain e = record { due = Resend start count; is_due = e; has_ack = ack-flag (pushes s.sending (Resend start count)) false; number = refl }
+plain-tells s (NewText start count) plain e = record { due = NewText start count; is_due = e; has_ack = ack-flag (pushes s.sending (NewText start count)) false; number = refl }
+plain-tells s (Fin start) plain e = record { due = Fin start; is_due = e; has_ack = ack-flag (pushes s.sending (Fin start)) true; number = refl }
+plain-tells s (ResentFin start) plain e = record { due = ResentFin start; is_due = e; has_ack = ack-flag (pushes s.sending (ResentFin start)) true; number = refl }
+plain-tells s Acknowledgement plain e = record { due = Acknowledgement; is_due = e; has_ack = ack-flag (pushes s.sending Acknowledgement) false; number = refl }
+
+due-owing : (s : State) → s.owed.ack ≡ true → s.owed.reset ≡ None → s.owed.syn ≡ false → due_of s ≡ option_or (text_due s) (Some Acknowledgement)
+unfolding due_of
+due-owing s owes no_reset no_syn = rw (owes, no_reset, no_syn) refl
+
+pub told_lem : OwedIsTold
+told_lem s owes no_reset no_syn =
+    let first = first-due s in
+    plain-tells s first.due first.plain (due-owing s owes no_reset no_syn ∙ first.is_due)

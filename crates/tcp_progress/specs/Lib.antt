@@ -1,0 +1,4 @@
+pub mod Progress
+pub mod Resent
+pub mod Answered
+pub mod Sent

@@ -1,0 +1,89 @@
+-- What an end is sure to send after a retransmission timeout: what is in flight goes out again (RFC 9293, 3.8.1), and where
+-- nothing is, what is unsent goes out (RFC 9293, 3.8.6.1).
+use Rattle.std.specs.Prelude.{◌≡◌, ℕ, zero, suc, ◌+◌, ◌<◌, ◌≤◌, true, false, length, take, drop, Some, None, IfSome, ◌⊎◌}
+use Rattle.tcp_numbers.specs.Position.{number}
+use Rattle.tcp_numbers.specs.Flags.{ack, has, rst, syn}
+use Rattle.tcp_wire.specs.Wire.{Content, encoded_bytes}
+use Rattle.tcp_halves.specs.declared.phase.Timer.TheVariants.{Retransmit}
+use Rattle.tcp_halves.specs.Phase.{sends_text}
+use Rattle.tcp_halves.specs.Sender.{Sending, count_unsent, end_of_text, place_of}
+use Rattle.tcp_conn.specs.State.{State}
+use Rattle.tcp_conn.specs.Due.{text_limit}
+use Rattle.tcp_conn.specs.Emission.{after_emission, emitted_bytes}
+use Rattle.tcp_conn.specs.Judgement.{count_numbers}
+use Rattle.tcp_conn.specs.Timers.{after_timer}
+
+-- the end after so many emissions
+abbrev pub after_emissions : ℕ → State → State
+after_emissions zero s = s
+after_emissions (suc n) s = after_emissions n (after_emission s)
+
+-- MAY SEND: in a phase in which text and FIN go out, neither reset nor SYN goes first, and the text limit leaves room for text
+-- (RFC 9293, 3.7.1)
+pub record MaySend (s : State) : Type 0 where
+  pub phase : sends_text s.phase ≡ true
+  pub reset : s.owed.reset ≡ None
+  pub syn : s.owed.syn ≡ false
+  pub limit : 1 ≤ text_limit s
+
+-- IN FLIGHT: SND.UNA =< position < SND.NXT, and a byte of the queue or the FIN stands there
+pub record IsInFlight (s : Sending) (position : ℕ) : Type 0 where
+  pub unacknowledged : s.una ≤ position
+  pub sent : position < s.nxt
+  pub queued : s.released < position
+  pub most : position ≤ end_of_text s
+
+-- what goes out next COVERS a position: it begins at or before it, ends behind it (RFC 9293, 3.4), has the text of the queue, and
+-- is a plain acknowledgement of RCV.NXT
+pub record CoversNext (s : State) (position : ℕ) : Type 0 where
+  pub segment : Content
+  pub start : ℕ
+  pub emitted : emitted_bytes s ≡ Some (encoded_bytes s.config.addr.0 s.peer.addr.0 segment)
+  pub seq : segment.seq ≡ number s.config.isn.0 start
+  pub begins : start ≤ position
+  pub ends : position < start + count_numbers segment
+  pub text : segment.text ≡ take (length segment.text) (drop (place_of s.sending start) s.sending.queue.bytes)
+  pub no_rst : has rst segment.flags ≡ false
+  pub no_syn : has syn segment.flags ≡ false
+  pub has_ack : has ack segment.flags ≡ true
+  pub acknowledged : segment.ack ≡ s.receiving.next
+
+-- SND.UNA, SND.NXT and the queued bytes are what they were
+pub record KeepsFlight (before after : Sending) : Type 0 where
+  pub una : after.una ≡ before.una
+  pub nxt : after.nxt ≡ before.nxt
+  pub released : after.released ≡ before.released
+  pub queued : after.queue.bytes ≡ before.queue.bytes
+
+-- IS SURE TO GO OUT: after so many emissions the next covers the position, and that one and those before it keep the flight
+pub record GoesOut (s : State) (position : ℕ) : Type 0 where
+  pub count : ℕ
+  pub covers : CoversNext (after_emissions count s) position
+  pub keeps : (n : ℕ) → n ≤ count + 1 → KeepsFlight s.sending (after_emissions n s).sending
+
+-- WHAT IS IN FLIGHT GOES OUT AGAIN after a retransmission timeout, whatever the peer told that it holds
+abbrev pub FlightGoesOutAgain : Type 0
+FlightGoesOutAgain =
+    (s : State) (position : ℕ) → MaySend s → IsInFlight s.sending position
+    → KeepsFlight s.sending (after_timer s Retransmit).sending × GoesOut (after_timer s Retransmit) position
+
+-- UNSENT: nothing is in flight, and text or the FIN waits (RFC 9293, 3.10.4). What has still to be sent again ends at most at
+-- SND.NXT
+pub record IsUnsent (s : State) : Type 0 where
+  pub idle : s.sending.una ≡ s.sending.nxt
+  pub waits : (0 < count_unsent s.sending) ⊎ ((s.closing ≡ true) × (s.sending.nxt ≡ end_of_text s.sending))
+  pub range : IfSome s.sending.resend (λ range. range.end ≤ s.sending.nxt)
+
+-- SND.NXT has moved on; SND.UNA and the queued bytes are what they were
+pub record MovesOn (before after : Sending) : Type 0 where
+  pub una : after.una ≡ before.una
+  pub nxt : before.nxt < after.nxt
+  pub released : after.released ≡ before.released
+  pub queued : after.queue.bytes ≡ before.queue.bytes
+
+-- WHAT IS UNSENT GOES OUT after a retransmission timeout, whatever window the peer told: what is emitted next covers SND.NXT
+abbrev pub UnsentGoesOut : Type 0
+UnsentGoesOut =
+    (s : State) → MaySend s → IsUnsent s
+    → CoversNext (after_timer s Retransmit) s.sending.nxt
+    × MovesOn s.sending (after_emission (after_timer s Retransmit)).sending

@@ -1,0 +1,40 @@
+//! What is sure to go on (RFC 9293, 3.8.1, 3.8.6.1 and 3.10.7.4): laws of one end, of what a segment brings and of what goes out
+//! whatever came before it, and one of two ends, of what is sent and what is taken. They do nothing when they run: each is
+//! there for the law that it ensures.
+#![tactic(auto)]
+
+ghost use Rattle.tcp_progress.specs.Progress.{AckedIsReleased, OwedIsTold, TakesWhatIsNext};
+
+mod sending;
+mod sent;
+
+pub use sending::{
+    what_is_in_flight_goes_out_again, what_is_unsent_goes_out, who_is_spoken_to_answers,
+};
+pub use sent::nothing_is_taken_before_it_is_sent;
+use std::alloc::Allocator;
+use tcp_conn::Endpoint;
+use tcp_conn::laws::what_always_holds;
+
+/// A segment that is next is taken whole by every end in which text is taken, however many runs it holds and whatever they are: it
+/// begins at or before RCV.NXT and ends behind it within the receive window, and carries a plain acknowledgement of what was
+/// sent. RCV.NXT moves on to its end at least; what was unread stays, with what came in order behind it; and an acknowledgement
+/// is owed.
+pub fn what_is_next_is_taken<A: Allocator>(endpoint: &Endpoint<A>)
+    ensures { TakesWhatIsNext endpoint.now }
+{
+    what_always_holds(endpoint);
+}
+
+/// An acceptable segment that acknowledges something new, and nothing that wasn't sent, moves SND.UNA to just there, and the text
+/// before it leaves the queue, whatever else the segment brings or is marked; so does one that comes while the window is
+/// shut.
+pub fn what_is_acknowledged_is_released()
+    ensures { AckedIsReleased }
+{}
+
+/// An end that owes an acknowledgement, and no reset or SYN before it, has a segment due that acknowledges RCV.NXT, whether it
+/// carries text, FIN or neither: `emit` writes it.
+pub fn what_is_owed_is_told()
+    ensures { OwedIsTold }
+{}
