@@ -20,10 +20,10 @@ use Rattle.tcp_progress.specs.Progress.{AckedIsReleased, AcksNew, IsReleased, is
 use Rattle.tcp_progress.proofs.Judged.{judged-new}
 
 -- the same SND.UNA and the same text
-record KeepsText (d d' : Sending) : Type 0 where
-  una : d'.una ≡ d.una
-  released : d'.released ≡ d.released
-  queued : d'.queue.bytes ≡ d.queue.bytes
+pub record KeepsText (d d' : Sending) : Type 0 where
+  pub una : d'.una ≡ d.una
+  pub released : d'.released ≡ d.released
+  pub queued : d'.queue.bytes ≡ d.queue.bytes
 
 kept : (d : Sending) → KeepsText d d
 kept d = record { una = refl; released = refl; queued = refl }
@@ -53,7 +53,7 @@ unfolding after_window_update
 update-keeps d seq ack window = cond_both (is_newer d seq ack) (with_window d seq ack window) d (λ (e : Sending). KeepsText d e)
     (λ _. record { una = refl; released = refl; queued = refl }) (λ _. kept d)
 
-news-keep : (s : State) (v : Content) → KeepsText s.sending (after_news s v).sending
+pub news-keep : (s : State) (v : Content) → KeepsText s.sending (after_news s v).sending
 unfolding after_news
 news-keep s v =
     let told : Sending = after_window_update s.sending v.seq v.ack (window_from s.link v.window) in
@@ -62,7 +62,7 @@ news-keep s v =
     (λ _. kept s.sending)
 
 -- the own FIN's acknowledgement
-own_fin-keeps : (s : State) → KeepsText s.sending (after_own_fin s).sending
+pub own_fin-keeps : (s : State) → KeepsText s.sending (after_own_fin s).sending
 unfolding after_own_fin
 own_fin-keeps s =
     let goes_on : State = record s { phase = phase_after_own_fin s.phase } in

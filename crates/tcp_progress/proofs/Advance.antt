@@ -15,13 +15,13 @@ overlay-in_order [] stamp held fits = omega arith
 overlay-in_order (byte ∷ text) stamp [] fits = absurd (omega arith)
 overlay-in_order (byte ∷ text) stamp (place ∷ places) fits = omega (arith, overlay-in_order text stamp places (omega (arith, fits)))
 
-overlay-length : (start : ℕ) (text : List ℕ) (stamp : ℕ) (held : List (Option Cell)) → length (overlay start text stamp held) ≡ length held
+pub overlay-length : (start : ℕ) (text : List ℕ) (stamp : ℕ) (held : List (Option Cell)) → length (overlay start text stamp held) ≡ length held
 overlay-length start text stamp [] = refl
 overlay-length zero [] stamp (place ∷ places) = refl
 overlay-length zero (byte ∷ text) stamp (place ∷ places) = omega (arith, overlay-length zero text stamp places)
 overlay-length (suc start) text stamp (place ∷ places) = omega (arith, overlay-length start text stamp places)
 
-in_order-most : (held : List (Option Cell)) → length (bytes_in_order held) ≤ length held
+pub in_order-most : (held : List (Option Cell)) → length (bytes_in_order held) ≤ length held
 in_order-most [] = omega arith
 in_order-most (None ∷ places) = omega arith
 in_order-most (Some cell ∷ places) = omega (arith, in_order-most places)

@@ -1,6 +1,6 @@
 -- Who is spoken to answers: what is left to be sent again goes out, then an acknowledgement that is owed stands at SND.NXT.
 use Rattle.std.proofs.Common.{◌≡◌, ℕ, suc, ◌≤◌, List, refl, sym, ◌∙◌, ap, inl, inr, arith}
-use Rattle.std.specs.Prelude.{true, false, ◌&&◌, ◌==◌, Some, Ok}
+use Rattle.std.specs.Prelude.{true, false, ◌&&◌, ◌==◌, Some, None, Ok}
 use Rattle.std.proofs.lemmas.Bool.{cases_Bool, cases_lt, true≢false}
 use Rattle.tcp_wire.specs.Decoded.{decode_answer}
 use Rattle.tcp_wire.specs.Wire.{Content}
@@ -20,14 +20,13 @@ use Rattle.tcp_conn.specs.State.{State, with_ack_owed}
 use Rattle.tcp_conn.specs.Timers.{after_retransmit}
 use Rattle.tcp_conn.specs.Writing.{bytes_of, destination_of}
 use Rattle.tcp_numbers.specs.Position.{number}
-use Rattle.tcp_progress.specs.Progress.{is_synchronized}
 use Rattle.tcp_progress.specs.Resent.{KeepsFlight, MaySend, after_emissions}
 use Rattle.tcp_progress.specs.Answered.{Answers, IsUnacceptable, MayAnswer, SpokenToAnswers, StandsAtNext}
 use Rattle.tcp_progress.proofs.Again.{kept, no-syn, timeout-keeps, timeout-resends}
 use Rattle.tcp_progress.proofs.Covering.{plain}
 use Rattle.tcp_progress.proofs.Exhausted.{Exhausts, IsRested, at-rest, exhausts}
 use Rattle.tcp_progress.proofs.New.{no-resend, nothing-resent}
-use Rattle.tcp_progress.proofs.Judged.{is-synchronized}
+use Rattle.tcp_progress.proofs.Judged.{IsPresent, is-synchronized}
 
 standing : (s : State) (due : Due) → due_of s ≡ Some due → segment_of s due ≡ plain_segment s due → destination_of s due ≡ s.peer
     → start_of s.sending due ≡ s.sending.nxt → StandsAtNext s
@@ -35,7 +34,11 @@ unfolding emitted_bytes bytes_of
 standing s due e form to starts =
     let p = plain (pushes s.sending due) (is_fin due) in
     record {
+      due = due;
+      is_due = e;
       segment = plain_segment s due;
+      form = sym form;
+      starts = starts;
       emitted = rw e (rw (form, to) refl);
       seq = ap (λ n. number s.config.isn.0 n) starts;
       no_rst = p.no_rst;
@@ -45,9 +48,9 @@ standing s due e form to starts =
     }
 
 -- what is owed goes out at SND.NXT, by itself or with text or FIN
-quiet-stands : (s : State) → IsRested s → s.owed.ack ≡ true → sends_text s.phase ≡ false → StandsAtNext s
+pub quiet-stands : (s : State) → s.owed.reset ≡ None → s.owed.syn ≡ false → s.owed.ack ≡ true → sends_text s.phase ≡ false → StandsAtNext s
 unfolding due_of segment_of
-quiet-stands s rested owed quiet = standing s Acknowledgement (rw (rested.reset, rested.syn, quiet, owed) refl) refl refl refl
+quiet-stands s reset syn owed quiet = standing s Acknowledgement (rw (reset, syn, quiet, owed) refl) refl refl refl
 
 text-stands : (s : State) → IsRested s → sends_text s.phase ≡ true → (new_count s.sending (text_limit s) s.owed.probe == 0) ≡ false → StandsAtNext s
 unfolding due_of new_text_of segment_of
@@ -66,10 +69,10 @@ unfolding due_of new_text_of segment_of
 ack-stands s rested owed sends no_text no_turn =
     standing s Acknowledgement (rw (rested.reset, rested.syn, sends, rested.none sends, no_text, no_turn, owed) refl) refl refl refl
 
-stands : (s : State) → IsRested s → s.owed.ack ≡ true → StandsAtNext s
+pub stands : (s : State) → IsRested s → s.owed.ack ≡ true → StandsAtNext s
 stands s rested owed =
     elim (cases_Bool (sends_text s.phase)) [
-      | inr quiet ↦ quiet-stands s rested owed quiet
+      | inr quiet ↦ quiet-stands s rested.reset rested.syn owed quiet
       | inl sends ↦
           elim (cases_Bool (new_count s.sending (text_limit s) s.owed.probe == 0)) [
             | inr some ↦ text-stands s rested sends some
@@ -82,17 +85,16 @@ stands s rested owed =
     ]
 
 -- what isn't acceptable makes one owed
-judged : (s : State) (src dst : List ℕ) (v : Content) → is_synchronized s.phase ≡ true → IsUnacceptable s src dst v → judgement s src dst v ≡ Unacceptable
+pub judged-old : (s : State) (src dst : List ℕ) (v : Content) → IsPresent s.phase → IsUnacceptable s src dst v → judgement s src dst v ≡ Unacceptable
 unfolding judgement phase_judgement present_judgement unacceptable_judgement
-judged s src dst v phase old =
-    let here = is-synchronized s.phase phase in
+judged-old s src dst v here old =
     rw (old.mine, here.shut, here.listening, here.syn_sent, old.outside, old.no_rst, old.untaken) refl
 
 answered : (s : State) → IsRested s → (src dst bytes : List ℕ) (v : Content) → decode_answer src dst bytes ≡ Ok v → IsUnacceptable s src dst v
     → (arrival_answer s src dst bytes ≡ Dropped) × StandsAtNext (after_arrival s src dst bytes)
 unfolding arrival_answer after_arrival
 answered s rested src dst bytes v decoded old =
-    rw (decoded, judged s src dst v rested.phase old)
+    rw (decoded, judged-old s src dst v (is-synchronized s.phase rested.phase) old)
     (refl, stands (with_ack_owed s) (record { phase = rested.phase; reset = rested.reset; syn = rested.syn; none = rested.none }) refl)
 
 -- THE TIMEOUT
@@ -121,15 +123,21 @@ idle-rests s may sends idle =
 idle-keeps : (s : State) → MaySend s → s.sending.nxt ≤ s.sending.una → KeepsFlight s.sending (after_retransmit s).sending
 idle-keeps s sends idle = rw (nothing-resent s sends idle) (kept s.sending)
 
-pub answer_lem : SpokenToAnswers
-answer_lem s may =
+-- after it, what is left to be sent again comes to an end
+pub timeout-exhausts : (s : State) → MayAnswer s → KeepsFlight s.sending (after_retransmit s).sending × Exhausts (after_retransmit s)
+timeout-exhausts s may =
     let t = after_retransmit s in
     elim (cases_Bool (sends_text s.phase)) [
-      | inr quiet ↦ (quiet-keeps s quiet, answering t (at-rest t (quiet-rests s may quiet)))
+      | inr quiet ↦ (quiet-keeps s quiet, at-rest t (quiet-rests s may quiet))
       | inl phase ↦
           let sends : MaySend s = record { phase = phase; reset = may.reset; syn = may.syn; limit = may.limit } in
           elim (cases_lt s.sending.una s.sending.nxt) [
-            | inl flight ↦ (timeout-keeps s sends flight, answering t (exhausts (suc t.sending.nxt) t s.sending.una (timeout-resends s sends flight) (omega arith)))
-            | inr idle ↦ (idle-keeps s sends idle, answering t (at-rest t (idle-rests s may sends idle)))
+            | inl flight ↦ (timeout-keeps s sends flight, exhausts (suc t.sending.nxt) t s.sending.una (timeout-resends s sends flight) (omega arith))
+            | inr idle ↦ (idle-keeps s sends idle, at-rest t (idle-rests s may sends idle))
           ]
     ]
+
+pub answer_lem : SpokenToAnswers
+answer_lem s may =
+    let rests = timeout-exhausts s may in
+    (rests.0, answering (after_retransmit s) rests.1)

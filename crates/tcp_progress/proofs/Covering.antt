@@ -50,8 +50,12 @@ covering s due start count last position stands begins ends =
     let long : length v.text ≡ count = length-take (count_of due) _ ∙ omega (arith, length-drop (place_of s.sending (start_of s.sending due)) s.sending.queue.bytes, ap (place_of s.sending) stands.starts, stands.inside, stands.counts) in
     let numbers : count_numbers v ≡ count + (if last then 1 else 0) = rw (p.no_syn, p.has_fin, stands.fins) (omega (arith, long)) in
     record {
+      due = due;
+      is_due = stands.is_due;
       segment = v;
+      form = sym stands.form;
       start = start;
+      starts = stands.starts;
       emitted = rw stands.is_due (rw (stands.form, stands.to) refl);
       seq = ap (λ n. number s.config.isn.0 n) stands.starts;
       begins = begins;

@@ -62,7 +62,7 @@ judged-ack s v good refused plain =
           rw (opened, sent) refl
     ]
 
-judged-acceptable : (s : State) (src dst : List ℕ) (v : Content) → is_foreign s src dst v ≡ false → IsPresent s.phase → IsPlainAck s v → is_acceptable_segment s v ≡ true
+pub judged-acceptable : (s : State) (src dst : List ℕ) (v : Content) → is_foreign s src dst v ≡ false → IsPresent s.phase → IsPlainAck s v → is_acceptable_segment s v ≡ true
     → judgement s src dst v ≡ Taken
 unfolding judgement phase_judgement present_judgement acceptable_judgement
 judged-acceptable s src dst v mine here plain fits =

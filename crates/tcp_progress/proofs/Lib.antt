@@ -5,7 +5,7 @@ pub mod Brought
 mod Covering
 pub mod Again
 pub mod New
-mod Exhausted
+pub mod Exhausted
 pub mod Answer
 pub mod Taken
 pub mod Acked
@@ -13,4 +13,32 @@ pub mod Told
 pub mod Reached
 pub mod Reaching
 pub mod OnlySent
+pub mod Shifts
+pub mod Rooms
+pub mod ToldWindows
+pub mod Edging
+pub mod EdgeCalls
+pub mod EdgeArrivals
+pub mod EdgeWorlds
+pub mod Table
+pub mod TableCalls
+pub mod TableArrivals
+pub mod TableWorlds
 mod Examples
+pub mod Ways
+pub mod Measure
+pub mod Still
+pub mod Ready
+pub mod Forward
+pub mod Resting
+pub mod Back
+pub mod Turns
+pub mod AlwaysSteady
+pub mod Streams
+pub mod NotStuck
+pub mod Emitted
+pub mod Arriving
+pub mod Delivered
+pub mod DeliveredNext
+pub mod Ended
+pub mod Waking

@@ -49,7 +49,7 @@ pub record KeepBothSent (x y : PartyState) : Type 0 where
   pub there : KeepsSent x y
   pub back : KeepsSent y x
 
-sent-swapped : (p q : PartyState) → KeepBothSent p q → KeepBothSent q p
+pub sent-swapped : (p q : PartyState) → KeepBothSent p q → KeepBothSent q p
 sent-swapped p q h = record { there = h.back; back = h.there }
 
 -- what p emitted at an event, where it emitted something
@@ -99,11 +99,11 @@ plain-ends p q due n said h fits =
     let count : length (text_of d due) ≤ count_of due = omega (arith, ap length plain.text, length-take (count_of due) (drop (start - 1) p.accepted)) in
     omega (arith, at, no_syn, last, count, fits)
 
-abbrev DueEnds : PartyState → Due → Type 0
+abbrev pub DueEnds : PartyState → Due → Type 0
 DueEnds p due = has rst (segment_of p.endpoint due).flags ≡ false
     → position_of p.endpoint.config.isn.0 p.endpoint.sending.una (segment_of p.endpoint due).seq + count_numbers (segment_of p.endpoint due) ≤ (after_due p.endpoint (Some due)).sending.nxt
 
-due-ends : (p q : PartyState) (due : Due) → IsSoundPair p q → GoesOutAlone p.endpoint p.accepted p.closed due → DueEnds p due
+pub due-ends : (p q : PartyState) (due : Due) → IsSoundPair p q → GoesOutAlone p.endpoint p.accepted p.closed due → DueEnds p due
 unfolding segment_of
 due-ends p q (Reset reset) h out plain = absurd (false≢true (sym plain ∙ reset-bit _))
 due-ends p q Syn h out plain =
@@ -121,10 +121,10 @@ due-ends p q (Fin start) h out plain = plain-ends p q (Fin start) _ out.kind h (
 due-ends p q (ResentFin start) h out plain = plain-ends p q (ResentFin start) _ out.kind h (omega arith)
 due-ends p q Acknowledgement h out plain = plain-ends p q Acknowledgement _ out.kind h (omega arith)
 
-some-is : {x y : SentSegment} → Some x ≡ Some y → x ≡ y
+pub some-is : {x y : SentSegment} → Some x ≡ Some y → x ≡ y
 some-is e = cc
 
-same-content : (v v' : Content) (r : Result Content DecodeError) → r ≡ Ok v → r ≡ Ok v' → v ≡ v'
+pub same-content : (v v' : Content) (r : Result Content DecodeError) → r ≡ Ok v → r ≡ Ok v' → v ≡ v'
 same-content v v' r e e' = cc
 
 due-adds : (p q : PartyState) (due : Option Due) → IfSome due (GoesOut p q) → IfSome due (GoesOutAlone p.endpoint p.accepted p.closed) → IsSoundPair p q → (g : SentSegment) (v : Content)
@@ -184,7 +184,7 @@ sent-damaged : (p q : PartyState) (life k place value : ℕ) → value < 256 →
 sent-damaged p q life k place value fits e pair h = subst (λ (p' : PartyState). KeepBothSent p' q) (sym (finds-damage p q life k place value fits e pair).same) h
 
 -- ---- in the world
-sent-effect : (life : ℕ) (p q : PartyState) (event : EventContent) → life ≤ max_life → HasBytes event → (effect_of life p q event).refusal ≡ None → IsSoundPair p q → KeepBothSent p q
+pub sent-effect : (life : ℕ) (p q : PartyState) (event : EventContent) → life ≤ max_life → HasBytes event → (effect_of life p q event).refusal ≡ None → IsSoundPair p q → KeepBothSent p q
     → KeepBothSent (effect_of life p q event).here (effect_of life p q event).there
 unfolding effect_of party_after_connect party_after_listen party_after_send party_after_receive party_after_close party_after_abort party_after_acknowledge party_after_timer
 sent-effect life p q (Connect side) most fits e pair h = sent-quiet p _ q refl (reaches-connected p q pair) h
@@ -215,7 +215,7 @@ record IsSoundAndSent (w : WorldState) : Type 0 where
 sent-after : (w : WorldState) (event : EventContent) → HasBytes event → refusal_of w event ≡ None → IsSoundAndSent w → IsSoundAndSent (world_with_effect w event)
 sent-after w event fits e h = record { sound = sound-after w event fits e h.sound; sent = sent-from w (side_of event) event h.sound.life fits e h.sound.ends h.sent }
 
-new-sent : (a b : Config) → KeepsSent (new_party a) (new_party b)
+pub new-sent : (a b : Config) → KeepsSent (new_party a) (new_party b)
 new-sent a b = record { taken = record { next = λ never. absurd (cc); held = held-none (Below 1 0) 0 a.recv_capacity }; emitted = λ k g v never. absurd (cc) }
 
 -- each held byte, by its place
@@ -226,7 +226,7 @@ held-below from n start (Some first ∷ held) zero cell h is = omega (arith, h.0
 held-below from n start (None ∷ held) (suc place) cell h is = omega (arith, held-below from n (suc start) held place cell h is)
 held-below from n start (Some first ∷ held) (suc place) cell h is = omega (arith, held-below from n (suc start) held place cell h.1 is)
 
-takes-only_sent : (x y : PartyState) → KeepBothSent x y → TakesOnlySent x y
+pub takes-only_sent : (x y : PartyState) → KeepBothSent x y → TakesOnlySent x y
 takes-only_sent x y h = record {
   taken = h.back.taken.next;
   held = λ place cell is. omega (arith, held-below (1 + y.endpoint.receiving.ordered) x.endpoint.sending.nxt 0 y.endpoint.receiving.inbox.held place cell h.back.taken.held is);

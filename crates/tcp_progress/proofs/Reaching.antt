@@ -121,7 +121,7 @@ acked-nxt : (d : Sending) (a : ℕ) → (after_ack d a).nxt ≡ d.nxt
 unfolding after_ack
 acked-nxt d a = cond_both (acks_more d a) (with_acked d a) d (λ (x : Sending). x.nxt ≡ d.nxt) (λ _. refl) (λ _. refl)
 
-own_syn-nxt : (s : State) (v : Content) → (after_own_syn s v).sending.nxt ≡ s.sending.nxt
+pub own_syn-nxt : (s : State) (v : Content) → (after_own_syn s v).sending.nxt ≡ s.sending.nxt
 unfolding after_own_syn
 own_syn-nxt s v =
     cond_both (is_syn_received s.phase) (with_window (with_syn_acked s.sending) v.seq v.ack (window_from s.link v.window)) s.sending (λ (x : Sending). x.nxt ≡ s.sending.nxt) (λ _. refl) (λ _. refl)
@@ -137,7 +137,7 @@ own_fin-nxt s =
     cond_both (is_fin_acked s.sending) (if is_last_ack s.phase then after_orderly_end s else record s { phase = phase_after_own_fin s.phase }) s P
     (λ _. cond_both (is_last_ack s.phase) (after_orderly_end s) (record s { phase = phase_after_own_fin s.phase }) P (λ _. refl) (λ _. refl)) (λ _. refl)
 
-its_ack-config : (s : State) (v : Content) → (after_its_ack s v).config ≡ s.config
+pub its_ack-config : (s : State) (v : Content) → (after_its_ack s v).config ≡ s.config
 unfolding after_its_ack after_own_syn after_acked_text after_news after_own_fin
 its_ack-config s v =
     let x = after_news (after_acked_text (after_own_syn s v) v) v in

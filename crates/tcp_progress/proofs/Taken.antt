@@ -124,18 +124,26 @@ text_fin-taken s v takes plain fits =
       | inr open_still ↦ record { brings = brings-text s v takes plain open_still fits; owes = owes-text s v takes plain open_still fits }
     ]
 
-taking : (s : State) (src dst : List ℕ) (v : Content) → AlwaysHolds s → IsNext s src dst v → Taken s.receiving (after_taking s v) (ends_at s v)
+-- all that is asked of the half that receives: RCV.NXT is a number, and the window has a place for each byte that is held
+pub record IsReady (r : Receiving) : Type 0 where
+  pub next : r.next < 2 ^ 32
+  pub ordered : r.ordered ≤ max_ordered
+  pub whole : length r.inbox.held ≡ window r.inbox
+
+taking : (s : State) (src dst : List ℕ) (v : Content) → IsReady s.receiving → IsNext s src dst v → Taken s.receiving (after_taking s v) (ends_at s v)
 unfolding after_taking text_fin
 taking s src dst v sound next =
     let still = its_ack-takes s v next.phase in
-    let whole : length s.receiving.inbox.held ≡ window s.receiving.inbox = omega (arith, sound.inbox.whole) in
-    let fits : Fits s.receiving v = record { next = sound.next; ordered = sound.ordered; whole = whole; begins = next.begins; ends = next.ends; within = next.within } in
+    let fits : Fits s.receiving v = record { next = sound.next; ordered = sound.ordered; whole = sound.whole; begins = next.begins; ends = next.ends; within = next.within } in
     let after = after_its_ack s v in
     let taken = text_fin-taken after v still.phase next.plain.no_syn (subst (λ r. Fits r v) (sym still.receiving) fits) in
     subst (λ (r : Receiving). Taken r (text_fin after v) (offset r.next v.seq +ℤ pos (count_numbers v))) still.receiving taken
 
-pub next_lem : (s : State) → AlwaysHolds s → TakesWhatIsNext s
+pub ready-takes : (s : State) → IsReady s.receiving → TakesWhatIsNext s
 unfolding arrival_answer after_arrival
-next_lem s sound src dst bytes v decoded next =
+ready-takes s sound src dst bytes v decoded next =
     let taken = taking s src dst v sound next in
     rw (decoded, judged-next s src dst v next) (refl, taken.brings, taken.owes)
+
+pub next_lem : (s : State) → AlwaysHolds s → TakesWhatIsNext s
+next_lem s sound = ready-takes s (record { next = sound.next; ordered = sound.ordered; whole = omega (arith, sound.inbox.whole) })

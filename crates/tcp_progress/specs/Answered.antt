@@ -9,7 +9,9 @@ use Rattle.tcp_halves.specs.declared.outcome.Arrival.TheVariants.{Dropped}
 use Rattle.tcp_halves.specs.declared.phase.Timer.TheVariants.{Retransmit}
 use Rattle.tcp_conn.specs.State.{State}
 use Rattle.tcp_conn.specs.Arrival.{after_arrival, arrival_answer}
-use Rattle.tcp_conn.specs.Due.{text_limit}
+use Rattle.tcp_halves.specs.declared.due.Due.{Due}
+use Rattle.tcp_conn.specs.Due.{due_of, start_of, text_limit}
+use Rattle.tcp_conn.specs.Forms.{segment_of}
 use Rattle.tcp_conn.specs.Emission.{emitted_bytes}
 use Rattle.tcp_conn.specs.Judgement.{is_acceptable_segment, is_allowed_shut, is_foreign}
 use Rattle.tcp_conn.specs.Timers.{after_timer}
@@ -34,8 +36,12 @@ pub record IsUnacceptable (s : State) (src dst : List ℕ) (v : Content) : Type 
 
 -- what goes out next STANDS AT SND.NXT, and is a plain acknowledgement of RCV.NXT
 pub record StandsAtNext (s : State) : Type 0 where
+  pub due : Due
+  pub is_due : due_of s ≡ Some due
   pub segment : Content
+  pub form : segment ≡ segment_of s due
   pub emitted : emitted_bytes s ≡ Some (encoded_bytes s.config.addr.0 s.peer.addr.0 segment)
+  pub starts : start_of s.sending due ≡ s.sending.nxt
   pub seq : segment.seq ≡ number s.config.isn.0 s.sending.nxt
   pub no_rst : has rst segment.flags ≡ false
   pub no_syn : has syn segment.flags ≡ false

@@ -8,7 +8,9 @@ use Rattle.tcp_halves.specs.declared.phase.Timer.TheVariants.{Retransmit}
 use Rattle.tcp_halves.specs.Phase.{sends_text}
 use Rattle.tcp_halves.specs.Sender.{Sending, count_unsent, end_of_text, place_of}
 use Rattle.tcp_conn.specs.State.{State}
-use Rattle.tcp_conn.specs.Due.{text_limit}
+use Rattle.tcp_halves.specs.declared.due.Due.{Due}
+use Rattle.tcp_conn.specs.Due.{due_of, start_of, text_limit}
+use Rattle.tcp_conn.specs.Forms.{segment_of}
 use Rattle.tcp_conn.specs.Emission.{after_emission, emitted_bytes}
 use Rattle.tcp_conn.specs.Judgement.{count_numbers}
 use Rattle.tcp_conn.specs.Timers.{after_timer}
@@ -36,9 +38,13 @@ pub record IsInFlight (s : Sending) (position : ℕ) : Type 0 where
 -- what goes out next COVERS a position: it begins at or before it, ends behind it (RFC 9293, 3.4), has the text of the queue, and
 -- is a plain acknowledgement of RCV.NXT
 pub record CoversNext (s : State) (position : ℕ) : Type 0 where
+  pub due : Due
+  pub is_due : due_of s ≡ Some due
   pub segment : Content
+  pub form : segment ≡ segment_of s due
   pub start : ℕ
   pub emitted : emitted_bytes s ≡ Some (encoded_bytes s.config.addr.0 s.peer.addr.0 segment)
+  pub starts : start_of s.sending due ≡ start
   pub seq : segment.seq ≡ number s.config.isn.0 start
   pub begins : start ≤ position
   pub ends : position < start + count_numbers segment

@@ -35,11 +35,11 @@ pub unless-kept : (P : State → Type 0) (o : Option CallError) (s s' : State) �
 unless-kept P None s s' same next = next refl
 unless-kept P (Some error) s s' same next = same
 
-option_or-none : (o o' : Option CallError) → option_or o o' ≡ None → (o ≡ None) × (o' ≡ None)
+pub option_or-none : (o o' : Option CallError) → option_or o o' ≡ None → (o ≡ None) × (o' ≡ None)
 option_or-none None o' e = (refl, e)
 option_or-none (Some error) o' e = absurd (cc)
 
-refusal_if-none : (b : Bool) (error : CallError) → refusal_if b error ≡ None → b ≡ false
+pub refusal_if-none : (b : Bool) (error : CallError) → refusal_if b error ≡ None → b ≡ false
 refusal_if-none true error e = absurd (cc)
 refusal_if-none false error e = refl
 

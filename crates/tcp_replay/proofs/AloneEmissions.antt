@@ -98,7 +98,7 @@ alone-after s accepted closed due h progress most range syn ack reset =
 same-range : (d : Sending) (accepted : List ℕ) (closed gone : Bool) (n : ℕ) → Sends d accepted closed gone → IfSome d.resend (λ r. r.end ≤ max (max d.nxt n) (1 + length accepted))
 same-range d accepted closed gone n h = range-more (max d.nxt (1 + length accepted)) (max (max d.nxt n) (1 + length accepted)) d.resend (omega arith) h.range
 
-range_after-ends : (m start : ℕ) (range : Option (Range ℕ)) → IfSome range (λ r. r.end ≤ m) → IfSome (range_after start range) (λ r. r.end ≤ m)
+pub range_after-ends : (m start : ℕ) (range : Option (Range ℕ)) → IfSome range (λ r. r.end ≤ m) → IfSome (range_after start range) (λ r. r.end ≤ m)
 range_after-ends m start None h = tt
 range_after-ends m start (Some range) h = h
 
@@ -200,7 +200,7 @@ fin-plain d accepted closed gone due start place none empty is h = record {
   last = λ _. (is.is_closed, place ∙ is.place, none);
 }
 
-going-on : (s : State) (accepted : List ℕ) (closed : Bool) → sends_text s.phase ≡ true → IsAlone s accepted closed → (1 ≤ s.sending.una) × (gives_up s.ending ≡ false)
+pub going-on : (s : State) (accepted : List ℕ) (closed : Bool) → sends_text s.phase ≡ true → IsAlone s accepted closed → (1 ≤ s.sending.una) × (gives_up s.ending ≡ false)
 going-on s accepted closed e h =
     let at = at-synchronized s.phase s.ending s.sending.una s.sending.nxt s.receiving.opened s.receiving.finished (sends_text-synchronized s.phase e) h.progress in
     (at.1.least, gives_up-not_ended s.ending at.0)

@@ -1,7 +1,7 @@
 -- What is known of a segment and the end where each judgement is passed: the tests are gone through once.
 use Rattle.std.proofs.Common.{◌≡◌, ℕ, List}
 use Rattle.std.specs.Prelude.{true, false, not, ◌&&◌, ◌==◌, if◌then◌else◌}
-use Rattle.std.proofs.lemmas.Bool.{cond_both, and_parts, not-false}
+use Rattle.std.proofs.lemmas.Bool.{cond_both, and_parts, not-false, not-true}
 use Rattle.tcp_wire.specs.Flags.{syn, rst, ack, has}
 use Rattle.tcp_wire.specs.Wire.{Content}
 use Rattle.tcp_reasm.specs.Reassembly.{window}
@@ -18,13 +18,14 @@ pub record IsPresent (s : State) : Type 0 where
   pub listening : is_listening s.phase ≡ false
   pub syn_sent : is_syn_sent s.phase ≡ false
 
--- a SYN without RST, and an acknowledgement without
+-- a SYN without RST, and an acknowledgement without either
 pub record IsSyn (v : Content) : Type 0 where
   pub plain : has rst v.flags ≡ false
   pub is_syn : has syn v.flags ≡ true
 
 pub record IsAckOnly (v : Content) : Type 0 where
   pub plain : has rst v.flags ≡ false
+  pub no_syn : has syn v.flags ≡ false
   pub is_ack : has ack v.flags ≡ true
 
 -- one that is taken whole is acceptable too
@@ -93,7 +94,7 @@ module _ (s : State) (v : Content) (P : Judgement → Type 0) (c : Cases s v P) 
       (λ plain. cond_both (is_allowed_shut s v) allowed Unacceptable P
       (λ e.
       let told = and_parts (has ack v.flags) (not (has syn v.flags)) (and_parts (window s.receiving.inbox == 0) (has ack v.flags && not (has syn v.flags)) e).1 in
-      by-ack TakenShut HandshakeRefusedShut present (c.taken_shut present (record { plain = plain; is_ack = told.0 })) (c.handshake_refused_shut present))
+      by-ack TakenShut HandshakeRefusedShut present (c.taken_shut present (record { plain = plain; no_syn = not-true (has syn v.flags) told.1; is_ack = told.0 })) (c.handshake_refused_shut present))
       (λ _. c.unacceptable present))
 
   in-acceptable : IsPresent s → is_acceptable_segment s v ≡ true → P (acceptable_judgement s v)
@@ -104,8 +105,8 @@ module _ (s : State) (v : Content) (P : Judgement → Type 0) (c : Cases s v P) 
       cond_both (has rst v.flags) resets (if has syn v.flags then SynInWindow else (if not (has ack v.flags) then NoAck else acks)) P
       (λ _. cond_both (v.seq == s.receiving.next) PeerResets ResetElsewhere P (λ _. c.peer_resets) (λ _. c.reset_elsewhere present))
       (λ plain. cond_both (has syn v.flags) SynInWindow (if not (has ack v.flags) then NoAck else acks) P (λ _. c.syn_in_window present)
-      (λ _. cond_both (not (has ack v.flags)) NoAck acks P (λ _. c.no_ack)
-      (λ told. by-ack Taken HandshakeRefused present (c.taken present (record { ack_only = record { plain = plain; is_ack = not-false (has ack v.flags) told }; acceptable = fits })) c.handshake_refused)))
+      (λ bare. cond_both (not (has ack v.flags)) NoAck acks P (λ _. c.no_ack)
+      (λ told. by-ack Taken HandshakeRefused present (c.taken present (record { ack_only = record { plain = plain; no_syn = bare; is_ack = not-false (has ack v.flags) told }; acceptable = fits })) c.handshake_refused)))
 
   in-present : IsPresent s → P (present_judgement s v)
   unfolding present_judgement

@@ -1,0 +1,185 @@
+-- What the half that sends keeps of its edge: at each rule of the calls, the timers and what goes out.
+use Rattle.std.proofs.Common.{◌≡◌, ℕ, ◌+◌, ◌-◌, ◌≤◌, ◌<◌, List, length, ⊎_elim, arith}
+use Rattle.std.specs.Prelude.{min, max, Bool, true, false, ◌&&◌, ◌||◌, ◌==◌, nat_lt, nat_le, if◌then◌else◌, Option, Some, None, IfSome}
+use Rattle.std.specs.Option.{option_or}
+use Rattle.std.proofs.lemmas.Bool.{cond_both, ltb-true, eqb-true, and_parts, or_cases}
+use Rattle.std.proofs.lemmas.Option.{slice_get_within}
+use Rattle.std.specs.declared.ops.Range.{Range}
+use Rattle.tcp_sendq.specs.SendQueue.{IsMarked, after_release, next_unmarked, end_of_marks, last_mark_end}
+use Rattle.tcp_sendq.proofs.Places.{end_of_marks-marked, IsMarked-without_marks, IsMarked-after_release, IsMarked-after_offer}
+use Rattle.tcp_halves.specs.declared.due.Due.{Due}
+use Rattle.tcp_halves.specs.declared.due.Due.TheVariants.{Resend, NewText, Fin, ResentFin}
+use Rattle.tcp_halves.specs.declared.link.Owed.{Owed}
+use Rattle.tcp_conn.specs.State.{Sending, place_of, position_at, end_of_text}
+use Rattle.tcp_conn.specs.Sender.{count_unsent, with_syn_sent, with_text, with_all_resent, without_resend, without_text}
+use Rattle.tcp_conn.specs.Due.{resend_start, resent_text, resent_fin, resent_run, resend_of, usable_window, count_allowed, new_count, new_text_of, fin_of, sending_due}
+use Rattle.tcp_conn.specs.Emission.{range_after, sending_after, owed_after}
+use Rattle.tcp_conn.specs.Timers.{after_gaps}
+use Rattle.tcp_replay.proofs.Halves.{range-more}
+use Rattle.tcp_replay.proofs.Dues.{option_or-both}
+use Rattle.tcp_replay.proofs.AloneEmissions.{range_after-ends}
+use Rattle.tcp_progress.specs.Edge.{KeepsEdge}
+
+-- the peer wants a later position, and more may have been accepted of what wasn't sent
+pub edge-more : (d : Sending) (probe : Bool) (count count' next next' capacity : ℕ) → min d.nxt (1 + count') ≤ min d.nxt (1 + count) → next ≤ next' → KeepsEdge d probe count next capacity
+    → KeepsEdge d probe count' next' capacity
+edge-more d probe count count' next next' capacity same more h = record {
+  sent = omega (arith, same, more, h.sent);
+  window = h.window;
+  probed = λ e. let at = h.probed e in (at.0, omega (arith, same, at.1));
+  range = h.range;
+  marks = h.marks;
+}
+
+module _ (count next capacity : ℕ) where
+  -- the half keeps its edge
+  abbrev pub Edge : Sending → Bool → Type 0
+  Edge d probe = KeepsEdge d probe count next capacity
+
+  -- nothing is owed any more
+  edge-unprobed : (d : Sending) (probe : Bool) → Edge d probe → Edge d false
+  edge-unprobed d probe h = record { sent = h.sent; window = h.window; probed = λ never. absurd (cc); range = h.range; marks = h.marks }
+
+  -- the SYN is sent
+  pub edge-syn_sent : (d : Sending) (probe : Bool) → d.nxt ≡ 0 → d.una ≤ d.nxt → 1 ≤ next → Edge d probe → Edge (with_syn_sent d) probe
+  edge-syn_sent d probe new order some h = record {
+    sent = omega (arith, some);
+    window = h.window;
+    probed = λ e. absurd (omega (arith, new, order, (h.probed e).0));
+    range = range-more d.nxt 1 d.resend (omega (arith, new)) h.range;
+    marks = λ place is. omega (arith, new, h.marks place is);
+  }
+
+  -- text is accepted
+  pub edge-text : (d : Sending) (probe : Bool) (limit : ℕ) (text : List ℕ) → Edge d probe → Edge (with_text d limit text) probe
+  edge-text d probe limit text h = record { sent = h.sent; window = h.window; probed = h.probed; range = h.range; marks = λ place is. h.marks place (IsMarked-after_offer d.queue _ place is) }
+
+  -- the connection has ended
+  pub edge-orderly : (d : Sending) (probe : Bool) → Edge d probe → Edge (without_resend d) false
+  edge-orderly d probe h = record { sent = h.sent; window = h.window; probed = λ never. absurd (cc); range = tt; marks = h.marks }
+
+  none-marked : (d : Sending) (place : ℕ) → length d.queue.marks ≡ length d.queue.bytes → IsMarked (after_release d.queue (length d.queue.bytes)) place → ⊥
+  none-marked d place flags is =
+      let inside : length d.queue.bytes + place < length d.queue.marks = slice_get_within d.queue.marks (length d.queue.bytes + place) true (IsMarked-after_release d.queue (length d.queue.bytes) place is) in
+      omega (arith, flags)
+
+  pub edge-given_up : (d : Sending) (probe : Bool) → length d.queue.marks ≡ length d.queue.bytes → Edge d probe → Edge (without_text d) false
+  edge-given_up d probe flags h = record { sent = h.sent; window = h.window; probed = λ never. absurd (cc); range = tt; marks = λ place is. absurd (none-marked d place flags is) }
+
+  -- RETRANSMISSION TIMEOUT
+  pub edge-all_resent : (d : Sending) (probe : Bool) → Edge d probe → Edge (with_all_resent d) probe
+  edge-all_resent d probe h = record { sent = h.sent; window = h.window; probed = h.probed; range = omega arith; marks = λ place is. absurd (IsMarked-without_marks d.queue place is) }
+
+  -- a probe is granted where nothing is in flight
+  pub edge-probe : (d : Sending) (probe needs : Bool) → (needs ≡ true → (1 ≤ d.una) × (d.una ≡ d.nxt)) → Edge d probe → Edge d (probe || needs)
+  edge-probe d probe needs granted h = record {
+    sent = h.sent;
+    window = h.window;
+    probed = λ e. ⊎_elim h.probed (λ (now : needs ≡ true). let at = granted now in (at.0, omega (arith, at.1))) (or_cases probe needs e);
+    range = h.range;
+    marks = h.marks;
+  }
+
+  -- REORDERING TIMEOUT: the last mark is of a position that was sent
+  mark_end-sent : (d : Sending) (probe : Bool) (end : ℕ) → last_mark_end d.queue ≡ Some end → Edge d probe → position_at d end ≤ d.nxt
+  unfolding last_mark_end
+  mark_end-sent d probe end e h =
+      let last = end_of_marks d.queue.marks in
+      cond_both (nat_lt 0 last) (Some last) None (λ (o : Option ℕ). o ≡ Some end → position_at d end ≤ d.nxt)
+      (λ some e.
+      let same : last ≡ end = cc in
+      let least : 0 < last = ltb-true 0 last some in
+      let below : position_at d (last - 1) < d.nxt = h.marks (last - 1) (end_of_marks-marked d.queue.marks least) in
+      omega (arith, same, least, below))
+      (λ _ e. absurd (cc)) e
+
+  pub edge-gaps : (d : Sending) (probe : Bool) (end : Option ℕ) → last_mark_end d.queue ≡ end → Edge d probe → Edge (after_gaps d end) probe
+  edge-gaps d probe None e h = h
+  edge-gaps d probe (Some end) e h = record { sent = h.sent; window = h.window; probed = h.probed; range = mark_end-sent d probe end e h; marks = h.marks }
+
+  -- ---- WHAT GOES OUT. SND.NXT moves on
+  pub edge-moved : (d : Sending) (probe : Bool) (n : ℕ) → min (max d.nxt n) (1 + count) ≤ next + capacity → (probe ≡ true → min (max d.nxt n) (1 + count) ≤ d.una) → Edge d probe
+      → Edge (record d { nxt = max d.nxt n }) probe
+  edge-moved d probe n fits shut h = record {
+    sent = fits;
+    window = h.window;
+    probed = λ e. ((h.probed e).0, shut e);
+    range = range-more d.nxt (max d.nxt n) d.resend (omega arith) h.range;
+    marks = λ place is. omega (arith, h.marks place is);
+  }
+
+  -- what was sent before goes out again
+  edge-again : (d : Sending) (probe : Bool) (n : ℕ) → n ≤ d.nxt → Edge d probe → Edge (record d { nxt = max d.nxt n; resend = range_after n d.resend }) probe
+  edge-again d probe n before h = record {
+    sent = omega (arith, before, h.sent);
+    window = h.window;
+    probed = λ e. let at = h.probed e in (at.0, omega (arith, before, at.1));
+    range = range_after-ends (max d.nxt n) n d.resend (range-more d.nxt (max d.nxt n) d.resend (omega arith) h.range);
+    marks = λ place is. omega (arith, h.marks place is);
+  }
+
+  module _ (d : Sending) (opened : Bool) (owed : Owed) where
+    -- the half after something went out
+    abbrev pub EdgeAfter : Due → Type 0
+    EdgeAfter due = Edge (sending_after d due) (owed_after opened owed due).probe
+
+    text-again : (limit : ℕ) (range : Range ℕ) (run : ℕ × ℕ) → range.end ≤ d.nxt → Edge d owed.probe → IfSome (resent_text d limit range.end run) EdgeAfter
+    text-again limit range run inside h =
+        let count = min limit (min (run.1 - run.0) (range.end - position_at d run.0)) in
+        cond_both (nat_lt (position_at d run.0) range.end) (Some (Resend (position_at d run.0) count)) None (λ (due : Option Due). IfSome due EdgeAfter)
+        (λ e.
+        let below : position_at d run.0 < range.end = ltb-true (position_at d run.0) range.end e in
+        edge-again d owed.probe (position_at d run.0 + count) (omega (arith, below, inside)) h)
+        (λ _. tt)
+
+    fin-again : (range : Range ℕ) → range.end ≤ d.nxt → Edge d owed.probe → IfSome (resent_fin d range) EdgeAfter
+    fin-again range inside h =
+        cond_both (nat_lt (end_of_text d) range.end && nat_le (resend_start d range) (end_of_text d)) (Some (ResentFin (end_of_text d))) None (λ (due : Option Due). IfSome due EdgeAfter)
+        (λ e.
+        let beyond : end_of_text d < range.end = ltb-true (end_of_text d) range.end (and_parts (nat_lt (end_of_text d) range.end) (nat_le (resend_start d range) (end_of_text d)) e).0 in
+        edge-again d owed.probe (end_of_text d + 1) (omega (arith, beyond, inside)) h)
+        (λ _. tt)
+
+    run-again : (limit : ℕ) (range : Range ℕ) (run : Option (ℕ × ℕ)) → range.end ≤ d.nxt → Edge d owed.probe → IfSome (resent_run d limit range run) EdgeAfter
+    run-again limit range None inside h = fin-again range inside h
+    run-again limit range (Some run) inside h = text-again limit range run inside h
+
+    again : (limit : ℕ) (range : Option (Range ℕ)) → IfSome range (λ r. r.end ≤ d.nxt) → Edge d owed.probe → IfSome (resend_of d limit range) EdgeAfter
+    unfolding resend_of
+    again limit None inside h = tt
+    again limit (Some range) inside h = run-again limit range (next_unmarked d.queue (place_of d (resend_start d range))) inside h
+
+    -- NEW TEXT ends at SND.UNA + SND.WND at most, or is one byte at SND.UNA (RFC 9293, 3.8.6.1)
+    new-reaches : (k : ℕ) → k ≤ count_allowed d owed.probe → d.nxt + k ≤ max d.nxt (1 + count) → d.una ≤ next → 1 ≤ capacity → Edge d owed.probe → min (d.nxt + k) (1 + count) ≤ next + capacity
+    new-reaches k allowed inside had some h =
+        cond_both (usable_window d == 0) (if owed.probe then 1 else 0) (usable_window d) (λ (n : ℕ). k ≤ n → min (d.nxt + k) (1 + count) ≤ next + capacity)
+        (λ _. cond_both owed.probe 1 0 (λ (n : ℕ). k ≤ n → min (d.nxt + k) (1 + count) ≤ next + capacity)
+        (λ e least. omega (arith, least, (h.probed e).1, inside, had, some, h.sent)) (λ _ least. omega (arith, least, h.sent)))
+        (λ _ least. omega (arith, least, h.window, had, h.sent)) allowed
+
+    new : (limit : ℕ) → d.una ≤ d.nxt → 1 + d.released ≤ d.una → end_of_text d ≡ 1 + count → d.una ≤ next → 1 ≤ capacity → Edge d owed.probe → IfSome (new_text_of d limit owed.probe) EdgeAfter
+    unfolding new_text_of
+    new limit order released last had some h =
+        let k = new_count d limit owed.probe in
+        cond_both (k == 0) None (Some (NewText d.nxt k)) (λ (due : Option Due). IfSome due EdgeAfter) (λ _. tt)
+        (λ _.
+        let unsent : k ≤ count_unsent d = omega arith in
+        let allowed : k ≤ count_allowed d owed.probe = omega arith in
+        let fits : min (d.nxt + k) (1 + count) ≤ next + capacity = new-reaches k allowed (omega (arith, unsent, last, order, released)) had some h in
+        edge-moved d false (d.nxt + k) (omega (arith, fits)) (λ never. absurd (cc)) (edge-unprobed d owed.probe h))
+
+    -- FIN, whatever the window
+    last : (closing : Bool) → end_of_text d ≡ 1 + count → Edge d owed.probe → IfSome (fin_of d closing) EdgeAfter
+    last closing end_is h =
+        cond_both (closing && (d.nxt == end_of_text d)) (Some (Fin d.nxt)) None (λ (due : Option Due). IfSome due EdgeAfter)
+        (λ e.
+        let here : d.nxt ≡ end_of_text d = eqb-true d.nxt (end_of_text d) (and_parts closing (d.nxt == end_of_text d) e).1 in
+        edge-moved d owed.probe (d.nxt + 1) (omega (arith, here, end_is, h.sent)) (λ e. omega (arith, here, end_is, (h.probed e).1)) h)
+        (λ _. tt)
+
+    -- the first that is due
+    pub edge-due : (limit : ℕ) (closing : Bool) → d.una ≤ d.nxt → 1 + d.released ≤ d.una → end_of_text d ≡ 1 + count → d.una ≤ next → 1 ≤ capacity → Edge d owed.probe
+        → IfSome (sending_due d limit owed.probe closing) EdgeAfter
+    edge-due limit closing order released end_is had some h =
+        option_or-both EdgeAfter (resend_of d limit d.resend) (option_or (new_text_of d limit owed.probe) (fin_of d closing)) (again limit d.resend h.range h)
+        (option_or-both EdgeAfter (new_text_of d limit owed.probe) (fin_of d closing) (new limit order released end_is had some h) (last closing end_is h))

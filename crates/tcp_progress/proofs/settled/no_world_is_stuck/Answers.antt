@@ -1,0 +1,5 @@
+use Rattle.tcp_progress.proofs.NotStuck.{not_stuck_lem}
+use Rattle.tcp_progress.proofs.settled.no_world_is_stuck.Goals as goal
+
+pub returns : goal.returns
+returns c = not_stuck_lem

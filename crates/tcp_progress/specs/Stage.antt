@@ -1,0 +1,38 @@
+-- WHAT EACH STATE OF A CONNECTION SAYS (RFC 9293, 3.3.2) of both FINs, and who the peer is: what holds between two ends after every
+-- list of events.
+use Rattle.std.specs.Prelude.{◌≡◌, Bool, true, false}
+use Rattle.tcp_halves.specs.declared.phase.Ending.TheVariants.{Orderly}
+use Rattle.tcp_halves.specs.declared.phase.Phase.{Phase}
+use Rattle.tcp_halves.specs.declared.phase.Phase.TheVariants.{Closed, SynReceived, Established, FinWait1, FinWait2, CloseWait, Closing, LastAck, TimeWait}
+use Rattle.tcp_halves.specs.Phase.{has_peer}
+use Rattle.tcp_halves.specs.Sender.{is_fin_acked}
+use Rattle.tcp_conn.specs.State.{State}
+use Rattle.tcp_replay.specs.World.{PartyState}
+use Rattle.tcp_replay.specs.Safe.{next_position}
+
+-- WHAT EACH STATE SAYS (RFC 9293, 3.3.2) of the own close, of the own FIN's acknowledgement and of the peer's FIN
+pub record Says (closes acks finishes : Bool) (s : State) : Type 0 where
+  pub closing : s.closing ≡ closes
+  pub acked : is_fin_acked s.sending ≡ acks
+  pub finished : s.receiving.finished ≡ finishes
+
+-- by phase
+abbrev pub SaysByPhase : Phase → State → Type 0
+SaysByPhase Established s = Says false false false s
+SaysByPhase FinWait1 s = Says true false false s
+SaysByPhase FinWait2 s = Says true true false s
+SaysByPhase CloseWait s = Says false false true s
+SaysByPhase Closing s = Says true false true s
+SaysByPhase LastAck s = Says true false true s
+SaysByPhase TimeWait s = Says true true true s
+SaysByPhase SynReceived s = (s.sending.una ≡ 0) × (s.sending.nxt ≡ 1)
+SaysByPhase Closed s = s.ending ≡ Orderly → Says true true true s
+SaysByPhase other s = Unit {0}
+
+-- who is known as the peer is at the other party's port
+abbrev pub KnowsPort : PartyState → PartyState → Type 0
+KnowsPort x y = has_peer x.endpoint.phase ≡ true → x.endpoint.peer.port ≡ y.endpoint.config.port
+
+-- in LAST-ACK, all that the peer sent is acknowledged to it once it has the FIN, since each FIN from LAST-ACK acknowledges the peer's
+abbrev pub ReleasesAll : PartyState → PartyState → Type 0
+ReleasesAll x y = x.endpoint.phase ≡ LastAck → y.endpoint.receiving.finished ≡ true → y.endpoint.sending.una ≡ next_position x

@@ -1,0 +1,20 @@
+//! That two ends can always go on (RFC 9293, 3.8), and what always holds between them.
+ghost use Rattle.tcp_progress.specs.Settled.{NoWorldIsStuck};
+ghost use Rattle.tcp_progress.specs.Steady.{EveryWorldIsSteady};
+
+/// Every world is steady, after every list of events, from any two Configs, where segments live for 2^21 positions or longer: the
+/// text that an end has sent ends, at most, where its peer's receive buffer does, whatever windows were told; what has still to
+/// be sent again was sent; nothing is taken before it is sent; what is unread and the window make up the receive capacity; a
+/// segment has room for 64 bytes of options and text; each state says what it should of the own FIN and the peer's (RFC 9293,
+/// 3.3.2); the peer's port is known; and from LAST-ACK a FIN is taken only together with the acknowledgement of all.
+pub fn every_world_is_steady()
+    ensures { EveryWorldIsSteady }
+{}
+
+/// No world is stuck. However segments were lost, delayed, repeated, reordered or damaged, and whatever the users called: while
+/// both ends live there is a way on. Some finite list of reads, timers, emissions and deliveries, none of which is refused, hands
+/// over every byte that was accepted, has it acknowledged, and hands over the end of the stream where the other user closed;
+/// where both users closed, both ends then have ended in order. Segments live for 2^21 positions or longer.
+pub fn no_world_is_stuck()
+    ensures { NoWorldIsStuck }
+{}
