@@ -1,0 +1,171 @@
+//! The way on which a world settles: events of network, clock and reader alone, that hand over all that was accepted.
+//! Each turn is one of three, for one of the directions.
+use crate::facts::is_settled;
+use crate::places::{Nexts, left_in, other, taken, total, una};
+use crate::segments::{Segment, segment_at};
+use tcp_conn::{Received, Timer};
+use tcp_replay::{Event, Outcome, Side, StepError, World};
+
+/// The most that a user asks for at once, in bytes: as much as an end can hold.
+const ROOM: usize = 1_048_576;
+
+/// More segments than can be in flight: one for each byte, and the SYN and the FIN.
+const MOST_SEGMENTS: u32 = 1_048_578;
+
+/// The length of a segment without options and text. A reset has it.
+const HEADER: usize = 20;
+
+/// A turn, for the direction of a side.
+#[derive(Clone, Copy)]
+enum Turn {
+    /// What is to be taken next is sent, again or for the first time, and delivered.
+    Bring(Side),
+    /// All that was sent is taken, and the other side tells so.
+    Tell(Side),
+}
+
+fn do_event(world: &mut World, event: Event) -> Result<Outcome, StepError> {
+    world.step(&event)
+}
+
+/// Emits what is due, and answers what that is.
+fn emit(world: &mut World, side: Side) -> Result<Option<(usize, Segment)>, StepError> {
+    let Outcome::Emitted(Some(k)) = do_event(world, Event::Emit(side))? else {
+        return Ok(None);
+    };
+    Ok(segment_at(world, side, k).map(|segment| (k, segment)))
+}
+
+/// The user reads all that there is.
+fn read_all(world: &mut World, side: Side) -> Result<(), StepError> {
+    for _ in 0..3 {
+        let outcome = do_event(world, Event::Receive(side, ROOM))?;
+        if !matches!(outcome, Outcome::Got(Ok(Received::Bytes(_)))) {
+            return Ok(());
+        }
+    }
+    Ok(())
+}
+
+/// A reset that waits goes out first, and is lost; so may be an acknowledgement or a FIN alone.
+fn lose_reset(world: &mut World, side: Side) -> Result<(), StepError> {
+    if world.endpoint(side).pending() == Some(HEADER) {
+        emit(world, side)?;
+    }
+    Ok(())
+}
+
+/// All that is in flight from this side goes out again, and is lost: what goes out next stands at SND.NXT.
+fn lose_flight(world: &mut World, nexts: &mut Nexts, side: Side) -> Result<(), StepError> {
+    do_event(world, Event::Timer(side, Timer::Retransmit))?;
+    let next = nexts.of(world, side);
+    if una(world, side) >= next {
+        return Ok(());
+    }
+    for _ in 0..MOST_SEGMENTS {
+        match emit(world, side)? {
+            Some((_, segment)) if segment.is_reset || segment.end < next => {}
+            _ => return Ok(()),
+        }
+    }
+    Ok(())
+}
+
+/// The segment in which this side sends what stands at a position, again or for the first time.
+fn send_at(world: &mut World, side: Side, position: u64) -> Result<Option<usize>, StepError> {
+    do_event(world, Event::Timer(side, Timer::Retransmit))?;
+    for _ in 0..MOST_SEGMENTS {
+        match emit(world, side)? {
+            Some((k, segment)) if segment.covers(position) => return Ok(Some(k)),
+            Some(_) => {}
+            None => return Ok(None),
+        }
+    }
+    Ok(None)
+}
+
+/// Delivers it, where there is one.
+fn deliver(world: &mut World, side: Side, k: Option<usize>) -> Result<(), StepError> {
+    if let Some(k) = k {
+        do_event(world, Event::Deliver(side, k))?;
+    }
+    Ok(())
+}
+
+fn bring(world: &mut World, side: Side) -> Result<(), StepError> {
+    let position = taken(world, side);
+    let segment = send_at(world, side, position)?;
+    deliver(world, side, segment)
+}
+
+/// The other side has rested, and is sent what it has already: so it owes an acknowledgement, which is delivered.
+fn tell(world: &mut World, nexts: &mut Nexts, side: Side) -> Result<(), StepError> {
+    lose_flight(world, nexts, other(side))?;
+    let position = una(world, side);
+    let old = send_at(world, side, position)?;
+    deliver(world, side, old)?;
+    let answer = emit(world, other(side))?;
+    deliver(world, other(side), answer.map(|(k, _)| k))
+}
+
+/// The next turn, if one is left: what is in flight goes first, then what is to be told, then what wasn't sent.
+fn next_turn(world: &World, nexts: &mut Nexts) -> Option<Turn> {
+    let (in_a, in_b) = (taken(world, Side::A), taken(world, Side::B));
+    if in_a < nexts.of(world, Side::A) {
+        Some(Turn::Bring(Side::A))
+    } else if in_b < nexts.of(world, Side::B) {
+        Some(Turn::Bring(Side::B))
+    } else if una(world, Side::A) < in_a {
+        Some(Turn::Tell(Side::A))
+    } else if una(world, Side::B) < in_b {
+        Some(Turn::Tell(Side::B))
+    } else if in_a < total(world, Side::A) {
+        Some(Turn::Bring(Side::A))
+    } else if in_b < total(world, Side::B) {
+        Some(Turn::Bring(Side::B))
+    } else {
+        None
+    }
+}
+
+/// What each turn begins with: both users read, and resets that wait are lost.
+fn clear(world: &mut World) -> Result<(), StepError> {
+    read_all(world, Side::A)?;
+    read_all(world, Side::B)?;
+    lose_reset(world, Side::A)?;
+    lose_reset(world, Side::B)
+}
+
+/// One turn; whether one was left.
+fn take_turn(world: &mut World, nexts: &mut Nexts) -> Result<bool, StepError> {
+    clear(world)?;
+    let Some(turn) = next_turn(world, nexts) else {
+        return Ok(false);
+    };
+    match turn {
+        Turn::Bring(side) => bring(world, side)?,
+        Turn::Tell(side) => tell(world, nexts, side)?,
+    }
+    Ok(true)
+}
+
+/// Both users read what is left, and the TIME-WAIT timers run out.
+fn finish(world: &mut World) -> Result<(), StepError> {
+    clear(world)?;
+    do_event(world, Event::Timer(Side::A, Timer::TimeWait))?;
+    do_event(world, Event::Timer(Side::B, Timer::TimeWait))?;
+    Ok(())
+}
+
+/// Leads a world to where all is handed over; whether it came there. Each turn brings on at least one position, or the
+/// knowledge of one.
+pub(crate) fn settle(world: &mut World) -> Result<bool, StepError> {
+    let mut nexts = Nexts::default();
+    for _ in 0..left_in(world) {
+        if !take_turn(world, &mut nexts)? {
+            break;
+        }
+    }
+    finish(world)?;
+    Ok(is_settled(world))
+}
