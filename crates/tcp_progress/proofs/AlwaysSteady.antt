@@ -63,6 +63,7 @@ steady-end x y pair h = record {
   last = h.stages.there.released;
   mss = h.told.there.mss;
   within = h.told.there.within;
+  told = (tells-within x y h.told).0;
   edge = (within-reach x y h.edges).0;
   range = h.edges.there.range;
   sent = takes-only_sent x y h.sent;

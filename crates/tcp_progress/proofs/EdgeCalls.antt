@@ -31,8 +31,7 @@ use Rattle.tcp_replay.proofs.Dues.{option_or-both, end-is}
 use Rattle.tcp_replay.proofs.Phases.{at-closed}
 use Rattle.tcp_replay.proofs.AloneCalls.{unless-kept, can-open, send-unclosed}
 use Rattle.tcp_replay.proofs.AloneEmissions.{going-on}
-use Rattle.tcp_progress.specs.Edge.{KeepsEdge}
-use Rattle.tcp_progress.proofs.Edging.{Edge, EdgeAfter, edge-more, edge-moved, edge-syn_sent, edge-text, edge-orderly, edge-given_up, edge-all_resent, edge-probe, edge-gaps, edge-due}
+use Rattle.tcp_progress.proofs.Edging.{KeepsEdge, Edge, EdgeAfter, edge-more, edge-moved, edge-syn_sent, edge-text, edge-orderly, edge-given_up, edge-all_resent, edge-probe, edge-gaps, edge-due}
 
 -- the edge of an end that party p may have, its peer q being where it is
 abbrev pub Edged : PartyState → PartyState → State → Type 0

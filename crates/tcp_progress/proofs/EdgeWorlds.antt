@@ -16,7 +16,7 @@ use Rattle.tcp_replay.proofs.Steps.{kept-same, pair-swapped}
 use Rattle.tcp_replay.proofs.Arrivals.{fair-judgement}
 use Rattle.tcp_replay.proofs.Deliveries.{arrival-ok, own-decodes, comes, segment-sent, delivered-there, finds-damage}
 use Rattle.tcp_progress.specs.Edge.{IsWithinReach}
-use Rattle.tcp_progress.specs.Windows.{TellsWithin}
+use Rattle.tcp_progress.specs.Edge.{TellsWithin}
 use Rattle.tcp_progress.proofs.Edging.{edge-more}
 use Rattle.tcp_progress.proofs.EdgeCalls.{Edged, Stays, edge-connected, edge-listening, edge-sent, sent-stays, edge-received, edge-closed, edge-aborted, edge-acknowledged, edge-timer, edge-emitted}
 use Rattle.tcp_progress.proofs.EdgeArrivals.{edge-judgement}

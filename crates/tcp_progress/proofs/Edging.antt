@@ -18,7 +18,17 @@ use Rattle.tcp_conn.specs.Timers.{after_gaps}
 use Rattle.tcp_replay.proofs.Halves.{range-more}
 use Rattle.tcp_replay.proofs.Dues.{option_or-both}
 use Rattle.tcp_replay.proofs.AloneEmissions.{range_after-ends}
-use Rattle.tcp_progress.specs.Edge.{KeepsEdge}
+
+-- what x keeps of the direction to y, of whose stream it has `count` bytes from its user, when y wants `next` and has room for `capacity`
+pub record KeepsEdge (d : Sending) (probe : Bool) (count next capacity : ℕ) : Type 0 where
+  pub sent : min d.nxt (1 + count) ≤ next + capacity
+  pub window : d.wnd ≤ capacity
+  -- a probe is granted only while no text is in flight (RFC 9293, 3.8.6.1)
+  pub probed : probe ≡ true → (1 ≤ d.una) × (min d.nxt (1 + count) ≤ d.una)
+  -- what goes out again ends at SND.NXT at most
+  pub range : IfSome d.resend (λ range. range.end ≤ d.nxt)
+  -- and what the peer marked lies below it
+  pub marks : (place : ℕ) → IsMarked d.queue place → position_at d place < d.nxt
 
 -- the peer wants a later position, and more may have been accepted of what wasn't sent
 pub edge-more : (d : Sending) (probe : Bool) (count count' next next' capacity : ℕ) → min d.nxt (1 + count') ≤ min d.nxt (1 + count) → next ≤ next' → KeepsEdge d probe count next capacity

@@ -29,7 +29,7 @@ use Rattle.tcp_replay.proofs.Steps.{slice_get-more, pair-swapped}
 use Rattle.tcp_replay.proofs.AloneEmissions.{GoesOutAlone, due-alone}
 use Rattle.tcp_replay.proofs.Emissions.{GoesOut, syn-bits, plain-bits, reset-bit, due-decodes, due-goes}
 use Rattle.tcp_replay.proofs.Deliveries.{arrival-ok, own-decodes, segment-sent, delivered-there, finds-damage}
-use Rattle.tcp_progress.specs.Windows.{TellsWithin}
+use Rattle.tcp_progress.specs.Edge.{TellsWithin}
 use Rattle.tcp_progress.proofs.Shifts.{agreed_shift, AgreesOn, own_shift-agreed, syn-agrees, field-within}
 use Rattle.tcp_progress.proofs.OnlySent.{some-is, same-content}
 use Rattle.tcp_progress.proofs.Rooms.{KeepsRoom, window-within, room-connected, room-listening, room-sent, room-received, room-closed, room-aborted, room-acknowledged, room-timer, room-judgement}

@@ -6,4 +6,3 @@ pub mod Stage
 pub mod Edge
 pub mod Settled
 pub mod Steady
-pub mod Windows

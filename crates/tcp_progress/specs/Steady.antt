@@ -11,7 +11,7 @@ use Rattle.tcp_replay.specs.Sound.{IsSoundPair}
 use Rattle.tcp_progress.specs.Sent.{TakesOnlySent}
 use Rattle.tcp_progress.specs.Settled.{least_life}
 use Rattle.tcp_progress.specs.Stage.{SaysByPhase, KnowsPort, ReleasesAll}
-use Rattle.tcp_progress.specs.Edge.{IsWithinReach}
+use Rattle.tcp_progress.specs.Edge.{IsWithinReach, TellsWithin}
 
 pub record IsSteadyEnd (x y : PartyState) : Type 0 where
   -- what its state says of both FINs, whose port it knows, and that LAST-ACK was reached with all acknowledged
@@ -21,6 +21,8 @@ pub record IsSteadyEnd (x y : PartyState) : Type 0 where
   -- segments have room for text, and the receive buffer for a window
   pub mss : min_mss ≤ x.endpoint.link.peer_mss
   pub within : HoldsWithin x.endpoint.config.recv_capacity x.endpoint.receiving.inbox
+  -- what it told of its window fits its room
+  pub told : TellsWithin x y
   -- what it sent is within the peer's reach, what goes out again was sent, and the peer took nothing else
   pub edge : IsWithinReach x y
   pub range : IfSome x.endpoint.sending.resend (λ range. range.end ≤ x.endpoint.sending.nxt)
