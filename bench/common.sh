@@ -25,11 +25,16 @@ build_lwip() {
         "$core"/ipv4/icmp.c -o "$out/$name"
 }
 
-# lwIP's two builds: as it ships, and with all that makes it faster.
+# lwIP's two builds: as it ships, and with all that makes it faster, for the processor that our program is built for. Words are those
+# of `build_ours`.
 build_both_lwips() {
     [ -d "$out/lwip-2.1.3" ] || fetch_lwip
+    processor=x86-64-v2
+    for word in "$@"; do
+        case $word in --cpu=*) processor=${word#--cpu=} ;; esac
+    done
     build_lwip shipped -O2
-    build_lwip best -O3 -flto -march=x86-64-v2 -DBEST
+    build_lwip best -O3 -flto -march="$processor" -DBEST
 }
 
 # The instructions of a run with these words.

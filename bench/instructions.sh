@@ -6,8 +6,8 @@
 # - acknowledgement: one that is written, carried and taken; what a second one adds to two segments in order.
 # - one_byte: a segment of one byte with half an acknowledgement.
 # - connection: two ends made, handshake, orderly close. lwIP's ends have no block of their own.
-# Then one call of `checksum`, `decode` and `encode` on such a segment. `bench/instructions.sh --cpu=x86-64-v3` counts a program for
-# that processor. It wants gcc, valgrind, apt-get and the network; our program is built anew where it is stale.
+# Then one call of `checksum`, `decode` and `encode` on such a segment. `bench/instructions.sh --cpu=x86-64-v3` counts our program and
+# lwIP's best build for that processor. It wants gcc, valgrind, apt-get and the network; our program is built anew where it is stale.
 set -eu
 
 top=$(cd "$(dirname "$0")/.." && pwd)
@@ -15,7 +15,7 @@ out=$top/bench/out
 mkdir -p "$out"
 . "$top/bench/common.sh"
 build_ours "$@"
-build_both_lwips
+build_both_lwips "$@"
 short=200
 long=400
 

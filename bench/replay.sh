@@ -1,10 +1,15 @@
 #!/bin/sh
 # Replays scripts of 10,000 and of 100,000 events, and prints how long each took and the ratio of the two:
 # it is to be at most 12 for each of three runs: in order, with a full queue of 1 MiB, and with a gap held through it.
-# Run it from anywhere; the program is built where it isn't (`rt run` in crates/tcpkit).
+# Then it counts in instructions (callgrind, the difference of two lengths) a round of six events in order, beside the same round
+# of two ends without a script, and prints which of the program's functions take most of it.
+# Run it from anywhere; the programs are built where they aren't. It wants valgrind.
 set -eu
 
 top=$(cd "$(dirname "$0")/.." && pwd)
+out=$top/bench/out
+mkdir -p "$out"
+. "$top/bench/common.sh"
 program=${1:-$top/crates/tcpkit/out/tcpkit}
 most=12
 folder=$(mktemp -d)
@@ -108,5 +113,21 @@ for run in in_order full_queue held_gap; do
         printf "%s: 10,000 events %d ms, 100,000 events %d ms, ratio %.1f (at most %d)\n", run, short, long, ratio, most
         exit ratio > most
     }' || status=1
+done
+
+# What a round in order costs: a script's, and that of two ends alone.
+build_ours
+for rounds in 2000 4000; do in_order $((8 + 6 * rounds)) >"$folder/$rounds"; done
+script=$((($(instructions "$program" replay "$folder/4000") - $(instructions "$program" replay "$folder/2000")) / 2000))
+ends=$((($(instructions "$ours" rounds 4000 65536) - $(instructions "$ours" rounds 2000 65536)) / 2000))
+awk -v script="$script" -v ends="$ends" 'BEGIN {
+    printf "a round of six events: %d instructions, the two ends alone %d, ratio %.2f\n", script, ends, script / ends
+}'
+valgrind --tool=callgrind --callgrind-out-file="$folder/profile" "$program" replay "$folder/4000" >"$folder/report" 2>"$folder/log"
+echo 'of them, with all that is called, and by function:'
+for inclusive in yes no; do
+    callgrind_annotate --inclusive=$inclusive --threshold=97 "$folder/profile" | grep -vE '0x0|below main|libc_start' |
+        sed -nE 's/^ *([0-9,]+) \( *[0-9.]+%\) +[^: ]*:([^ ]+).*/\1 \2/p' |
+        awk -v inclusive=$inclusive '{ gsub(",", "", $1); printf "%-5s %6d %s\n", inclusive == "yes" ? "with" : "alone", $1 / 4000, $2 }' | head -40
 done
 exit $status

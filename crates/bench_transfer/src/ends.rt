@@ -10,6 +10,9 @@ const SEGMENT: usize = 1460;
 /// What a user writes or reads at once: the text of two segments, in bytes.
 const PIECE: usize = 2 * SEGMENT;
 
+/// The text of a round, in bytes.
+const ROUND: usize = 16;
+
 pub(crate) fn new_end(alloc: Global, host: u8, capacity: usize) -> Result<Endpoint, ConfigError> {
     let config = Config {
         addr: Addr([10, 0, 0, host]),
@@ -121,6 +124,15 @@ impl Pair {
             self.carry_segments(mode, count);
         }
         self.read_text(mode);
+        carry(&mut self.b, &mut self.a, &mut self.room);
+    }
+
+    /// The six events of a script in order: a few bytes are written, carried, read and acknowledged.
+    pub(crate) fn move_round(&mut self) {
+        let _ = self.a.send(&self.text[..ROUND]);
+        carry(&mut self.a, &mut self.b, &mut self.room);
+        let read = &mut self.read[..];
+        let _ = self.b.receive(&mut read[..ROUND]);
         carry(&mut self.b, &mut self.a, &mut self.room);
     }
 }

@@ -3,6 +3,8 @@
 //! `one_byte` two of one byte; in `late` ten and in `early` forty, of which the first arrives last, so that all others are
 //! held. B's user reads each burst, and B acknowledges every second segment, but in `each_acknowledged` each.
 //! `transfer connection COUNT CAPACITY` opens and closes so many connections, one after another.
+//! `transfer rounds COUNT CAPACITY` writes, carries, reads and acknowledges 16 bytes so many times, as bench/replay.sh's script
+//! in order does.
 //! `transfer ends COUNT TURNS CAPACITY` opens so many connections, and lets each echo in turn, so many times.
 //! `transfer lossy BYTES CAPACITY` moves so many bytes over a wire that loses one segment of 61, and compares what was read with
 //! what was written. `transfer CALL COUNT` makes so many calls of `checksum`, `decode` or `encode`.
@@ -79,6 +81,17 @@ fn run_connections(rt: &(impl Print + AllocGlobal), count: u32, capacity: usize)
     println!(rt; "{closed} connections were opened and closed")
 }
 
+/// Moves so many rounds of a few bytes, and prints what was moved.
+fn run_rounds(rt: &(impl Print + AllocGlobal), count: u32, capacity: usize) -> io::Result<()> {
+    let mut pair = Pair::new(rt.alloc(), capacity).map_err(|_| bad_input())?;
+    pair.open();
+    for _ in 0..count {
+        pair.move_round();
+    }
+    let released = pair.released();
+    println!(rt; "{released} bytes were moved and acknowledged")
+}
+
 /// So many connections that are open.
 fn open_connections(
     alloc: Global,
@@ -137,6 +150,9 @@ fn run(rt: &(impl Env + Print + AllocGlobal)) -> io::Result<()> {
     let capacity: usize = capacity.as_str().parse().map_err(|_| bad_input())?;
     if name.as_str() == "connection" {
         return run_connections(rt, count, capacity);
+    }
+    if name.as_str() == "rounds" {
+        return run_rounds(rt, count, capacity);
     }
     let mode = mode_of(name.as_str()).ok_or(bad_input())?;
     move_bursts(rt, mode, count, capacity)

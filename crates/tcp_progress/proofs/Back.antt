@@ -271,9 +271,6 @@ old-later p q q' k v still old = record {
 abbrev owing : PartyState → PartyState
 owing q = record q { endpoint = with_ack_owed q.endpoint }
 
-still-owing : (q : PartyState) → IsStill q (owing q)
-still-owing q = record { config = refl; phase = refl; ending = refl; closing = refl; opened = refl; finished = refl; una = refl; nxt = omega arith; ordered = refl; accepted = refl; closed = refl }
-
 answering : {K : WorldState → Type 0} → IsInvariant K → (life : ℕ) (side : Side) (p q : PartyState) → K (world_from life side p (owing q)) → IsOpenTo p → IsLive q
     → StandsAtNext (with_ack_owed q.endpoint) → q.endpoint.sending.nxt ≡ next_position p → p.endpoint.sending.una < next_position q → p.endpoint.sending.una < all_of p → CanReach (IsLess K (left_of_both p q)) (world_from life side p (owing q))
 answering {K} i life side p q h here live stands at behind some =

@@ -6,12 +6,10 @@ use Rattle.tcp_halves.specs.declared.config.Config.{Config}
 use Rattle.tcp_conn.specs.Config.{IsConfig}
 use Rattle.tcp_conn.specs.Judgement.{judgement}
 use Rattle.tcp_conn.specs.Arrival.{after_judgement, after_arrival}
-use Rattle.tcp_replay.specs.declared.event.Side.{Side}
-use Rattle.tcp_replay.specs.declared.event.Side.TheVariants.{A, B}
-use Rattle.tcp_replay.specs.Events.{EventContent, side_of, HasBytes, Connect, Listen, Send, Receive, Close, Abort, Acknowledge, Timer, Emit, Deliver, Damage}
-use Rattle.tcp_replay.specs.World.{WorldState, PartyState, max_life, sent_at, new_party, party_of, other, world_from, effect_of, refusal_of, world_with_effect, segment_at, bytes_with_damage, delivery_refusal, damage_refusal, party_after_connect, party_after_listen, party_after_send, party_after_receive, party_after_close, party_after_abort, party_after_acknowledge, party_after_timer, party_after_emission, party_after_arrival}
+use Rattle.tcp_replay.specs.Events.{EventContent, HasBytes, Connect, Listen, Send, Receive, Close, Abort, Acknowledge, Timer, Emit, Deliver, Damage}
+use Rattle.tcp_replay.specs.World.{PartyState, max_life, sent_at, new_party, effect_of, segment_at, bytes_with_damage, delivery_refusal, damage_refusal, party_after_connect, party_after_listen, party_after_send, party_after_receive, party_after_close, party_after_abort, party_after_acknowledge, party_after_timer, party_after_emission, party_after_arrival}
 use Rattle.tcp_replay.specs.Safe.{next_position}
-use Rattle.tcp_replay.specs.Sound.{IsSoundPair, AreSoundEnds}
+use Rattle.tcp_replay.specs.Sound.{IsSoundPair}
 use Rattle.tcp_replay.proofs.Steps.{kept-same, pair-swapped}
 use Rattle.tcp_replay.proofs.Arrivals.{fair-judgement}
 use Rattle.tcp_replay.proofs.Deliveries.{arrival-ok, own-decodes, comes, segment-sent, delivered-there, finds-damage}
@@ -97,18 +95,6 @@ edge-effect life p q (Timer side which) most fits e pair tells hears h = edges-f
 edge-effect life p q (Emit side) most fits e pair tells hears h = edges-from-stays p _ q refl (edge-emitted p q pair) h
 edge-effect life p q (Deliver from k) most fits e pair tells hears h = edges-swapped _ _ (edges-delivered q p life k most e (pair-swapped _ _ pair) tells (edges-swapped _ _ h))
 edge-effect life p q (Damage from k place value) most fits e pair tells hears h = edges-swapped _ _ (edges-damaged q p life k place value fits e (pair-swapped _ _ pair) (edges-swapped _ _ h))
-
--- ---- in the world
-edges-from : (w : WorldState) (side : Side) (event : EventContent) → w.life ≤ max_life → HasBytes event → (effect_of w.life (party_of w side) (party_of w (other side)) event).refusal ≡ None → AreSoundEnds w
-    → TellsWithin w.a w.b → TellsWithin w.b w.a → KeepBothEdges w.a w.b
-    → KeepBothEdges (world_from w.life side (effect_of w.life (party_of w side) (party_of w (other side)) event).here (effect_of w.life (party_of w side) (party_of w (other side)) event).there).a
-    (world_from w.life side (effect_of w.life (party_of w side) (party_of w (other side)) event).here (effect_of w.life (party_of w side) (party_of w (other side)) event).there).b
-edges-from w A event most fits e ends tells hears h = edge-effect w.life w.a w.b event most fits e ends tells hears h
-edges-from w B event most fits e ends tells hears h = edges-swapped _ _ (edge-effect w.life w.b w.a event most fits e (pair-swapped _ _ ends) hears tells (edges-swapped _ _ h))
-
-pub edges-after : (w : WorldState) (event : EventContent) → w.life ≤ max_life → HasBytes event → refusal_of w event ≡ None → AreSoundEnds w → TellsWithin w.a w.b → TellsWithin w.b w.a → KeepBothEdges w.a w.b
-    → KeepBothEdges (world_with_effect w event).a (world_with_effect w event).b
-edges-after w event most fits e ends tells hears h = edges-from w (side_of event) event most fits e ends tells hears h
 
 -- new parties
 new-edge : (a b : Config) → Edged (new_party a) (new_party b) (new_party a).endpoint

@@ -131,6 +131,18 @@ up-stays ending (inr over) = rw over refl
 all-released : (una count released : ℕ) → 1 + count ≤ una → released ≡ min (una - 1) count → released ≡ count
 all-released una count released all is = omega (arith, all, is)
 
+-- ---- THE OWN FIN is acknowledged where all is, and the user closed
+fin-acked : (s : Sending) (accepted : List ℕ) (gone : Bool) → Sends s accepted true gone → gone ≡ false → 2 + length accepted ≤ s.una → is_fin_acked s ≡ true
+fin-acked s accepted gone h stays acked =
+    let released = all-released s.una (length accepted) s.released (omega (arith, acked)) h.released in
+    let queued : length s.queue.bytes ≡ length accepted - s.released = ap length (h.queue stays) ∙ length-drop s.released accepted in
+    rw (lt-ltb (end_of_text s) s.nxt (omega (arith, released, queued, h.order, acked)), eq-eqb s.una s.nxt (omega (arith, h.order, h.most, acked))) refl
+
+closed-acked : (x y : PartyState) → IsSteadyPair x y → IsAllTaken x y → x.closed ≡ true → is_fin_acked x.endpoint.sending ≡ true
+closed-acked x y h whole closed =
+    let sends : Sends x.endpoint.sending x.accepted true (gave_up x) = rw (sym closed) h.pair.there.alone.sends in
+    fin-acked x.endpoint.sending x.accepted (gave_up x) sends (up-stays x.endpoint.ending whole.up.kept) (omega (arith, whole.acked, ap one_if closed))
+
 -- so what x accepted is through to y
 through : (x y : PartyState) → IsSteadyPair x y → IsComplete x y → HasRead y → IsThrough x y
 through x y h whole read =
@@ -142,14 +154,9 @@ through x y h whole read =
       delivered = sym (append-nil y.delivered) ∙ ap (λ bytes. y.delivered ++ bytes) (sym read.all) ∙ hands.handed ∙ take_all hands.count x.accepted least;
       released = all-released x.endpoint.sending.una (length x.accepted) (count_released x) (omega (arith, whole.there.acked)) h.pair.there.alone.sends.released;
       ended = λ closed. read.ended (come.finished closed);
+      fin_acked = closed-acked x y h whole.there;
+      stays = up-stays x.endpoint.ending whole.there.up.kept;
     }
-
--- ---- THE OWN FIN is acknowledged where all is, and the user closed
-fin-acked : (s : Sending) (accepted : List ℕ) (gone : Bool) → Sends s accepted true gone → gone ≡ false → 2 + length accepted ≤ s.una → is_fin_acked s ≡ true
-fin-acked s accepted gone h stays acked =
-    let released = all-released s.una (length accepted) s.released (omega (arith, acked)) h.released in
-    let queued : length s.queue.bytes ≡ length accepted - s.released = ap length (h.queue stays) ∙ length-drop s.released accepted in
-    rw (lt-ltb (end_of_text s) s.nxt (omega (arith, released, queued, h.order, acked)), eq-eqb s.una s.nxt (omega (arith, h.order, h.most, acked))) refl
 
 -- which state it is in then (RFC 9293, 3.3.2): TIME-WAIT, or it has ended in order
 last-phase : (s : State) (phase : Phase) → s.closing ≡ true → is_fin_acked s.sending ≡ true → s.receiving.finished ≡ true → s.receiving.opened ≡ true → 2 ≤ s.sending.una
@@ -184,8 +191,7 @@ ends-in-order x y h back whole closed their =
     let s = x.endpoint in
     let alone = h.pair.there.alone in
     let acked : 2 + length x.accepted ≤ s.sending.una = omega (arith, whole.there.acked, ap one_if closed) in
-    let sends : Sends s.sending x.accepted true (gave_up x) = rw (sym closed) alone.sends in
-    let fin = fin-acked s.sending x.accepted (gave_up x) sends (up-stays s.ending whole.there.up.kept) acked in
+    let fin = closed-acked x y h whole.there closed in
     let finished = (all-come y x back whole.back).finished their in
     over-after s (last-phase s s.phase (alone.closing ∙ closed) fin finished whole.there.up.opened (omega (arith, acked)) whole.there.up.kept alone.progress h.there.stage)
 

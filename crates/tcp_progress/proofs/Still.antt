@@ -6,7 +6,6 @@ use Rattle.tcp_halves.specs.declared.due.Due.{Due}
 use Rattle.tcp_halves.specs.declared.outcome.CallError.{CallError}
 use Rattle.tcp_halves.specs.declared.phase.Timer.TheVariants.{Retransmit}
 use Rattle.tcp_halves.specs.Sender.{Sending, with_all_resent}
-use Rattle.tcp_conn.specs.State.{State}
 use Rattle.tcp_conn.specs.Calls.{receive_refusal, with_bytes_received, after_receive, state_unless}
 use Rattle.tcp_conn.specs.Due.{due_of}
 use Rattle.tcp_conn.specs.Emission.{after_emission, after_due}
@@ -53,10 +52,6 @@ still-next p p' h = rw (h.ordered, h.finished) refl
 
 pub still-live : (p p' : PartyState) → IsStill p p' → IsLive p → IsLive p'
 still-live p p' h live = record { opened = h.opened ∙ live.opened; goes_on = h.ending ∙ live.goes_on }
-
--- an end in another state
-from-end : (p : PartyState) (s : State) → IsStill p (record p { endpoint = s }) → IsStill p (record p { endpoint = s })
-from-end p s h = h
 
 -- EMISSION
 due-still : (p : PartyState) (due : Option Due) → IsStill p (record p { endpoint = after_due p.endpoint due })

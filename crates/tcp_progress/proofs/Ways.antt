@@ -1,14 +1,13 @@
 -- Ways on: quiet events one after another, at one of two parties or from one to the other, and what stays true on the way.
 use Rattle.std.proofs.Common.{◌≡◌, ℕ, zero, suc, List, [], ◌∷◌, ◌++◌, length, refl, sym, ◌∙◌, ap, subst}
-use Rattle.std.specs.Prelude.{Option, Some, None, option_map, option_to_list, slice_get}
+use Rattle.std.specs.Prelude.{Option, Some, None, slice_get}
 use Rattle.std.specs.List.{AllByRecursion}
 use Rattle.tcp_halves.specs.declared.phase.Timer.{Timer as Which}
-use Rattle.tcp_conn.specs.Emission.{emitted_bytes}
 use Rattle.tcp_replay.specs.declared.event.Side.{Side}
 use Rattle.tcp_replay.specs.declared.event.Side.TheVariants.{A, B}
 use Rattle.tcp_replay.specs.declared.outcome.StepError.{StepError}
 use Rattle.tcp_replay.specs.Events.{EventContent, HasBytes, Connect, Listen, Send, Receive, Close, Abort, Acknowledge, Timer, Emit, Deliver, Damage}
-use Rattle.tcp_replay.specs.World.{WorldState, PartyState, SentSegment, other, world_from, sent_by, segment_at, delivery_refusal, effect_of, refusal_of, world_with_effect, stop_of, stop_or, later, stay_or, run_of, party_after_receive, party_after_timer, party_after_emission, party_after_arrival}
+use Rattle.tcp_replay.specs.World.{WorldState, PartyState, SentSegment, other, world_from, segment_at, delivery_refusal, effect_of, refusal_of, world_with_effect, stop_of, stop_or, later, stay_or, run_of, party_after_receive, party_after_timer, party_after_emission, party_after_arrival}
 use Rattle.tcp_progress.specs.Resent.{after_emissions}
 use Rattle.tcp_progress.specs.Settled.{IsQuiet, CanReach}
 use Rattle.tcp_progress.specs.Steady.{IsSteady}
@@ -130,7 +129,3 @@ after-emissions (suc n) p =
 pub last-of : (sent : List SentSegment) (g : SentSegment) → slice_get (sent ++ g ∷ []) (length sent) ≡ Some g
 last-of [] g = refl
 last-of (first ∷ sent) g = last-of sent g
-
-pub emitted-last : (p : PartyState) (bytes : List ℕ) → emitted_bytes p.endpoint ≡ Some bytes → slice_get (party_after_emission p).sent (length p.sent) ≡ Some (sent_by p.endpoint bytes)
-unfolding party_after_emission
-emitted-last p bytes e = subst (λ (new : Option (List ℕ)). slice_get (p.sent ++ option_to_list (option_map (sent_by p.endpoint) new)) (length p.sent) ≡ Some (sent_by p.endpoint bytes)) (sym e) (last-of p.sent (sent_by p.endpoint bytes))

@@ -1,15 +1,16 @@
 -- NO WORLD IS STUCK (RFC 9293, 3.8): whatever was lost, delayed, repeated, reordered or damaged, there is always a way on.
-use Rattle.std.specs.Prelude.{◌≡◌, ℕ, ◌*◌, ◌≤◌, true, List, length, None}
+use Rattle.std.specs.Prelude.{◌≡◌, ℕ, ◌*◌, ◌≤◌, true, false, List, length, None}
 use Rattle.std.specs.List.{AllByRecursion}
 use Rattle.tcp_halves.specs.declared.config.Config.{Config}
 use Rattle.tcp_halves.specs.declared.phase.Ending.TheVariants.{NotEnded, Orderly}
+use Rattle.tcp_halves.specs.Sender.{is_fin_acked}
 use Rattle.tcp_sendq.specs.SendQueue.{max_capacity}
 use Rattle.tcp_conn.specs.Config.{IsConfig}
 use Rattle.tcp_replay.specs.Events.{EventContent, HasBytes, Receive, Timer, Emit, Deliver}
 use Rattle.tcp_replay.specs.World.{WorldState, PartyState, max_life, new_world_with, stop_of, run_of, world_after_all}
-use Rattle.tcp_replay.specs.Safe.{count_released}
+use Rattle.tcp_replay.specs.Safe.{count_released, gave_up}
 
--- QUIET: what clock, network and the users who read do. No user sends, closes or aborts, and nothing is damaged
+-- QUIET: what clock, network and the users who read do. No user calls anything else, and nothing is damaged
 abbrev pub IsQuiet : EventContent → Type 0
 IsQuiet (Receive side room) = Unit {0}
 IsQuiet (Timer side which) = Unit {0}
@@ -29,12 +30,14 @@ pub record IsLive (x : PartyState) : Type 0 where
   pub opened : x.endpoint.receiving.opened ≡ true
   pub goes_on : x.endpoint.ending ≡ NotEnded
 
--- THROUGH, from x to y: y's user was handed all that x accepted, all of it is acknowledged to x, and where x's user closed, y's was handed
--- the end of the stream
+-- THROUGH, from x to y: y's user was handed all that x accepted, and all of it is acknowledged to x; where x's user closed, y's was handed
+-- the end of the stream, and the FIN is acknowledged to x; and x wasn't reset, nor has it given up
 pub record IsThrough (x y : PartyState) : Type 0 where
   pub delivered : y.delivered ≡ x.accepted
   pub released : count_released x ≡ length x.accepted
   pub ended : x.closed ≡ true → y.ended ≡ true
+  pub fin_acked : x.closed ≡ true → is_fin_acked x.endpoint.sending ≡ true
+  pub stays : gave_up x ≡ false
 
 -- SETTLED: through both ways; and where both users closed, both ends ended in order
 pub record IsSettled (w : WorldState) : Type 0 where
@@ -42,7 +45,7 @@ pub record IsSettled (w : WorldState) : Type 0 where
   pub back : IsThrough w.b w.a
   pub orderly : w.a.closed ≡ true → w.b.closed ≡ true → (w.a.endpoint.ending ≡ Orderly) × (w.b.endpoint.ending ≡ Orderly)
 
--- of the same streams: nothing more was accepted, and no user closed
+-- OF THE SAME STREAMS: nothing more was accepted, and no user closed
 pub record HasStreamsOf (w v : WorldState) : Type 0 where
   pub accepted_of_a : v.a.accepted ≡ w.a.accepted
   pub accepted_of_b : v.b.accepted ≡ w.b.accepted
@@ -53,7 +56,7 @@ pub record HasStreamsOf (w v : WorldState) : Type 0 where
 abbrev pub IsNotStuck : WorldState → Type 0
 IsNotStuck w = IsLive w.a → IsLive w.b → CanReach (λ v. IsSettled v × HasStreamsOf w v) w
 
--- the shortest lifetime of segments for which this holds, twice what a queue holds: what is in flight is a SYN or FIN and no more
+-- the shortest lifetime of segments of which this is said, twice what a queue holds: what is in flight is a SYN or FIN and no more
 -- text than a queue holds, so that nothing of it expires
 abbrev pub least_life : ℕ
 least_life = 2 * max_capacity

@@ -14,7 +14,7 @@ use Rattle.tcp_progress.specs.Stage.{SaysByPhase, KnowsPort, ReleasesAll}
 use Rattle.tcp_progress.specs.Edge.{IsWithinReach, TellsWithin}
 
 pub record IsSteadyEnd (x y : PartyState) : Type 0 where
-  -- what its state says of both FINs, whose port it knows, and that LAST-ACK was reached with all acknowledged
+  -- what its state says of both FINs, whose port it knows, and what it has acknowledged in LAST-ACK
   pub stage : SaysByPhase x.endpoint.phase x.endpoint
   pub port : KnowsPort x y
   pub last : ReleasesAll x y

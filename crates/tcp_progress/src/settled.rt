@@ -14,8 +14,9 @@ pub fn every_world_is_steady()
 
 /// No world is stuck. However segments were lost, delayed, repeated, reordered or damaged, and whatever the users called: while
 /// both ends live there is a way on. Some finite list of reads, timers, emissions and deliveries, none of which is refused, hands
-/// over every byte that was accepted, has it acknowledged, and hands over the end of the stream where the other user closed;
-/// where both users closed, both ends then have ended in order. Segments live for 2^21 positions or longer.
+/// over every byte that was accepted, has it acknowledged, and hands over the end of the stream where the other user closed, whose
+/// FIN is acknowledged; where both users closed, both ends then have ended in order, and no end was reset meanwhile. Segments live
+/// for 2^21 positions or longer.
 pub fn no_world_is_stuck()
     ensures { NoWorldIsStuck }
 {}

@@ -5,7 +5,7 @@ use tcp_conn::{Config, DEFAULT_LIMIT, MAX_MSS, MAX_SHIFT, MIN_MSS};
 use tcp_replay::{MAX_LIFE, World};
 use tcp_wire::{Addr, Seq};
 
-/// The least lifetime with which a world is sure to settle, in positions: twice the greatest window.
+/// The least lifetime with which a world is sure to settle, in positions: twice what a queue holds.
 pub(crate) const LEAST_LIFE: u32 = 2_097_152;
 
 /// What a world is made from.

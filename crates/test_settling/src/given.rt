@@ -2,12 +2,15 @@
 use crate::configs::{LEAST_LIFE, Shape, plain};
 use crate::events::{opening, text};
 use std::alloc::{AllocError, Global};
-use tcp_conn::Config;
+use tcp_conn::{Config, Timer};
 use tcp_replay::{Event, Side};
 use tcp_wire::Seq;
 
 /// How many there are.
-pub(crate) const COUNT: u32 = 8;
+pub(crate) const COUNT: u32 = 9;
+
+/// In how many directions of these text is sent, and in how many there is a close: 11 and 5.
+pub(crate) const ASKED: u32 = 16;
 
 /// What is sent at once on a long way, in bytes, in how many segments, and how often.
 const PIECE: usize = 65_000;
@@ -140,6 +143,22 @@ fn syn_unknown(alloc: Global) -> Result<Vec<Event>, AllocError> {
     Ok(events)
 }
 
+/// Each has the other's byte, neither was told so, and what B has to send again waits.
+fn untold(alloc: Global) -> Result<Vec<Event>, AllocError> {
+    let mut events = open(alloc)?;
+    let more = [
+        Event::Send(Side::A, text(alloc, 1, 1)?),
+        Event::Send(Side::B, text(alloc, 2, 1)?),
+        Event::Emit(Side::A),
+        Event::Emit(Side::B),
+        Event::Deliver(Side::A, 2),
+        Event::Deliver(Side::B, 1),
+        Event::Timer(Side::B, Timer::Retransmit),
+    ];
+    add(alloc, &mut events, more)?;
+    Ok(events)
+}
+
 /// A's next segments come to B, from this number on.
 fn carry(alloc: Global, events: &mut Vec<Event>, first: usize) -> Result<(), AllocError> {
     for number in first..first.saturating_add(SEGMENTS) {
@@ -197,6 +216,7 @@ pub(crate) fn given(alloc: Global, number: u32) -> Result<(Shape, Vec<Event>), A
         4 => one_closed(alloc)?,
         5 => both_lost(alloc)?,
         6 => syn_unknown(alloc)?,
+        7 => untold(alloc)?,
         _ => expired(alloc)?,
     };
     Ok((shape_of(number), events))

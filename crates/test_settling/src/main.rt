@@ -7,6 +7,7 @@
 mod configs;
 mod events;
 mod facts;
+mod failure;
 mod generator;
 mod given;
 mod kinds;
@@ -17,13 +18,15 @@ mod way;
 
 use configs::shape_of;
 use events::{Habit, habit_of, late_opening, next_event, opening, side_of};
+use facts::AllAsked;
+use failure::Failure;
 use generator::Generator;
-use given::{COUNT, given};
+use given::{ASKED, COUNT, given};
 use std::alloc::Global;
 use std::io;
 use std::process::ExitCode;
-use tally::{Failure, Tally};
-use tcp_replay::World;
+use tally::Tally;
+use tcp_replay::{Event, World};
 
 const WORLDS: u32 = 1000;
 
@@ -76,23 +79,33 @@ fn run_worlds(alloc: Global, tally: &mut Tally) -> Result<(), Failure> {
     Ok(())
 }
 
-/// The hand-made world of this number. None of its events is refused.
-fn run_given(alloc: Global, number: u32, tally: &mut Tally) -> Result<(), Failure> {
+/// Runs events, none of which is refused; how much the users ask for by them.
+fn run_asking(alloc: Global, world: &mut World, events: &[Event]) -> Result<u32, Failure> {
+    let before = AllAsked::of(alloc, world)?;
+    if world.run(events).is_err() {
+        return Err(Failure);
+    }
+    Ok(before.changed(world))
+}
+
+/// The hand-made world of this number; how much its users asked for.
+fn run_given(alloc: Global, number: u32, tally: &mut Tally) -> Result<u32, Failure> {
     let (shape, events) = given(alloc, number)?;
     let Some(mut world) = shape.world(alloc) else {
         return Err(Failure);
     };
-    if world.run(&events).is_err() {
-        return Err(Failure);
-    }
-    tally.take(alloc, &mut world, shape.life)
+    let asked = run_asking(alloc, &mut world, &events)?;
+    tally.take(alloc, &mut world, shape.life)?;
+    Ok(asked)
 }
 
+/// Each thing that the users ask for is found, and so it would be on a way.
 fn run_all_given(alloc: Global, tally: &mut Tally) -> Result<(), Failure> {
+    let mut asked: u32 = 0;
     for number in 0..COUNT {
-        run_given(alloc, number, tally)?;
+        asked = asked.saturating_add(run_given(alloc, number, tally)?);
     }
-    Ok(())
+    if asked == ASKED { Ok(()) } else { Err(Failure) }
 }
 
 fn print_tallies(rt: &impl Print, random: &Tally, by_hand: &Tally) -> io::Result<()> {

@@ -1,27 +1,12 @@
 //! What is counted of the worlds.
 use crate::facts::{AllAsked, failed_in};
+use crate::failure::Failure;
 use crate::kinds::Kinds;
 use crate::places::is_live;
 use crate::way::settle;
-use std::alloc::{AllocError, Global};
+use std::alloc::Global;
 use std::io;
-use tcp_replay::{StepError, World};
-
-/// No memory, or an event on the way that was refused.
-#[derive(Clone, Copy, Debug)]
-pub(crate) struct Failure;
-
-impl From<AllocError> for Failure {
-    fn from(_: AllocError) -> Failure {
-        Failure
-    }
-}
-
-impl From<StepError> for Failure {
-    fn from(_: StepError) -> Failure {
-        Failure
-    }
-}
+use tcp_replay::World;
 
 #[derive(Clone, Copy, Default)]
 pub(crate) struct Tally {

@@ -1,15 +1,16 @@
 //! The way on which a world settles: events of network, clock and reader alone, that hand over all that was accepted.
 //! Each turn is one of three, for one of the directions.
 use crate::facts::is_settled;
+use crate::failure::Failure;
 use crate::places::{Nexts, left_in, other, taken, total, una};
 use crate::segments::{Segment, segment_at};
 use tcp_conn::{Received, Timer};
-use tcp_replay::{Event, Outcome, Side, StepError, World};
+use tcp_replay::{Event, Outcome, Side, World};
 
 /// The most that a user asks for at once, in bytes: as much as an end can hold.
 const ROOM: usize = 1_048_576;
 
-/// More segments than can be in flight: one for each byte, and the SYN and the FIN.
+/// As many segments as can be in flight: one for each byte, and the SYN and the FIN.
 const MOST_SEGMENTS: u32 = 1_048_578;
 
 /// The length of a segment without options and text. A reset has it.
@@ -24,12 +25,24 @@ enum Turn {
     Tell(Side),
 }
 
-fn do_event(world: &mut World, event: Event) -> Result<Outcome, StepError> {
-    world.step(&event)
+/// Whether this is an event of network, clock or reader.
+fn is_quiet(event: &Event) -> bool {
+    matches!(
+        event,
+        Event::Receive(..) | Event::Timer(..) | Event::Emit(_) | Event::Deliver(..)
+    )
+}
+
+/// No other event is on the way.
+fn do_event(world: &mut World, event: Event) -> Result<Outcome, Failure> {
+    if !is_quiet(&event) {
+        return Err(Failure);
+    }
+    Ok(world.step(&event)?)
 }
 
 /// Emits what is due, and answers what that is.
-fn emit(world: &mut World, side: Side) -> Result<Option<(usize, Segment)>, StepError> {
+fn emit(world: &mut World, side: Side) -> Result<Option<(usize, Segment)>, Failure> {
     let Outcome::Emitted(Some(k)) = do_event(world, Event::Emit(side))? else {
         return Ok(None);
     };
@@ -37,7 +50,7 @@ fn emit(world: &mut World, side: Side) -> Result<Option<(usize, Segment)>, StepE
 }
 
 /// The user reads all that there is.
-fn read_all(world: &mut World, side: Side) -> Result<(), StepError> {
+fn read_all(world: &mut World, side: Side) -> Result<(), Failure> {
     for _ in 0..3 {
         let outcome = do_event(world, Event::Receive(side, ROOM))?;
         if !matches!(outcome, Outcome::Got(Ok(Received::Bytes(_)))) {
@@ -48,7 +61,7 @@ fn read_all(world: &mut World, side: Side) -> Result<(), StepError> {
 }
 
 /// A reset that waits goes out first, and is lost; so may be an acknowledgement or a FIN alone.
-fn lose_reset(world: &mut World, side: Side) -> Result<(), StepError> {
+fn lose_reset(world: &mut World, side: Side) -> Result<(), Failure> {
     if world.endpoint(side).pending() == Some(HEADER) {
         emit(world, side)?;
     }
@@ -56,7 +69,7 @@ fn lose_reset(world: &mut World, side: Side) -> Result<(), StepError> {
 }
 
 /// All that is in flight from this side goes out again, and is lost: what goes out next stands at SND.NXT.
-fn lose_flight(world: &mut World, nexts: &mut Nexts, side: Side) -> Result<(), StepError> {
+fn lose_flight(world: &mut World, nexts: &mut Nexts, side: Side) -> Result<(), Failure> {
     do_event(world, Event::Timer(side, Timer::Retransmit))?;
     let next = nexts.of(world, side);
     if una(world, side) >= next {
@@ -72,7 +85,7 @@ fn lose_flight(world: &mut World, nexts: &mut Nexts, side: Side) -> Result<(), S
 }
 
 /// The segment in which this side sends what stands at a position, again or for the first time.
-fn send_at(world: &mut World, side: Side, position: u64) -> Result<Option<usize>, StepError> {
+fn send_at(world: &mut World, side: Side, position: u64) -> Result<Option<usize>, Failure> {
     do_event(world, Event::Timer(side, Timer::Retransmit))?;
     for _ in 0..MOST_SEGMENTS {
         match emit(world, side)? {
@@ -85,21 +98,21 @@ fn send_at(world: &mut World, side: Side, position: u64) -> Result<Option<usize>
 }
 
 /// Delivers it, where there is one.
-fn deliver(world: &mut World, side: Side, k: Option<usize>) -> Result<(), StepError> {
+fn deliver(world: &mut World, side: Side, k: Option<usize>) -> Result<(), Failure> {
     if let Some(k) = k {
         do_event(world, Event::Deliver(side, k))?;
     }
     Ok(())
 }
 
-fn bring(world: &mut World, side: Side) -> Result<(), StepError> {
+fn bring(world: &mut World, side: Side) -> Result<(), Failure> {
     let position = taken(world, side);
     let segment = send_at(world, side, position)?;
     deliver(world, side, segment)
 }
 
 /// The other side has rested, and is sent what it has already: so it owes an acknowledgement, which is delivered.
-fn tell(world: &mut World, nexts: &mut Nexts, side: Side) -> Result<(), StepError> {
+fn tell(world: &mut World, nexts: &mut Nexts, side: Side) -> Result<(), Failure> {
     lose_flight(world, nexts, other(side))?;
     let position = una(world, side);
     let old = send_at(world, side, position)?;
@@ -129,7 +142,7 @@ fn next_turn(world: &World, nexts: &mut Nexts) -> Option<Turn> {
 }
 
 /// What each turn begins with: both users read, and resets that wait are lost.
-fn clear(world: &mut World) -> Result<(), StepError> {
+fn clear(world: &mut World) -> Result<(), Failure> {
     read_all(world, Side::A)?;
     read_all(world, Side::B)?;
     lose_reset(world, Side::A)?;
@@ -137,7 +150,7 @@ fn clear(world: &mut World) -> Result<(), StepError> {
 }
 
 /// One turn; whether one was left.
-fn take_turn(world: &mut World, nexts: &mut Nexts) -> Result<bool, StepError> {
+fn take_turn(world: &mut World, nexts: &mut Nexts) -> Result<bool, Failure> {
     clear(world)?;
     let Some(turn) = next_turn(world, nexts) else {
         return Ok(false);
@@ -150,7 +163,7 @@ fn take_turn(world: &mut World, nexts: &mut Nexts) -> Result<bool, StepError> {
 }
 
 /// Both users read what is left, and the TIME-WAIT timers run out.
-fn finish(world: &mut World) -> Result<(), StepError> {
+fn finish(world: &mut World) -> Result<(), Failure> {
     clear(world)?;
     do_event(world, Event::Timer(Side::A, Timer::TimeWait))?;
     do_event(world, Event::Timer(Side::B, Timer::TimeWait))?;
@@ -159,7 +172,7 @@ fn finish(world: &mut World) -> Result<(), StepError> {
 
 /// Leads a world to where all is handed over; whether it came there. Each turn brings on at least one position, or the
 /// knowledge of one.
-pub(crate) fn settle(world: &mut World) -> Result<bool, StepError> {
+pub(crate) fn settle(world: &mut World) -> Result<bool, Failure> {
     let mut nexts = Nexts::default();
     for _ in 0..left_in(world) {
         if !take_turn(world, &mut nexts)? {
