@@ -57,7 +57,7 @@ def pasta(place, mtu=1500):
                          "--gateway", GATEWAY, "--ns-ifname", "tun0", "--netns", f"/run/netns/{CLIENTS}"])
 
 
-KINDS = {"usernet": usernet, "no offloads": lambda place: usernet(place, "--no-offloads"), "slirp4netns": slirp,
+KINDS = {"usernet": usernet, "usernet, no offloads": lambda place: usernet(place, "--no-offloads"), "slirp4netns": slirp,
          "pasta": pasta, "pasta, 64 KiB": lambda place: pasta(place, 65520)}
 
 
@@ -120,7 +120,7 @@ def count_open(place):
 
 
 def main():
-    kinds = [kind for kind in KINDS if kind in ("usernet", "no offloads") or shutil.which(kind.split(",")[0])]
+    kinds = [kind for kind in KINDS if kind.startswith("usernet") or shutil.which(kind.split(",")[0])]
     rows = {kind: [] for kind in kinds}
     with world.World(1 << 20) as place:
         place.server("ip", "link", "add", "outside", "type", "veth", "peer", "name", "inside")
