@@ -34,6 +34,17 @@ install_packages() {
     { apt-get update && DEBIAN_FRONTEND=noninteractive apt-get install -y --no-install-recommends "$@"; } >/dev/null 2>&1
 }
 
+# Whether a command works, once the package is installed if need be. Where it doesn't, what wants it is left out.
+has() {
+    local package=$1
+    shift
+    "$@" >/dev/null 2>&1 && return
+    install_packages "$package" || true
+    "$@" >/dev/null 2>&1 && return
+    leave_out "$package"
+    return 1
+}
+
 # Of lines "COMMAND PACKAGE" on its input, installs the packages of the commands that this machine lacks.
 install_commands() {
     local command package packages=()
