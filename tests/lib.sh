@@ -1,3 +1,4 @@
+# shellcheck shell=bash
 # What the test scripts share: how a machine's lacks are told. A script sets `test`, its name, and sources this file.
 #
 # What this machine can't run fails the script. With LEAVE_OUT=1 in the environment it is told and left out, and counted: the
@@ -7,11 +8,11 @@ left_out=0
 
 # This part of the tests can't run without the words' thing.
 leave_out() {
-    echo "$test: left out: no $*"
     if [[ ${LEAVE_OUT-} != 1 ]]; then
-        echo "$test: FAILED: this machine has no $* (LEAVE_OUT=1 leaves out what it can't run)"
+        echo "$test: FAILED: no $* here (LEAVE_OUT=1 leaves out what this machine can't run)"
         exit 1
     fi
+    echo "$test: left out: no $*"
     left_out=$((left_out + 1))
     [[ -z ${LEFT_OUT_FILE-} ]] || echo "$test: no $*" >>"$LEFT_OUT_FILE"
 }

@@ -6,13 +6,13 @@ set -euo pipefail
 cd "$(dirname "$0")"
 test=capture
 . ../tests/lib.sh
-program=$(realpath "${1:-../crates/tcpkit/out/tcpkit}")
+program=$(realpath -m "${1:-../crates/tcpkit/out/tcpkit}")
 
-[[ -e $program ]] || { echo "capture: no $program: run 'rt run' in crates/tcpkit"; exit 1; }
 need_network
 install_commands <<'LIST'
 ip iproute2
 tshark tshark
 LIST
 /usr/bin/python3 -c 'import dpkt' 2>/dev/null || install_packages python3-dpkt || leave_out_all python3-dpkt
+[[ -e $program ]] || { echo "capture: no $program: run 'rt run' in crates/tcpkit"; exit 1; }
 exec /usr/bin/python3 test_capture.py "$program"

@@ -6,7 +6,7 @@ set -euo pipefail
 cd "$(dirname "$0")"
 test=usernet
 . ../tests/lib.sh
-library=$(realpath "${1:-../crates/tcp_c/out/libtcp_c.a}")
+library=$(realpath -m "${1:-../crates/tcp_c/out/libtcp_c.a}")
 shift || true
 
 need_network
@@ -23,5 +23,6 @@ psql postgresql
 sshd openssh-server
 scp openssh-client
 LIST
+[[ -e $library ]] || { echo "usernet: no $library: run 'rt lib' in crates/tcp_c"; exit 1; }
 ./build.sh "$library"
 exec python3 test.py "$@"

@@ -7,7 +7,7 @@ set -euo pipefail
 cd "$(dirname "$0")/.."
 test=page
 . tests/lib.sh
-module= draw=
+module='' draw=''
 while (($#)); do
     case $1 in
         --draw) draw=$1 ;;
