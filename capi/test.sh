@@ -16,7 +16,7 @@ if [[ ${1-} == --target ]]; then
     shift 2
 fi
 library=${1:-../crates/tcp_c/out/libtcp_c.a}
-warnings="-std=c11 -g -Wall -Wextra -Wpedantic -Wcast-qual -Werror"
+warnings="-std=c11 -g -Wall -Wextra -Wpedantic -Wcast-qual -Wconversion -Wshadow -Wstrict-prototypes -Werror"
 sanitizers="-O1 -fsanitize=address,undefined -fno-sanitize-recover=all"
 calls=$(printf '%s\n' abort acknowledge arrive close connect emit free listen new peer pending receive rest rest_abort \
     rest_arrive rest_emit rest_pending rest_status rest_timer room send status stray_reset take timer timers)

@@ -8,7 +8,7 @@ set -euo pipefail
 cd "$(dirname "$0")"
 test=companions
 . ../../tests/lib.sh
-library=$(realpath "${1:-../../crates/tcp_c/out/libtcp_c.a}")
+library=$(realpath -m "${1:-../../crates/tcp_c/out/libtcp_c.a}")
 warnings="-std=c11 -g -Wall -Wextra -Wpedantic -Werror"
 stricter="-Wcast-qual -Wconversion -Wshadow -Wstrict-prototypes"
 sanitizers="-O1 -fsanitize=address,undefined -fno-sanitize-recover=all"
