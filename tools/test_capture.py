@@ -158,7 +158,7 @@ def check_refused_lines(tcpkit, folder):
         if done.returncode == 2:
             check_refused(done.stderr.rstrip("\n"), script, folder)
             count += 1
-    need("refused lines", count > 100, True)
+    need("refused lines", count > 60, True)
 
 
 def check_faults(folder):
