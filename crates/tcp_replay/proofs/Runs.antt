@@ -1,8 +1,9 @@
 -- A run, taken event by event.
-use Rattle.std.proofs.Common.{◌≡◌, ℕ, ◌+◌, ◌<◌, List, [], ◌∷◌, ◌++◌, length, get_or, take, drop, map, refl, sym, ◌∙◌, ap, arith, add-one, take-append-drop}
+use Rattle.std.proofs.Common.{◌≡◌, ℕ, ◌+◌, ◌<◌, ◌≤◌, List, [], ◌∷◌, ◌++◌, length, get_or, take, drop, map, refl, sym, ◌∙◌, ap, subst, arith, add-one, take-append-drop}
 use Rattle.std.specs.Prelude.{true, Option, Some, None, Result, Ok, Err, IfSome, IfNone, ◌==◌, nat_le, if◌then◌else◌}
+use Rattle.std.specs.List.{AllByRecursion}
 use Rattle.std.proofs.lemmas.Bool.{cond_both}
-use Rattle.std.proofs.lemmas.List.{drop_more, take_more, length-take-le, length-map, get_or-map}
+use Rattle.std.proofs.lemmas.List.{drop_more, take_all, take_more, length-take-le, length-map, get_or-map}
 use Rattle.std.proofs.lemmas.Option.{slice_get-get_or}
 use Rattle.tcp_conn.specs.State.{State}
 use Rattle.tcp_replay.specs.declared.outcome.Outcome.{Outcome}
@@ -114,6 +115,18 @@ pub next-front : {X : Type 0} (list : List X) (i : ℕ) (event : X) → i < leng
 next-front list i event inside is = ap (λ e. take i list ++ e ∷ []) is ∙ sym (take_more list i event inside)
 
 -- a run as far as an event, in the code's words
+-- something holds of each event so far, taken in turn
+all-last : {X : Type 0} (P : X → Type 0) (list : List X) (e : X) → AllByRecursion P list → P e → AllByRecursion P (list ++ e ∷ [])
+all-last P [] e all fits = (fits, tt)
+all-last P (first ∷ list) e all fits = (all.0, all-last P list e all.1 fits)
+
+pub all-go_on : {X : Type 0} (P : X → Type 0) (list : List X) (i : ℕ) (e : X) → i < length list → e ≡ get_or list i e → AllByRecursion P (take i list) → P e
+    → AllByRecursion P (take (i + 1) list)
+all-go_on P list i e inside is all fits = subst (AllByRecursion P) (next-front list i e inside is) (all-last P (take i list) e all fits)
+
+pub all-done : {X : Type 0} (P : X → Type 0) (list : List X) (i : ℕ) → length list ≤ i → AllByRecursion P (take i list) → AllByRecursion P list
+all-done P list i done all = subst (AllByRecursion P) (take_all i list done) all
+
 pub record RunsTo (w here : WorldState) (list : List EventContent) (i : ℕ) : Type 0 where
   pub going : stop_of w (take i list) ≡ None
   pub now : here ≡ run_of w (take i list)
