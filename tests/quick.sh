@@ -6,57 +6,65 @@
 set -euo pipefail
 cd "$(dirname "$0")/.."
 top=$PWD
+# shellcheck disable=SC2034
 test=quick
 . tests/lib.sh
 work=$(mktemp -d)
 trap 'rm -rf "$work"' EXIT
-passed=0 failed=0
 
-# Where it fails the end of what it wrote is shown.
+# Runs the words behind a name, and keeps what they write and whether they passed.
 quick() {
-    local start=$SECONDS
-    if "$@" >"$work/log" 2>&1; then
-        passed=$((passed + 1))
-        echo "quick: '$*' passed in $((SECONDS - start)) seconds"
+    local name=$1 start=$SECONDS
+    shift
+    if "$@" >"$work/$name.log" 2>&1; then
+        echo "passed in $((SECONDS - start)) seconds" >"$work/$name.passed"
+        echo "quick: $name passed in $((SECONDS - start)) seconds"
     else
-        failed=$((failed + 1))
-        echo "quick: '$*' failed:"
-        tail -n 20 "$work/log"
+        touch "$work/$name.failed"
+        echo "quick: $name failed:"
+        tail -n 20 "$work/$name.log"
     fi
 }
 
-# The program of a folder on its stdin and args, in the folder of its data.
+# The program of a folder on its stdin and args, with the files of its data.
 run_stored() {
-    local crate=$1 cases data=()
+    local crate=$1 cases data=() told
     cases=$(mktemp -d -p "$work")
     cp "$crate/stdin" "$cases/stored" 2>/dev/null || : >"$cases/stored"
     cp "$crate/stdout" "$cases/stored.stdout"
     [[ ! -e $crate/args ]] || cp "$crate/args" "$cases/stored.args"
-    for file in "$crate"/data/*; do
-        [[ ! -e $file ]] || data+=(--data "${file#"$crate/data/"}=$top/$file")
-    done
-    (cd "$crate" && rt try --steps 1000 "${data[@]}" --cases "$cases") | tee "$work/told" || true
+    while IFS= read -r file; do
+        data+=(--data "${file#"$crate/data/"}=$top/$file")
+    done < <(find "$crate/data" -type f 2>/dev/null)
     # The interpreter's run stops early: the compiled one tells.
-    grep -q '^case=stored run=ended .* output=expected' "$work/told"
+    told=$(cd "$crate" && rt try --steps 1000 "${data[@]}" --cases "$cases" 2>&1) || true
+    echo "$told"
+    grep -q '^case=stored run=ended .* output=expected' <<<"$told"
 }
 
+# As many programs at once as there are processors.
 for crate in crates/*; do
     [[ -e $crate/src/main.rt ]] || continue
     (($# == 0)) || [[ " $* " == *" ${crate#crates/} "* ]] || continue
-    quick run_stored "$crate"
+    while (($(jobs -rp | wc -l) >= $(nproc))); do wait -n || true; done
+    quick "${crate#crates/}" run_stored "$crate" &
 done
+wait
 if (($# == 0)); then
-    quick tests/statuses.sh
-    quick python3 tests/readme.py
-    quick tests/lint.sh
+    quick statuses tests/statuses.sh
+    quick documents python3 tests/readme.py
+    quick lint tests/lint.sh
+    quick captures tools/test.sh
     library=$top/crates/tcp_c/out/libtcp_c.a
     if [[ -e $library ]]; then
-        quick capi/test.sh "$library"
-        quick capi/companions/test.sh "$library"
+        quick capi capi/test.sh "$library"
+        quick companions capi/companions/test.sh "$library"
     else
         left_out=$((left_out + 1))
         echo "quick: left out: the C library: 'rt lib' in crates/tcp_c builds it, and proves it first"
     fi
 fi
+passed=$(find "$work" -name '*.passed' | wc -l)
+failed=$(find "$work" -name '*.failed' | wc -l)
 echo "$passed passed, $failed failed, $left_out skipped"
-((failed == 0))
+((failed == 0 && passed > 0))

@@ -10,7 +10,7 @@ place=web/out/build
 mkdir -p "$place/crates" web/out
 
 # No program, and no library for C.
-lines='^(tcp_[a-z_]+|counted_io|region_heap):'
+lines='^(tcp_[a-z_]+|kit_io|region_heap):'
 if [[ ${1-} == --here ]]; then
     [[ ! -e .git ]] || { echo "web/build.sh: with --here it changes crates.txt, and here is no copy"; exit 1; }
     place=.

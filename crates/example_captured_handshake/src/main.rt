@@ -4,12 +4,12 @@
 
 ghost use Rattle.std.specs.Prelude.{◌≡◌, ◌++◌, codes, IfOk, string_bytes};
 ghost use Rattle.tcp_wire.specs.View.{content};
-ghost use Rattle.tcp_text.specs.Segments.{fields_text};
+ghost use Rattle.kit_text.specs.Segments.{fields_text};
 
 use std::alloc::{AllocError, Global};
 use std::io;
 use std::process::ExitCode;
-use tcp_text::{push_fields, read_bytes};
+use kit_text::{push_fields, read_bytes};
 use tcp_wire::{Addr, Segment, decode};
 
 const CLIENT: Addr = Addr([10, 0, 0, 1]);

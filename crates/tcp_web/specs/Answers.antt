@@ -1,15 +1,15 @@
 -- What the module answers: a text, or the line of a fault.
-use Rattle.std.specs.Prelude.{◌≡◌, ℕ, List, [], ◌∷◌, ◌++◌, codes, decimal, Option, Some, None, Ok, if◌then◌else◌, ◌==◌}
+use Rattle.std.specs.Prelude.{◌≡◌, ◌⊎◌, ℕ, List, [], ◌∷◌, ◌++◌, length, codes, decimal, Option, Some, None, Ok, if◌then◌else◌, ◌==◌, true, false}
 use Rattle.tcp_conn.specs.Config.{config_error_number}
 use Rattle.tcp_replay.specs.declared.event.Side.{Side}
 use Rattle.tcp_replay.specs.declared.event.Side.TheVariants.{A, B}
 use Rattle.tcp_replay.specs.Names.{side_name}
 use Rattle.tcp_replay.specs.World.{HasGoodConfigs}
-use Rattle.tcp_script.specs.Script.{ScriptContent, script_of}
-use Rattle.tcp_report.specs.Steps.{steps_text, shown_segment}
-use Rattle.tcp_commands.specs.declared.errors.ToolError.{ToolError}
-use Rattle.tcp_commands.specs.declared.errors.ToolError.TheVariants.{BadLine, NoMemory, ReadFault, WriteFault, Config as ConfigFault}
-use Rattle.tcp_commands.specs.Replay.{RefusesText}
+use Rattle.kit_script.specs.Script.{ScriptContent, script_of}
+use Rattle.kit_report.specs.Steps.{steps_text, shown_segment}
+use Rattle.kit_commands.specs.declared.errors.ToolError.{ToolError}
+use Rattle.kit_commands.specs.declared.errors.ToolError.TheVariants.{BadLine, NoMemory, ReadFault, WriteFault, Config as ConfigFault}
+use Rattle.kit_commands.specs.Replay.{IsReport, RefusesText}
 
 -- the numbers of the answers
 abbrev pub well : ℕ
@@ -41,11 +41,24 @@ fault_text NoMemory = codes "tcpkit: 42" ++ (10 ∷ [])
 fault_text ReadFault = codes "tcpkit: 43" ++ (10 ∷ [])
 fault_text WriteFault = codes "tcpkit: 44" ++ (10 ∷ [])
 
+-- a fault of a text: a line that can't be read, or a Config that no end is made from
+abbrev pub IsOfText : ToolError → Type 0
+IsOfText (BadLine line) = Unit {0}
+IsOfText (ConfigFault side error) = Unit {0}
+IsOfText NoMemory = ⊥
+IsOfText ReadFault = ⊥
+IsOfText WriteFault = ⊥
+
 -- the text has a fault, and this is its line
 pub record IsFaultLine (text line : List ℕ) : Type 0 where
   pub error : ToolError
+  pub of_text : IsOfText error
   pub cause : RefusesText text error
   pub line_is : line ≡ fault_text error
+
+-- the report of a text, whether all was well or not
+abbrev pub IsAnyReport : List ℕ → List ℕ → Type 0
+IsAnyReport text report = IsReport text report true ⊎ IsReport text report false
 
 -- THE STEPS of a text, which is a script of two ends that can be made
 pub record IsSteps (text steps : List ℕ) : Type 0 where
@@ -60,6 +73,12 @@ pub record IsSegment (text : List ℕ) (side : Side) (k : ℕ) (shown : Option (
   pub meaning : script_of text ≡ Ok script
   pub configs : HasGoodConfigs script.a script.b
   pub shown_is : shown ≡ shown_segment script side k
+
+-- WHAT WANTS ROOM: a text or a fault's line of this length
+pub record WantsRoom (IsWritten : List ℕ → Type 0) (script : List ℕ) (len : ℕ) : Type 0 where
+  pub text : List ℕ
+  pub is_written : IsWritten text ⊎ IsFaultLine script text
+  pub len_is : len ≡ length text
 
 -- the side of a number
 abbrev pub side_of : ℕ → Option Side

@@ -1,27 +1,30 @@
 //! The exported functions.
 ghost use Rattle.std.specs.Prelude.{◌≡◌, ◌≢◌, ◌≤◌, ◌<◌, ◌⊎◌, true, false, length, take, Some, None, IfSome, IsNone};
-ghost use Rattle.tcp_commands.specs.Replay.{IsReport};
-ghost use Rattle.tcp_web.specs.Answers.{well, refused, fault, no_memory, no_room, no_segment, side_of, fault_text, IsFaultLine, IsSteps, IsSegment};
+ghost use Rattle.kit_commands.specs.Replay.{IsReport};
+ghost use Rattle.tcp_web.specs.Answers.{well, refused, fault, no_memory, no_room, no_segment, side_of, fault_text, IsOfText, IsFaultLine, IsAnyReport, IsSteps, IsSegment, WantsRoom};
 
 use crate::answers::{FAULT, NO_MEMORY, NO_SEGMENT, REFUSED, WELL, put};
 use crate::faults::fault_line;
 use crate::texts::{segment_of, steps_of};
+use kit_commands::{ToolError, report_of};
 use region_heap::{Block, Region};
 use std::alloc::Allocator;
-use tcp_commands::{ToolError, report_of};
 use tcp_replay::Side;
 
-/// Writes the line of a fault; where memory ran out nothing, and the block is too small.
+/// Writes the line of a fault of the text; where memory ran out nothing, and the block is too small.
 fn put_fault<A: Allocator>(alloc: A, error: ToolError, out: &mut [u8], count: &mut usize) -> u32
+    ensures of_text { result ≢ no_memory → IsOfText error }
     ensures fault { result ≡ fault → take count.new out.new ≡ fault_text error }
     ensures answers { result ≢ fault → (result ≡ no_memory) ⊎ (result ≡ no_room) }
     ensures fits { result ≤ fault → count.new ≤ length out.old }
     ensures no_memory { result ≡ no_memory → count.new ≡ 0 }
-    ensures no_room { result ≡ no_room → length out.old < count.new }
+    ensures no_room { result ≡ no_room → (length out.old < count.new) × (count.new ≡ length (fault_text error)) }
 {
     *count = 0;
-    if error == ToolError::NoMemory {
-        return NO_MEMORY;
+    match error {
+        ToolError::BadLine { .. } | ToolError::Config(..) => {}
+        // Nothing is read from a device here, or written to one.
+        ToolError::NoMemory | ToolError::ReadFault | ToolError::WriteFault => return NO_MEMORY,
     }
     match fault_line(alloc, error) {
         Ok(line) => put(line.as_bytes(), out, count, FAULT),
@@ -42,7 +45,8 @@ pub extern "C" fn tcp_web_replay(
     ensures fault { result ≡ fault → IsFaultLine script.now (take count.new out.new) }
     ensures fits { result ≤ fault → count.new ≤ length out.old }
     ensures no_memory { result ≡ no_memory → count.new ≡ 0 }
-    ensures no_room { result ≡ no_room → length out.old < count.new }
+    // Where there is too little room, the length that is wanted is told.
+    ensures no_room { result ≡ no_room → (length out.old < count.new) × WantsRoom (IsAnyReport script.now) script.now count.new }
     ensures answers { result ≤ no_room }
 {
     let region = Region::new(memory);
@@ -68,7 +72,7 @@ pub extern "C" fn tcp_web_steps(
     ensures fault { result ≡ fault → IsFaultLine script.now (take count.new out.new) }
     ensures fits { result ≤ fault → count.new ≤ length out.old }
     ensures no_memory { result ≡ no_memory → count.new ≡ 0 }
-    ensures no_room { result ≡ no_room → length out.old < count.new }
+    ensures no_room { result ≡ no_room → (length out.old < count.new) × WantsRoom (IsSteps script.now) script.now count.new }
     ensures answers { result ≤ no_room }
     ensures unrefused { result ≢ refused }
 {
@@ -108,7 +112,7 @@ pub extern "C" fn tcp_web_show(
     ensures nothing { result ≡ no_segment → count.new ≡ 0 }
     ensures fits { result ≤ fault → count.new ≤ length out.old }
     ensures no_memory { result ≡ no_memory → count.new ≡ 0 }
-    ensures no_room { result ≡ no_room → length out.old < count.new }
+    ensures no_room { result ≡ no_room → (length out.old < count.new) × IfSome (side_of side) (λ side. WantsRoom (λ shown. IsSegment script.now side number (Some shown)) script.now count.new) }
     ensures answers { result ≤ no_segment }
     ensures unrefused { result ≢ refused }
 {

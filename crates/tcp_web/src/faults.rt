@@ -2,8 +2,8 @@
 ghost use Rattle.std.specs.Prelude.{◌≡◌, ◌++◌, IfOk, OnOk, string_bytes};
 ghost use Rattle.tcp_web.specs.Answers.{config_fault_text, fault_text};
 
+use kit_commands::ToolError;
 use std::alloc::{AllocError, Allocator};
-use tcp_commands::ToolError;
 use tcp_replay::Side;
 
 /// Appends the line of a fault of what an end is made from.

@@ -1,13 +1,13 @@
 //! What is told of a script's text.
 ghost use Rattle.std.specs.Prelude.{◌≡◌, option_map, IfOk, IfErr, string_bytes};
-ghost use Rattle.tcp_commands.specs.Replay.{RefusesText};
+ghost use Rattle.kit_commands.specs.Replay.{RefusesText};
 ghost use Rattle.tcp_web.specs.Answers.{IsSteps, IsSegment};
 
+use kit_commands::ToolError;
+use kit_report::{make_steps, show_segment};
+use kit_script::read_script_bytes;
 use std::alloc::Allocator;
-use tcp_commands::ToolError;
 use tcp_replay::Side;
-use tcp_report::{make_steps, show_segment};
-use tcp_script::read_script_bytes;
 
 /// The steps of a text.
 pub(crate) fn steps_of<A: Allocator + Copy>(alloc: A, text: &[u8]) -> Result<String<A>, ToolError>

@@ -5,15 +5,15 @@
 
 mod program;
 
-pub use counted_io::{Counted, Input, Output};
+pub use kit_commands::{ToolError, replay, show};
+pub use kit_io::{Counted, Input, Output};
+pub use kit_script::{Script, ScriptError, Turn, read_script};
+pub use kit_words::{Job, WordsError, read_words};
 use std::process::ExitCode;
-pub use tcp_commands::{ToolError, replay, show};
 pub use tcp_conn::{
     Arrival, CallError, Config, ConfigError, Ending, Endpoint, Phase, Received, Timer,
 };
 pub use tcp_replay::{Event, Outcome, Side, StepError, World, WorldError};
-pub use tcp_script::{Script, ScriptError, Turn, read_script};
-pub use tcp_words::{Job, WordsError, read_words};
 
 fn main(rt: HostRuntime) -> ExitCode {
     ExitCode::from(program::run(&rt))

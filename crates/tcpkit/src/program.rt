@@ -1,11 +1,11 @@
 //! The program: its words, its file, and its exit status.
-use counted_io::Counted;
+use kit_commands::{ToolError, replay, show};
+use kit_io::Counted;
+use kit_words::{Job, WordsError, exit_status, read_words};
 use std::fs::File;
 use std::io::Read;
 use std::rt::{Env, Files};
 use std::{env, io};
-use tcp_commands::{ToolError, replay, show};
-use tcp_words::{Job, WordsError, exit_status, read_words};
 use thiserror::Error;
 
 /// Why the program ends without its whole report.

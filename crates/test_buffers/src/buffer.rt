@@ -1,10 +1,10 @@
 //! The buffer that lines speak of.
 use crate::inbox::{answer_inbox, new_inbox};
 use crate::queue::{answer_queue, new_queue};
+use kit_text::{LineError, SPACE, cut};
 use std::alloc::Global;
 use tcp_reasm::Reassembly;
 use tcp_sendq::SendQueue;
-use tcp_text::{LineError, SPACE, cut};
 
 #[derive(Drop)]
 pub(crate) enum Buffer {

@@ -1,9 +1,9 @@
 //! The calls of a reassembly.
 use crate::buffer::Buffer;
 use crate::words::number;
+use kit_text::{LineError, SPACE, cut, push_bytes, read_bytes};
 use std::alloc::{AllocError, Global};
 use tcp_reasm::{Placed, Reassembly};
-use tcp_text::{LineError, SPACE, cut, push_bytes, read_bytes};
 
 /// The longest text that a line places, in bytes.
 const MAX_TEXT: usize = 65_495;

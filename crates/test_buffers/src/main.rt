@@ -9,9 +9,9 @@ mod inbox;
 mod queue;
 mod words;
 
-use counted_io::{Counted, read_all};
+use kit_io::{Counted, read_all};
+use kit_text::{LineError, Lines};
 use std::process::ExitCode;
-use tcp_text::{LineError, Lines};
 
 /// Takes every line in turn, and answers what is written of them.
 fn answer_lines(rt: &impl AllocGlobal, text: &[u8]) -> Result<String, LineError> {

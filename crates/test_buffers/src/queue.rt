@@ -1,9 +1,9 @@
 //! The calls of a send queue. A call that asks for more than the queue has is answered by `outside`, and isn't made.
 use crate::buffer::Buffer;
 use crate::words::{number, two_numbers};
+use kit_text::{LineError, push_bytes, read_bytes};
 use std::alloc::Global;
 use tcp_sendq::SendQueue;
-use tcp_text::{LineError, push_bytes, read_bytes};
 
 pub(crate) fn new_queue(
     alloc: Global,

@@ -1,7 +1,7 @@
 //! The words of a line.
 ghost use Rattle.std.specs.Prelude.{◌≤◌, IfOk};
 
-use tcp_text::{LineError, SPACE, cut, read_number};
+use kit_text::{LineError, SPACE, cut, read_number};
 
 /// The greatest number of a line.
 const MAX_NUMBER: u64 = 4_294_967_295;

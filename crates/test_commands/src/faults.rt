@@ -1,9 +1,9 @@
 //! What the program writes after `tcpkit: ` for each fault.
+use kit_commands::ToolError;
+use kit_words::WordsError;
 use std::io;
-use tcp_commands::ToolError;
 use tcp_conn::ConfigError;
 use tcp_replay::Side;
-use tcp_words::WordsError;
 
 const OF_COMMANDS: [ToolError; 8] = [
     ToolError::BadLine { line: 3 },

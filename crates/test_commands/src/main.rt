@@ -7,11 +7,11 @@ mod faults;
 mod rows;
 mod texts;
 
-use counted_io::{Counted, read_all};
+use kit_io::{Counted, read_all};
+use kit_script::read_script;
+use kit_text::Lines;
 use std::io;
 use std::process::ExitCode;
-use tcp_script::read_script;
-use tcp_text::Lines;
 
 /// How many events a script has.
 fn print_event_count(rt: &(impl Print + AllocGlobal), script: &str) -> io::Result<()> {

@@ -4,11 +4,11 @@
 //! or `flush`, the first two at the write of the number AT. Calls are counted from 0.
 use crate::devices::{Reader, Trouble, Writer};
 use crate::texts::{BAD_LIST, BEFORE_BAD_LINE, CONNECTION, LISTING, REPORT, SEGMENTS};
-use counted_io::Counted;
+use kit_commands::{ToolError, replay, show};
+use kit_io::Counted;
+use kit_text::{SPACE, cut, read_number};
 use std::alloc::Global;
 use std::io;
-use tcp_commands::{ToolError, replay, show};
-use tcp_text::{SPACE, cut, read_number};
 
 /// A command, what it reads, and what it is to write where nothing fails.
 #[derive(Clone, Copy)]

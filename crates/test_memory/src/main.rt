@@ -12,12 +12,12 @@ mod seen;
 mod steps;
 mod streams;
 
-use counted_io::{Counted, read_all};
+use kit_io::{Counted, read_all};
+use kit_script::{Script, read_script};
+use kit_text::Lines;
 use std::io;
 use std::process::ExitCode;
 use tcp_conn::{Config, DEFAULT_LIMIT};
-use tcp_script::{Script, read_script};
-use tcp_text::Lines;
 use tcp_wire::{Addr, Seq};
 
 /// What an end is made from.

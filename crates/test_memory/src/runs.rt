@@ -1,9 +1,9 @@
 //! A run that stops for want of memory, and goes on with it.
 use crate::heaps::{leave, new_heap};
 use crate::seen::{Seen, see};
+use kit_script::{Script, Turn};
 use std::alloc::{Allocator, Global};
 use tcp_replay::{StepError, World};
-use tcp_script::{Script, Turn};
 
 /// Applies the events of lines without `repeat` in turn, up to the first that is refused: its place, and why.
 pub(crate) fn run<A: Allocator + Copy>(

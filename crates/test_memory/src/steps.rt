@@ -2,9 +2,9 @@
 use crate::heaps::{leave, new_heap};
 use crate::runs::run;
 use crate::seen::{Seen, see};
+use kit_script::{Script, Turn};
 use std::alloc::Global;
 use tcp_replay::{Event, Outcome, StepError, World};
-use tcp_script::{Script, Turn};
 
 /// What came of an event.
 #[derive(Clone, Copy, PartialEq)]

@@ -4,7 +4,7 @@ use Rattle.tcp_halves.specs.declared.outcome.CallError.{CallError}
 use Rattle.tcp_conn.specs.Outcome.{call_error_number}
 use Rattle.tcp_conn.specs.State.{State}
 use Rattle.tcp_conn.specs.Names.{phase_name, ending_name}
-use Rattle.tcp_answers.specs.Answers.{refused_text}
+use Rattle.kit_report.specs.Answers.{refused_text}
 
 -- a call that answers nothing but its refusal
 abbrev pub call_text : Result (Unit {0}) CallError → List ℕ

@@ -1,9 +1,9 @@
-//! What the answers of tcp_answers leave out: a call that answers nothing, and where the end is after it.
+//! What the answers of kit_report leave out: a call that answers nothing, and where the end is after it.
 ghost use Rattle.std.specs.Prelude.{◌≡◌, ◌++◌, OnOk, string_bytes};
 ghost use Rattle.test_one_end.specs.Answers.{call_text, state_text};
 
+use kit_report::push_refused;
 use std::alloc::AllocError;
-use tcp_answers::push_refused;
 use tcp_conn::{CallError, Endpoint};
 
 pub(crate) fn push_call(text: &mut String, answer: Result<(), CallError>) -> Result<(), AllocError>

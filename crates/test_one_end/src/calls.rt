@@ -1,10 +1,10 @@
 //! What the log of the lines so far tells of the last one.
 use crate::answers::{push_call, push_state};
+use kit_report::{push_arrival, push_receive, push_segment, push_send};
+use kit_text::{LineError, push_bytes};
 use std::alloc::{AllocError, Global};
-use tcp_answers::{push_arrival, push_receive, push_segment, push_send};
 use tcp_conn::{CallError, Endpoint, Received};
 use tcp_replay::{Outcome, SoloLog};
-use tcp_text::{LineError, push_bytes};
 use tcp_wire::Addr;
 
 /// Appends which timers would apply.

@@ -1,8 +1,8 @@
 //! A line's event.
+use kit_script::read_timer;
+use kit_text::{LineError, SPACE, cut, read_addr, read_bytes, read_number};
 use std::alloc::Global;
 use tcp_replay::SoloEvent;
-use tcp_script::read_timer;
-use tcp_text::{LineError, SPACE, cut, read_addr, read_bytes, read_number};
 use tcp_wire::Addr;
 
 /// The greatest count that a line asks to receive.

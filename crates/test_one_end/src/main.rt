@@ -12,11 +12,11 @@ mod events;
 mod reading;
 mod stream;
 
-use counted_io::{Counted, read_all};
+use kit_io::{Counted, read_all};
+use kit_text::{LineError, Lines};
 use std::alloc::Global;
 use std::process::ExitCode;
 use stream::Stream;
-use tcp_text::{LineError, Lines};
 
 /// Takes one line: another end, or an event of the one there is.
 fn take_line(

@@ -1,10 +1,10 @@
 //! What a line asks for.
 ghost use Rattle.std.specs.Prelude.{◌≡◌, option_map};
-ghost use Rattle.tcp_text.specs.Words.{number_of};
+ghost use Rattle.kit_text.specs.Words.{number_of};
 
+use kit_script::read_shift;
+use kit_text::{SPACE, cut, read_number};
 use tcp_conn::{Config, DEFAULT_LIMIT};
-use tcp_script::read_shift;
-use tcp_text::{SPACE, cut, read_number};
 use tcp_wire::{Addr, Seq};
 
 fn read_seq(word: &[u8]) -> Option<Seq>

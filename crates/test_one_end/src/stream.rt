@@ -1,10 +1,10 @@
 //! One end, and what happened to it so far.
 use crate::calls::{push_last, push_timers};
 use crate::events::read_event;
+use kit_text::{LineError, SPACE, cut};
 use std::alloc::Global;
 use tcp_conn::Config;
 use tcp_replay::{SoloError, SoloEvent, solo};
-use tcp_text::{LineError, SPACE, cut};
 
 /// What an end is made from, and its events.
 #[derive(Drop)]

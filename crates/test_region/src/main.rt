@@ -3,12 +3,12 @@
 //! each, of blocks of these sizes.
 #![tactic(auto)]
 
-use counted_io::{Counted, read_all};
+use kit_io::{Counted, read_all};
+use kit_text::{LineError, Lines, SPACE, cut, read_number};
 use region_heap::{Block, Region};
 use std::alloc::{AllocError, Global};
 use std::process::ExitCode;
 use tcp_conn::{Config, Endpoint};
-use tcp_text::{LineError, Lines, SPACE, cut, read_number};
 use tcp_wire::{Addr, Seq};
 
 fn number(word: &[u8]) -> Result<usize, LineError> {

@@ -1,11 +1,11 @@
 //! The cases of a folder, in the order of their names. A file `NAME.script` is a script, and each line of a file
 //! `NAME.scripts` is one; `NAME.list` and `NAME.lists` are the same for lists of segments.
 use crate::form::{Form, Kind, form_of_ending};
-use counted_io::Counted;
+use kit_commands::{ToolError, replay, show};
+use kit_io::Counted;
 use std::alloc::Global;
 use std::rt::{Env, Files};
 use std::{env, fs, io};
-use tcp_commands::{ToolError, replay, show};
 
 /// The form that the file of a name has.
 fn form_of(name: &str) -> Option<Form> {

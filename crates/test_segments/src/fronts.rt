@@ -1,8 +1,8 @@
 //! Rows on cut segments from 10.0.0.1 to 10.0.0.2.
 use crate::segments::{DST, SRC};
 use crate::words::{number, two_words};
+use kit_text::{LineError, push_bytes, push_named_fault, read_bytes};
 use std::alloc::Global;
-use tcp_text::{LineError, push_bytes, push_named_fault, read_bytes};
 use tcp_wire::{checksum, decode};
 
 /// Writes the checksum with which the segment checks.

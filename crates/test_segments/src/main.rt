@@ -15,7 +15,7 @@ mod segments;
 mod sums;
 mod words;
 
-use counted_io::{Counted, read_all};
+use kit_io::{Counted, read_all};
 use std::process::ExitCode;
 
 fn main(rt: HostRuntime) -> ExitCode {

@@ -1,6 +1,6 @@
 //! Rows on sequence numbers and control bits.
 use crate::words::{number, two_words};
-use tcp_text::{LineError, read_number};
+use kit_text::{LineError, read_number};
 use tcp_wire::{Flags, Seq};
 
 const IN_WINDOW: &[u8] = b"in-window";

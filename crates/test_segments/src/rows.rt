@@ -1,7 +1,7 @@
 //! A row, and its answer.
 use crate::{fronts, numbers, segments, sums, words};
+use kit_text::{LineError, Lines, SPACE, cut};
 use std::alloc::Global;
-use tcp_text::{LineError, Lines, SPACE, cut};
 
 /// The answers of all rows, a line each.
 pub(crate) fn answers(alloc: Global, text: &[u8]) -> Result<String, LineError> {

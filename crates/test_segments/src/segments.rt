@@ -1,8 +1,8 @@
 //! Rows on segments from 10.0.0.1 to 10.0.0.2.
 use crate::words::number;
 use arrayvec::ArrayVec;
+use kit_text::{LineError, push_bytes, push_fields, push_named_fault, read_bytes};
 use std::alloc::Global;
-use tcp_text::{LineError, push_bytes, push_fields, push_named_fault, read_bytes};
 use tcp_wire::{
     Addr, Flags, Header, RawSegment, Segment, Seq, decode, encode, text_offset, write_around,
 };

@@ -1,7 +1,7 @@
 //! Rows on sums of words, and on checksums of long texts.
 use crate::words::{number, two_words};
+use kit_text::LineError;
 use std::alloc::{AllocError, Global};
-use tcp_text::LineError;
 use tcp_wire::{Addr, checks, checksum, word_sum};
 
 /// The bytes of the longest segment.

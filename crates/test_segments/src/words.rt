@@ -1,6 +1,6 @@
 //! Words of a row, and rows on words.
+use kit_text::{LineError, Lines, SPACE, cut, read_bytes, read_number};
 use std::alloc::Global;
-use tcp_text::{LineError, Lines, SPACE, cut, read_bytes, read_number};
 
 /// The two words of a row.
 pub(crate) fn two_words(rest: &[u8]) -> Result<(&[u8], &[u8]), LineError> {

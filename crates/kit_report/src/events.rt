@@ -1,0 +1,35 @@
+//! Events in the script's words.
+ghost use Rattle.std.specs.Prelude.{◌≡◌, ◌++◌, OnOk, string_bytes};
+ghost use Rattle.tcp_replay.specs.Events.{event_content};
+ghost use Rattle.kit_report.specs.Events.{others_text, event_text};
+
+use kit_script::{kind_name, kind_of};
+use std::alloc::{AllocError, Allocator};
+use tcp_replay::Event;
+
+/// The words after the side, but for the bytes that are sent.
+fn push_others<A: Allocator>(text: &mut String<A>, event: &Event<A>) -> Result<(), AllocError>
+    ensures { OnOk result (string_bytes text.new ≡ string_bytes text.old ++ others_text (event_content event.now)) }
+{
+    match event {
+        Event::Receive(_, room) => write!(text, " {room}"),
+        Event::Timer(_, timer) => write!(text, " {timer}"),
+        Event::Deliver(_, k) => write!(text, " {k}"),
+        Event::Damage(_, k, place, value) => write!(text, " {k} {place} {value}"),
+        _ => Ok(()),
+    }
+}
+
+/// Appends an event, but for the bytes that are sent.
+#[tactic(auto, unfolding(crate::specs::Events::event_text))]
+pub(crate) fn push_event<A: Allocator>(
+    text: &mut String<A>,
+    event: &Event<A>,
+) -> Result<(), AllocError>
+    ensures { OnOk result (string_bytes text.new ≡ string_bytes text.old ++ event_text (event_content event.now)) }
+{
+    let kind = kind_name(kind_of(event));
+    let side = event.side();
+    write!(text, "{kind} {side}")?;
+    push_others(text, event)
+}

@@ -1,0 +1,139 @@
+//! The words of a script: kinds of events, sides and timers.
+ghost use Rattle.std.specs.Prelude.{◌≡◌};
+ghost use Rattle.tcp_replay.specs.Events.{event_content};
+ghost use Rattle.kit_script.specs.Names as spec;
+
+use std::alloc::Allocator;
+use tcp_conn::Timer;
+use tcp_replay::{Event, Side};
+
+/// What happens in an event, whatever it names.
+#[derive(Clone, Copy, Debug, PartialEq, Eq)]
+pub enum Kind {
+    /// The user opens.
+    Connect,
+    /// The user waits for the other side.
+    Listen,
+    /// The user sends.
+    Send,
+    /// The user asks for bytes.
+    Receive,
+    /// The user has no more to send.
+    Close,
+    /// The user gives the connection up.
+    Abort,
+    /// The user has the window told. No line of a script says it.
+    Acknowledge,
+    /// A timer runs out.
+    Timer,
+    /// The side emits what is due.
+    Emit,
+    /// A segment of the side arrives.
+    Deliver,
+    /// A segment of the side arrives with one byte changed.
+    Damage,
+}
+
+/// The kind of an event.
+pub fn kind_of<A: Allocator>(event: &Event<A>) -> Kind
+    ensures { result ≡ spec.kind_of (event_content event.now) }
+{
+    match event {
+        Event::Connect(_) => Kind::Connect,
+        Event::Listen(_) => Kind::Listen,
+        Event::Send(_, _) => Kind::Send,
+        Event::Receive(_, _) => Kind::Receive,
+        Event::Close(_) => Kind::Close,
+        Event::Abort(_) => Kind::Abort,
+        Event::Acknowledge(_) => Kind::Acknowledge,
+        Event::Timer(_, _) => Kind::Timer,
+        Event::Emit(_) => Kind::Emit,
+        Event::Deliver(_, _) => Kind::Deliver,
+        Event::Damage(_, _, _, _) => Kind::Damage,
+    }
+}
+
+/// The name of a kind.
+pub fn kind_name(kind: Kind) -> &'static str
+    ensures { result.now ≡ spec.kind_name kind }
+{
+    match kind {
+        Kind::Connect => "connect",
+        Kind::Listen => "listen",
+        Kind::Send => "send",
+        Kind::Receive => "receive",
+        Kind::Close => "close",
+        Kind::Abort => "abort",
+        Kind::Acknowledge => "acknowledge",
+        Kind::Timer => "timer",
+        Kind::Emit => "emit",
+        Kind::Deliver => "deliver",
+        Kind::Damage => "damage",
+    }
+}
+
+/// The kind that a word of a script names. No line says `acknowledge`.
+pub(crate) fn read_kind(word: &[u8]) -> Option<Kind>
+    ensures { result ≡ spec.kind_named word.now }
+{
+    if word == kind_name(Kind::Connect).as_bytes() {
+        return Some(Kind::Connect);
+    }
+    if word == kind_name(Kind::Listen).as_bytes() {
+        return Some(Kind::Listen);
+    }
+    if word == kind_name(Kind::Send).as_bytes() {
+        return Some(Kind::Send);
+    }
+    if word == kind_name(Kind::Receive).as_bytes() {
+        return Some(Kind::Receive);
+    }
+    if word == kind_name(Kind::Close).as_bytes() {
+        return Some(Kind::Close);
+    }
+    if word == kind_name(Kind::Abort).as_bytes() {
+        return Some(Kind::Abort);
+    }
+    if word == kind_name(Kind::Timer).as_bytes() {
+        return Some(Kind::Timer);
+    }
+    if word == kind_name(Kind::Emit).as_bytes() {
+        return Some(Kind::Emit);
+    }
+    if word == kind_name(Kind::Deliver).as_bytes() {
+        return Some(Kind::Deliver);
+    }
+    if word == kind_name(Kind::Damage).as_bytes() {
+        return Some(Kind::Damage);
+    }
+    None
+}
+
+/// The side that a word names.
+pub(crate) fn read_side(word: &[u8]) -> Option<Side>
+    ensures { result ≡ spec.side_named word.now }
+{
+    if word == Side::A.name().as_bytes() {
+        return Some(Side::A);
+    }
+    if word == Side::B.name().as_bytes() {
+        return Some(Side::B);
+    }
+    None
+}
+
+/// The timer that a word names.
+pub fn read_timer(word: &[u8]) -> Option<Timer>
+    ensures { result ≡ spec.timer_named word.now }
+{
+    if word == Timer::Retransmit.name().as_bytes() {
+        return Some(Timer::Retransmit);
+    }
+    if word == Timer::Reorder.name().as_bytes() {
+        return Some(Timer::Reorder);
+    }
+    if word == Timer::TimeWait.name().as_bytes() {
+        return Some(Timer::TimeWait);
+    }
+    None
+}

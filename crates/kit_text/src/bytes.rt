@@ -1,0 +1,42 @@
+//! Bytes in hexadecimal; `-` is no bytes.
+ghost use Rattle.std.specs.Prelude.{◌≡◌, ◌++◌, OnOk, string_bytes};
+ghost use Rattle.kit_text.specs.Words.{bytes_of, Reads};
+ghost use Rattle.kit_text.specs.Texts.{bytes_text};
+
+use crate::line::LineError;
+use hex::FromHexError;
+use std::alloc::{AllocError, Allocator};
+
+const NO_BYTES: &[u8] = b"-";
+
+/// The bytes of a word in hexadecimal digits of either case, two for each byte; `-` has none.
+pub fn read_bytes<A: Allocator + Copy>(alloc: A, word: &[u8]) -> Result<Vec<u8, A>, LineError>
+    ensures { Reads (λ bytes. bytes.items) result (bytes_of word.now) }
+{
+    if word == NO_BYTES {
+        return Ok(Vec::new(alloc));
+    }
+    if word.is_empty() {
+        return Err(LineError::BadForm);
+    }
+    match hex::decode(alloc, word) {
+        Ok(bytes) => Ok(bytes),
+        Err(FromHexError::OutOfMemory) => Err(LineError::NoMemory),
+        Err(_) => Err(LineError::BadForm),
+    }
+}
+
+/// Appends bytes in lower case hexadecimal, or `-` for none.
+pub fn push_bytes<A: Allocator + Copy>(
+    alloc: A,
+    text: &mut String<A>,
+    bytes: &[u8],
+) -> Result<(), AllocError>
+    ensures { OnOk result (string_bytes text.new ≡ string_bytes text.old ++ bytes_text bytes.now) }
+{
+    if bytes.is_empty() {
+        return text.push_str("-");
+    }
+    let digits = hex::encode(alloc, bytes)?;
+    text.push_str(digits.as_str())
+}

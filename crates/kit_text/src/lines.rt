@@ -1,0 +1,102 @@
+//! The lines of a text.
+ghost use Rattle.std.specs.Prelude.{◌≡◌, ◌+◌, ◌==◌, ◌<◌, ◌≤◌, nat_lt, length, position, count_by, IfOk, IfErr, IfSome, Ok, Err};
+ghost use Rattle.kit_text.specs.Lines.{is_passed_over, line_above_ascii, ascii_lines};
+
+use crate::cutting::{LINE_FEED, cut};
+use std::marker::Model;
+
+/// What begins a comment.
+const COMMENT: u8 = b'#';
+
+/// The lines of a text that say something, each with its number: lines count from 1, all of them, and those that
+/// are empty or begin with `#` are passed over.
+#[derive(Debug, Drop)]
+pub struct Lines<'a> {
+    /// What is left of the text; none after its last line.
+    rest: Option<&'a [u8]>,
+    /// How many lines stand before it.
+    count: usize,
+}
+
+impl<'a> Model for Lines<'a> {
+    ghost use Rattle.std.specs.Prelude.{ℕ, List};
+    ghost use Rattle.kit_text.specs.Lines.{lines_left, CanCount};
+
+    ghost Value = { List (ℕ × List ℕ) };
+
+    ghost view = { λ lines. lines_left lines.count lines.rest };
+
+    ghost invariant = { λ lines. CanCount lines.count lines.rest };
+}
+
+impl<'a> Lines<'a> {
+    /// The lines of a text, at most one more than it has bytes; or where it has a byte above 7f, the line of the first.
+    #[tactic(auto, using(crate::proofs::LineCounts::length_numbered_lines))]
+    pub fn new(text: &'a [u8]) -> Result<Lines<'a>, usize>
+        ensures lines { IfOk result (λ lines. ascii_lines text.now ≡ Ok lines) }
+        ensures above { IfErr result (λ line. ascii_lines text.now ≡ Err line) }
+        ensures count { IfOk result (λ lines. length lines ≤ length text.now + 1) }
+    {
+        if let Some(line) = line_above_ascii(text) {
+            return Err(line);
+        }
+        Ok(Lines {
+            rest: Some(text),
+            count: 0,
+        })
+    }
+}
+
+impl<'a> Iterator for Lines<'a> {
+    ghost use Rattle.std.specs.Iterator.{YieldsFirstBy, item_count};
+
+    type Item = (usize, &'a [u8]);
+
+    ghost next_gives = { YieldsFirstBy (λ line. (line.0, line.1.now)) (λ lines. lines) };
+
+    ghost remaining = { item_count (λ lines. lines) };
+
+    #[tactic(auto, unfolding(crate::specs::Lines::numbered_from))]
+    fn next(&mut self) -> Option<(usize, &'a [u8])> {
+        while let Some(rest) = self.rest {
+            let (line, rest) = cut(LINE_FEED, rest);
+            self.rest = rest;
+            self.count += 1;
+            if !is_passed_over(line) {
+                return Some((self.count, line));
+            }
+        }
+        None
+    }
+}
+
+/// Whether a line is empty or a comment.
+fn is_passed_over(line: &[u8]) -> bool
+    ensures { result ≡ is_passed_over line.now }
+{
+    line.is_empty() || line[0] == COMMENT
+}
+
+/// The place of the first byte above 7f.
+fn first_above_ascii(text: &[u8]) -> Option<usize>
+    ensures place { result ≡ position (nat_lt 127) text.now }
+    ensures within { IfSome result (λ at. at < length text.now) }
+{
+    text.iter().position(|byte| *byte > 0x7f)
+}
+
+/// How many lines end in a prefix of a text.
+fn count_lines(prefix: &[u8]) -> usize
+    ensures count { result ≡ count_by (λ b. b == 10) prefix.now }
+    ensures most { result ≤ length prefix.now }
+{
+    prefix.iter().filter(|byte| **byte == LINE_FEED).count()
+}
+
+/// The line of the first byte above 7f.
+fn line_above_ascii(text: &[u8]) -> Option<usize>
+    ensures { result ≡ line_above_ascii text.now }
+{
+    let at = first_above_ascii(text)?;
+    Some(count_lines(&text[..at]) + 1)
+}

@@ -1,0 +1,39 @@
+//! Numbers as a line writes them.
+ghost use Rattle.std.specs.Prelude.{◌≡◌, ◌≤◌, ◌+◌, ◌-◌, ◌*◌, ◌^◌, IfSome, IfNone};
+ghost use Rattle.kit_text.specs.Words.{has_leading_zero, number_of};
+
+fn has_leading_zero(word: &[u8]) -> bool
+    ensures { result ≡ has_leading_zero word.now }
+{
+    word.len() > 1 && word[0] == b'0'
+}
+
+/// The number that one digit more writes, where it fits.
+fn with_digit(value: u64, digit: u8) -> Option<u64>
+    requires { 48 ≤ digit }
+    ensures fits { IfSome result (λ n. n ≡ 10 * value + (digit - 48)) }
+    ensures above { IfNone result (2 ^ 64 ≤ 10 * value + (digit - 48)) }
+{
+    value.checked_mul(10)?.checked_add(u64::from(digit - b'0'))
+}
+
+/// The number of a word in decimal digits, without sign and without leading zeros, where it is at most `most`.
+pub fn read_number(word: &[u8], most: u64) -> Option<u64>
+    ensures value { result ≡ number_of most word.now }
+    ensures most { IfSome result (λ n. n ≤ most) }
+{
+    if word.is_empty() || has_leading_zero(word) {
+        return None;
+    }
+    let mut value = 0u64;
+    for digit in word {
+        if !digit.is_ascii_digit() {
+            return None;
+        }
+        value = with_digit(value, *digit)?;
+    }
+    if value > most {
+        return None;
+    }
+    Some(value)
+}

@@ -1,6 +1,0 @@
-use Rattle.std.proofs.Common.{arith}
-use Rattle.std.proofs.lemmas.Grind.{common_steps}
-use Rattle.tcp_answers.proofs.answers.push_arrival.Goals as goal
-
-pub returns-in-Dropped : goal.returns-in-Dropped
-returns-in-Dropped g c = grind (arith, common_steps)

@@ -1,6 +1,0 @@
-use Rattle.std.proofs.Common.{arith}
-use Rattle.std.proofs.lemmas.Grind.{common_steps}
-use Rattle.tcp_script.proofs.names.read_timer.Goals as goal
-
-pub returns-then-eq-3 : goal.returns-then-eq-3
-returns-then-eq-3 c = grind (arith, common_steps)

@@ -1,8 +1,0 @@
-use Rattle.std.proofs.Common.{◌≡◌}
-use Rattle.tcp_script.specs.Script.{script_content, script_from, HasLife}
-use Rattle.tcp_script.proofs.script.Script.read_lines.Given as goal
-
-abbrev pub invariant-loop-number : goal.invariant-loop-number
-invariant-loop-number g l =
-    (script_from (script_content l.self) l.number-iterator ≡ script_from (script_content l.fn.self) l.fn.lines)
-    × (HasLife l.fn.self → HasLife l.self)

@@ -1,8 +1,0 @@
-use Rattle.std.proofs.Common.{sym}
-use Rattle.tcp_script.proofs.WordCounts.{setting_of_words-four}
-use Rattle.tcp_script.proofs.statement.read_config.Goals as goal
-
-pub returns-then-is_some : goal.returns-then-is_some
-returns-then-is_some g c =
-    rw (c.in_ok-rest.was, c.cut.ensures.pieces, c.in_ok-rest-2.was, c.cut-2.ensures.pieces, c.in_ok-rest-3.was, c.cut-3.ensures.pieces)
-    (sym (setting_of_words-four c.cut.result.0.now c.cut-2.result.0.now c.cut-3.result.0.now c.cut-3.result.1 (sym c.if-is_some.ensures)))
