@@ -1,23 +1,27 @@
 //! Each allocation in turn is refused, on heaps with 16 bytes more each time: in making a queue, a reassembly, an end
-//! and a world, in `solo`, in a step on each kind of event, and in a run. Where making is refused it is by 22. A
+//! and a world, in `solo` and `read_script`, in a step on each kind of event, and in a run. Where making is refused it is by 22. A
 //! refused step is 34, changes nothing that can be seen, and with memory has the outcome that it would have had at
 //! first; a run stops behind the events that it did, and goes on with memory. Each line that comes in is an event,
 //! which is stepped behind a handshake with text that each side sent.
 #![tactic(auto)]
 
+mod given;
 mod heaps;
 mod makers;
 mod runs;
+mod scripts;
 mod seen;
 mod steps;
 mod streams;
 
+use given::Given;
 use kit_io::{Counted, read_all};
-use kit_script::{Script, read_script};
+use kit_script::read_script;
 use kit_text::Lines;
 use std::io;
 use std::process::ExitCode;
 use tcp_conn::{Config, DEFAULT_LIMIT};
+use tcp_replay::{Event, Side};
 use tcp_wire::{Addr, Seq};
 
 /// What an end is made from.
@@ -34,7 +38,7 @@ pub(crate) const CONFIG: Config = Config {
 };
 
 /// What stands before an event: B has text to read, A text to send, and a segment of B is on its way.
-const BASE: &str = "\
+pub(crate) const BASE: &str = "\
 config A send 64
 config A recv 64
 config B send 64
@@ -55,23 +59,31 @@ emit B
 send A 6768
 ";
 
-/// The script of what stands before an event, and of this.
-fn script_of(rt: &impl AllocGlobal, line: &str) -> Option<Script> {
+/// The ends and events of what stands before an event, and of this.
+fn given_of(rt: &impl AllocGlobal, line: &str) -> Option<Given> {
     let mut text = String::new(rt.alloc());
     text.push_str(BASE).ok()?;
     text.push_str(line).ok()?;
-    read_script(rt.alloc(), &text).ok()
+    let script = read_script(rt.alloc(), &text).ok()?;
+    Given::new(rt.alloc(), script).ok()
 }
 
-fn print_step(rt: &(impl Print + AllocGlobal), line: &str, script: &Script) -> io::Result<()> {
-    match steps::count_refusals(rt.alloc(), script) {
+/// The same before a call that no line of a script asks for.
+fn given_acknowledge(rt: &impl AllocGlobal) -> Option<Given> {
+    let mut given = given_of(rt, "")?;
+    given.events.push(Event::Acknowledge(Side::B)).ok()?;
+    Some(given)
+}
+
+fn print_step(rt: &(impl Print + AllocGlobal), line: &str, given: &Given) -> io::Result<()> {
+    match steps::count_refusals(rt.alloc(), given) {
         Some(count) => println!(rt; "{line}: refused by 34 {count} times, and then as with memory"),
         None => println!(rt; "{line}: another answer"),
     }
 }
 
-fn print_run(rt: &(impl Print + AllocGlobal), script: &Script) -> io::Result<()> {
-    match runs::count_stops(rt.alloc(), script) {
+fn print_run(rt: &(impl Print + AllocGlobal), given: &Given) -> io::Result<()> {
+    match runs::count_stops(rt.alloc(), given) {
         Some(count) => println!(rt; "run: stopped by 34 {count} times, and went on with memory"),
         None => println!(rt; "run: another answer"),
     }
@@ -81,9 +93,14 @@ fn print_run(rt: &(impl Print + AllocGlobal), script: &Script) -> io::Result<()>
 fn print_line(rt: &(impl Print + AllocGlobal), line: &[u8]) -> io::Result<()> {
     let line = str::from_utf8(line).unwrap_or("?");
     let is_run = line == "run";
-    match script_of(rt, if is_run { "receive B 10" } else { line }) {
-        Some(script) if is_run => print_run(rt, &script),
-        Some(script) => print_step(rt, line, &script),
+    let given = match line {
+        "run" => given_of(rt, "receive B 10"),
+        "acknowledge B" => given_acknowledge(rt),
+        _ => given_of(rt, line),
+    };
+    match given {
+        Some(given) if is_run => print_run(rt, &given),
+        Some(given) => print_step(rt, line, &given),
         None => Err(io::Error::from(io::ErrorKind::InvalidData)),
     }
 }
@@ -91,6 +108,7 @@ fn print_line(rt: &(impl Print + AllocGlobal), line: &[u8]) -> io::Result<()> {
 fn print_all(rt: &(impl Print + AllocGlobal), text: &[u8]) -> io::Result<()> {
     makers::print_makers(rt)?;
     streams::print_solo(rt)?;
+    scripts::print_scripts(rt)?;
     let Ok(lines) = Lines::new(text) else {
         return Err(io::Error::from(io::ErrorKind::InvalidData));
     };

@@ -5,7 +5,7 @@ use std::alloc::Global;
 use std::io;
 use tcp_conn::Endpoint;
 use tcp_reasm::Reassembly;
-use tcp_replay::{World, WorldError};
+use tcp_replay::{MAX_LIFE, World, WorldError};
 use tcp_sendq::{QueueError, SendQueue};
 
 /// What is made.
@@ -15,6 +15,7 @@ enum Kind {
     Inbox,
     End,
     World,
+    WorldWithLifetime,
 }
 
 /// Whether the thing is made on this heap, or refused for want of memory; None where it is refused for anything else.
@@ -23,7 +24,10 @@ fn is_made(heap: &LocalHeap, kind: Kind) -> Option<bool> {
         Kind::Queue => is_queue_made(heap),
         Kind::Inbox => is_inbox_made(heap),
         Kind::End => is_end_made(heap),
-        Kind::World => is_world_made(heap),
+        Kind::World => is_made_of(World::new_in(heap, CONFIG, CONFIG)),
+        Kind::WorldWithLifetime => {
+            is_made_of(World::with_lifetime_in(heap, CONFIG, CONFIG, MAX_LIFE))
+        }
     }
 }
 
@@ -49,8 +53,8 @@ fn is_end_made(heap: &LocalHeap) -> Option<bool> {
     }
 }
 
-fn is_world_made(heap: &LocalHeap) -> Option<bool> {
-    match World::new_in(heap, CONFIG, CONFIG) {
+fn is_made_of(world: Result<World<&LocalHeap>, WorldError>) -> Option<bool> {
+    match world {
         Ok(_) => Some(true),
         Err(WorldError::Config(_, fault)) => is_want_of_memory(fault.number()),
     }
@@ -83,5 +87,6 @@ pub(crate) fn print_makers(rt: &(impl Print + AllocGlobal)) -> io::Result<()> {
     print_kind(rt, "send queue", Kind::Queue)?;
     print_kind(rt, "reassembly", Kind::Inbox)?;
     print_kind(rt, "end", Kind::End)?;
-    print_kind(rt, "two ends", Kind::World)
+    print_kind(rt, "two ends", Kind::World)?;
+    print_kind(rt, "two ends with a lifetime", Kind::WorldWithLifetime)
 }

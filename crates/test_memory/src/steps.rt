@@ -1,8 +1,7 @@
 //! One event on a world whose heap has too little left, and the same event again with memory.
+use crate::given::Given;
 use crate::heaps::{leave, new_heap};
-use crate::runs::run;
 use crate::seen::{Seen, see};
-use kit_script::{Script, Turn};
 use std::alloc::Global;
 use tcp_replay::{Event, Outcome, StepError, World};
 
@@ -24,11 +23,11 @@ struct Tried {
 }
 
 /// What comes of the last event where there is memory.
-fn answer_with_memory(alloc: Global, script: &Script) -> Option<Answer> {
-    let (last, base) = script.events.split_last()?;
-    let mut world = World::new(alloc, script.a, script.b).ok()?;
-    run(&mut world, base).ok()?;
-    let outcome = world.step(&last.event).ok()?;
+fn answer_with_memory(alloc: Global, given: &Given) -> Option<Answer> {
+    let (last, base) = given.events.split_last()?;
+    let mut world = World::new(alloc, given.a, given.b).ok()?;
+    world.run(base).ok()?;
+    let outcome = world.step(last).ok()?;
     let seen = see(&world);
     Some(Answer { outcome, seen })
 }
@@ -36,14 +35,14 @@ fn answer_with_memory(alloc: Global, script: &Script) -> Option<Answer> {
 /// Tries the event with so many blocks left, and then, where it was refused by 34, with memory.
 fn try_event(
     alloc: Global,
-    script: &Script,
-    base: &[Turn],
+    given: &Given,
+    base: &[Event],
     event: &Event,
     blocks: usize,
 ) -> Option<Tried> {
     let heap = new_heap(alloc)?;
-    let mut world = World::new_in(&heap, script.a, script.b).ok()?;
-    run(&mut world, base).ok()?;
+    let mut world = World::new_in(&heap, given.a, given.b).ok()?;
+    world.run(base).ok()?;
     let taken = leave(alloc, &heap, blocks).ok()?;
     let before = see(&world);
     let first = world.step(event);
@@ -66,11 +65,11 @@ fn try_event(
 
 /// How often the last event is refused, with a block more left each time, until there is enough; None where a refusal
 /// changed anything, or where the outcome isn't the one with memory.
-pub(crate) fn count_refusals(alloc: Global, script: &Script) -> Option<usize> {
-    let wanted = answer_with_memory(alloc, script)?;
-    let (last, base) = script.events.split_last()?;
+pub(crate) fn count_refusals(alloc: Global, given: &Given) -> Option<usize> {
+    let wanted = answer_with_memory(alloc, given)?;
+    let (last, base) = given.events.split_last()?;
     for blocks in 0..64usize {
-        let tried = try_event(alloc, script, base, &last.event, blocks)?;
+        let tried = try_event(alloc, given, base, last, blocks)?;
         if tried.answer != wanted || tried.is_refused && !tried.is_kept {
             return None;
         }
