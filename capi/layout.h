@@ -38,8 +38,9 @@ FIELD(struct tcpcore_status, own_shift, 76, 1);
 FIELD(struct tcpcore_status, peer_shift, 77, 1);
 FIELD(struct tcpcore_status, scaling, 78, 1);
 FIELD(struct tcpcore_status, sack, 79, 1);
+FIELD(struct tcpcore_status, snd_wnd, 80, 4);
 /* The library's status ends here: it writes nothing behind. */
-FIELD(struct tcpcore_status, reserved, 80, 48);
+FIELD(struct tcpcore_status, reserved, 84, 44);
 _Static_assert(sizeof(struct tcpcore_status) == 128, "the status of every version");
 
 FIELD(struct tcpcore_rest, mark, 0, 4);

@@ -105,7 +105,7 @@ extern "C" {
 #endif
 
 /* The version of this header: it grows with each change of a struct, a call or an answer. */
-#define TCPCORE_VERSION 3
+#define TCPCORE_VERSION 4
 
 /* The answers; tcpcore_strerror has a text for each. */
 enum {
@@ -250,7 +250,9 @@ struct tcpcore_status {
     uint8_t peer_shift; /* the shift of the windows that the peer tells */
     uint8_t scaling;   /* 1 where windows are scaled (RFC 7323, 2.2) */
     uint8_t sack;      /* 1 where selective acknowledgement is in use (RFC 2018, 2) */
-    uint64_t reserved[6]; /* 0. Fields of later versions take their place from here: the struct's size stays */
+    uint32_t snd_wnd;  /* SND.WND: the peer's window in bytes, scaled, as the segments told it that the end goes by (RFC 9293,
+                          3.3.1 and 3.10.7.4). It is 0 until the own SYN was acknowledged */
+    uint32_t reserved[11]; /* 0. Fields of later versions take their place from here: the struct's size stays */
 };
 
 /*

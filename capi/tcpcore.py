@@ -4,7 +4,7 @@ import ctypes
 import os
 from collections import namedtuple
 
-VERSION = 3
+VERSION = 4
 DONE, TOO_SHORT, TOO_LONG, BAD_CHECKSUM, BAD_OFFSET, BAD_OPTION, BAD_PADDING = range(7)
 NOT_OPEN, ALREADY_OPEN, CLOSING, ENDED, STREAM_FULL, NOT_CONNECTED = range(11, 17)
 BAD_CAPACITY, NO_MEMORY, BAD_MSS, BAD_SHIFT, BAD_LIMIT = range(21, 26)
@@ -23,7 +23,8 @@ LIMIT = 2_147_483_632
 
 Status = namedtuple(
     "Status",
-    "phase ending unread released ordered una next room queued in_flight mss own_shift peer_shift scaling sack",
+    "phase ending unread released ordered una next room queued in_flight mss own_shift peer_shift scaling sack "
+    "snd_wnd",
 )
 
 
@@ -75,7 +76,8 @@ class StatusStruct(ctypes.Structure):
         ("peer_shift", ctypes.c_uint8),
         ("scaling", ctypes.c_uint8),
         ("sack", ctypes.c_uint8),
-        ("reserved", ctypes.c_uint64 * 6),
+        ("snd_wnd", ctypes.c_uint32),
+        ("reserved", ctypes.c_uint32 * 11),
     ]
 
 

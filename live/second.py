@@ -94,4 +94,5 @@ class End:
             peer_shift=model.peer_shift,
             scaling=int(model.scaling),
             sack=int(model.sack),
+            snd_wnd=model.snd_wnd,
         )

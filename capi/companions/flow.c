@@ -49,10 +49,9 @@ uint32_t flow_arrive(struct flow *flow, tcpcore_end *end, tcpcore_addr src, tcpc
     if (answer != TCPCORE_DONE && answer != TCPCORE_DROPPED)
         return answer;
     struct tcpcore_status after = status_of(end);
-    if (answer == TCPCORE_DONE) {
+    if (answer == TCPCORE_DONE)
         timers_arrived(&flow->timers, segment, length, now);
-        flow->is_shut = bits_of(segment, ACK) && read16(segment + AT_WINDOW) == 0;
-    }
+    flow->is_shut = after.phase >= TCPCORE_PHASE_ESTABLISHED && after.snd_wnd == 0;
     if (after.mss > 0)
         congestion_agreed(&flow->congestion, after.mss);
     int tells_blocks = length == header_of(segment) && length > SEGMENT_HEADER;

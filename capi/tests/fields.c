@@ -74,6 +74,7 @@ static void layout(void)
     FIELD(struct tcpcore_status, peer_shift);
     FIELD(struct tcpcore_status, scaling);
     FIELD(struct tcpcore_status, sack);
+    FIELD(struct tcpcore_status, snd_wnd);
     FIELD(struct tcpcore_status, reserved);
     printf(" of %zu\ntcpcore_rest:", sizeof(struct tcpcore_status));
     FIELD(struct tcpcore_rest, mark);
@@ -178,8 +179,8 @@ static void tell_more(const struct side *side)
         printf("%s: %s", side->name, tcpcore_strerror(answer));
     printf(", room %llu, queued %llu, in flight %llu, due %u", (unsigned long long)told.room,
            (unsigned long long)told.queued, (unsigned long long)told.in_flight, due);
-    printf(", mss %u, shifts %u and %u, scaling %u, sack %u\n", told.mss, told.own_shift, told.peer_shift, told.scaling,
-           told.sack);
+    printf(", mss %u, shifts %u and %u, scaling %u, sack %u, SND.WND %u\n", told.mss, told.own_shift, told.peer_shift,
+           told.scaling, told.sack, told.snd_wnd);
     for (size_t i = 0; i < sizeof told.reserved / sizeof *told.reserved; i++)
         if (told.reserved[i] != 0)
             printf("reserved word %zu isn't 0\n", i);

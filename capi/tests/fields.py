@@ -46,7 +46,7 @@ class Side:
         print(
             f"{self.name}: {known}, room {told.room}, queued {told.queued}, in flight {told.in_flight}, "
             f"due {self.end.pending()}, mss {told.mss}, shifts {told.own_shift} and {told.peer_shift}, "
-            f"scaling {told.scaling}, sack {told.sack}"
+            f"scaling {told.scaling}, sack {told.sack}, SND.WND {told.snd_wnd}"
         )
 
     def offer(self, length):

@@ -258,6 +258,45 @@ static void shut(void)
     free_both();
 }
 
+static void read(struct side *side, size_t room)
+{
+    uint8_t out[60 * MSS];
+    size_t count;
+    CHECK(flow_receive(&side->flow, &side->end, out, room, &count), TCPCORE_DONE);
+    CHECK(count, room);
+}
+
+/* An old segment tells a shut window late, behind a newer one that told an open one: the end doesn't go by it (RFC 9293,
+   3.10.7.4), and what times out then was lost. */
+static void shut_by_an_old_segment(void)
+{
+    static uint8_t old[TCPCORE_EMIT_ROOM];
+    open_both(0);
+    for (size_t at = 0, taken; at < KEEPS; at += taken) {
+        taken = give(&a, KEEPS - at);
+        carry(&a, &b);
+        carry(&b, &a);
+    }
+    CHECK(a.flow.is_shut, 1);
+    CHECK(give(&b, 100), 100);
+    CHECK(emit(&b), 1);
+    size_t length = lengths[0];
+    memcpy(old, segments[0], length);
+    read(&b, KEEPS);
+    CHECK(carry(&b, &a), 1);
+    CHECK(a.flow.is_shut, 0);
+    CHECK(flow_arrive(&a.flow, &a.end, b.addr, a.addr, old, length, now), TCPCORE_DONE);
+    CHECK(a.flow.is_shut, 0);
+    CHECK(carry(&a, &b), 1);
+    CHECK(give(&a, MSS), MSS);
+    CHECK(emit(&a), 1);
+    now += (uint64_t)flow_wait(&a.flow, now);
+    CHECK(emit(&a), 1);
+    CHECK(a.flow.congestion.timeouts, 1);
+    CHECK(a.flow.congestion.cwnd, MSS);
+    free_both();
+}
+
 /* A loss that Reorder finds, a round trip after the first block: half the window, and what is lost goes out again. */
 static void reordered(void)
 {
@@ -287,14 +326,6 @@ static void reordered(void)
     CHECK(a.flow.congestion.loss, CONGESTION_OPEN);
     CHECK(emit(&a), 0);
     free_both();
-}
-
-static void read(struct side *side, size_t room)
-{
-    uint8_t out[60 * MSS];
-    size_t count;
-    CHECK(flow_receive(&side->flow, &side->end, out, room, &count), TCPCORE_DONE);
-    CHECK(count, room);
 }
 
 /* RFC 9293, 3.8.6.2.2: a window that was shut is told once a full segment fits; one that is half open by itself. */
@@ -442,6 +473,7 @@ int main(void)
     reordered();
     reordered_anew();
     shut();
+    shut_by_an_old_segment();
     window();
     tails();
     slow_path(300, 60);
