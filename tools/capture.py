@@ -20,7 +20,11 @@ import os
 import struct
 import sys
 
-import dpkt
+try:
+    import dpkt
+except ImportError:
+    print("capture.py: no dpkt here (Debian's python3-dpkt)", file=sys.stderr)
+    sys.exit(2)
 
 sys.path.insert(0, os.path.join(os.path.dirname(os.path.realpath(__file__)), "..", "differential"))
 
