@@ -4,6 +4,9 @@
 /* In segments: the initial window (RFC 6928, 2), and the least that a window is halved to (RFC 5681, 3.1). */
 enum { INITIAL = 10, LEAST = 2 };
 
+/* No more milliseconds than these are counted at once. */
+enum { LONGEST = 1 << 20 };
+
 static uint64_t smaller(uint64_t a, uint64_t b) { return a < b ? a : b; }
 static uint64_t greater(uint64_t a, uint64_t b) { return a < b ? b : a; }
 
@@ -101,8 +104,8 @@ static uint64_t bounded(uint64_t trip) { return greater(trip, 1000); }
    more than a quarter of the window goes out at once. */
 static int64_t credit_at(const struct congestion *congestion, uint64_t now, uint64_t trip)
 {
-    uint64_t passed = smaller(1000 * (now - congestion->counted), bounded(trip));
-    int64_t credit = congestion->credit + (int64_t)(passed * congestion->cwnd / bounded(trip));
+    uint64_t passed = smaller(now - congestion->counted, LONGEST);
+    int64_t credit = congestion->credit + (int64_t)(passed * 1000 * congestion->cwnd / bounded(trip));
     int64_t most = (int64_t)greater(LEAST * congestion->mss, congestion->cwnd / 4);
     return credit < most ? credit : most;
 }

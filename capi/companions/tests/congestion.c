@@ -167,12 +167,22 @@ static void pace_of_little(void)
     congestion_resent(&c, SMALL);
     CHECK(congestion_may_resend(&c, 5 + 2000, 1000 * TRIP), 0);
     CHECK(congestion_resend_at(&c, 1000 * TRIP) == UINT64_MAX, 1);
-    /* However long the pause and the round trip, they are worth a window and no more. */
+    /* However long the pause and the round trip, two segments go out at once and no more. */
     congestion_lost(&c, CONGESTION_TIMED_OUT, 2, 5000);
     congestion_resent(&c, SMALL);
     congestion_acknowledged(&c, 2 * SMALL, 0);
     CHECK(congestion_may_resend(&c, UINT64_MAX / 2000, UINT64_C(240000000)), 1);
     CHECK(c.credit, 2 * SMALL);
+    /* What went out before its time, with an acknowledgement that may not wait, is waited for, however much it is. */
+    congestion_lost(&c, CONGESTION_TIMED_OUT, 3, 5000);
+    for (int at = 0; at < 5; at++)
+        congestion_resent(&c, SMALL);
+    c.again = 0;
+    CHECK(c.credit, -4 * SMALL);
+    /* 257 bytes, at 64 in 900 ms. */
+    CHECK(congestion_resend_at(&c, 1000 * TRIP), 5000 + 3615);
+    CHECK(congestion_may_resend(&c, 5000 + 3614, 1000 * TRIP), 0);
+    CHECK(congestion_may_resend(&c, 5000 + 3615, 1000 * TRIP), 1);
 }
 
 int main(void)
