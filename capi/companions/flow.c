@@ -127,9 +127,10 @@ static uint64_t trip_of(const struct flow *flow)
 /* Whether what is due waits: what goes out again for its pace, and an acknowledgement for a second segment. */
 static int waits(struct flow *flow, const tcpcore_end *end, uint64_t now)
 {
+    int may_wait = !flow->is_owed && now < flow->answer_at;
     if (flow->is_resending && !congestion_may_resend(&flow->congestion, now, trip_of(flow)))
-        return !flow->is_owed;
-    return !flow->is_owed && flow->unanswered > 0 && now < flow->answer_at && answers_alone(end);
+        return may_wait;
+    return may_wait && flow->unanswered > 0 && answers_alone(end);
 }
 
 /* Nothing that came waits for an acknowledgement. */

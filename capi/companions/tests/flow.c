@@ -442,24 +442,29 @@ static size_t read_all(struct side *side)
 }
 
 /* Segments of 64 bytes over a path of 300 and of 900 ms that loses one of ten, asked each millisecond: what is lost goes out
-   again at the path's pace, however little a millisecond is worth, and all is there within so many seconds. */
-static void slow_path(uint64_t trip, uint64_t seconds)
+   again at the path's pace, however little a millisecond is worth. `wanted` bytes go from A to B, and `back` from B to A, where
+   what goes out again carries acknowledgements, too; all are there within so many seconds. */
+static void slow_path(uint64_t trip, size_t wanted, size_t back, uint64_t seconds)
 {
-    size_t got = 0, wanted = 20000, sent = 0;
+    size_t there = 0, here = 0, sent = 0, sent_back = 0;
     open_with(64, 0);
     uint64_t began = now;
-    for (put = taken_off = 0; got < wanted && now - began < 1000 * seconds; now++) {
+    for (put = taken_off = 0; there + here < wanted + back && now - began < 1000 * seconds; now++) {
         take_off();
-        got += read_all(&b);
-        if (sent < wanted)
-            sent += give(&a, wanted - sent);
+        there += read_all(&b);
+        here += read_all(&a);
+        sent += sent < wanted ? give(&a, wanted - sent) : 0;
+        sent_back += sent_back < back ? give(&b, back - sent_back) : 0;
         put_on(&a, &b, trip / 2, 10);
         put_on(&b, &a, trip / 2, 10);
         /* Nothing is left to do in this millisecond. */
         CHECK(flow_wait(&a.flow, now) != 0, 1);
+        CHECK(flow_wait(&b.flow, now) != 0, 1);
     }
-    CHECK(got, wanted);
-    CHECK(a.flow.resent < 100, 1);
+    CHECK(there, wanted);
+    CHECK(here, back);
+    CHECK(a.flow.resent < 150, 1);
+    CHECK(b.flow.resent < 150, 1);
     free_both();
 }
 
@@ -476,8 +481,10 @@ int main(void)
     shut_by_an_old_segment();
     window();
     tails();
-    slow_path(300, 60);
-    slow_path(900, 150);
+    slow_path(300, 20000, 0, 60);
+    slow_path(900, 20000, 0, 150);
+    slow_path(300, 20000, 20000, 60);
+    slow_path(900, 20000, 20000, 150);
     printf("flow: %d checks\n", checks);
     return 0;
 }
