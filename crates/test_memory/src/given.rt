@@ -5,6 +5,7 @@ use tcp_conn::Config;
 use tcp_replay::Event;
 
 /// What the ends are made from, and the events between them.
+#[derive(Drop)]
 pub(crate) struct Given {
     pub(crate) a: Config,
     pub(crate) b: Config,
