@@ -1,5 +1,8 @@
 //! The program's commands, over any input and output: they list the segments of a list, or replay a script, and write
 //! what comes of it.
+//!
+//! [`show`] and [`replay`] read their input to its end, write a whole listing or report, and flush; [`report_of`] makes the report of a
+//! text alone. [`ToolError`] is each way in which they end otherwise. The program's words are `kit_words`'.
 #![tactic(auto)]
 
 mod errors;

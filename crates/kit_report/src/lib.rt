@@ -1,4 +1,8 @@
 //! The report of a script: what came of each event between two new ends, and how both stand at last and after each event.
+//!
+//! [`make_report`] writes the program's [`Report`], [`make_steps`] how both ends stand after each event, and [`show_segment`] what one
+//! emitted segment says; each is a function of the script, and fails for want of memory or by a Config alone ([`ReportError`]). The
+//! `push_..` are the answers of one end in words.
 #![tactic(auto)]
 
 mod answers;

@@ -1,5 +1,13 @@
 //! One end of a TCP connection as a plain value (RFC 9293, 3.3 to 3.10): user calls, timers and arriving
 //! bytes go in, segments and bytes for the user come out.
+//!
+//! - [`Endpoint`] is made from a [`Config`]. The user calls `connect`, `listen`, `send`, `receive`, `close`, `abort`; `arrive` takes
+//!   any bytes, `emit` writes the segment that is due, and `timers` and `timer` are the caller's clock. Nothing but `new` takes memory.
+//! - [`Rest`] stands in the place of an end in TIME-WAIT, without buffers.
+//! - [`stray_reset`] answers a segment for which there is no end (RFC 9293, 3.10.7.1).
+//! - [`laws`]: what always holds of an end, what close, abort and timers do in each phase, that what rests is the end.
+//!
+//! Left out: any clock, congestion control, urgent data, timestamps, simultaneous open and reopening.
 #![tactic(auto)]
 
 mod arrival;

@@ -1,4 +1,10 @@
-//! The two halves of an end of a TCP connection (RFC 9293, 3.3.1): what sends, what receives, and what both are told.
+//! The two halves of an end of a TCP connection (RFC 9293, 3.3.1), and what both are told.
+//!
+//! - [`Sender`]: SND.UNA, SND.NXT, SND.WND, the queue, and what has to be sent again; [`Due`] says what goes out next.
+//! - [`Receiver`]: RCV.NXT, what came, and the peer's FIN.
+//! - [`Config`] is what an end is made from, [`Link`] what both SYNs agreed on, [`Owed`] what has to be answered; [`Phase`],
+//!   [`Ending`], [`Timer`], [`Arrival`], [`CallError`] and [`Received`] name states and answers.
+//!
 //! The end itself, with its calls, arrivals and emissions, stands in `tcp_conn`.
 #![tactic(auto)]
 

@@ -1,4 +1,11 @@
-//! The numbers of TCP (RFC 9293, 3.1 and 3.4): sequence numbers and positions, addresses, control bits, the checksum.
+//! The numbers of TCP (RFC 9293, 3.1 and 3.4), below the segments that carry them.
+//!
+//! - [`Seq`]: a sequence number, with the arithmetic and the order modulo 2^32; `position` leads back to a place in a stream.
+//! - [`Addr`] and [`Flags`]: an IPv4 address, and the eight control bits with their names.
+//! - [`word_sum`], [`checksum`] and [`checks`]: the sum of the words over lanes, and the field that makes a segment check.
+//! - [`laws`]: the position near another is the only one with its number; offsets depend on numbers alone.
+//!
+//! It knows no form of a segment: that is `tcp_wire`'s, which passes all of this on.
 #![tactic(auto)]
 
 mod addr;

@@ -1,4 +1,12 @@
 //! TCP segments over IPv4 as bytes (RFC 9293, 3.1): read against their grammar, and written.
+//!
+//! - [`decode`] reads bytes as a [`Segment`], or answers the first fault, a [`DecodeError`]; [`encode`] writes one.
+//! - [`RawSegment`] is a segment whose options stand where they came, for who lists none; [`OptionsLeft`] takes them in turn, as
+//!   [`TcpOption`]s.
+//! - [`Header`] is the fixed header's fields; [`write_around`] writes a segment around text that is in its place already.
+//! - [`Seq`], [`Addr`], [`Flags`], the sums and [`laws`] are `tcp_numbers`'.
+//!
+//! It keeps no state and takes no memory. Left out: IP's own header, options' meaning, and what a connection makes of a segment.
 #![tactic(auto)]
 
 mod decoding;
