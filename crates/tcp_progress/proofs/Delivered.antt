@@ -41,8 +41,8 @@ use Rattle.tcp_progress.proofs.Acked.{own_fin-keeps}
 use Rattle.tcp_progress.proofs.Emitted.{IsFresh}
 use Rattle.tcp_progress.proofs.Judged.{IsPresent, judged-acceptable}
 use Rattle.tcp_progress.proofs.Measure.{all_of, left_of_both}
-use Rattle.tcp_progress.proofs.OnlySent.{same-content}
-use Rattle.tcp_progress.proofs.Reaching.{own_syn-nxt}
+use Rattle.tcp_replay.proofs.Events.{same-content}
+use Rattle.tcp_replay.proofs.Intake.{own_syn-nxt}
 use Rattle.tcp_progress.proofs.Arriving.{live-present, of_peer, is-there, unexpired, goes}
 use Rattle.tcp_progress.proofs.Ready.{steady-back}
 

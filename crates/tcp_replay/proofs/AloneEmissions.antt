@@ -1,6 +1,6 @@
 -- What is due at one end by itself: it can be written, it is of what its user sent, and the end keeps what it does.
 use Rattle.std.proofs.Common.{◌≡◌, ℕ, ◌+◌, ◌-◌, ◌^◌, ◌<◌, ◌≤◌, List, [], length, take, drop, refl, sym, ◌∙◌, ap, subst, arith, length-take}
-use Rattle.std.specs.Prelude.{max, Bool, true, false, not, Option, Some, None, IfSome}
+use Rattle.std.specs.Prelude.{max, Bool, true, false, not, Option, Some, None, IfSome, if◌then◌else◌}
 use Rattle.std.specs.Option.{option_or}
 use Rattle.std.proofs.lemmas.Bool.{cond_both, and_parts, false≢true}
 use Rattle.std.proofs.lemmas.List.{drop-drop}
@@ -17,12 +17,13 @@ use Rattle.tcp_conn.specs.Endpoint.{FitsFields}
 use Rattle.tcp_conn.specs.Due.{is_fin, start_of, count_of, end_of, text_due, reset_due, syn_due, ack_due, due_of}
 use Rattle.tcp_conn.specs.Forms.{reset_ack, text_of, plain_segment, segment_of}
 use Rattle.tcp_conn.specs.Writing.{destination_of}
-use Rattle.tcp_conn.specs.Emission.{range_after, resend_after, owed_after, state_after, after_due, after_emission}
+use Rattle.tcp_conn.specs.Emission.{range_after, resend_after, owed_after, state_after}
 use Rattle.tcp_conn.proofs.Segments.{plain_segment_valid, reset_segment_valid, syn_segment_valid}
 use Rattle.tcp_replay.specs.Alone.{FitsPhase, IsWritable, Sends, IsAlone}
 use Rattle.tcp_replay.proofs.Lists.{one_if, one_if-most, AreBytes-take, AreBytes-drop}
 use Rattle.tcp_replay.proofs.Halves.{range-more, sends-sent}
-use Rattle.tcp_replay.proofs.Phases.{gives_up-not_ended, handshake-knows, at-synchronized, sends_text-synchronized, synchronized-knows, knows-nxt, fits-sent, fits-sent_text}
+use Rattle.tcp_replay.proofs.Phases.{gives_up-not_ended, handshake-knows, at-synchronized, sends_text-synchronized, synchronized-knows, knows-nxt}
+use Rattle.tcp_replay.proofs.Phases.{fits-sent, fits-sent_text}
 use Rattle.tcp_replay.proofs.Dues.{IsText, IsFin, IsOut, option_or-both, if-some-map, text-due}
 
 fits-fields : (s : State) (accepted : List ℕ) (closed : Bool) → has_peer s.phase ≡ true → IsAlone s accepted closed → FitsFields s
@@ -265,12 +266,3 @@ due-alone s accepted closed h =
     (if-some-map (λ due. (sends_text s.phase ≡ true) × IsOut s.sending accepted closed due) P (text_due s) (λ due is. out-text s accepted closed due h is)
     (text-due s accepted closed h.config.good.1.1 h.closing (λ e. going-on s accepted closed e h) h.sends))
     (cond_both s.owed.ack (Some Acknowledgement) None (λ (o : Option Due). IfSome o P) (λ e. out-ack s accepted closed (h.ack e).0 (h.ack e).1 h) (λ _. tt))))
-
--- an emission
-after_due-alone : (s : State) (accepted : List ℕ) (closed : Bool) (due : Option Due) → IfSome due (GoesOutAlone s accepted closed) → IsAlone s accepted closed → IsAlone (after_due s due) accepted closed
-after_due-alone s accepted closed None goes h = h
-after_due-alone s accepted closed (Some due) goes h = goes.alone
-
-pub alone-emitted : (s : State) (accepted : List ℕ) (closed : Bool) → IsAlone s accepted closed → IsAlone (after_emission s) accepted closed
-unfolding after_emission
-alone-emitted s accepted closed h = after_due-alone s accepted closed (due_of s) (due-alone s accepted closed h) h

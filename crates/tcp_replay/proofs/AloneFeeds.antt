@@ -1,38 +1,33 @@
 -- What each event does to the half that receives, at one end by itself: what came in order grows by the text that is
 -- taken, and by nothing else.
-use Rattle.std.proofs.Common.{◌≡◌, ℕ, ◌+◌, ◌-◌, ◌^◌, ◌<◌, List, [], ◌++◌, length, take, refl, sym, ◌∙◌, ap, subst, inl, inr, arith, append-nil, drop, length-drop}
-use Rattle.std.specs.Prelude.{◌⊎◌, min, Bool, true, false, not, ◌==◌, if◌then◌else◌, Option, Some, None}
+use Rattle.std.proofs.Common.{◌≡◌, ℕ, ◌+◌, ◌-◌, ◌^◌, ◌<◌, List, ◌++◌, length, take, refl, sym, ◌∙◌, ap, subst, inl, inr, arith, drop, length-drop}
+use Rattle.std.specs.Prelude.{◌⊎◌, min, Bool, true, false, not, ◌==◌, if◌then◌else◌}
 use Rattle.std.proofs.lemmas.Bool.{cond_both, and_parts, false≢true}
 use Rattle.tcp_wire.specs.Flags.{fin, syn, has}
 use Rattle.tcp_wire.specs.Position.{number}
 use Rattle.tcp_wire.specs.Wire.{Content}
-use Rattle.tcp_halves.specs.declared.due.Due.{Due}
 use Rattle.tcp_conn.specs.declared.judgement.Judgement.{Judgement}
 use Rattle.tcp_conn.specs.declared.judgement.Judgement.TheVariants.{Foreign}
 use Rattle.tcp_halves.specs.declared.link.Peer.{Peer}
-use Rattle.tcp_halves.specs.declared.outcome.CallError.{CallError}
-use Rattle.tcp_halves.specs.declared.phase.Ending.TheVariants.{Reset, Aborted}
-use Rattle.tcp_halves.specs.declared.phase.Timer.{Timer}
-use Rattle.tcp_halves.specs.declared.phase.Timer.TheVariants.{Retransmit, Reorder, TimeWait}
-use Rattle.tcp_conn.specs.Phase.{is_last_ack, is_time_wait, takes_text, gives_up, phase_after_own_fin}
+use Rattle.tcp_halves.specs.declared.phase.Ending.TheVariants.{Reset}
+use Rattle.tcp_conn.specs.Phase.{is_last_ack, takes_text, gives_up, phase_after_own_fin}
 use Rattle.tcp_reasm.specs.Reassembly.{after_read}
 use Rattle.tcp_conn.specs.State.{State, Receiving}
 use Rattle.tcp_conn.specs.Sender.{is_fin_acked}
 use Rattle.tcp_conn.specs.Receiver.{with_syn, after_text, is_fin_due, with_fin}
 use Rattle.tcp_conn.specs.Endings.{after_orderly_end, after_giving_up}
-use Rattle.tcp_conn.specs.Calls.{state_unless, bytes_unless, opening_refusal, with_connection, after_connect, after_listen, send_refusal, after_send, receive_refusal, with_bytes_received, after_receive, received_bytes, close_refusal, is_unanswered, with_closing, after_closing, after_close, open_refusal, with_abort, after_abort, after_acknowledge}
-use Rattle.tcp_conn.specs.Timers.{after_retransmit, after_reorder, after_time_wait, after_timer}
-use Rattle.tcp_conn.specs.Due.{due_of}
-use Rattle.tcp_conn.specs.Emission.{after_due, after_emission}
+use Rattle.tcp_conn.specs.Calls.{with_bytes_received}
 use Rattle.tcp_conn.specs.Judgement.{is_foreign, is_acceptable_segment, phase_judgement, judgement}
-use Rattle.tcp_conn.specs.Arrival.{after_peer_opens, after_peer_accepts, after_own_syn, after_acked_text, after_news, after_own_fin, after_its_ack, takes_text_of, after_its_text, has_fin, takes_fin, after_fin, after_taking, after_taking_shut, after_judgement}
+use Rattle.tcp_conn.specs.Arrival.{after_peer_opens, after_peer_accepts, after_own_syn, after_acked_text, after_news, after_own_fin, after_its_ack}
+use Rattle.tcp_conn.specs.Arrival.{takes_text_of, after_its_text, has_fin, takes_fin, after_fin, after_taking, after_taking_shut, after_judgement}
 use Rattle.tcp_replay.specs.Alone.{IsAlone}
 use Rattle.tcp_replay.proofs.Lists.{by_test}
 use Rattle.tcp_replay.proofs.Phases.{gives_up-not_ended, at-listen, at-syn_sent, at-synchronized, at-takes_text, not-closed-ended, time_wait-synchronized}
 use Rattle.tcp_replay.proofs.Judgements.{IsPresent, in-phase}
-use Rattle.tcp_replay.proofs.AloneCalls.{unless-kept}
 use Rattle.tcp_replay.proofs.AloneStages.{alone-its_ack, alone-its_text}
 use Rattle.tcp_replay.proofs.Feeds.{AllText, ByNumber, IsFed, fed-syn, fed-read, fed-given_up, fed-fin, fed-text}
+use Rattle.tcp_replay.proofs.Calls.{KeptByCalls}
+use Rattle.tcp_replay.specs.World.{PartyState}
 
 -- FROM ONE STATE TO ANOTHER: as many bytes more are in order as make what is unread longer
 pub record Feeds (P : ℕ → ℕ → Type 0) (Q : Type 0) (s s' : State) (irs k : ℕ) (delivered : List ℕ) : Type 0 where
@@ -73,69 +68,7 @@ module _ (P : ℕ → ℕ → Type 0) (Q : Type 0) (s : State) (irs k : ℕ) (de
     opens = λ e. inl (ap (λ (r : Receiving). r.opened) (sym same) ∙ e);
   }
 
-  -- THE USER'S CALLS
-  pub feeds-connected : (peer : Peer) → Feeds P Q s (after_connect s peer) irs k delivered
-  unfolding after_connect
-  feeds-connected peer = unless-kept (λ x. Feeds P Q s x irs k delivered) (opening_refusal s) s (with_connection s peer) feeds-same (λ _. feeds-kept (with_connection s peer) refl refl refl)
-
-  pub feeds-listening : Feeds P Q s (after_listen s) irs k delivered
-  unfolding after_listen
-  feeds-listening = unless-kept (λ x. Feeds P Q s x irs k delivered) (opening_refusal s) s _ feeds-same (λ _. feeds-kept _ refl refl refl)
-
-  pub feeds-sent : (text : List ℕ) → Feeds P Q s (after_send s text) irs k delivered
-  unfolding after_send
-  feeds-sent text = unless-kept (λ x. Feeds P Q s x irs k delivered) (send_refusal s text) s _ feeds-same (λ _. feeds-kept _ refl refl refl)
-
-  pub feeds-closed : Feeds P Q s (after_close s) irs k delivered
-  unfolding after_close
-  feeds-closed = unless-kept (λ x. Feeds P Q s x irs k delivered) (close_refusal s) s (after_closing s) feeds-same
-      (λ _. cond_both (is_unanswered s.phase) (record (after_giving_up s Aborted) { closing = true }) (with_closing s) (λ (x : State). Feeds P Q s x irs k delivered)
-      (λ _. feeds-given_up _ refl refl refl) (λ _. feeds-kept _ refl refl refl))
-
-  pub feeds-aborted : Feeds P Q s (after_abort s) irs k delivered
-  unfolding after_abort
-  feeds-aborted = unless-kept (λ x. Feeds P Q s x irs k delivered) (open_refusal s) s (with_abort s) feeds-same (λ _. feeds-given_up (with_abort s) refl refl refl)
-
-  pub feeds-acknowledged : Feeds P Q s (after_acknowledge s) irs k delivered
-  unfolding after_acknowledge
-  feeds-acknowledged = feeds-kept _ refl refl refl
-
-  -- TIMERS
-  feeds-retransmit : Feeds P Q s (after_retransmit s) irs k delivered
-  unfolding after_retransmit
-  feeds-retransmit = feeds-kept _ refl refl refl
-
-  feeds-reorder : Feeds P Q s (after_reorder s) irs k delivered
-  unfolding after_reorder
-  feeds-reorder = feeds-kept _ refl refl refl
-
-  feeds-time_wait : (accepted : List ℕ) (closed : Bool) → IsAlone s accepted closed → Feeds P Q s (after_time_wait s) irs k delivered
-  unfolding after_time_wait
-  feeds-time_wait accepted closed a =
-      cond_both (is_time_wait s.phase) (after_orderly_end s) s (λ (x : State). Feeds P Q s x irs k delivered)
-      (λ e.
-      let going = (at-synchronized s.phase s.ending s.sending.una s.sending.nxt s.receiving.opened s.receiving.finished (time_wait-synchronized s.phase e) a.progress).0 in
-      feeds-kept (after_orderly_end s) refl (sym (gives_up-not_ended s.ending going)) refl)
-      (λ _. feeds-same)
-
-  pub feeds-timer : (accepted : List ℕ) (closed : Bool) (timer : Timer) → IsAlone s accepted closed → Feeds P Q s (after_timer s timer) irs k delivered
-  feeds-timer accepted closed Retransmit a = feeds-retransmit
-  feeds-timer accepted closed Reorder a = feeds-reorder
-  feeds-timer accepted closed TimeWait a = feeds-time_wait accepted closed a
-
-  -- EMISSION
-  feeds-due : (due : Option Due) → Feeds P Q s (after_due s due) irs k delivered
-  feeds-due None = feeds-same
-  feeds-due (Some due) = feeds-kept (after_due s (Some due)) refl refl refl
-
-  pub feeds-emitted : Feeds P Q s (after_emission s) irs k delivered
-  unfolding after_emission
-  feeds-emitted = feeds-due (due_of s)
-
--- RECEIVE
-same-delivered : (P : ℕ → ℕ → Type 0) (Q : Type 0) (s : State) (irs k : ℕ) (delivered : List ℕ) → IsFed P s.receiving irs k delivered (gives_up s.ending) → Feeds P Q s s irs k (delivered ++ [])
-same-delivered P Q s irs k delivered h = subst (λ (xs : List ℕ). Feeds P Q s s irs k xs) (sym (append-nil delivered)) (feeds-same P Q s irs k delivered h)
-
+-- THE USER reads
 fewer : (xs : List ℕ) (n : ℕ) → length (drop n xs) - length xs ≡ 0
 fewer xs n = omega (arith, length-drop n xs)
 
@@ -153,15 +86,32 @@ feeds-read P Q s irs k delivered room h =
       opens = λ e. inl e;
     }
 
-received-unless : (P : ℕ → ℕ → Type 0) (Q : Type 0) (s : State) (irs k : ℕ) (delivered : List ℕ) (room : ℕ) (o : Option CallError) → IsFed P s.receiving irs k delivered (gives_up s.ending)
-    → Feeds P Q s (state_unless o s (with_bytes_received s room)) irs k (delivered ++ bytes_unless o (take (min room (length s.receiving.inbox.unread)) s.receiving.inbox.unread))
-received-unless P Q s irs k delivered room None h = feeds-read P Q s irs k delivered room h
-received-unless P Q s irs k delivered room (Some error) h = same-delivered P Q s irs k delivered h
-
-pub feeds-received : (P : ℕ → ℕ → Type 0) (Q : Type 0) (s : State) (irs k : ℕ) (delivered : List ℕ) (room : ℕ) → IsFed P s.receiving irs k delivered (gives_up s.ending)
-    → Feeds P Q s (after_receive s room) irs k (delivered ++ received_bytes s room)
-unfolding after_receive
-feeds-received P Q s irs k delivered room h = received-unless P Q s irs k delivered room (receive_refusal s) h
+-- ALL CALLS, timers and emissions
+pub feeds-calls : (P : ℕ → ℕ → Type 0) (Q : Type 0) (peer : Peer) (p : PartyState) (irs k : ℕ) → IsAlone p.endpoint p.accepted p.closed
+    → IsFed P p.endpoint.receiving irs k p.delivered (gives_up p.endpoint.ending) → KeptByCalls peer p (λ p'. Feeds P Q p.endpoint p'.endpoint irs k p'.delivered)
+feeds-calls P Q peer p irs k a h =
+    let s = p.endpoint in
+    let kept = feeds-kept P Q s irs k p.delivered h in
+    let gone = feeds-given_up P Q s irs k p.delivered h in
+    record {
+      same = feeds-same P Q s irs k p.delivered h;
+      connects = λ _. kept _ refl refl refl;
+      listens = λ _. kept _ refl refl refl;
+      sends = λ _ _ _. kept _ refl refl refl;
+      reads = λ room _. feeds-read P Q s irs k p.delivered room h;
+      withdraws = gone _ refl refl refl;
+      closes = λ _ _. kept _ refl refl refl;
+      aborts = gone _ refl refl refl;
+      acknowledges = kept _ refl refl refl;
+      resends = λ _. kept _ refl refl refl;
+      probes = kept _ refl refl refl;
+      fills = λ _ _ _. kept _ refl refl refl;
+      ends = λ e.
+          let synced = time_wait-synchronized s.phase e in
+          let at = at-synchronized s.phase s.ending s.sending.una s.sending.nxt s.receiving.opened s.receiving.finished synced a.progress in
+          kept _ refl (sym (gives_up-not_ended s.ending at.0)) refl;
+      emits = λ _ _ _. kept _ refl refl refl;
+    }
 
 -- AN ACKNOWLEDGEMENT leaves what was received as it was
 pub record Acked (s x : State) : Type 0 where

@@ -1,6 +1,6 @@
--- Emissions, deliveries and damage: both directions stay sound.
-use Rattle.std.proofs.Common.{◌≡◌, ◌≢◌, ℕ, ◌+◌, ◌<◌, ◌≤◌, List, [], ◌++◌, length, refl, sym, ◌∙◌, ap, subst, arith, append-nil}
-use Rattle.std.specs.Prelude.{Bool, true, false, not, ◌||◌, nat_le, ◌==◌, if◌then◌else◌, Option, Some, None, IfSome, Ok, Err, option_to_list, option_map, slice_get, slice_index, bit_xor}
+-- What a delivery brings: a segment that was emitted, or damage, which is found.
+use Rattle.std.proofs.Common.{◌≡◌, ◌≢◌, ℕ, ◌+◌, ◌<◌, ◌≤◌, List, [], length, refl, sym, ◌∙◌, ap, subst, arith}
+use Rattle.std.specs.Prelude.{Bool, true, false, not, nat_le, ◌==◌, if◌then◌else◌, Option, Some, None, Ok, Err, slice_get, slice_index, bit_xor, ◌||◌}
 use Rattle.std.proofs.lemmas.Bool.{eqb-false, leb-false}
 use Rattle.std.proofs.lemmas.Nat.{xor_of_8}
 use Rattle.std.proofs.lemmas.Option.{slice_get-get_or, unwrap_or-slice_get}
@@ -13,40 +13,19 @@ use Rattle.tcp_conn.specs.Receiver.{next_wanted}
 use Rattle.tcp_wire.specs.declared.fault.DecodeError.{DecodeError}
 use Rattle.tcp_wire.specs.declared.fault.DecodeError.TheVariants.{BadChecksum}
 use Rattle.tcp_wire.proofs.Lemmas.{decoded_encoded, IsWire_encoded, decoded_damaged, differs_set}
-use Rattle.tcp_halves.specs.declared.due.Due.{Due}
 use Rattle.tcp_halves.specs.declared.outcome.Arrival.TheVariants.{Malformed}
 use Rattle.tcp_conn.specs.State.{State}
 use Rattle.tcp_conn.specs.Judgement.{judgement}
 use Rattle.tcp_conn.specs.Arrival.{after_judgement, after_reading, after_arrival, answer_to_reading, arrival_answer}
-use Rattle.tcp_conn.specs.Due.{due_of}
-use Rattle.tcp_conn.specs.Writing.{bytes_of}
-use Rattle.tcp_conn.specs.Emission.{emitted_bytes, after_due, after_emission}
 use Rattle.tcp_replay.specs.declared.outcome.StepError.{StepError}
 use Rattle.tcp_replay.specs.declared.outcome.StepError.TheVariants.{NoSuchSegment, NoChange, PlaceOutside, Expired}
-use Rattle.tcp_replay.specs.declared.outcome.Outcome.TheVariants as outcomes
-use Rattle.tcp_replay.specs.World.{PartyState, SentSegment, flags_in, sent_by, party_after_emission, party_after_arrival, arrival_outcome, sent_at, segment_at, is_late, acks_late, is_expired, max_life, bytes_with_damage, is_missing, delivery_refusal, damage_refusal}
+use Rattle.tcp_replay.specs.World.{PartyState, SentSegment, flags_in, party_after_arrival, arrival_outcome, sent_at, segment_at, is_late, acks_late}
+use Rattle.tcp_replay.specs.World.{is_expired, max_life, bytes_with_damage, is_missing, delivery_refusal, damage_refusal}
 use Rattle.tcp_replay.specs.Sound.{IsOwn, AreOwn, IsSoundPair}
 use Rattle.tcp_replay.proofs.Lists.{one_if-most, and-fails, or-fails}
-use Rattle.tcp_replay.proofs.Steps.{kept-same, pair-from-move}
-use Rattle.tcp_replay.proofs.Arrivals.{Comes, fair-judgement}
-use Rattle.tcp_replay.proofs.Emissions.{GoesOut, own-due, due-goes, wanted-is}
-use Rattle.tcp_replay.proofs.Users.{pair-kept}
-
--- EMIT
-some-is : {x y : SentSegment} → Some x ≡ Some y → x ≡ y
-some-is e = cc
-
-emitted-due : (p q : PartyState) (due : Option Due) → IfSome due (GoesOut p q) → IsSoundPair p q
-    → IsSoundPair (record p { endpoint = after_due p.endpoint due; sent = p.sent ++ option_to_list (option_map (sent_by p.endpoint) (option_map (bytes_of p.endpoint) due)) }) q
-emitted-due p q None goes h = subst (λ (sent : List SentSegment). IsSoundPair (record p { sent = sent }) q) (sym (append-nil p.sent)) h
-emitted-due p q (Some due) goes h =
-    let here = goes.kept.here in
-    pair-from-move p _ q (record { here = record { alone = here.alone; speaks = here.speaks; takes = here.takes; hands = here.hands; between = here.between; limit = here.limit }; config = goes.kept.config; grows = goes.kept.grows })
-    (record { new = Some (sent_by p.endpoint (bytes_of p.endpoint due)); sent = refl; own = λ g is. subst (λ (g : SentSegment). IsOwn p q g) (some-is is) (own-due p q due goes) }) h
-
-pub pair-emitted : (p q : PartyState) → IsSoundPair p q → IsSoundPair (party_after_emission p) q
-unfolding party_after_emission emitted_bytes after_emission
-pair-emitted p q h = emitted-due p q (due_of p.endpoint) (due-goes p q h) h
+use Rattle.tcp_replay.proofs.Arrivals.{Comes}
+use Rattle.tcp_replay.proofs.Emissions.{wanted-is}
+use Rattle.tcp_replay.specs.declared.outcome.Outcome.TheVariants as outcomes
 
 -- DELIVERY of a segment that the peer emitted
 pub arrival-ok : (s : State) (src dst bytes : List ℕ) (v : Content) → decode_answer src dst bytes ≡ Ok v → after_arrival s src dst bytes ≡ after_judgement (judgement s src dst v) s src v
@@ -94,15 +73,6 @@ comes p q life g most e h own =
       acks_young = λ plain told. omega (arith, most, (young plain).acks_young (ap (has ack) (sym flags) ∙ told));
     }
 
-pair-arrived : (p q : PartyState) (life : ℕ) (g : SentSegment) → life ≤ max_life → is_expired life p.endpoint g ≡ false → IsSoundPair p q → IsOwn q p g → IsSoundPair (party_after_arrival p q g.bytes) q
-unfolding party_after_arrival
-pair-arrived p q life g most e h own =
-    let src = q.endpoint.config.addr.0 in
-    let dst = p.endpoint.config.addr.0 in
-    let s = after_judgement (judgement p.endpoint src dst own.content) p.endpoint src own.content in
-    subst (λ (s : State). IsSoundPair (record p { endpoint = s }) q) (sym (arrival-ok p.endpoint src dst g.bytes own.content (own-decodes q p g own)))
-    (pair-kept p q s (fair-judgement p q p.endpoint dst own.content g.position g.wanted (comes p q life g most e h own) (kept-same p q h)) h)
-
 -- bytes that are no segment
 unmoved : (p q : PartyState) (bytes : List ℕ) (fault : DecodeError) → decode_answer q.endpoint.config.addr.0 p.endpoint.config.addr.0 bytes ≡ Err fault → party_after_arrival p q bytes ≡ p
 unfolding party_after_arrival
@@ -127,11 +97,6 @@ pub delivered-there : (life : ℕ) (p q : PartyState) (k : ℕ) → delivery_ref
 delivered-there life p q k e =
     let first = refusal-none (is_missing q k) NoSuchSegment _ e in
     (first.0, (refusal-none (is_expired life p.endpoint (sent_at q k)) Expired None first.1).0)
-
-pub pair-delivered : (p q : PartyState) (life k : ℕ) → life ≤ max_life → delivery_refusal life q p k ≡ None → IsSoundPair p q → IsSoundPair (party_after_arrival p q (segment_at q k)) q
-pair-delivered p q life k most e h =
-    let there = delivered-there life p q k e in
-    pair-arrived p q life (sent_at q k) most there.1 h (h.own_back k (sent_at q k) (segment-sent q k there.0))
 
 -- DAMAGE: one byte of it differs, and is always found
 xor-changes : (x value : ℕ) → value ≢ 0 → bit_xor x value ≢ x
@@ -164,6 +129,3 @@ finds-damage p q life k place value fits e h =
     let bytes = bytes_with_damage (segment_at q k) place value in
     let found = damage-found p q life k place value fits h.own_back e in
     record { same = unmoved p q bytes BadChecksum found; answer = answers-malformed p q bytes BadChecksum found }
-
-pub pair-damaged : (p q : PartyState) (life k place value : ℕ) → value < 256 → damage_refusal life q p k place value ≡ None → IsSoundPair p q → IsSoundPair (party_after_arrival p q (bytes_with_damage (segment_at q k) place value)) q
-pair-damaged p q life k place value fits e h = subst (λ (p' : PartyState). IsSoundPair p' q) (sym (finds-damage p q life k place value fits e h).same) h

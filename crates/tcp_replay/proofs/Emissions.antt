@@ -184,7 +184,7 @@ reset-to : (waiting : Option WaitingReset) (reset : WaitingReset) (addr : List �
 reset-to None reset addr e h = absurd (cc)
 reset-to (Some waiting) reset addr e h = let same : waiting ≡ reset = cc in ap (λ (r : WaitingReset). r.to.addr.0) (sym same) ∙ h
 
-goes-out : (p q : PartyState) (due : Due) → IsSoundPair p q → GoesOutAlone p.endpoint p.accepted p.closed due → GoesOut p q due
+pub goes-out : (p q : PartyState) (due : Due) → IsSoundPair p q → GoesOutAlone p.endpoint p.accepted p.closed due → GoesOut p q due
 unfolding segment_of
 goes-out p q (Reset reset) h out = record {
   kept = kept-out p q (Reset reset) out tt h;

@@ -1,32 +1,136 @@
--- SELECTIVE ACKNOWLEDGEMENT on the definitions: every event keeps blocks and marks true.
-use Rattle.std.proofs.Common.{◌≡◌, ℕ, ◌<◌, ◌≤◌, List, ◌++◌, refl, sym, ◌∙◌, ap, subst, ⊎_elim, append-nil}
-use Rattle.std.specs.Prelude.{false, Option, Some, None, IfSome, Result, Ok, option_map, option_to_list, slice_get}
+-- SELECTIVE ACKNOWLEDGEMENT on the definitions: what is reported is true, and every event keeps blocks and marks true.
+use Rattle.std.proofs.Common.{◌≡◌, ℕ, ◌+◌, ◌≤◌, List, [], refl, sym, ◌∙◌, subst, arith, zero, suc, ◌-◌, ◌∷◌, ◌++◌, take, map, ap, inr, append-nil}
+use Rattle.std.specs.Prelude.{true, false, Bool, nat_lt, Option, Some, None, slice_get}
+use Rattle.std.proofs.lemmas.Bool.{cond_both}
 use Rattle.tcp_wire.specs.Position.{number}
 use Rattle.tcp_wire.specs.Wire.{Content}
-use Rattle.tcp_wire.specs.Decoded.{decode_answer}
-use Rattle.tcp_wire.specs.declared.fault.DecodeError.{DecodeError}
-use Rattle.tcp_halves.specs.declared.config.Config.{Config}
-use Rattle.tcp_halves.specs.declared.due.Due.{Due}
-use Rattle.tcp_halves.specs.declared.phase.Timer.{Timer as Which}
-use Rattle.tcp_conn.specs.Judgement.{judgement}
-use Rattle.tcp_conn.specs.Arrival.{after_judgement, after_arrival}
-use Rattle.tcp_conn.specs.Forms.{segment_of}
-use Rattle.tcp_conn.specs.Writing.{bytes_of}
-use Rattle.tcp_conn.specs.Due.{due_of}
-use Rattle.tcp_conn.specs.Emission.{emitted_bytes}
-use Rattle.tcp_replay.specs.declared.event.Side.{Side}
-use Rattle.tcp_replay.specs.declared.event.Side.TheVariants.{A, B}
-use Rattle.tcp_replay.specs.Events.{EventContent, side_of, HasBytes, Connect, Listen, Send, Receive, Close, Abort, Acknowledge, Timer, Emit, Deliver, Damage}
-use Rattle.tcp_replay.specs.World.{WorldState, PartyState, SentSegment, max_life, sent_by, sent_at, new_party, party_of, other, world_from, effect_of, refusal_of, world_with_effect, address_of, segment_at, bytes_with_damage, delivery_refusal, damage_refusal, party_after_connect, party_after_listen, party_after_send, party_after_receive, party_after_close, party_after_abort, party_after_acknowledge, party_after_timer, party_after_emission, party_after_arrival}
-use Rattle.tcp_conn.specs.Blocks.{reported_blocks}
-use Rattle.tcp_replay.specs.Truthful.{Witness, HasPosition, IsTrueBlock}
+use Rattle.tcp_reasm.specs.Reassembly.{Cell, Run, blocks, runs, insertion_by_stamp, runs_newest_first, max_blocks}
+use Rattle.tcp_halves.specs.declared.phase.Ending.TheVariants.{Reset}
+use Rattle.tcp_conn.specs.Blocks.{reported_blocks, block_numbers, blocks_to_report, sack_options}
+use Rattle.tcp_replay.specs.World.{PartyState, WorldState, max_life, new_party, other, refusal_of, world_with_effect}
+use Rattle.tcp_replay.specs.Truthful.{IsTrueBlock, Witness, HasPosition}
 use Rattle.tcp_replay.specs.Safe.{witness_of, gave_up, next_position, HasTrueHints, HintsAreTrue}
-use Rattle.tcp_replay.specs.Sound.{IsSoundPair, AreSoundEnds, IsBlockBehind, AreBlocksBehind, KeepsHints, KeepBothHints}
-use Rattle.tcp_replay.proofs.Steps.{slice_get-more, kept-same, pair-swapped}
-use Rattle.tcp_replay.proofs.Emissions.{GoesOut, due-decodes, due-goes, wanted-is}
-use Rattle.tcp_replay.proofs.Deliveries.{arrival-ok, own-decodes, comes, segment-sent, delivered-there, finds-damage}
-use Rattle.tcp_replay.proofs.Hints.{Keeps, keeps-same, keeps-judgement}
-use Rattle.tcp_replay.proofs.HintEvents.{keeps-connected, keeps-listening, keeps-sent, keeps-received, keeps-closed, keeps-aborted, keeps-acknowledged, keeps-timer, keeps-emitted, blocks-of_due}
+use Rattle.tcp_replay.specs.Sound.{IsSoundPair, AreBlocksBehind, IsBlockBehind, AreSoundEnds, KeepsHints, KeepBothHints}
+use Rattle.std.specs.List.{AllByRecursion}
+use Rattle.tcp_wire.specs.Flags.{rst, ack, has}
+use Rattle.tcp_wire.specs.Options.{Mss}
+use Rattle.tcp_reasm.specs.Laws.{IsHeld, IsMaximal}
+use Rattle.tcp_reasm.proofs.Maximal.{runs_are_maximal_lem}
+use Rattle.tcp_halves.specs.declared.due.Due.{Due}
+use Rattle.tcp_halves.specs.declared.due.Due.TheVariants.{Reset, Syn, Resend, NewText, Fin, ResentFin, Acknowledgement}
+use Rattle.tcp_conn.specs.Due.{is_fin}
+use Rattle.tcp_conn.specs.Forms.{pushes, plain_segment, shift_offered, is_sack_offered, scale_options, permission_options, segment_of}
+use Rattle.tcp_replay.proofs.Positions.{number-further}
+use Rattle.tcp_replay.proofs.Emissions.{GoesOut, plain-bits, wanted-is}
+use Rattle.tcp_replay.proofs.Hints.{Keeps, hints-arrive, hints-calls}
+use Rattle.tcp_halves.specs.declared.config.Config.{Config}
+use Rattle.tcp_replay.specs.Events.{EventContent, HasBytes}
+use Rattle.tcp_replay.proofs.Steps.{Moved}
+use Rattle.tcp_replay.proofs.Events.{PairKept, Speaks, in-world, said-after, said-back}
+use Rattle.tcp_conn.specs.Receiver.{next_wanted}
+
+-- ---- WHAT IS REPORTED
+all-map : {X Y : Type 0} (f : X → Y) (P : Y → Type 0) (xs : List X) → AllByRecursion (λ x. P (f x)) xs → AllByRecursion P (map f xs)
+all-map f P [] h = tt
+all-map f P (x ∷ xs) h = (h.0, all-map f P xs h.1)
+
+all-further : {X : Type 0} (P P' : X → Type 0) (xs : List X) → ((x : X) → P x → P' x) → AllByRecursion P xs → AllByRecursion P' xs
+all-further P P' [] further h = tt
+all-further P P' (x ∷ xs) further h = (further x h.0, all-further P P' xs further h.1)
+
+all-take : {X : Type 0} (P : X → Type 0) (n : ℕ) (xs : List X) → AllByRecursion P xs → AllByRecursion P (take n xs)
+all-take P zero xs h = tt
+all-take P (suc n) [] h = tt
+all-take P (suc n) (x ∷ xs) h = (h.0, all-take P n xs h.1)
+
+all-at : {X : Type 0} (P : X → Type 0) (xs : List X) (k : ℕ) (x : X) → AllByRecursion P xs → slice_get xs k ≡ Some x → P x
+all-at P [] k x h e = absurd (cc)
+all-at P (first ∷ xs) zero x h e = let is : first ≡ x = cc in subst P is h.0
+all-at P (first ∷ xs) (suc k) x h e = all-at P xs k x h.1 e
+
+all-insertion : (P : Run → Type 0) (run : Run) (others : List Run) → P run → AllByRecursion P others → AllByRecursion P (insertion_by_stamp run others)
+all-insertion P run [] here h = (here, tt)
+all-insertion P run (other ∷ others) here h =
+    cond_both (nat_lt other.stamp run.stamp) (run ∷ other ∷ others) (other ∷ insertion_by_stamp run others) (AllByRecursion P) (λ _. (here, h)) (λ _. (h.0, all-insertion P run others here h.1))
+
+all-newest_first : (P : Run → Type 0) (all : List Run) → AllByRecursion P all → AllByRecursion P (runs_newest_first all)
+unfolding runs_newest_first
+all-newest_first P [] h = tt
+all-newest_first P (run ∷ others) h = all-insertion P run (runs_newest_first others) h.0 (all-newest_first P others h.1)
+
+cell-held : (held : List (Option Cell)) (k : ℕ) → IsHeld held k → (cell : Cell) × (slice_get held k ≡ Some (Some cell))
+cell-held [] k h = absurd (cc)
+cell-held (None ∷ held) zero h = absurd (cc)
+cell-held (Some cell ∷ held) zero h = (cell, refl)
+cell-held (place ∷ held) (suc k) h = cell-held held k h
+
+-- a maximal run of held places is of positions that the end has
+block-true : (p q : PartyState) (run : Run) → p.endpoint.receiving.next ≡ number q.endpoint.config.isn.0 (next_position p) → IsMaximal p.endpoint.receiving.inbox.held run
+    → IsBlockBehind (witness_of p q) (next_position p) (block_numbers p.endpoint.receiving.next (run.from, run.to))
+block-true p q run next is =
+    let irs = q.endpoint.config.isn.0 in
+    let n = next_position p in
+    let held = p.endpoint.receiving.inbox.held in
+    let block : IsTrueBlock (witness_of p q) (block_numbers p.endpoint.receiving.next (run.from, run.to)) = (
+      n + run.from,
+      n + run.to,
+      omega (arith, is.some),
+      number-further irs n run.from p.endpoint.receiving.next next,
+      number-further irs n run.to p.endpoint.receiving.next next,
+      λ position from to.
+          let cell = cell-held held (position - n) (is.inside (position - n) (omega arith) (omega arith)) in
+          inr (cell.0, omega arith, cell.1),
+    ) in
+    (block, omega arith)
+
+reported-true : (p q : PartyState) → p.endpoint.receiving.opened ≡ true → IsSoundPair p q → AreBlocksBehind (witness_of p q) (next_position p) (blocks_to_report p.endpoint)
+unfolding blocks
+reported-true p q opened h =
+    let r = p.endpoint.receiving in
+    let P : ℕ × ℕ → Type 0 = IsBlockBehind (witness_of p q) (next_position p) in
+    let Q : Run → Type 0 = λ run. P (block_numbers r.next (run.from, run.to)) in
+    let all = runs_newest_first (runs r.inbox.held) in
+    let newest = all-newest_first (IsMaximal r.inbox.held) (runs r.inbox.held) (runs_are_maximal_lem r.inbox.held) in
+    let true_ones : AllByRecursion Q all = all-further (IsMaximal r.inbox.held) Q all (λ run is. block-true p q run (h.there.takes.next opened) is) newest in
+    let told : AllByRecursion P (map (block_numbers r.next) (blocks r.inbox)) =
+    all-map (block_numbers r.next) P (blocks r.inbox) (all-map (λ (run : Run). (run.from, run.to)) (λ block. P (block_numbers r.next block)) (take max_blocks all) (all-take Q max_blocks all true_ones)) in
+    cond_both p.endpoint.link.sack (map (block_numbers r.next) (blocks r.inbox)) [] (λ (list : List (ℕ × ℕ)). AreBlocksBehind (witness_of p q) (next_position p) list)
+    (λ _ k block e. all-at P (map (block_numbers r.next) (blocks r.inbox)) k block told e)
+    (λ _ k block e. absurd (cc))
+
+-- which options report blocks
+blocks-of_syn : (mss : ℕ) (shift : Option ℕ) (sack : Bool) → reported_blocks (Mss mss ∷ (scale_options shift ++ permission_options sack)) ≡ []
+blocks-of_syn mss None true = refl
+blocks-of_syn mss None false = refl
+blocks-of_syn mss (Some shift) true = refl
+blocks-of_syn mss (Some shift) false = refl
+
+blocks-of_sack : (list : List (ℕ × ℕ)) → reported_blocks (sack_options list) ≡ list
+blocks-of_sack [] = refl
+blocks-of_sack (block ∷ list) = append-nil (block ∷ list)
+
+none-true : (p q : PartyState) (list : List (ℕ × ℕ)) → list ≡ [] → AreBlocksBehind (witness_of p q) (next_position p) list
+none-true p q list e k block is = let never : slice_get {X = ℕ × ℕ} [] k ≡ Some block = subst (λ (list : List (ℕ × ℕ)). slice_get list k ≡ Some block) e is in absurd (cc)
+
+-- an end that reports blocks has taken the peer's SYN
+plain-reports : (p q : PartyState) (due : Due) → segment_of p.endpoint due ≡ plain_segment p.endpoint due → IsSoundPair p q → GoesOut p q due
+    → AreBlocksBehind (witness_of p q) (next_position p) (reported_blocks (segment_of p.endpoint due).options)
+plain-reports p q due is h goes =
+    let s = p.endpoint in
+    let bits = plain-bits (pushes s.sending due) (is_fin due) in
+    let opened = ((goes.truthful (ap (λ (v : Content). has rst v.flags) is ∙ bits.2)).truth.has_ack (ap (λ (v : Content). has ack v.flags) is ∙ bits.3)).opened in
+    let list : reported_blocks (segment_of s due).options ≡ blocks_to_report s = ap (λ (v : Content). reported_blocks v.options) is ∙ blocks-of_sack (blocks_to_report s) in
+    rw list (reported-true p q opened h)
+
+blocks-of_due : (p q : PartyState) (due : Due) → IsSoundPair p q → GoesOut p q due → AreBlocksBehind (witness_of p q) (next_position p) (reported_blocks (segment_of p.endpoint due).options)
+unfolding segment_of
+blocks-of_due p q (Reset reset) h goes = none-true p q [] refl
+blocks-of_due p q Syn h goes = none-true p q _ (blocks-of_syn p.endpoint.config.mss (shift_offered p.endpoint) (is_sack_offered p.endpoint))
+blocks-of_due p q (Resend start count) h goes = plain-reports p q (Resend start count) refl h goes
+blocks-of_due p q (NewText start count) h goes = plain-reports p q (NewText start count) refl h goes
+blocks-of_due p q (Fin start) h goes = plain-reports p q (Fin start) refl h goes
+blocks-of_due p q (ResentFin start) h goes = plain-reports p q (ResentFin start) refl h goes
+blocks-of_due p q Acknowledgement h goes = plain-reports p q Acknowledgement refl h goes
 
 -- a block stays true of an end that has as many positions or more
 block-more : (x x' : Witness) (block : ℕ × ℕ) → x'.irs ≡ x.irs → ((n : ℕ) → HasPosition x n → HasPosition x' n) → IsTrueBlock x block → IsTrueBlock x' block
@@ -37,156 +141,41 @@ behind-more : (x x' : Witness) (wanted : ℕ) (block : ℕ × ℕ) → x'.irs �
 unfolding block-more
 behind-more x x' wanted block irs more h = (block-more x x' block irs more h.0, h.1)
 
--- what p emitted at an event, where it emitted something
-record Tells (p p' q : PartyState) : Type 0 where
-  new : Option SentSegment
-  sent : p'.sent ≡ p.sent ++ option_to_list new
-  told : (g : SentSegment) (v : Content) → new ≡ Some g → decode_answer p.endpoint.config.addr.0 q.endpoint.config.addr.0 g.bytes ≡ Ok v → AreBlocksBehind (witness_of p q) g.wanted (reported_blocks v.options)
+-- p became p', and emitted what is due
+hints-moved : (p p' q : PartyState) → IsSoundPair p q → Moved p p' q → Speaks p p' q → Keeps p q p'.endpoint → KeepBothHints p q → KeepBothHints p' q
+hints-moved p p' q pair moved out keeps h =
+    let mine = witness_of p' q in
+    let back = witness_of q p' in
+    let more : (stays : gave_up p' ≡ false) (n : ℕ) → HasPosition (witness_of p q) n → HasPosition mine n = λ stays. (keeps.0 stays).1 in
+    record {
+      there = record {
+        blocks = said-after p p' q (λ g v. gave_up p' ≡ false → AreBlocksBehind mine g.wanted (reported_blocks v.options)) moved.config out
+            (λ k g v is read stays i block e. behind-more (witness_of p q) mine g.wanted block refl (more stays) (h.there.blocks k g v is read (keeps.0 stays).0 i block e))
+            (λ due goes _ _ stays i block e.
+            let own : AreBlocksBehind (witness_of p q) (next_wanted p.endpoint.receiving) (reported_blocks (segment_of p.endpoint due).options) =
+            subst (λ (n : ℕ). AreBlocksBehind (witness_of p q) n (reported_blocks (segment_of p.endpoint due).options)) (sym (wanted-is p q pair)) (blocks-of_due p q due pair goes) in
+            behind-more (witness_of p q) mine (next_wanted p.endpoint.receiving) block refl (more stays) (own i block e));
+        marks = keeps.1;
+      };
+      back = record {
+        blocks = said-back p p' q (λ g v. gave_up q ≡ false → AreBlocksBehind back g.wanted (reported_blocks v.options)) moved.config
+            (λ k g v is read stays i block e.
+            behind-more (witness_of q p) back g.wanted block (ap (λ (c : Config). c.isn.0) moved.config) (λ n has. has) (h.back.blocks k g v is read stays i block e));
+        marks = λ stays place is. let had = keeps.0 stays in had.1 _ (h.back.marks had.0 place is);
+      };
+    }
 
-reports-nothing : (p p' q : PartyState) → p'.sent ≡ p.sent → Tells p p' q
-reports-nothing p p' q same = record { new = None; sent = same ∙ sym (append-nil p.sent); told = λ g v none. absurd (cc) }
-
-reported-before : (p p' q : PartyState) (k : ℕ) (g : SentSegment) (v : Content) → p'.endpoint.config ≡ p.endpoint.config → Tells p p' q → KeepsHints p q → slice_get p'.sent k ≡ Some g
-    → decode_answer p'.endpoint.config.addr.0 q.endpoint.config.addr.0 g.bytes ≡ Ok v → gave_up p ≡ false → AreBlocksBehind (witness_of p q) g.wanted (reported_blocks v.options)
-reported-before p p' q k g v config tells h is told stays =
-    let read : decode_answer p.endpoint.config.addr.0 q.endpoint.config.addr.0 g.bytes ≡ Ok v = subst (λ (c : Config). decode_answer c.addr.0 q.endpoint.config.addr.0 g.bytes ≡ Ok v) config told in
-    ⊎_elim (λ (old : slice_get p.sent k ≡ Some g). h.blocks k g v old read stays) (λ (last : tells.new ≡ Some g). tells.told g v last read)
-    (slice_get-more p.sent tells.new k g (subst (λ (sent : List SentSegment). slice_get sent k ≡ Some g) tells.sent is))
-
-hints-there : (p p' q : PartyState) → Keeps p q p'.endpoint → Tells p p' q → KeepsHints p q → KeepsHints p' q
-hints-there p p' q keeps tells h = record {
-  blocks = λ k g v is read stays i block e.
-      let had = keeps.had stays in
-      behind-more (witness_of p q) (witness_of p' q) g.wanted block refl had.1 (reported-before p p' q k g v keeps.config tells h is read had.0 i block e);
-  marks = keeps.marks;
+hints-kept : PairKept (λ _ _. Unit {0}) KeepBothHints (λ p q s _. Keeps p q s)
+hints-kept = record {
+  swapped = λ p q h. record { there = h.back; back = h.there };
+  calls = hints-calls;
+  arrives = λ p q g v _ pair a k. hints-arrive p q g v pair a k;
+  moved = hints-moved;
 }
 
-hints-back : (p p' q : PartyState) → Keeps p q p'.endpoint → KeepsHints q p → KeepsHints q p'
-hints-back p p' q keeps h = record {
-  blocks = λ k g v is told stays i block e.
-      let read : decode_answer q.endpoint.config.addr.0 p.endpoint.config.addr.0 g.bytes ≡ Ok v = subst (λ (c : Config). decode_answer q.endpoint.config.addr.0 c.addr.0 g.bytes ≡ Ok v) keeps.config told in
-      behind-more (witness_of q p) (witness_of q p') g.wanted block (ap (λ (c : Config). c.isn.0) keeps.config) (λ n has. has) (h.blocks k g v is read stays i block e);
-  marks = λ stays place is. let had = keeps.had stays in had.1 _ (h.marks had.0 place is);
-}
-
-hints-from-keeps : (p p' q : PartyState) → Keeps p q p'.endpoint → Tells p p' q → KeepBothHints p q → KeepBothHints p' q
-hints-from-keeps p p' q keeps tells h = record { there = hints-there p p' q keeps tells h.there; back = hints-back p p' q keeps h.back }
-
-pub hints-swapped : (p q : PartyState) → KeepBothHints p q → KeepBothHints q p
-hints-swapped p q h = record { there = h.back; back = h.there }
-
--- an event that emits nothing
-hints-quiet : (p p' q : PartyState) → p'.sent ≡ p.sent → (Keeps p q p.endpoint → Keeps p q p'.endpoint) → KeepBothHints p q → KeepBothHints p' q
-hints-quiet p p' q sent keeps h = hints-from-keeps p p' q (keeps (keeps-same p q h.there.marks)) (reports-nothing p p' q sent) h
-
--- ---- event by event
-pub hints-connected : (p q : PartyState) → KeepBothHints p q → KeepBothHints (party_after_connect p (address_of q)) q
-unfolding party_after_connect
-hints-connected p q h = hints-quiet p _ q refl (keeps-connected p q) h
-
-pub hints-listening : (p q : PartyState) → KeepBothHints p q → KeepBothHints (party_after_listen p) q
-unfolding party_after_listen
-hints-listening p q h = hints-quiet p _ q refl (keeps-listening p q) h
-
-pub hints-sent : (p q : PartyState) (text : List ℕ) → KeepBothHints p q → KeepBothHints (party_after_send p text) q
-unfolding party_after_send
-hints-sent p q text h = hints-quiet p _ q refl (keeps-sent p q text) h
-
-pub hints-received : (p q : PartyState) (room : ℕ) → KeepBothHints p q → KeepBothHints (party_after_receive p room) q
-unfolding party_after_receive
-hints-received p q room h = hints-quiet p _ q refl (keeps-received p q room) h
-
-pub hints-closed : (p q : PartyState) → IsSoundPair p q → KeepBothHints p q → KeepBothHints (party_after_close p) q
-unfolding party_after_close
-hints-closed p q pair h = hints-quiet p _ q refl (keeps-closed p q pair) h
-
-pub hints-aborted : (p q : PartyState) → IsSoundPair p q → KeepBothHints p q → KeepBothHints (party_after_abort p) q
-unfolding party_after_abort
-hints-aborted p q pair h = hints-quiet p _ q refl (keeps-aborted p q pair) h
-
-pub hints-acknowledged : (p q : PartyState) → KeepBothHints p q → KeepBothHints (party_after_acknowledge p) q
-unfolding party_after_acknowledge
-hints-acknowledged p q h = hints-quiet p _ q refl (keeps-acknowledged p q) h
-
-pub hints-timer : (p q : PartyState) (timer : Which) → IsSoundPair p q → KeepBothHints p q → KeepBothHints (party_after_timer p timer) q
-unfolding party_after_timer
-hints-timer p q timer pair h = hints-quiet p _ q refl (keeps-timer p q timer pair) h
-
--- what is emitted reports true blocks
-some-is : {x y : SentSegment} → Some x ≡ Some y → x ≡ y
-some-is e = cc
-
-same-content : (v v' : Content) (r : Result Content DecodeError) → r ≡ Ok v → r ≡ Ok v' → v ≡ v'
-same-content v v' r e e' = cc
-
-due-reports : (p q : PartyState) (due : Option Due) → IfSome due (GoesOut p q) → IsSoundPair p q → (g : SentSegment) (v : Content) → option_map (sent_by p.endpoint) (option_map (bytes_of p.endpoint) due) ≡ Some g
-    → decode_answer p.endpoint.config.addr.0 q.endpoint.config.addr.0 g.bytes ≡ Ok v → AreBlocksBehind (witness_of p q) g.wanted (reported_blocks v.options)
-due-reports p q None goes pair g v e read = absurd (cc)
-due-reports p q (Some due) goes pair g v e read =
-    let src = p.endpoint.config.addr.0 in
-    let dst = q.endpoint.config.addr.0 in
-    let x = witness_of p q in
-    let sent : sent_by p.endpoint (bytes_of p.endpoint due) ≡ g = some-is e in
-    let wanted : next_position p ≡ g.wanted = sym (wanted-is p q pair) ∙ ap (λ (g : SentSegment). g.wanted) sent in
-    let own : decode_answer src dst g.bytes ≡ Ok (segment_of p.endpoint due) = ap (λ (g : SentSegment). decode_answer src dst g.bytes) (sym sent) ∙ due-decodes p q due goes in
-    let said : AreBlocksBehind x g.wanted (reported_blocks (segment_of p.endpoint due).options) = subst (λ (n : ℕ). AreBlocksBehind x n (reported_blocks (segment_of p.endpoint due).options)) wanted (blocks-of_due p q due pair goes) in
-    subst (λ (v : Content). AreBlocksBehind x g.wanted (reported_blocks v.options)) (same-content (segment_of p.endpoint due) v (decode_answer src dst g.bytes) own read) said
-
-pub hints-emitted : (p q : PartyState) → IsSoundPair p q → KeepBothHints p q → KeepBothHints (party_after_emission p) q
-unfolding party_after_emission emitted_bytes
-hints-emitted p q pair h =
-    hints-from-keeps p _ q (keeps-emitted p q (keeps-same p q h.there.marks))
-    (record { new = option_map (sent_by p.endpoint) (option_map (bytes_of p.endpoint) (due_of p.endpoint)); sent = refl; told = due-reports p q (due_of p.endpoint) (due-goes p q pair) pair }) h
-
--- a segment that the peer emitted arrives
-pub delivered-keeps : (p q : PartyState) (life k : ℕ) → life ≤ max_life → delivery_refusal life q p k ≡ None → IsSoundPair p q → KeepBothHints p q
-    → Keeps p q (after_arrival p.endpoint q.endpoint.config.addr.0 p.endpoint.config.addr.0 (segment_at q k))
-delivered-keeps p q life k most e pair h =
-    let src = q.endpoint.config.addr.0 in
-    let dst = p.endpoint.config.addr.0 in
-    let g = sent_at q k in
-    let there = delivered-there life p q k e in
-    let sent = segment-sent q k there.0 in
-    let own = pair.own_back k g sent in
-    let read = own-decodes q p g own in
-    let s = after_judgement (judgement p.endpoint src dst own.content) p.endpoint src own.content in
-    let c = comes p q life g most there.1 pair own in
-    let keeps : Keeps p q s = keeps-judgement p q dst own.content g.position g.wanted pair c (h.back.blocks k g own.content sent read) (kept-same p q pair) (keeps-same p q h.there.marks) in
-    rw (arrival-ok p.endpoint src dst g.bytes own.content read) keeps
-
-pub hints-delivered : (p q : PartyState) (life k : ℕ) → life ≤ max_life → delivery_refusal life q p k ≡ None → IsSoundPair p q → KeepBothHints p q → KeepBothHints (party_after_arrival p q (segment_at q k)) q
-unfolding party_after_arrival
-hints-delivered p q life k most e pair h =
-    hints-quiet p (record p { endpoint = after_arrival p.endpoint q.endpoint.config.addr.0 p.endpoint.config.addr.0 (segment_at q k) }) q refl (λ _. delivered-keeps p q life k most e pair h) h
-
-pub hints-damaged : (p q : PartyState) (life k place value : ℕ) → value < 256 → damage_refusal life q p k place value ≡ None → IsSoundPair p q → KeepBothHints p q
-    → KeepBothHints (party_after_arrival p q (bytes_with_damage (segment_at q k) place value)) q
-hints-damaged p q life k place value fits e pair h = subst (λ (p' : PartyState). KeepBothHints p' q) (sym (finds-damage p q life k place value fits e pair).same) h
-
--- ---- in the world
-hints-effect : (life : ℕ) (p q : PartyState) (event : EventContent) → life ≤ max_life → HasBytes event → (effect_of life p q event).refusal ≡ None → IsSoundPair p q → KeepBothHints p q
-    → KeepBothHints (effect_of life p q event).here (effect_of life p q event).there
-unfolding effect_of
-hints-effect life p q (Connect side) most fits e pair h = hints-connected p q h
-hints-effect life p q (Listen side) most fits e pair h = hints-listening p q h
-hints-effect life p q (Send side bytes) most fits e pair h = hints-sent p q bytes h
-hints-effect life p q (Receive side room) most fits e pair h = hints-received p q room h
-hints-effect life p q (Close side) most fits e pair h = hints-closed p q pair h
-hints-effect life p q (Abort side) most fits e pair h = hints-aborted p q pair h
-hints-effect life p q (Acknowledge side) most fits e pair h = hints-acknowledged p q h
-hints-effect life p q (Timer side which) most fits e pair h = hints-timer p q which pair h
-hints-effect life p q (Emit side) most fits e pair h = hints-emitted p q pair h
-hints-effect life p q (Deliver from k) most fits e pair h = hints-swapped _ _ (hints-delivered q p life k most e (pair-swapped _ _ pair) (hints-swapped _ _ h))
-hints-effect life p q (Damage from k place value) most fits e pair h = hints-swapped _ _ (hints-damaged q p life k place value fits e (pair-swapped _ _ pair) (hints-swapped _ _ h))
-
-hints-from : (w : WorldState) (side : Side) (event : EventContent) → w.life ≤ max_life → HasBytes event → (effect_of w.life (party_of w side) (party_of w (other side)) event).refusal ≡ None → AreSoundEnds w → KeepBothHints w.a w.b
-    → KeepBothHints (world_from w.life side (effect_of w.life (party_of w side) (party_of w (other side)) event).here (effect_of w.life (party_of w side) (party_of w (other side)) event).there).a
-    (world_from w.life side (effect_of w.life (party_of w side) (party_of w (other side)) event).here (effect_of w.life (party_of w side) (party_of w (other side)) event).there).b
-hints-from w A event most fits e ends h = hints-effect w.life w.a w.b event most fits e ends h
-hints-from w B event most fits e ends h = hints-swapped _ _ (hints-effect w.life w.b w.a event most fits e (pair-swapped _ _ ends) (hints-swapped _ _ h))
-
-pub hints-after : (w : WorldState) (event : EventContent) → w.life ≤ max_life → HasBytes event → refusal_of w event ≡ None → AreSoundEnds w → KeepBothHints w.a w.b → KeepBothHints (world_with_effect w event).a (world_with_effect w event).b
-hints-after w event most fits e ends h = hints-from w (side_of event) event most fits e ends h
+pub hints-after : (w : WorldState) (event : EventContent) → w.life ≤ max_life → HasBytes event → refusal_of w event ≡ None → AreSoundEnds w → KeepBothHints w.a w.b
+    → KeepBothHints (world_with_effect w event).a (world_with_effect w event).b
+hints-after w event most fits e ends h = in-world _ _ _ hints-kept w event most fits e tt tt ends h
 
 -- nothing is marked or reported yet
 new-hints : (a b : Config) → KeepsHints (new_party a) (new_party b)

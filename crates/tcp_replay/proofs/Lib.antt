@@ -12,6 +12,8 @@ pub mod AloneStages
 pub mod Stages
 pub mod AloneArrivals
 pub mod Arrivals
+pub mod Intake
+pub mod Calls
 pub mod AloneCalls
 pub mod AloneFeeds
 pub mod Users
@@ -20,12 +22,12 @@ pub mod AloneEmissions
 pub mod Emissions
 pub mod SoloRuns
 pub mod Deliveries
+pub mod Events
 pub mod Worlds
 pub mod Parties
 pub mod Holdings
 pub mod Marks
 pub mod Hints
-pub mod HintEvents
 pub mod HintWorlds
 pub mod Runs
 pub mod SoloLogs

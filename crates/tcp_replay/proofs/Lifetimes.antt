@@ -1,6 +1,6 @@
 -- Where any two positions of a direction differ by less than the lifetime, no segment expires.
-use Rattle.std.proofs.Common.{◌≡◌, ℕ, ◌+◌, ◌<◌, ◌≤◌, refl, sym, ◌∙◌, ap, subst, ⊎_elim, arith}
-use Rattle.std.specs.Prelude.{true, not, ◌||◌, ◌==◌, if◌then◌else◌, nat_le, length, Option, Some, None, Result, Ok, Err, OnOk, OnErr, IfErr, IfSome, IfNone}
+use Rattle.std.proofs.Common.{◌≡◌, ℕ, ◌+◌, ◌<◌, ◌≤◌, sym, ◌∙◌, ap, subst, ⊎_elim, arith}
+use Rattle.std.specs.Prelude.{true, not, ◌==◌, if◌then◌else◌, nat_le, length, Option, Some, None, Result, Ok, Err, OnOk, OnErr, IfErr, IfSome, IfNone, ◌||◌}
 use Rattle.std.proofs.lemmas.Bool.{cond_both, and_parts, or_cases, leb-true}
 use Rattle.tcp_wire.specs.Flags.{rst, ack, has}
 use Rattle.tcp_halves.specs.declared.config.Config.{Config}
@@ -11,18 +11,18 @@ use Rattle.tcp_replay.specs.declared.event.Side.TheVariants.{A, B}
 use Rattle.tcp_replay.specs.declared.outcome.Outcome.{Outcome}
 use Rattle.tcp_replay.specs.declared.outcome.StepError.{StepError}
 use Rattle.tcp_replay.specs.declared.outcome.StepError.TheVariants.{NoSuchSegment, NoChange, PlaceOutside, Expired, NoMemory}
-use Rattle.tcp_replay.specs.Events.{EventContent, side_of, HasBytes, Connect, Listen, Send, Receive, Close, Abort, Acknowledge, Timer, Emit, Deliver, Damage}
-use Rattle.tcp_replay.specs.World.{WorldState, PartyState, SentSegment, KeepsAllSegments, max_life, party_of, other, world_from, is_missing, sent_at, segment_at, is_late, acks_late, flags_in, is_expired, age_refusal, delivery_refusal, damage_refusal, effect_of, grows_for, refusal_of, world_with_effect, party_after_connect, party_after_listen, party_after_send, party_after_receive, party_after_close, party_after_abort, party_after_acknowledge, party_after_timer, party_after_emission, party_after_arrival}
-use Rattle.tcp_replay.specs.Sound.{IsSoundPair, AreSoundEnds, KeepBothHints, IsSound}
+use Rattle.tcp_replay.specs.Events.{EventContent, side_of, HasBytes, Deliver, Damage}
+use Rattle.tcp_replay.specs.World.{WorldState, PartyState, SentSegment, KeepsAllSegments, party_of, other, is_missing, sent_at, segment_at, is_late}
+use Rattle.tcp_replay.specs.World.{acks_late, flags_in, is_expired, age_refusal, delivery_refusal, damage_refusal, effect_of, grows_for, refusal_of}
+use Rattle.tcp_replay.specs.World.{world_with_effect, address_of}
+use Rattle.tcp_replay.specs.Sound.{IsSoundPair, IsSound}
 use Rattle.tcp_replay.proofs.Lists.{one_if-most}
 use Rattle.tcp_replay.proofs.Steps.{pair-swapped}
 use Rattle.tcp_replay.proofs.Emissions.{wanted-is}
-use Rattle.tcp_replay.proofs.Deliveries.{finds-damage}
-use Rattle.tcp_replay.proofs.Worlds.{life-after}
-use Rattle.tcp_replay.proofs.Hints.{keeps-same}
-use Rattle.tcp_replay.proofs.HintEvents.{keeps-connected, keeps-listening, keeps-sent, keeps-received, keeps-closed, keeps-aborted, keeps-acknowledged, keeps-timer, keeps-emitted}
-use Rattle.tcp_replay.proofs.HintWorlds.{hints-swapped, delivered-keeps}
+use Rattle.tcp_replay.proofs.Worlds.{life-after, nothing-kept}
 use Rattle.tcp_replay.proofs.Runs.{not-refused}
+use Rattle.tcp_replay.proofs.Events.{PairKept, in-world}
+use Rattle.tcp_conn.specs.Config.{default_limit}
 
 -- NOTHING IS OLD at an end whose positions stay below the lifetime
 age-none : (life : ℕ) (s : State) (g : SentSegment) → next_wanted s.receiving < life → s.sending.una < life → is_expired life s g ≡ true → ⊥
@@ -75,42 +75,22 @@ from-side w B h keeps = stays-below w.life w.b w.a (omega (arith, h.ends.back.li
 not-expired : (w : WorldState) (event : EventContent) → IsSound w → KeepsAllSegments w → refusal_of w event ≡ Some Expired → ⊥
 not-expired w event h keeps e = effect-not_expired w.life (party_of w (side_of event)) (party_of w (other (side_of event))) event (from-side w (side_of event) h keeps) e
 
--- WHAT THE ENDS WERE MADE FROM stays
-record SameConfigs (p q p' q' : PartyState) : Type 0 where
-  here : p'.endpoint.config ≡ p.endpoint.config
-  there : q'.endpoint.config ≡ q.endpoint.config
+-- WHAT THE ENDS WERE MADE FROM stays, and its limits
+abbrev HaveLimits : PartyState → PartyState → Type 0
+HaveLimits x y = (x.endpoint.config.limit ≤ default_limit) × (y.endpoint.config.limit ≤ default_limit)
 
-configs-effect : (life : ℕ) (p q : PartyState) (event : EventContent) → life ≤ max_life → HasBytes event → (effect_of life p q event).refusal ≡ None → IsSoundPair p q → KeepBothHints p q
-    → SameConfigs p q (effect_of life p q event).here (effect_of life p q event).there
-unfolding effect_of party_after_connect party_after_listen party_after_send party_after_receive party_after_close party_after_abort party_after_acknowledge party_after_timer party_after_emission party_after_arrival
-configs-effect life p q (Connect side) most fits e pair h = record { here = (keeps-connected p q (keeps-same p q h.there.marks)).config; there = refl }
-configs-effect life p q (Listen side) most fits e pair h = record { here = (keeps-listening p q (keeps-same p q h.there.marks)).config; there = refl }
-configs-effect life p q (Send side bytes) most fits e pair h = record { here = (keeps-sent p q bytes (keeps-same p q h.there.marks)).config; there = refl }
-configs-effect life p q (Receive side room) most fits e pair h = record { here = (keeps-received p q room (keeps-same p q h.there.marks)).config; there = refl }
-configs-effect life p q (Close side) most fits e pair h = record { here = (keeps-closed p q pair (keeps-same p q h.there.marks)).config; there = refl }
-configs-effect life p q (Abort side) most fits e pair h = record { here = (keeps-aborted p q pair (keeps-same p q h.there.marks)).config; there = refl }
-configs-effect life p q (Acknowledge side) most fits e pair h = record { here = (keeps-acknowledged p q (keeps-same p q h.there.marks)).config; there = refl }
-configs-effect life p q (Timer side which) most fits e pair h = record { here = (keeps-timer p q which pair (keeps-same p q h.there.marks)).config; there = refl }
-configs-effect life p q (Emit side) most fits e pair h = record { here = (keeps-emitted p q (keeps-same p q h.there.marks)).config; there = refl }
-configs-effect life p q (Deliver from k) most fits e pair h = record { here = refl; there = (delivered-keeps q p life k most e (pair-swapped p q pair) (hints-swapped p q h)).config }
-configs-effect life p q (Damage from k place value) most fits e pair h = record { here = refl; there = ap (λ (x : PartyState). x.endpoint.config) (finds-damage q p life k place value fits e (pair-swapped p q pair)).same }
-
-configs-from : (w : WorldState) (side : Side) (event : EventContent) → w.life ≤ max_life → HasBytes event → (effect_of w.life (party_of w side) (party_of w (other side)) event).refusal ≡ None → AreSoundEnds w → KeepBothHints w.a w.b
-    → SameConfigs w.a w.b (world_from w.life side (effect_of w.life (party_of w side) (party_of w (other side)) event).here (effect_of w.life (party_of w side) (party_of w (other side)) event).there).a
-    (world_from w.life side (effect_of w.life (party_of w side) (party_of w (other side)) event).here (effect_of w.life (party_of w side) (party_of w (other side)) event).there).b
-configs-from w A event most fits e ends h = configs-effect w.life w.a w.b event most fits e ends h
-configs-from w B event most fits e ends h =
-    let same = configs-effect w.life w.b w.a event most fits e (pair-swapped _ _ ends) (hints-swapped _ _ h) in
-    record { here = same.there; there = same.here }
+limits-kept : PairKept (λ _ _. Unit {0}) HaveLimits (λ _ _ _ _. Unit {0})
+limits-kept = record {
+  swapped = λ p q h. (h.1, h.0);
+  calls = λ p q _ _. nothing-kept (address_of q) p;
+  arrives = λ p q g v _ _ _ _. tt;
+  moved = λ p p' q _ moved _ _ h. (omega (arith, ap (λ (c : Config). c.limit) moved.config, h.0), h.1);
+}
 
 keeps-after : (w : WorldState) (event : EventContent) → HasBytes event → refusal_of w event ≡ None → IsSound w → KeepsAllSegments w → KeepsAllSegments (world_with_effect w event)
 keeps-after w event fits e h keeps =
-    let same = configs-from w (side_of event) event h.life fits e h.ends h.hints in
-    record {
-      life = life-after w event ∙ keeps.life;
-      limit_of_a = omega (arith, ap (λ (c : Config). c.limit) same.here, keeps.limit_of_a);
-      limit_of_b = omega (arith, ap (λ (c : Config). c.limit) same.there, keeps.limit_of_b);
-    }
+    let limits = in-world _ _ _ limits-kept w event h.life fits e tt tt h.ends (keeps.limit_of_a, keeps.limit_of_b) in
+    record { life = life-after w event ∙ keeps.life; limit_of_a = limits.0; limit_of_b = limits.1 }
 
 -- ONE STEP of the code
 refused-expired : (r : Result Outcome StepError) (refused : Option StepError) (Q : Type 0) → r ≡ Err Expired → IfSome refused (λ e. r ≡ Err e) → IfNone refused (IfErr r (λ e. (e ≡ NoMemory) × Q)) → refused ≡ Some Expired

@@ -1,6 +1,7 @@
 -- ONE END after every list of events: what it keeps of its own, where what it has came from, and what it emitted.
-use Rattle.std.proofs.Common.{◌≡◌, ℕ, ◌+◌, List, [], ◌∷◌, ◌++◌, refl, sym, ◌∙◌, ap, subst, ⊎_elim, inl, inr, arith, append-nil, append_assoc}
-use Rattle.std.specs.Prelude.{◌⊎◌, zero, suc, Bool, true, false, ◌||◌, if◌then◌else◌, Option, Some, None, IfSome, option_map, option_to_list, slice_get, Result, Ok, Err, is_some}
+use Rattle.std.proofs.Common.{◌≡◌, ℕ, ◌+◌, List, [], ◌∷◌, ◌++◌, refl, sym, ◌∙◌, ap, subst, ⊎_elim, inl, inr, arith, append-nil, append_assoc, ◌<◌, ◌^◌}
+use Rattle.std.specs.Prelude.{◌⊎◌, zero, suc, Bool, true, false, if◌then◌else◌, Option, Some, None, IfSome, option_map, option_to_list, slice_get, Result}
+use Rattle.std.specs.Prelude.{Ok, Err, is_some, ◌||◌}
 use Rattle.std.specs.List.{AllByRecursion}
 use Rattle.std.proofs.lemmas.Bool.{false≢true}
 use Rattle.tcp_wire.specs.Checksum.{AreBytes}
@@ -26,20 +27,26 @@ use Rattle.tcp_conn.specs.Due.{due_of}
 use Rattle.tcp_conn.specs.Forms.{segment_of}
 use Rattle.tcp_conn.specs.Writing.{bytes_of, destination_of}
 use Rattle.tcp_replay.specs.Alone.{IsAlone}
-use Rattle.tcp_replay.specs.OneEnd.{SendsItsUsers, Came, TookSyn, CameIn, HandsOverWhatCame, count_come, count_in_order, wanted_position, AcknowledgesInOrder, OneEndIsTrue}
-use Rattle.tcp_replay.specs.Solo.{SoloState, solo_start, end_after, bytes_taken, bytes_put_out, is_close, segment_due, segment_emitted, after_solo, solo_run, run_alone}
+use Rattle.tcp_replay.specs.OneEnd.{SendsItsUsers, Came, TookSyn, CameIn, HandsOverWhatCame, count_come, count_in_order, wanted_position}
+use Rattle.tcp_replay.specs.OneEnd.{AcknowledgesInOrder, OneEndIsTrue}
+use Rattle.tcp_replay.specs.Solo.{SoloState, solo_start, end_after, bytes_taken, bytes_put_out, is_close, segment_due, segment_emitted, after_solo}
+use Rattle.tcp_replay.specs.Solo.{solo_run, run_alone}
 use Rattle.tcp_replay.specs.SoloEvents.{SoloContent, HasRanges, Connect, Listen, Send, Receive, Close, Abort, Acknowledge, Timer, Emit, Arrive}
 use Rattle.tcp_replay.specs.Truthful.{IsOfUser}
-use Rattle.tcp_replay.specs.World.{front_taken}
+use Rattle.tcp_replay.specs.World.{front_taken, PartyState, party_after_abort, party_after_acknowledge, party_after_close, party_after_connect}
+use Rattle.tcp_replay.specs.World.{party_after_listen, party_after_receive, party_after_send, party_after_timer}
 use Rattle.tcp_replay.proofs.Lists.{by_test, one_if}
 use Rattle.tcp_replay.proofs.Truths.{of_user-grows}
 use Rattle.tcp_replay.proofs.Alone.{alone-new}
 use Rattle.tcp_replay.proofs.AloneArrivals.{alone-judgement}
-use Rattle.tcp_replay.proofs.AloneCalls.{alone-connected, alone-listening, send-unclosed, alone-sent, alone-received, or-false, alone-closed, alone-aborted, alone-acknowledged, alone-timer}
-use Rattle.tcp_replay.proofs.AloneEmissions.{IsSaid, GoesOutAlone, due-alone, alone-emitted}
+use Rattle.tcp_replay.proofs.AloneCalls.{send-unclosed, IsAloneIn, alone-calls}
+use Rattle.tcp_replay.proofs.AloneEmissions.{IsSaid, GoesOutAlone, due-alone}
 use Rattle.tcp_replay.proofs.Emissions.{syn-of_user, syn-opened, plain-of_user, reset-bit}
 use Rattle.tcp_replay.proofs.Feeds.{AllText, ByNumber, text-of, text-at, text-front, IsFed, fed-new, fed-more, fed-any}
-use Rattle.tcp_replay.proofs.AloneFeeds.{Feeds, feeds-same, feeds-connected, feeds-listening, feeds-sent, feeds-closed, feeds-aborted, feeds-acknowledged, feeds-timer, feeds-emitted, feeds-received, feeds-judgement}
+use Rattle.tcp_replay.proofs.AloneFeeds.{Feeds, feeds-same, feeds-judgement, feeds-calls}
+use Rattle.tcp_replay.proofs.Calls.{or-false, KeptByCalls, by-abort, by-acknowledge, by-close, by-connect, by-emission, by-listen, by-receive, by-send, by-timer}
+use Rattle.tcp_replay.proofs.Calls.{or-false, with_end}
+use Rattle.tcp_halves.specs.declared.link.Peer.{Peer}
 
 -- ARRIVALS, by what the bytes are read as
 read-arrival : (s : State) (src dst bytes : List ℕ) (r : Result Content DecodeError) → decode_answer src dst bytes ≡ r → after_arrival s src dst bytes ≡ after_reading s src dst r
@@ -57,28 +64,32 @@ alone-arrived s accepted closed src dst bytes fits h =
     subst (λ (x : State). IsAlone x accepted closed) (sym (read-arrival s src dst bytes (decode_answer src dst bytes) refl))
     (alone-reading s accepted closed src dst bytes (decode_answer src dst bytes) fits refl h)
 
-alone-still : (s : State) (accepted : List ℕ) (closed : Bool) → IsAlone s accepted closed → IsAlone s (accepted ++ []) (closed || false)
-alone-still s accepted closed h =
-    subst (λ (xs : List ℕ). IsAlone s xs (closed || false)) (sym (append-nil accepted)) (subst (λ (b : Bool). IsAlone s accepted b) (sym (or-false closed)) h)
+-- the party of an end, which keeps no list of what it emitted
+abbrev pub party_in : SoloState → PartyState
+party_in x = record { endpoint = x.endpoint; sent = []; accepted = x.accepted; delivered = x.delivered; closed = x.closed; ended = x.ended }
 
--- the bytes are as many as before, or the close is
-same-closed : (s : State) (accepted : List ℕ) (closed : Bool) → IsAlone s accepted closed → IsAlone s accepted (closed || false)
-same-closed s accepted closed h = subst (λ (b : Bool). IsAlone s accepted b) (sym (or-false closed)) h
+-- some peer
+abbrev peer_of : State → Peer
+peer_of s = record { addr = s.config.addr; port = s.config.port }
 
-same-accepted : (s : State) (accepted : List ℕ) (closed : Bool) → IsAlone s accepted closed → IsAlone s (accepted ++ []) closed
-same-accepted s accepted closed h = subst (λ (xs : List ℕ). IsAlone s xs closed) (sym (append-nil accepted)) h
+-- ANY EVENT at one end: what its calls, timers and emissions keep, and an arrival
+solo-step : (x : SoloState) (e : SoloContent) (P : PartyState → Type 0) → IsAloneIn (party_in x) → HasRanges e → ((peer : Peer) → peer.port < 2 ^ 16 → KeptByCalls peer (party_in x) P)
+    → ((src dst bytes : List ℕ) → e ≡ Arrive src dst bytes → P (with_end (party_in x) (after_arrival x.endpoint src dst bytes))) → P (party_in (after_solo x e))
+unfolding party_after_connect party_after_listen party_after_send party_after_receive party_after_close party_after_abort party_after_acknowledge party_after_timer
+solo-step x (Connect addr port) P alone fits calls arrives = rw (append-nil x.accepted, append-nil x.delivered, or-false x.closed, or-false x.ended) (by-connect _ (party_in x) P (calls _ fits))
+solo-step x Listen P alone fits calls arrives = rw (append-nil x.accepted, append-nil x.delivered, or-false x.closed, or-false x.ended) (by-listen _ (party_in x) P (calls (peer_of x.endpoint) alone.config.port))
+solo-step x (Send text) P alone fits calls arrives = rw (append-nil x.delivered, or-false x.closed, or-false x.ended) (by-send _ (party_in x) P (calls (peer_of x.endpoint) alone.config.port) text fits)
+solo-step x (Receive room) P alone fits calls arrives = rw (append-nil x.accepted, or-false x.closed) (by-receive _ (party_in x) P (calls (peer_of x.endpoint) alone.config.port) room)
+solo-step x Close P alone fits calls arrives = rw (append-nil x.accepted, append-nil x.delivered, or-false x.ended) (by-close _ (party_in x) P (calls (peer_of x.endpoint) alone.config.port))
+solo-step x Abort P alone fits calls arrives = rw (append-nil x.accepted, append-nil x.delivered, or-false x.closed, or-false x.ended) (by-abort _ (party_in x) P (calls (peer_of x.endpoint) alone.config.port))
+solo-step x Acknowledge P alone fits calls arrives = rw (append-nil x.accepted, append-nil x.delivered, or-false x.closed, or-false x.ended) (by-acknowledge _ (party_in x) P (calls (peer_of x.endpoint) alone.config.port))
+solo-step x (Timer which) P alone fits calls arrives = rw (append-nil x.accepted, append-nil x.delivered, or-false x.closed, or-false x.ended) (by-timer _ (party_in x) P (calls (peer_of x.endpoint) alone.config.port) which)
+solo-step x Emit P alone fits calls arrives = rw (append-nil x.accepted, append-nil x.delivered, or-false x.closed, or-false x.ended) (by-emission _ (party_in x) P (calls (peer_of x.endpoint) alone.config.port) alone)
+solo-step x (Arrive src dst bytes) P alone fits calls arrives = rw (append-nil x.accepted, append-nil x.delivered, or-false x.closed, or-false x.ended) (arrives src dst bytes refl)
 
-alone-step : (s : State) (accepted : List ℕ) (closed : Bool) (e : SoloContent) → HasRanges e → IsAlone s accepted closed → IsAlone (end_after s e) (accepted ++ bytes_taken s e) (closed || is_close s e)
-alone-step s accepted closed (Connect addr port) fits h = alone-still _ accepted closed (alone-connected s accepted closed _ fits h)
-alone-step s accepted closed Listen fits h = alone-still _ accepted closed (alone-listening s accepted closed h)
-alone-step s accepted closed (Send text) fits h = same-closed _ (accepted ++ bytes_taken s (Send text)) closed (alone-sent s accepted text closed fits h)
-alone-step s accepted closed (Receive room) fits h = alone-still _ accepted closed (alone-received s accepted closed room h)
-alone-step s accepted closed Close fits h = same-accepted _ accepted (closed || is_close s Close) (alone-closed s accepted closed h)
-alone-step s accepted closed Abort fits h = alone-still _ accepted closed (alone-aborted s accepted closed h)
-alone-step s accepted closed Acknowledge fits h = alone-still _ accepted closed (alone-acknowledged s accepted closed h)
-alone-step s accepted closed (Timer which) fits h = alone-still _ accepted closed (alone-timer s accepted closed which h)
-alone-step s accepted closed Emit fits h = alone-still _ accepted closed (alone-emitted s accepted closed h)
-alone-step s accepted closed (Arrive src dst bytes) fits h = alone-still _ accepted closed (alone-arrived s accepted closed src dst bytes fits h)
+alone-step : (x : SoloState) (e : SoloContent) → HasRanges e → IsAloneIn (party_in x) → IsAloneIn (party_in (after_solo x e))
+alone-step x e fits h = solo-step x e IsAloneIn h fits (λ peer port. alone-calls peer (party_in x) port h)
+    (λ src dst bytes is. alone-arrived x.endpoint x.accepted x.closed src dst bytes (subst HasRanges is fits) h)
 
 -- after a close nothing more is accepted
 taken-unless : (o : Option CallError) (n : ℕ) (text : List ℕ) → (o ≡ None → ⊥) → front_taken (answer_unless o n) text ≡ []
@@ -236,9 +247,6 @@ fed-irs : (P : ℕ → ℕ → Type 0) (s : State) (irs n k : ℕ) (delivered : 
 fed-irs P s irs n k delivered h =
     by_test s.receiving.opened (λ b. IsFed P s.receiving (if b then irs else n) k delivered (gives_up s.ending)) (λ _. h) (λ shut. fed-any P s.receiving irs n k delivered (gives_up s.ending) shut h)
 
-same-delivered : (P : ℕ → ℕ → Type 0) (Q : Type 0) (s s' : State) (irs k : ℕ) (delivered : List ℕ) → Feeds P Q s s' irs k delivered → Feeds P Q s s' irs k (delivered ++ [])
-same-delivered P Q s s' irs k delivered h = subst (λ (xs : List ℕ). Feeds P Q s s' irs k xs) (sym (append-nil delivered)) h
-
 -- a SYN came
 abbrev pub IsSynRead : Result Content DecodeError → Type 0
 IsSynRead (Ok v) = has syn v.flags ≡ true
@@ -267,22 +275,21 @@ abbrev pub BringsSyn : SoloContent → Type 0
 BringsSyn (Arrive src dst bytes) = IsSynRead (decode_answer src dst bytes)
 BringsSyn other = ⊥
 
+-- the number of the last segment serves until a SYN is taken
+fed-next : (P : ℕ → ℕ → Type 0) (s : State) (irs k : ℕ) (delivered : List ℕ) (e : SoloContent) → IsFed P s.receiving irs k delivered (gives_up s.ending) → IsFed P s.receiving (next_irs s irs e) k delivered (gives_up s.ending)
+fed-next P s irs k delivered (Arrive src dst bytes) h = fed-irs P s irs (seq_read (decode_answer src dst bytes)) k delivered h
+fed-next P s irs k delivered other h = h
+
 -- by event
 feeds-by : (c : Config) (list : List SoloContent) (x : SoloState) (irs k : ℕ) (e : SoloContent) → HasRanges e → Holds c list x irs k
     → IsFed (CameIn c (list ++ e ∷ [])) x.endpoint.receiving irs k x.delivered (gives_up x.endpoint.ending)
     → Feeds (CameIn c (list ++ e ∷ [])) (BringsSyn e) x.endpoint (end_after x.endpoint e) (next_irs x.endpoint irs e) k (x.delivered ++ bytes_put_out x.endpoint e)
-feeds-by c list x irs k (Connect addr port) fits h fed = same-delivered _ _ x.endpoint _ irs k x.delivered (feeds-connected _ _ x.endpoint irs k x.delivered fed _)
-feeds-by c list x irs k Listen fits h fed = same-delivered _ _ x.endpoint _ irs k x.delivered (feeds-listening _ _ x.endpoint irs k x.delivered fed)
-feeds-by c list x irs k (Send text) fits h fed = same-delivered _ _ x.endpoint _ irs k x.delivered (feeds-sent _ _ x.endpoint irs k x.delivered fed text)
-feeds-by c list x irs k (Receive room) fits h fed = feeds-received _ _ x.endpoint irs k x.delivered room fed
-feeds-by c list x irs k Close fits h fed = same-delivered _ _ x.endpoint _ irs k x.delivered (feeds-closed _ _ x.endpoint irs k x.delivered fed)
-feeds-by c list x irs k Abort fits h fed = same-delivered _ _ x.endpoint _ irs k x.delivered (feeds-aborted _ _ x.endpoint irs k x.delivered fed)
-feeds-by c list x irs k Acknowledge fits h fed = same-delivered _ _ x.endpoint _ irs k x.delivered (feeds-acknowledged _ _ x.endpoint irs k x.delivered fed)
-feeds-by c list x irs k (Timer which) fits h fed = same-delivered _ _ x.endpoint _ irs k x.delivered (feeds-timer _ _ x.endpoint irs k x.delivered fed x.accepted x.closed which h.alone)
-feeds-by c list x irs k Emit fits h fed = same-delivered _ _ x.endpoint _ irs k x.delivered (feeds-emitted _ _ x.endpoint irs k x.delivered fed)
-feeds-by c list x irs k (Arrive src dst bytes) fits h fed =
-    same-delivered _ _ x.endpoint _ _ k x.delivered (feeds-arrived _ x.endpoint irs k x.delivered x.accepted x.closed src dst bytes fits h.alone
-    (λ v e mine ok. text-came c list x src dst bytes v h.at e mine ok) fed)
+feeds-by c list x irs k e fits h fed =
+    let P = λ (e : SoloContent) (s : State) (delivered : List ℕ). Feeds (CameIn c (list ++ e ∷ [])) (BringsSyn e) x.endpoint s (next_irs x.endpoint irs e) k delivered in
+    solo-step x e (λ p. P e p.endpoint p.delivered) h.alone fits (λ peer _. feeds-calls _ (BringsSyn e) peer (party_in x) (next_irs x.endpoint irs e) k h.alone (fed-next _ x.endpoint irs k x.delivered e fed))
+    (λ src dst bytes is. subst (λ e. P e (after_arrival x.endpoint src dst bytes) x.delivered) (sym is)
+    (feeds-arrived _ x.endpoint irs k x.delivered x.accepted x.closed src dst bytes (subst HasRanges is fits) h.alone
+    (λ v e mine ok. text-came c list x src dst bytes v h.at e mine ok) (subst (λ e. IsFed (CameIn c (list ++ e ∷ [])) x.endpoint.receiving irs k x.delivered (gives_up x.endpoint.ending)) is fed)))
 
 feeds-step : (c : Config) (list : List SoloContent) (x : SoloState) (irs k : ℕ) (e : SoloContent) → HasRanges e → Holds c list x irs k
     → Feeds (CameIn c (list ++ e ∷ [])) (BringsSyn e) x.endpoint (end_after x.endpoint e) (next_irs x.endpoint irs e) k (x.delivered ++ bytes_put_out x.endpoint e)
@@ -353,7 +360,7 @@ holds-step c list x irs k e fits h =
     record {
       at = run-last (solo_start c) list e ∙ ap (λ (y : SoloState). after_solo y e) h.at;
       config = feeds.config ∙ h.config;
-      alone = alone-step x.endpoint x.accepted x.closed e fits h.alone;
+      alone = alone-step x e fits h.alone;
       fed = feeds.fed;
       taken = syn-step c list x irs k e fits h;
       sends = sends-step c list x irs k e h;

@@ -1,6 +1,7 @@
 -- THE HEADLINE on the definitions: every event keeps both ends sound, and sound ends are safe.
 use Rattle.std.proofs.Common.{◌≡◌, ℕ, ◌+◌, ◌-◌, ◌≤◌, List, [], ◌∷◌, ◌++◌, length, take, drop, refl, sym, ◌∙◌, ap, arith, length-take, take-append-drop}
-use Rattle.std.specs.Prelude.{min, Bool, true, false, Option, Some, None}
+use Rattle.std.proofs.Common.{subst}
+use Rattle.std.specs.Prelude.{min, Bool, true, false, Option, Some, None, IfSome, option_map}
 use Rattle.std.specs.List.{AllByRecursion}
 use Rattle.tcp_wire.specs.declared.fault.DecodeError.TheVariants.{BadChecksum}
 use Rattle.tcp_reasm.proofs.Agreement.{empty_inbox-agrees}
@@ -9,41 +10,58 @@ use Rattle.tcp_halves.specs.declared.outcome.Arrival.TheVariants.{Malformed}
 use Rattle.tcp_conn.specs.Config.{IsConfig}
 use Rattle.tcp_replay.specs.declared.event.Side.{Side}
 use Rattle.tcp_replay.specs.declared.event.Side.TheVariants.{A, B}
-use Rattle.tcp_replay.specs.declared.outcome.Outcome.TheVariants as outcomes
 use Rattle.tcp_replay.specs.declared.outcome.StepError.{StepError}
-use Rattle.tcp_replay.specs.Events.{EventContent, side_of, HasBytes, IsDamage, Connect, Listen, Send, Receive, Close, Abort, Acknowledge, Timer, Emit, Deliver, Damage}
-use Rattle.tcp_replay.specs.World.{WorldState, PartyState, max_life, both, new_party, new_world_with, party_of, other, world_from, Effect, effect_of, refusal_of, outcome_of, world_with_effect, stay_or, world_after, run_of, world_after_all}
+use Rattle.tcp_replay.specs.Events.{EventContent, side_of, HasBytes, IsDamage, Damage}
+use Rattle.tcp_replay.specs.World.{WorldState, PartyState, max_life, both, new_party, new_world_with, party_of, other, world_from, Effect, effect_of}
+use Rattle.tcp_replay.specs.World.{refusal_of, outcome_of, world_with_effect, stay_or, world_after, run_of, world_after_all, SentSegment, address_of}
+use Rattle.tcp_replay.specs.World.{sent_by}
 use Rattle.tcp_replay.specs.Safe.{IsSafeDirection, EmitsTruth, IsSafe}
-use Rattle.tcp_replay.specs.Sound.{IsSoundEnd, AreOwn, IsSoundPair, AreSoundEnds}
+use Rattle.tcp_replay.specs.Sound.{IsSoundEnd, AreOwn, IsSoundPair, AreSoundEnds, IsOwn}
 use Rattle.tcp_replay.proofs.Lists.{one_if}
 use Rattle.tcp_replay.proofs.Alone.{alone-new}
-use Rattle.tcp_replay.proofs.Steps.{pair-swapped}
-use Rattle.tcp_replay.proofs.Users.{pair-connected, pair-listening, pair-sent, pair-received, pair-close, pair-aborted, pair-acknowledged, pair-timer}
-use Rattle.tcp_replay.proofs.Deliveries.{own-decodes, pair-emitted, pair-delivered, pair-damaged, finds-damage}
+use Rattle.tcp_replay.proofs.Steps.{pair-swapped, pair-from-move}
+use Rattle.tcp_replay.proofs.Deliveries.{own-decodes, finds-damage}
+use Rattle.tcp_halves.specs.declared.due.Due.{Due}
+use Rattle.tcp_replay.proofs.Emissions.{GoesOut, own-due}
+use Rattle.tcp_replay.proofs.Calls.{KeptByCalls}
+use Rattle.tcp_replay.proofs.Events.{PairKept, in-world, some-is}
+use Rattle.tcp_halves.specs.declared.link.Peer.{Peer}
+use Rattle.tcp_conn.specs.Writing.{bytes_of}
+use Rattle.tcp_replay.specs.declared.outcome.Outcome.TheVariants as outcomes
 
--- ANY EVENT that isn't refused, at the party whose side it names
-ends-effect : (life : ℕ) (p q : PartyState) (event : EventContent) → life ≤ max_life → HasBytes event → (effect_of life p q event).refusal ≡ None → IsSoundPair p q
-    → IsSoundPair (effect_of life p q event).here (effect_of life p q event).there
-unfolding effect_of
-ends-effect life p q (Connect side) most fits e h = pair-connected p q h
-ends-effect life p q (Listen side) most fits e h = pair-listening p q h
-ends-effect life p q (Send side bytes) most fits e h = pair-sent p q bytes fits h
-ends-effect life p q (Receive side room) most fits e h = pair-received p q room h
-ends-effect life p q (Close side) most fits e h = pair-close p q h
-ends-effect life p q (Abort side) most fits e h = pair-aborted p q h
-ends-effect life p q (Acknowledge side) most fits e h = pair-acknowledged p q h
-ends-effect life p q (Timer side which) most fits e h = pair-timer p q which h
-ends-effect life p q (Emit side) most fits e h = pair-emitted p q h
-ends-effect life p q (Deliver from k) most fits e h = pair-swapped _ _ (pair-delivered q p life k most e (pair-swapped _ _ h))
-ends-effect life p q (Damage from k place value) most fits e h = pair-swapped _ _ (pair-damaged q p life k place value fits e (pair-swapped _ _ h))
+-- SOUNDNESS rests on nothing else
+pub nothing-kept : (peer : Peer) (p : PartyState) → KeptByCalls peer p (λ _. Unit {0})
+nothing-kept peer p = record {
+  same = tt;
+  connects = λ _. tt;
+  listens = λ _. tt;
+  sends = λ _ _ _. tt;
+  reads = λ _ _. tt;
+  withdraws = tt;
+  closes = λ _ _. tt;
+  aborts = tt;
+  acknowledges = tt;
+  resends = λ _. tt;
+  probes = tt;
+  fills = λ _ _ _. tt;
+  ends = λ _. tt;
+  emits = λ _ _ _. tt;
+}
 
-ends-from : (w : WorldState) (side : Side) (event : EventContent) → w.life ≤ max_life → HasBytes event → (effect_of w.life (party_of w side) (party_of w (other side)) event).refusal ≡ None → AreSoundEnds w
-    → AreSoundEnds (world_from w.life side (effect_of w.life (party_of w side) (party_of w (other side)) event).here (effect_of w.life (party_of w side) (party_of w (other side)) event).there)
-ends-from w A event most fits e h = ends-effect w.life w.a w.b event most fits e h
-ends-from w B event most fits e h = pair-swapped _ _ (ends-effect w.life w.b w.a event most fits e (pair-swapped _ _ h))
+own-new : (p q : PartyState) (due : Option Due) → IfSome due (GoesOut p q) → (g : SentSegment) → option_map (sent_by p.endpoint) (option_map (bytes_of p.endpoint) due) ≡ Some g → IsOwn p q g
+own-new p q None goes g e = absurd (cc)
+own-new p q (Some due) goes g e = subst (IsOwn p q) (some-is e) (own-due p q due goes)
+
+sound-kept : PairKept (λ _ _. Unit {0}) IsSoundPair (λ _ _ _ _. Unit {0})
+sound-kept = record {
+  swapped = pair-swapped;
+  calls = λ p q pair _. nothing-kept (address_of q) p;
+  arrives = λ p q g v _ pair comes _. tt;
+  moved = λ p p' q pair moved out _ _. pair-from-move p p' q moved (record { new = _; sent = out.sent; own = own-new p q out.due out.goes }) pair;
+}
 
 pub ends-after : (w : WorldState) (event : EventContent) → w.life ≤ max_life → HasBytes event → refusal_of w event ≡ None → AreSoundEnds w → AreSoundEnds (world_with_effect w event)
-ends-after w event most fits e h = ends-from w (side_of event) event most fits e h
+ends-after w event most fits e h = in-world _ _ _ sound-kept w event most fits e tt tt h h
 
 -- the lifetime stays
 life-from : (life : ℕ) (side : Side) (p q : PartyState) → (world_from life side p q).life ≡ life
