@@ -8,7 +8,7 @@ use Rattle.tcp_replay.specs.Events.{EventContent, HasBytes}
 use Rattle.tcp_replay.specs.World.{WorldState, PartyState, max_life, new_world_with, refusal_of, world_with_effect, run_of, world_after_all}
 use Rattle.tcp_replay.specs.Sound.{IsSound, IsSoundPair}
 use Rattle.tcp_replay.proofs.Steps.{pair-swapped}
-use Rattle.tcp_replay.proofs.Sounds.{sound-new, sound-after}
+use Rattle.tcp_replay.proofs.Worlds.{sound-new, sound-after}
 use Rattle.tcp_replay.proofs.Worlds.{kept-run, kept-after_all, life-after}
 use Rattle.tcp_progress.specs.Settled.{least_life}
 use Rattle.tcp_progress.specs.Steady.{EveryWorldIsSteady, IsSteady, IsSteadyEnd}
@@ -34,7 +34,8 @@ all-swapped p q h = record {
   stages = both-swapped KeepsStages p q h.stages;
 }
 
-all-after : (w : WorldState) (event : EventContent) → HasBytes event → refusal_of w event ≡ None → IsSound w → KeepAll w.a w.b → KeepAll (world_with_effect w event).a (world_with_effect w event).b
+all-after : (w : WorldState) (event : EventContent) → HasBytes event → refusal_of w event ≡ None → IsSound w → KeepAll w.a w.b
+    → KeepAll (world_with_effect w event).a (world_with_effect w event).b
 all-after w event fits e sound h =
     let tells = tells-within w.a w.b h.told in
     record {
@@ -51,7 +52,8 @@ pub record IsKept (w : WorldState) : Type 0 where
   pub least : least_life ≤ w.life
 
 pub kept-after : (w : WorldState) (event : EventContent) → HasBytes event → refusal_of w event ≡ None → IsKept w → IsKept (world_with_effect w event)
-kept-after w event fits e h = record { sound = sound-after w event fits e h.sound; all = all-after w event fits e h.sound h.all; least = omega (arith, life-after w event, h.least) }
+kept-after w event fits e h =
+    record { sound = sound-after w event fits e h.sound; all = all-after w event fits e h.sound h.all; least = omega (arith, life-after w event, h.least) }
 
 steady-end : (x y : PartyState) → IsSoundPair x y → KeepAll x y → IsSteadyEnd x y
 steady-end x y pair h = record {
@@ -68,7 +70,13 @@ steady-end x y pair h = record {
 
 pub kept-steady : (w : WorldState) → IsKept w → IsSteady w
 kept-steady w h = record {
-  ends = record { pair = h.sound.ends; there = steady-end w.a w.b h.sound.ends h.all; back = steady-end w.b w.a (pair-swapped _ _ h.sound.ends) (all-swapped _ _ h.all) };
+  ends =
+      record {
+        pair = h.sound.ends;
+        there = steady-end w.a w.b h.sound.ends h.all;
+        back = steady-end w.b w.a (pair-swapped _ _ h.sound.ends)
+            (all-swapped _ _ h.all);
+      };
   least = h.least;
   most = h.sound.life;
 }
@@ -80,7 +88,12 @@ kept-stays = record { keeps = kept-after; steady = kept-steady }
 new-kept : (life : ℕ) (a b : Config) → least_life ≤ life → life ≤ max_life → IsConfig a → IsConfig b → IsKept (new_world_with life a b)
 new-kept life a b least most one two = record {
   sound = sound-new life a b most one two;
-  all = record { sent = record { there = new-sent a b; back = new-sent b a }; told = new-told a b one two; edges = new-edges a b one two; stages = new-stages a b one two };
+  all = record {
+    sent = record { there = new-sent a b; back = new-sent b a };
+    told = new-told a b one two;
+    edges = new-edges a b one two;
+    stages = new-stages a b one two;
+  };
   least = least;
 }
 
@@ -89,10 +102,15 @@ pub record KeptByRuns (life : ℕ) (a b : Config) (list : List EventContent) : T
   pub stops : IsKept (run_of (new_world_with life a b) list)
   pub goes_on : IsKept (world_after_all (new_world_with life a b) list)
 
-pub kept-by_runs : (life : ℕ) (a b : Config) (list : List EventContent) → least_life ≤ life → life ≤ max_life → IsConfig a → IsConfig b → AllByRecursion HasBytes list → KeptByRuns life a b list
+pub kept-by_runs : (life : ℕ) (a b : Config) (list : List EventContent) → least_life ≤ life → life ≤ max_life → IsConfig a → IsConfig b
+    → AllByRecursion HasBytes list → KeptByRuns life a b list
 kept-by_runs life a b list least most one two fits =
     let start = new-kept life a b least most one two in
-    record { stops = kept-run IsKept kept-after (new_world_with life a b) list fits start; goes_on = kept-after_all IsKept kept-after (new_world_with life a b) list fits start }
+    record {
+      stops = kept-run IsKept kept-after (new_world_with life a b) list fits start;
+      goes_on = kept-after_all IsKept kept-after
+          (new_world_with life a b) list fits start;
+    }
 
 pub steady_lem : EveryWorldIsSteady
 steady_lem life a b list least most one two fits =

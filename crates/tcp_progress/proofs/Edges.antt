@@ -18,7 +18,7 @@ use Rattle.tcp_conn.specs.Due.{sending_due, reset_due, syn_due, ack_due, text_li
 use Rattle.tcp_conn.specs.Emission.{range_after, sending_after, owed_after}
 use Rattle.tcp_conn.specs.Timers.{after_gaps, needs_probe}
 use Rattle.tcp_replay.proofs.Halves.{range-more}
-use Rattle.tcp_replay.proofs.Dues.{option_or-both, end-is}
+use Rattle.tcp_replay.proofs.AloneEmissions.{option_or-both, end-is}
 use Rattle.tcp_replay.proofs.AloneEmissions.{range_after-ends, going-on}
 use Rattle.tcp_halves.specs.declared.link.WaitingReset.{WaitingReset}
 use Rattle.tcp_halves.specs.declared.phase.Ending.TheVariants.{Aborted}
@@ -30,7 +30,7 @@ use Rattle.tcp_replay.specs.Alone.{Sends, IsAlone}
 use Rattle.tcp_replay.specs.Safe.{next_position}
 use Rattle.tcp_replay.specs.Sound.{IsSoundPair}
 use Rattle.tcp_replay.proofs.Lists.{one_if-false}
-use Rattle.tcp_replay.proofs.Phases.{at-closed, at-listen, present-opened}
+use Rattle.tcp_replay.proofs.Phases.{end-closed, end-listen, present-opened}
 use Rattle.tcp_replay.proofs.AloneCalls.{send-unclosed}
 use Rattle.tcp_replay.proofs.Calls.{KeptByCalls}
 use Rattle.tcp_wire.specs.Position.{position_of}
@@ -39,11 +39,11 @@ use Rattle.tcp_conn.specs.Windows.{window_from}
 use Rattle.tcp_conn.specs.Blocks.{is_of_flight, marks_text, with_marks, after_block, after_blocks}
 use Rattle.tcp_conn.specs.Judgement.{position_near}
 use Rattle.tcp_conn.specs.Arrival.{after_own_syn, after_acked_text, blocks_used, is_current, after_news, after_peer_opens, after_peer_accepts}
-use Rattle.tcp_replay.proofs.AloneStages.{same-window, same-marks}
+use Rattle.tcp_replay.proofs.Alone.{same-window, same-marks}
 use Rattle.tcp_replay.proofs.Judgements.{IsPresent, IsAckOnly}
 use Rattle.tcp_replay.proofs.Events.{Arrives, after_segment, Both, PairKept, Speaks, both-swapped}
 use Rattle.tcp_progress.specs.Edge.{TellsWithin, IsWithinReach}
-use Rattle.tcp_replay.proofs.Intake.{by-arrival}
+use Rattle.tcp_replay.proofs.Arrivals.{on-arrival}
 use Rattle.tcp_progress.proofs.Covering.{flags}
 use Rattle.tcp_replay.proofs.Steps.{kept-same, Moved}
 use Rattle.tcp_halves.specs.declared.config.Config.{Config}
@@ -62,7 +62,8 @@ pub record KeepsEdge (d : Sending) (probe : Bool) (count next capacity : ℕ) : 
   pub marks : (place : ℕ) → IsMarked d.queue place → position_at d place < d.nxt
 
 -- the peer wants a later position, and more may have been accepted of what wasn't sent
-pub edge-more : (d : Sending) (probe : Bool) (count count' next next' capacity : ℕ) → min d.nxt (1 + count') ≤ min d.nxt (1 + count) → next ≤ next' → KeepsEdge d probe count next capacity
+pub edge-more : (d : Sending) (probe : Bool) (count count' next next' capacity : ℕ) → min d.nxt (1 + count') ≤ min d.nxt (1 + count) → next ≤ next'
+    → KeepsEdge d probe count next capacity
     → KeepsEdge d probe count' next' capacity
 edge-more d probe count count' next next' capacity same more h = record {
   sent = omega (arith, same, more, h.sent);
@@ -93,7 +94,15 @@ module _ (count next capacity : ℕ) where
 
   -- text is accepted
   pub edge-text : (d : Sending) (probe : Bool) (limit : ℕ) (text : List ℕ) → Edge d probe → Edge (with_text d limit text) probe
-  edge-text d probe limit text h = record { sent = h.sent; window = h.window; probed = h.probed; range = h.range; marks = λ place is. h.marks place (IsMarked-after_offer d.queue _ place is) }
+  edge-text d probe limit text h =
+      record {
+        sent = h.sent;
+        window = h.window;
+        probed = h.probed;
+        range = h.range;
+        marks = λ place is. h.marks place
+            (IsMarked-after_offer d.queue _ place is);
+      }
 
   -- the connection has ended
   pub edge-orderly : (d : Sending) (probe : Bool) → Edge d probe → Edge (without_resend d) false
@@ -101,15 +110,18 @@ module _ (count next capacity : ℕ) where
 
   none-marked : (d : Sending) (place : ℕ) → length d.queue.marks ≡ length d.queue.bytes → IsMarked (after_release d.queue (length d.queue.bytes)) place → ⊥
   none-marked d place flags is =
-      let inside : length d.queue.bytes + place < length d.queue.marks = slice_get_within d.queue.marks (length d.queue.bytes + place) true (IsMarked-after_release d.queue (length d.queue.bytes) place is) in
+      let inside : length d.queue.bytes + place < length d.queue.marks = slice_get_within d.queue.marks (length d.queue.bytes + place) true
+      (IsMarked-after_release d.queue (length d.queue.bytes) place is) in
       omega (arith, flags)
 
   pub edge-given_up : (d : Sending) (probe : Bool) → length d.queue.marks ≡ length d.queue.bytes → Edge d probe → Edge (without_text d) false
-  edge-given_up d probe flags h = record { sent = h.sent; window = h.window; probed = λ never. absurd (cc); range = tt; marks = λ place is. absurd (none-marked d place flags is) }
+  edge-given_up d probe flags h =
+      record { sent = h.sent; window = h.window; probed = λ never. absurd (cc); range = tt; marks = λ place is. absurd (none-marked d place flags is) }
 
   -- RETRANSMISSION TIMEOUT
   pub edge-all_resent : (d : Sending) (probe : Bool) → Edge d probe → Edge (with_all_resent d) probe
-  edge-all_resent d probe h = record { sent = h.sent; window = h.window; probed = h.probed; range = omega arith; marks = λ place is. absurd (IsMarked-without_marks d.queue place is) }
+  edge-all_resent d probe h =
+      record { sent = h.sent; window = h.window; probed = h.probed; range = omega arith; marks = λ place is. absurd (IsMarked-without_marks d.queue place is) }
 
   -- a probe is granted where nothing is in flight
   pub edge-probe : (d : Sending) (probe needs : Bool) → (needs ≡ true → (1 ≤ d.una) × (d.una ≡ d.nxt)) → Edge d probe → Edge d (probe || needs)
@@ -139,7 +151,8 @@ module _ (count next capacity : ℕ) where
   edge-gaps d probe (Some end) e h = record { sent = h.sent; window = h.window; probed = h.probed; range = mark_end-sent d probe end e h; marks = h.marks }
 
   -- ---- WHAT GOES OUT. SND.NXT moves on
-  pub edge-moved : (d : Sending) (probe : Bool) (n : ℕ) → min (max d.nxt n) (1 + count) ≤ next + capacity → (probe ≡ true → min (max d.nxt n) (1 + count) ≤ d.una) → Edge d probe
+  pub edge-moved : (d : Sending) (probe : Bool) (n : ℕ) → min (max d.nxt n) (1 + count) ≤ next + capacity
+      → (probe ≡ true → min (max d.nxt n) (1 + count) ≤ d.una) → Edge d probe
       → Edge (record d { nxt = max d.nxt n }) probe
   edge-moved d probe n fits shut h = record {
     sent = fits;
@@ -175,9 +188,11 @@ module _ (count next capacity : ℕ) where
 
     fin-again : (range : Range ℕ) → range.end ≤ d.nxt → Edge d owed.probe → IfSome (resent_fin d range) EdgeAfter
     fin-again range inside h =
-        cond_both (nat_lt (end_of_text d) range.end && nat_le (resend_start d range) (end_of_text d)) (Some (ResentFin (end_of_text d))) None (λ (due : Option Due). IfSome due EdgeAfter)
+        cond_both (nat_lt (end_of_text d) range.end && nat_le (resend_start d range) (end_of_text d)) (Some (ResentFin (end_of_text d))) None
+        (λ (due : Option Due). IfSome due EdgeAfter)
         (λ e.
-        let beyond : end_of_text d < range.end = ltb-true (end_of_text d) range.end (and_parts (nat_lt (end_of_text d) range.end) (nat_le (resend_start d range) (end_of_text d)) e).0 in
+        let beyond : end_of_text d < range.end = ltb-true (end_of_text d) range.end
+        (and_parts (nat_lt (end_of_text d) range.end) (nat_le (resend_start d range) (end_of_text d)) e).0 in
         edge-again d owed.probe (end_of_text d + 1) (omega (arith, beyond, inside)) h)
         (λ _. tt)
 
@@ -191,16 +206,18 @@ module _ (count next capacity : ℕ) where
     again limit (Some range) inside h = run-again limit range (next_unmarked d.queue (place_of d (resend_start d range))) inside h
 
     -- NEW TEXT ends at SND.UNA + SND.WND at most, or is one byte at SND.UNA (RFC 9293, 3.8.6.1)
-    new-reaches : (k : ℕ) → k ≤ count_allowed d owed.probe → d.nxt + k ≤ max d.nxt (1 + count) → d.una ≤ next → 1 ≤ capacity → Edge d owed.probe → min (d.nxt + k) (1 + count) ≤ next + capacity
+    new-reaches : (k : ℕ) → k ≤ count_allowed d owed.probe → d.nxt + k ≤ max d.nxt (1 + count) → d.una ≤ next → 1 ≤ capacity → Edge d owed.probe
+        → min (d.nxt + k) (1 + count) ≤ next + capacity
     new-reaches k allowed inside had some h =
         cond_both (usable_window d == 0) (if owed.probe then 1 else 0) (usable_window d) (λ (n : ℕ). k ≤ n → min (d.nxt + k) (1 + count) ≤ next + capacity)
         (λ _. cond_both owed.probe 1 0 (λ (n : ℕ). k ≤ n → min (d.nxt + k) (1 + count) ≤ next + capacity)
         (λ e least. omega (arith, least, (h.probed e).1, inside, had, some, h.sent)) (λ _ least. omega (arith, least, h.sent)))
         (λ _ least. omega (arith, least, h.window, had, h.sent)) allowed
 
-    new : (limit : ℕ) → d.una ≤ d.nxt → 1 + d.released ≤ d.una → end_of_text d ≡ 1 + count → d.una ≤ next → 1 ≤ capacity → Edge d owed.probe → IfSome (new_text_of d limit owed.probe) EdgeAfter
+    edge-new : (limit : ℕ) → d.una ≤ d.nxt → 1 + d.released ≤ d.una → end_of_text d ≡ 1 + count → d.una ≤ next → 1 ≤ capacity → Edge d owed.probe
+        → IfSome (new_text_of d limit owed.probe) EdgeAfter
     unfolding new_text_of
-    new limit order released last had some h =
+    edge-new limit order released last had some h =
         let k = new_count d limit owed.probe in
         cond_both (k == 0) None (Some (NewText d.nxt k)) (λ (due : Option Due). IfSome due EdgeAfter) (λ _. tt)
         (λ _.
@@ -219,11 +236,12 @@ module _ (count next capacity : ℕ) where
         (λ _. tt)
 
     -- the first that is due
-    pub edge-due : (limit : ℕ) (closing : Bool) → d.una ≤ d.nxt → 1 + d.released ≤ d.una → end_of_text d ≡ 1 + count → d.una ≤ next → 1 ≤ capacity → Edge d owed.probe
+    pub edge-due : (limit : ℕ) (closing : Bool) → d.una ≤ d.nxt → 1 + d.released ≤ d.una → end_of_text d ≡ 1 + count → d.una ≤ next → 1 ≤ capacity
+        → Edge d owed.probe
         → IfSome (sending_due d limit owed.probe closing) EdgeAfter
     edge-due limit closing order released end_is had some h =
         option_or-both EdgeAfter (resend_of d limit d.resend) (option_or (new_text_of d limit owed.probe) (fin_of d closing)) (again limit d.resend h.range h)
-        (option_or-both EdgeAfter (new_text_of d limit owed.probe) (fin_of d closing) (new limit order released end_is had some h) (last closing end_is h))
+        (option_or-both EdgeAfter (new_text_of d limit owed.probe) (fin_of d closing) (edge-new limit order released end_is had some h) (last closing end_is h))
 
 -- the edge of an end that party p may have, its peer q being where it is, and its user's bytes being these
 abbrev pub EdgedWith : PartyState → State → List ℕ → Type 0
@@ -237,7 +255,8 @@ sent-open : (d : Sending) (accepted : List ℕ) (closed gone : Bool) → closed 
 sent-open d accepted closed gone unclosed h = omega (arith, h.most, one_if-false closed unclosed)
 
 edge-with_text : (p q : PartyState) (text : List ℕ) → send_refusal p.endpoint text ≡ None → IsSoundPair p q → Edged p q p.endpoint
-    → KeepsEdge (with_text p.endpoint.sending p.endpoint.config.limit text) p.endpoint.owed.probe (length (p.accepted ++ take (count_sendable p.endpoint.sending p.endpoint.config.limit text) text))
+    → KeepsEdge (with_text p.endpoint.sending p.endpoint.config.limit text) p.endpoint.owed.probe
+    (length (p.accepted ++ take (count_sendable p.endpoint.sending p.endpoint.config.limit text) text))
     (next_position q) q.endpoint.config.recv_capacity
 edge-with_text p q text e pair h =
     let s = p.endpoint in
@@ -247,10 +266,12 @@ edge-with_text p q text e pair h =
     let nxt = sent-open d p.accepted p.closed (gives_up s.ending) unclosed pair.there.alone.sends in
     let capacity = q.endpoint.config.recv_capacity in
     edge-text (length (p.accepted ++ more)) (next_position q) capacity d s.owed.probe s.config.limit text
-    (edge-more d s.owed.probe (length p.accepted) (length (p.accepted ++ more)) (next_position q) (next_position q) capacity (omega (arith, nxt, length-append p.accepted more)) (omega arith) h)
+    (edge-more d s.owed.probe (length p.accepted) (length (p.accepted ++ more)) (next_position q) (next_position q) capacity
+    (omega (arith, nxt, length-append p.accepted more)) (omega arith) h)
 
 -- TIMERS
-probe-needed : (s : State) (accepted : List ℕ) (closed : Bool) → IsAlone s accepted closed → needs_probe s ≡ true → (1 ≤ s.sending.una) × (s.sending.una ≡ s.sending.nxt)
+probe-needed : (s : State) (accepted : List ℕ) (closed : Bool) → IsAlone s accepted closed → needs_probe s ≡ true
+    → (1 ≤ s.sending.una) × (s.sending.una ≡ s.sending.nxt)
 probe-needed s accepted closed h e =
     let d = s.sending in
     let parts = and_parts (sends_text s.phase) (is_probe_needed d) e in
@@ -259,14 +280,16 @@ probe-needed s accepted closed h e =
 
 -- EMIT
 abbrev EdgedAfter : PartyState → PartyState → Due → Type 0
-EdgedAfter p q due = EdgeAfter (length p.accepted) (next_position q) q.endpoint.config.recv_capacity p.endpoint.sending p.endpoint.receiving.opened p.endpoint.owed due
+EdgedAfter p q due =
+    EdgeAfter (length p.accepted) (next_position q) q.endpoint.config.recv_capacity p.endpoint.sending p.endpoint.receiving.opened p.endpoint.owed due
 
 -- a reset, a SYN and an acknowledgement alone
 edge-reset_due : (p q : PartyState) (reset : Option WaitingReset) → Edged p q p.endpoint → IfSome (reset_due reset) (EdgedAfter p q)
 edge-reset_due p q None h = tt
 edge-reset_due p q (Some reset) h =
     let d = p.endpoint.sending in
-    edge-moved (length p.accepted) (next_position q) q.endpoint.config.recv_capacity d p.endpoint.owed.probe 0 (omega (arith, h.sent)) (λ e. omega (arith, (h.probed e).1)) h
+    edge-moved (length p.accepted) (next_position q) q.endpoint.config.recv_capacity d p.endpoint.owed.probe 0 (omega (arith, h.sent))
+    (λ e. omega (arith, (h.probed e).1)) h
 
 edge-syn : (p q : PartyState) → IsSoundPair p q → Edged p q p.endpoint → EdgedAfter p q dues.Syn
 edge-syn p q pair h =
@@ -277,7 +300,8 @@ edge-syn p q pair h =
 edge-ack : (p q : PartyState) → Edged p q p.endpoint → EdgedAfter p q dues.Acknowledgement
 edge-ack p q h =
     let d = p.endpoint.sending in
-    edge-moved (length p.accepted) (next_position q) q.endpoint.config.recv_capacity d p.endpoint.owed.probe d.nxt (omega (arith, h.sent)) (λ e. omega (arith, (h.probed e).1)) h
+    edge-moved (length p.accepted) (next_position q) q.endpoint.config.recv_capacity d p.endpoint.owed.probe d.nxt (omega (arith, h.sent))
+    (λ e. omega (arith, (h.probed e).1)) h
 
 -- text or FIN
 edge-text_due : (p q : PartyState) → IsSoundPair p q → Edged p q p.endpoint → IfSome (text_due p.endpoint) (EdgedAfter p q)
@@ -299,8 +323,10 @@ edge-any_due p q pair h =
     let s = p.endpoint in
     let P : Due → Type 0 = EdgedAfter p q in
     option_or-both P (reset_due s.owed.reset) (option_or (syn_due s.owed) (option_or (text_due s) (ack_due s.owed))) (edge-reset_due p q s.owed.reset h)
-    (option_or-both P (syn_due s.owed) (option_or (text_due s) (ack_due s.owed)) (cond_both s.owed.syn (Some dues.Syn) None (λ (o : Option Due). IfSome o P) (λ _. edge-syn p q pair h) (λ _. tt))
-    (option_or-both P (text_due s) (ack_due s.owed) (edge-text_due p q pair h) (cond_both s.owed.ack (Some dues.Acknowledgement) None (λ (o : Option Due). IfSome o P) (λ _. edge-ack p q h) (λ _. tt))))
+    (option_or-both P (syn_due s.owed) (option_or (text_due s) (ack_due s.owed))
+    (cond_both s.owed.syn (Some dues.Syn) None (λ (o : Option Due). IfSome o P) (λ _. edge-syn p q pair h) (λ _. tt))
+    (option_or-both P (text_due s) (ack_due s.owed) (edge-text_due p q pair h)
+    (cond_both s.owed.ack (Some dues.Acknowledgement) None (λ (o : Option Due). IfSome o P) (λ _. edge-ack p q h) (λ _. tt))))
 
 -- ALL OF THEM
 pub edge-calls : (p q : PartyState) → IsSoundPair p q → Edged p q p.endpoint → KeptByCalls (address_of q) p (λ p'. EdgedWith q p'.endpoint p'.accepted)
@@ -312,11 +338,12 @@ edge-calls p q pair h =
     let capacity = q.endpoint.config.recv_capacity in
     let alone = pair.there.alone in
     let gone : Edged p q (after_giving_up s Aborted) = edge-given_up count n capacity d s.owed.probe alone.sends.flags h in
-    let probe : Edge count n capacity d (s.owed.probe || needs_probe s) = edge-probe count n capacity d s.owed.probe (needs_probe s) (probe-needed s p.accepted p.closed alone) h in
+    let probe : Edge count n capacity d (s.owed.probe || needs_probe s) = edge-probe count n capacity d s.owed.probe (needs_probe s)
+    (probe-needed s p.accepted p.closed alone) h in
     record {
       same = h;
       connects = λ can.
-          let new = at-closed s.phase s.ending d.una d.nxt s.receiving.opened s.receiving.finished can.shut can.ending alone.progress in
+          let new = end-closed s can.shut can.ending alone.progress in
           edge-syn_sent count n capacity d s.owed.probe new.nxt_is alone.sends.order (omega arith) h;
       listens = λ _. h;
       sends = λ text _ e. edge-with_text p q text e pair h;
@@ -335,16 +362,20 @@ edge-calls p q pair h =
 module _ (count next capacity : ℕ) where
   -- the own SYN is acknowledged
   edge-syn_acked : (d : Sending) (probe : Bool) → d.una ≤ d.nxt → Edge count next capacity d probe → Edge count next capacity (with_syn_acked d) probe
-  edge-syn_acked d probe order h = record { sent = h.sent; window = h.window; probed = λ e. (omega (arith, order, (h.probed e).0), omega arith); range = h.range; marks = h.marks }
+  edge-syn_acked d probe order h =
+      record { sent = h.sent; window = h.window; probed = λ e. (omega (arith, order, (h.probed e).0), omega arith); range = h.range; marks = h.marks }
 
   -- a window is taken
-  edge-window : (d : Sending) (probe : Bool) (seq ack window : ℕ) → window ≤ capacity → Edge count next capacity d probe → Edge count next capacity (with_window d seq ack window) probe
+  edge-window : (d : Sending) (probe : Bool) (seq ack window : ℕ) → window ≤ capacity → Edge count next capacity d probe
+      → Edge count next capacity (with_window d seq ack window) probe
   edge-window d probe seq ack window fits h = record { sent = h.sent; window = fits; probed = h.probed; range = h.range; marks = h.marks }
 
-  edge-window_update : (d : Sending) (probe : Bool) (seq ack window : ℕ) → window ≤ capacity → Edge count next capacity d probe → Edge count next capacity (after_window_update d seq ack window) probe
+  edge-window_update : (d : Sending) (probe : Bool) (seq ack window : ℕ) → window ≤ capacity → Edge count next capacity d probe
+      → Edge count next capacity (after_window_update d seq ack window) probe
   unfolding after_window_update
   edge-window_update d probe seq ack window fits h =
-      cond_both (is_newer d seq ack) (with_window d seq ack window) d (λ (x : Sending). Edge count next capacity x probe) (λ _. edge-window d probe seq ack window fits h) (λ _. h)
+      cond_both (is_newer d seq ack) (with_window d seq ack window) d (λ (x : Sending). Edge count next capacity x probe)
+      (λ _. edge-window d probe seq ack window fits h) (λ _. h)
 
   -- ACKNOWLEDGEMENT: a release takes bytes with their marks
   edge-after_ack : (d : Sending) (probe : Bool) (a : ℕ) → Edge count next capacity d probe → Edge count next capacity (after_ack d a) probe
@@ -363,7 +394,8 @@ module _ (count next capacity : ℕ) where
       (λ _. h)
 
   -- BLOCKS mark what was sent
-  edge-block : (d : Sending) (probe : Bool) (left right : ℕ) → length d.queue.marks ≡ length d.queue.bytes → Edge count next capacity d probe → Edge count next capacity (after_block d left right) probe
+  edge-block : (d : Sending) (probe : Bool) (left right : ℕ) → length d.queue.marks ≡ length d.queue.bytes → Edge count next capacity d probe
+      → Edge count next capacity (after_block d left right) probe
   unfolding after_block after_mark
   edge-block d probe left right flags h =
       let from = place_of d left in
@@ -388,16 +420,19 @@ module _ (count next capacity : ℕ) where
       })
       (λ _. h)
 
-  edge-blocks : (iss : ℕ) (d : Sending) (probe : Bool) (blocks : List (ℕ × ℕ)) (accepted : List ℕ) (closed gone : Bool) → Sends d accepted closed gone → Edge count next capacity d probe
+  edge-blocks : (iss : ℕ) (d : Sending) (probe : Bool) (blocks : List (ℕ × ℕ)) (accepted : List ℕ) (closed gone : Bool) → Sends d accepted closed gone
+      → Edge count next capacity d probe
       → Edge count next capacity (after_blocks iss d blocks) probe
   edge-blocks iss d probe [] accepted closed gone sends h = h
   edge-blocks iss d probe (block ∷ blocks) accepted closed gone sends h =
       let left = position_of iss d.una block.0 in
       let right = position_of iss d.una block.1 in
-      edge-blocks iss (after_block d left right) probe blocks accepted closed gone (same-marks d left right accepted closed gone sends).sends (edge-block d probe left right sends.flags h)
+      edge-blocks iss (after_block d left right) probe blocks accepted closed gone (same-marks d left right accepted closed gone sends).sends
+      (edge-block d probe left right sends.flags h)
 
 -- ---- THE NEWS of an acknowledgement: its window, and its blocks
-edge-news : (p q : PartyState) (s : State) (v : Content) → Sends s.sending p.accepted p.closed (gives_up s.ending) → window_from s.link v.window ≤ q.endpoint.config.recv_capacity → Edged p q s → Edged p q (after_news s v)
+edge-news : (p q : PartyState) (s : State) (v : Content) → Sends s.sending p.accepted p.closed (gives_up s.ending)
+    → window_from s.link v.window ≤ q.endpoint.config.recv_capacity → Edged p q s → Edged p q (after_news s v)
 unfolding after_news
 edge-news p q s v sends fits h =
     let d = s.sending in
@@ -413,7 +448,8 @@ edge-news p q s v sends fits h =
     (λ _. h)
 
 -- WHAT ARRIVES, with a window that fits the room that the peer has: a SYN's as it is, another's scaled
-pub edge-arrives : (p q : PartyState) (g : SentSegment) (v : Content) → TellsWithin q p → IsSoundPair p q → Arrives p q g v → Edged p q p.endpoint → Edged p q (after_segment p q v)
+pub edge-arrives : (p q : PartyState) (g : SentSegment) (v : Content) → TellsWithin q p → IsSoundPair p q → Arrives p q g v → Edged p q p.endpoint
+    → Edged p q (after_segment p q v)
 unfolding after_own_syn after_acked_text after_news after_peer_opens after_peer_accepts
 edge-arrives p q g v tells pair a h =
     let s = p.endpoint in
@@ -428,14 +464,15 @@ edge-arrives p q g v tells pair a h =
     let fits : IsPresent s → IsAckOnly v → told ≤ capacity = λ present only. tells.plain a.place g v a.sent a.read only.plain only.no_syn
     (present-opened s.phase s.ending d.una d.nxt r.opened r.finished present.shut present.listening present.syn_sent alone.progress) in
     let B : State → Type 0 = λ x. (window_from x.link v.window ≤ capacity) × Edged p q x in
-    by-arrival p q v g.position g.wanted (Edged p q) B a.comes (kept-same p q pair) (record {
+    on-arrival p q v g.position g.wanted (Edged p q) B a.comes (kept-same p q pair) (record {
       same = h;
       owes = λ _ _. h;
       gone = edge-given_up count n capacity d s.owed.probe alone.sends.flags h;
       opens = λ listening is.
-          let at = at-listen s.phase s.ending d.una d.nxt r.opened r.finished listening alone.progress in
+          let at = end-listen s listening alone.progress in
           edge-syn_sent count n capacity d s.owed.probe at.1.nxt_is alone.sends.order (omega arith) h;
-      accepts = λ sent is. edge-window count n capacity (with_syn_acked d) s.owed.probe v.seq v.ack v.window (tells.syn a.place g v a.sent a.read is.plain is.is_syn) acked;
+      accepts = λ sent is. edge-window count n capacity (with_syn_acked d) s.owed.probe v.seq v.ack v.window
+          (tells.syn a.place g v a.sent a.read is.plain is.is_syn) acked;
       own_syn = λ present only. (
         fits present only,
         cond_both (is_syn_received s.phase) (with_window (with_syn_acked d) v.seq v.ack told) d (λ (x : Sending). Edge count n capacity x s.owed.probe)
@@ -460,10 +497,12 @@ pub within-reach : (x y : PartyState) → Both KeepsEdges x y → IsWithinReach 
 within-reach x y h = (h.there.sent, h.back.sent)
 
 -- p became p', whose Config is the same, and which wants no earlier position
-edges-moved : (p p' q : PartyState) → IsSoundPair p q → Moved p p' q → Speaks p p' q → EdgedWith q p'.endpoint p'.accepted → Both KeepsEdges p q → Both KeepsEdges p' q
+edges-moved : (p p' q : PartyState) → IsSoundPair p q → Moved p p' q → Speaks p p' q → EdgedWith q p'.endpoint p'.accepted → Both KeepsEdges p q
+    → Both KeepsEdges p' q
 edges-moved p p' q pair moved out edge h =
     let s = q.endpoint in
-    let back = edge-more s.sending s.owed.probe (length q.accepted) (length q.accepted) (next_position p) (next_position p') p.endpoint.config.recv_capacity (omega arith) moved.grows.next h.back in
+    let back = edge-more s.sending s.owed.probe (length q.accepted) (length q.accepted) (next_position p) (next_position p') p.endpoint.config.recv_capacity
+    (omega arith) moved.grows.next h.back in
     record { there = edge; back = rw moved.config back }
 
 -- EVERY EVENT, where what the ends told of their windows fits their room

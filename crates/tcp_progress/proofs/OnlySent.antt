@@ -19,18 +19,18 @@ use Rattle.tcp_replay.specs.Safe.{witness_of}
 use Rattle.tcp_replay.proofs.Lists.{one_if, one_if-false, one_if-most}
 use Rattle.tcp_replay.proofs.Feeds.{AllText, AllHeld, Brings, brings-place, held-moved, held-same, held-none, held-more}
 use Rattle.tcp_replay.proofs.Steps.{Kept, kept-same, Moved}
-use Rattle.tcp_replay.proofs.Moves.{next_of}
+use Rattle.tcp_replay.proofs.Steps.{next_of}
 use Rattle.tcp_replay.proofs.Stages.{IsAhead, IsYoung, text_advance, text-advances, placed, fin-in_turn}
 use Rattle.tcp_halves.specs.declared.phase.Ending.TheVariants.{Aborted}
 use Rattle.tcp_conn.specs.Windows.{window_from}
 use Rattle.tcp_conn.specs.Sender.{with_syn_acked, with_window, acks_more, with_acked, after_ack}
 use Rattle.tcp_conn.specs.Endings.{after_giving_up}
 use Rattle.tcp_replay.specs.Sound.{IsSoundPair, IsSound}
-use Rattle.tcp_replay.proofs.Phases.{at-closed, at-listen, at-syn_sent, handshake-una}
-use Rattle.tcp_replay.proofs.AloneStages.{same-news}
+use Rattle.tcp_replay.proofs.Phases.{end-closed, end-listen, end-syn_sent, handshake-una}
+use Rattle.tcp_replay.proofs.Alone.{same-news}
 use Rattle.tcp_replay.proofs.Events.{Arrives, after_segment, AllSaid, Both, PairKept, Speaks, both-swapped, due-position, in-world, said-after, said-back}
 use Rattle.tcp_replay.proofs.Calls.{KeptByCalls}
-use Rattle.tcp_replay.proofs.Intake.{by-arrival}
+use Rattle.tcp_replay.proofs.Arrivals.{on-arrival}
 use Rattle.tcp_halves.specs.declared.config.Config.{Config}
 use Rattle.tcp_halves.specs.declared.due.Due.{Due}
 use Rattle.tcp_halves.specs.declared.due.Due.TheVariants.{Reset, Syn, Resend, NewText, Fin, ResentFin, Acknowledgement}
@@ -41,7 +41,7 @@ use Rattle.tcp_replay.specs.Events.{EventContent, HasBytes}
 use Rattle.tcp_replay.proofs.AloneEmissions.{IsSaid, GoesOutAlone}
 use Rattle.tcp_replay.proofs.Emissions.{syn-bits, plain-bits, reset-bit}
 use Rattle.tcp_replay.proofs.Worlds.{kept-run, kept-after_all}
-use Rattle.tcp_replay.proofs.Sounds.{sound-new, sound-after}
+use Rattle.tcp_replay.proofs.Worlds.{sound-new, sound-after}
 use Rattle.tcp_progress.specs.Sent.{TakesOnlySent, TakeOnlySent, NothingIsTakenBeforeItIsSent}
 
 -- the byte at this place behind a position lies below another one
@@ -75,11 +75,13 @@ all-below : (from n place : ℕ) (text : List ℕ) → from + place + length tex
 all-below from n place [] h = tt
 all-below from n place (byte ∷ text) h = (omega (arith, h), all-below from n (suc place) text (omega (arith, h)))
 
-text-end : (from n place : ℕ) (text : List ℕ) → from + place ≤ n → AllText (Below from n) place text → from + place + length text ≤ n
-text-end from n place [] h t = omega (arith, h)
-text-end from n place (byte ∷ text) h t = let rest : from + suc place + length text ≤ n = text-end from n (suc place) text (omega (arith, t.0)) t.1 in omega (arith, rest)
+text-ends_below : (from n place : ℕ) (text : List ℕ) → from + place ≤ n → AllText (Below from n) place text → from + place + length text ≤ n
+text-ends_below from n place [] h t = omega (arith, h)
+text-ends_below from n place (byte ∷ text) h t =
+    let rest : from + suc place + length text ≤ n = text-ends_below from n (suc place) text (omega (arith, t.0)) t.1 in omega (arith, rest)
 
-piece-below : (irs ordered position next seq n : ℕ) (text : List ℕ) → 1 + ordered ≤ position + 2 ^ 31 → position < 1 + ordered + 2 ^ 31 → next ≡ number irs (1 + ordered) → seq ≡ number irs position
+piece-below : (irs ordered position next seq n : ℕ) (text : List ℕ) → 1 + ordered ≤ position + 2 ^ 31 → position < 1 + ordered + 2 ^ 31
+    → next ≡ number irs (1 + ordered) → seq ≡ number irs position
     → 1 + ordered ≤ n → position + length text ≤ n → AllText (Below (1 + ordered) n) (piece (offset next seq) text).start (piece (offset next seq) text).text
 piece-below irs ordered position next seq n text young close next_is seq_is had fits =
     let P : ℤ → Type 0 = λ z. AllText (Below (1 + ordered) n) (piece z text).start (piece z text).text in
@@ -87,12 +89,15 @@ piece-below irs ordered position next seq n text young close next_is seq_is had 
     (⊎_elim
     (λ less.
     let k = suc (1 + ordered - position - 1) in
-    subst P (sym (offset_of_earlier irs (1 + ordered) position less (omega (arith, young)))) (all-below (1 + ordered) n 0 (drop k text) (omega (arith, had, fits, less, length-drop k text))))
-    (λ more. subst P (sym (offset_of_later irs (1 + ordered) position more (omega (arith, close)))) (all-below (1 + ordered) n (position - (1 + ordered)) text (omega (arith, fits, more))))
+    subst P (sym (offset_of_earlier irs (1 + ordered) position less (omega (arith, young))))
+    (all-below (1 + ordered) n 0 (drop k text) (omega (arith, had, fits, less, length-drop k text))))
+    (λ more. subst P (sym (offset_of_later irs (1 + ordered) position more (omega (arith, close))))
+    (all-below (1 + ordered) n (position - (1 + ordered)) text (omega (arith, fits, more))))
     (cases_lt position (1 + ordered))))
 
 -- TEXT
-pub reached-text : (p q : PartyState) (s : State) (v : Content) (n : ℕ) → takes_text s.phase ≡ true → IsAhead p q → (truth : IsTruthful (witness_of q p) v) → IsYoung s truth.own.position → (length v.text ≡ 0 → ⊥)
+pub reached-text : (p q : PartyState) (s : State) (v : Content) (n : ℕ) → takes_text s.phase ≡ true → IsAhead p q → (truth : IsTruthful (witness_of q p) v)
+    → IsYoung s truth.own.position → (length v.text ≡ 0 → ⊥)
     → truth.own.position + count_numbers v ≤ n → Kept p q s → IsReached s.receiving n → IsReached (after_text s.receiving v.seq v.text) n
 unfolding after_text
 reached-text p q s v n e close truth young some below kept h =
@@ -105,14 +110,16 @@ reached-text p q s v n e close truth young some below kept h =
     let P : ℕ → ℕ → Type 0 = Below (1 + r.ordered) n in
     let part : AllText P (piece (offset r.next v.seq) v.text).start (piece (offset r.next v.seq) v.text).text =
     piece-below q.endpoint.config.isn.0 r.ordered truth.own.position r.next v.seq n v.text (omega (arith, young))
-    (omega (arith, truth.own.within, close.ahead, kept.grows.next, one_if-most r.finished, one_if-most q.closed)) at.next truth.own.seq had (omega (arith, below, inside)) in
+    (omega (arith, truth.own.within, close.ahead, kept.grows.next, one_if-most r.finished, one_if-most q.closed)) at.next truth.own.seq had
+    (omega (arith, below, inside)) in
     let brings : Brings P r.inbox _ m = brings-place P r.inbox (offset r.next v.seq) v.text h.held part in
-    let end : 1 + r.ordered + 0 + length brings.bytes ≤ n = text-end (1 + r.ordered) n 0 brings.bytes (omega (arith, had)) brings.text in
+    let end : 1 + r.ordered + 0 + length brings.bytes ≤ n = text-ends_below (1 + r.ordered) n 0 brings.bytes (omega (arith, had)) brings.text in
     let ordered = (after_text r v.seq v.text).ordered in
     let same : ordered ≡ r.ordered + m = omega (arith, kept.here.takes.order, close.limit, steps.within, length-drop r.ordered q.accepted) in
     record {
       next = λ _. omega (arith, same, end, brings.count, one_if-false r.finished at.unfinished);
-      held = held-moved P (Below (1 + ordered) n) m (λ i byte is. omega (arith, same, is)) m 0 (after_place r.inbox (offset r.next v.seq) v.text).held (omega arith) brings.held;
+      held = held-moved P (Below (1 + ordered) n) m (λ i byte is. omega (arith, same, is)) m 0 (after_place r.inbox (offset r.next v.seq) v.text).held
+          (omega arith) brings.held;
     }
 
 -- THE PEER'S FIN
@@ -132,7 +139,8 @@ abbrev pub Reaches : PartyState → PartyState → State → Type 0
 Reaches p q s = (p.endpoint.sending.nxt ≤ s.sending.nxt) × IsReached s.receiving q.endpoint.sending.nxt
 
 -- ---- THE CALLS, the timers and the emissions
-pub reaches-calls : (p q : PartyState) → IsSoundPair p q → IsReached p.endpoint.receiving q.endpoint.sending.nxt → KeptByCalls (address_of q) p (λ p'. Reaches p q p'.endpoint)
+pub reaches-calls : (p q : PartyState) → IsSoundPair p q → IsReached p.endpoint.receiving q.endpoint.sending.nxt
+    → KeptByCalls (address_of q) p (λ p'. Reaches p q p'.endpoint)
 reaches-calls p q pair taken =
     let s = p.endpoint in
     let n = q.endpoint.sending.nxt in
@@ -141,7 +149,7 @@ reaches-calls p q pair taken =
     record {
       same = h;
       connects = λ can.
-          let new = at-closed s.phase s.ending s.sending.una s.sending.nxt s.receiving.opened s.receiving.finished can.shut can.ending pair.there.alone.progress in
+          let new = end-closed s can.shut can.ending pair.there.alone.progress in
           (omega (arith, new.nxt_is), h.1);
       listens = λ _. h;
       sends = λ _ _ _. h;
@@ -167,7 +175,8 @@ syn-sent : (v : Content) (position n : ℕ) → has syn v.flags ≡ true → pos
 syn-sent v position n e below = let one : one_if (has syn v.flags) ≡ 1 = ap one_if e in omega (arith, below, one)
 
 -- a segment that ends below what the peer sent
-pub reaches-arrive : (p q : PartyState) (g : SentSegment) (v : Content) → IsSoundPair p q → Arrives p q g v → (has rst v.flags ≡ false → g.position + count_numbers v ≤ q.endpoint.sending.nxt)
+pub reaches-arrive : (p q : PartyState) (g : SentSegment) (v : Content) → IsSoundPair p q → Arrives p q g v
+    → (has rst v.flags ≡ false → g.position + count_numbers v ≤ q.endpoint.sending.nxt)
     → IsReached p.endpoint.receiving q.endpoint.sending.nxt → Reaches p q (after_segment p q v)
 unfolding after_own_syn after_acked_text after_news after_peer_opens after_peer_accepts
 reaches-arrive p q g v pair a below taken =
@@ -179,15 +188,15 @@ reaches-arrive p q g v pair a below taken =
     let acked = with_window (with_syn_acked d) v.seq v.ack (window_from s.link v.window) in
     let opening : has rst v.flags ≡ false → has syn v.flags ≡ true → r.opened ≡ false → IsReached _ n = λ plain e shut.
     let none = pair.there.takes.unopened shut in reached-syn r n v.seq none.1 none.2 (syn-sent v g.position n e (below plain)) h.1 in
-    by-arrival p q v g.position g.wanted (Reaches p q) (Reaches p q) a.comes (kept-same p q pair) (record {
+    on-arrival p q v g.position g.wanted (Reaches p q) (Reaches p q) a.comes (kept-same p q pair) (record {
       same = h;
       owes = λ _ _. h;
       gone = (h.0, reached-given_up r n h.1);
       opens = λ listening is.
-          let at = at-listen s.phase s.ending d.una d.nxt r.opened r.finished listening pair.there.alone.progress in
+          let at = end-listen s listening pair.there.alone.progress in
           (omega (arith, at.1.nxt_is), opening is.plain is.is_syn at.1.not_opened);
       accepts = λ sent is.
-          let at = at-syn_sent s.phase s.ending d.una d.nxt r.opened r.finished sent pair.there.alone.progress in
+          let at = end-syn_sent s sent pair.there.alone.progress in
           (h.0, opening is.plain is.is_syn at.1.not_opened);
       own_syn = λ _ _. (cond_both (is_syn_received s.phase) acked d (λ (x : Sending). d.nxt ≤ x.nxt) (λ _. h.0) (λ _. h.0), h.1);
       acked_text = λ x _ _ _ b. (omega (arith, acked-nxt x.sending (position_near x v.ack), b.0), b.1);
@@ -198,8 +207,11 @@ reaches-arrive p q g v pair a below taken =
       text = λ x _ told kept young e b.
           let stands = a.comes.truthful told.plain in
           let parts = and_parts (takes_text x.phase) (not (length v.text == 0)) e in
-          let some = eqb-false (length v.text) 0 (not-true (length v.text == 0) parts.1) in
-          (b.0, reached-text p q x v n parts.0 a.comes.close stands.truth (omega (arith, young, stands.position_is)) some (omega (arith, stands.position_is, below told.plain)) kept b.1);
+          let some = eqb-false (length v.text) 0 (not-true (length v.text == 0) parts.1) in (
+            b.0,
+            reached-text p q x v n parts.0 a.comes.close stands.truth (omega (arith, young, stands.position_is)) some
+                (omega (arith, stands.position_is, below told.plain)) kept b.1,
+          );
       fin = λ x _ told kept _ e b.
           let stands = a.comes.truthful told.plain in
           (b.0, reached-fin p q x v n a.comes.close stands.truth e (omega (arith, stands.position_is, below told.plain)) kept);
@@ -215,7 +227,8 @@ pub record KeepsSent (x y : PartyState) : Type 0 where
   pub emitted : AllSaid x y (EndsBy x.endpoint.sending.nxt)
 
 -- EMIT: what is due ends where SND.NXT is after it
-plain-ends : (p q : PartyState) (due : Due) (n : ℕ) → IsSaid p.endpoint p.accepted p.closed due → IsSoundPair p q → start_of p.endpoint.sending due + count_of due + one_if (is_fin due) ≤ n
+plain-ends : (p q : PartyState) (due : Due) (n : ℕ) → IsSaid p.endpoint p.accepted p.closed due → IsSoundPair p q
+    → start_of p.endpoint.sending due + count_of due + one_if (is_fin due) ≤ n
     → position_of p.endpoint.config.isn.0 p.endpoint.sending.una (plain_segment p.endpoint due).seq + count_numbers (plain_segment p.endpoint due) ≤ n
 plain-ends p q due n said h fits =
     let s = p.endpoint in
@@ -225,7 +238,8 @@ plain-ends p q due n said h fits =
     let start = start_of d due in
     let bits = plain-bits (pushes d due) (is_fin due) in
     let at : position_of s.config.isn.0 d.una (plain_segment s due).seq ≡ start =
-    position_of_number s.config.isn.0 d.una start h.there.alone.config.isn (omega (arith, plain.within, one_if-most p.closed, sends.ahead, sends.released)) (omega (arith, plain.behind)) in
+    position_of_number s.config.isn.0 d.una start h.there.alone.config.isn (omega (arith, plain.within, one_if-most p.closed, sends.ahead, sends.released))
+    (omega (arith, plain.behind)) in
     let no_syn : one_if (has syn (plain_segment s due).flags) ≡ 0 = ap one_if bits.0 in
     let last : one_if (has fin (plain_segment s due).flags) ≡ one_if (is_fin due) = ap one_if bits.1 in
     let count : length (text_of d due) ≤ count_of due = omega (arith, ap length plain.text, length-take (count_of due) (drop (start - 1) p.accepted)) in
@@ -233,7 +247,8 @@ plain-ends p q due n said h fits =
 
 abbrev pub DueEnds : PartyState → Due → Type 0
 DueEnds p due = has rst (segment_of p.endpoint due).flags ≡ false
-    → position_of p.endpoint.config.isn.0 p.endpoint.sending.una (segment_of p.endpoint due).seq + count_numbers (segment_of p.endpoint due) ≤ (after_due p.endpoint (Some due)).sending.nxt
+    → position_of p.endpoint.config.isn.0 p.endpoint.sending.una (segment_of p.endpoint due).seq + count_numbers (segment_of p.endpoint due) ≤
+    (after_due p.endpoint (Some due)).sending.nxt
 
 pub due-ends : (p q : PartyState) (due : Due) → IsSoundPair p q → GoesOutAlone p.endpoint p.accepted p.closed due → DueEnds p due
 unfolding segment_of
@@ -241,8 +256,10 @@ due-ends p q (Reset reset) h out plain = absurd (false≢true (sym plain ∙ res
 due-ends p q Syn h out plain =
     let s = p.endpoint in
     let d = s.sending in
-    let first : d.una ≤ 1 = handshake-una s.phase s.ending d.una d.nxt s.receiving.opened s.receiving.finished out.kind h.there.alone.sends.order h.there.alone.progress in
-    let at : position_of s.config.isn.0 d.una (syn_segment s).seq ≡ 0 = position_of_number s.config.isn.0 d.una 0 h.there.alone.config.isn (omega arith) (omega (arith, first)) in
+    let first : d.una ≤ 1 =
+    handshake-una s.phase s.ending d.una d.nxt s.receiving.opened s.receiving.finished out.kind h.there.alone.sends.order h.there.alone.progress in
+    let at : position_of s.config.isn.0 d.una (syn_segment s).seq ≡ 0 = position_of_number s.config.isn.0 d.una 0 h.there.alone.config.isn (omega arith)
+    (omega (arith, first)) in
     let bits = syn-bits s.receiving.opened in
     let is_syn : one_if (has syn (syn_segment s).flags) ≡ 1 = ap one_if bits.0 in
     let no_fin : one_if (has fin (syn_segment s).flags) ≡ 0 = ap one_if bits.1 in
@@ -281,14 +298,17 @@ record IsSoundAndSent (w : WorldState) : Type 0 where
   sound : IsSound w
   sent : Both KeepsSent w.a w.b
 
-sent-after : (w : WorldState) (event : EventContent) → HasBytes event → refusal_of w event ≡ None → IsSoundAndSent w → IsSoundAndSent (world_with_effect w event)
-sent-after w event fits e h = record { sound = sound-after w event fits e h.sound; sent = in-world _ _ _ sent-kept w event h.sound.life fits e tt tt h.sound.ends h.sent }
+sent-after : (w : WorldState) (event : EventContent) → HasBytes event → refusal_of w event ≡ None → IsSoundAndSent w
+    → IsSoundAndSent (world_with_effect w event)
+sent-after w event fits e h =
+    record { sound = sound-after w event fits e h.sound; sent = in-world _ _ _ sent-kept w event h.sound.life fits e tt tt h.sound.ends h.sent }
 
 pub new-sent : (a b : Config) → KeepsSent (new_party a) (new_party b)
 new-sent a b = record { taken = record { next = λ never. absurd (cc); held = held-none (Below 1 0) 0 a.recv_capacity }; emitted = λ k g v never. absurd (cc) }
 
 -- each held byte, by its place
-held-below : (from n start : ℕ) (held : List (Option Cell)) (place : ℕ) (cell : Cell) → AllHeld (Below from n) start held → slice_get held place ≡ Some (Some cell) → from + start + place < n
+held-below : (from n start : ℕ) (held : List (Option Cell)) (place : ℕ) (cell : Cell) → AllHeld (Below from n) start held
+    → slice_get held place ≡ Some (Some cell) → from + start + place < n
 held-below from n start [] place cell h is = absurd (cc)
 held-below from n start (None ∷ held) zero cell h is = absurd (cc)
 held-below from n start (Some first ∷ held) zero cell h is = omega (arith, h.0)
@@ -298,7 +318,11 @@ held-below from n start (Some first ∷ held) (suc place) cell h is = omega (ari
 pub takes-only_sent : (x y : PartyState) → Both KeepsSent x y → TakesOnlySent x y
 takes-only_sent x y h = record {
   taken = h.back.taken.next;
-  held = λ place cell is. omega (arith, held-below (1 + y.endpoint.receiving.ordered) x.endpoint.sending.nxt 0 y.endpoint.receiving.inbox.held place cell h.back.taken.held is);
+  held = λ place cell is. omega (
+    arith,
+    held-below
+        (1 + y.endpoint.receiving.ordered) x.endpoint.sending.nxt 0 y.endpoint.receiving.inbox.held place cell h.back.taken.held is,
+  );
   emitted = h.there.emitted;
 }
 
@@ -307,7 +331,8 @@ only_sent w h = record { there = takes-only_sent w.a w.b h; back = takes-only_se
 
 pub only_sent_lem : NothingIsTakenBeforeItIsSent
 only_sent_lem life a b list most one two fits =
-    let start : IsSoundAndSent (new_world_with life a b) = record { sound = sound-new life a b most one two; sent = record { there = new-sent a b; back = new-sent b a } } in
+    let new : Both KeepsSent (new_party a) (new_party b) = record { there = new-sent a b; back = new-sent b a } in
+    let start : IsSoundAndSent (new_world_with life a b) = record { sound = sound-new life a b most one two; sent = new } in
     let stops = kept-run IsSoundAndSent sent-after (new_world_with life a b) list fits start in
     let goes_on = kept-after_all IsSoundAndSent sent-after (new_world_with life a b) list fits start in
     (only_sent _ stops.sent, only_sent _ goes_on.sent)

@@ -17,8 +17,8 @@ use Rattle.tcp_replay.specs.World.{PartyState, address_of, SentSegment, new_part
 use Rattle.tcp_replay.specs.Safe.{next_position}
 use Rattle.tcp_replay.specs.Sound.{IsSoundPair, IsOwn}
 use Rattle.tcp_replay.proofs.Lists.{one_if-false}
-use Rattle.tcp_replay.proofs.Moves.{next_of}
-use Rattle.tcp_replay.proofs.Phases.{at-closed, knows-closing, gives_up-not_ended, at-listen, at-syn_sent, at-syn_received, at-synchronized, present-knows}
+use Rattle.tcp_replay.proofs.Steps.{next_of}
+use Rattle.tcp_replay.proofs.Phases.{at-closed, knows-closing, gives_up-not_ended, end-listen, end-syn_sent, end-syn_received, end-synchronized, present-knows}
 use Rattle.tcp_replay.proofs.Phases.{syn_sent-knows, knows-own_fin, knows-fin}
 use Rattle.tcp_replay.proofs.AloneCalls.{send-open}
 use Rattle.tcp_progress.proofs.Table.{Table, table-unopened, table-more, table-close, table-time_wait, Between, table-unanswered, table-acked}
@@ -40,7 +40,7 @@ use Rattle.tcp_replay.proofs.Judgements.{IsPresent}
 use Rattle.tcp_replay.proofs.Stages.{Synced}
 use Rattle.tcp_progress.proofs.Acked.{news-keep, own_fin-keeps}
 use Rattle.tcp_replay.proofs.Events.{Arrives, after_segment, same-content, AllSaid, Both, PairKept, Speaks, both-swapped, said-after, said-back}
-use Rattle.tcp_replay.proofs.Intake.{by-arrival}
+use Rattle.tcp_replay.proofs.Arrivals.{on-arrival}
 use Rattle.tcp_wire.specs.Decoded.{decode_answer}
 use Rattle.tcp_halves.specs.declared.config.Config.{Config}
 use Rattle.tcp_halves.specs.declared.due.Due.{Due}
@@ -48,7 +48,7 @@ use Rattle.tcp_halves.specs.declared.due.Due.TheVariants.{Reset, Syn, Resend, Ne
 use Rattle.tcp_conn.specs.Config.{IsConfig}
 use Rattle.tcp_conn.specs.Forms.{segment_of}
 use Rattle.tcp_replay.proofs.Emissions.{wanted-is}
-use Rattle.tcp_replay.proofs.Deliveries.{own-decodes}
+use Rattle.tcp_replay.proofs.Events.{own-decodes}
 use Rattle.tcp_progress.specs.Stage.{SaysByPhase, KnowsPort, ReleasesAll}
 use Rattle.tcp_progress.proofs.OnlySent.{KeepsSent}
 use Rattle.tcp_halves.specs.declared.outcome.CallError.TheVariants as errors
@@ -66,21 +66,24 @@ abbrev pub MayBeIn : PartyState → PartyState → State → List ℕ → Type 0
 MayBeIn p q s accepted = MayBe p q s.phase s.ending s.closing s.receiving.finished s.peer.port s.sending.una (next_of s.receiving) (2 + length accepted)
 
 -- a reset or an abort
-pub may_be-given_up : (p q : PartyState) (s : State) (accepted : List ℕ) (ending : Ending) → gives_up ending ≡ true → MayBeIn p q s accepted → MayBeIn p q (after_giving_up s ending) accepted
+pub may_be-given_up : (p q : PartyState) (s : State) (accepted : List ℕ) (ending : Ending) → gives_up ending ≡ true → MayBeIn p q s accepted
+    → MayBeIn p q (after_giving_up s ending) accepted
 may_be-given_up p q s accepted ending gone h = record {
-  table = (λ (e : ending ≡ NotEnded). absurd (false≢true (sym (ap gives_up e) ∙ gone)), λ (e : ending ≡ Orderly). absurd (false≢true (sym (ap gives_up e) ∙ gone)));
+  table =
+      (λ (e : ending ≡ NotEnded). absurd (false≢true (sym (ap gives_up e) ∙ gone)), λ (e : ending ≡ Orderly). absurd (false≢true (sym (ap gives_up e) ∙ gone)));
   port_is = λ never. absurd (cc);
   last = λ never. absurd (cc);
   released = h.released;
 }
 
 -- a close, where the handshake has an answer
-answered : (phase : Phase) → is_unanswered phase ≡ false → (is_listening phase ≡ false) × (is_syn_sent phase ≡ false)
-answered Listen e = absurd (cc)
-answered SynSent e = absurd (cc)
-answered other e = (refl, refl)
+has-answer : (phase : Phase) → is_unanswered phase ≡ false → (is_listening phase ≡ false) × (is_syn_sent phase ≡ false)
+has-answer Listen e = absurd (cc)
+has-answer SynSent e = absurd (cc)
+has-answer other e = (refl, refl)
 
-closing : (p q : PartyState) → IsSoundPair p q → close_refusal p.endpoint ≡ None → is_unanswered p.endpoint.phase ≡ false → MayBeIn p q p.endpoint p.accepted → MayBeIn p q (with_closing p.endpoint) p.accepted
+closing : (p q : PartyState) → IsSoundPair p q → close_refusal p.endpoint ≡ None → is_unanswered p.endpoint.phase ≡ false → MayBeIn p q p.endpoint p.accepted
+    → MayBeIn p q (with_closing p.endpoint) p.accepted
 closing p q pair e unanswered h =
     let s = p.endpoint in
     let sends = pair.there.alone.sends in
@@ -89,7 +92,7 @@ closing p q pair e unanswered h =
     let unclosed : p.closed ≡ false = sym pair.there.alone.closing ∙ refusal_if-none s.closing errors.Closing parts.1 in
     let below : s.sending.una < 2 + length p.accepted = omega (arith, sends.order, sends.most, one_if-false p.closed unclosed) in
     let shut = refusal_if-none (is_closed s.phase) NotOpen opens.1 in
-    let other = answered s.phase unanswered in
+    let other = has-answer s.phase unanswered in
     record {
       table = table-close s.phase s.ending s.closing s.receiving.finished s.sending.una (2 + length p.accepted) shut other.0 other.1 below h.table;
       port_is = λ knows. h.port_is (sym (knows-closing s.phase) ∙ knows);
@@ -98,7 +101,8 @@ closing p q pair e unanswered h =
     }
 
 -- THE CALLS, the timers and the emissions
-pub may_be-calls : (p q : PartyState) → IsSoundPair p q → MayBeIn p q p.endpoint p.accepted → KeptByCalls (address_of q) p (λ p'. MayBeIn p q p'.endpoint p'.accepted)
+pub may_be-calls : (p q : PartyState) → IsSoundPair p q → MayBeIn p q p.endpoint p.accepted
+    → KeptByCalls (address_of q) p (λ p'. MayBeIn p q p'.endpoint p'.accepted)
 may_be-calls p q pair h =
     let s = p.endpoint in
     let r = s.receiving in
@@ -150,7 +154,8 @@ pub own_syn-more : (s : State) (v : Content) → s.sending.una ≤ s.sending.nxt
 unfolding after_own_syn
 own_syn-more s v order =
     let d = s.sending in
-    cond_both (is_syn_received s.phase) (with_window (with_syn_acked d) v.seq v.ack (window_from s.link v.window)) d (λ (x : Sending). d.una ≤ x.una) (λ _. order) (λ _. omega arith)
+    cond_both (is_syn_received s.phase) (with_window (with_syn_acked d) v.seq v.ack (window_from s.link v.window)) d (λ (x : Sending). d.una ≤ x.una)
+    (λ _. order) (λ _. omega arith)
 
 ack-more : (d : Sending) (a : ℕ) → d.una ≤ (after_ack d a).una
 unfolding after_ack
@@ -179,7 +184,8 @@ record IsBetween (p q : PartyState) (phase : Phase) (closing finished : Bool) (p
 abbrev BetweenIn : PartyState → PartyState → State → Type 0
 BetweenIn p q s = IsBetween p q s.phase s.closing s.receiving.finished s.peer.port s.sending.una (next_of s.receiving)
 
-between-more : (p q : PartyState) (phase : Phase) (closing finished : Bool) (port una una' next : ℕ) → una ≤ una' → IsBetween p q phase closing finished port una next → IsBetween p q phase closing finished port una' next
+between-more : (p q : PartyState) (phase : Phase) (closing finished : Bool) (port una una' next : ℕ) → una ≤ una'
+    → IsBetween p q phase closing finished port una next → IsBetween p q phase closing finished port una' next
 between-more p q phase closing finished port una una' next more h = record {
   between = λ n further. h.between n (omega (arith, more, further));
   port_is = h.port_is;
@@ -187,7 +193,8 @@ between-more p q phase closing finished port una una' next more h = record {
   released = λ last done. omega (arith, more, h.released last done);
 }
 
-own_syn-between : (p q : PartyState) (v : Content) → IsPresent p.endpoint → IsSoundPair p q → MayBeIn p q p.endpoint p.accepted → BetweenIn p q (after_own_syn p.endpoint v)
+own_syn-between : (p q : PartyState) (v : Content) → IsPresent p.endpoint → IsSoundPair p q → MayBeIn p q p.endpoint p.accepted
+    → BetweenIn p q (after_own_syn p.endpoint v)
 unfolding after_own_syn
 own_syn-between p q v present pair h =
     let s = p.endpoint in
@@ -195,8 +202,9 @@ own_syn-between p q v present pair h =
     let r = s.receiving in
     let more = own_syn-more s v pair.there.alone.sends.order in
     record {
-      between = λ una further. table-acked s.phase s.ending s.closing r.finished d.una una (2 + length p.accepted) present.shut present.listening present.syn_sent
-          (λ e. (at-syn_received s.phase s.ending d.una d.nxt r.opened r.finished e pair.there.alone.progress).1.goes_on) (omega (arith, more, further)) h.table;
+      between = λ una further. table-acked s.phase s.ending s.closing r.finished d.una una
+          (2 + length p.accepted) present.shut present.listening present.syn_sent
+          (λ e. (end-syn_received s e pair.there.alone.progress).1.goes_on) (omega (arith, more, further)) h.table;
       port_is = λ _. h.port_is (present-knows s.phase present.shut present.listening);
       last = λ e closes. h.last (last_ack-own_syn s.phase s.closing e) closes;
       released = λ last done. omega (arith, more, h.released last done);
@@ -207,15 +215,16 @@ module _ (p q : PartyState) (x : State) (synced : Synced p q x) (b : BetweenIn p
   going-sends : Sends x.sending p.accepted p.closed false
   going-sends =
       let alone = synced.kept.here.alone in
-      let at = at-synchronized x.phase x.ending x.sending.una x.sending.nxt x.receiving.opened x.receiving.finished synced.synced alone.progress in
+      let at = end-synchronized x synced.synced alone.progress in
       rw (gives_up-not_ended x.ending at.0) at alone.sends
 
   released-now : q.endpoint.phase ≡ LastAck → x.receiving.finished ≡ true → x.sending.una ≡ next_position q
   released-now last done = omega (arith, b.released last done, synced.kept.here.between)
 
-  fin-last : is_fin_acked x.sending ≡ true → is_last_ack x.phase ≡ true → MayBeIn p q (after_orderly_end x) p.accepted
-  fin-last e last = record {
-    table = table-last_ack x.phase x.closing x.receiving.finished x.sending.una _ last (own_fin-acked x.sending p.accepted p.closed going-sends e) (b.between x.sending.una (omega arith));
+  ends-last : is_fin_acked x.sending ≡ true → is_last_ack x.phase ≡ true → MayBeIn p q (after_orderly_end x) p.accepted
+  ends-last e last = record {
+    table = table-last_ack x.phase x.closing x.receiving.finished x.sending.una _ last (own_fin-acked x.sending p.accepted p.closed going-sends e)
+        (b.between x.sending.una (omega arith));
     port_is = λ never. absurd (cc);
     last = λ never. absurd (cc);
     released = released-now;
@@ -223,7 +232,8 @@ module _ (p q : PartyState) (x : State) (synced : Synced p q x) (b : BetweenIn p
 
   fin-passes : is_fin_acked x.sending ≡ true → is_last_ack x.phase ≡ false → MayBeIn p q (record x { phase = phase_after_own_fin x.phase }) p.accepted
   fin-passes e other = record {
-    table = table-own_fin x.phase x.ending x.closing x.receiving.finished x.sending.una _ other (own_fin-acked x.sending p.accepted p.closed going-sends e) (b.between x.sending.una (omega arith));
+    table = table-own_fin x.phase x.ending x.closing x.receiving.finished x.sending.una _ other (own_fin-acked x.sending p.accepted p.closed going-sends e)
+        (b.between x.sending.una (omega arith));
     port_is = λ knows. b.port_is (sym (knows-own_fin x.phase) ∙ knows);
     last = λ is closes. b.last (last_ack-own_fin x.phase is) closes;
     released = released-now;
@@ -231,7 +241,8 @@ module _ (p q : PartyState) (x : State) (synced : Synced p q x) (b : BetweenIn p
 
   fin-unacked : is_fin_acked x.sending ≡ false → MayBeIn p q x p.accepted
   fin-unacked e = record {
-    table = table-no_own_fin x.phase x.ending x.closing x.receiving.finished x.sending.una _ (own_fin-unacked x.sending p.accepted p.closed going-sends e) (b.between x.sending.una (omega arith));
+    table = table-no_own_fin x.phase x.ending x.closing x.receiving.finished x.sending.una _ (own_fin-unacked x.sending p.accepted p.closed going-sends e)
+        (b.between x.sending.una (omega arith));
     port_is = b.port_is;
     last = b.last;
     released = released-now;
@@ -241,13 +252,15 @@ module _ (p q : PartyState) (x : State) (synced : Synced p q x) (b : BetweenIn p
 taken-last : (s : State) → s.phase ≡ LastAck → takes_text s.phase ≡ true → ⊥
 taken-last s is e = false≢true (sym (last_ack-takes s.phase is) ∙ e)
 
-may_be-text : (p q : PartyState) (s : State) (v : Content) → takes_text_of s v ≡ true → MayBeIn p q s p.accepted → MayBeIn p q (record s { receiving = after_text s.receiving v.seq v.text }) p.accepted
+may_be-text : (p q : PartyState) (s : State) (v : Content) → takes_text_of s v ≡ true → MayBeIn p q s p.accepted
+    → MayBeIn p q (record s { receiving = after_text s.receiving v.seq v.text }) p.accepted
 unfolding after_text
 may_be-text p q s v e h =
     let takes = (and_parts (takes_text s.phase) (not (length v.text == 0)) e).0 in
     record { table = h.table; port_is = h.port_is; last = λ is _. absurd (taken-last s is takes); released = h.released }
 
-may_be-fin : (p q : PartyState) (s : State) (v : Content) → takes_fin s v ≡ true → (has fin v.flags ≡ true → q.endpoint.phase ≡ LastAck → s.sending.una ≡ next_position q) → MayBeIn p q s p.accepted
+may_be-fin : (p q : PartyState) (s : State) (v : Content) → takes_fin s v ≡ true
+    → (has fin v.flags ≡ true → q.endpoint.phase ≡ LastAck → s.sending.una ≡ next_position q) → MayBeIn p q s p.accepted
     → MayBeIn p q (record s { phase = phase_after_fin s.phase; receiving = with_fin s.receiving }) p.accepted
 may_be-fin p q s v e all h =
     let parts = and_parts (takes_text s.phase) (has fin v.flags) (and_parts (has_fin s v) (is_fin_due s.receiving (number v.seq (length v.text))) e).0 in
@@ -260,7 +273,8 @@ may_be-fin p q s v e all h =
 
 -- ---- WHATEVER IS JUDGED of a segment that the peer emitted
 pub may_be-arrives : (p q : PartyState) (g : SentSegment) (v : Content) → IsSoundPair p q → Arrives p q g v → v.src_port ≡ q.endpoint.config.port
-    → (has rst v.flags ≡ false → has fin v.flags ≡ true → q.endpoint.phase ≡ LastAck → g.wanted ≡ next_position q) → (q.endpoint.receiving.opened ≡ true → next_position q ≤ p.endpoint.sending.nxt)
+    → (has rst v.flags ≡ false → has fin v.flags ≡ true → q.endpoint.phase ≡ LastAck → g.wanted ≡ next_position q)
+    → (q.endpoint.receiving.opened ≡ true → next_position q ≤ p.endpoint.sending.nxt)
     → MayBeIn p q p.endpoint p.accepted → MayBeIn p q (after_segment p q v) p.accepted
 unfolding after_acked_text after_news after_peer_opens after_peer_accepts
 may_be-arrives p q g v pair a port from_last sent h =
@@ -269,15 +283,15 @@ may_be-arrives p q g v pair a port from_last sent h =
     let r = s.receiving in
     let end = 2 + length p.accepted in
     let unfinished : r.opened ≡ false → r.finished ≡ true → ⊥ = λ shut done. false≢true (sym (pair.there.alone.unopened shut) ∙ done) in
-    by-arrival p q v g.position g.wanted (λ x. MayBeIn p q x p.accepted) (BetweenIn p q) a.comes (kept-same p q pair) (record {
+    on-arrival p q v g.position g.wanted (λ x. MayBeIn p q x p.accepted) (BetweenIn p q) a.comes (kept-same p q pair) (record {
       same = h;
       owes = λ _ _. h;
       gone = may_be-given_up p q s p.accepted Reset refl h;
       opens = λ listening is.
-          let at = at-listen s.phase s.ending d.una d.nxt r.opened r.finished listening pair.there.alone.progress in
+          let at = end-listen s listening pair.there.alone.progress in
           record { table = refl; port_is = λ _. port; last = λ never. absurd (cc); released = λ _ done. absurd (unfinished at.1.not_opened done) };
       accepts = λ opens is.
-          let at = at-syn_sent s.phase s.ending d.una d.nxt r.opened r.finished opens pair.there.alone.progress in
+          let at = end-syn_sent s opens pair.there.alone.progress in
           record {
             table = (table-unanswered s.phase s.ending s.closing r.finished d.una end opens h.table, pair.there.alone.unopened at.1.not_opened);
             port_is = λ _. h.port_is (syn_sent-knows s.phase opens);
@@ -285,9 +299,11 @@ may_be-arrives p q g v pair a port from_last sent h =
             released = λ _ done. absurd (unfinished at.1.not_opened done);
           };
       own_syn = λ present _. own_syn-between p q v present pair h;
-      acked_text = λ x _ _ _ b. between-more p q x.phase x.closing x.receiving.finished x.peer.port x.sending.una _ (next_of x.receiving) (ack-more x.sending (position_near x v.ack)) b;
-      news = λ x _ _ _ b. between-more p q x.phase x.closing x.receiving.finished x.peer.port x.sending.una _ (next_of x.receiving) (omega (arith, (news-keep x v).una)) b;
-      last = λ x synced e last b. fin-last p q x synced b e last;
+      acked_text = λ x _ _ _ b. between-more p q x.phase x.closing x.receiving.finished x.peer.port x.sending.una _ (next_of x.receiving)
+          (ack-more x.sending (position_near x v.ack)) b;
+      news = λ x _ _ _ b. between-more p q x.phase x.closing x.receiving.finished x.peer.port x.sending.una _ (next_of x.receiving)
+          (omega (arith, (news-keep x v).una)) b;
+      last = λ x synced e last b. ends-last p q x synced b e last;
       passes = λ x synced e other b. fin-passes p q x synced b e other;
       stays = λ x synced e b. fin-unacked p q x synced b e;
       text = λ x _ _ _ _ e b. may_be-text p q x v e b;
@@ -314,7 +330,8 @@ pub record KeepsStages (x y : PartyState) : Type 0 where
 fin-closed : (p q : PartyState) (g : SentSegment) (v : Content) → IsOwn p q g → decode_answer p.endpoint.config.addr.0 q.endpoint.config.addr.0 g.bytes ≡ Ok v
     → has rst v.flags ≡ false → has fin v.flags ≡ true → p.closed ≡ true
 fin-closed p q g v own read plain told =
-    let same : own.content ≡ v = same-content own.content v (decode_answer p.endpoint.config.addr.0 q.endpoint.config.addr.0 g.bytes) (own-decodes p q g own) read in
+    let same : own.content ≡ v = same-content own.content v (decode_answer p.endpoint.config.addr.0 q.endpoint.config.addr.0 g.bytes)
+    (own-decodes p q g own) read in
     let stands = own.truthful (ap (λ (v : Content). has rst v.flags) same ∙ plain) in
     (stands.truth.own.has_fin (ap (λ (v : Content). has fin v.flags) same ∙ told)).0
 
@@ -330,14 +347,16 @@ due-names s (ResentFin start) = refl
 due-names s Acknowledgement = refl
 
 -- p became p', and emitted what is due
-stages-moved : (p p' q : PartyState) → IsSoundPair p q → Moved p p' q → Speaks p p' q → MayBeIn p q p'.endpoint p'.accepted → Both KeepsStages p q → Both KeepsStages p' q
+stages-moved : (p p' q : PartyState) → IsSoundPair p q → Moved p p' q → Speaks p p' q → MayBeIn p q p'.endpoint p'.accepted → Both KeepsStages p q
+    → Both KeepsStages p' q
 stages-moved p p' q pair moved out may h =
     let port = ap (λ (c : Config). c.port) (sym moved.config) in
     record {
       there = record {
         table = may.table;
         port = may.port_is;
-        names = said-after p p' q (λ g v. v.src_port ≡ p'.endpoint.config.port) moved.config out (λ k g v is read. h.there.names k g v is read ∙ port) (λ due _ _ _. due-names p.endpoint due ∙ port);
+        names = said-after p p' q (λ g v. v.src_port ≡ p'.endpoint.config.port) moved.config out (λ k g v is read. h.there.names k g v is read ∙ port)
+            (λ due _ _ _. due-names p.endpoint due ∙ port);
         acks = λ last. said-after p p' q (λ g v. has rst v.flags ≡ false → has fin v.flags ≡ true → g.wanted ≡ next_position p') moved.config out
             (λ k g v is read plain told.
             let was = may.last last (fin-closed p q g v (pair.own_there k g is) read plain told) in
@@ -362,7 +381,8 @@ pub stages-kept : PairKept (Both KeepsSent) (Both KeepsStages) (λ p q s accepte
 stages-kept = record {
   swapped = both-swapped KeepsStages;
   calls = λ p q pair h. may_be-calls p q pair (may_be-same p q h);
-  arrives = λ p q g v sent pair a h. may_be-arrives p q g v pair a (h.back.names a.place g v a.sent a.read) (λ plain told last. h.back.acks last a.place g v a.sent a.read plain told)
+  arrives = λ p q g v sent pair a h. may_be-arrives p q g v pair a (h.back.names a.place g v a.sent a.read)
+      (λ plain told last. h.back.acks last a.place g v a.sent a.read plain told)
       sent.back.taken.next (may_be-same p q h);
   moved = stages-moved;
 }
@@ -391,7 +411,8 @@ unsent s accepted closed going early alone =
     let unclosed : closed ≡ false = sym alone.closing ∙ early in
     own_fin-is_unacked s.sending accepted closed sends (omega (arith, sends.order, sends.most, one_if-false closed unclosed))
 
-says : (phase : Phase) (s : State) (accepted : List ℕ) (closed : Bool) → FitsPhase phase s.ending s.sending.una s.sending.nxt s.receiving.opened s.receiving.finished → IsAlone s accepted closed
+says : (phase : Phase) (s : State) (accepted : List ℕ) (closed : Bool)
+    → FitsPhase phase s.ending s.sending.una s.sending.nxt s.receiving.opened s.receiving.finished → IsAlone s accepted closed
     → Table phase s.ending s.closing s.receiving.finished s.sending.una (2 + length accepted) → SaysByPhase phase s
 says Closed s accepted closed fits alone h = λ e.
     let row = h.1 e in
@@ -401,12 +422,17 @@ says Listen s accepted closed fits alone h = tt
 says SynSent s accepted closed fits alone h = tt
 says SynReceived s accepted closed fits alone h = (h, fits.1.nxt_is)
 says Established s accepted closed fits alone h = record { closing = h.0; acked = unsent s accepted closed fits.0 h.0 alone; finished = h.1 }
-says FinWait1 s accepted closed fits alone h = record { closing = h.0; acked = own_fin-is_unacked s.sending accepted closed (sends-on s accepted closed fits.0 alone) h.2; finished = h.1 }
-says FinWait2 s accepted closed fits alone h = record { closing = h.0; acked = own_fin-is_acked s.sending accepted closed (sends-on s accepted closed fits.0 alone) h.2; finished = h.1 }
+says FinWait1 s accepted closed fits alone h =
+    record { closing = h.0; acked = own_fin-is_unacked s.sending accepted closed (sends-on s accepted closed fits.0 alone) h.2; finished = h.1 }
+says FinWait2 s accepted closed fits alone h =
+    record { closing = h.0; acked = own_fin-is_acked s.sending accepted closed (sends-on s accepted closed fits.0 alone) h.2; finished = h.1 }
 says CloseWait s accepted closed fits alone h = record { closing = h.0; acked = unsent s accepted closed fits.0 h.0 alone; finished = h.1 }
-says Closing s accepted closed fits alone h = record { closing = h.0; acked = own_fin-is_unacked s.sending accepted closed (sends-on s accepted closed fits.0 alone) h.2; finished = h.1 }
-says LastAck s accepted closed fits alone h = record { closing = h.0; acked = own_fin-is_unacked s.sending accepted closed (sends-on s accepted closed fits.0 alone) h.2; finished = h.1 }
-says TimeWait s accepted closed fits alone h = record { closing = h.0; acked = own_fin-is_acked s.sending accepted closed (sends-on s accepted closed fits.0 alone) h.2; finished = h.1 }
+says Closing s accepted closed fits alone h =
+    record { closing = h.0; acked = own_fin-is_unacked s.sending accepted closed (sends-on s accepted closed fits.0 alone) h.2; finished = h.1 }
+says LastAck s accepted closed fits alone h =
+    record { closing = h.0; acked = own_fin-is_unacked s.sending accepted closed (sends-on s accepted closed fits.0 alone) h.2; finished = h.1 }
+says TimeWait s accepted closed fits alone h =
+    record { closing = h.0; acked = own_fin-is_acked s.sending accepted closed (sends-on s accepted closed fits.0 alone) h.2; finished = h.1 }
 
 -- each state says what it does of both FINs, in both ends
 pub stages-say : (p q : PartyState) → IsSoundPair p q → Both KeepsStages p q → SaysByPhase p.endpoint.phase p.endpoint × SaysByPhase q.endpoint.phase q.endpoint

@@ -23,7 +23,7 @@ use Rattle.tcp_progress.proofs.Shifts.{AgreesOn, agreed_shift, own_shift-agreed,
 use Rattle.tcp_replay.proofs.Events.{Arrives, after_segment, AllSaid, Both, PairKept, Speaks, both-swapped, said-after, said-back}
 use Rattle.tcp_replay.specs.Sound.{IsSoundPair}
 use Rattle.tcp_replay.proofs.Calls.{KeptByCalls}
-use Rattle.tcp_replay.proofs.Intake.{by-arrival}
+use Rattle.tcp_replay.proofs.Arrivals.{on-arrival}
 use Rattle.tcp_replay.proofs.Steps.{kept-same, Moved}
 use Rattle.tcp_halves.specs.declared.due.Due.{Due}
 use Rattle.tcp_halves.specs.declared.due.Due.TheVariants.{Reset, Syn, Resend, NewText, Fin, ResentFin, Acknowledgement}
@@ -45,14 +45,16 @@ ranks-length : (held : List (Option Cell)) → length (with_ranks held) ≡ leng
 unfolding with_ranks
 ranks-length held = ranks_from-length (runs held) 0 held
 
-laid-whole : (q : Inbox) (over : List (Option Cell)) → length over ≡ length q.held → length q.unread + length q.held ≡ q.capacity → length (with_overlay q over).unread + length (with_overlay q over).held ≡ q.capacity
+laid-whole : (q : Inbox) (over : List (Option Cell)) → length over ≡ length q.held → length q.unread + length q.held ≡ q.capacity
+    → length (with_overlay q over).unread + length (with_overlay q over).held ≡ q.capacity
 laid-whole q over same whole =
     let n = length (bytes_in_order over) in
     let unread : length (q.unread ++ bytes_in_order over) ≡ length q.unread + n = length-append q.unread (bytes_in_order over) in
     let held : length (with_ranks (drop n over)) ≡ length (drop n over) = ranks-length (drop n over) in
     omega (arith, unread, held, length-drop n over, in_order-most over, same, whole)
 
-placed-whole : (q : Inbox) (offset : ℤ) (text : List ℕ) → length q.unread + length q.held ≡ q.capacity → length (after_place q offset text).unread + length (after_place q offset text).held ≡ q.capacity
+placed-whole : (q : Inbox) (offset : ℤ) (text : List ℕ) → length q.unread + length q.held ≡ q.capacity
+    → length (after_place q offset text).unread + length (after_place q offset text).held ≡ q.capacity
 unfolding after_place
 placed-whole q offset text whole =
     let part = piece offset text in
@@ -123,12 +125,13 @@ least-mss c v = omega arith
 
 -- ARRIVALS, where the options of a SYN are those that both Configs make
 pub room-arrives : (p q : PartyState) (g : SentSegment) (v : Content) → IsSoundPair p q → Arrives p q g v
-    → (has rst v.flags ≡ false → has syn v.flags ≡ true → AgreesOn p.endpoint.config q.endpoint.config (link_of p.endpoint.config v.options)) → InRoom p q p.endpoint → InRoom p q (after_segment p q v)
+    → (has rst v.flags ≡ false → has syn v.flags ≡ true → AgreesOn p.endpoint.config q.endpoint.config (link_of p.endpoint.config v.options))
+    → InRoom p q p.endpoint → InRoom p q (after_segment p q v)
 unfolding after_own_syn after_acked_text after_news after_peer_opens after_peer_accepts after_text
 room-arrives p q g v pair a offers h =
     let c = p.endpoint.config in
     let capacity = c.recv_capacity in
-    by-arrival p q v g.position g.wanted (InRoom p q) (InRoom p q) a.comes (kept-same p q pair) (record {
+    on-arrival p q v g.position g.wanted (InRoom p q) (InRoom p q) a.comes (kept-same p q pair) (record {
       same = h;
       owes = λ _ _. h;
       gone = record { within = within-given_up capacity p.endpoint.receiving h.within; mss = h.mss; agreed = h.agreed };
@@ -170,17 +173,20 @@ pub tells-within : (p q : PartyState) → Both KeepsTold p q → TellsWithin p q
 tells-within p q h = (tells-one p q h.there h.back, tells-one q p h.back h.there)
 
 -- ---- EMIT: the window is told as it is in a SYN, and scaled by the own shift once the peer's SYN was taken
-syn-told : (s : State) (mine yours : Config) → HasGoodShift mine → KeepsRoom mine yours s.receiving.inbox s.link s.receiving.opened → s.config ≡ mine → IsTold mine yours (syn_segment s)
+syn-told : (s : State) (mine yours : Config) → HasGoodShift mine → KeepsRoom mine yours s.receiving.inbox s.link s.receiving.opened → s.config ≡ mine
+    → IsTold mine yours (syn_segment s)
 syn-told s mine yours fits h config = record {
   field = λ _. omega (arith, window-within mine.recv_capacity s.receiving.inbox h.within);
   offers = λ _. syn-agrees s mine yours config fits h.agreed;
   scaled = λ no_syn. absurd (false≢true (sym no_syn ∙ (syn-bits s.receiving.opened).0));
 }
 
-plain-told : (s : State) (mine yours : Config) (due : Due) → s.receiving.opened ≡ true → KeepsRoom mine yours s.receiving.inbox s.link s.receiving.opened → s.config ≡ mine → IsTold mine yours (plain_segment s due)
+plain-told : (s : State) (mine yours : Config) (due : Due) → s.receiving.opened ≡ true → KeepsRoom mine yours s.receiving.inbox s.link s.receiving.opened
+    → s.config ≡ mine → IsTold mine yours (plain_segment s due)
 plain-told s mine yours due opened h config =
     let bits = plain-bits (pushes s.sending due) (is_fin due) in
-    let shift : own_shift s.config s.link ≡ agreed_shift mine.window_shift yours.window_shift = ap (λ (c : Config). own_shift c s.link) config ∙ own_shift-agreed mine yours s.link (h.agreed opened) in
+    let shift : own_shift s.config s.link ≡ agreed_shift mine.window_shift yours.window_shift = ap (λ (c : Config). own_shift c s.link) config ∙
+    own_shift-agreed mine yours s.link (h.agreed opened) in
     let n = own_shift s.config s.link in
     let scaled : window_field n (window s.receiving.inbox) * 2 ^ n ≤ window s.receiving.inbox = field-within n (window s.receiving.inbox) in
     let most = window-within mine.recv_capacity s.receiving.inbox h.within in
@@ -191,7 +197,8 @@ plain-told s mine yours due opened h config =
       scaled = λ _. subst (λ (k : ℕ). window_field n (window s.receiving.inbox) * 2 ^ k ≤ mine.recv_capacity) shift all;
     }
 
-due-told : (p q : PartyState) (due : Due) → IsSoundPair p q → GoesOutAlone p.endpoint p.accepted p.closed due → InRoom p q p.endpoint → has rst (segment_of p.endpoint due).flags ≡ false
+due-told : (p q : PartyState) (due : Due) → IsSoundPair p q → GoesOutAlone p.endpoint p.accepted p.closed due → InRoom p q p.endpoint
+    → has rst (segment_of p.endpoint due).flags ≡ false
     → IsTold p.endpoint.config q.endpoint.config (segment_of p.endpoint due)
 unfolding segment_of
 due-told p q (Reset reset) pair out h plain = absurd (false≢true (sym plain ∙ reset-bit _))
@@ -213,7 +220,8 @@ told-moved p p' q pair moved out room h =
         room = subst (λ (c : Config). KeepsRoom c mine r.inbox p'.endpoint.link r.opened) (sym moved.config) room;
         emitted = said-after p p' q (λ g v. has rst v.flags ≡ false → IsTold p'.endpoint.config mine v) moved.config out
             (λ k g v is read plain. subst (λ (c : Config). IsTold c mine v) (sym moved.config) (h.there.emitted k g v is read plain))
-            (λ due goes alone _ plain. subst (λ (c : Config). IsTold c mine (segment_of p.endpoint due)) (sym moved.config) (due-told p q due pair alone h.there.room plain));
+            (λ due goes alone _ plain. subst (λ (c : Config). IsTold c mine (segment_of p.endpoint due)) (sym moved.config)
+            (due-told p q due pair alone h.there.room plain));
       };
       back = record {
         room = subst (λ (c : Config). KeepsRoom mine c s.receiving.inbox s.link s.receiving.opened) (sym moved.config) h.back.room;

@@ -97,7 +97,8 @@ pub record KeptByCalls (peer : Peer) (p : PartyState) (P : PartyState → Type 0
   pub closes : close_refusal p.endpoint ≡ None → is_unanswered p.endpoint.phase ≡ false → P (record p { endpoint = with_closing p.endpoint; closed = true })
   pub aborts : P (with_end p (with_abort p.endpoint))
   pub acknowledges : P (with_end p (record p.endpoint { owed = record p.endpoint.owed { ack = p.endpoint.owed.ack || takes_text p.endpoint.phase } }))
-  pub resends : sends_again p.endpoint ≡ true → P (with_end p (record p.endpoint { sending = with_all_resent p.endpoint.sending; owed = owed_on_timeout p.endpoint }))
+  pub resends : sends_again p.endpoint ≡ true
+      → P (with_end p (record p.endpoint { sending = with_all_resent p.endpoint.sending; owed = owed_on_timeout p.endpoint }))
   pub probes : P (with_end p (record p.endpoint { owed = owed_on_timeout p.endpoint }))
   pub fills : (end : ℕ) → sends_text p.endpoint.phase ≡ true → last_mark_end p.endpoint.sending.queue ≡ Some end
       → P (with_end p (record p.endpoint { sending = with_gaps_resent p.endpoint.sending end }))
@@ -106,14 +107,15 @@ pub record KeptByCalls (peer : Peer) (p : PartyState) (P : PartyState → Type 0
 
 module _ (peer : Peer) (p : PartyState) (P : PartyState → Type 0) (h : KeptByCalls peer p P) where
   -- CONNECT, LISTEN
-  pub by-connect : P (party_after_connect p peer)
+  pub on-connect : P (party_after_connect p peer)
   unfolding party_after_connect after_connect
-  by-connect =
-      unless-kept (λ s. P (with_end p s)) (opening_refusal p.endpoint) p.endpoint (with_connection p.endpoint peer) h.same (λ e. h.connects (can-open p.endpoint e))
+  on-connect =
+      unless-kept (λ s. P (with_end p s)) (opening_refusal p.endpoint) p.endpoint (with_connection p.endpoint peer) h.same
+      (λ e. h.connects (can-open p.endpoint e))
 
-  pub by-listen : P (party_after_listen p)
+  pub on-listen : P (party_after_listen p)
   unfolding party_after_listen after_listen
-  by-listen = unless-kept (λ s. P (with_end p s)) (opening_refusal p.endpoint) p.endpoint _ h.same (λ e. h.listens (can-open p.endpoint e))
+  on-listen = unless-kept (λ s. P (with_end p s)) (opening_refusal p.endpoint) p.endpoint _ h.same (λ e. h.listens (can-open p.endpoint e))
 
   -- SEND, RECEIVE
   sent-unless : (o : Option CallError) (s : State) (n : ℕ) (text : List ℕ) → (o ≡ None → P (with_accepted p s (take n text)))
@@ -121,18 +123,19 @@ module _ (peer : Peer) (p : PartyState) (P : PartyState → Type 0) (h : KeptByC
   sent-unless None s n text next = next refl
   sent-unless (Some error) s n text next = rw (append-nil p.accepted) h.same
 
-  pub by-send : (text : List ℕ) → AreBytes text → P (party_after_send p text)
+  pub on-send : (text : List ℕ) → AreBytes text → P (party_after_send p text)
   unfolding party_after_send after_send
-  by-send text fits = sent-unless (send_refusal p.endpoint text) _ _ text (h.sends text fits)
+  on-send text fits = sent-unless (send_refusal p.endpoint text) _ _ text (h.sends text fits)
 
-  received-unless : (o : Option CallError) (s : State) (value : Received) (bytes : List ℕ) → (o ≡ None → P (with_delivered p s bytes (is_end_of_stream (Ok value))))
+  received-unless : (o : Option CallError) (s : State) (value : Received) (bytes : List ℕ)
+      → (o ≡ None → P (with_delivered p s bytes (is_end_of_stream (Ok value))))
       → P (with_delivered p (state_unless o p.endpoint s) (bytes_unless o bytes) (is_end_of_stream (answer_unless o value)))
   received-unless None s value bytes next = next refl
   received-unless (Some error) s value bytes next = rw (append-nil p.delivered, or-false p.ended) h.same
 
-  pub by-receive : (room : ℕ) → P (party_after_receive p room)
+  pub on-receive : (room : ℕ) → P (party_after_receive p room)
   unfolding party_after_receive after_receive
-  by-receive room = received-unless (receive_refusal p.endpoint) _ _ _ (h.reads room)
+  on-receive room = received-unless (receive_refusal p.endpoint) _ _ _ (h.reads room)
 
   -- CLOSE, ABORT, ACKNOWLEDGE
   closed-unless : (o : Option CallError) (s : State) → (o ≡ None → P (record p { endpoint = s; closed = true }))
@@ -140,41 +143,42 @@ module _ (peer : Peer) (p : PartyState) (P : PartyState → Type 0) (h : KeptByC
   closed-unless None s next = rw (or_right p.closed true refl) (next refl)
   closed-unless (Some error) s next = rw (or-false p.closed) h.same
 
-  pub by-close : P (party_after_close p)
+  pub on-close : P (party_after_close p)
   unfolding party_after_close after_close
-  by-close = closed-unless (close_refusal p.endpoint) (after_closing p.endpoint) (λ e.
+  on-close = closed-unless (close_refusal p.endpoint) (after_closing p.endpoint) (λ e.
       cond_both (is_unanswered p.endpoint.phase) (record (after_giving_up p.endpoint Aborted) { closing = true }) (with_closing p.endpoint)
       (λ (s : State). P (record p { endpoint = s; closed = true })) (λ _. h.withdraws) (h.closes e))
 
-  pub by-abort : P (party_after_abort p)
+  pub on-abort : P (party_after_abort p)
   unfolding party_after_abort after_abort
-  by-abort = unless-kept (λ s. P (with_end p s)) (open_refusal p.endpoint) p.endpoint (with_abort p.endpoint) h.same (λ _. h.aborts)
+  on-abort = unless-kept (λ s. P (with_end p s)) (open_refusal p.endpoint) p.endpoint (with_abort p.endpoint) h.same (λ _. h.aborts)
 
-  pub by-acknowledge : P (party_after_acknowledge p)
+  pub on-acknowledge : P (party_after_acknowledge p)
   unfolding party_after_acknowledge after_acknowledge
-  by-acknowledge = h.acknowledges
+  on-acknowledge = h.acknowledges
 
   -- TIMERS
-  by-gaps : (end : Option ℕ) → last_mark_end p.endpoint.sending.queue ≡ end → sends_text p.endpoint.phase ≡ true
+  on-gaps : (end : Option ℕ) → last_mark_end p.endpoint.sending.queue ≡ end → sends_text p.endpoint.phase ≡ true
       → P (with_end p (record p.endpoint { sending = after_gaps p.endpoint.sending end }))
-  by-gaps None e sends = h.same
-  by-gaps (Some end) e sends = h.fills end sends e
+  on-gaps None e sends = h.same
+  on-gaps (Some end) e sends = h.fills end sends e
 
-  pub by-timer : (timer : Timer) → P (party_after_timer p timer)
+  pub on-timer : (timer : Timer) → P (party_after_timer p timer)
   unfolding party_after_timer after_retransmit after_reorder after_time_wait
-  by-timer Retransmit =
+  on-timer Retransmit =
       cond_both (sends_again p.endpoint) (with_all_resent p.endpoint.sending) p.endpoint.sending
       (λ (d : Sending). P (with_end p (record p.endpoint { sending = d; owed = owed_on_timeout p.endpoint }))) h.resends (λ _. h.probes)
-  by-timer Reorder =
+  on-timer Reorder =
       cond_both (sends_text p.endpoint.phase) (last_mark_end p.endpoint.sending.queue) None
-      (λ (end : Option ℕ). P (with_end p (record p.endpoint { sending = after_gaps p.endpoint.sending end }))) (by-gaps (last_mark_end p.endpoint.sending.queue) refl) (λ _. h.same)
-  by-timer TimeWait = cond_both (is_time_wait p.endpoint.phase) (after_orderly_end p.endpoint) p.endpoint (λ (s : State). P (with_end p s)) h.ends (λ _. h.same)
+      (λ (end : Option ℕ). P (with_end p (record p.endpoint { sending = after_gaps p.endpoint.sending end })))
+      (on-gaps (last_mark_end p.endpoint.sending.queue) refl) (λ _. h.same)
+  on-timer TimeWait = cond_both (is_time_wait p.endpoint.phase) (after_orderly_end p.endpoint) p.endpoint (λ (s : State). P (with_end p s)) h.ends (λ _. h.same)
 
   -- EMIT
-  by-due : (due : Option Due) → due_of p.endpoint ≡ due → IfSome due (GoesOutAlone p.endpoint p.accepted p.closed) → P (with_end p (after_due p.endpoint due))
-  by-due None is out = h.same
-  by-due (Some due) is out = h.emits due is out
+  on-due : (due : Option Due) → due_of p.endpoint ≡ due → IfSome due (GoesOutAlone p.endpoint p.accepted p.closed) → P (with_end p (after_due p.endpoint due))
+  on-due None is out = h.same
+  on-due (Some due) is out = h.emits due is out
 
-  pub by-emission : IsAlone p.endpoint p.accepted p.closed → P (with_end p (after_emission p.endpoint))
+  pub on-emission : IsAlone p.endpoint p.accepted p.closed → P (with_end p (after_emission p.endpoint))
   unfolding after_emission
-  by-emission alone = by-due (due_of p.endpoint) refl (due-alone p.endpoint p.accepted p.closed alone)
+  on-emission alone = on-due (due_of p.endpoint) refl (due-alone p.endpoint p.accepted p.closed alone)

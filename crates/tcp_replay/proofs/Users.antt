@@ -17,8 +17,8 @@ use Rattle.tcp_replay.specs.World.{PartyState, address_of, is_end_of_stream}
 use Rattle.tcp_replay.specs.Sound.{IsSoundPair, SpeaksTo}
 use Rattle.tcp_replay.proofs.Halves.{accepted-limit, takes-read, hands-read, hands-ended}
 use Rattle.tcp_replay.proofs.Steps.{Moved, Kept, kept-same}
-use Rattle.tcp_replay.proofs.Phases.{gives_up-not_ended, resets_on_abort-knows, time_wait-synchronized, at-synchronized, knows-closing}
-use Rattle.tcp_replay.proofs.Moves.{kept-alone, kept-given_up, kept-orderly}
+use Rattle.tcp_replay.proofs.Phases.{gives_up-not_ended, resets_on_abort-knows, time_wait-synchronized, end-synchronized, knows-closing}
+use Rattle.tcp_replay.proofs.Steps.{kept-alone, kept-given_up, kept-orderly}
 use Rattle.tcp_replay.proofs.AloneCalls.{send-open, send-unclosed, alone-with_text, receive-open, alone-bytes_received, alone-close_asked}
 use Rattle.tcp_replay.proofs.AloneCalls.{alone-close_begun, alone-own_reset, alone-calls}
 use Rattle.tcp_replay.proofs.Calls.{KeptByCalls}
@@ -26,7 +26,11 @@ use Rattle.tcp_replay.proofs.Emissions.{goes-out}
 
 -- SEND
 moved-sent : (p q : PartyState) (text : List ℕ) → AreBytes text → IsSoundPair p q → send_refusal p.endpoint text ≡ None
-    → Moved p (record p { endpoint = record p.endpoint { sending = with_text p.endpoint.sending p.endpoint.config.limit text }; accepted = p.accepted ++ take (count_sendable p.endpoint.sending p.endpoint.config.limit text) text }) q
+    → Moved p (record p {
+      endpoint = record p.endpoint { sending = with_text p.endpoint.sending p.endpoint.config.limit text };
+      accepted = p.accepted ++ take
+          (count_sendable p.endpoint.sending p.endpoint.config.limit text) text;
+    }) q
 moved-sent p q text bytes h e =
     let s = p.endpoint in
     let unclosed : p.closed ≡ false = send-unclosed s p.accepted text p.closed e h.there.alone in
@@ -59,7 +63,8 @@ moved-sent p q text bytes h e =
 ends-all : (s : State) (room : ℕ) → is_end_of_stream (Ok (received_value s room)) ≡ true → (s.receiving.finished ≡ true) × (s.receiving.inbox.unread ≡ [])
 ends-all s room =
     let P : Received → Type 0 = λ value. is_end_of_stream (Ok value) ≡ true → (s.receiving.finished ≡ true) × (s.receiving.inbox.unread ≡ []) in
-    cond_both (length s.receiving.inbox.unread == 0) (if s.receiving.finished then EndOfStream else Nothing) (Bytes (min room (length s.receiving.inbox.unread))) P
+    cond_both (length s.receiving.inbox.unread == 0) (if s.receiving.finished then EndOfStream else Nothing)
+    (Bytes (min room (length s.receiving.inbox.unread))) P
     (λ none. cond_both s.receiving.finished EndOfStream Nothing P
     (λ finished told. (finished, nil_from_length s.receiving.inbox.unread (eqb-true (length s.receiving.inbox.unread) 0 none)))
     (λ _ never. absurd (cc)))
@@ -76,7 +81,8 @@ moved-received p q room h e =
     let irs = q.endpoint.config.isn.0 in
     let gone = receive-open s e in
     let ends = is_end_of_stream (Ok (received_value s room)) in
-    let last = hands-ended s.receiving irs q.accepted q.closed p.delivered p.ended (gives_up s.ending) ends (ends-all s room) gone h.there.takes h.there.hands in
+    let last = hands-ended s.receiving irs q.accepted q.closed p.delivered p.ended (gives_up s.ending) ends
+    (ends-all s room) gone h.there.takes h.there.hands in
     let takes = takes-read s.receiving irs q.accepted q.closed room h.there.takes in
     let hands = hands-read s.receiving q.accepted q.closed p.delivered (p.ended || ends) (gives_up s.ending) room last in
     record {
@@ -89,7 +95,16 @@ moved-received p q room h e =
         limit = h.there.limit;
       };
       config = refl;
-      grows = record { iss = refl; irs = refl; more = []; accepted = sym (append-nil p.accepted); closed = λ closed. (refl, closed); opened = λ opened. opened; next = omega arith };
+      grows = record {
+        iss = refl;
+        irs = refl;
+        more = [];
+        accepted = sym (append-nil p.accepted);
+        closed = λ closed. (refl, closed);
+        opened =
+            λ opened. opened;
+        next = omega arith;
+      };
     }
 
 -- CLOSE: the FIN may follow
@@ -139,7 +154,8 @@ sound-calls p q h =
       sends = λ text fits e. moved-sent p q text fits h e;
       reads = λ room e. moved-received p q room h e;
       withdraws = moved-closed p q (after_giving_up s Aborted) (kept-given_up p q s Aborted refl k);
-      closes = λ _ _. moved-closed p q (record s { phase = phase_after_close s.phase }) (kept-alone p q s _ k refl (alone-close_begun s p.accepted p.closed h.there.alone)
+      closes = λ _ _. moved-closed p q (record s { phase = phase_after_close s.phase })
+          (kept-alone p q s _ k refl (alone-close_begun s p.accepted p.closed h.there.alone)
           (record { peer = λ e. peer (sym knows ∙ e); reset = reset }) refl refl low);
       aborts =
           let told : State = record s { owed = record s.owed { reset = reset_after_abort s } } in
@@ -151,6 +167,6 @@ sound-calls p q h =
       fills = λ end sends e. kept-alone p q s _ k refl (alone.fills end sends e) (record { peer = peer; reset = reset }) refl refl low;
       ends = λ e.
           let synced = time_wait-synchronized s.phase e in
-          kept-orderly p q s (at-synchronized s.phase s.ending s.sending.una s.sending.nxt s.receiving.opened s.receiving.finished synced h.there.alone.progress).0 k;
+          kept-orderly p q s (end-synchronized s synced h.there.alone.progress).0 k;
       emits = λ due _ out. (goes-out p q due h out).kept;
     }
