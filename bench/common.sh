@@ -1,4 +1,5 @@
-# What the benches share. `top` is the repository's folder.
+# shellcheck shell=sh
+# What the benches share. `top` is the repository's folder, and `out` the one for what is made.
 
 # Builds our program where it is stale, and sets `ours`. Words are those of `rt run`.
 build_ours() {

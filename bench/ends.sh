@@ -20,7 +20,7 @@ print(resource.getrusage(resource.RUSAGE_CHILDREN).ru_maxrss * 1024)' "$@"
 
 # The least of five runs, in nanoseconds.
 nanoseconds() {
-    for run in 1 2 3 4 5; do
+    for _ in 1 2 3 4 5; do
         start=$(date +%s%N)
         "$@" >/dev/null
         echo $(($(date +%s%N) - start))

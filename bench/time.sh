@@ -22,7 +22,7 @@ nanoseconds() {
 }
 
 tell_commit
-for turn in $(seq "$turns"); do
+for _ in $(seq "$turns"); do
     echo "$(nanoseconds "$ours" in_order $bursts 65536) $(nanoseconds "$out/best" in_order $bursts) $(nanoseconds "$out/copies" $bursts)"
 done | awk -v bytes=$((bursts * 2 * 1460)) '
     { ours[NR] = $1; lwip[NR] = $2; copies[NR] = $3; by_lwip[NR] = $2 / $1; by_copies[NR] = $3 / $1 }

@@ -4,16 +4,19 @@
 # With --target aarch64 as its first words it does so with Debian's cross compiler, under qemu, over a library that
 # 'rt lib --target aarch64-unknown-linux-gnu' has built.
 # It installs packages by apt-get where this machine lacks them: clang, valgrind and the compilers' sanitizers, make and
-# pkg-config, or the cross compiler and qemu. It says so first, and where that fails what it left out.
+# pkg-config, or the cross compiler and qemu. Where that fails it fails, or, with LEAVE_OUT=1 in the environment, says what it
+# leaves out.
 set -euo pipefail
 cd "$(dirname "$0")"
+test=capi
+. ../tests/lib.sh
 target=x86_64 runner=
 if [[ ${1-} == --target ]]; then
     target=$2
     shift 2
 fi
 library=${1:-../crates/tcp_c/out/libtcp_c.a}
-warnings="-std=c11 -g -Wall -Wextra -Wpedantic -Wcast-qual -Werror"
+warnings="-std=c11 -g -Wall -Wextra -Wpedantic -Wcast-qual -Wconversion -Wshadow -Wstrict-prototypes -Werror"
 sanitizers="-O1 -fsanitize=address,undefined -fno-sanitize-recover=all"
 calls=$(printf '%s\n' abort acknowledge arrive close connect emit free listen new peer pending receive rest rest_abort \
     rest_arrive rest_emit rest_pending rest_status rest_timer room send status stray_reset take timer timers)
@@ -21,18 +24,6 @@ tests="examples/two_ends tests/misuse tests/misuse_rest tests/room tests/fields 
 passed=0
 
 pass() { passed=$((passed + 1)); }
-
-# The command works, once the package is installed if need be.
-has() {
-    local package=$1
-    shift
-    "$@" >/dev/null 2>&1 && return
-    echo "capi: installs $package (apt-get)"
-    { apt-get update && apt-get install -y "$package"; } >/dev/null 2>&1 || true
-    "$@" >/dev/null 2>&1 && return
-    echo "capi: left out: no $package"
-    return 1
-}
 
 # The command's output has to be tests/expected/NAME.
 prints() {
@@ -114,9 +105,8 @@ check_with() {
 # The tests on another machine than this one.
 check_aarch64() {
     local compiler=aarch64-linux-gnu-gcc source
-    has qemu-user-static qemu-aarch64-static --version
-    has gcc-aarch64-linux-gnu "$compiler" --version
-    has libc6-dev-arm64-cross test -e /usr/aarch64-linux-gnu/include/stdio.h
+    { has qemu-user-static qemu-aarch64-static --version && has gcc-aarch64-linux-gnu "$compiler" --version &&
+        has libc6-dev-arm64-cross test -e /usr/aarch64-linux-gnu/include/stdio.h; } || return 0
     runner=qemu-aarch64-static
     for source in $tests tests/stack; do
         runs "$source" "$compiler" -O2 -static
@@ -134,7 +124,7 @@ needs=$(nm "$library" --undefined-only | awk 'NF == 2 { print $2 }' | sort)
 same "names that it needs" "$needs" "$(printf '%s\n' memcpy memmove memset)"
 if [[ $target == aarch64 ]]; then
     check_aarch64
-    echo "capi: aarch64: $passed passed"
+    echo "capi: aarch64: $passed passed, $left_out left out"
     exit 0
 fi
 check_with gcc libasan8
@@ -155,4 +145,4 @@ if has valgrind valgrind --version; then
         prints "$name" valgrind --quiet --error-exitcode=1 --leak-check=full --errors-for-leak-kinds=all "out/$name"
     done
 fi
-echo "capi: $passed passed"
+echo "capi: $passed passed, $left_out left out"

@@ -35,6 +35,9 @@ def new_lab(options):
     set_kernel("tcp_no_metrics_save", 1)
     set_kernel("tcp_rfc1337", 1)
     set_kernel("tcp_rto_max_ms", 1000)
+    # The second program takes seconds for what the library does in one of their thousandths: the kernel doesn't give it up.
+    if options.second:
+        set_kernel("tcp_retries2", 255)
     return Lab(open_tun(), End, options.small)
 
 

@@ -1,27 +1,20 @@
 #!/usr/bin/env bash
-# The library against this machine's Linux kernel. It wants root, /dev/net/tun, ip, ss and tc. Where one is missing it
-# fails, or, with --may-leave-out as its first word, leaves the run out. capi/test.sh makes the shared library, and
-# capi/companions/test.sh the echo server. All other words are live.py's, which runs alone then.
+# The library against this machine's Linux kernel, and the second program of differential/ in its place. It wants root,
+# network namespaces and /dev/net/tun, and installs iproute2 by apt-get; where one is missing it fails, or, with LEAVE_OUT=1
+# in the environment, says so and leaves the run out. capi/test.sh makes the shared library, and capi/companions/test.sh the
+# echo server. Words are live.py's, which runs alone then.
 set -euo pipefail
 cd "$(dirname "$0")"
+test=live
+. ../tests/lib.sh
 
-status=1
-if [[ ${1-} == --may-leave-out ]]; then
-    status=0
-    shift
-fi
-
-leave_out() {
-    echo "live: left out: no $1"
-    exit $status
-}
-
-(($(id -u) == 0)) || leave_out root
-[[ -c /dev/net/tun && -r /dev/net/tun && -w /dev/net/tun ]] || leave_out /dev/net/tun
-command -v ip >/dev/null || leave_out "ip (apt install iproute2)"
-command -v tc >/dev/null || leave_out "tc (apt install iproute2)"
-command -v ss >/dev/null || leave_out "ss (apt install iproute2)"
-unshare --net true 2>/dev/null || leave_out "network namespaces"
+need_network
+need_tun
+install_commands <<'LIST'
+ip iproute2
+tc iproute2
+ss iproute2
+LIST
 if [[ ! -e ${LIBTCPCORE:-../capi/out/libtcpcore.so} ]]; then
     echo "live: no capi/out/libtcpcore.so: run capi/test.sh first"
     exit 1
@@ -31,9 +24,16 @@ if [[ ! -e $echo.gcc ]]; then
     echo "live: no capi/companions/out/echo.gcc: run capi/companions/test.sh first"
     exit 1
 fi
-python3 live.py "$@"
-(($# == 0)) || exit 0
+if (($#)); then
+    exec python3 live.py "$@"
+fi
+python3 live.py
+python3 live.py --second --small 100000
 python3 echo.py $echo.gcc
-# Some machines lack the sanitizers.
-[[ ! -e $echo.sanitized ]] || python3 echo.py $echo.sanitized
+if [[ -e $echo.sanitized ]]; then
+    python3 echo.py $echo.sanitized
+else
+    leave_out "echo server with sanitizers"
+fi
 python3 rate.py $echo.gcc
+echo "live: all passed, $left_out left out"

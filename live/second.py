@@ -25,6 +25,7 @@ class End:
                 "recv": config.recv_capacity,
                 "shift": config.window_shift,
                 "sack": config.sack,
+                "limit": config.limit,
             }
         )
 
@@ -76,6 +77,21 @@ class End:
 
     def status(self):
         model = self.model
-        una = (model.snd_una - model.iss) % SPACE
-        wanted = 1 + model.ordered + model.fin_taken
-        return Status(model.phase, model.ending, len(model.unread), model.released, model.ordered, una, wanted)
+        is_agreed = model.rcv_nxt is not None
+        return Status(
+            phase=model.phase,
+            ending=model.ending,
+            unread=len(model.unread),
+            released=model.released,
+            ordered=model.ordered,
+            una=(model.snd_una - model.iss) % SPACE,
+            next=1 + model.ordered + model.fin_taken,
+            room=min(model.config["send"] - len(model.queue), model.limit - model.accepted),
+            queued=len(model.queue),
+            in_flight=min(max(0, model.place(model.snd_nxt)), len(model.queue)),
+            mss=min(model.config["mss"], model.peer_mss) if is_agreed else 0,
+            own_shift=model.own_shift() if is_agreed else 0,
+            peer_shift=model.peer_shift,
+            scaling=int(model.scaling),
+            sack=int(model.sack),
+        )

@@ -2,13 +2,15 @@
 
 - a block after a comment that names a file, as `<!-- crates/example_lossy_wire/src/wire.rt -->`, is consecutive lines of that file;
 - a path in backquotes that begins with a folder of the repository is there, and so is each `docs/NAME.md`;
-- no line but of a table or of what a program prints is longer than 120 characters.
+- no line but of a table or of what a program prints is longer than 120 characters;
+- README.md names the kit by the line that `rt version` prints.
 
 python3 tests/readme.py prints how many blocks and paths were looked at; it ends with 1 where one is wrong, and where a comment has no block.
 """
 
 import pathlib
 import re
+import subprocess
 import sys
 
 TOP = pathlib.Path(__file__).resolve().parent.parent
@@ -44,6 +46,9 @@ def main():
             if not (TOP / path).exists():
                 wrong.append(f"{name}: {path} isn't there")
         wrong += [f"{name}:{number}: {len(line)} characters" for number, line in enumerate(text.split("\n"), 1) if len(line) > LONGEST and not line.startswith(("|", "    "))]
+    kit = subprocess.run(["rt", "version"], capture_output=True, text=True, check=True).stdout.strip()
+    if not kit or f"`{kit}`" not in (TOP / "README.md").read_text():
+        wrong.append(f"README.md: the kit is {kit}")
     for line in wrong:
         print(line)
     print(f"readme: {blocks} blocks and {paths} paths looked at, {len(wrong)} wrong")

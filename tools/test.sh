@@ -1,26 +1,18 @@
 #!/usr/bin/env bash
-# capture.py under tshark and the built program (the first argument, or crates/tcpkit's own): see test_capture.py. It
-# wants root and network namespaces, and installs tshark and python3-dpkt by apt-get where this machine lacks them;
-# where it can't, it fails, or, with --may-leave-out as its first word, leaves the run out.
+# capture.py under tshark and the built program (the first argument, or crates/tcpkit's own): see test_capture.py. It wants
+# root and network namespaces, and installs tshark and python3-dpkt by apt-get where this machine lacks them; where it can't,
+# it fails, or, with LEAVE_OUT=1 in the environment, says so and leaves the run out.
 set -euo pipefail
 cd "$(dirname "$0")"
-status=1
-if [[ ${1-} == --may-leave-out ]]; then
-    status=0
-    shift
-fi
-program=$(realpath "${1:-../crates/tcpkit/out/tcpkit}")
+test=capture
+. ../tests/lib.sh
+program=$(realpath -m "${1:-../crates/tcpkit/out/tcpkit}")
 
-leave_out() {
-    echo "capture: left out: no $1"
-    exit $status
-}
-
-(($(id -u) == 0)) || leave_out root
-unshare --net true 2>/dev/null || leave_out "network namespaces"
-if ! command -v tshark >/dev/null || ! /usr/bin/python3 -c 'import dpkt' 2>/dev/null; then
-    echo "capture: installs tshark and python3-dpkt (apt-get)"
-    { apt-get update && DEBIAN_FRONTEND=noninteractive apt-get install -y --no-install-recommends tshark python3-dpkt \
-        iproute2; } >/dev/null 2>&1 || leave_out "tshark and python3-dpkt"
-fi
+need_network
+install_commands <<'LIST'
+ip iproute2
+tshark tshark
+LIST
+/usr/bin/python3 -c 'import dpkt' 2>/dev/null || install_packages python3-dpkt || leave_out_all python3-dpkt
+[[ -e $program ]] || { echo "capture: no $program: run 'rt run' in crates/tcpkit"; exit 1; }
 exec /usr/bin/python3 test_capture.py "$program"

@@ -1,12 +1,14 @@
 #!/usr/bin/python3
 """capture.py against tshark and tcpkit: test_capture.py TCPKIT
 
-Scripts become captures whose segments tshark reads as the program's report has them; connections of two kernels are
-captured, and the program reads of their listing what tshark reads of the capture. It wants root, ip, tshark and dpkt.
+Scripts become captures whose segments tshark reads as the program's report has them, and those that the program refuses
+are refused alike; connections of two kernels are captured, and the program reads of their listing what tshark reads of the
+capture. What isn't there, or is no capture, is told in one line. It wants root, ip, tshark and dpkt.
 """
 
 import os
 import pathlib
+import struct
 import subprocess
 import sys
 import tempfile
@@ -15,7 +17,7 @@ import time
 HERE = pathlib.Path(__file__).resolve().parent
 SCRIPTS = HERE.parent / "crates/test_scripts/data"
 FLAGS = "CWR ECE URG ACK PSH RST SYN FIN".split()
-FIELDS = "tcp.stream ip.src ip.dst tcp.srcport tcp.dstport tcp.seq_raw tcp.ack_raw tcp.flags tcp.window_size_value tcp.urgent_pointer tcp.options tcp.payload tcp.checksum.status frame.time_epoch".split()
+FIELDS = "tcp.stream ip.src ip.dst tcp.srcport tcp.dstport tcp.seq_raw tcp.ack_raw tcp.flags tcp.window_size_value tcp.urgent_pointer tcp.options tcp.payload tcp.checksum.status frame.time_epoch ip.version frame.cap_len frame.len".split()
 CLIENT, SERVER = "capture-client", "capture-server"
 
 
@@ -26,6 +28,12 @@ def run(*words, **rest):
 
 def capture(*words):
     return run("/usr/bin/python3", HERE / "capture.py", *words)
+
+
+def told(*words):
+    """The status of capture.py, what it writes, and its lines on standard error."""
+    done = subprocess.run(["/usr/bin/python3", HERE / "capture.py", *map(str, words)], text=True, capture_output=True)
+    return done.returncode, done.stdout, done.stderr.splitlines()
 
 
 def need(what, found, wanted):
@@ -42,6 +50,7 @@ def tshark(path):
     words = ["-o", "tcp.check_checksum:TRUE", "-o", "tcp.relative_sequence_numbers:FALSE", "-T", "fields", "-E",
              "occurrence=f", *(word for field in FIELDS for word in ("-e", field))]
     rows = [dict(zip(FIELDS, line.split("\t"))) for line in run("tshark", "-r", path, "-Y", "tcp", *words).splitlines()]
+    rows = [row for row in rows if row["tcp.stream"]]
     for row in rows:
         row["flags"] = names(int(row["tcp.flags"], 16) & 255)
         row["options"] = bytes.fromhex(row["tcp.options"])
@@ -82,9 +91,9 @@ def check_listing(tcpkit, path, folder):
     rows = tshark(path)
     listing = folder / "listing"
     listing.write_text(capture("listing", path, "--mend"))
-    told = run(tcpkit, "decode", listing).splitlines()
-    need("total", told.pop(), f"total {len(rows)} malformed 0")
-    for number, (found, row) in enumerate(zip(told, rows, strict=True), 1):
+    decoded = run(tcpkit, "decode", listing).splitlines()
+    need("total", decoded.pop(), f"total {len(rows)} malformed 0")
+    for number, (found, row) in enumerate(zip(decoded, rows, strict=True), 1):
         need(f"line {number}", found, line_of(number, row))
     addresses = [f"{row['ip.src']} {row['ip.dst']}" for row in rows]
     need("addresses", [line.rsplit(" ", 1)[0] for line in listing.read_text().splitlines()], addresses)
@@ -98,15 +107,26 @@ def check_listing(tcpkit, path, folder):
     # Without --mend the program finds the same wrong checksums as tshark.
     bad = sum(row["tcp.checksum.status"] == "0" for row in rows)
     listing.write_text(capture("listing", path))
-    told = subprocess.run([tcpkit, "decode", listing], text=True, stdout=subprocess.PIPE).stdout.splitlines()
-    need("wrong checksums", sum(" malformed 3 BadChecksum" in line for line in told), bad)
+    decoded = subprocess.run([tcpkit, "decode", listing], text=True, stdout=subprocess.PIPE).stdout.splitlines()
+    need("wrong checksums", sum(" malformed 3 BadChecksum" in line for line in decoded), bad)
     return len(rows)
+
+
+def check_refused(fault, script, folder):
+    """A script that the program refuses is refused with the same words behind the script's name, and nothing is written."""
+    path = folder / "refused.pcap"
+    status, written, lines = told("replay", script, path)
+    front = fault.replace("tcpkit: ", f"capture.py: {script}: ")
+    need(f"{script}: status, output, lines", (status, written, len(lines)), (2, "", 1))
+    need(f"{script}: fault", lines[0].startswith(f"{front}: "), True)
+    need(f"{script}: a capture", path.exists(), False)
 
 
 def check_script(tcpkit, script, folder):
     """What the report says of each emission, tshark says of the capture's packet, in the second of its line."""
-    done = subprocess.run([tcpkit, "replay", script], text=True, stdout=subprocess.PIPE, stderr=subprocess.DEVNULL)
+    done = subprocess.run([tcpkit, "replay", script], text=True, capture_output=True)
     if done.returncode == 2:
+        check_refused(done.stderr.rstrip("\n"), script, folder)
         return 0
     events = [number for number, line in enumerate(script.read_text().split("\n"), 1)
               if line and not line.startswith(("#", "config ", "tcpkit "))]
@@ -126,6 +146,99 @@ def check_script(tcpkit, script, folder):
         need("second", int(float(row["frame.time_epoch"])), events[int(words[0]) - 1])
     need(f"{script.name}: checksums", {row["tcp.checksum.status"] for row in rows} <= {"1"}, True)
     return len(rows) and check_listing(tcpkit, path, folder)
+
+
+def check_refused_lines(tcpkit, folder):
+    """Each line of these is a script of its own, most of which the program refuses."""
+    script, count = folder / "line.script", 0
+    lines = [line for name in ("lines", "ends") for line in (SCRIPTS / f"cases/refused-{name}.scripts").read_bytes().split(b"\n")]
+    for line in [*lines, b"config A mss 9000"]:
+        script.write_bytes(line)
+        done = subprocess.run([tcpkit, "replay", script], text=True, capture_output=True)
+        if done.returncode == 2:
+            check_refused(done.stderr.rstrip("\n"), script, folder)
+            count += 1
+    need("refused lines", count > 60, True)
+
+
+def check_faults(folder):
+    """What can't be read or written is one line and status 2, and nothing is written."""
+    script, capture_file, text, cut = (folder / name for name in ("good.script", "good.pcap", "text", "cut.pcap"))
+    script.write_text("listen B\nconnect A\nemit A\n")
+    capture("replay", script, capture_file)
+    text.write_text("no capture\n" * 10)
+    cut.write_bytes(capture_file.read_bytes()[:30])
+    missing, kept = folder / "missing", script.read_bytes()
+    cases = [(command, path) for command in ("streams", "listing") for path in (missing, folder, text, cut, script, "-", "/dev/null")]
+    cases += [("replay", path, folder / "new.pcap") for path in (missing, folder, capture_file, "-")]
+    cases += [("replay", script, path) for path in (missing / "new.pcap", folder, script, "-")]
+    for words in cases:
+        status, written, lines = told(*words)
+        need(f"{words}: status, output, lines", (status, written, len(lines)), (2, "", 1))
+        need(f"{words}: one line", lines[0].startswith("capture.py: "), True)
+    need("written", [(folder / "new.pcap").exists(), missing.exists(), script.read_bytes()], [False, False, kept])
+
+
+def segment(ports, seq, bits, text=b""):
+    """A segment with a wrong checksum."""
+    return struct.pack(">HHIIBBHHH", *ports, seq, 0, 5 << 4, bits, 1000, 0xBAD, 0) + text
+
+
+def packet_4(data):
+    return struct.pack(">BBHHHBBH8s", 0x45, 0, 20 + len(data), 0, 0, 64, 6, 0, bytes([10, 0, 0, 1, 10, 0, 0, 2])) + data
+
+
+def packet_6(data, options=b""):
+    """One of IPv6, with a header of options between."""
+    kind = 60 if options else 6
+    return struct.pack(">IHBB", 6 << 28, len(options + data), kind, 64) + bytes(15) + b"\1" + bytes(15) + b"\2" + options + data
+
+
+def write_capture(path, packets):
+    """A capture of raw packets, of each no more bytes than its number says."""
+    head = struct.pack("<IHHiIII", 0xA1B2C3D4, 2, 4, 0, 0, 65535, 101)
+    rows = [struct.pack("<IIII", at, 0, min(most, len(data)), len(data)) + data[:most] for at, (data, most) in enumerate(packets)]
+    path.write_bytes(head + b"".join(rows))
+
+
+def check_streams(folder):
+    """Connections have tshark's numbers, with IPv6 and packets that were cut short between them; what is left out is told."""
+    syn, path, whole = 2, folder / "streams.pcap", 65535
+    packets = [
+        (packet_6(segment((1, 2), 10, syn)), whole),
+        (packet_4(segment((1, 2), 10, syn)), whole),
+        (packet_6(segment((3, 4), 10, syn), bytes([6, 0, 1, 4, 0, 0, 0, 0])), whole),
+        (packet_4(segment((5, 6), 10, 16, bytes(50))), 40),
+        (packet_4(segment((7, 8), 10, 16, bytes(50))), 30),
+        (packet_4(segment((9, 10), 10, 16, b"x")), whole),
+        (packet_4(segment((7, 8), 60, 16, b"y")), whole),
+        # The same sockets again: another number, the same number, and after a beginning that wasn't seen.
+        (packet_4(segment((1, 2), 99, syn)), whole),
+        (packet_4(segment((1, 2), 99, syn)), whole),
+        (packet_4(segment((9, 10), 500, syn)), whole),
+        (packet_4(segment((5, 6), 60, 16, b"z")), whole),
+    ]
+    write_capture(path, packets)
+    rows, counts = tshark(path), {}
+    for row in rows:
+        if row["ip.version"] == "4" and row["frame.cap_len"] == row["frame.len"]:
+            counts[row["tcp.stream"]] = counts.get(row["tcp.stream"], 0) + 1
+    status, written, lines = told("streams", path)
+    need("streams", {line.split()[0]: int(line.split()[5]) for line in written.splitlines()}, counts)
+    need("streams of both kinds", (len(counts), status), (6, 0))
+    need("left out", lines, ["capture.py: left out 2 packets that were cut short, 2 packets of IPv6"])
+    for stream, count in counts.items():
+        need(f"stream {stream}", len(capture("listing", path, "--stream", stream).splitlines()), count)
+
+
+def check_hint(folder):
+    """Where most checksums are wrong the listing hints at --mend, and nowhere else."""
+    wrong, script, right = folder / "wrong.pcap", folder / "right.script", folder / "right.pcap"
+    write_capture(wrong, [(packet_4(segment((1, 2), 10, 2)), 65535)] * 3)
+    script.write_text("connect A\nemit A\n")
+    capture("replay", script, right)
+    hint = "capture.py: 3 of 3 checksums are wrong: of packets captured where they were sent --mend makes them right"
+    need("hint", [told("listing", *words)[2] for words in ((wrong,), (wrong, "--mend"), (right,))], [[hint], [], []])
 
 
 def make_namespaces():
@@ -196,6 +309,10 @@ def main():
         packets = [check_script(tcpkit, script, folder) for script in sorted(SCRIPTS.rglob("*.script"))]
         need("scripts with packets", sum(count > 0 for count in packets) > 20, True)
         passed += len(packets)
+        check_refused_lines(tcpkit, folder)
+        for check in check_faults, check_streams, check_hint:
+            check(folder)
+        passed += 4
         make_namespaces()
         try:
             for kind in "pcap", "pcapng":
@@ -205,7 +322,7 @@ def main():
         finally:
             for name in CLIENT, SERVER:
                 run("ip", "netns", "delete", name)
-    print(f"capture: {passed} passed, {sum(packets)} packets of scripts")
+    print(f"capture: {passed} passed, {sum(packets)} packets of scripts, 0 left out")
 
 
 if __name__ == "__main__":

@@ -1,6 +1,7 @@
 /* The connections of the namespace (see usernet.h). C over tcpcore.h and its companions, tested and not proved. */
 #define _GNU_SOURCE
 #include "usernet.h"
+#include "companions/segment.h"
 
 #include <errno.h>
 #include <netinet/in.h>
@@ -11,16 +12,9 @@
 #include <sys/socket.h>
 #include <unistd.h>
 
-/* The control bits (RFC 9293, 3.1). */
-enum { FIN = 1, SYN = 2, RST = 4, ACK = 16 };
-
 static const struct timers_rules RULES = {
     .first_rto = 1000, .least_rto = 200, .greatest_rto = 60000, .granularity = 1, .time_wait = 2000,
     .r1 = 3, .r2 = 100000, .syn_limit = 180000, .syn_ack_limit = 60000};
-
-static uint16_t read16(const uint8_t *at) { return (uint16_t)(at[0] << 8 | at[1]); }
-
-static uint32_t read32(const uint8_t *at) { return (uint32_t)read16(at) << 16 | read16(at + 2); }
 
 /* A pair is its connection's first field. */
 static struct conn *conn_of(struct pair *pair) { return (struct conn *)(void *)pair; }
@@ -136,7 +130,7 @@ static void open_conn(struct usernet *net, const struct pair *key, const struct 
     if (conn) {
         memcpy(kept, packet->segment, packet->length);
         conn->kept = kept, conn->kept_end = packet->length;
-        conn->first = read32(kept + 4);
+        conn->first = read32(kept + AT_SEQ);
         if ((connect(host, (struct sockaddr *)&to, sizeof to) == 0 || errno == EINPROGRESS) && watch(net, conn))
             return;
         drop(net, conn, 1);
@@ -172,7 +166,7 @@ void conn_publish(struct usernet *net, int socket, uint16_t port)
 static int reopens(const struct conn *conn, const uint8_t *bytes)
 {
     struct tcpcore_status status = status_of(conn);
-    uint32_t after = read32(bytes + 4) - (conn->first + (uint32_t)status.next);
+    uint32_t after = read32(bytes + AT_SEQ) - (conn->first + (uint32_t)status.next);
     return status.phase == TCPCORE_PHASE_TIME_WAIT && after < UINT32_C(1) << 31;
 }
 
@@ -185,7 +179,7 @@ void arrive(struct usernet *net, const struct ip_packet *packet)
     }
     struct pair key = {packet->src, packet->dst, read16(bytes), read16(bytes + 2), NULL};
     struct conn *conn = conn_of(pairs_find(&net->pairs, &key));
-    int opens = (bytes[13] & (SYN | ACK | RST | FIN)) == SYN;
+    int opens = bits_of(bytes, SYN | ACK | RST | FIN) == SYN;
     if (conn && conn->is_open && opens && reopens(conn, bytes))
         drop(net, conn, 0), conn = NULL;
     if (!conn && opens) {
@@ -201,7 +195,7 @@ void arrive(struct usernet *net, const struct ip_packet *packet)
         if (at_once)
             emit(net, conn); /* out of order, or a gap was filled (RFC 5681, 4.2) */
         wheel_wake(&net->wheel, &conn->node);
-    } else if (bytes[13] & RST) {
+    } else if (bits_of(bytes, RST)) {
         drop(net, conn, 1); /* the client doesn't wait for the host any longer */
     }
 }

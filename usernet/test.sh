@@ -1,31 +1,17 @@
 #!/usr/bin/env bash
-# usernet under real clients, in namespaces of its own: usernet/test.sh [--may-leave-out] [LIBRARY] [WORD ..]. The words
-# behind are test.py's: --short, or --only WORD. It wants root, /dev/net/tun and ip; where one is missing it fails, or,
-# with --may-leave-out, leaves the run out. It installs packages by apt-get where this machine lacks them.
+# usernet under real clients, in namespaces of its own: usernet/test.sh [LIBRARY] [WORD ..]. The words behind are test.py's:
+# --short, or --only WORD. It wants root, network namespaces and /dev/net/tun, and installs packages by apt-get where this
+# machine lacks them; where one is missing it fails, or, with LEAVE_OUT=1 in the environment, says so and leaves the run out.
 set -euo pipefail
 cd "$(dirname "$0")"
-
-status=1
-if [[ ${1-} == --may-leave-out ]]; then
-    status=0
-    shift
-fi
-library=$(realpath "${1:-../crates/tcp_c/out/libtcp_c.a}")
+test=usernet
+. ../tests/lib.sh
+library=$(realpath -m "${1:-../crates/tcp_c/out/libtcp_c.a}")
 shift || true
 
-leave_out() {
-    echo "usernet: left out: no $1"
-    exit $status
-}
-
-(($(id -u) == 0)) || leave_out root
-[[ -c /dev/net/tun && -r /dev/net/tun && -w /dev/net/tun ]] || leave_out /dev/net/tun
-unshare --net true 2>/dev/null || leave_out "network namespaces"
-
-packages=()
-while read -r command package; do
-    command -v "$command" >/dev/null || packages+=("$package")
-done <<'LIST'
+need_network
+need_tun
+install_commands <<'LIST'
 ip iproute2
 curl curl
 git git
@@ -37,10 +23,6 @@ psql postgresql
 sshd openssh-server
 scp openssh-client
 LIST
-if ((${#packages[@]})); then
-    echo "usernet: installs ${packages[*]} (apt-get)"
-    { apt-get update && DEBIAN_FRONTEND=noninteractive apt-get install -y --no-install-recommends "${packages[@]}"; } \
-        >/dev/null 2>&1 || leave_out "${packages[*]}"
-fi
+[[ -e $library ]] || { echo "usernet: no $library: run 'rt lib' in crates/tcp_c"; exit 1; }
 ./build.sh "$library"
 exec python3 test.py "$@"

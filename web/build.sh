@@ -25,7 +25,7 @@ listed=$(
     sed -n 's/^tcp_web staticlib:/tcp_web wasm64 memory=268435456 stack=1048576:/p' crates.txt
 )
 echo "$listed" >"$place/crates.txt"
-(cd "$place/crates/tcp_web" && nice -n 5 rt lib)
+(cd "$place/crates/tcp_web" && rt lib)
 cp "$place/crates/tcp_web/out/tcp_web.wasm" web/out/tcp_web.wasm
 ls -l web/out/tcp_web.wasm
 python3 web/pack.py web/out/tcp_web.wasm web/out/tcp.html

@@ -94,13 +94,34 @@ void congestion_resent(struct congestion *congestion, uint64_t bytes)
     congestion->credit -= (int64_t)bytes;
 }
 
+/* A round trip of which nothing is known is no shorter than a millisecond. */
+static uint64_t bounded(uint64_t trip) { return greater(trip, 1000); }
+
+/* What may go out again at `now`: what was left then, and what the time since is worth, a window for a round trip; of it no
+   more than a quarter of the window goes out at once. */
+static int64_t credit_at(const struct congestion *congestion, uint64_t now, uint64_t trip)
+{
+    uint64_t passed = smaller(1000 * (now - congestion->counted), bounded(trip));
+    int64_t credit = congestion->credit + (int64_t)(passed * congestion->cwnd / bounded(trip));
+    int64_t most = (int64_t)greater(LEAST * congestion->mss, congestion->cwnd / 4);
+    return credit < most ? credit : most;
+}
+
+/* Time counts as spent once it was worth a byte that may go out: a fraction of one isn't lost, however often it is asked. */
 int congestion_may_resend(struct congestion *congestion, uint64_t now, uint64_t trip)
 {
-    uint64_t earned = smaller(now - congestion->counted, 1000) * 1000 * congestion->cwnd / greater(trip, 1000);
-    int64_t most = (int64_t)greater(LEAST * congestion->mss, congestion->cwnd / 4);
-    congestion->credit += (int64_t)earned;
-    if (congestion->credit > most)
-        congestion->credit = most;
+    int64_t credit = credit_at(congestion, now, trip);
+    if (credit <= 0)
+        return 0;
+    congestion->credit = credit;
     congestion->counted = now;
-    return congestion->again < congestion->cwnd && congestion->credit > 0;
+    return congestion->again < congestion->cwnd;
+}
+
+uint64_t congestion_resend_at(const struct congestion *congestion, uint64_t trip)
+{
+    uint64_t lacks = congestion->credit > 0 ? 0 : (uint64_t)(1 - congestion->credit), each = 1000 * congestion->cwnd;
+    if (congestion->again >= congestion->cwnd)
+        return UINT64_MAX;
+    return congestion->counted + (lacks * bounded(trip) + each - 1) / each;
 }

@@ -68,4 +68,7 @@ void congestion_resent(struct congestion *congestion, uint64_t bytes);
  */
 int congestion_may_resend(struct congestion *congestion, uint64_t now, uint64_t trip);
 
+/* When congestion_may_resend will say so, if nothing is acknowledged before; UINT64_MAX where it won't. */
+uint64_t congestion_resend_at(const struct congestion *congestion, uint64_t trip);
+
 #endif

@@ -1,10 +1,6 @@
 /* Many ends at one port (see demux.h). C over tcpcore.h, flow.h and table.h, tested and not proved. */
 #include "demux.h"
-
-/* The control bits (RFC 9293, 3.1). */
-enum { SYN = 2, RST = 4, ACK = 16, LEAST_SEGMENT = 20 };
-
-static uint16_t read16(const uint8_t *at) { return (uint16_t)(at[0] << 8 | at[1]); }
+#include "segment.h"
 
 int demux_init(struct demux *demux, const struct demux_config *config, struct table_slot *slots, uint32_t count)
 {
@@ -46,7 +42,7 @@ static void stray(struct demux *demux, tcpcore_addr src, const uint8_t *bytes, s
     int is_served = read16(bytes + 2) == demux->config.end.port;
     if (demux->second != now / 1000)
         demux->second = now / 1000, demux->answered = 0;
-    if ((is_served && !(bytes[13] & ACK)) ||
+    if ((is_served && !bits_of(bytes, ACK)) ||
         tcpcore_stray_reset(src, demux->config.end.addr, bytes, length, reset, sizeof reset, &written) != TCPCORE_DONE)
         return;
     if (demux->answered >= demux->config.strays) {
@@ -119,7 +115,7 @@ void demux_arrive(struct demux *demux, tcpcore_addr src, const void *segment, si
 {
     const uint8_t *bytes = segment;
     demux->counters.arrived++;
-    if (length < LEAST_SEGMENT) {
+    if (length < SEGMENT_HEADER) {
         demux->counters.malformed++;
         return;
     }
@@ -127,7 +123,7 @@ void demux_arrive(struct demux *demux, tcpcore_addr src, const void *segment, si
     struct table_slot *slot = is_served ? table_find(&demux->table, src, read16(bytes)) : NULL;
     if (slot)
         deal(demux, slot, bytes, length, now);
-    else if (is_served && (bytes[13] & (SYN | ACK | RST)) == SYN)
+    else if (is_served && bits_of(bytes, SYN | ACK | RST) == SYN)
         open_end(demux, src, bytes, length, now);
     else
         stray(demux, src, bytes, length, now);

@@ -1,12 +1,12 @@
 /* The flow of one end (see flow.h). C over tcpcore.h, timers.h and congestion.h, tested and not proved. */
 #include "flow.h"
+#include "segment.h"
 
 #include <limits.h>
 #include <string.h>
 
-/* A control bit, the bytes of a header without options (RFC 9293, 3.1), and how many segments are acknowledged at once
-   (RFC 5681, 4.2). */
-enum { ACK = 16, HEADER = 20, ANSWERED = 2 };
+/* So many segments are acknowledged at once (RFC 5681, 4.2). */
+enum { ANSWERED = 2 };
 
 static uint64_t smaller(uint64_t a, uint64_t b) { return a < b ? a : b; }
 
@@ -27,8 +27,6 @@ static struct tcpcore_status status_of(const tcpcore_end *end)
     tcpcore_status(end, &status);
     return status;
 }
-
-static size_t header_of(const uint8_t *segment) { return 4 * (size_t)(segment[12] >> 4); }
 
 /* `moved` bytes of text have come in order. */
 static void received(struct flow *flow, uint64_t moved, uint32_t at_once, uint64_t now)
@@ -53,11 +51,11 @@ uint32_t flow_arrive(struct flow *flow, tcpcore_end *end, tcpcore_addr src, tcpc
     struct tcpcore_status after = status_of(end);
     if (answer == TCPCORE_DONE) {
         timers_arrived(&flow->timers, segment, length, now);
-        flow->is_shut = segment[13] & ACK && segment[14] == 0 && segment[15] == 0;
+        flow->is_shut = bits_of(segment, ACK) && read16(segment + AT_WINDOW) == 0;
     }
     if (after.mss > 0)
         congestion_agreed(&flow->congestion, after.mss);
-    int tells_blocks = length == header_of(segment) && length > HEADER;
+    int tells_blocks = length == header_of(segment) && length > SEGMENT_HEADER;
     congestion_acknowledged(&flow->congestion, after.released, tells_blocks);
     received(flow, after.next - before.next, at_once, now);
     return answer;
@@ -67,7 +65,10 @@ size_t flow_room(const struct flow *flow, size_t length)
 {
     uint64_t flight = flow->congestion.given - flow->congestion.released;
     uint64_t room = smaller(congestion_room(&flow->congestion), flow->sends - flight);
-    return length <= room ? length : (size_t)(flight == 0 ? room : room - room % flow->congestion.mss);
+    uint64_t whole = room - room % (flow->congestion.mss - flow->options);
+    if (length <= room)
+        return length;
+    return (size_t)(whole == 0 && flight == 0 ? room : whole);
 }
 
 uint32_t flow_send(struct flow *flow, tcpcore_end *end, const void *text, size_t length, size_t *taken)
@@ -115,14 +116,19 @@ static int answers_alone(const tcpcore_end *end)
 {
     uint32_t phase = status_of(end).phase, length = 0;
     tcpcore_pending(end, &length);
-    return length == HEADER && (phase == TCPCORE_PHASE_ESTABLISHED || phase == TCPCORE_PHASE_FIN_WAIT_2);
+    return length == SEGMENT_HEADER && (phase == TCPCORE_PHASE_ESTABLISHED || phase == TCPCORE_PHASE_FIN_WAIT_2);
+}
+
+/* The round trip, in microseconds: the timeout where none was measured. */
+static uint64_t trip_of(const struct flow *flow)
+{
+    return flow->timers.samples > 0 ? flow->timers.srtt : 1000 * (uint64_t)flow->timers.rto;
 }
 
 /* Whether what is due waits: what goes out again for its pace, and an acknowledgement for a second segment. */
 static int waits(struct flow *flow, const tcpcore_end *end, uint64_t now)
 {
-    uint64_t trip = flow->timers.samples > 0 ? flow->timers.srtt : 1000 * (uint64_t)flow->timers.rto;
-    if (flow->is_resending && !congestion_may_resend(&flow->congestion, now, trip))
+    if (flow->is_resending && !congestion_may_resend(&flow->congestion, now, trip_of(flow)))
         return !flow->is_owed;
     return !flow->is_owed && flow->unanswered > 0 && now < flow->answer_at && answers_alone(end);
 }
@@ -148,7 +154,9 @@ static void sent(struct flow *flow, const tcpcore_end *end, const uint8_t *segme
     }
     if (text > 0)
         flow->sent_at = now;
-    if (segment[13] & ACK) {
+    if (!bits_of(segment, SYN))
+        flow->options = (uint32_t)(header_of(segment) - SEGMENT_HEADER);
+    if (bits_of(segment, ACK)) {
         answered(flow);
         flow->edge = edge_of(flow, &status);
     }
@@ -157,7 +165,10 @@ static void sent(struct flow *flow, const tcpcore_end *end, const uint8_t *segme
 uint32_t flow_emit(struct flow *flow, tcpcore_end *end, void *out, size_t room, tcpcore_addr *to, size_t *length,
                    uint64_t now)
 {
-    if (to && length && waits(flow, end, now)) {
+    /* Which tcpcore_emit refuses. */
+    if (!to || !length)
+        return tcpcore_emit(end, out, room, to, length);
+    if (waits(flow, end, now)) {
         *to = (tcpcore_addr){{0, 0, 0, 0}};
         *length = 0;
         return TCPCORE_NOT_DUE;
@@ -174,9 +185,8 @@ uint32_t flow_emit(struct flow *flow, tcpcore_end *end, void *out, size_t room, 
 
 int flow_wait(const struct flow *flow, uint64_t now)
 {
-    const struct congestion *congestion = &flow->congestion;
-    int is_paced = flow->is_resending && congestion->again < congestion->cwnd;
-    uint64_t at = smaller(flow->answer_at, is_paced ? congestion->counted + 1 : TIMERS_NEVER);
+    uint64_t paced = flow->is_resending ? congestion_resend_at(&flow->congestion, trip_of(flow)) : TIMERS_NEVER;
+    uint64_t at = smaller(flow->answer_at, paced);
     uint64_t span = at <= now ? 0 : smaller(at - now, INT_MAX);
     int wait = timers_wait(&flow->timers, now);
     return at != TIMERS_NEVER && (wait < 0 || span < (uint64_t)wait) ? (int)span : wait;

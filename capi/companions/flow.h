@@ -31,6 +31,7 @@ struct flow {
     uint64_t answer_at;     /* when they have to be acknowledged, or TIMERS_NEVER */
     uint64_t edge;          /* the right edge of the window that was told, as a position of the peer's direction */
     uint64_t resent;        /* segments that were sent again */
+    uint32_t options;       /* bytes of options in the last segment behind the handshake, of which its text has so many fewer */
     uint8_t is_shut;        /* the peer's window is */
     uint8_t is_resending;   /* what goes out next may go out again */
     uint8_t is_owed;        /* an acknowledgement may not wait */

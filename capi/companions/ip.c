@@ -1,20 +1,13 @@
 /* The IPv4 header around a TCP segment (see ip.h). C beside tcpcore.h, tested and not proved. */
 #include "ip.h"
+#include "segment.h"
 
 #include <string.h>
 
 /* Of the header (RFC 791, 3.1). */
 enum { PROTOCOL_TCP = 6, TIME_TO_LIVE = 64, DONT_FRAGMENT = 0x4000, MORE_OR_OFFSET = 0x3fff, MOST = 65535 };
 
-static uint32_t read16(const uint8_t *at) { return (uint32_t)at[0] << 8 | at[1]; }
-
-static void write16(uint8_t *at, uint32_t value)
-{
-    at[0] = (uint8_t)(value >> 8);
-    at[1] = (uint8_t)value;
-}
-
-static uint32_t number(tcpcore_addr addr) { return read16(addr.byte) << 16 | read16(addr.byte + 2); }
+static uint32_t number(tcpcore_addr addr) { return read32(addr.byte); }
 
 /* The one's complement sum of a header (RFC 1071, 1); of one with its checksum in place it is 65,535. */
 static uint32_t sum(const uint8_t *header, size_t length)
@@ -74,13 +67,13 @@ size_t ip_write(void *out, tcpcore_addr src, tcpcore_addr dst, size_t length)
         return 0;
     memset(at, 0, IP_HEADER);
     at[0] = 4 << 4 | IP_HEADER / 4;
-    write16(at + 2, (uint32_t)length + IP_HEADER);
+    write16(at + 2, (uint16_t)(length + IP_HEADER));
     /* What is never fragmented needs no identification (RFC 6864, 4.1). */
     write16(at + 6, DONT_FRAGMENT);
     at[8] = TIME_TO_LIVE;
     at[9] = PROTOCOL_TCP;
     memcpy(at + 12, &src, 4);
     memcpy(at + 16, &dst, 4);
-    write16(at + 10, MOST - sum(at, IP_HEADER));
+    write16(at + 10, (uint16_t)(MOST - sum(at, IP_HEADER)));
     return length + IP_HEADER;
 }

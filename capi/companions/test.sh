@@ -1,20 +1,21 @@
 #!/usr/bin/env bash
 # Builds the companions and their tests with gcc and clang over a static library (the first argument, or crates/tcp_c's
-# own), and runs them, also under sanitizers and valgrind; what is missing is left out and told. It builds the echo server
-# on them, too, which live/run.sh runs against this machine's kernel.
+# own), and runs them, also under sanitizers and valgrind. It builds the echo server on them, too, which live/run.sh runs
+# against this machine's kernel. It installs clang, valgrind and the sanitizers by apt-get where this machine lacks them;
+# where that fails it fails, or, with LEAVE_OUT=1 in the environment, says what it leaves out.
 # Stops at the first failure.
 set -euo pipefail
 cd "$(dirname "$0")"
-library=$(realpath "${1:-../../crates/tcp_c/out/libtcp_c.a}")
+test=companions
+. ../../tests/lib.sh
+library=$(realpath -m "${1:-../../crates/tcp_c/out/libtcp_c.a}")
 warnings="-std=c11 -g -Wall -Wextra -Wpedantic -Werror"
 stricter="-Wcast-qual -Wconversion -Wshadow -Wstrict-prototypes"
 sanitizers="-O1 -fsanitize=address,undefined -fno-sanitize-recover=all"
-tests="timers flow ip demux faults pairs trains wheel"
+tests="timers congestion flow ip demux faults pairs trains wheel"
 passed=0
 
 pass() { passed=$((passed + 1)); }
-
-leave_out() { echo "companions: left out: no $1"; }
 
 # All companions and the layer in out/VARIANT, built once for all programs; the words behind are the compiler's.
 objects() {
@@ -57,8 +58,11 @@ check_file() {
         '$1 == "U" && $2 !~ /^(tcpcore|timers|congestion|flow|ip|table)_|^TIMERS_RULES$|^mem(cpy|move|set|cmp)$/'
 }
 
+# All under sanitizers, and the echo server.
+sanitized() { objects "$1" "$1" $sanitizers && build "$1" ../examples/echo.c echo.sanitized "$1" $sanitizers; }
+
 check_with() {
-    local compiler=$1 name level
+    local compiler=$1 package=$2 name level
     for name in timers congestion flow ip table demux faults pairs trains wheel; do
         check_file "$compiler" "$name"
     done
@@ -73,26 +77,23 @@ check_with() {
     done
     build "$compiler-O2" ../examples/echo.c "echo.$compiler" "$compiler" $stricter -Wno-cast-qual -O2
     pass
-    if ! { objects "$compiler" "$compiler" $sanitizers &&
-        build "$compiler" ../examples/echo.c echo.sanitized "$compiler" $sanitizers; } 2>out/errors; then
-        leave_out "sanitizers of $compiler"
-        return
+    if has "$package" sanitized "$compiler"; then
+        for name in $tests; do
+            build "$compiler" "tests/$name.c" "$name.sanitized" "$compiler" $sanitizers
+            runs "out/$name.sanitized"
+        done
     fi
-    for name in $tests; do
-        build "$compiler" "tests/$name.c" "$name.sanitized" "$compiler" $sanitizers
-        runs "out/$name.sanitized"
-    done
 }
 
 [[ -e $library ]] || { echo "companions: no $library: run 'rt lib' in crates/tcp_c"; exit 1; }
 mkdir -p out
-check_with gcc
-if command -v clang >/dev/null; then check_with clang; else leave_out clang; fi
-if command -v valgrind >/dev/null; then
+check_with gcc libasan8
+if has clang clang --version; then
+    check_with clang libclang-rt-14-dev
+fi
+if has valgrind valgrind --version; then
     for name in $tests; do
         runs valgrind --quiet --error-exitcode=1 --leak-check=full --errors-for-leak-kinds=all "out/$name-O0.gcc"
     done
-else
-    leave_out valgrind
 fi
-echo "companions: $passed passed"
+echo "companions: $passed passed, $left_out left out"

@@ -1,11 +1,9 @@
 /* The times of one end (see timers.h). C over tcpcore.h, tested and not proved. */
 #include "timers.h"
+#include "segment.h"
 
 #include <limits.h>
 #include <string.h>
-
-/* The control bits (RFC 9293, 3.1). */
-enum { FIN = 1, SYN = 2, RST = 4, ACK = 16 };
 
 /* After a SYN that was sent again the timeout begins here (RFC 6298, 5.7). */
 enum { AFTER_SYN_RESENT = 3000 };
@@ -22,11 +20,6 @@ void timers_init(struct timers *timers, const struct timers_rules *rules)
     timers->timed_at = TIMERS_NEVER;
     for (int timer = 0; timer < 3; timer++)
         timers->deadline[timer] = TIMERS_NEVER;
-}
-
-static uint32_t read32(const uint8_t *at)
-{
-    return (uint32_t)at[0] << 24 | (uint32_t)at[1] << 16 | (uint32_t)at[2] << 8 | at[3];
 }
 
 /* Whether sequence number `a` comes before `b` (RFC 9293, 3.4). */
@@ -47,14 +40,13 @@ static uint64_t span(const struct timers *timers, uint32_t timer)
 int timers_emitted(struct timers *timers, const void *segment, size_t length, uint64_t now)
 {
     const uint8_t *bytes = segment;
-    uint8_t flags = bytes[13];
-    uint32_t first = read32(bytes + 4);
-    uint32_t numbers = (uint32_t)length - 4 * (uint32_t)(bytes[12] >> 4) + !!(flags & SYN) + !!(flags & FIN);
+    uint32_t first = read32(bytes + AT_SEQ);
+    uint32_t numbers = (uint32_t)(length - header_of(bytes)) + !!bits_of(bytes, SYN) + !!bits_of(bytes, FIN);
     if (timers->phase == TCPCORE_PHASE_TIME_WAIT)
         timers->deadline[TCPCORE_TIMER_TIME_WAIT] = now + timers->rules.time_wait;
-    if (flags & RST || numbers == 0)
+    if (bits_of(bytes, RST) || numbers == 0)
         return 0;
-    if (flags & SYN && !timers->has_isn) {
+    if (bits_of(bytes, SYN) && !timers->has_isn) {
         timers->has_isn = 1;
         timers->isn = timers->highest = first;
     }
@@ -82,8 +74,7 @@ static void begin_anew(struct timers *timers, uint64_t now)
 void timers_arrived(struct timers *timers, const void *segment, size_t length, uint64_t now)
 {
     const uint8_t *bytes = segment;
-    int is_shut = bytes[14] == 0 && bytes[15] == 0;
-    if (length >= 20 && bytes[13] & ACK && is_shut && timers->una > 0)
+    if (length >= SEGMENT_HEADER && bits_of(bytes, ACK) && read16(bytes + AT_WINDOW) == 0 && timers->una > 0)
         begin_anew(timers, now);
 }
 
@@ -152,10 +143,18 @@ static uint32_t limit(const struct timers *timers)
     return timers->phase == TCPCORE_PHASE_SYN_RECEIVED ? timers->rules.syn_ack_limit : timers->rules.r2;
 }
 
+/* Whether the connection is given up: R2 lies past R1, so that a single answer that was lost doesn't end it, however long
+   the timeout was. A SYN has a limit of its own (RFC 9293, 3.8.3). */
+static int is_given_up(const struct timers *timers, uint64_t now)
+{
+    uint32_t least = timers->phase < TCPCORE_PHASE_ESTABLISHED ? 1 : timers->rules.r1;
+    return timers->resent >= least && now - timers->since >= limit(timers);
+}
+
 /* The retransmission timer has run out (RFC 6298, 5.4 to 5.6; RFC 9293, 3.8.3). */
 static uint32_t retransmit(struct timers *timers, tcpcore_end *end, uint64_t now)
 {
-    if (timers->resent > 0 && now - timers->since >= limit(timers)) {
+    if (is_given_up(timers, now)) {
         tcpcore_abort(end);
         return TIMERS_RAN | TIMERS_GAVE_UP;
     }

@@ -1,20 +1,15 @@
 /* Packets above the MTU (see trains.h). C beside tcpcore.h, tested and not proved. */
 #include "trains.h"
+#include "segment.h"
 
 #include <arpa/inet.h>
 #include <linux/virtio_net.h>
 #include <string.h>
 
-/* The control bits (RFC 9293, 3.1), and places of the TCP header. */
-enum { PSH = 8, ACK = 16, TCP_HEADER = 20, OFFSET = 12, FLAGS = 13, CHECKSUM = 16, HEADERS = IP_HEADER + TCP_HEADER };
+/* The bytes of both headers; and no packet is longer than this. */
+enum { HEADERS = IP_HEADER + SEGMENT_HEADER, MOST = 65000 };
 
-/* No packet is longer than this. */
-enum { MOST = 65000 };
-
-static uint32_t number_of(const uint8_t *segment)
-{
-    return (uint32_t)segment[4] << 24 | (uint32_t)segment[5] << 16 | (uint32_t)segment[6] << 8 | segment[7];
-}
+static uint32_t number_of(const uint8_t *segment) { return read32(segment + AT_SEQ); }
 
 static uint16_t folded(uint64_t sum)
 {
@@ -39,16 +34,10 @@ static uint16_t sum_of(const uint8_t *bytes, size_t length, uint64_t sum)
     return folded(sum + ntohs(folded(even + odd + words[0] + words[1])));
 }
 
-static void write16(uint8_t *at, uint16_t value)
-{
-    at[0] = (uint8_t)(value >> 8);
-    at[1] = (uint8_t)value;
-}
-
 /* Whether it is text alone: no options, and no bits but ACK and PSH. */
 static int is_text(const uint8_t *segment, size_t length)
 {
-    return length > TCP_HEADER && segment[OFFSET] == TCP_HEADER << 2 && (segment[FLAGS] & ~PSH) == ACK;
+    return length > SEGMENT_HEADER && segment[AT_OFFSET] == SEGMENT_HEADER << 2 && bits_of(segment, 0xff & ~PSH) == ACK;
 }
 
 /* Whether it follows on what is there: the next number, the same connection, acknowledgement and window; each segment
@@ -58,7 +47,7 @@ static int follows(const struct train *train, const uint8_t *packet, const uint8
     const uint8_t *front = train->bytes + TUN_HEADER, *first = front + IP_HEADER;
     size_t text = train->length - TUN_HEADER - HEADERS;
     return is_text(first, train->length - TUN_HEADER - IP_HEADER) && is_text(segment, length) &&
-           text % train->text == 0 && length - TCP_HEADER <= train->text && train->length + length < MOST &&
+           text % train->text == 0 && length - SEGMENT_HEADER <= train->text && train->length + length < MOST &&
            number_of(first) + (uint32_t)text == number_of(segment) && memcmp(front + 12, packet + 12, 8) == 0 &&
            memcmp(first, segment, 4) == 0 && memcmp(first + 8, segment + 8, 4) == 0 &&
            memcmp(first + 14, segment + 14, 2) == 0;
@@ -73,14 +62,14 @@ int trains_add(struct train *train, tcpcore_addr src, tcpcore_addr dst, const vo
         memcpy(train->bytes + TUN_HEADER, header, IP_HEADER);
         memcpy(train->bytes + TUN_HEADER + IP_HEADER, segment, length);
         train->length = TUN_HEADER + total;
-        train->text = length - TCP_HEADER;
+        train->text = length - SEGMENT_HEADER;
         return 1;
     }
     if (!follows(train, header, bytes, length))
         return 0;
-    memcpy(end, bytes + TCP_HEADER, length - TCP_HEADER);
-    train->length += length - TCP_HEADER;
-    train->bytes[TUN_HEADER + IP_HEADER + FLAGS] |= bytes[FLAGS];
+    memcpy(end, bytes + SEGMENT_HEADER, length - SEGMENT_HEADER);
+    train->length += length - SEGMENT_HEADER;
+    train->bytes[TUN_HEADER + IP_HEADER + AT_BITS] |= bytes[AT_BITS];
     return 1;
 }
 
@@ -90,14 +79,14 @@ void trains_finish(struct train *train)
     size_t length = train->length - TUN_HEADER - IP_HEADER;
     struct virtio_net_hdr front = {0};
     tcpcore_addr src, dst;
-    if (length > TCP_HEADER + train->text) {
+    if (length > SEGMENT_HEADER + train->text) {
         front = (struct virtio_net_hdr){
             .flags = VIRTIO_NET_HDR_F_NEEDS_CSUM, .gso_type = VIRTIO_NET_HDR_GSO_TCPV4, .hdr_len = HEADERS,
-            .gso_size = (uint16_t)train->text, .csum_start = IP_HEADER, .csum_offset = CHECKSUM};
+            .gso_size = (uint16_t)train->text, .csum_start = IP_HEADER, .csum_offset = AT_CHECKSUM};
         memcpy(&src, packet + 12, sizeof src);
         memcpy(&dst, packet + 16, sizeof dst);
         ip_write(packet, src, dst, length);
-        write16(packet + IP_HEADER + CHECKSUM, sum_of(packet + 12, 8, 6 + length));
+        write16(packet + IP_HEADER + AT_CHECKSUM, sum_of(packet + 12, 8, 6 + length));
     }
     memcpy(train->bytes, &front, TUN_HEADER);
 }

@@ -29,9 +29,9 @@ int main(void)
     for (size_t i = 0; i < count; i++)
         printf("%u %s: %s\n", ANSWERS[i].number, ANSWERS[i].name, tcpcore_strerror(ANSWERS[i].number));
     for (uint32_t number = 0; number < 1000; number++)
-        known += is_known(number);
+        known += (size_t)is_known(number);
     for (uint32_t number = UINT32_MAX; number >= 1000; number /= 2)
-        known += is_known(number);
+        known += (size_t)is_known(number);
     printf("%zu answers, version %u\n", known, tcpcore_version());
     return tcpcore_version() == TCPCORE_VERSION ? 0 : 1;
 }

@@ -1,22 +1,8 @@
 /* The test of misuse: NULL, garbage, copied, moved, freed and doubly freed structs, short room, huge lengths, unknown timers. */
+#include "check.h"
 #include "tcpcore.h"
 
-#include <stdio.h>
-#include <stdlib.h>
 #include <string.h>
-
-static int checks;
-
-#define CHECK(found, wanted) check(#found, __LINE__, (unsigned long long)(found), (unsigned long long)(wanted))
-
-static void check(const char *what, int line, unsigned long long found, unsigned long long wanted)
-{
-    checks++;
-    if (found != wanted) {
-        printf("misuse.c:%d: %s is %llu, not %llu\n", line, what, found, wanted);
-        exit(1);
-    }
-}
 
 static const tcpcore_addr HERE = {{10, 0, 0, 1}}, THERE = {{10, 0, 0, 2}}, NOWHERE = {{0, 0, 0, 0}};
 static const size_t HUGE_LENGTH = (size_t)PTRDIFF_MAX + 1;

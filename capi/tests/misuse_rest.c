@@ -1,35 +1,13 @@
 /* The test of misuse, of what rests: NULL, structs that are no rest, each field out of its range, pointers over the struct, short
    room, unknown timers. */
+#include "carry.h"
+#include "check.h"
 #include "tcpcore.h"
 
-#include <stdio.h>
-#include <stdlib.h>
 #include <string.h>
-
-static int checks;
-
-#define CHECK(found, wanted) check(#found, __LINE__, (unsigned long long)(found), (unsigned long long)(wanted))
-
-static void check(const char *what, int line, unsigned long long found, unsigned long long wanted)
-{
-    checks++;
-    if (found != wanted) {
-        printf("misuse_rest.c:%d: %s is %llu, not %llu\n", line, what, found, wanted);
-        exit(1);
-    }
-}
 
 static const tcpcore_addr HERE = {{10, 0, 0, 1}}, THERE = {{10, 0, 0, 2}}, NOWHERE = {{0, 0, 0, 0}};
 static const size_t HUGE_LENGTH = (size_t)PTRDIFF_MAX + 1;
-
-static void carry(tcpcore_end *from, tcpcore_addr src, tcpcore_end *to)
-{
-    unsigned char out[TCPCORE_EMIT_ROOM];
-    tcpcore_addr dst;
-    size_t length;
-    while (tcpcore_emit(from, out, sizeof out, &dst, &length) == TCPCORE_DONE)
-        tcpcore_arrive(to, src, dst, out, length);
-}
 
 /* What rests in the place of an end whose peer has closed too; it owes an acknowledgement. No end before can rest. */
 static struct tcpcore_rest rest_of_an_end(void)

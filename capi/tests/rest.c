@@ -1,5 +1,6 @@
 /* The test of what rests: an end in TIME-WAIT and its rest side by side, over the same arrivals, timers, emissions and aborts.
    Each answer, address and byte is the same; and a rest with another number is told apart. */
+#include "carry.h"
 #include "tcpcore.h"
 
 #include <stdio.h>
@@ -40,15 +41,6 @@ static void make(tcpcore_end *end, tcpcore_addr addr, uint16_t port)
                              .recv_capacity = 1 + below(CAPACITY), .limit = TCPCORE_LIMIT, .window_shift = (uint8_t)below(15),
                              .scales = (uint8_t)below(2), .sack = (uint8_t)below(2)};
     need("new", tcpcore_new(end, &config, blocks[end == &b], sizeof *blocks));
-}
-
-static void carry(tcpcore_end *from, tcpcore_addr src, tcpcore_end *to)
-{
-    unsigned char out[TCPCORE_EMIT_ROOM];
-    tcpcore_addr dst;
-    size_t length;
-    while (tcpcore_emit(from, out, sizeof out, &dst, &length) == TCPCORE_DONE)
-        tcpcore_arrive(to, src, dst, out, length);
 }
 
 /* A and B connect, A sends and closes, then B does: A is in TIME-WAIT, and owes the last acknowledgement. */

@@ -2,6 +2,7 @@
  * The test of tcpcore_room and TCPCORE_MEMORY: at each alignment they are enough, one byte less isn't, and no byte beside the
  * block is touched, by a transfer either.
  */
+#include "carry.h"
 #include "tcpcore.h"
 
 #include <stdio.h>
@@ -36,15 +37,6 @@ static void untouched(const unsigned char *from, const unsigned char *to)
     for (; from < to; from++)
         if (*from != PAINT)
             NEED(*from, PAINT);
-}
-
-static void carry(tcpcore_end *from, tcpcore_addr src, tcpcore_end *to)
-{
-    static unsigned char segment[TCPCORE_EMIT_ROOM];
-    tcpcore_addr dst;
-    size_t length;
-    while (tcpcore_emit(from, segment, sizeof segment, &dst, &length) == TCPCORE_DONE)
-        tcpcore_arrive(to, src, dst, segment, length);
 }
 
 /* Both buffers are filled, whatever the block held, and read again. */

@@ -1,7 +1,7 @@
 /* The test of table.c and demux.c: segments written by hand and what they are answered by, floods, limits and
    memory. */
 #include "../demux.h"
-#include "check.h"
+#include "tests/check.h"
 
 #include <string.h>
 

@@ -1,6 +1,6 @@
 /* The test of faults.c: each packet bears its number, and what comes out is counted. */
 #include "../faults.h"
-#include "check.h"
+#include "tests/check.h"
 
 #include <string.h>
 

@@ -1,149 +1,10 @@
-/* The test of congestion.c and flow.c: numbers worked out from the RFCs, and two ends over a wire in memory with a
-   clock of its own. */
+/* The test of flow.c: two ends over a wire in memory with a clock of its own, and numbers worked out from the RFCs. */
 #include "../flow.h"
-#include "check.h"
+#include "tests/check.h"
 
 #include <string.h>
 
 enum { MSS = 1000, SENDS = 100000, KEEPS = 60000 };
-
-/* RFC 6928, 2; RFC 5681, 3.1: ten segments, then what was acknowledged more, at most two segments for each one. */
-static void slow_start(void)
-{
-    struct congestion c;
-    congestion_init(&c, MSS);
-    CHECK(congestion_room(&c), 10 * MSS);
-    c.given = 10 * MSS;
-    CHECK(congestion_room(&c), 0);
-    congestion_acknowledged(&c, MSS, 0);
-    CHECK(c.cwnd, 11 * MSS);
-    CHECK(congestion_room(&c), 2 * MSS);
-    congestion_acknowledged(&c, MSS + 500, 0);
-    CHECK(c.cwnd, 11 * MSS + 500);
-    congestion_acknowledged(&c, 6 * MSS, 0);
-    CHECK(c.cwnd, 13 * MSS + 500);
-    /* Less than half of the window is in flight: it doesn't grow (RFC 7661, 4.3). */
-    congestion_acknowledged(&c, 7 * MSS, 0);
-    CHECK(c.cwnd, 13 * MSS + 500);
-}
-
-/* RFC 5681, 3.1 and 3.2: half of what is in flight, once for all that was given before; then a segment each window. */
-static void halving(void)
-{
-    struct congestion c;
-    congestion_init(&c, MSS);
-    c.cwnd = c.given = 20 * MSS;
-    congestion_lost(&c, CONGESTION_RECOVERY, 0, 5);
-    CHECK(c.cwnd, 10 * MSS);
-    CHECK(c.losses, 1);
-    congestion_lost(&c, CONGESTION_RECOVERY, 0, 6);
-    CHECK(c.cwnd, 10 * MSS);
-    CHECK(c.losses, 1);
-    congestion_acknowledged(&c, 19 * MSS, 0);
-    CHECK(c.loss, CONGESTION_RECOVERY);
-    congestion_acknowledged(&c, 20 * MSS, 0);
-    CHECK(c.loss, CONGESTION_OPEN);
-    CHECK(c.cwnd, 10 * MSS);
-    for (uint64_t at = 20 * MSS; at < 30 * MSS; at += MSS) {
-        c.given = at + 10 * MSS;
-        CHECK(c.cwnd, 10 * MSS);
-        congestion_acknowledged(&c, at + MSS, 0);
-    }
-    for (uint64_t at = 30 * MSS; at < 41 * MSS; at += MSS) {
-        c.given = at + 11 * MSS;
-        CHECK(c.cwnd, 11 * MSS);
-        congestion_acknowledged(&c, at + MSS, 0);
-    }
-    CHECK(c.cwnd, 12 * MSS);
-    /* Never below two segments. */
-    c.given = c.released + MSS;
-    congestion_lost(&c, CONGESTION_RECOVERY, 0, 7);
-    CHECK(c.cwnd, 2 * MSS);
-}
-
-/* RFC 5681, 3.1: one segment, then slow start up to half of what was in flight when the timeout first ran out. */
-static void timing_out(void)
-{
-    struct congestion c;
-    congestion_init(&c, MSS);
-    c.cwnd = c.given = 20 * MSS;
-    congestion_acknowledged(&c, 0, 1);
-    congestion_lost(&c, CONGESTION_TIMED_OUT, 1, 5);
-    CHECK(c.cwnd, MSS);
-    CHECK(c.ssthresh, 10 * MSS);
-    CHECK(c.left, 0);
-    congestion_lost(&c, CONGESTION_TIMED_OUT, 2, 9);
-    CHECK(c.ssthresh, 10 * MSS);
-    CHECK(c.timeouts, 2);
-    /* What blocks tell behind a timeout is of what went out before it. */
-    congestion_acknowledged(&c, 0, 1);
-    CHECK(c.left, 0);
-    congestion_acknowledged(&c, MSS, 0);
-    CHECK(c.cwnd, 2 * MSS);
-    congestion_acknowledged(&c, 20 * MSS, 0);
-    CHECK(c.loss, CONGESTION_OPEN);
-    CHECK(c.cwnd, 4 * MSS);
-}
-
-/* RFC 6937 and RFC 5681, 3.2: one for two that have left the network, and one for one once a loss was found. */
-static void leaving(void)
-{
-    struct congestion c;
-    congestion_init(&c, MSS);
-    c.given = 10 * MSS;
-    congestion_acknowledged(&c, 0, 1);
-    congestion_acknowledged(&c, 0, 1);
-    CHECK(congestion_room(&c), MSS);
-    congestion_acknowledged(&c, 0, 0);
-    CHECK(congestion_room(&c), MSS);
-    for (int at = 0; at < 20; at++)
-        congestion_acknowledged(&c, 0, 1);
-    CHECK(c.left, 10 * MSS);
-    congestion_lost(&c, CONGESTION_RECOVERY, 0, 5);
-    CHECK(congestion_room(&c), 5 * MSS);
-    congestion_acknowledged(&c, 4 * MSS, 0);
-    CHECK(c.left, 6 * MSS);
-    congestion_acknowledged(&c, 10 * MSS, 0);
-    CHECK(c.left, 0);
-}
-
-/* RFC 5681, 4.1. */
-static void idle(void)
-{
-    struct congestion c;
-    congestion_init(&c, MSS);
-    c.cwnd = 50 * MSS;
-    congestion_idle(&c);
-    CHECK(c.cwnd, 10 * MSS);
-    c.cwnd = 3 * MSS;
-    congestion_idle(&c);
-    CHECK(c.cwnd, 3 * MSS);
-}
-
-/* A window of 20 segments in 10 ms: two in each, and no more than the window without an acknowledgement. */
-static void pace(void)
-{
-    struct congestion c;
-    congestion_init(&c, MSS);
-    c.cwnd = c.given = 40 * MSS;
-    congestion_lost(&c, CONGESTION_RECOVERY, 0, 5);
-    int count = 0;
-    for (uint64_t now = 5; now < 15; now++)
-        for (; congestion_may_resend(&c, now, 10000); count++)
-            congestion_resent(&c, MSS);
-    CHECK(count, 19);
-    CHECK(congestion_may_resend(&c, 30, 10000), 1);
-    for (; congestion_may_resend(&c, 30, 10000); count++)
-        congestion_resent(&c, MSS);
-    CHECK(count, 20);
-    congestion_acknowledged(&c, 3 * MSS, 0);
-    CHECK(congestion_may_resend(&c, 31, 10000), 1);
-    /* Behind a pause no more than a quarter of the window goes out at once. */
-    congestion_lost(&c, CONGESTION_RECOVERY, 0, 40);
-    for (count = 0; congestion_may_resend(&c, 1000, 10000); count++)
-        congestion_resent(&c, MSS);
-    CHECK(count, 5);
-}
 
 /* One end with its flow. */
 struct side {
@@ -488,14 +349,91 @@ static void reordered_anew(void)
     free_both();
 }
 
+/* A segment with blocks has the fewer bytes of text (RFC 6691, 3): what is given is full segments of those, and no tails. */
+static void tails(void)
+{
+    open_both(0);
+    /* B's second segment comes before its first, so that what A sends tells a block: 12 bytes of options. */
+    CHECK(give(&b, 2 * MSS), 2 * MSS);
+    CHECK(emit(&b), 2);
+    CHECK(deliver(&b, &a, 1), TCPCORE_DONE);
+    CHECK(carry(&a, &b), 1);
+    CHECK(lengths[0], 32);
+    CHECK(give(&a, 100000), 10 * (MSS - 12));
+    CHECK(carry(&a, &b), 10);
+    for (int at = 0; at < 10; at++)
+        CHECK(lengths[at], 20 + MSS);
+    free_both();
+}
+
+/* A wire with a delay of so many milliseconds each way, on which one of `loses` segments is lost, but of bare
+   acknowledgements none. */
+enum { QUEUE = 1024 };
+static struct {
+    struct side *to;
+    uint64_t at;
+    size_t length;
+    uint8_t bytes[TCPCORE_EMIT_ROOM];
+} queue[QUEUE];
+static unsigned put, taken_off;
+
+static void put_on(struct side *from, struct side *to, uint64_t delay, unsigned loses)
+{
+    static unsigned texts;
+    int count = emit(from);
+    for (int at = 0; at < count; at++) {
+        if (lengths[at] > 20 && ++texts % loses == 0)
+            continue;
+        CHECK(put - taken_off < QUEUE, 1);
+        queue[put % QUEUE].to = to;
+        queue[put % QUEUE].at = now + delay;
+        queue[put % QUEUE].length = lengths[at];
+        memcpy(queue[put++ % QUEUE].bytes, segments[at], lengths[at]);
+    }
+}
+
+static void take_off(void)
+{
+    for (; taken_off < put && queue[taken_off % QUEUE].at <= now; taken_off++) {
+        struct side *to = queue[taken_off % QUEUE].to, *from = to == &a ? &b : &a;
+        uint32_t answer = flow_arrive(&to->flow, &to->end, from->addr, to->addr, queue[taken_off % QUEUE].bytes,
+                                      queue[taken_off % QUEUE].length, now);
+        CHECK(answer == TCPCORE_DONE || answer == TCPCORE_DROPPED, 1);
+    }
+}
+
+static size_t read_all(struct side *side)
+{
+    static uint8_t out[KEEPS];
+    size_t count;
+    flow_receive(&side->flow, &side->end, out, sizeof out, &count);
+    return count;
+}
+
+/* Segments of 64 bytes over a path of 300 and of 900 ms that loses one of ten, asked each millisecond: what is lost goes out
+   again at the path's pace, however little a millisecond is worth, and all is there within so many seconds. */
+static void slow_path(uint64_t trip, uint64_t seconds)
+{
+    size_t got = 0, wanted = 20000, sent = 0;
+    open_with(64, 0);
+    uint64_t began = now;
+    for (put = taken_off = 0; got < wanted && now - began < 1000 * seconds; now++) {
+        take_off();
+        got += read_all(&b);
+        if (sent < wanted)
+            sent += give(&a, wanted - sent);
+        put_on(&a, &b, trip / 2, 10);
+        put_on(&b, &a, trip / 2, 10);
+        /* Nothing is left to do in this millisecond. */
+        CHECK(flow_wait(&a.flow, now) != 0, 1);
+    }
+    CHECK(got, wanted);
+    CHECK(a.flow.resent < 100, 1);
+    free_both();
+}
+
 int main(void)
 {
-    slow_start();
-    halving();
-    timing_out();
-    leaving();
-    idle();
-    pace();
     delayed();
     broken();
     given();
@@ -505,6 +443,9 @@ int main(void)
     reordered_anew();
     shut();
     window();
+    tails();
+    slow_path(300, 60);
+    slow_path(900, 150);
     printf("flow: %d checks\n", checks);
     return 0;
 }

@@ -1,6 +1,6 @@
 /* The test of ip.c: packets written out by hand, each fault, and every source that RFC 1122, 3.2.1.3, forbids. */
 #include "../ip.h"
-#include "check.h"
+#include "tests/check.h"
 
 #include <string.h>
 

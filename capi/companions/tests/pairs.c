@@ -1,6 +1,6 @@
 /* The test of pairs.c: against a plain array that is searched from its front. */
 #include "../pairs.h"
-#include "check.h"
+#include "tests/check.h"
 
 #include <string.h>
 

@@ -1,7 +1,7 @@
 /* The test of timers.c: two ends over a wire in memory with a clock of its own. What is wanted is worked out from
    the RFCs. */
 #include "../timers.h"
-#include "check.h"
+#include "tests/check.h"
 
 #include <string.h>
 
@@ -256,6 +256,42 @@ static void gives_up_text(void)
     free_both();
 }
 
+/* RFC 9293, 3.8.3: R2 lies past R1. With a timeout that was backed off to 60 s a peer whose first answer is lost, and the
+   second, too, is there all the same; one that answers none of three resends is given up. */
+static void answers_lost(void)
+{
+    make_both(&TIMERS_RULES, 65535);
+    open_both(10);
+    send_text(&a, 1000);
+    CHECK(carry(&a, &b, NOBODY), 1);
+    for (int at = 0; at < 6; at++) {
+        wait_for(&a);
+        CHECK(carry(&a, &b, at == 5 ? ALL : NOBODY), 1);
+    }
+    CHECK(carry(&b, &a, ALL), 1);
+    CHECK(a.timers.rto, 60000);
+    send_text(&a, 1000);
+    CHECK(carry(&a, &b, ALL), 1);
+    CHECK(carry(&b, &a, NOBODY), 1);
+    for (int lost = 0; lost < 2; lost++) {
+        CHECK(wait_for(&a), 60000);
+        CHECK(carry(&a, &b, ALL), 1);
+        CHECK(carry(&b, &a, lost == 1 ? ALL : NOBODY), 1);
+    }
+    CHECK(a.found & TIMERS_GAVE_UP, 0);
+    CHECK(timers_wait(&a.timers, now), -1);
+    send_text(&a, 1000);
+    CHECK(carry(&a, &b, NOBODY), 1);
+    uint64_t began = now;
+    for (int resends = 0; !(a.found & TIMERS_GAVE_UP); resends++) {
+        CHECK(resends <= 3, 1);
+        CHECK(wait_for(&a), 60000);
+        carry(&a, &b, NOBODY);
+    }
+    CHECK(now - began, 240000);
+    free_both();
+}
+
 /* RFC 9293, 3.8.6.1: a peer that answers probes by a shut window is kept, however long; one that falls silent is
    given up. */
 static void shut_window(void)
@@ -279,8 +315,8 @@ static void shut_window(void)
         wait_for(&a);
         carry(&a, &b, NOBODY);
     }
-    /* The first timeout of at least 100 s, by 60 s each. */
-    CHECK(now - began, 120000);
+    /* The first timeout behind three resends and 100 s, by 60 s each. */
+    CHECK(now - began, 240000);
     free_both();
 }
 
@@ -338,6 +374,7 @@ int main(void)
     gives_up_syn();
     gives_up_syn_ack();
     gives_up_text();
+    answers_lost();
     shut_window();
     reordering();
     time_wait();

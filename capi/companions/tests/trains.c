@@ -1,19 +1,15 @@
 /* The test of trains.c: what was added is cut again by plain code, as a device does it, and compared. */
+#include "../segment.h"
 #include "../trains.h"
-#include "check.h"
+#include "tests/check.h"
 
 #include <linux/virtio_net.h>
 #include <string.h>
 
-enum { PSH = 8, ACK = 16, FIN = 1, HEADER = 20, FRONT = TUN_HEADER + IP_HEADER };
+enum { HEADER = 20, FRONT = TUN_HEADER + IP_HEADER };
 
 static const tcpcore_addr SRC = {{10, 0, 2, 2}}, DST = {{10, 0, 2, 100}}, OTHER = {{10, 0, 2, 3}};
 static struct train train;
-
-static uint32_t read32(const uint8_t *at)
-{
-    return (uint32_t)at[0] << 24 | (uint32_t)at[1] << 16 | (uint32_t)at[2] << 8 | at[3];
-}
 
 /* The sum of RFC 793's checksum over a whole segment: 0xffff where it is right. */
 static uint32_t sum_of(const uint8_t *segment, size_t length)

@@ -1,6 +1,6 @@
 /* The test of wheel.c: against a plain array of times. */
 #include "../wheel.h"
-#include "check.h"
+#include "tests/check.h"
 
 #include <string.h>
 

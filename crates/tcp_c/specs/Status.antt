@@ -64,6 +64,7 @@ no_status = record {
   peer_shift = 0;
   scaling = 0;
   sack = 0;
+  snd_wnd = 0;
 }
 
 abbrev pub status_of : Option State → CStatus
@@ -84,6 +85,7 @@ status_of (Some s) = record {
   peer_shift = (agreed s).peer_shift;
   scaling = flag (agreed s).scaling;
   sack = flag (agreed s).sack;
+  snd_wnd = s.sending.wnd;
 }
 
 -- THE PEER (RFC 9293, 3.10.6), once it is known

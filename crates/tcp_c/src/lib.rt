@@ -18,6 +18,7 @@
 //!     size_t room, queued, in_flight;
 //!     uint32_t mss;
 //!     uint8_t own_shift, peer_shift, scaling, sack;
+//!     uint32_t snd_wnd;
 //! } tcp_c_status_record;
 //!
 //! typedef struct {

@@ -68,6 +68,8 @@ pub struct CStatus {
     pub scaling: u8,
     /// 1 where selective acknowledgement is in use.
     pub sack: u8,
+    /// SND.WND in bytes, scaled: what the peer advertised last (RFC 9293, 3.3.1).
+    pub snd_wnd: u32,
 }
 
 /// What rests in the place of an end in TIME-WAIT: a plain value, which may be copied, stored and moved.

@@ -75,6 +75,7 @@ fn no_status() -> CStatus
         peer_shift: 0,
         scaling: 0,
         sack: 0,
+        snd_wnd: 0,
     }
 }
 
@@ -99,6 +100,7 @@ fn status_of(end: &Endpoint<Region>) -> CStatus
         peer_shift: agreed.peer_shift,
         scaling: u8::from(agreed.scaling),
         sack: u8::from(agreed.sack),
+        snd_wnd: end.windows().1,
     }
 }
 

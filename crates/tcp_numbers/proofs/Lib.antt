@@ -1,5 +1,5 @@
 pub mod WordSums
-pub mod Folds
+pub mod LaneSums
 pub mod Positions
 pub mod Lemmas
 pub mod FlagNames

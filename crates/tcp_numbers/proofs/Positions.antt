@@ -184,7 +184,8 @@ offset_of_later s n p order close =
 pub offset_of_earlier : (s n p : ℕ) → p < n → n ≤ p + 2 ^ 31 → offset (number s n) (number s p) ≡ negsuc (n - p - 1)
 offset_of_earlier s n p order close =
     let d : distance (number s n) (number s p) + (n - p) ≡ 2 ^ 32 = omega arith in
-    offset_behind (number s n) (number s p) (omega arith) (omega (arith, d)) ∙ below_zero (distance (number s n) (number s p)) (n - p - 1) (2 ^ 32) (omega arith)
+    offset_behind (number s n) (number s p) (omega arith) (omega (arith, d)) ∙ below_zero (distance (number s n) (number s p)) (n - p - 1) (2 ^ 32)
+    (omega arith)
 
 -- ---- the receive window, by distance and by position
 
@@ -216,19 +217,22 @@ first_inside next window seq fits small = ⊎_elim
     (cases_lt (distance next seq) (2 ^ 31))
 
 -- its last
-pub last_inside : (next window seq k : ℕ) → next < 2 ^ 32 → window ≤ 2 ^ 20 → k < 2 ^ 16 → is_inside next window (near next seq +ℤ pos k) ≡ nat_lt (distance next ((seq + k) % 2 ^ 32)) window
+pub last_inside : (next window seq k : ℕ) → next < 2 ^ 32 → window ≤ 2 ^ 20 → k < 2 ^ 16
+    → is_inside next window (near next seq +ℤ pos k) ≡ nat_lt (distance next ((seq + k) % 2 ^ 32)) window
 last_inside next window seq k fits small short = ⊎_elim
     (λ close.
     let whole : distance next ((seq + k) % 2 ^ 32) ≡ distance next seq + k = omega arith in
     let place : next + distance next seq + k ≡ next + (distance next seq + k) = omega arith in
     ap (λ z. is_inside next window (z +ℤ pos k)) (near_number_ahead next seq fits close) ∙ ap (λ n. is_inside next window (pos n)) place
     ∙ inside_ahead next window (distance next seq + k) ∙ ap (λ d. nat_lt d window) (sym whole))
-    (λ far. ap (λ z. is_inside next window (z +ℤ pos k)) (near_number_behind next seq fits far) ∙ ap (is_inside next window) (round_plus (next + distance next seq) k (2 ^ 32))
+    (λ far. ap (λ z. is_inside next window (z +ℤ pos k)) (near_number_behind next seq fits far) ∙ ap (is_inside next window)
+    (round_plus (next + distance next seq) k (2 ^ 32))
     ∙ ⊎_elim
     (λ short_of.
     let whole : distance next ((seq + k) % 2 ^ 32) ≡ distance next seq + k = omega arith in
     let below : next + distance next seq + k < next + 2 ^ 32 = omega arith in
-    round_outside (next + distance next seq + k) next window (2 ^ 32) below ∙ sym (le-ltb (distance next ((seq + k) % 2 ^ 32)) window (omega (arith, whole, far, small))))
+    round_outside (next + distance next seq + k) next window (2 ^ 32) below ∙ sym
+    (le-ltb (distance next ((seq + k) % 2 ^ 32)) window (omega (arith, whole, far, small))))
     (λ round.
     let whole : distance next ((seq + k) % 2 ^ 32) ≡ distance next seq + k - 2 ^ 32 = omega arith in
     let place : next + distance next seq + k ≡ next + (distance next seq + k - 2 ^ 32) + 2 ^ 32 = omega arith in

@@ -1,5 +1,6 @@
 -- The word sum: step by step, over joined bytes, and after one changed byte.
-use Rattle.std.proofs.Common.{◌≡◌, ℕ, suc, ◌+◌, ◌-◌, ◌*◌, ◌/◌, ◌%◌, ◌<◌, ◌≤◌, List, [], ◌∷◌, ◌++◌, length, take, drop, get_or, refl, sym, ap, ◌∙◌, ◌⊎◌, inl, inr, length-append, arith}
+use Rattle.std.proofs.Common.{◌≡◌, ℕ, zero, suc, ◌+◌, ◌-◌, ◌*◌, ◌/◌, ◌%◌, ◌<◌, ◌≤◌, List, [], ◌∷◌, ◌++◌, length, take, drop, get_or, refl, sym, ap, ◌∙◌, ◌⊎◌}
+use Rattle.std.proofs.Common.{inl, inr, length-append, arith}
 use Rattle.std.proofs.lemmas.List.{length-take-le, take-append-drop, length-drop, take_rest, drop_more, get_or-drop}
 use Rattle.byteorder.specs.Endian.{big_number, big_from}
 use Rattle.tcp_numbers.specs.Checksum.{AreBytes, word_sum, without_field, pseudo_header, segment_sum, Checks, completion, field, DiffersInOnePlace}
@@ -9,6 +10,43 @@ pub word_sum_more : (xs : List ℕ) → 2 ≤ length xs → word_sum xs ≡ big_
 word_sum_more [] h = absurd (omega arith)
 word_sum_more (a ∷ []) h = absurd (omega arith)
 word_sum_more (a ∷ b ∷ xs) h = omega arith
+
+-- two words more, out of a number of four bytes
+pub word_sum_two : (xs : List ℕ) → AreBytes xs → 4 ≤ length xs → word_sum xs ≡ big_number 4 xs / 65536 + big_number 4 xs % 65536 + word_sum (drop 4 xs)
+word_sum_two [] bytes h = absurd (omega arith)
+word_sum_two (a ∷ []) bytes h = absurd (omega arith)
+word_sum_two (a ∷ b ∷ []) bytes h = absurd (omega arith)
+word_sum_two (a ∷ b ∷ c ∷ []) bytes h = absurd (omega arith)
+word_sum_two (a ∷ b ∷ c ∷ d ∷ xs) bytes h = omega (arith, bytes 0, bytes 1, bytes 2, bytes 3)
+
+-- four words more, out of a number of eight bytes
+pub word_sum_four : (xs : List ℕ) → AreBytes xs → 8 ≤ length xs
+    → word_sum xs ≡ big_number 8 xs / 281474976710656 + big_number 8 xs / 4294967296 % 65536 + big_number 8 xs / 65536 % 65536 + big_number 8 xs % 65536 +
+    word_sum (drop 8 xs)
+word_sum_four [] bytes h = absurd (omega arith)
+word_sum_four (a ∷ []) bytes h = absurd (omega arith)
+word_sum_four (a ∷ b ∷ []) bytes h = absurd (omega arith)
+word_sum_four (a ∷ b ∷ c ∷ []) bytes h = absurd (omega arith)
+word_sum_four (a ∷ b ∷ c ∷ d ∷ []) bytes h = absurd (omega arith)
+word_sum_four (a ∷ b ∷ c ∷ d ∷ e ∷ []) bytes h = absurd (omega arith)
+word_sum_four (a ∷ b ∷ c ∷ d ∷ e ∷ f ∷ []) bytes h = absurd (omega arith)
+word_sum_four (a ∷ b ∷ c ∷ d ∷ e ∷ f ∷ g ∷ []) bytes h = absurd (omega arith)
+word_sum_four (a ∷ b ∷ c ∷ d ∷ e ∷ f ∷ g ∷ i ∷ xs) bytes h =
+    omega (arith, bytes 0, bytes 1, bytes 2, bytes 3, bytes 4, bytes 5, bytes 6, bytes 7)
+
+-- two sums in one number, each with two words more
+pub sums_up : (s a b c d : ℕ) → s % 4294967296 + c + d < 4294967296
+    → (s + (a * 4294967296 + c) + (b * 4294967296 + d)) / 4294967296 ≡ s / 4294967296 + a + b
+sums_up s a b c d h = omega (arith, h)
+
+pub sums_down : (s a b c d : ℕ) → s % 4294967296 + c + d < 4294967296
+    → (s + (a * 4294967296 + c) + (b * 4294967296 + d)) % 4294967296 ≡ s % 4294967296 + c + d
+sums_down s a b c d h = omega (arith, h)
+
+pub bytes_behind : (n : ℕ) (xs : List ℕ) → AreBytes xs → AreBytes (drop n xs)
+bytes_behind zero xs bytes = bytes
+bytes_behind (suc n) [] bytes = bytes
+bytes_behind (suc n) (x ∷ xs) bytes = bytes_behind n xs (λ i. bytes (suc i))
 
 -- whole words in front
 pub word_sum-append : (half : ℕ) (xs ys : List ℕ) → length xs ≡ half + half → word_sum (xs ++ ys) ≡ word_sum xs + word_sum ys
@@ -54,8 +92,10 @@ one_place src dst sent got d cs cg =
     let cs' : (p + word_sum (d.front ++ d.was ∷ d.rest)) % 65535 ≡ 0 = rw (← len, ← d.sent_is) cs in
     let cg' : (p + word_sum (d.front ++ d.became ∷ d.rest)) % 65535 ≡ 0 = rw (← d.got_is) cg in
     elim (one_byte d.front d.rest d.was d.became) [
-      | inl low ↦ low_differs p (word_sum (d.front ++ d.was ∷ d.rest)) (word_sum (d.front ++ d.became ∷ d.rest)) d.was d.became low d.byte_was d.byte_became d.other cs' cg'
-      | inr high ↦ high_differs p (word_sum (d.front ++ d.was ∷ d.rest)) (word_sum (d.front ++ d.became ∷ d.rest)) d.was d.became high d.byte_was d.byte_became d.other cs' cg'
+      | inl low ↦ low_differs p (word_sum (d.front ++ d.was ∷ d.rest)) (word_sum (d.front ++ d.became ∷ d.rest)) d.was d.became low d.byte_was d.byte_became
+          d.other cs' cg'
+      | inr high ↦ high_differs p (word_sum (d.front ++ d.was ∷ d.rest)) (word_sum (d.front ++ d.became ∷ d.rest)) d.was d.became high d.byte_was
+          d.byte_became d.other cs' cg'
     ]
 
 -- a word is at most 65535, and the high half that an odd last byte is, 65280

@@ -3,3 +3,4 @@ pub mod Laws
 pub mod Checksum
 pub mod Flags
 pub mod Texts
+pub mod Lanes

@@ -3,7 +3,7 @@
 
 mod addr;
 mod flags;
-mod folding;
+mod lanes;
 pub mod laws;
 mod seq;
 mod sums;

@@ -1,4 +1,4 @@
--- NO END SENDS PAST WHAT THE OTHER HAS ROOM FOR (RFC 9293, 3.8.6): where the text ends that an end has sent, and what each end tells of
+-- HOW FAR AN END SENDS (RFC 9293, 3.8.6): where the text ends that an end has sent, and what each end tells of
 -- its window.
 use Rattle.std.specs.Prelude.{◌≡◌, ℕ, ◌+◌, ◌≤◌, min, true, false, length, Ok, Some, slice_get}
 use Rattle.tcp_numbers.specs.Flags.{has, rst, syn}
@@ -8,7 +8,7 @@ use Rattle.tcp_conn.specs.Windows.{window_from}
 use Rattle.tcp_replay.specs.World.{PartyState, SentSegment}
 use Rattle.tcp_replay.specs.Safe.{next_position}
 
--- WITHIN REACH: the text that x has sent ends, at most, where the room of y's receive buffer does
+-- WITHIN REACH: the text that x has sent ends, at most, y's receive capacity behind y's RCV.NXT: not always at an edge that y told
 abbrev pub IsWithinReach : PartyState → PartyState → Type 0
 IsWithinReach x y = min x.endpoint.sending.nxt (1 + length x.accepted) ≤ next_position y + y.endpoint.config.recv_capacity
 

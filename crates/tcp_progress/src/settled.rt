@@ -3,7 +3,8 @@ ghost use Rattle.tcp_progress.specs.Settled.{NoWorldIsStuck};
 ghost use Rattle.tcp_progress.specs.Steady.{EveryWorldIsSteady};
 
 /// Every world is steady, after every list of events, from any two Configs, where segments live for 2^21 positions or longer: the
-/// text that an end has sent ends, at most, where its peer's receive buffer does; what an end tells of its window fits its room,
+/// text that an end has sent ends, at most, its peer's receive capacity behind the peer's RCV.NXT; what an end tells of its window
+/// fits its room,
 /// as its peer reads it (RFC 7323, 2.3); what has still to be sent again was sent; nothing is taken before it is sent; what is
 /// unread and the window make up the receive capacity; the MSS in use is at least 64; each state says what it should of the own
 /// FIN and the peer's (RFC 9293, 3.3.2); the peer's port is known; and once the peer has the FIN of an end in LAST-ACK, all that

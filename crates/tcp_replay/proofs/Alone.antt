@@ -243,7 +243,7 @@ same-news s accepted closed gone v h =
     (λ (x : Sending). SameText d x accepted closed gone)
     (λ _. record { una = rest.una ∙ first.una; nxt = rest.nxt ∙ first.nxt; sends = rest.sends }) (λ _. same-text d accepted closed gone h)
 
-pub news-sending : (s : State) (v : Content) → after_news s v ≡ record s { sending = (after_news s v).sending }
+news-sending : (s : State) (v : Content) → after_news s v ≡ record s { sending = (after_news s v).sending }
 unfolding after_news
 news-sending s v = refl
 
@@ -265,7 +265,7 @@ own_fin-phase s accepted closed h =
     let ack : s.owed.ack ≡ true → (has_peer (phase_after_own_fin s.phase) ≡ true) × (s.receiving.opened ≡ true) = λ e. (knows ∙ (h.ack e).0, (h.ack e).1) in
     assumption
 
-pub alone-own_fin : (s : State) (accepted : List ℕ) (closed : Bool) → is_synchronized s.phase ≡ true → IsAlone s accepted closed
+alone-own_fin : (s : State) (accepted : List ℕ) (closed : Bool) → is_synchronized s.phase ≡ true → IsAlone s accepted closed
     → IsAlone (after_own_fin s) accepted closed
 unfolding after_own_fin
 alone-own_fin s accepted closed synced h =
@@ -277,7 +277,7 @@ alone-own_fin s accepted closed synced h =
     (λ _. alone-orderly s accepted closed at.0 h) (λ _. own_fin-phase s accepted closed h))
     (λ _. h)
 
-pub own_fin-goes_on : (s : State) → is_synchronized s.phase ≡ true → is_closed (after_own_fin s).phase ≡ false → is_synchronized (after_own_fin s).phase ≡ true
+own_fin-goes_on : (s : State) → is_synchronized s.phase ≡ true → is_closed (after_own_fin s).phase ≡ false → is_synchronized (after_own_fin s).phase ≡ true
 unfolding after_own_fin
 own_fin-goes_on s synced =
     let P : State → Type 0 = λ x. is_closed x.phase ≡ false → is_synchronized x.phase ≡ true in
@@ -291,7 +291,7 @@ pub own_syn-synced : (s : State) (v : Content) → IsPresent s → is_synchroniz
 unfolding after_own_syn
 own_syn-synced s v present = own_syn-synchronized s.phase s.closing present.shut present.listening present.syn_sent
 
-pub news-synced : (s : State) (v : Content) → IsPresent s → is_synchronized (after_news (after_acked_text (after_own_syn s v) v) v).phase ≡ true
+news-synced : (s : State) (v : Content) → IsPresent s → is_synchronized (after_news (after_acked_text (after_own_syn s v) v) v).phase ≡ true
 unfolding after_own_syn after_acked_text after_news
 news-synced s v present = own_syn-synchronized s.phase s.closing present.shut present.listening present.syn_sent
 
@@ -304,7 +304,7 @@ alone-its_ack s accepted closed v present h =
     alone-own_fin (after_news second v) accepted closed (news-synced s v present)
     (alone-news second accepted closed v (alone-acked_text first accepted closed v (own_syn-synced s v present) (alone-own_syn s accepted closed v present h)))
 
-pub its_ack-goes_on : (s : State) (v : Content) → IsPresent s → is_closed (after_its_ack s v).phase ≡ false → is_synchronized (after_its_ack s v).phase ≡ true
+its_ack-goes_on : (s : State) (v : Content) → IsPresent s → is_closed (after_its_ack s v).phase ≡ false → is_synchronized (after_its_ack s v).phase ≡ true
 unfolding after_its_ack
 its_ack-goes_on s v present = own_fin-goes_on (after_news (after_acked_text (after_own_syn s v) v) v) (news-synced s v present)
 
@@ -359,7 +359,7 @@ alone-fin_taken s accepted closed e h =
       unopened = λ never. absurd (cc (at.1.is_opened));
     }
 
-pub alone-fin : (s : State) (accepted : List ℕ) (closed : Bool) (v : Content) → IsAlone s accepted closed → IsAlone (after_fin s v) accepted closed
+alone-fin : (s : State) (accepted : List ℕ) (closed : Bool) (v : Content) → IsAlone s accepted closed → IsAlone (after_fin s v) accepted closed
 unfolding after_fin
 alone-fin s accepted closed v h =
     let owing : State = record s { owed = record s.owed { ack = s.owed.ack || has_fin s v } } in

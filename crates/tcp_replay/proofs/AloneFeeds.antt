@@ -17,13 +17,13 @@ use Rattle.tcp_conn.specs.Sender.{is_fin_acked}
 use Rattle.tcp_conn.specs.Receiver.{with_syn, after_text, is_fin_due, with_fin}
 use Rattle.tcp_conn.specs.Endings.{after_orderly_end, after_giving_up}
 use Rattle.tcp_conn.specs.Calls.{with_bytes_received}
-use Rattle.tcp_conn.specs.Judgement.{is_foreign, is_acceptable_segment, phase_judgement, judgement}
+use Rattle.tcp_conn.specs.Judgement.{is_foreign, phase_judgement, judgement}
 use Rattle.tcp_conn.specs.Arrival.{after_peer_opens, after_peer_accepts, after_own_syn, after_acked_text, after_news, after_own_fin, after_its_ack}
 use Rattle.tcp_conn.specs.Arrival.{takes_text_of, after_its_text, has_fin, takes_fin, after_fin, after_taking, after_taking_shut, after_judgement}
 use Rattle.tcp_replay.specs.Alone.{IsAlone}
 use Rattle.tcp_replay.proofs.Lists.{by_test}
 use Rattle.tcp_replay.proofs.Phases.{gives_up-not_ended, end-listen, end-syn_sent, end-synchronized, end-takes_text, not-closed-ended, time_wait-synchronized}
-use Rattle.tcp_replay.proofs.Judgements.{IsPresent, in-phase}
+use Rattle.tcp_replay.proofs.Judgements.{IsPresent, IsTaken, in-phase}
 use Rattle.tcp_replay.proofs.Alone.{alone-its_ack, alone-its_text}
 use Rattle.tcp_replay.proofs.Feeds.{AllText, ByNumber, IsFed, fed-syn, fed-read, fed-given_up, fed-fin, fed-text}
 use Rattle.tcp_replay.proofs.Calls.{KeptByCalls}
@@ -183,7 +183,7 @@ fin-opened : (y : State) (v : Content) → (after_fin y v).receiving.opened ≡ 
 unfolding after_fin
 fin-opened y v = cond_both (takes_fin y v) (with_fin y.receiving) y.receiving (λ (r : Receiving). r.opened ≡ y.receiving.opened) (λ _. refl) (λ _. refl)
 
--- A SEGMENT ARRIVES, whose text P holds of where it was acceptable
+-- A SEGMENT ARRIVES, whose text P holds of where it was taken
 present-going : (s : State) (accepted : List ℕ) (closed : Bool) → IsPresent s → IsAlone s accepted closed → gives_up s.ending ≡ false
 present-going s accepted closed present a =
     gives_up-not_ended s.ending (not-closed-ended s.phase s.ending s.sending.una s.sending.nxt s.receiving.opened s.receiving.finished present.shut a.progress)
@@ -254,7 +254,7 @@ accepted-by_peer s v = (refl, refl, refl)
 
 pub feeds-judgement : (P : ℕ → ℕ → Type 0) (s : State) (irs k : ℕ) (delivered accepted : List ℕ) (closed : Bool) (src dst : List ℕ) (v : Content)
     → v.seq < 2 ^ 32 → IsAlone s accepted closed
-    → (s.receiving.opened ≡ false → irs ≡ v.seq) → (is_foreign s src dst v ≡ false → is_acceptable_segment s v ≡ true → AllText (ByNumber P v.seq) 0 v.text)
+    → (s.receiving.opened ≡ false → irs ≡ v.seq) → (is_foreign s src dst v ≡ false → IsTaken s v → AllText (ByNumber P v.seq) 0 v.text)
     → IsFed P s.receiving irs k delivered (gives_up s.ending)
     → Feeds P (has syn v.flags ≡ true) s (after_judgement (judgement s src dst v) s src v) irs k delivered
 unfolding judgement
@@ -291,6 +291,6 @@ feeds-judgement P s irs k delivered accepted closed src dst v small a first came
       acks_unsent = λ present. kept _ refl refl refl;
       handshake_refused = kept _ refl refl refl;
       handshake_refused_shut = λ present. kept _ refl refl refl;
-      taken = λ present is. feeds-taking P Q s irs k delivered v accepted closed present a small (came mine is.acceptable) h;
+      taken = λ present is. feeds-taking P Q s irs k delivered v accepted closed present a small (came mine is) h;
       taken_shut = λ present told. feeds-taking_shut P Q s irs k delivered v accepted closed present a h;
     }))

@@ -318,7 +318,7 @@ module _ (G K : PartyState → PartyState → Type 0) (Stays : PartyState → Pa
       (h.arrives p q g v given pair (record { place = k; sent = sent; read = read; comes = c }) kept))
 
   -- ANY EVENT that isn't refused, at the party whose side it names
-  pub every-event : (life : ℕ) (p q : PartyState) (event : EventContent) → life ≤ max_life → HasBytes event → (effect_of life p q event).refusal ≡ None
+  every-event : (life : ℕ) (p q : PartyState) (event : EventContent) → life ≤ max_life → HasBytes event → (effect_of life p q event).refusal ≡ None
       → G q p → IsSoundPair p q → K p q
       → K (effect_of life p q event).here (effect_of life p q event).there
   unfolding effect_of party_after_connect party_after_listen party_after_send party_after_receive party_after_close party_after_abort party_after_acknowledge party_after_timer

@@ -31,7 +31,7 @@ abbrev pub ByNumber : (ℕ → ℕ → Type 0) → ℕ → ℕ → ℕ → Type 
 ByNumber P start place byte = P (number start place) byte
 
 -- TEXTS, moved from one place to another
-pub text-moved : (P P' : ℕ → ℕ → Type 0) (a b : ℕ) → ((i byte : ℕ) → P (i + a) byte → P' (i + b) byte) → (k from to : ℕ) (text : List ℕ) → from ≡ k + a
+text-moved : (P P' : ℕ → ℕ → Type 0) (a b : ℕ) → ((i byte : ℕ) → P (i + a) byte → P' (i + b) byte) → (k from to : ℕ) (text : List ℕ) → from ≡ k + a
     → to ≡ k + b
     → AllText P from text → AllText P' to text
 text-moved P P' a b h k from to [] e f t = tt
@@ -40,10 +40,10 @@ text-moved P P' a b h k from to (byte ∷ text) e f t = (
   text-moved P P' a b h (suc k) (suc from) (suc to) text (omega (arith, e)) (omega (arith, f)) t.1,
 )
 
-pub text-same : (P P' : ℕ → ℕ → Type 0) (place : ℕ) (text : List ℕ) → ((n byte : ℕ) → P n byte → P' n byte) → AllText P place text → AllText P' place text
+text-same : (P P' : ℕ → ℕ → Type 0) (place : ℕ) (text : List ℕ) → ((n byte : ℕ) → P n byte → P' n byte) → AllText P place text → AllText P' place text
 text-same P P' place text h t = text-moved P P' 0 0 (λ i byte. h (i + 0) byte) place place place text (omega arith) (omega arith) t
 
-pub text-append : (P : ℕ → ℕ → Type 0) (place from : ℕ) (text more : List ℕ) → from ≡ place + length text → AllText P place text → AllText P from more
+text-append : (P : ℕ → ℕ → Type 0) (place from : ℕ) (text more : List ℕ) → from ≡ place + length text → AllText P place text → AllText P from more
     → AllText P place (text ++ more)
 text-append P place from [] more e t m = subst (λ (n : ℕ). AllText P n more) (omega (arith, e)) m
 text-append P place from (byte ∷ text) more e t m = (t.0, text-append P (suc place) from text more (omega (arith, e)) t.1 m)
@@ -163,7 +163,7 @@ brings-place P q z text h t =
     (λ _. brings-nothing P q h) (λ _. rw advance_of-answer_for (brings-overlay P q (overlay_of q p) over))
 
 -- THE PIECE of a text lies at its numbers, counted from the next one
-pub piece-numbers : (P : ℕ → ℕ → Type 0) (next seq : ℕ) (text : List ℕ) → next < 2 ^ 32 → seq < 2 ^ 32 → AllText (ByNumber P seq) 0 text
+piece-numbers : (P : ℕ → ℕ → Type 0) (next seq : ℕ) (text : List ℕ) → next < 2 ^ 32 → seq < 2 ^ 32 → AllText (ByNumber P seq) 0 text
     → AllText (ByNumber P next) (piece (offset next seq) text).start (piece (offset next seq) text).text
 piece-numbers P next seq text low small t =
     let d = distance next seq in

@@ -67,7 +67,7 @@ keeps-given_up : (p q : PartyState) (s : State) (ending : Ending) → gives_up e
 keeps-given_up p q s ending gone flags = (λ stays. absurd (false≢true (sym stays ∙ gone)), λ _. marks-given_up s.sending q.endpoint.receiving flags)
 
 -- ---- THE CALLS, the timers and the emissions
-pub hints-calls : (p q : PartyState) → IsSoundPair p q → KeepBothHints p q → KeptByCalls (address_of q) p (λ p'. Keeps p q p'.endpoint)
+hints-calls : (p q : PartyState) → IsSoundPair p q → KeepBothHints p q → KeptByCalls (address_of q) p (λ p'. Keeps p q p'.endpoint)
 hints-calls p q pair k =
     let s = p.endpoint in
     let d = s.sending in
@@ -142,7 +142,7 @@ fin-has p q s v close truth e kept =
     has-fin s.receiving q.accepted (placed p q s v fin.phase kept).unfinished fin.all kept.here.takes.held
 
 -- WHAT ARRIVES, with blocks that are true
-pub hints-arrive : (p q : PartyState) (g : SentSegment) (v : Content) → IsSoundPair p q → Arrives p q g v → KeepBothHints p q → Keeps p q (after_segment p q v)
+hints-arrive : (p q : PartyState) (g : SentSegment) (v : Content) → IsSoundPair p q → Arrives p q g v → KeepBothHints p q → Keeps p q (after_segment p q v)
 unfolding after_own_syn after_acked_text after_peer_opens after_peer_accepts
 hints-arrive p q g v pair a k =
     let s = p.endpoint in

@@ -128,11 +128,11 @@ abbrev pub AreTrueMarks : Sending → Receiving → Type 0
 AreTrueMarks d r = (place : ℕ) → IsMarked d.queue place → Has r (position_at d place)
 
 -- the other end has what it had
-pub marks-more : (d : Sending) (r r' : Receiving) → HasMore r r' → AreTrueMarks d r → AreTrueMarks d r'
+marks-more : (d : Sending) (r r' : Receiving) → HasMore r r' → AreTrueMarks d r → AreTrueMarks d r'
 marks-more d r r' more h place is = more (position_at d place) (h place is)
 
 -- a release takes bytes with their marks
-pub marks-acked : (d : Sending) (r : Receiving) (a : ℕ) → AreTrueMarks d r → AreTrueMarks (with_acked d a) r
+marks-acked : (d : Sending) (r : Receiving) (a : ℕ) → AreTrueMarks d r → AreTrueMarks (with_acked d a) r
 marks-acked d r a h place is =
     let same : 1 + d.released + (count_below d a + place) ≡ 1 + (d.released + count_below d a) + place = omega arith in
     subst (Has r) same (h (count_below d a + place) (IsMarked-after_release d.queue (count_below d a) place is))
@@ -160,7 +160,7 @@ unfolding after_window_update
 marks-window d r seq ack window h = cond_both (is_newer d seq ack) (with_window d seq ack window) d (λ (x : Sending). AreTrueMarks x r) (λ _. h) (λ _. h)
 
 -- A BLOCK marks positions that the other end has
-pub marks-block : (d : Sending) (r : Receiving) (left right : ℕ) → 1 + d.released ≤ d.una → length d.queue.marks ≡ length d.queue.bytes
+marks-block : (d : Sending) (r : Receiving) (left right : ℕ) → 1 + d.released ≤ d.una → length d.queue.marks ≡ length d.queue.bytes
     → ((n : ℕ) → left ≤ n → n < right → Has r n)
     → AreTrueMarks d r → AreTrueMarks (after_block d left right) r
 unfolding after_block after_mark

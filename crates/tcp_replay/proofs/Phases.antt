@@ -94,7 +94,7 @@ pub not-closed-ended : (phase : Phase) (ending : Ending) (una nxt : ℕ) (opened
 not-closed-ended Closed ending una nxt opened finished e h = absurd (cc)
 not-closed-ended other ending una nxt opened finished e h = h.0
 
-pub synchronized-closed : (phase : Phase) → is_synchronized phase ≡ true → is_closed phase ≡ false
+synchronized-closed : (phase : Phase) → is_synchronized phase ≡ true → is_closed phase ≡ false
 synchronized-closed Closed e = absurd (cc)
 synchronized-closed other e = refl
 
@@ -121,7 +121,7 @@ pub time_wait-synchronized : (phase : Phase) → is_time_wait phase ≡ true →
 time_wait-synchronized TimeWait e = refl
 time_wait-synchronized other e = absurd (cc)
 
-pub last_ack-synchronized : (phase : Phase) → is_last_ack phase ≡ true → is_synchronized phase ≡ true
+last_ack-synchronized : (phase : Phase) → is_last_ack phase ≡ true → is_synchronized phase ≡ true
 last_ack-synchronized LastAck e = refl
 last_ack-synchronized other e = absurd (cc)
 

@@ -1,8 +1,10 @@
 -- A run, taken event by event.
-use Rattle.std.proofs.Common.{◌≡◌, ℕ, ◌+◌, ◌<◌, List, [], ◌∷◌, ◌++◌, length, get_or, take, drop, map, refl, sym, ◌∙◌, ap, arith, add-one, take-append-drop}
+use Rattle.std.proofs.Common.{◌≡◌, ℕ, ◌+◌, ◌<◌, ◌≤◌, List, [], ◌∷◌, ◌++◌, length, get_or, take, drop, map, refl, sym, ◌∙◌, ap, subst, arith, add-one}
+use Rattle.std.proofs.Common.{take-append-drop}
 use Rattle.std.specs.Prelude.{true, Option, Some, None, Result, Ok, Err, IfSome, IfNone, ◌==◌, nat_le, if◌then◌else◌}
+use Rattle.std.specs.List.{AllByRecursion}
 use Rattle.std.proofs.lemmas.Bool.{cond_both}
-use Rattle.std.proofs.lemmas.List.{drop_more, take_more, length-take-le, length-map, get_or-map}
+use Rattle.std.proofs.lemmas.List.{drop_more, take_all, take_more, length-take-le, length-map, get_or-map}
 use Rattle.std.proofs.lemmas.Option.{slice_get-get_or}
 use Rattle.tcp_conn.specs.State.{State}
 use Rattle.tcp_replay.specs.declared.outcome.Outcome.{Outcome}
@@ -28,7 +30,7 @@ pub record GoesOn (w : WorldState) (list : List EventContent) (next : WorldState
   pub stop : stop_of w list ≡ None
   pub end : run_of w list ≡ next
 
-pub run-more : (w : WorldState) (list : List EventContent) (event : EventContent) → stop_of w list ≡ None → refusal_of (run_of w list) event ≡ None
+run-more : (w : WorldState) (list : List EventContent) (event : EventContent) → stop_of w list ≡ None → refusal_of (run_of w list) event ≡ None
     → GoesOn w (list ++ event ∷ []) (world_with_effect (run_of w list) event)
 unfolding stop_of run_of
 run-more w [] event e f = record { stop = ap (λ r. stop_or r None) f; end = ap (λ r. stay_or r w (world_with_effect w event)) f }
@@ -48,7 +50,7 @@ pub record Stops (w : WorldState) (list : List EventContent) (index : ℕ) (erro
   pub stop : stop_of w list ≡ Some (index, error)
   pub stays : run_of w list ≡ end
 
-pub run-stop : (w : WorldState) (list rest : List EventContent) (event : EventContent) (error : StepError) → stop_of w list ≡ None
+run-stop : (w : WorldState) (list rest : List EventContent) (event : EventContent) (error : StepError) → stop_of w list ≡ None
     → refusal_of (run_of w list) event ≡ Some error
     → Stops w (list ++ event ∷ rest) (length list) error (run_of w list)
 unfolding stop_of run_of
@@ -130,6 +132,18 @@ split-at list i event inside is =
 pub next-front : {X : Type 0} (list : List X) (i : ℕ) (event : X) → i < length list → event ≡ get_or list i event
     → take i list ++ event ∷ [] ≡ take (i + 1) list
 next-front list i event inside is = ap (λ e. take i list ++ e ∷ []) is ∙ sym (take_more list i event inside)
+
+-- something holds of each event so far, taken in turn
+all-last : {X : Type 0} (P : X → Type 0) (list : List X) (e : X) → AllByRecursion P list → P e → AllByRecursion P (list ++ e ∷ [])
+all-last P [] e all fits = (fits, tt)
+all-last P (first ∷ list) e all fits = (all.0, all-last P list e all.1 fits)
+
+pub all-go_on : {X : Type 0} (P : X → Type 0) (list : List X) (i : ℕ) (e : X) → i < length list → e ≡ get_or list i e → AllByRecursion P (take i list) → P e
+    → AllByRecursion P (take (i + 1) list)
+all-go_on P list i e inside is all fits = subst (AllByRecursion P) (next-front list i e inside is) (all-last P (take i list) e all fits)
+
+all-done : {X : Type 0} (P : X → Type 0) (list : List X) (i : ℕ) → length list ≤ i → AllByRecursion P (take i list) → AllByRecursion P list
+all-done P list i done all = subst (AllByRecursion P) (take_all i list done) all
 
 -- a run as far as an event, in the code's words
 pub record RunsTo (w here : WorldState) (list : List EventContent) (i : ℕ) : Type 0 where

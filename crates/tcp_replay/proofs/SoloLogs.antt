@@ -61,15 +61,6 @@ log-goes_on c list i log log' e inside is h n =
     subst (λ (x : SoloState). IsLogOf log' x) (sym (run-last (solo_start c) (take i list) e) ∙ ap (run_alone c) (next-front list i e inside is))
     (log-step log log' (run_alone c (take i list)) e h n)
 
--- the ranges of events, taken in turn
-all-last : (list : List SoloContent) (e : SoloContent) → AllByRecursion HasRanges list → HasRanges e → AllByRecursion HasRanges (list ++ e ∷ [])
-all-last [] e all fits = (fits, tt)
-all-last (first ∷ list) e all fits = (all.0, all-last list e all.1 fits)
-
-pub ranges-go_on : (list : List SoloContent) (i : ℕ) (e : SoloContent) → i < length list → e ≡ get_or list i e → AllByRecursion HasRanges (take i list)
-    → HasRanges e → AllByRecursion HasRanges (take (i + 1) list)
-ranges-go_on list i e inside is all fits = subst (AllByRecursion HasRanges) (next-front list i e inside is) (all-last (take i list) e all fits)
-
 -- WHAT THE LOG SAYS
 pub record IsTrueLog {A : Type 0} (c : Config) (list : List SoloContent) (log : SoloLog A) : Type 0 where
   pub sends : SendsItsUsers c log.accepted.items (run_alone c list).closed (segments log.emitted.items)

@@ -38,15 +38,14 @@ use Rattle.tcp_replay.specs.World.{party_after_listen, party_after_receive, part
 use Rattle.tcp_replay.proofs.Lists.{by_test, one_if}
 use Rattle.tcp_replay.proofs.Steps.{of_user-grows}
 use Rattle.tcp_replay.proofs.Alone.{alone-new}
-use Rattle.tcp_replay.proofs.AloneCalls.{alone-judgement}
-use Rattle.tcp_replay.proofs.AloneCalls.{send-unclosed, IsAloneIn, alone-calls}
+use Rattle.tcp_replay.proofs.AloneCalls.{alone-judgement, send-unclosed, IsAloneIn, alone-calls}
 use Rattle.tcp_replay.proofs.AloneEmissions.{IsSaid, GoesOutAlone, due-alone}
 use Rattle.tcp_replay.proofs.Emissions.{syn-of_user, syn-opened, plain-of_user, reset-bit}
+use Rattle.tcp_replay.proofs.Judgements.{IsTaken}
 use Rattle.tcp_replay.proofs.Feeds.{AllText, ByNumber, text-of, text-at, text-front, IsFed, fed-new, fed-more, fed-any}
 use Rattle.tcp_replay.proofs.AloneFeeds.{Feeds, feeds-same, feeds-judgement, feeds-calls}
 use Rattle.tcp_replay.proofs.Calls.{or-false, KeptByCalls, on-abort, on-acknowledge, on-close, on-connect, on-emission, on-listen, on-receive, on-send}
-use Rattle.tcp_replay.proofs.Calls.{on-timer}
-use Rattle.tcp_replay.proofs.Calls.{or-false, with_end}
+use Rattle.tcp_replay.proofs.Calls.{on-timer, with_end}
 use Rattle.tcp_halves.specs.declared.link.Peer.{Peer}
 
 -- ARRIVALS, by what the bytes are read as
@@ -215,7 +214,7 @@ came-more list e h = record {
 byte-more : (c : Config) (list : List SoloContent) (e : SoloContent) (n byte : ℕ) → CameIn c list n byte → CameIn c (list ++ e ∷ []) n byte
 unfolding came-more
 byte-more c list e n byte h =
-    record { came = came-more list e h.came; mine = h.mine; acceptable = h.acceptable; place = h.place; byte_is = h.byte_is; number = h.number }
+    record { came = came-more list e h.came; mine = h.mine; acceptable = h.acceptable; no_rst = h.no_rst; no_syn = h.no_syn; has_ack = h.has_ack; place = h.place; byte_is = h.byte_is; number = h.number }
 
 syn-more : (c : Config) (list : List SoloContent) (e : SoloContent) (irs : ℕ) → TookSyn c list irs → TookSyn c (list ++ e ∷ []) irs
 unfolding came-more
@@ -227,14 +226,17 @@ came-last list src dst bytes v e = record { front = list; src = src; dst = dst; 
 
 text-came : (c : Config) (list : List SoloContent) (x : SoloState) (src dst bytes : List ℕ) (v : Content) → run_alone c list ≡ x
     → decode_answer src dst bytes ≡ Ok v
-    → is_foreign x.endpoint src dst v ≡ false → is_acceptable_segment x.endpoint v ≡ true
+    → is_foreign x.endpoint src dst v ≡ false → IsTaken x.endpoint v
     → AllText (ByNumber (CameIn c (list ++ Arrive src dst bytes ∷ [])) v.seq) 0 v.text
 unfolding came-last
 text-came c list x src dst bytes v at e mine fits =
     text-of (ByNumber (CameIn c (list ++ Arrive src dst bytes ∷ [])) v.seq) 0 0 v.text refl (λ i byte is. record {
       came = came-last list src dst bytes v e;
       mine = ap (λ (y : SoloState). is_foreign y.endpoint src dst v) at ∙ mine;
-      acceptable = ap (λ (y : SoloState). is_acceptable_segment y.endpoint v) at ∙ fits;
+      acceptable = ap (λ (y : SoloState). is_acceptable_segment y.endpoint v) at ∙ fits.acceptable;
+      no_rst = fits.ack_only.plain;
+      no_syn = fits.ack_only.no_syn;
+      has_ack = fits.ack_only.is_ack;
       place = i;
       byte_is = is;
       number = ap (number v.seq) (omega arith);
@@ -282,8 +284,7 @@ IsSynRead (Err fault) = ⊥
 feeds-reading : (P : ℕ → ℕ → Type 0) (s : State) (irs k : ℕ) (delivered accepted : List ℕ) (closed : Bool) (src dst bytes : List ℕ)
     (r : Result Content DecodeError) → AreBytes bytes → decode_answer src dst bytes ≡ r
     → IsAlone s accepted closed
-    → ((v : Content) → decode_answer src dst bytes ≡ Ok v → is_foreign s src dst v ≡ false → is_acceptable_segment s v ≡ true → AllText
-    (ByNumber P v.seq) 0 v.text)
+    → ((v : Content) → decode_answer src dst bytes ≡ Ok v → is_foreign s src dst v ≡ false → IsTaken s v → AllText (ByNumber P v.seq) 0 v.text)
     → IsFed P s.receiving irs k delivered (gives_up s.ending)
     → Feeds P (IsSynRead r) s (after_reading s src dst r) (if s.receiving.opened then irs else seq_read r) k delivered
 feeds-reading P s irs k delivered accepted closed src dst bytes (Ok v) fits e a came h =
@@ -294,8 +295,7 @@ feeds-reading P s irs k delivered accepted closed src dst bytes (Err fault) fits
 
 feeds-arrived : (P : ℕ → ℕ → Type 0) (s : State) (irs k : ℕ) (delivered accepted : List ℕ) (closed : Bool) (src dst bytes : List ℕ) → AreBytes bytes
     → IsAlone s accepted closed
-    → ((v : Content) → decode_answer src dst bytes ≡ Ok v → is_foreign s src dst v ≡ false → is_acceptable_segment s v ≡ true → AllText
-    (ByNumber P v.seq) 0 v.text)
+    → ((v : Content) → decode_answer src dst bytes ≡ Ok v → is_foreign s src dst v ≡ false → IsTaken s v → AllText (ByNumber P v.seq) 0 v.text)
     → IsFed P s.receiving irs k delivered (gives_up s.ending)
     → Feeds P (IsSynRead (decode_answer src dst bytes)) s (after_arrival s src dst bytes)
     (if s.receiving.opened then irs else seq_read (decode_answer src dst bytes)) k delivered

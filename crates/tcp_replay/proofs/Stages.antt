@@ -87,7 +87,7 @@ kept-news p q s v h =
     }
 
 -- OWN FIN: the connection goes on, or has ended
-pub kept-own_fin : (p q : PartyState) (s : State) → Synced p q s → Kept p q (after_own_fin s)
+kept-own_fin : (p q : PartyState) (s : State) → Synced p q s → Kept p q (after_own_fin s)
 unfolding after_own_fin
 kept-own_fin p q s h =
     let d = s.sending in
@@ -249,7 +249,7 @@ fin-true p q s v close truth e h =
     h.here.hands h.here.between
     (λ opened. opened) (omega (arith, one_if-false r.finished at.unfinished))
 
-pub kept-fin : (p q : PartyState) (s : State) (v : Content) → IsAhead p q → IsTruthful (witness_of q p) v → Kept p q s → Kept p q (after_fin s v)
+kept-fin : (p q : PartyState) (s : State) (v : Content) → IsAhead p q → IsTruthful (witness_of q p) v → Kept p q s → Kept p q (after_fin s v)
 unfolding after_fin
 kept-fin p q s v close truth h =
     let owing : State = record s { owed = record s.owed { ack = s.owed.ack || has_fin s v } } in

@@ -78,7 +78,7 @@ of_user-grows iss iss' accepted more new closed closed' v same_iss e fixed h = r
       (shut.1, omega (arith, same, (h.has_fin told).1));
 }
 
-pub truthful-grows : (x x' : Witness) (v : Content) → Grows x x' → IsTruthful x v → IsTruthful x' v
+truthful-grows : (x x' : Witness) (v : Content) → Grows x x' → IsTruthful x v → IsTruthful x' v
 truthful-grows x x' v g h = record {
   own = of_user-grows x.iss x'.iss x.accepted g.more x'.accepted x.closed x'.closed v g.iss g.accepted g.closed h.own;
   has_ack = λ told. let a = h.has_ack told in record {
@@ -90,7 +90,7 @@ truthful-grows x x' v g h = record {
   };
 }
 
-pub stands-grows : (x x' : Witness) (v : Content) (position wanted : ℕ) → Grows x x' → StandsAt x v position wanted → StandsAt x' v position wanted
+stands-grows : (x x' : Witness) (v : Content) (position wanted : ℕ) → Grows x x' → StandsAt x v position wanted → StandsAt x' v position wanted
 unfolding truthful-grows of_user-grows
 stands-grows x x' v position wanted g h = record { truth = truthful-grows x x' v g h.truth; position_is = h.position_is; wanted_is = h.wanted_is }
 
@@ -262,7 +262,7 @@ kept-orderly p q s going h =
     (record { peer = λ never. absurd (cc); reset = h.here.speaks.reset }) refl none h.here.between
 
 -- the half that sends moves, SND.UNA and SND.NXT being where they were
-pub kept-sending : (p q : PartyState) (s : State) (d : Sending) → d.una ≡ s.sending.una → d.nxt ≡ s.sending.nxt
+kept-sending : (p q : PartyState) (s : State) (d : Sending) → d.una ≡ s.sending.una → d.nxt ≡ s.sending.nxt
     → Sends d p.accepted p.closed (gives_up s.ending) → Kept p q s → Kept p q (record s { sending = d })
 kept-sending p q s d una nxt sends h =
     let alone = alone-sending s p.accepted p.closed d una nxt sends h.here.alone in

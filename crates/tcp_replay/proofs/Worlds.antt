@@ -40,7 +40,7 @@ use Rattle.tcp_replay.specs.declared.outcome.StepError.TheVariants.{NoSuchSegmen
 use Rattle.tcp_replay.specs.declared.outcome.Outcome.TheVariants as outcomes
 
 -- SOUNDNESS rests on nothing else
-pub nothing-kept : (peer : Peer) (p : PartyState) → KeptByCalls peer p (λ _. Unit {0})
+nothing-kept : (peer : Peer) (p : PartyState) → KeptByCalls peer p (λ _. Unit {0})
 nothing-kept peer p = record {
   same = tt;
   connects = λ _. tt;
@@ -208,13 +208,13 @@ sound-after w event fits e h = record {
   life = omega (arith, life-after w event, h.life);
 }
 
-pub sound-step : (w : WorldState) (event : EventContent) → HasBytes event → IsSound w → IsSound (world_after w event)
+sound-step : (w : WorldState) (event : EventContent) → HasBytes event → IsSound w → IsSound (world_after w event)
 sound-step w event fits h = kept-after IsSound sound-after w event fits h
 
-pub sound-run : (w : WorldState) (list : List EventContent) → AllByRecursion HasBytes list → IsSound w → IsSound (run_of w list)
+sound-run : (w : WorldState) (list : List EventContent) → AllByRecursion HasBytes list → IsSound w → IsSound (run_of w list)
 sound-run w list fits h = kept-run IsSound sound-after w list fits h
 
-pub sound-after_all : (w : WorldState) (list : List EventContent) → AllByRecursion HasBytes list → IsSound w → IsSound (world_after_all w list)
+sound-after_all : (w : WorldState) (list : List EventContent) → AllByRecursion HasBytes list → IsSound w → IsSound (world_after_all w list)
 sound-after_all w list fits h = kept-after_all IsSound sound-after w list fits h
 
 pub safe-sound : (w : WorldState) → IsSound w → IsSafe w

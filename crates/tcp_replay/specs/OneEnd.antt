@@ -41,11 +41,15 @@ pub record TookSyn (c : Config) (list : List SoloContent) (irs : ℕ) : Type 0 w
   pub after : (end_after (run_alone c came.front).endpoint (Arrive came.src came.dst came.bytes)).receiving.opened ≡ true
   pub number : irs ≡ came.content.seq
 
--- A BYTE with this number came, in a segment of this connection that was acceptable when it came (RFC 9293, 3.10.7.4)
+-- A BYTE with this number came, in a segment of this connection that was taken when it came: acceptable, neither a reset nor a SYN,
+-- and with an acknowledgement (RFC 9293, 3.10.7.4, first to fifth)
 pub record CameIn (c : Config) (list : List SoloContent) (n byte : ℕ) : Type 0 where
   pub came : Came list
   pub mine : is_foreign (run_alone c came.front).endpoint came.src came.dst came.content ≡ false
   pub acceptable : is_acceptable_segment (run_alone c came.front).endpoint came.content ≡ true
+  pub no_rst : has rst came.content.flags ≡ false
+  pub no_syn : has syn came.content.flags ≡ false
+  pub has_ack : has ack came.content.flags ≡ true
   pub place : ℕ
   pub byte_is : slice_get came.content.text place ≡ Some byte
   pub number : n ≡ number came.content.seq place

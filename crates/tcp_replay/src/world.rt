@@ -1,4 +1,5 @@
 ghost use Rattle.std.specs.Prelude.{◌≡◌, ◌≢◌, ◌↔◌, ◌≤◌, true, length, None, Some, OnOk, OnErr, IfOk, IfErr, IfSome, IfNone, map, option_map, slice_get};
+ghost use Rattle.std.specs.List.{AllByRecursion};
 ghost use Rattle.tcp_conn.specs.Config.{IsConfig};
 ghost use Rattle.tcp_replay.specs.Events.{event_content, HasBytes, IsDamage};
 ghost use Rattle.tcp_replay.specs.World.{WorldState, KeepsAllSegments, max_life, new_world, new_world_with, both, party_of, effect_of, world_with_effect, refusal_of, outcome_of, grows_for, step_answer, world_after, run_of, stop_of, StopsForMemory, HasGoodConfigs, NamesFault};
@@ -185,6 +186,7 @@ impl<A: Allocator + Copy> World<A> {
     /// it stays done.
     pub fn run<E: Allocator>(&mut self, events: &[Event<E>]) -> Result<(), (usize, StepError)>
         ensures done { OnOk result ((stop_of self.old (map event_content events.now) ≡ None) × (self.new ≡ run_of self.old (map event_content events.now))) }
+        ensures bytes { OnOk result (AllByRecursion HasBytes (map event_content events.now)) }
         // A refusal that isn't for memory is the first one of the list.
         ensures refused { IfErr result (λ stop. stop.1 ≢ StepError.NoMemory → (stop_of self.old (map event_content events.now) ≡ Some stop) × (self.new ≡ run_of self.old (map event_content events.now))) }
         // Want of memory stops the run before an event that isn't refused and makes the world grow.

@@ -10,5 +10,5 @@ returns-clause-exact c = grind (arith, common_steps, nat_tests)
 
 pub returns-clause-one_place : goal.returns-clause-one_place
 returns-clause-one_place c = λ holds other differs.
-    let first : Checks c.args.src.0 c.args.dst.0 c.args.bytes.now = grind (arith, nat_tests, c.pseudo_sum.ensures.exact, c.folded_sum.ensures.words, holds) in
+    let first : Checks c.args.src.0 c.args.dst.0 c.args.bytes.now = grind (arith, nat_tests, c.pseudo_sum.ensures.exact, c.word_sum.ensures.exact, holds) in
     one_place c.args.src.0 c.args.dst.0 c.args.bytes.now other differs first

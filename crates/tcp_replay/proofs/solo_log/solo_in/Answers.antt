@@ -1,7 +1,8 @@
 use Rattle.std.proofs.Common.{◌<◌, ◌≤◌, length, map, rules}
-use Rattle.tcp_replay.specs.SoloEvents.{solo_content}
+use Rattle.tcp_replay.specs.SoloEvents.{solo_content, HasRanges}
 use Rattle.tcp_replay.proofs.Runs.{content_at, content_inside}
-use Rattle.tcp_replay.proofs.SoloLogs.{log-begins, log-goes_on, ranges-go_on, log-ends}
+use Rattle.tcp_replay.proofs.Runs.{all-go_on}
+use Rattle.tcp_replay.proofs.SoloLogs.{log-begins, log-goes_on, log-ends}
 use Rattle.tcp_replay.proofs.solo_log.solo_in.Goals as goal
 
 pub loop-i-init : goal.loop-i-init
@@ -21,7 +22,7 @@ loop-i-preserved g c =
       made = c.loop-i.invariant.made;
       so_far = log-goes_on c.args.config list c.loop-i.i c.loop-i.log c.step.new.self event within at c.loop-i.invariant.so_far
           (record { endpoint = e.endpoint; accepted = e.accepted; delivered = e.delivered; emitted = e.emitted; ended = e.ended; outcomes = e.outcomes });
-      ranges = ranges-go_on list c.loop-i.i event within at c.loop-i.invariant.ranges e.ranges;
+      ranges = all-go_on HasRanges list c.loop-i.i event within at c.loop-i.invariant.ranges e.ranges;
     }
 
 pub returns-clause-sends_its_users : goal.returns-clause-sends_its_users

@@ -1,14 +1,15 @@
 use Rattle.std.proofs.Common.{◌<◌, length, map, subst, ap, rules}
-use Rattle.tcp_replay.specs.Events.{event_content}
+use Rattle.tcp_replay.specs.Events.{event_content, HasBytes}
 use Rattle.tcp_replay.specs.World.{WorldState, both}
 use Rattle.tcp_replay.specs.Safe.{IsSafe, HintsAreTrue}
-use Rattle.tcp_replay.proofs.Runs.{refused_by, run_begins, run_goes_on, run_refused, run_out_of_memory, content_at, content_inside}
+use Rattle.tcp_replay.proofs.Runs.{all-go_on, refused_by, run_begins, run_goes_on, run_refused, run_out_of_memory, content_at, content_inside}
 use Rattle.tcp_replay.proofs.Worlds.{safe-sound, hints-sound}
 use Rattle.tcp_replay.proofs.world.World.run.Goals as goal
 
 pub loop-i-init : goal.loop-i-init
 loop-i-init g c = record {
   so_far = run_begins c.args.self.now (map event_content c.args.events.now);
+  bytes = tt;
   keeps = λ keeps. keeps;
   safe = subst (λ (w : WorldState). IsSafe w) c.self.view_is (safe-sound (both c.self.inside.life c.self.inside.a c.self.inside.b) c.self.invariant);
   hints = subst (λ (w : WorldState). HintsAreTrue w) c.self.view_is (hints-sound (both c.self.inside.life c.self.inside.a c.self.inside.b) c.self.invariant);
@@ -41,6 +42,10 @@ loop-i-preserved g c =
           (content_inside event_content c.args.events.now c.loop-i.i inside)
           (content_at event_content c.args.events.now c.loop-i.i c.index-events-i.result inside c.index-events-i.is) c.loop-i.invariant.so_far
           c.in_default.ensures.refused c.in_default.ensures.state;
+      bytes = all-go_on HasBytes (map event_content c.args.events.now) c.loop-i.i (event_content c.index-events-i.result)
+          (content_inside event_content c.args.events.now c.loop-i.i inside)
+          (content_at event_content c.args.events.now c.loop-i.i c.index-events-i.result inside c.index-events-i.is)
+          c.loop-i.invariant.bytes c.in_default.ensures.bytes;
       keeps = λ keeps. c.in_default.ensures.keeps (c.loop-i.invariant.keeps keeps);
       safe = c.in_default.ensures.safe;
       hints = c.in_default.ensures.hints;

@@ -1,4 +1,4 @@
-/* What the tests of the companions share: a check that stops the program, and two ends with a clock between them. */
+/* What the tests share: a check that stops the program. */
 #ifndef TCPCORE_CHECK_H
 #define TCPCORE_CHECK_H
 

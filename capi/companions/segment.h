@@ -1,0 +1,35 @@
+/*
+ * segment.h: where the fields of a TCP segment lie (RFC 9293, 3.1). The companions' own files include it, and no header of
+ * theirs: its names are short.
+ *
+ * This is C alone, tested with them and not proved. A segment is one of at least SEGMENT_HEADER bytes, all of which are there.
+ */
+#ifndef TCPCORE_SEGMENT_H
+#define TCPCORE_SEGMENT_H
+
+#include <stddef.h>
+#include <stdint.h>
+
+/* The control bits. */
+enum { FIN = 1, SYN = 2, RST = 4, PSH = 8, ACK = 16 };
+
+/* The places of fields, and the bytes of a header without options. */
+enum { AT_SEQ = 4, AT_ACK = 8, AT_OFFSET = 12, AT_BITS = 13, AT_WINDOW = 14, AT_CHECKSUM = 16, SEGMENT_HEADER = 20 };
+
+/* Numbers in network order. */
+static inline uint16_t read16(const uint8_t *at) { return (uint16_t)(at[0] << 8 | at[1]); }
+static inline uint32_t read32(const uint8_t *at) { return (uint32_t)read16(at) << 16 | read16(at + 2); }
+
+static inline void write16(uint8_t *at, uint16_t value)
+{
+    at[0] = (uint8_t)(value >> 8);
+    at[1] = (uint8_t)value;
+}
+
+/* Of these control bits those that are set. */
+static inline unsigned bits_of(const uint8_t *segment, unsigned bits) { return segment[AT_BITS] & bits; }
+
+/* The bytes of the header with its options. */
+static inline size_t header_of(const uint8_t *segment) { return 4 * (size_t)(segment[AT_OFFSET] >> 4); }
+
+#endif
