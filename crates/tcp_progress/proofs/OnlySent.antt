@@ -264,11 +264,7 @@ due-ends p q Syn h out plain =
     let is_syn : one_if (has syn (syn_segment s).flags) ≡ 1 = ap one_if bits.0 in
     let no_fin : one_if (has fin (syn_segment s).flags) ≡ 0 = ap one_if bits.1 in
     omega (arith, at, is_syn, no_fin)
-due-ends p q (Resend start count) h out plain = plain-ends p q (Resend start count) _ out.kind h (omega arith)
-due-ends p q (NewText start count) h out plain = plain-ends p q (NewText start count) _ out.kind h (omega arith)
-due-ends p q (Fin start) h out plain = plain-ends p q (Fin start) _ out.kind h (omega arith)
-due-ends p q (ResentFin start) h out plain = plain-ends p q (ResentFin start) _ out.kind h (omega arith)
-due-ends p q Acknowledgement h out plain = plain-ends p q Acknowledgement _ out.kind h (omega arith)
+due-ends p q other h out plain = plain-ends p q other _ out.kind h (omega arith)
 
 -- p became p', and emitted what is due
 sent-moved : (p p' q : PartyState) → IsSoundPair p q → Moved p p' q → Speaks p p' q → Reaches p q p'.endpoint → Both KeepsSent p q → Both KeepsSent p' q

@@ -339,12 +339,7 @@ fin-closed p q g v own read plain told =
 due-names : (s : State) (due : Due) → (segment_of s due).src_port ≡ s.config.port
 unfolding segment_of
 due-names s (Reset reset) = refl
-due-names s Syn = refl
-due-names s (Resend start count) = refl
-due-names s (NewText start count) = refl
-due-names s (Fin start) = refl
-due-names s (ResentFin start) = refl
-due-names s Acknowledgement = refl
+due-names s other = refl
 
 -- p became p', and emitted what is due
 stages-moved : (p p' q : PartyState) → IsSoundPair p q → Moved p p' q → Speaks p p' q → MayBeIn p q p'.endpoint p'.accepted → Both KeepsStages p q

@@ -20,11 +20,7 @@ use Rattle.tcp_progress.specs.Progress.{OwedIsTold, TellsNext}
 abbrev IsAcknowledging : Due → Type 0
 IsAcknowledging (Reset reset) = ⊥
 IsAcknowledging Syn = ⊥
-IsAcknowledging (Resend start count) = Unit {0}
-IsAcknowledging (NewText start count) = Unit {0}
-IsAcknowledging (Fin start) = Unit {0}
-IsAcknowledging (ResentFin start) = Unit {0}
-IsAcknowledging Acknowledgement = Unit {0}
+IsAcknowledging other = Unit {0}
 
 -- WHAT THE HALF THAT SENDS HAS DUE
 resent_fin-plain : (d : Sending) (range : Range ℕ) → IfSome (resent_fin d range) IsAcknowledging

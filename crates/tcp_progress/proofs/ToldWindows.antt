@@ -203,11 +203,7 @@ due-told : (p q : PartyState) (due : Due) → IsSoundPair p q → GoesOutAlone p
 unfolding segment_of
 due-told p q (Reset reset) pair out h plain = absurd (false≢true (sym plain ∙ reset-bit _))
 due-told p q Syn pair out h plain = syn-told p.endpoint p.endpoint.config q.endpoint.config pair.there.alone.config.good.2 h refl
-due-told p q (Resend start count) pair out h plain = plain-told p.endpoint _ _ (Resend start count) out.kind.opened h refl
-due-told p q (NewText start count) pair out h plain = plain-told p.endpoint _ _ (NewText start count) out.kind.opened h refl
-due-told p q (Fin start) pair out h plain = plain-told p.endpoint _ _ (Fin start) out.kind.opened h refl
-due-told p q (ResentFin start) pair out h plain = plain-told p.endpoint _ _ (ResentFin start) out.kind.opened h refl
-due-told p q Acknowledgement pair out h plain = plain-told p.endpoint _ _ Acknowledgement out.kind.opened h refl
+due-told p q other pair out h plain = plain-told p.endpoint _ _ other out.kind.opened h refl
 
 -- p became p', and emitted what is due
 told-moved : (p p' q : PartyState) → IsSoundPair p q → Moved p p' q → Speaks p p' q → InRoom p q p'.endpoint → Both KeepsTold p q → Both KeepsTold p' q

@@ -205,11 +205,7 @@ pub record IsSaid (s : State) (accepted : List ℕ) (closed : Bool) (due : Due) 
 abbrev pub IsOfKind : State → List ℕ → Bool → Due → Type 0
 IsOfKind s accepted closed (Reset reset) = s.owed.reset ≡ Some reset
 IsOfKind s accepted closed Syn = is_handshake s.phase ≡ true
-IsOfKind s accepted closed (Resend start count) = IsSaid s accepted closed (Resend start count)
-IsOfKind s accepted closed (NewText start count) = IsSaid s accepted closed (NewText start count)
-IsOfKind s accepted closed (Fin start) = IsSaid s accepted closed (Fin start)
-IsOfKind s accepted closed (ResentFin start) = IsSaid s accepted closed (ResentFin start)
-IsOfKind s accepted closed Acknowledgement = IsSaid s accepted closed Acknowledgement
+IsOfKind s accepted closed other = IsSaid s accepted closed other
 
 -- WHAT GOES OUT
 pub record GoesOutAlone (s : State) (accepted : List ℕ) (closed : Bool) (due : Due) : Type 0 where

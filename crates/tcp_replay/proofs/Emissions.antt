@@ -218,11 +218,7 @@ goes-out p q Syn h out = record {
   valid = out.valid;
   truthful = λ _. syn-stands p q out.kind h;
 }
-goes-out p q (Resend start count) h out = goes-plain p q (Resend start count) out out.kind h
-goes-out p q (NewText start count) h out = goes-plain p q (NewText start count) out out.kind h
-goes-out p q (Fin start) h out = goes-plain p q (Fin start) out out.kind h
-goes-out p q (ResentFin start) h out = goes-plain p q (ResentFin start) out out.kind h
-goes-out p q Acknowledgement h out = goes-plain p q Acknowledgement out out.kind h
+goes-out p q other h out = goes-plain p q other out out.kind h
 
 -- WHATEVER IS DUE
 pub due-goes : (p q : PartyState) → IsSoundPair p q → IfSome (due_of p.endpoint) (GoesOut p q)

@@ -280,11 +280,7 @@ blocks-of_due : (p q : PartyState) (due : Due) → IsSoundPair p q → GoesOut p
 unfolding segment_of
 blocks-of_due p q (Reset reset) h goes = none-true p q [] refl
 blocks-of_due p q Syn h goes = none-true p q _ (blocks-of_syn p.endpoint.config.mss (shift_offered p.endpoint) (is_sack_offered p.endpoint))
-blocks-of_due p q (Resend start count) h goes = plain-reports p q (Resend start count) refl h goes
-blocks-of_due p q (NewText start count) h goes = plain-reports p q (NewText start count) refl h goes
-blocks-of_due p q (Fin start) h goes = plain-reports p q (Fin start) refl h goes
-blocks-of_due p q (ResentFin start) h goes = plain-reports p q (ResentFin start) refl h goes
-blocks-of_due p q Acknowledgement h goes = plain-reports p q Acknowledgement refl h goes
+blocks-of_due p q other h goes = plain-reports p q other refl h goes
 
 -- a block stays true of an end that has as many positions or more
 block-more : (x x' : Witness) (block : ℕ × ℕ) → x'.irs ≡ x.irs → ((n : ℕ) → HasPosition x n → HasPosition x' n) → IsTrueBlock x block → IsTrueBlock x' block

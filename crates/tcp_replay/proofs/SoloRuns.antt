@@ -118,15 +118,8 @@ fixed-step s accepted closed (Send text) h shut = (
       (λ open_. false≢true (sym (send-unclosed s accepted text closed open_ h) ∙ shut)),
   ap (λ b. b || false) shut,
 )
-fixed-step s accepted closed (Connect addr port) h shut = (refl, ap (λ b. b || false) shut)
-fixed-step s accepted closed Listen h shut = (refl, ap (λ b. b || false) shut)
-fixed-step s accepted closed (Receive room) h shut = (refl, ap (λ b. b || false) shut)
 fixed-step s accepted closed Close h shut = (refl, ap (λ b. b || is_close s Close) shut)
-fixed-step s accepted closed Abort h shut = (refl, ap (λ b. b || false) shut)
-fixed-step s accepted closed Acknowledge h shut = (refl, ap (λ b. b || false) shut)
-fixed-step s accepted closed (Timer which) h shut = (refl, ap (λ b. b || false) shut)
-fixed-step s accepted closed Emit h shut = (refl, ap (λ b. b || false) shut)
-fixed-step s accepted closed (Arrive src dst bytes) h shut = (refl, ap (λ b. b || false) shut)
+fixed-step s accepted closed other h shut = (refl, ap (λ b. b || false) shut)
 
 -- WHAT IS EMITTED
 pub record Says (s : State) (accepted : List ℕ) (closed : Bool) (v : Content) : Type 0 where
@@ -149,11 +142,7 @@ due-says : (s : State) (accepted : List ℕ) (closed : Bool) (due : Due) → Goe
 unfolding segment_of
 due-says s accepted closed (Reset reset) out plain = absurd (false≢true (sym plain ∙ reset-bit (is_some reset.ack)))
 due-says s accepted closed Syn out plain = syn-speaks s accepted closed
-due-says s accepted closed (Resend start count) out plain = plain-says s accepted closed (Resend start count) out.kind
-due-says s accepted closed (NewText start count) out plain = plain-says s accepted closed (NewText start count) out.kind
-due-says s accepted closed (Fin start) out plain = plain-says s accepted closed (Fin start) out.kind
-due-says s accepted closed (ResentFin start) out plain = plain-says s accepted closed (ResentFin start) out.kind
-due-says s accepted closed Acknowledgement out plain = plain-says s accepted closed Acknowledgement out.kind
+due-says s accepted closed other out plain = plain-says s accepted closed other out.kind
 
 pub record Emits (s : State) (accepted : List ℕ) (closed : Bool) (to bytes : List ℕ) : Type 0 where
   pub content : Content
@@ -339,15 +328,7 @@ feeds-step c list x irs k e fits h =
 -- the SYN, once it was taken or where it comes
 irs-same : (s : State) (irs : ℕ) (e : SoloContent) → s.receiving.opened ≡ true → next_irs s irs e ≡ irs
 irs-same s irs (Arrive src dst bytes) opened = ap (λ (b : Bool). if b then irs else seq_read (decode_answer src dst bytes)) opened
-irs-same s irs (Connect addr port) opened = refl
-irs-same s irs Listen opened = refl
-irs-same s irs (Send text) opened = refl
-irs-same s irs (Receive room) opened = refl
-irs-same s irs Close opened = refl
-irs-same s irs Abort opened = refl
-irs-same s irs Acknowledge opened = refl
-irs-same s irs (Timer which) opened = refl
-irs-same s irs Emit opened = refl
+irs-same s irs other opened = refl
 
 syn-read : (c : Config) (list : List SoloContent) (x : SoloState) (irs : ℕ) (src dst bytes : List ℕ) (r : Result Content DecodeError)
     → decode_answer src dst bytes ≡ r → IsSynRead r → run_alone c list ≡ x
