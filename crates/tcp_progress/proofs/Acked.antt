@@ -25,11 +25,11 @@ pub record KeepsText (d d' : Sending) : Type 0 where
   pub released : d'.released ≡ d.released
   pub queued : d'.queue.bytes ≡ d.queue.bytes
 
-kept : (d : Sending) → KeepsText d d
-kept d = record { una = refl; released = refl; queued = refl }
+text-kept : (d : Sending) → KeepsText d d
+text-kept d = record { una = refl; released = refl; queued = refl }
 
-kept-twice : (d e f : Sending) → KeepsText d e → KeepsText e f → KeepsText d f
-kept-twice d e f one other =
+text-kept_twice : (d e f : Sending) → KeepsText d e → KeepsText e f → KeepsText d f
+text-kept_twice d e f one other =
     record { una = other.una ∙ one.una; released = other.released ∙ one.released; queued = other.queued ∙ one.queued }
 
 -- marks
@@ -39,27 +39,27 @@ marks-keep d left right = record { una = refl; released = refl; queued = refl }
 
 block-keeps : (d : Sending) (left right : ℕ) → KeepsText d (after_block d left right)
 unfolding after_block
-block-keeps d left right = cond_both (marks_text d left right) (with_marks d left right) d (λ (e : Sending). KeepsText d e) (λ _. marks-keep d left right) (λ _. kept d)
+block-keeps d left right = cond_both (marks_text d left right) (with_marks d left right) d (λ (e : Sending). KeepsText d e) (λ _. marks-keep d left right) (λ _. text-kept d)
 
 blocks-keep : (iss : ℕ) (d : Sending) (blocks : List (ℕ × ℕ)) → KeepsText d (after_blocks iss d blocks)
-blocks-keep iss d [] = kept d
+blocks-keep iss d [] = text-kept d
 blocks-keep iss d (block ∷ blocks) =
     let e : Sending = after_block d (position_of iss d.una block.0) (position_of iss d.una block.1) in
-    kept-twice d e (after_blocks iss e blocks) (block-keeps d (position_of iss d.una block.0) (position_of iss d.una block.1)) (blocks-keep iss e blocks)
+    text-kept_twice d e (after_blocks iss e blocks) (block-keeps d (position_of iss d.una block.0) (position_of iss d.una block.1)) (blocks-keep iss e blocks)
 
 -- the window
 update-keeps : (d : Sending) (seq ack window : ℕ) → KeepsText d (after_window_update d seq ack window)
 unfolding after_window_update
 update-keeps d seq ack window = cond_both (is_newer d seq ack) (with_window d seq ack window) d (λ (e : Sending). KeepsText d e)
-    (λ _. record { una = refl; released = refl; queued = refl }) (λ _. kept d)
+    (λ _. record { una = refl; released = refl; queued = refl }) (λ _. text-kept d)
 
 pub news-keep : (s : State) (v : Content) → KeepsText s.sending (after_news s v).sending
 unfolding after_news
 news-keep s v =
     let told : Sending = after_window_update s.sending v.seq v.ack (window_from s.link v.window) in
     cond_both (is_current s v) (with_news s v) s.sending (λ (e : Sending). KeepsText s.sending e)
-    (λ _. kept-twice s.sending told (with_news s v) (update-keeps s.sending v.seq v.ack (window_from s.link v.window)) (blocks-keep s.config.isn.0 told (blocks_used s v)))
-    (λ _. kept s.sending)
+    (λ _. text-kept_twice s.sending told (with_news s v) (update-keeps s.sending v.seq v.ack (window_from s.link v.window)) (blocks-keep s.config.isn.0 told (blocks_used s v)))
+    (λ _. text-kept s.sending)
 
 -- the own FIN's acknowledgement
 pub own_fin-keeps : (s : State) → KeepsText s.sending (after_own_fin s).sending
@@ -68,8 +68,8 @@ own_fin-keeps s =
     let goes_on : State = record s { phase = phase_after_own_fin s.phase } in
     cond_both (is_fin_acked s.sending) (if is_last_ack s.phase then after_orderly_end s else goes_on) s (λ (t : State). KeepsText s.sending t.sending)
     (λ _. cond_both (is_last_ack s.phase) (after_orderly_end s) goes_on (λ (t : State). KeepsText s.sending t.sending)
-    (λ _. record { una = refl; released = refl; queued = refl }) (λ _. kept s.sending))
-    (λ _. kept s.sending)
+    (λ _. record { una = refl; released = refl; queued = refl }) (λ _. text-kept s.sending))
+    (λ _. text-kept s.sending)
 
 -- the acknowledgement itself
 not-syn_received : (phase : Phase) → is_synchronized phase ≡ true → is_syn_received phase ≡ false

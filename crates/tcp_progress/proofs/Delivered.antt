@@ -26,12 +26,12 @@ use Rattle.tcp_replay.specs.Alone.{Sends}
 use Rattle.tcp_replay.specs.World.{PartyState, SentSegment, delivery_refusal, is_expired, max_life, party_after_arrival, segment_at}
 use Rattle.tcp_replay.specs.Safe.{next_position}
 use Rattle.tcp_replay.proofs.Lists.{one_if, one_if-most}
-use Rattle.tcp_replay.proofs.Phases.{at-syn_received, gives_up-not_ended}
+use Rattle.tcp_replay.proofs.Phases.{end-syn_received, gives_up-not_ended}
 use Rattle.tcp_replay.proofs.Steps.{Kept, kept-same, pair-swapped}
 use Rattle.tcp_replay.proofs.Judgements.{IsPresent as IsHere}
-use Rattle.tcp_replay.proofs.AloneStages.{same-news}
+use Rattle.tcp_replay.proofs.Alone.{same-news}
 use Rattle.tcp_replay.proofs.Arrivals.{Comes, Fair, fair-judgement}
-use Rattle.tcp_replay.proofs.Deliveries.{arrival-ok, comes, own-decodes}
+use Rattle.tcp_replay.proofs.Events.{arrival-ok, comes, own-decodes}
 use Rattle.tcp_replay.proofs.Stages.{IsAck, kept-acked_text, kept-news, kept-own_syn, own_syn-near}
 use Rattle.tcp_progress.specs.Progress.{IsPlainAck}
 use Rattle.tcp_progress.specs.Settled.{IsLive, least_life}
@@ -41,8 +41,8 @@ use Rattle.tcp_progress.proofs.Acked.{own_fin-keeps}
 use Rattle.tcp_progress.proofs.Emitted.{IsFresh}
 use Rattle.tcp_progress.proofs.Judged.{IsPresent, judged-acceptable}
 use Rattle.tcp_progress.proofs.Measure.{all_of, left_of_both}
-use Rattle.tcp_progress.proofs.OnlySent.{same-content}
-use Rattle.tcp_progress.proofs.Reaching.{own_syn-nxt}
+use Rattle.tcp_replay.proofs.Events.{same-content}
+use Rattle.tcp_replay.proofs.Arrivals.{own_syn-nxt}
 use Rattle.tcp_progress.proofs.Arriving.{live-present, of_peer, is-there, unexpired, goes}
 use Rattle.tcp_progress.proofs.Ready.{steady-back}
 
@@ -107,7 +107,7 @@ fresh-plain p q k start v h opened f =
       has_ack = f.has_ack;
       of_sent = omega (arith, acks.is, acks.near);
       of_syn = λ shaking.
-          let at = at-syn_received s.phase s.ending s.sending.una s.sending.nxt s.receiving.opened s.receiving.finished shaking h.pair.back.alone.progress in
+          let at = end-syn_received s shaking h.pair.back.alone.progress in
           omega (arith, acks.is, acks.near, at.1.nxt_is);
     }
 

@@ -19,7 +19,7 @@ use Rattle.tcp_conn.specs.State.{State}
 use Rattle.tcp_replay.specs.World.{PartyState, SentSegment, delivery_refusal, max_life, party_after_arrival, segment_at}
 use Rattle.tcp_replay.specs.Safe.{next_position}
 use Rattle.tcp_replay.proofs.Lists.{one_if, one_if-most}
-use Rattle.tcp_replay.proofs.Moves.{next_of}
+use Rattle.tcp_replay.proofs.Steps.{next_of}
 use Rattle.tcp_progress.specs.Progress.{BringsOn, IsNext, begins_at, ends_at}
 use Rattle.tcp_progress.specs.Settled.{least_life}
 use Rattle.tcp_progress.specs.Stage.{SaysByPhase}

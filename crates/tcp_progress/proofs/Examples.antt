@@ -40,8 +40,8 @@ holding = record (new_end config) {
 }
 
 -- one byte that is old, and the next
-covering : Content
-covering = record { src_port = 1; dst_port = 2; seq = 1000; ack = 5001; reserved = 0; flags = 16; window = 100; urgent = 0; options = []; pad = 0; text = 97 ∷ 98 ∷ [] }
+covers-all : Content
+covers-all = record { src_port = 1; dst_port = 2; seq = 1000; ack = 5001; reserved = 0; flags = 16; window = 100; urgent = 0; options = []; pad = 0; text = 97 ∷ 98 ∷ [] }
 
 sixteen_held : length (runs full.held) ≡ 16
 unfolding full every_other
@@ -65,8 +65,8 @@ holding_sound = record {
   ordered = omega arith;
 }
 
-covering_next : IsNext holding (10 ∷ 0 ∷ 0 ∷ 1 ∷ []) (10 ∷ 0 ∷ 0 ∷ 2 ∷ []) covering
-unfolding holding config full every_other covering offset position_of is_foreign
+covering_next : IsNext holding (10 ∷ 0 ∷ 0 ∷ 1 ∷ []) (10 ∷ 0 ∷ 0 ∷ 2 ∷ []) covers-all
+unfolding holding config full every_other covers-all offset position_of is_foreign
 covering_next = record {
   phase = refl;
   mine = refl;

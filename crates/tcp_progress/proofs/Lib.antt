@@ -10,20 +10,12 @@ pub mod Answer
 pub mod Taken
 pub mod Acked
 pub mod Told
-pub mod Reached
-pub mod Reaching
 pub mod OnlySent
 pub mod Shifts
-pub mod Rooms
 pub mod ToldWindows
-pub mod Edging
-pub mod EdgeCalls
-pub mod EdgeArrivals
-pub mod EdgeWorlds
+pub mod Edges
 pub mod Table
-pub mod TableCalls
-pub mod TableArrivals
-pub mod TableWorlds
+pub mod Stages
 mod Examples
 pub mod Ways
 pub mod Measure

@@ -30,9 +30,9 @@ no-fin d range idle most =
     cond_both (nat_lt (end_of_text d) range.end && nat_le (resend_start d range) (end_of_text d)) (Some (ResentFin (end_of_text d))) None (λ (due : Option Due). due ≡ None)
     (λ yes. absurd (grind (arith, nat_tests, yes, ahead, idle, most))) (λ _. refl)
 
-no-run : (d : Sending) (limit : ℕ) (range : Range ℕ) → d.nxt ≤ d.una → range.end ≤ d.nxt → resend_of d limit (Some range) ≡ None
+new-no_run : (d : Sending) (limit : ℕ) (range : Range ℕ) → d.nxt ≤ d.una → range.end ≤ d.nxt → resend_of d limit (Some range) ≡ None
 unfolding resend_of next_unmarked
-no-run d limit range idle most =
+new-no_run d limit range idle most =
     let at = place_of d (resend_start d range) in
     let first = first_unmarked d.queue at in
     let ahead : d.una ≤ position_at d first = omega arith in
@@ -43,10 +43,10 @@ no-run d limit range idle most =
 pub no-resend : (d : Sending) (limit : ℕ) (range : Option (Range ℕ)) → d.nxt ≤ d.una → IfSome range (λ range. range.end ≤ d.nxt) → resend_of d limit range ≡ None
 unfolding resend_of
 no-resend d limit None idle most = refl
-no-resend d limit (Some range) idle most = no-run d limit range idle most
+no-resend d limit (Some range) idle most = new-no_run d limit range idle most
 
 -- an end that has nothing to send again, and a probe where the window is shut
-record IsReady (s : State) : Type 0 where
+record IsReadyNew (s : State) : Type 0 where
   may : MaySend s
   idle : s.sending.una ≡ s.sending.nxt
   none : resend_of s.sending (text_limit s) s.sending.resend ≡ None
@@ -64,35 +64,35 @@ allowed d probe idle granted =
 new_of : State → ℕ
 new_of s = new_count s.sending (text_limit s) s.owed.probe
 
-text-due : (s : State) → IsReady s → 0 < new_of s → due_of s ≡ Some (NewText s.sending.nxt (new_of s))
+new-text_due : (s : State) → IsReadyNew s → 0 < new_of s → due_of s ≡ Some (NewText s.sending.nxt (new_of s))
 unfolding due_of new_text_of new_of
-text-due s ready some =
+new-text_due s ready some =
     let test : (new_count s.sending (text_limit s) s.owed.probe == 0) ≡ false = grind (arith, nat_tests, some) in
     rw (ready.may.reset, ready.may.syn, ready.may.phase, ready.none, test) refl
 
-fin-due : (s : State) → IsReady s → s.closing ≡ true → s.sending.nxt ≡ end_of_text s.sending → due_of s ≡ Some (Fin s.sending.nxt)
+new-fin_due : (s : State) → IsReadyNew s → s.closing ≡ true → s.sending.nxt ≡ end_of_text s.sending → due_of s ≡ Some (Fin s.sending.nxt)
 unfolding due_of new_text_of
-fin-due s ready closing last =
+new-fin_due s ready closing last =
     let all : count_unsent s.sending ≡ 0 = omega (arith, last) in
     let test : (new_count s.sending (text_limit s) s.owed.probe == 0) ≡ true = grind (arith, nat_tests, all) in
     let turn : (s.sending.nxt == end_of_text s.sending) ≡ true = grind (arith, nat_tests, last) in
     rw (ready.may.reset, ready.may.syn, ready.may.phase, ready.none, test, closing, turn) refl
 
 -- what goes out
-record Goes (s : State) : Type 0 where
+record GoesNew (s : State) : Type 0 where
   covers : CoversNext s s.sending.nxt
   moves : MovesOn s.sending (after_emission s).sending
 
 moving : (s : State) (due : Due) → due_of s ≡ Some due → s.sending.nxt < end_of s.sending due → MovesOn s.sending (after_emission s).sending
 moving s due e more = rw (emission s due e) (record { una = refl; nxt = omega (arith, more); released = refl; queued = refl })
 
-text-goes : (s : State) → IsReady s → 0 < count_unsent s.sending → Goes s
+text-goes : (s : State) → IsReadyNew s → 0 < count_unsent s.sending → GoesNew s
 unfolding segment_of new_of
 text-goes s ready unsent =
     let d = s.sending in
     let room = allowed d s.owed.probe ready.idle (ready.probe unsent) in
     let some : 0 < new_of s = omega (arith, room, unsent, ready.may.limit) in
-    let due = text-due s ready some in
+    let due = new-text_due s ready some in
     record {
       covers =
           covering s (NewText d.nxt (new_of s)) d.nxt (new_of s) false d.nxt
@@ -100,22 +100,22 @@ text-goes s ready unsent =
       moves = moving s (NewText d.nxt (new_of s)) due (omega (arith, some));
     }
 
-fin-goes : (s : State) → IsReady s → s.closing ≡ true → s.sending.nxt ≡ end_of_text s.sending → Goes s
+new-fin_goes : (s : State) → IsReadyNew s → s.closing ≡ true → s.sending.nxt ≡ end_of_text s.sending → GoesNew s
 unfolding segment_of
-fin-goes s ready closing last =
+new-fin_goes s ready closing last =
     let n = s.sending.nxt in
-    let due = fin-due s ready closing last in
+    let due = new-fin_due s ready closing last in
     record {
       covers =
           covering s (Fin n) n 0 true n (record { is_due = due; form = refl; to = refl; starts = refl; counts = refl; fins = refl; inside = omega arith }) (omega arith) (omega arith);
       moves = moving s (Fin n) due (omega arith);
     }
 
-waiting-goes : (s : State) → IsReady s → ((0 < count_unsent s.sending) ⊎ ((s.closing ≡ true) × (s.sending.nxt ≡ end_of_text s.sending))) → Goes s
+waiting-goes : (s : State) → IsReadyNew s → ((0 < count_unsent s.sending) ⊎ ((s.closing ≡ true) × (s.sending.nxt ≡ end_of_text s.sending))) → GoesNew s
 waiting-goes s ready waits =
     elim waits [
       | inl text ↦ text-goes s ready text
-      | inr last ↦ fin-goes s ready last.0 last.1
+      | inr last ↦ new-fin_goes s ready last.0 last.1
     ]
 
 -- THE TIMEOUT
@@ -138,7 +138,7 @@ unfolding after_retransmit
 new_lem s may unsent =
     let t = after_retransmit s in
     let same : t.sending ≡ s.sending = nothing-resent s may (omega (arith, unsent.idle)) in
-    let ready : IsReady t = record {
+    let ready : IsReadyNew t = record {
       may = may-after_retransmit s may;
       idle = rw same unsent.idle;
       none = rw same (no-resend s.sending (text_limit s) s.sending.resend (omega (arith, unsent.idle)) unsent.range);

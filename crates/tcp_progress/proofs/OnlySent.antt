@@ -1,89 +1,234 @@
 -- NOTHING IS TAKEN BEFORE IT IS SENT, on the definitions: every event keeps it.
-use Rattle.std.proofs.Common.{◌≡◌, ℕ, zero, suc, ◌+◌, ◌-◌, ◌<◌, ◌≤◌, List, [], ◌∷◌, ◌++◌, length, refl, sym, ◌∙◌, ap, subst, ⊎_elim, arith, append-nil, length-take, drop}
-use Rattle.std.specs.Prelude.{false, Option, Some, None, IfSome, Result, Ok, option_map, option_to_list, slice_get}
-use Rattle.std.proofs.lemmas.Bool.{false≢true}
-use Rattle.tcp_wire.specs.Position.{position_of}
-use Rattle.tcp_wire.specs.Flags.{rst, syn, fin, has}
+use Rattle.std.proofs.Common.{◌≡◌, ℕ, suc, ◌+◌, ◌-◌, ◌^◌, ◌<◌, ◌≤◌, List, [], ◌∷◌, length, drop, sym, ap, subst, ⊎_elim, arith, length-drop, refl, zero}
+use Rattle.std.proofs.Common.{◌∙◌, length-take}
+use Rattle.std.specs.Prelude.{min, ℤ, true, false, not, ◌==◌, Option, Some, None, slice_get}
+use Rattle.std.proofs.lemmas.Bool.{cases_lt, and_parts, cond_both, eqb-false, not-true, false≢true}
+use Rattle.tcp_wire.specs.Position.{number, offset, position_of}
+use Rattle.tcp_wire.specs.Flags.{fin, has, rst, syn}
 use Rattle.tcp_wire.specs.Wire.{Content}
-use Rattle.tcp_wire.specs.Decoded.{decode_answer}
-use Rattle.tcp_wire.specs.declared.fault.DecodeError.{DecodeError}
-use Rattle.tcp_wire.proofs.Lemmas.{position_of_number}
-use Rattle.tcp_reasm.specs.Reassembly.{Cell}
+use Rattle.tcp_wire.proofs.Lemmas.{offset_of_later, offset_of_earlier, position_of_number}
+use Rattle.tcp_reasm.specs.Reassembly.{piece, window, after_place, after_read, Cell}
+use Rattle.tcp_conn.specs.Phase.{takes_text, is_syn_received, gives_up}
+use Rattle.tcp_conn.specs.State.{State, Receiving, Sending}
+use Rattle.tcp_conn.specs.Judgement.{count_numbers, position_near}
+use Rattle.tcp_conn.specs.Receiver.{after_text, is_fin_due, with_fin, with_syn, after_handing, without_bytes}
+use Rattle.tcp_conn.specs.Arrival.{has_fin, takes_fin, after_own_syn, after_acked_text, after_news, after_peer_opens, after_peer_accepts}
+use Rattle.tcp_replay.specs.World.{PartyState, address_of, SentSegment, WorldState, new_party, new_world_with, refusal_of, world_with_effect}
+use Rattle.tcp_replay.specs.Truthful.{IsTruthful}
+use Rattle.tcp_replay.specs.Safe.{witness_of}
+use Rattle.tcp_replay.proofs.Lists.{one_if, one_if-false, one_if-most}
+use Rattle.tcp_replay.proofs.Feeds.{AllText, AllHeld, Brings, brings-place, held-moved, held-same, held-none, held-more}
+use Rattle.tcp_replay.proofs.Steps.{Kept, kept-same, Moved}
+use Rattle.tcp_replay.proofs.Steps.{next_of}
+use Rattle.tcp_replay.proofs.Stages.{IsAhead, IsYoung, text_advance, text-advances, placed, fin-in_turn}
+use Rattle.tcp_halves.specs.declared.phase.Ending.TheVariants.{Aborted}
+use Rattle.tcp_conn.specs.Windows.{window_from}
+use Rattle.tcp_conn.specs.Sender.{with_syn_acked, with_window, acks_more, with_acked, after_ack}
+use Rattle.tcp_conn.specs.Endings.{after_giving_up}
+use Rattle.tcp_replay.specs.Sound.{IsSoundPair, IsSound}
+use Rattle.tcp_replay.proofs.Phases.{end-closed, end-listen, end-syn_sent, handshake-una}
+use Rattle.tcp_replay.proofs.Alone.{same-news}
+use Rattle.tcp_replay.proofs.Events.{Arrives, after_segment, AllSaid, Both, PairKept, Speaks, both-swapped, due-position, in-world, said-after, said-back}
+use Rattle.tcp_replay.proofs.Calls.{KeptByCalls}
+use Rattle.tcp_replay.proofs.Arrivals.{on-arrival}
 use Rattle.tcp_halves.specs.declared.config.Config.{Config}
 use Rattle.tcp_halves.specs.declared.due.Due.{Due}
 use Rattle.tcp_halves.specs.declared.due.Due.TheVariants.{Reset, Syn, Resend, NewText, Fin, ResentFin, Acknowledgement}
-use Rattle.tcp_conn.specs.Judgement.{judgement, count_numbers}
-use Rattle.tcp_conn.specs.Arrival.{after_judgement, after_arrival}
 use Rattle.tcp_conn.specs.Forms.{pushes, text_of, syn_segment, plain_segment, segment_of}
-use Rattle.tcp_conn.specs.Writing.{destination_of, bytes_of}
-use Rattle.tcp_conn.specs.Due.{due_of, is_fin, start_of, count_of}
-use Rattle.tcp_conn.specs.Emission.{emitted_bytes, after_due, after_emission}
-use Rattle.tcp_replay.specs.declared.event.Side.{Side}
-use Rattle.tcp_replay.specs.declared.event.Side.TheVariants.{A, B}
-use Rattle.tcp_replay.specs.Events.{EventContent, side_of, HasBytes, Connect, Listen, Send, Receive, Close, Abort, Acknowledge, Timer, Emit, Deliver, Damage}
-use Rattle.tcp_replay.specs.World.{WorldState, PartyState, SentSegment, max_life, sent_by, sent_at, new_party, new_world_with, party_of, other, world_from, effect_of, refusal_of, world_with_effect, segment_at, bytes_with_damage, delivery_refusal, damage_refusal, party_after_connect, party_after_listen, party_after_send, party_after_receive, party_after_close, party_after_abort, party_after_acknowledge, party_after_timer, party_after_emission, party_after_arrival}
-use Rattle.tcp_replay.specs.Sound.{IsSoundPair, AreSoundEnds, IsSound}
-use Rattle.tcp_replay.proofs.Lists.{one_if, one_if-most}
-use Rattle.tcp_replay.proofs.Feeds.{AllHeld, held-none}
-use Rattle.tcp_replay.proofs.Steps.{slice_get-more, kept-same, pair-swapped}
-use Rattle.tcp_replay.proofs.AloneEmissions.{IsSaid, GoesOutAlone, due-alone}
-use Rattle.tcp_replay.proofs.Phases.{handshake-una}
-use Rattle.tcp_replay.proofs.Emissions.{GoesOut, syn-bits, plain-bits, reset-bit, seq-in, due-decodes, due-goes}
-use Rattle.tcp_replay.proofs.Deliveries.{arrival-ok, own-decodes, comes, segment-sent, delivered-there, finds-damage}
+use Rattle.tcp_conn.specs.Due.{is_fin, start_of, count_of}
+use Rattle.tcp_conn.specs.Emission.{after_due}
+use Rattle.tcp_replay.specs.Events.{EventContent, HasBytes}
+use Rattle.tcp_replay.proofs.AloneEmissions.{IsSaid, GoesOutAlone}
+use Rattle.tcp_replay.proofs.Emissions.{syn-bits, plain-bits, reset-bit}
 use Rattle.tcp_replay.proofs.Worlds.{kept-run, kept-after_all}
-use Rattle.tcp_replay.proofs.Sounds.{sound-new, sound-after}
+use Rattle.tcp_replay.proofs.Worlds.{sound-new, sound-after}
 use Rattle.tcp_progress.specs.Sent.{TakesOnlySent, TakeOnlySent, NothingIsTakenBeforeItIsSent}
-use Rattle.tcp_progress.proofs.Reached.{Below, IsReached, reached-more}
-use Rattle.tcp_progress.proofs.Reaching.{Reaches, reaches-connected, reaches-listening, reaches-sent, reaches-received, reaches-closed, reaches-aborted, reaches-acknowledged, reaches-timer, reaches-judgement}
+
+-- the byte at this place behind a position lies below another one
+abbrev pub Below : ℕ → ℕ → ℕ → ℕ → Type 0
+Below from n place byte = from + place < n
+
+-- what a half has, and what it holds, lies below n
+pub record IsReached (r : Receiving) (n : ℕ) : Type 0 where
+  pub next : r.opened ≡ true → next_of r ≤ n
+  pub held : AllHeld (Below (1 + r.ordered) n) 0 r.inbox.held
+
+pub reached-more : (r : Receiving) (n n' : ℕ) → n ≤ n' → IsReached r n → IsReached r n'
+reached-more r n n' more h = record {
+  next = λ e. omega (arith, more, h.next e);
+  held = held-same (Below (1 + r.ordered) n) (Below (1 + r.ordered) n') 0 r.inbox.held (λ place byte is. omega (arith, more, is)) h.held;
+}
+
+pub reached-read : (r : Receiving) (n room : ℕ) → IsReached r n → IsReached (after_handing r room) n
+unfolding after_read
+reached-read r n room h = record { next = h.next; held = held-more (Below (1 + r.ordered) n) 0 (min room (length r.inbox.unread)) r.inbox.held h.held }
+
+pub reached-given_up : (r : Receiving) (n : ℕ) → IsReached r n → IsReached (without_bytes r) n
+reached-given_up r n h = record { next = h.next; held = held-none (Below (1 + r.ordered) n) 0 r.inbox.capacity }
+
+-- the peer's SYN
+pub reached-syn : (r : Receiving) (n seq : ℕ) → r.ordered ≡ 0 → r.finished ≡ false → 1 ≤ n → IsReached r n → IsReached (with_syn r seq) n
+reached-syn r n seq none unfinished some h = record { next = λ _. omega (arith, none, some, one_if-false r.finished unfinished); held = h.held }
+
+-- a text that ends below n
+all-below : (from n place : ℕ) (text : List ℕ) → from + place + length text ≤ n → AllText (Below from n) place text
+all-below from n place [] h = tt
+all-below from n place (byte ∷ text) h = (omega (arith, h), all-below from n (suc place) text (omega (arith, h)))
+
+text-ends_below : (from n place : ℕ) (text : List ℕ) → from + place ≤ n → AllText (Below from n) place text → from + place + length text ≤ n
+text-ends_below from n place [] h t = omega (arith, h)
+text-ends_below from n place (byte ∷ text) h t =
+    let rest : from + suc place + length text ≤ n = text-ends_below from n (suc place) text (omega (arith, t.0)) t.1 in omega (arith, rest)
+
+piece-below : (irs ordered position next seq n : ℕ) (text : List ℕ) → 1 + ordered ≤ position + 2 ^ 31 → position < 1 + ordered + 2 ^ 31
+    → next ≡ number irs (1 + ordered) → seq ≡ number irs position
+    → 1 + ordered ≤ n → position + length text ≤ n → AllText (Below (1 + ordered) n) (piece (offset next seq) text).start (piece (offset next seq) text).text
+piece-below irs ordered position next seq n text young close next_is seq_is had fits =
+    let P : ℤ → Type 0 = λ z. AllText (Below (1 + ordered) n) (piece z text).start (piece z text).text in
+    subst (λ (k : ℕ). P (offset k seq)) (sym next_is) (subst (λ (m : ℕ). P (offset (number irs (1 + ordered)) m)) (sym seq_is)
+    (⊎_elim
+    (λ less.
+    let k = suc (1 + ordered - position - 1) in
+    subst P (sym (offset_of_earlier irs (1 + ordered) position less (omega (arith, young))))
+    (all-below (1 + ordered) n 0 (drop k text) (omega (arith, had, fits, less, length-drop k text))))
+    (λ more. subst P (sym (offset_of_later irs (1 + ordered) position more (omega (arith, close))))
+    (all-below (1 + ordered) n (position - (1 + ordered)) text (omega (arith, fits, more))))
+    (cases_lt position (1 + ordered))))
+
+-- TEXT
+pub reached-text : (p q : PartyState) (s : State) (v : Content) (n : ℕ) → takes_text s.phase ≡ true → IsAhead p q → (truth : IsTruthful (witness_of q p) v)
+    → IsYoung s truth.own.position → (length v.text ≡ 0 → ⊥)
+    → truth.own.position + count_numbers v ≤ n → Kept p q s → IsReached s.receiving n → IsReached (after_text s.receiving v.seq v.text) n
+unfolding after_text
+reached-text p q s v n e close truth young some below kept h =
+    let r = s.receiving in
+    let m = text_advance s v in
+    let at = placed p q s v e kept in
+    let steps = text-advances p q s v e close truth young some kept in
+    let had : 1 + r.ordered ≤ n = omega (arith, h.next at.opened) in
+    let inside : length v.text ≤ count_numbers v = omega arith in
+    let P : ℕ → ℕ → Type 0 = Below (1 + r.ordered) n in
+    let part : AllText P (piece (offset r.next v.seq) v.text).start (piece (offset r.next v.seq) v.text).text =
+    piece-below q.endpoint.config.isn.0 r.ordered truth.own.position r.next v.seq n v.text (omega (arith, young))
+    (omega (arith, truth.own.within, close.ahead, kept.grows.next, one_if-most r.finished, one_if-most q.closed)) at.next truth.own.seq had
+    (omega (arith, below, inside)) in
+    let brings : Brings P r.inbox _ m = brings-place P r.inbox (offset r.next v.seq) v.text h.held part in
+    let end : 1 + r.ordered + 0 + length brings.bytes ≤ n = text-ends_below (1 + r.ordered) n 0 brings.bytes (omega (arith, had)) brings.text in
+    let ordered = (after_text r v.seq v.text).ordered in
+    let same : ordered ≡ r.ordered + m = omega (arith, kept.here.takes.order, close.limit, steps.within, length-drop r.ordered q.accepted) in
+    record {
+      next = λ _. omega (arith, same, end, brings.count, one_if-false r.finished at.unfinished);
+      held = held-moved P (Below (1 + ordered) n) m (λ i byte is. omega (arith, same, is)) m 0 (after_place r.inbox (offset r.next v.seq) v.text).held
+          (omega arith) brings.held;
+    }
+
+-- THE PEER'S FIN
+pub reached-fin : (p q : PartyState) (s : State) (v : Content) (n : ℕ) → IsAhead p q → (truth : IsTruthful (witness_of q p) v) → takes_fin s v ≡ true
+    → truth.own.position + count_numbers v ≤ n → Kept p q s → IsReached (with_fin s.receiving) n
+reached-fin p q s v n close truth e below kept =
+    let r = s.receiving in
+    let turn = fin-in_turn p q s v close truth e kept in
+    let told = and_parts (has_fin s v) (is_fin_due r (number v.seq (length v.text))) e in
+    let flag = and_parts (takes_text s.phase) (has fin v.flags) told.0 in
+    let last = truth.own.has_fin flag.1 in
+    let one : one_if (has fin v.flags) ≡ 1 = ap one_if flag.1 in
+    record { next = λ _. omega (arith, turn.all, last.1, below, one); held = held-none (Below (1 + r.ordered) n) 0 (window r.inbox) }
+
+-- Party p's end may be in this state, its peer q being where it is: SND.NXT didn't go back, and nothing was taken that q didn't send.
+abbrev pub Reaches : PartyState → PartyState → State → Type 0
+Reaches p q s = (p.endpoint.sending.nxt ≤ s.sending.nxt) × IsReached s.receiving q.endpoint.sending.nxt
+
+-- ---- THE CALLS, the timers and the emissions
+pub reaches-calls : (p q : PartyState) → IsSoundPair p q → IsReached p.endpoint.receiving q.endpoint.sending.nxt
+    → KeptByCalls (address_of q) p (λ p'. Reaches p q p'.endpoint)
+reaches-calls p q pair taken =
+    let s = p.endpoint in
+    let n = q.endpoint.sending.nxt in
+    let h : Reaches p q s = (omega arith, taken) in
+    let gone : Reaches p q (after_giving_up s Aborted) = (h.0, reached-given_up s.receiving n h.1) in
+    record {
+      same = h;
+      connects = λ can.
+          let new = end-closed s can.shut can.ending pair.there.alone.progress in
+          (omega (arith, new.nxt_is), h.1);
+      listens = λ _. h;
+      sends = λ _ _ _. h;
+      reads = λ room _. (h.0, reached-read s.receiving n room h.1);
+      withdraws = gone;
+      closes = λ _ _. h;
+      aborts = gone;
+      acknowledges = h;
+      resends = λ _. h;
+      probes = h;
+      fills = λ _ _ _. h;
+      ends = λ _. h;
+      emits = λ due _ _. (omega arith, h.1);
+    }
+
+-- ---- ARRIVALS
+acked-nxt : (d : Sending) (a : ℕ) → (after_ack d a).nxt ≡ d.nxt
+unfolding after_ack
+acked-nxt d a = cond_both (acks_more d a) (with_acked d a) d (λ (x : Sending). x.nxt ≡ d.nxt) (λ _. refl) (λ _. refl)
+
+-- a SYN was sent
+syn-sent : (v : Content) (position n : ℕ) → has syn v.flags ≡ true → position + count_numbers v ≤ n → 1 ≤ n
+syn-sent v position n e below = let one : one_if (has syn v.flags) ≡ 1 = ap one_if e in omega (arith, below, one)
+
+-- a segment that ends below what the peer sent
+pub reaches-arrive : (p q : PartyState) (g : SentSegment) (v : Content) → IsSoundPair p q → Arrives p q g v
+    → (has rst v.flags ≡ false → g.position + count_numbers v ≤ q.endpoint.sending.nxt)
+    → IsReached p.endpoint.receiving q.endpoint.sending.nxt → Reaches p q (after_segment p q v)
+unfolding after_own_syn after_acked_text after_news after_peer_opens after_peer_accepts
+reaches-arrive p q g v pair a below taken =
+    let s = p.endpoint in
+    let d = s.sending in
+    let r = s.receiving in
+    let n = q.endpoint.sending.nxt in
+    let h : Reaches p q s = (omega arith, taken) in
+    let acked = with_window (with_syn_acked d) v.seq v.ack (window_from s.link v.window) in
+    let opening : has rst v.flags ≡ false → has syn v.flags ≡ true → r.opened ≡ false → IsReached _ n = λ plain e shut.
+    let none = pair.there.takes.unopened shut in reached-syn r n v.seq none.1 none.2 (syn-sent v g.position n e (below plain)) h.1 in
+    on-arrival p q v g.position g.wanted (Reaches p q) (Reaches p q) a.comes (kept-same p q pair) (record {
+      same = h;
+      owes = λ _ _. h;
+      gone = (h.0, reached-given_up r n h.1);
+      opens = λ listening is.
+          let at = end-listen s listening pair.there.alone.progress in
+          (omega (arith, at.1.nxt_is), opening is.plain is.is_syn at.1.not_opened);
+      accepts = λ sent is.
+          let at = end-syn_sent s sent pair.there.alone.progress in
+          (h.0, opening is.plain is.is_syn at.1.not_opened);
+      own_syn = λ _ _. (cond_both (is_syn_received s.phase) acked d (λ (x : Sending). d.nxt ≤ x.nxt) (λ _. h.0) (λ _. h.0), h.1);
+      acked_text = λ x _ _ _ b. (omega (arith, acked-nxt x.sending (position_near x v.ack), b.0), b.1);
+      news = λ x _ synced _ b. (omega (arith, (same-news x p.accepted p.closed (gives_up x.ending) v synced.kept.here.alone.sends).nxt, b.0), b.1);
+      last = λ _ _ _ _ b. b;
+      passes = λ _ _ _ _ b. b;
+      stays = λ _ _ _ b. b;
+      text = λ x _ told kept young e b.
+          let stands = a.comes.truthful told.plain in
+          let parts = and_parts (takes_text x.phase) (not (length v.text == 0)) e in
+          let some = eqb-false (length v.text) 0 (not-true (length v.text == 0) parts.1) in (
+            b.0,
+            reached-text p q x v n parts.0 a.comes.close stands.truth (omega (arith, young, stands.position_is)) some
+                (omega (arith, stands.position_is, below told.plain)) kept b.1,
+          );
+      fin = λ x _ told kept _ e b.
+          let stands = a.comes.truthful told.plain in
+          (b.0, reached-fin p q x v n a.comes.close stands.truth e (omega (arith, stands.position_is, below told.plain)) kept);
+      owing = λ _ _ b. b;
+    }) s.config.addr.0
 
 -- what x emitted ends at SND.NXT at most
-abbrev pub EndsThere : PartyState → PartyState → ℕ → Type 0
-EndsThere x y n = (k : ℕ) (g : SentSegment) (v : Content) → slice_get x.sent k ≡ Some g → decode_answer x.endpoint.config.addr.0 y.endpoint.config.addr.0 g.bytes ≡ Ok v
-    → has rst v.flags ≡ false → g.position + count_numbers v ≤ n
+abbrev pub EndsBy : ℕ → SentSegment → Content → Type 0
+EndsBy n g v = has rst v.flags ≡ false → g.position + count_numbers v ≤ n
 
 pub record KeepsSent (x y : PartyState) : Type 0 where
   pub taken : IsReached x.endpoint.receiving y.endpoint.sending.nxt
-  pub emitted : EndsThere x y x.endpoint.sending.nxt
-
-pub record KeepBothSent (x y : PartyState) : Type 0 where
-  pub there : KeepsSent x y
-  pub back : KeepsSent y x
-
-pub sent-swapped : (p q : PartyState) → KeepBothSent p q → KeepBothSent q p
-sent-swapped p q h = record { there = h.back; back = h.there }
-
--- what p emitted at an event, where it emitted something
-record Adds (p p' q : PartyState) : Type 0 where
-  new : Option SentSegment
-  sent : p'.sent ≡ p.sent ++ option_to_list new
-  told : (g : SentSegment) (v : Content) → new ≡ Some g → decode_answer p.endpoint.config.addr.0 q.endpoint.config.addr.0 g.bytes ≡ Ok v → has rst v.flags ≡ false → g.position + count_numbers v ≤ p'.endpoint.sending.nxt
-
-adds-nothing : (p p' q : PartyState) → p'.sent ≡ p.sent → Adds p p' q
-adds-nothing p p' q same = record { new = None; sent = same ∙ sym (append-nil p.sent); told = λ g v none. absurd (cc) }
-
-ends-there : (p p' q : PartyState) → Reaches p q p'.endpoint → Adds p p' q → EndsThere p q p.endpoint.sending.nxt → EndsThere p' q p'.endpoint.sending.nxt
-ends-there p p' q reaches adds h k g v is told plain =
-    let read : decode_answer p.endpoint.config.addr.0 q.endpoint.config.addr.0 g.bytes ≡ Ok v = subst (λ (c : Config). decode_answer c.addr.0 q.endpoint.config.addr.0 g.bytes ≡ Ok v) reaches.config told in
-    ⊎_elim (λ (old : slice_get p.sent k ≡ Some g). omega (arith, h k g v old read plain, reaches.nxt)) (λ (last : adds.new ≡ Some g). adds.told g v last read plain)
-    (slice_get-more p.sent adds.new k g (subst (λ (sent : List SentSegment). slice_get sent k ≡ Some g) adds.sent is))
-
-sent-from-reaches : (p p' q : PartyState) → Reaches p q p'.endpoint → Adds p p' q → KeepBothSent p q → KeepBothSent p' q
-sent-from-reaches p p' q reaches adds h = record {
-  there = record { taken = reaches.taken; emitted = ends-there p p' q reaches adds h.there.emitted };
-  back = record {
-    taken = reached-more q.endpoint.receiving p.endpoint.sending.nxt p'.endpoint.sending.nxt reaches.nxt h.back.taken;
-    emitted = λ k g v is told plain. h.back.emitted k g v is (subst (λ (c : Config). decode_answer q.endpoint.config.addr.0 c.addr.0 g.bytes ≡ Ok v) reaches.config told) plain;
-  };
-}
-
-reaches-same : (p q : PartyState) → KeepBothSent p q → Reaches p q p.endpoint
-reaches-same p q h = record { config = refl; nxt = omega arith; taken = h.there.taken }
-
-sent-quiet : (p p' q : PartyState) → p'.sent ≡ p.sent → (Reaches p q p.endpoint → Reaches p q p'.endpoint) → KeepBothSent p q → KeepBothSent p' q
-sent-quiet p p' q sent reaches h = sent-from-reaches p p' q (reaches (reaches-same p q h)) (adds-nothing p p' q sent) h
+  pub emitted : AllSaid x y (EndsBy x.endpoint.sending.nxt)
 
 -- EMIT: what is due ends where SND.NXT is after it
-plain-ends : (p q : PartyState) (due : Due) (n : ℕ) → IsSaid p.endpoint p.accepted p.closed due → IsSoundPair p q → start_of p.endpoint.sending due + count_of due + one_if (is_fin due) ≤ n
+plain-ends : (p q : PartyState) (due : Due) (n : ℕ) → IsSaid p.endpoint p.accepted p.closed due → IsSoundPair p q
+    → start_of p.endpoint.sending due + count_of due + one_if (is_fin due) ≤ n
     → position_of p.endpoint.config.isn.0 p.endpoint.sending.una (plain_segment p.endpoint due).seq + count_numbers (plain_segment p.endpoint due) ≤ n
 plain-ends p q due n said h fits =
     let s = p.endpoint in
@@ -93,7 +238,8 @@ plain-ends p q due n said h fits =
     let start = start_of d due in
     let bits = plain-bits (pushes d due) (is_fin due) in
     let at : position_of s.config.isn.0 d.una (plain_segment s due).seq ≡ start =
-    position_of_number s.config.isn.0 d.una start h.there.alone.config.isn (omega (arith, plain.within, one_if-most p.closed, sends.ahead, sends.released)) (omega (arith, plain.behind)) in
+    position_of_number s.config.isn.0 d.una start h.there.alone.config.isn (omega (arith, plain.within, one_if-most p.closed, sends.ahead, sends.released))
+    (omega (arith, plain.behind)) in
     let no_syn : one_if (has syn (plain_segment s due).flags) ≡ 0 = ap one_if bits.0 in
     let last : one_if (has fin (plain_segment s due).flags) ≡ one_if (is_fin due) = ap one_if bits.1 in
     let count : length (text_of d due) ≤ count_of due = omega (arith, ap length plain.text, length-take (count_of due) (drop (start - 1) p.accepted)) in
@@ -101,7 +247,8 @@ plain-ends p q due n said h fits =
 
 abbrev pub DueEnds : PartyState → Due → Type 0
 DueEnds p due = has rst (segment_of p.endpoint due).flags ≡ false
-    → position_of p.endpoint.config.isn.0 p.endpoint.sending.una (segment_of p.endpoint due).seq + count_numbers (segment_of p.endpoint due) ≤ (after_due p.endpoint (Some due)).sending.nxt
+    → position_of p.endpoint.config.isn.0 p.endpoint.sending.una (segment_of p.endpoint due).seq + count_numbers (segment_of p.endpoint due) ≤
+    (after_due p.endpoint (Some due)).sending.nxt
 
 pub due-ends : (p q : PartyState) (due : Due) → IsSoundPair p q → GoesOutAlone p.endpoint p.accepted p.closed due → DueEnds p due
 unfolding segment_of
@@ -109,136 +256,79 @@ due-ends p q (Reset reset) h out plain = absurd (false≢true (sym plain ∙ res
 due-ends p q Syn h out plain =
     let s = p.endpoint in
     let d = s.sending in
-    let first : d.una ≤ 1 = handshake-una s.phase s.ending d.una d.nxt s.receiving.opened s.receiving.finished out.kind h.there.alone.sends.order h.there.alone.progress in
-    let at : position_of s.config.isn.0 d.una (syn_segment s).seq ≡ 0 = position_of_number s.config.isn.0 d.una 0 h.there.alone.config.isn (omega arith) (omega (arith, first)) in
+    let first : d.una ≤ 1 =
+    handshake-una s.phase s.ending d.una d.nxt s.receiving.opened s.receiving.finished out.kind h.there.alone.sends.order h.there.alone.progress in
+    let at : position_of s.config.isn.0 d.una (syn_segment s).seq ≡ 0 = position_of_number s.config.isn.0 d.una 0 h.there.alone.config.isn (omega arith)
+    (omega (arith, first)) in
     let bits = syn-bits s.receiving.opened in
     let is_syn : one_if (has syn (syn_segment s).flags) ≡ 1 = ap one_if bits.0 in
     let no_fin : one_if (has fin (syn_segment s).flags) ≡ 0 = ap one_if bits.1 in
     omega (arith, at, is_syn, no_fin)
-due-ends p q (Resend start count) h out plain = plain-ends p q (Resend start count) _ out.kind h (omega arith)
-due-ends p q (NewText start count) h out plain = plain-ends p q (NewText start count) _ out.kind h (omega arith)
-due-ends p q (Fin start) h out plain = plain-ends p q (Fin start) _ out.kind h (omega arith)
-due-ends p q (ResentFin start) h out plain = plain-ends p q (ResentFin start) _ out.kind h (omega arith)
-due-ends p q Acknowledgement h out plain = plain-ends p q Acknowledgement _ out.kind h (omega arith)
+due-ends p q other h out plain = plain-ends p q other _ out.kind h (omega arith)
 
-pub some-is : {x y : SentSegment} → Some x ≡ Some y → x ≡ y
-some-is e = cc
+-- p became p', and emitted what is due
+sent-moved : (p p' q : PartyState) → IsSoundPair p q → Moved p p' q → Speaks p p' q → Reaches p q p'.endpoint → Both KeepsSent p q → Both KeepsSent p' q
+sent-moved p p' q pair moved out reaches h = record {
+  there = record {
+    taken = reaches.1;
+    emitted = said-after p p' q (EndsBy p'.endpoint.sending.nxt) moved.config out
+        (λ k g v is read plain. omega (arith, h.there.emitted k g v is read plain, reaches.0))
+        (λ due goes alone after plain. omega (arith, due-position p q due goes, due-ends p q due pair alone plain, ap (λ (s : State). s.sending.nxt) after));
+  };
+  back = record {
+    taken = reached-more q.endpoint.receiving p.endpoint.sending.nxt p'.endpoint.sending.nxt reaches.0 h.back.taken;
+    emitted = said-back p p' q (EndsBy q.endpoint.sending.nxt) moved.config h.back.emitted;
+  };
+}
 
-pub same-content : (v v' : Content) (r : Result Content DecodeError) → r ≡ Ok v → r ≡ Ok v' → v ≡ v'
-same-content v v' r e e' = cc
-
-due-adds : (p q : PartyState) (due : Option Due) → IfSome due (GoesOut p q) → IfSome due (GoesOutAlone p.endpoint p.accepted p.closed) → IsSoundPair p q → (g : SentSegment) (v : Content)
-    → option_map (sent_by p.endpoint) (option_map (bytes_of p.endpoint) due) ≡ Some g → decode_answer p.endpoint.config.addr.0 q.endpoint.config.addr.0 g.bytes ≡ Ok v → has rst v.flags ≡ false
-    → g.position + count_numbers v ≤ (after_due p.endpoint due).sending.nxt
-unfolding position_of bytes_of
-due-adds p q None goes out pair g v e read plain = absurd (cc)
-due-adds p q (Some due) goes out pair g v e read plain =
-    let s = p.endpoint in
-    let src = s.config.addr.0 in
-    let dst = q.endpoint.config.addr.0 in
-    let sent : sent_by s (bytes_of s due) ≡ g = some-is e in
-    let own : decode_answer src dst g.bytes ≡ Ok (segment_of s due) = ap (λ (g : SentSegment). decode_answer src dst g.bytes) (sym sent) ∙ due-decodes p q due goes in
-    let same : segment_of s due ≡ v = same-content (segment_of s due) v (decode_answer src dst g.bytes) own read in
-    let ends = due-ends p q due pair out (ap (λ (v : Content). has rst v.flags) same ∙ plain) in
-    let position : g.position ≡ position_of s.config.isn.0 s.sending.una (segment_of s due).seq =
-    ap (λ (g : SentSegment). g.position) (sym sent) ∙ ap (position_of s.config.isn.0 s.sending.una) (sym (seq-in src (destination_of s due).addr.0 (segment_of s due) goes.valid)) in
-    omega (arith, position, ends, ap count_numbers same)
-
-reaches-due : (p q : PartyState) (due : Option Due) → Reaches p q p.endpoint → Reaches p q (after_due p.endpoint due)
-reaches-due p q None h = h
-reaches-due p q (Some due) h = record { config = h.config; nxt = omega arith; taken = h.taken }
-
-sent-emitted : (p q : PartyState) → IsSoundPair p q → KeepBothSent p q → KeepBothSent (party_after_emission p) q
-unfolding party_after_emission emitted_bytes after_emission
-sent-emitted p q pair h =
-    sent-from-reaches p _ q (reaches-due p q (due_of p.endpoint) (reaches-same p q h))
-    (record {
-      new = option_map (sent_by p.endpoint) (option_map (bytes_of p.endpoint) (due_of p.endpoint));
-      sent = refl;
-      told = due-adds p q (due_of p.endpoint) (due-goes p q pair) (due-alone p.endpoint p.accepted p.closed pair.there.alone) pair;
-    }) h
-
--- a segment that the peer emitted arrives
-delivered-reaches : (p q : PartyState) (life k : ℕ) → life ≤ max_life → delivery_refusal life q p k ≡ None → IsSoundPair p q → KeepBothSent p q
-    → Reaches p q (after_arrival p.endpoint q.endpoint.config.addr.0 p.endpoint.config.addr.0 (segment_at q k))
-delivered-reaches p q life k most e pair h =
-    let src = q.endpoint.config.addr.0 in
-    let dst = p.endpoint.config.addr.0 in
-    let g = sent_at q k in
-    let there = delivered-there life p q k e in
-    let sent = segment-sent q k there.0 in
-    let own = pair.own_back k g sent in
-    let read = own-decodes q p g own in
-    let s = after_judgement (judgement p.endpoint src dst own.content) p.endpoint src own.content in
-    let c = comes p q life g most there.1 pair own in
-    let reaches : Reaches p q s = reaches-judgement p q dst own.content g.position g.wanted pair c (h.back.emitted k g own.content sent read) (kept-same p q pair) (reaches-same p q h) in
-    rw (arrival-ok p.endpoint src dst g.bytes own.content read) reaches
-
-sent-delivered : (p q : PartyState) (life k : ℕ) → life ≤ max_life → delivery_refusal life q p k ≡ None → IsSoundPair p q → KeepBothSent p q → KeepBothSent (party_after_arrival p q (segment_at q k)) q
-unfolding party_after_arrival
-sent-delivered p q life k most e pair h =
-    sent-quiet p (record p { endpoint = after_arrival p.endpoint q.endpoint.config.addr.0 p.endpoint.config.addr.0 (segment_at q k) }) q refl (λ _. delivered-reaches p q life k most e pair h) h
-
-sent-damaged : (p q : PartyState) (life k place value : ℕ) → value < 256 → damage_refusal life q p k place value ≡ None → IsSoundPair p q → KeepBothSent p q
-    → KeepBothSent (party_after_arrival p q (bytes_with_damage (segment_at q k) place value)) q
-sent-damaged p q life k place value fits e pair h = subst (λ (p' : PartyState). KeepBothSent p' q) (sym (finds-damage p q life k place value fits e pair).same) h
-
--- ---- in the world
-pub sent-effect : (life : ℕ) (p q : PartyState) (event : EventContent) → life ≤ max_life → HasBytes event → (effect_of life p q event).refusal ≡ None → IsSoundPair p q → KeepBothSent p q
-    → KeepBothSent (effect_of life p q event).here (effect_of life p q event).there
-unfolding effect_of party_after_connect party_after_listen party_after_send party_after_receive party_after_close party_after_abort party_after_acknowledge party_after_timer
-sent-effect life p q (Connect side) most fits e pair h = sent-quiet p _ q refl (reaches-connected p q pair) h
-sent-effect life p q (Listen side) most fits e pair h = sent-quiet p _ q refl (reaches-listening p q) h
-sent-effect life p q (Send side bytes) most fits e pair h = sent-quiet p _ q refl (reaches-sent p q bytes) h
-sent-effect life p q (Receive side room) most fits e pair h = sent-quiet p _ q refl (reaches-received p q room) h
-sent-effect life p q (Close side) most fits e pair h = sent-quiet p _ q refl (reaches-closed p q) h
-sent-effect life p q (Abort side) most fits e pair h = sent-quiet p _ q refl (reaches-aborted p q) h
-sent-effect life p q (Acknowledge side) most fits e pair h = sent-quiet p _ q refl (reaches-acknowledged p q) h
-sent-effect life p q (Timer side which) most fits e pair h = sent-quiet p _ q refl (reaches-timer p q which) h
-sent-effect life p q (Emit side) most fits e pair h = sent-emitted p q pair h
-sent-effect life p q (Deliver from k) most fits e pair h = sent-swapped _ _ (sent-delivered q p life k most e (pair-swapped _ _ pair) (sent-swapped _ _ h))
-sent-effect life p q (Damage from k place value) most fits e pair h = sent-swapped _ _ (sent-damaged q p life k place value fits e (pair-swapped _ _ pair) (sent-swapped _ _ h))
-
-abbrev BothIn : WorldState → Type 0
-BothIn w = KeepBothSent w.a w.b
-
-sent-from : (w : WorldState) (side : Side) (event : EventContent) → w.life ≤ max_life → HasBytes event → (effect_of w.life (party_of w side) (party_of w (other side)) event).refusal ≡ None → AreSoundEnds w → BothIn w
-    → BothIn (world_from w.life side (effect_of w.life (party_of w side) (party_of w (other side)) event).here (effect_of w.life (party_of w side) (party_of w (other side)) event).there)
-sent-from w A event most fits e ends h = sent-effect w.life w.a w.b event most fits e ends h
-sent-from w B event most fits e ends h = sent-swapped _ _ (sent-effect w.life w.b w.a event most fits e (pair-swapped _ _ ends) (sent-swapped _ _ h))
+pub sent-kept : PairKept (λ _ _. Unit {0}) (Both KeepsSent) (λ p q s _. Reaches p q s)
+sent-kept = record {
+  swapped = both-swapped KeepsSent;
+  calls = λ p q pair h. reaches-calls p q pair h.there.taken;
+  arrives = λ p q g v _ pair a h. reaches-arrive p q g v pair a (h.back.emitted a.place g v a.sent a.read) h.there.taken;
+  moved = sent-moved;
+}
 
 -- what a world keeps
 record IsSoundAndSent (w : WorldState) : Type 0 where
   sound : IsSound w
-  sent : BothIn w
+  sent : Both KeepsSent w.a w.b
 
-sent-after : (w : WorldState) (event : EventContent) → HasBytes event → refusal_of w event ≡ None → IsSoundAndSent w → IsSoundAndSent (world_with_effect w event)
-sent-after w event fits e h = record { sound = sound-after w event fits e h.sound; sent = sent-from w (side_of event) event h.sound.life fits e h.sound.ends h.sent }
+sent-after : (w : WorldState) (event : EventContent) → HasBytes event → refusal_of w event ≡ None → IsSoundAndSent w
+    → IsSoundAndSent (world_with_effect w event)
+sent-after w event fits e h =
+    record { sound = sound-after w event fits e h.sound; sent = in-world _ _ _ sent-kept w event h.sound.life fits e tt tt h.sound.ends h.sent }
 
 pub new-sent : (a b : Config) → KeepsSent (new_party a) (new_party b)
 new-sent a b = record { taken = record { next = λ never. absurd (cc); held = held-none (Below 1 0) 0 a.recv_capacity }; emitted = λ k g v never. absurd (cc) }
 
 -- each held byte, by its place
-held-below : (from n start : ℕ) (held : List (Option Cell)) (place : ℕ) (cell : Cell) → AllHeld (Below from n) start held → slice_get held place ≡ Some (Some cell) → from + start + place < n
+held-below : (from n start : ℕ) (held : List (Option Cell)) (place : ℕ) (cell : Cell) → AllHeld (Below from n) start held
+    → slice_get held place ≡ Some (Some cell) → from + start + place < n
 held-below from n start [] place cell h is = absurd (cc)
 held-below from n start (None ∷ held) zero cell h is = absurd (cc)
 held-below from n start (Some first ∷ held) zero cell h is = omega (arith, h.0)
 held-below from n start (None ∷ held) (suc place) cell h is = omega (arith, held-below from n (suc start) held place cell h is)
 held-below from n start (Some first ∷ held) (suc place) cell h is = omega (arith, held-below from n (suc start) held place cell h.1 is)
 
-pub takes-only_sent : (x y : PartyState) → KeepBothSent x y → TakesOnlySent x y
+pub takes-only_sent : (x y : PartyState) → Both KeepsSent x y → TakesOnlySent x y
 takes-only_sent x y h = record {
   taken = h.back.taken.next;
-  held = λ place cell is. omega (arith, held-below (1 + y.endpoint.receiving.ordered) x.endpoint.sending.nxt 0 y.endpoint.receiving.inbox.held place cell h.back.taken.held is);
+  held = λ place cell is. omega (
+    arith,
+    held-below
+        (1 + y.endpoint.receiving.ordered) x.endpoint.sending.nxt 0 y.endpoint.receiving.inbox.held place cell h.back.taken.held is,
+  );
   emitted = h.there.emitted;
 }
 
-only_sent : (w : WorldState) → BothIn w → TakeOnlySent w
-only_sent w h = record { there = takes-only_sent w.a w.b h; back = takes-only_sent w.b w.a (sent-swapped _ _ h) }
+only_sent : (w : WorldState) → Both KeepsSent w.a w.b → TakeOnlySent w
+only_sent w h = record { there = takes-only_sent w.a w.b h; back = takes-only_sent w.b w.a (both-swapped KeepsSent _ _ h) }
 
 pub only_sent_lem : NothingIsTakenBeforeItIsSent
 only_sent_lem life a b list most one two fits =
-    let start : IsSoundAndSent (new_world_with life a b) = record { sound = sound-new life a b most one two; sent = record { there = new-sent a b; back = new-sent b a } } in
+    let new : Both KeepsSent (new_party a) (new_party b) = record { there = new-sent a b; back = new-sent b a } in
+    let start : IsSoundAndSent (new_world_with life a b) = record { sound = sound-new life a b most one two; sent = new } in
     let stops = kept-run IsSoundAndSent sent-after (new_world_with life a b) list fits start in
     let goes_on = kept-after_all IsSoundAndSent sent-after (new_world_with life a b) list fits start in
     (only_sent _ stops.sent, only_sent _ goes_on.sent)

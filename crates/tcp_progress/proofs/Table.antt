@@ -13,7 +13,7 @@ use Rattle.tcp_conn.specs.Calls.{phase_after_close}
 use Rattle.tcp_conn.specs.Arrival.{phase_after_own_syn}
 use Rattle.tcp_replay.specs.Alone.{Sends}
 use Rattle.tcp_replay.proofs.Lists.{by_test, one_if-most}
-use Rattle.tcp_replay.proofs.Dues.{end-is}
+use Rattle.tcp_replay.proofs.AloneEmissions.{end-is}
 
 -- THE TABLE, against the position after the own FIN: SND.UNA is there where the own FIN is acknowledged, and below it where it isn't
 abbrev pub Table : Phase → Ending → Bool → Bool → ℕ → ℕ → Type 0
@@ -31,10 +31,6 @@ Table TimeWait ending closing finished una end = (closing ≡ true) × (finished
 
 -- between an acknowledgement and what it does to the state
 abbrev pub Between : Phase → Bool → Bool → ℕ → ℕ → Type 0
-Between Closed closing finished una end = ⊥
-Between Listen closing finished una end = ⊥
-Between SynSent closing finished una end = ⊥
-Between SynReceived closing finished una end = ⊥
 Between Established closing finished una end = (closing ≡ false) × (finished ≡ false)
 Between FinWait1 closing finished una end = (closing ≡ true) × (finished ≡ false)
 Between FinWait2 closing finished una end = (closing ≡ true) × (finished ≡ false) × (end ≤ una)
@@ -42,6 +38,7 @@ Between CloseWait closing finished una end = (closing ≡ false) × (finished �
 Between Closing closing finished una end = (closing ≡ true) × (finished ≡ true)
 Between LastAck closing finished una end = (closing ≡ true) × (finished ≡ true)
 Between TimeWait closing finished una end = (closing ≡ true) × (finished ≡ true) × (end ≤ una)
+Between other closing finished una end = ⊥
 
 -- OPEN
 pub table-unopened : (phase : Phase) (ending : Ending) (closing finished : Bool) (una end : ℕ) → is_closed phase ≡ true → ending ≡ NotEnded → Table phase ending closing finished una end → closing ≡ false
@@ -72,11 +69,7 @@ table-close SynSent ending closing finished una end e f g less h = absurd (cc)
 table-close SynReceived ending closing finished una end e f g less h = h
 table-close Established ending closing finished una end e f g less h = (refl, h.1, less)
 table-close CloseWait ending closing finished una end e f g less h = (refl, h.1, less)
-table-close FinWait1 ending closing finished una end e f g less h = (refl, h.1, h.2)
-table-close FinWait2 ending closing finished una end e f g less h = (refl, h.1, h.2)
-table-close Closing ending closing finished una end e f g less h = (refl, h.1, h.2)
-table-close LastAck ending closing finished una end e f g less h = (refl, h.1, h.2)
-table-close TimeWait ending closing finished una end e f g less h = (refl, h.1, h.2)
+table-close other ending closing finished una end e f g less h = (refl, h.1, h.2)
 
 -- TIME-WAIT ends
 pub table-time_wait : (phase : Phase) (ending : Ending) (closing finished : Bool) (una end : ℕ) → is_time_wait phase ≡ true → Table phase ending closing finished una end
@@ -94,12 +87,10 @@ table-acked SynSent ending closing finished una una' end e f g new more h = absu
 table-acked SynReceived ending true finished una una' end e f g new more h = (refl, new refl)
 table-acked SynReceived ending false finished una una' end e f g new more h = (refl, new refl)
 table-acked Established ending closing finished una una' end e f g new more h = h
-table-acked FinWait1 ending closing finished una una' end e f g new more h = (h.0, h.1)
 table-acked FinWait2 ending closing finished una una' end e f g new more h = (h.0, h.1, omega (arith, h.2, more))
 table-acked CloseWait ending closing finished una una' end e f g new more h = h
-table-acked Closing ending closing finished una una' end e f g new more h = (h.0, h.1)
-table-acked LastAck ending closing finished una una' end e f g new more h = (h.0, h.1)
 table-acked TimeWait ending closing finished una una' end e f g new more h = (h.0, h.1, omega (arith, h.2, more))
+table-acked other ending closing finished una una' end e f g new more h = (h.0, h.1)
 
 -- and it may be the own FIN's,
 pub table-own_fin : (phase : Phase) (ending : Ending) (closing finished : Bool) (una end : ℕ) → is_last_ack phase ≡ false → una ≡ end → Between phase closing finished una end
@@ -109,12 +100,9 @@ table-own_fin Listen ending closing finished una end e all h = absurd h
 table-own_fin SynSent ending closing finished una end e all h = absurd h
 table-own_fin SynReceived ending closing finished una end e all h = absurd h
 table-own_fin Established ending closing finished una end e all h = h
-table-own_fin FinWait1 ending closing finished una end e all h = (h.0, h.1, all)
-table-own_fin FinWait2 ending closing finished una end e all h = (h.0, h.1, all)
 table-own_fin CloseWait ending closing finished una end e all h = h
-table-own_fin Closing ending closing finished una end e all h = (h.0, h.1, all)
 table-own_fin LastAck ending closing finished una end e all h = absurd (cc)
-table-own_fin TimeWait ending closing finished una end e all h = (h.0, h.1, all)
+table-own_fin other ending closing finished una end e all h = (h.0, h.1, all)
 
 pub table-last_ack : (phase : Phase) (closing finished : Bool) (una end : ℕ) → is_last_ack phase ≡ true → una ≡ end → Between phase closing finished una end → Table Closed Orderly closing finished una end
 table-last_ack LastAck closing finished una end e all h = (λ never. absurd (cc), λ _. (h.0, h.1, all))
@@ -127,12 +115,10 @@ table-no_own_fin Listen ending closing finished una end less h = absurd h
 table-no_own_fin SynSent ending closing finished una end less h = absurd h
 table-no_own_fin SynReceived ending closing finished una end less h = absurd h
 table-no_own_fin Established ending closing finished una end less h = h
-table-no_own_fin FinWait1 ending closing finished una end less h = (h.0, h.1, less)
 table-no_own_fin FinWait2 ending closing finished una end less h = absurd (omega (arith, less, h.2))
 table-no_own_fin CloseWait ending closing finished una end less h = h
-table-no_own_fin Closing ending closing finished una end less h = (h.0, h.1, less)
-table-no_own_fin LastAck ending closing finished una end less h = (h.0, h.1, less)
 table-no_own_fin TimeWait ending closing finished una end less h = absurd (omega (arith, less, h.2))
+table-no_own_fin other ending closing finished una end less h = (h.0, h.1, less)
 
 -- THE PEER'S FIN
 pub table-fin : (phase : Phase) (ending : Ending) (closing finished : Bool) (una end : ℕ) → takes_text phase ≡ true → Table phase ending closing finished una end

@@ -67,7 +67,7 @@ its_ack-takes s v e =
     record { receiving = still.receiving; phase = still.phase }
 
 -- TEXT AND FIN
-record Fits (r : Receiving) (v : Content) : Type 0 where
+record FitsTaken (r : Receiving) (v : Content) : Type 0 where
   next : r.next < 2 ^ 32
   ordered : r.ordered ≤ max_ordered
   whole : length r.inbox.held ≡ window r.inbox
@@ -78,7 +78,7 @@ record Fits (r : Receiving) (v : Content) : Type 0 where
 text_fin : State → Content → State
 text_fin s v = after_fin (after_its_text s v) v
 
-brings-fin : (s : State) (v : Content) → takes_text s.phase ≡ true → has syn v.flags ≡ false → has fin v.flags ≡ true → Fits s.receiving v
+brings-fin : (s : State) (v : Content) → takes_text s.phase ≡ true → has syn v.flags ≡ false → has fin v.flags ≡ true → FitsTaken s.receiving v
     → BringsOn s.receiving (text_fin s v).receiving (offset s.receiving.next v.seq +ℤ pos (count_numbers v))
 unfolding text_fin after_fin after_its_text
 brings-fin s v takes plain last fits =
@@ -88,7 +88,7 @@ brings-fin s v takes plain last fits =
     let r' : Receiving = if not (length v.text == 0) then after_text r v.seq v.text else r in
     rw (count, takes, last) (with-fin r r' v.seq (length v.text) m (is_fin_due r' (number v.seq (length v.text))) refl (omega (arith, ints, fits.within, count)))
 
-brings-text : (s : State) (v : Content) → takes_text s.phase ≡ true → has syn v.flags ≡ false → has fin v.flags ≡ false → Fits s.receiving v
+brings-text : (s : State) (v : Content) → takes_text s.phase ≡ true → has syn v.flags ≡ false → has fin v.flags ≡ false → FitsTaken s.receiving v
     → BringsOn s.receiving (text_fin s v).receiving (offset s.receiving.next v.seq +ℤ pos (count_numbers v))
 unfolding text_fin after_fin after_its_text
 brings-text s v takes plain open_still fits =
@@ -103,7 +103,7 @@ owes-fin : (s : State) (v : Content) → takes_text s.phase ≡ true → has fin
 unfolding text_fin after_fin after_its_text
 owes-fin s v takes last = rw (takes, last) (or_right _ true refl)
 
-owes-text : (s : State) (v : Content) → takes_text s.phase ≡ true → has syn v.flags ≡ false → has fin v.flags ≡ false → Fits s.receiving v → (text_fin s v).owed.ack ≡ true
+owes-text : (s : State) (v : Content) → takes_text s.phase ≡ true → has syn v.flags ≡ false → has fin v.flags ≡ false → FitsTaken s.receiving v → (text_fin s v).owed.ack ≡ true
 unfolding text_fin after_fin after_its_text
 owes-text s v takes plain open_still fits =
     let count : count_numbers v ≡ length v.text = rw (plain, open_still) (omega arith) in
@@ -116,7 +116,7 @@ record Taken (r : Receiving) (s' : State) (end : ℤ) : Type 0 where
   brings : BringsOn r s'.receiving end
   owes : s'.owed.ack ≡ true
 
-text_fin-taken : (s : State) (v : Content) → takes_text s.phase ≡ true → has syn v.flags ≡ false → Fits s.receiving v
+text_fin-taken : (s : State) (v : Content) → takes_text s.phase ≡ true → has syn v.flags ≡ false → FitsTaken s.receiving v
     → Taken s.receiving (text_fin s v) (offset s.receiving.next v.seq +ℤ pos (count_numbers v))
 text_fin-taken s v takes plain fits =
     elim (cases_Bool (has fin v.flags)) [
@@ -134,9 +134,9 @@ taking : (s : State) (src dst : List ℕ) (v : Content) → IsReady s.receiving 
 unfolding after_taking text_fin
 taking s src dst v sound next =
     let still = its_ack-takes s v next.phase in
-    let fits : Fits s.receiving v = record { next = sound.next; ordered = sound.ordered; whole = sound.whole; begins = next.begins; ends = next.ends; within = next.within } in
+    let fits : FitsTaken s.receiving v = record { next = sound.next; ordered = sound.ordered; whole = sound.whole; begins = next.begins; ends = next.ends; within = next.within } in
     let after = after_its_ack s v in
-    let taken = text_fin-taken after v still.phase next.plain.no_syn (subst (λ r. Fits r v) (sym still.receiving) fits) in
+    let taken = text_fin-taken after v still.phase next.plain.no_syn (subst (λ r. FitsTaken r v) (sym still.receiving) fits) in
     subst (λ (r : Receiving). Taken r (text_fin after v) (offset r.next v.seq +ℤ pos (count_numbers v))) still.receiving taken
 
 pub ready-takes : (s : State) → IsReady s.receiving → TakesWhatIsNext s

@@ -17,44 +17,40 @@ use Rattle.tcp_conn.specs.State.{State}
 use Rattle.tcp_progress.specs.Progress.{OwedIsTold, TellsNext}
 
 -- neither a reset nor a SYN
-abbrev IsPlain : Due → Type 0
-IsPlain (Reset reset) = ⊥
-IsPlain Syn = ⊥
-IsPlain (Resend start count) = Unit {0}
-IsPlain (NewText start count) = Unit {0}
-IsPlain (Fin start) = Unit {0}
-IsPlain (ResentFin start) = Unit {0}
-IsPlain Acknowledgement = Unit {0}
+abbrev IsAcknowledging : Due → Type 0
+IsAcknowledging (Reset reset) = ⊥
+IsAcknowledging Syn = ⊥
+IsAcknowledging other = Unit {0}
 
 -- WHAT THE HALF THAT SENDS HAS DUE
-resent_fin-plain : (d : Sending) (range : Range ℕ) → IfSome (resent_fin d range) IsPlain
+resent_fin-plain : (d : Sending) (range : Range ℕ) → IfSome (resent_fin d range) IsAcknowledging
 resent_fin-plain d range =
-    cond_both (nat_lt (end_of_text d) range.end && nat_le (resend_start d range) (end_of_text d)) (Some (ResentFin (end_of_text d))) None (λ (o : Option Due). IfSome o IsPlain) (λ _. tt) (λ _. tt)
+    cond_both (nat_lt (end_of_text d) range.end && nat_le (resend_start d range) (end_of_text d)) (Some (ResentFin (end_of_text d))) None (λ (o : Option Due). IfSome o IsAcknowledging) (λ _. tt) (λ _. tt)
 
-resent_run-plain : (d : Sending) (limit : ℕ) (range : Range ℕ) (run : Option (ℕ × ℕ)) → IfSome (resent_run d limit range run) IsPlain
+resent_run-plain : (d : Sending) (limit : ℕ) (range : Range ℕ) (run : Option (ℕ × ℕ)) → IfSome (resent_run d limit range run) IsAcknowledging
 resent_run-plain d limit range None = resent_fin-plain d range
 resent_run-plain d limit range (Some run) =
-    cond_both (nat_lt (position_at d run.0) range.end) (Some (Resend (position_at d run.0) (min limit (min (run.1 - run.0) (range.end - position_at d run.0))))) None (λ (o : Option Due). IfSome o IsPlain) (λ _. tt) (λ _. tt)
+    cond_both (nat_lt (position_at d run.0) range.end) (Some (Resend (position_at d run.0) (min limit (min (run.1 - run.0) (range.end - position_at d run.0))))) None (λ (o : Option Due). IfSome o IsAcknowledging) (λ _. tt) (λ _. tt)
 
-resend-plain : (d : Sending) (limit : ℕ) (range : Option (Range ℕ)) → IfSome (resend_of d limit range) IsPlain
+resend-plain : (d : Sending) (limit : ℕ) (range : Option (Range ℕ)) → IfSome (resend_of d limit range) IsAcknowledging
 unfolding resend_of
 resend-plain d limit None = tt
 resend-plain d limit (Some range) = resent_run-plain d limit range (next_unmarked d.queue (place_of d (resend_start d range)))
 
-new_text-plain : (d : Sending) (limit : ℕ) (probe : Bool) → IfSome (new_text_of d limit probe) IsPlain
+new_text-plain : (d : Sending) (limit : ℕ) (probe : Bool) → IfSome (new_text_of d limit probe) IsAcknowledging
 unfolding new_text_of
-new_text-plain d limit probe = cond_both (new_count d limit probe == 0) None (Some (NewText d.nxt (new_count d limit probe))) (λ (o : Option Due). IfSome o IsPlain) (λ _. tt) (λ _. tt)
+new_text-plain d limit probe = cond_both (new_count d limit probe == 0) None (Some (NewText d.nxt (new_count d limit probe))) (λ (o : Option Due). IfSome o IsAcknowledging) (λ _. tt) (λ _. tt)
 
-fin-plain : (d : Sending) (closing : Bool) → IfSome (fin_of d closing) IsPlain
-fin-plain d closing = cond_both (closing && (d.nxt == end_of_text d)) (Some (Fin d.nxt)) None (λ (o : Option Due). IfSome o IsPlain) (λ _. tt) (λ _. tt)
+fin-acknowledging : (d : Sending) (closing : Bool) → IfSome (fin_of d closing) IsAcknowledging
+fin-acknowledging d closing = cond_both (closing && (d.nxt == end_of_text d)) (Some (Fin d.nxt)) None (λ (o : Option Due). IfSome o IsAcknowledging) (λ _. tt) (λ _. tt)
 
 -- THE FIRST THAT IS DUE, an acknowledgement the last
 record IsFirst (o : Option Due) : Type 0 where
   due : Due
   is_due : o ≡ Some due
-  plain : IsPlain due
+  plain : IsAcknowledging due
 
-first-of : (resend text last : Option Due) → IfSome resend IsPlain → IfSome text IsPlain → IfSome last IsPlain
+first-of : (resend text last : Option Due) → IfSome resend IsAcknowledging → IfSome text IsAcknowledging → IfSome last IsAcknowledging
     → IsFirst (option_or (option_or resend (option_or text last)) (Some Acknowledgement))
 first-of (Some due) text last h h' h'' = record { due = due; is_due = refl; plain = h }
 first-of None (Some due) last h h' h'' = record { due = due; is_due = refl; plain = h' }
@@ -67,7 +63,7 @@ first-due s =
     elim (cases_Bool (sends_text s.phase)) [
       | inl sends ↦
           rw sends (first-of (resend_of d (text_limit s) d.resend) (new_text_of d (text_limit s) s.owed.probe) (fin_of d s.closing)
-          (resend-plain d (text_limit s) d.resend) (new_text-plain d (text_limit s) s.owed.probe) (fin-plain d s.closing))
+          (resend-plain d (text_limit s) d.resend) (new_text-plain d (text_limit s) s.owed.probe) (fin-acknowledging d s.closing))
       | inr silent ↦ rw silent (record { due = Acknowledgement; is_due = refl; plain = tt })
     ]
 
@@ -78,7 +74,7 @@ ack-flag true false = refl
 ack-flag false true = refl
 ack-flag false false = refl
 
-plain-tells : (s : State) (due : Due) → IsPlain due → due_of s ≡ Some due → TellsNext s
+plain-tells : (s : State) (due : Due) → IsAcknowledging due → due_of s ≡ Some due → TellsNext s
 unfolding segment_of
 plain-tells s (Reset reset) plain e = absurd plain
 plain-tells s Syn plain e = absurd plain

@@ -1,38 +1,152 @@
 -- TOLD WINDOWS, on the definitions: every event keeps what each end tells of its window within its room.
-use Rattle.std.proofs.Common.{◌≡◌, ℕ, ◌*◌, ◌^◌, ◌<◌, ◌≤◌, List, ◌++◌, refl, sym, ◌∙◌, ap, subst, ⊎_elim, arith, append-nil}
-use Rattle.std.specs.Prelude.{true, false, Option, Some, None, IfSome, Ok, option_map, option_to_list, slice_get}
-use Rattle.std.proofs.lemmas.Bool.{false≢true}
+use Rattle.std.proofs.Common.{◌≡◌, ℕ, suc, ◌+◌, ◌≤◌, List, [], ◌∷◌, ◌++◌, length, drop, refl, sym, ◌∙◌, arith, length-append, length-drop, ◌*◌, ◌^◌, ap}
+use Rattle.std.proofs.Common.{subst}
+use Rattle.std.specs.Prelude.{ℤ, true, false, Option, Some, None, Bool}
+use Rattle.std.proofs.lemmas.Bool.{cond_both, false≢true}
 use Rattle.tcp_wire.specs.Flags.{rst, syn, has}
 use Rattle.tcp_wire.specs.Wire.{Content}
-use Rattle.tcp_wire.specs.Decoded.{decode_answer}
-use Rattle.tcp_reasm.specs.Reassembly.{window}
+use Rattle.tcp_reasm.specs.Reassembly.{Cell, Inbox, Run, piece, window, bytes_in_order, with_ranks_from, with_ranks, runs, greatest_stamp, is_refused}
+use Rattle.tcp_reasm.specs.Reassembly.{with_overlay, overlay_of, after_place}
 use Rattle.tcp_halves.specs.declared.config.Config.{Config}
+use Rattle.tcp_halves.specs.declared.link.Link.{Link}
+use Rattle.tcp_halves.specs.declared.phase.Ending.TheVariants.{Aborted}
+use Rattle.tcp_halves.specs.Config.{min_mss, HasGoodShift}
+use Rattle.tcp_halves.specs.Options.{link_of}
+use Rattle.tcp_halves.specs.Receiver.{Receiving, HoldsWithin, after_text, after_handing, with_fin, without_bytes}
+use Rattle.tcp_halves.proofs.Placing.{capacity_placed, capacity_read, whole_read, whole_without_held, whole_empty}
+use Rattle.tcp_conn.specs.State.{State}
+use Rattle.tcp_conn.specs.Endings.{after_giving_up}
+use Rattle.tcp_conn.specs.Arrival.{after_own_syn, after_acked_text, after_news, after_peer_opens, after_peer_accepts}
+use Rattle.tcp_replay.specs.World.{PartyState, address_of, SentSegment, new_party}
+use Rattle.tcp_progress.proofs.Advance.{overlay-length, in_order-most}
+use Rattle.tcp_progress.proofs.Shifts.{AgreesOn, agreed_shift, own_shift-agreed, syn-agrees, field-within}
+use Rattle.tcp_replay.proofs.Events.{Arrives, after_segment, AllSaid, Both, PairKept, Speaks, both-swapped, said-after, said-back}
+use Rattle.tcp_replay.specs.Sound.{IsSoundPair}
+use Rattle.tcp_replay.proofs.Calls.{KeptByCalls}
+use Rattle.tcp_replay.proofs.Arrivals.{on-arrival}
+use Rattle.tcp_replay.proofs.Steps.{kept-same, Moved}
 use Rattle.tcp_halves.specs.declared.due.Due.{Due}
 use Rattle.tcp_halves.specs.declared.due.Due.TheVariants.{Reset, Syn, Resend, NewText, Fin, ResentFin, Acknowledgement}
-use Rattle.tcp_halves.specs.Config.{HasGoodShift, min_mss}
-use Rattle.tcp_halves.specs.Options.{link_of}
-use Rattle.tcp_halves.specs.Receiver.{HoldsWithin}
-use Rattle.tcp_halves.proofs.Placing.{whole_empty}
 use Rattle.tcp_conn.specs.Config.{IsConfig}
-use Rattle.tcp_conn.specs.State.{State}
 use Rattle.tcp_conn.specs.Windows.{own_shift, window_field}
-use Rattle.tcp_conn.specs.Judgement.{judgement}
-use Rattle.tcp_conn.specs.Arrival.{after_judgement, after_arrival}
 use Rattle.tcp_conn.specs.Forms.{pushes, syn_segment, plain_segment, segment_of}
-use Rattle.tcp_conn.specs.Writing.{bytes_of}
-use Rattle.tcp_conn.specs.Due.{due_of, is_fin}
-use Rattle.tcp_conn.specs.Emission.{emitted_bytes, after_due, after_emission}
-use Rattle.tcp_replay.specs.Events.{EventContent, HasBytes, Connect, Listen, Send, Receive, Close, Abort, Acknowledge, Timer, Emit, Deliver, Damage}
-use Rattle.tcp_replay.specs.World.{PartyState, SentSegment, max_life, sent_by, sent_at, new_party, effect_of, segment_at, bytes_with_damage, delivery_refusal, damage_refusal, party_after_connect, party_after_listen, party_after_send, party_after_receive, party_after_close, party_after_abort, party_after_acknowledge, party_after_timer, party_after_emission, party_after_arrival}
-use Rattle.tcp_replay.specs.Sound.{IsSoundPair}
-use Rattle.tcp_replay.proofs.Steps.{slice_get-more, pair-swapped}
-use Rattle.tcp_replay.proofs.AloneEmissions.{GoesOutAlone, due-alone}
-use Rattle.tcp_replay.proofs.Emissions.{GoesOut, syn-bits, plain-bits, reset-bit, due-decodes, due-goes}
-use Rattle.tcp_replay.proofs.Deliveries.{arrival-ok, own-decodes, segment-sent, delivered-there, finds-damage}
+use Rattle.tcp_conn.specs.Due.{is_fin}
+use Rattle.tcp_replay.proofs.AloneEmissions.{GoesOutAlone}
+use Rattle.tcp_replay.proofs.Emissions.{syn-bits, plain-bits, reset-bit}
 use Rattle.tcp_progress.specs.Edge.{TellsWithin}
-use Rattle.tcp_progress.proofs.Shifts.{agreed_shift, AgreesOn, own_shift-agreed, syn-agrees, field-within}
-use Rattle.tcp_progress.proofs.OnlySent.{some-is, same-content}
-use Rattle.tcp_progress.proofs.Rooms.{KeepsRoom, window-within, room-connected, room-listening, room-sent, room-received, room-closed, room-aborted, room-acknowledged, room-timer, room-judgement}
+
+-- ---- THE INBOX: what is unread and the window make up the capacity
+ranks_from-length : (all : List Run) (place : ℕ) (held : List (Option Cell)) → length (with_ranks_from all place held) ≡ length held
+ranks_from-length all place [] = refl
+ranks_from-length all place (None ∷ places) = omega (arith, ranks_from-length all (suc place) places)
+ranks_from-length all place (Some cell ∷ places) = omega (arith, ranks_from-length all (suc place) places)
+
+ranks-length : (held : List (Option Cell)) → length (with_ranks held) ≡ length held
+unfolding with_ranks
+ranks-length held = ranks_from-length (runs held) 0 held
+
+laid-whole : (q : Inbox) (over : List (Option Cell)) → length over ≡ length q.held → length q.unread + length q.held ≡ q.capacity
+    → length (with_overlay q over).unread + length (with_overlay q over).held ≡ q.capacity
+laid-whole q over same whole =
+    let n = length (bytes_in_order over) in
+    let unread : length (q.unread ++ bytes_in_order over) ≡ length q.unread + n = length-append q.unread (bytes_in_order over) in
+    let held : length (with_ranks (drop n over)) ≡ length (drop n over) = ranks-length (drop n over) in
+    omega (arith, unread, held, length-drop n over, in_order-most over, same, whole)
+
+placed-whole : (q : Inbox) (offset : ℤ) (text : List ℕ) → length q.unread + length q.held ≡ q.capacity
+    → length (after_place q offset text).unread + length (after_place q offset text).held ≡ q.capacity
+unfolding after_place
+placed-whole q offset text whole =
+    let part = piece offset text in
+    cond_both (is_refused q part) q (with_overlay q (overlay_of q part)) (λ (x : Inbox). length x.unread + length x.held ≡ q.capacity)
+    (λ _. whole) (λ _. laid-whole q (overlay_of q part) (overlay-length part.start part.text (suc (greatest_stamp q.held)) q.held) whole)
+
+within-read : (capacity room : ℕ) (r : Receiving) → HoldsWithin capacity r.inbox → HoldsWithin capacity (after_handing r room).inbox
+within-read capacity room r h = record {
+  size = capacity_read r.inbox room ∙ h.size;
+  received = whole_read r.inbox room (h.received ∙ sym h.size) ∙ h.size;
+}
+
+within-given_up : (capacity : ℕ) (r : Receiving) → HoldsWithin capacity r.inbox → HoldsWithin capacity (without_bytes r).inbox
+within-given_up capacity r h = record { size = h.size; received = whole_empty r.inbox.capacity ∙ h.size }
+
+within-fin : (capacity : ℕ) (r : Receiving) → HoldsWithin capacity r.inbox → HoldsWithin capacity (with_fin r).inbox
+within-fin capacity r h = record { size = h.size; received = whole_without_held r.inbox (h.received ∙ sym h.size) ∙ h.size }
+
+within-text : (capacity : ℕ) (r : Receiving) (seq : ℕ) (text : List ℕ) → HoldsWithin capacity r.inbox → HoldsWithin capacity (after_text r seq text).inbox
+unfolding after_text
+within-text capacity r seq text h = record {
+  size = capacity_placed r.inbox _ text ∙ h.size;
+  received = placed-whole r.inbox _ text (h.received ∙ sym h.size) ∙ h.size;
+}
+
+pub window-within : (capacity : ℕ) (q : Inbox) → HoldsWithin capacity q → window q ≤ capacity
+window-within capacity q h = omega (arith, h.size)
+
+-- ---- THE END made from one Config has this buffer and link, its peer being made from the other
+pub record KeepsRoom (mine yours : Config) (inbox : Inbox) (link : Link) (opened : Bool) : Type 0 where
+  pub within : HoldsWithin mine.recv_capacity inbox
+  -- the peer's maximum segment size is never less than the least
+  pub mss : min_mss ≤ link.peer_mss
+  -- once the peer's SYN was taken, scaling is what both Configs say
+  pub agreed : opened ≡ true → AgreesOn mine yours link
+
+-- party p's end may be in this state
+abbrev pub InRoom : PartyState → PartyState → State → Type 0
+InRoom p q s = KeepsRoom p.endpoint.config q.endpoint.config s.receiving.inbox s.link s.receiving.opened
+
+-- THE CALLS, the timers and the emissions
+pub room-calls : (p q : PartyState) → InRoom p q p.endpoint → KeptByCalls (address_of q) p (λ p'. InRoom p q p'.endpoint)
+room-calls p q h =
+    let r = p.endpoint.receiving in
+    let capacity = p.endpoint.config.recv_capacity in
+    let gone : InRoom p q (after_giving_up p.endpoint Aborted) = record { within = within-given_up capacity r h.within; mss = h.mss; agreed = h.agreed } in
+    record {
+      same = h;
+      connects = λ _. h;
+      listens = λ _. h;
+      sends = λ _ _ _. h;
+      reads = λ room _. record { within = within-read capacity room r h.within; mss = h.mss; agreed = h.agreed };
+      withdraws = gone;
+      closes = λ _ _. h;
+      aborts = gone;
+      acknowledges = h;
+      resends = λ _. h;
+      probes = h;
+      fills = λ _ _ _. h;
+      ends = λ _. h;
+      emits = λ _ _ _. h;
+    }
+
+-- a SYN makes the link
+least-mss : (c : Config) (v : Content) → min_mss ≤ (link_of c v.options).peer_mss
+unfolding link_of
+least-mss c v = omega arith
+
+-- ARRIVALS, where the options of a SYN are those that both Configs make
+pub room-arrives : (p q : PartyState) (g : SentSegment) (v : Content) → IsSoundPair p q → Arrives p q g v
+    → (has rst v.flags ≡ false → has syn v.flags ≡ true → AgreesOn p.endpoint.config q.endpoint.config (link_of p.endpoint.config v.options))
+    → InRoom p q p.endpoint → InRoom p q (after_segment p q v)
+unfolding after_own_syn after_acked_text after_news after_peer_opens after_peer_accepts after_text
+room-arrives p q g v pair a offers h =
+    let c = p.endpoint.config in
+    let capacity = c.recv_capacity in
+    on-arrival p q v g.position g.wanted (InRoom p q) (InRoom p q) a.comes (kept-same p q pair) (record {
+      same = h;
+      owes = λ _ _. h;
+      gone = record { within = within-given_up capacity p.endpoint.receiving h.within; mss = h.mss; agreed = h.agreed };
+      opens = λ _ is. record { within = h.within; mss = least-mss c v; agreed = λ _. offers is.plain is.is_syn };
+      accepts = λ _ is. record { within = h.within; mss = least-mss c v; agreed = λ _. offers is.plain is.is_syn };
+      own_syn = λ _ _. h;
+      acked_text = λ _ _ _ _ b. b;
+      news = λ _ _ _ _ b. b;
+      last = λ _ _ _ _ b. b;
+      passes = λ _ _ _ _ b. b;
+      stays = λ _ _ _ b. b;
+      text = λ x _ _ _ _ _ b. record { within = within-text capacity x.receiving v.seq v.text b.within; mss = b.mss; agreed = b.agreed };
+      fin = λ x _ _ _ _ _ b. record { within = within-fin capacity x.receiving b.within; mss = b.mss; agreed = b.agreed };
+      owing = λ _ _ b. b;
+    }) c.addr.0
 
 -- WHAT A SEGMENT TELLS of the receive window of the end made from `mine`, the other being made from `yours` (RFC 7323, 2.2 and 2.3): a SYN the field as it
 -- is, and a shift by which the other's link agrees; any other segment the field scaled by the shift that both Configs make
@@ -41,98 +155,38 @@ pub record IsTold (mine yours : Config) (v : Content) : Type 0 where
   pub offers : has syn v.flags ≡ true → AgreesOn yours mine (link_of yours v.options)
   pub scaled : has syn v.flags ≡ false → v.window * 2 ^ agreed_shift mine.window_shift yours.window_shift ≤ mine.recv_capacity
 
--- in each segment that x emitted, but resets
-abbrev pub AreTold : PartyState → PartyState → Type 0
-AreTold x y = (k : ℕ) (g : SentSegment) (v : Content) → slice_get x.sent k ≡ Some g → decode_answer x.endpoint.config.addr.0 y.endpoint.config.addr.0 g.bytes ≡ Ok v
-    → has rst v.flags ≡ false → IsTold x.endpoint.config y.endpoint.config v
-
+-- in each segment that x emitted, but resets, and x keeps its room
 pub record KeepsTold (x y : PartyState) : Type 0 where
-  -- what is unread and held stays within the capacity
-  pub within : HoldsWithin x.endpoint.config.recv_capacity x.endpoint.receiving.inbox
-  -- the peer's maximum segment size is never less than the least
-  pub mss : min_mss ≤ x.endpoint.link.peer_mss
-  -- once x took the SYN of y, scaling is what both Configs say
-  pub agreed : x.endpoint.receiving.opened ≡ true → AgreesOn x.endpoint.config y.endpoint.config x.endpoint.link
-  pub emitted : AreTold x y
-
-pub record KeepBothTold (x y : PartyState) : Type 0 where
-  pub there : KeepsTold x y
-  pub back : KeepsTold y x
-
-pub told-swapped : (p q : PartyState) → KeepBothTold p q → KeepBothTold q p
-told-swapped p q h = record { there = h.back; back = h.there }
+  pub room : InRoom x y x.endpoint
+  pub emitted : AllSaid x y (λ g v. has rst v.flags ≡ false → IsTold x.endpoint.config y.endpoint.config v)
 
 -- WHAT IS PROMISED OF IT
 tells-one : (y x : PartyState) → KeepsTold y x → KeepsTold x y → TellsWithin y x
 tells-one y x told takes = record {
   plain = λ k g v is read plain no_syn opened.
       let at = told.emitted k g v is read plain in
-      subst (λ (n : ℕ). v.window * 2 ^ n ≤ y.endpoint.config.recv_capacity) (sym (takes.agreed opened).shift) (at.scaled no_syn);
+      subst (λ (n : ℕ). v.window * 2 ^ n ≤ y.endpoint.config.recv_capacity) (sym (takes.room.agreed opened).shift) (at.scaled no_syn);
   syn = λ k g v is read plain is_syn. (told.emitted k g v is read plain).field is_syn;
 }
 
-pub tells-within : (p q : PartyState) → KeepBothTold p q → TellsWithin p q × TellsWithin q p
+pub tells-within : (p q : PartyState) → Both KeepsTold p q → TellsWithin p q × TellsWithin q p
 tells-within p q h = (tells-one p q h.there h.back, tells-one q p h.back h.there)
 
--- ---- what an event must keep at the party where it happens
-abbrev pub StaysTold : PartyState → PartyState → State → Type 0
-StaysTold p q s = KeepsRoom p.endpoint.config q.endpoint.config s
-
--- what p emitted at an event, where it emitted something
-record Adds (p p' q : PartyState) : Type 0 where
-  new : Option SentSegment
-  sent : p'.sent ≡ p.sent ++ option_to_list new
-  told : (g : SentSegment) (v : Content) → new ≡ Some g → decode_answer p.endpoint.config.addr.0 q.endpoint.config.addr.0 g.bytes ≡ Ok v → has rst v.flags ≡ false → IsTold p.endpoint.config q.endpoint.config v
-
-adds-nothing : (p p' q : PartyState) → p'.sent ≡ p.sent → Adds p p' q
-adds-nothing p p' q same = record { new = None; sent = same ∙ sym (append-nil p.sent); told = λ g v none. absurd (cc) }
-
-are-told : (p p' q : PartyState) → p'.endpoint.config ≡ p.endpoint.config → Adds p p' q → AreTold p q → AreTold p' q
-are-told p p' q config adds h k g v is told plain =
-    let read : decode_answer p.endpoint.config.addr.0 q.endpoint.config.addr.0 g.bytes ≡ Ok v = subst (λ (c : Config). decode_answer c.addr.0 q.endpoint.config.addr.0 g.bytes ≡ Ok v) config told in
-    subst (λ (c : Config). IsTold c q.endpoint.config v) (sym config)
-    (⊎_elim (λ (old : slice_get p.sent k ≡ Some g). h k g v old read plain) (λ (last : adds.new ≡ Some g). adds.told g v last read plain)
-    (slice_get-more p.sent adds.new k g (subst (λ (sent : List SentSegment). slice_get sent k ≡ Some g) adds.sent is)))
-
-told-here : (p p' q : PartyState) → StaysTold p q p'.endpoint → Adds p p' q → KeepsTold p q → KeepsTold p' q
-told-here p p' q stays adds h = record {
-  within = subst (λ (c : Config). HoldsWithin c.recv_capacity p'.endpoint.receiving.inbox) (sym stays.config) stays.within;
-  mss = stays.mss;
-  agreed = λ opened. subst (λ (c : Config). AgreesOn c q.endpoint.config p'.endpoint.link) (sym stays.config) (stays.agreed opened);
-  emitted = are-told p p' q stays.config adds h.emitted;
-}
-
-told-of_other : (p p' q : PartyState) → p'.endpoint.config ≡ p.endpoint.config → KeepsTold q p → KeepsTold q p'
-told-of_other p p' q config h = record {
-  within = h.within;
-  mss = h.mss;
-  agreed = λ opened. subst (λ (c : Config). AgreesOn q.endpoint.config c q.endpoint.link) (sym config) (h.agreed opened);
-  emitted = λ k g v is told plain.
-      let read : decode_answer q.endpoint.config.addr.0 p.endpoint.config.addr.0 g.bytes ≡ Ok v = subst (λ (c : Config). decode_answer q.endpoint.config.addr.0 c.addr.0 g.bytes ≡ Ok v) config told in
-      subst (λ (c : Config). IsTold q.endpoint.config c v) (sym config) (h.emitted k g v is read plain);
-}
-
-told-from-stays : (p p' q : PartyState) → StaysTold p q p'.endpoint → Adds p p' q → KeepBothTold p q → KeepBothTold p' q
-told-from-stays p p' q stays adds h = record { there = told-here p p' q stays adds h.there; back = told-of_other p p' q stays.config h.back }
-
-stays-same : (p q : PartyState) → KeepBothTold p q → StaysTold p q p.endpoint
-stays-same p q h = record { config = refl; within = h.there.within; mss = h.there.mss; agreed = h.there.agreed }
-
-told-quiet : (p p' q : PartyState) → p'.sent ≡ p.sent → (StaysTold p q p.endpoint → StaysTold p q p'.endpoint) → KeepBothTold p q → KeepBothTold p' q
-told-quiet p p' q sent stays h = told-from-stays p p' q (stays (stays-same p q h)) (adds-nothing p p' q sent) h
-
 -- ---- EMIT: the window is told as it is in a SYN, and scaled by the own shift once the peer's SYN was taken
-syn-told : (s : State) (mine yours : Config) → HasGoodShift mine → KeepsRoom mine yours s → IsTold mine yours (syn_segment s)
-syn-told s mine yours fits h = record {
+syn-told : (s : State) (mine yours : Config) → HasGoodShift mine → KeepsRoom mine yours s.receiving.inbox s.link s.receiving.opened → s.config ≡ mine
+    → IsTold mine yours (syn_segment s)
+syn-told s mine yours fits h config = record {
   field = λ _. omega (arith, window-within mine.recv_capacity s.receiving.inbox h.within);
-  offers = λ _. syn-agrees s mine yours h.config fits h.agreed;
+  offers = λ _. syn-agrees s mine yours config fits h.agreed;
   scaled = λ no_syn. absurd (false≢true (sym no_syn ∙ (syn-bits s.receiving.opened).0));
 }
 
-plain-told : (s : State) (mine yours : Config) (due : Due) → s.receiving.opened ≡ true → KeepsRoom mine yours s → IsTold mine yours (plain_segment s due)
-plain-told s mine yours due opened h =
+plain-told : (s : State) (mine yours : Config) (due : Due) → s.receiving.opened ≡ true → KeepsRoom mine yours s.receiving.inbox s.link s.receiving.opened
+    → s.config ≡ mine → IsTold mine yours (plain_segment s due)
+plain-told s mine yours due opened h config =
     let bits = plain-bits (pushes s.sending due) (is_fin due) in
-    let shift : own_shift s.config s.link ≡ agreed_shift mine.window_shift yours.window_shift = ap (λ (c : Config). own_shift c s.link) h.config ∙ own_shift-agreed mine yours s.link (h.agreed opened) in
+    let shift : own_shift s.config s.link ≡ agreed_shift mine.window_shift yours.window_shift = ap (λ (c : Config). own_shift c s.link) config ∙
+    own_shift-agreed mine yours s.link (h.agreed opened) in
     let n = own_shift s.config s.link in
     let scaled : window_field n (window s.receiving.inbox) * 2 ^ n ≤ window s.receiving.inbox = field-within n (window s.receiving.inbox) in
     let most = window-within mine.recv_capacity s.receiving.inbox h.within in
@@ -143,92 +197,49 @@ plain-told s mine yours due opened h =
       scaled = λ _. subst (λ (k : ℕ). window_field n (window s.receiving.inbox) * 2 ^ k ≤ mine.recv_capacity) shift all;
     }
 
-due-told : (p q : PartyState) (due : Due) → IsSoundPair p q → GoesOutAlone p.endpoint p.accepted p.closed due → StaysTold p q p.endpoint → has rst (segment_of p.endpoint due).flags ≡ false
+due-told : (p q : PartyState) (due : Due) → IsSoundPair p q → GoesOutAlone p.endpoint p.accepted p.closed due → InRoom p q p.endpoint
+    → has rst (segment_of p.endpoint due).flags ≡ false
     → IsTold p.endpoint.config q.endpoint.config (segment_of p.endpoint due)
 unfolding segment_of
 due-told p q (Reset reset) pair out h plain = absurd (false≢true (sym plain ∙ reset-bit _))
-due-told p q Syn pair out h plain = syn-told p.endpoint p.endpoint.config q.endpoint.config pair.there.alone.config.good.2 h
-due-told p q (Resend start count) pair out h plain = plain-told p.endpoint _ _ (Resend start count) out.kind.opened h
-due-told p q (NewText start count) pair out h plain = plain-told p.endpoint _ _ (NewText start count) out.kind.opened h
-due-told p q (Fin start) pair out h plain = plain-told p.endpoint _ _ (Fin start) out.kind.opened h
-due-told p q (ResentFin start) pair out h plain = plain-told p.endpoint _ _ (ResentFin start) out.kind.opened h
-due-told p q Acknowledgement pair out h plain = plain-told p.endpoint _ _ Acknowledgement out.kind.opened h
+due-told p q Syn pair out h plain = syn-told p.endpoint p.endpoint.config q.endpoint.config pair.there.alone.config.good.2 h refl
+due-told p q other pair out h plain = plain-told p.endpoint _ _ other out.kind.opened h refl
 
-due-adds : (p q : PartyState) (due : Option Due) → IfSome due (GoesOut p q) → IfSome due (GoesOutAlone p.endpoint p.accepted p.closed) → IsSoundPair p q → StaysTold p q p.endpoint → (g : SentSegment) (v : Content)
-    → option_map (sent_by p.endpoint) (option_map (bytes_of p.endpoint) due) ≡ Some g → decode_answer p.endpoint.config.addr.0 q.endpoint.config.addr.0 g.bytes ≡ Ok v → has rst v.flags ≡ false
-    → IsTold p.endpoint.config q.endpoint.config v
-unfolding bytes_of
-due-adds p q None goes out pair h g v e read plain = absurd (cc)
-due-adds p q (Some due) goes out pair h g v e read plain =
-    let s = p.endpoint in
-    let src = s.config.addr.0 in
-    let dst = q.endpoint.config.addr.0 in
-    let sent : sent_by s (bytes_of s due) ≡ g = some-is e in
-    let own : decode_answer src dst g.bytes ≡ Ok (segment_of s due) = ap (λ (g : SentSegment). decode_answer src dst g.bytes) (sym sent) ∙ due-decodes p q due goes in
-    let same : segment_of s due ≡ v = same-content (segment_of s due) v (decode_answer src dst g.bytes) own read in
-    subst (IsTold p.endpoint.config q.endpoint.config) same (due-told p q due pair out h (ap (λ (v : Content). has rst v.flags) same ∙ plain))
+-- p became p', and emitted what is due
+told-moved : (p p' q : PartyState) → IsSoundPair p q → Moved p p' q → Speaks p p' q → InRoom p q p'.endpoint → Both KeepsTold p q → Both KeepsTold p' q
+told-moved p p' q pair moved out room h =
+    let r = p'.endpoint.receiving in
+    let mine = q.endpoint.config in
+    let s = q.endpoint in
+    record {
+      there = record {
+        room = subst (λ (c : Config). KeepsRoom c mine r.inbox p'.endpoint.link r.opened) (sym moved.config) room;
+        emitted = said-after p p' q (λ g v. has rst v.flags ≡ false → IsTold p'.endpoint.config mine v) moved.config out
+            (λ k g v is read plain. subst (λ (c : Config). IsTold c mine v) (sym moved.config) (h.there.emitted k g v is read plain))
+            (λ due goes alone _ plain. subst (λ (c : Config). IsTold c mine (segment_of p.endpoint due)) (sym moved.config)
+            (due-told p q due pair alone h.there.room plain));
+      };
+      back = record {
+        room = subst (λ (c : Config). KeepsRoom mine c s.receiving.inbox s.link s.receiving.opened) (sym moved.config) h.back.room;
+        emitted = said-back p p' q (λ g v. has rst v.flags ≡ false → IsTold mine p'.endpoint.config v) moved.config
+            (λ k g v is read plain. subst (λ (c : Config). IsTold mine c v) (sym moved.config) (h.back.emitted k g v is read plain));
+      };
+    }
 
-stays-due : (p q : PartyState) (due : Option Due) → StaysTold p q p.endpoint → StaysTold p q (after_due p.endpoint due)
-stays-due p q None h = h
-stays-due p q (Some due) h = record { config = h.config; within = h.within; mss = h.mss; agreed = h.agreed }
-
-told-emitted : (p q : PartyState) → IsSoundPair p q → KeepBothTold p q → KeepBothTold (party_after_emission p) q
-unfolding party_after_emission emitted_bytes after_emission
-told-emitted p q pair h =
-    told-from-stays p _ q (stays-due p q (due_of p.endpoint) (stays-same p q h))
-    (record {
-      new = option_map (sent_by p.endpoint) (option_map (bytes_of p.endpoint) (due_of p.endpoint));
-      sent = refl;
-      told = due-adds p q (due_of p.endpoint) (due-goes p q pair) (due-alone p.endpoint p.accepted p.closed pair.there.alone) pair (stays-same p q h);
-    }) h
-
--- ---- DELIVERY of a segment that the peer emitted
-delivered-stays : (p q : PartyState) (life k : ℕ) → delivery_refusal life q p k ≡ None → IsSoundPair p q → KeepBothTold p q
-    → StaysTold p q (after_arrival p.endpoint q.endpoint.config.addr.0 p.endpoint.config.addr.0 (segment_at q k))
-delivered-stays p q life k e pair h =
-    let src = q.endpoint.config.addr.0 in
-    let dst = p.endpoint.config.addr.0 in
-    let g = sent_at q k in
-    let sent = segment-sent q k (delivered-there life p q k e).0 in
-    let own = pair.own_back k g sent in
-    let read = own-decodes q p g own in
-    let stays : StaysTold p q (after_judgement (judgement p.endpoint src dst own.content) p.endpoint src own.content) =
-    room-judgement p.endpoint.config q.endpoint.config p.endpoint src dst own.content (λ plain is_syn. (h.back.emitted k g own.content sent read plain).offers is_syn) (stays-same p q h) in
-    rw (arrival-ok p.endpoint src dst g.bytes own.content read) stays
-
-told-delivered : (p q : PartyState) (life k : ℕ) → delivery_refusal life q p k ≡ None → IsSoundPair p q → KeepBothTold p q → KeepBothTold (party_after_arrival p q (segment_at q k)) q
-unfolding party_after_arrival
-told-delivered p q life k e pair h =
-    told-quiet p (record p { endpoint = after_arrival p.endpoint q.endpoint.config.addr.0 p.endpoint.config.addr.0 (segment_at q k) }) q refl (λ _. delivered-stays p q life k e pair h) h
-
-told-damaged : (p q : PartyState) (life k place value : ℕ) → value < 256 → damage_refusal life q p k place value ≡ None → IsSoundPair p q → KeepBothTold p q
-    → KeepBothTold (party_after_arrival p q (bytes_with_damage (segment_at q k) place value)) q
-told-damaged p q life k place value fits e pair h = subst (λ (p' : PartyState). KeepBothTold p' q) (sym (finds-damage p q life k place value fits e pair).same) h
-
--- ---- EVERY EVENT that isn't refused, at the party whose side it names
-pub told-effect : (life : ℕ) (p q : PartyState) (event : EventContent) → life ≤ max_life → HasBytes event → (effect_of life p q event).refusal ≡ None → IsSoundPair p q → KeepBothTold p q
-    → KeepBothTold (effect_of life p q event).here (effect_of life p q event).there
-unfolding effect_of party_after_connect party_after_listen party_after_send party_after_receive party_after_close party_after_abort party_after_acknowledge party_after_timer
-told-effect life p q (Connect side) most fits e pair h = told-quiet p _ q refl (room-connected _ _ p.endpoint q) h
-told-effect life p q (Listen side) most fits e pair h = told-quiet p _ q refl (room-listening _ _ p.endpoint) h
-told-effect life p q (Send side bytes) most fits e pair h = told-quiet p _ q refl (room-sent _ _ p.endpoint bytes) h
-told-effect life p q (Receive side room) most fits e pair h = told-quiet p _ q refl (room-received _ _ p.endpoint room) h
-told-effect life p q (Close side) most fits e pair h = told-quiet p _ q refl (room-closed _ _ p.endpoint) h
-told-effect life p q (Abort side) most fits e pair h = told-quiet p _ q refl (room-aborted _ _ p.endpoint) h
-told-effect life p q (Acknowledge side) most fits e pair h = told-quiet p _ q refl (room-acknowledged _ _ p.endpoint) h
-told-effect life p q (Timer side which) most fits e pair h = told-quiet p _ q refl (room-timer _ _ p.endpoint which) h
-told-effect life p q (Emit side) most fits e pair h = told-emitted p q pair h
-told-effect life p q (Deliver from k) most fits e pair h = told-swapped _ _ (told-delivered q p life k e (pair-swapped _ _ pair) (told-swapped _ _ h))
-told-effect life p q (Damage from k place value) most fits e pair h = told-swapped _ _ (told-damaged q p life k place value fits e (pair-swapped _ _ pair) (told-swapped _ _ h))
+pub told-kept : PairKept (λ _ _. Unit {0}) (Both KeepsTold) (λ p q s _. InRoom p q s)
+told-kept = record {
+  swapped = both-swapped KeepsTold;
+  calls = λ p q _ h. room-calls p q h.there.room;
+  arrives = λ p q g v _ pair a h. room-arrives p q g v pair a (λ plain is_syn. (h.back.emitted a.place g v a.sent a.read plain).offers is_syn) h.there.room;
+  moved = told-moved;
+}
 
 -- ---- NEW ENDS
 told-of_new : (a b : Config) → KeepsTold (new_party a) (new_party b)
 told-of_new a b = record {
-  within = record { size = refl; received = whole_empty a.recv_capacity };
-  mss = omega arith;
-  agreed = λ never. absurd (cc);
+  room = record { within = record { size = refl; received = whole_empty a.recv_capacity }; mss = omega arith; agreed = λ never. absurd (cc) };
   emitted = λ k g v never. absurd (cc);
 }
 
-pub new-told : (a b : Config) → IsConfig a → IsConfig b → KeepBothTold (new_party a) (new_party b)
+pub new-told : (a b : Config) → IsConfig a → IsConfig b → Both KeepsTold (new_party a) (new_party b)
 new-told a b one two = record { there = told-of_new a b; back = told-of_new b a }

@@ -1,20 +1,38 @@
--- THE MOVES OF ONE END by itself: what a rule may do to it, whoever its peer is.
-use Rattle.std.proofs.Common.{◌≡◌, ℕ, List, [], refl, sym, ◌∙◌, ⊎_elim, arith}
-use Rattle.std.specs.Prelude.{Bool, true, false, ◌||◌, Option, Some, None, IfSome}
-use Rattle.std.proofs.lemmas.Bool.{or_cases, false≢true}
+-- ONE END by itself: what a rule may do to it, whoever its peer is, and a segment that it takes, stage by stage.
+use Rattle.std.proofs.Common.{◌≡◌, ℕ, List, [], refl, sym, ◌∙◌, ⊎_elim, arith, length, ◌+◌, ◌≤◌, ◌^◌, ◌<◌, ◌∷◌}
+use Rattle.std.specs.Prelude.{Bool, true, false, ◌||◌, Option, Some, None, IfSome, max, not, ◌&&◌, nat_lt, nat_le, ◌==◌, if◌then◌else◌}
+use Rattle.std.proofs.lemmas.Bool.{or_cases, false≢true, cond_both, ltb-true, leb-true, and_parts, not-true}
 use Rattle.tcp_halves.specs.declared.config.Config.{Config}
 use Rattle.tcp_conn.specs.Config.{IsConfig}
 use Rattle.tcp_halves.specs.declared.link.WaitingReset.{WaitingReset}
 use Rattle.tcp_halves.specs.declared.phase.Ending.{Ending}
 use Rattle.tcp_halves.specs.declared.phase.Ending.TheVariants.{NotEnded}
-use Rattle.tcp_conn.specs.Phase.{has_peer, gives_up}
-use Rattle.tcp_conn.specs.State.{State, Sending, with_ack_owed}
+use Rattle.tcp_conn.specs.Phase.{has_peer, gives_up, is_closed, is_syn_received, is_last_ack, takes_text, phase_after_own_fin, phase_after_fin}
+use Rattle.tcp_conn.specs.Phase.{is_handshake}
+use Rattle.tcp_conn.specs.State.{State, Sending, with_ack_owed, place_of}
 use Rattle.tcp_conn.specs.NewEnd.{new_end}
 use Rattle.tcp_conn.specs.Endings.{after_orderly_end, after_giving_up}
-use Rattle.tcp_conn.specs.Arrival.{first_reset, with_reset}
+use Rattle.tcp_conn.specs.Arrival.{first_reset, with_reset, after_own_syn, after_acked_text, blocks_used, is_current, after_news, after_own_fin}
+use Rattle.tcp_conn.specs.Arrival.{after_its_ack, takes_text_of, after_its_text, has_fin, takes_fin, after_fin, after_taking, after_taking_shut}
 use Rattle.tcp_replay.specs.Alone.{Sends, FitsPhase, IsWritable, IsAlone}
-use Rattle.tcp_replay.proofs.Halves.{sends-given_up}
-use Rattle.tcp_replay.proofs.Phases.{gives_up-not_ended}
+use Rattle.tcp_replay.proofs.Halves.{sends-given_up, sends-syn_acked, sends-acked}
+use Rattle.tcp_replay.proofs.Phases.{gives_up-not_ended, is_synchronized, end-syn_received, end-synchronized, end-takes_text, synchronized-knows}
+use Rattle.tcp_replay.proofs.Phases.{takes_text-synchronized, present-knows, own_syn-synchronized, fits-own_syn, knows-own_syn, fits-acked, fits-own_fin}
+use Rattle.tcp_replay.proofs.Phases.{knows-own_fin, handshake-own_fin, synchronized-own_fin, fits-fin, knows-fin, handshake-fin}
+use Rattle.tcp_conn.specs.Sender.{without_resend, acks_more, with_acked, after_ack, with_syn_acked, is_newer, with_window, after_window_update, count_below}
+use Rattle.tcp_conn.specs.Sender.{is_fin_acked}
+use Rattle.tcp_wire.specs.Position.{number, position_of}
+use Rattle.tcp_wire.specs.Flags.{fin, has}
+use Rattle.tcp_wire.specs.Wire.{Content}
+use Rattle.tcp_sendq.specs.SendQueue.{marks_with, can_mark, after_mark}
+use Rattle.tcp_sendq.proofs.Kept.{length-marks_with}
+use Rattle.tcp_halves.specs.declared.phase.Phase.TheVariants.{Established, FinWait1}
+use Rattle.tcp_conn.specs.Windows.{window_from}
+use Rattle.tcp_conn.specs.Blocks.{is_of_flight, marks_text, with_marks, after_block, after_blocks}
+use Rattle.tcp_conn.specs.Receiver.{after_text, is_fin_due, with_fin}
+use Rattle.tcp_conn.specs.Judgement.{position_near}
+use Rattle.tcp_replay.proofs.Lists.{by_test}
+use Rattle.tcp_replay.proofs.Judgements.{IsPresent}
 
 -- a new end
 pub alone-new : (c : Config) → IsConfig c → IsAlone (new_end c) [] false
@@ -26,33 +44,51 @@ alone-new c is = record {
   syn = λ never. absurd (cc);
   ack = λ never. absurd (cc);
   reset = tt;
-  sends = record { order = omega arith; most = omega arith; limit = omega arith; capacity = is.good.0.0.1; ahead = omega arith; bytes = λ i. omega arith; released = refl; queue = λ _. refl; flags = refl; range = tt };
+  sends =
+      record {
+        order = omega arith;
+        most = omega arith;
+        limit = omega arith;
+        capacity = is.good.0.0.1;
+        ahead = omega arith;
+        bytes =
+            λ i. omega arith;
+        released = refl;
+        queue = λ _. refl;
+        flags = refl;
+        range = tt;
+      };
   next = omega arith;
   unopened = λ _. refl;
 }
 
 -- a reset waits, unless one did
-pub first_reset-keeps : (P : WaitingReset → Type 0) (waiting : Option WaitingReset) (reset : WaitingReset) → IfSome waiting P → P reset → IfSome (first_reset waiting reset) P
+pub first_reset-keeps : (P : WaitingReset → Type 0) (waiting : Option WaitingReset) (reset : WaitingReset) → IfSome waiting P → P reset
+    → IfSome (first_reset waiting reset) P
 first_reset-keeps P None reset h fits = fits
 first_reset-keeps P (Some waiting) reset h fits = h
 
-pub alone-reset : (s : State) (accepted : List ℕ) (closed : Bool) (reset : WaitingReset) → IsWritable reset → IsAlone s accepted closed → IsAlone (with_reset s reset) accepted closed
+pub alone-reset : (s : State) (accepted : List ℕ) (closed : Bool) (reset : WaitingReset) → IsWritable reset → IsAlone s accepted closed
+    → IsAlone (with_reset s reset) accepted closed
 alone-reset s accepted closed reset fits h =
     let waits : IfSome (first_reset s.owed.reset reset) IsWritable = first_reset-keeps IsWritable s.owed.reset reset h.reset fits in
     assumption
 
 -- an acknowledgement is owed to the peer, whose SYN was taken
-pub alone-owing : (s : State) (accepted : List ℕ) (closed : Bool) → has_peer s.phase ≡ true → s.receiving.opened ≡ true → IsAlone s accepted closed → IsAlone (with_ack_owed s) accepted closed
+pub alone-owing : (s : State) (accepted : List ℕ) (closed : Bool) → has_peer s.phase ≡ true → s.receiving.opened ≡ true → IsAlone s accepted closed
+    → IsAlone (with_ack_owed s) accepted closed
 alone-owing s accepted closed knows opened h = assumption
 
-pub alone-ack_owed : (s : State) (accepted : List ℕ) (closed owing : Bool) → (owing ≡ true → (has_peer s.phase ≡ true) × (s.receiving.opened ≡ true)) → IsAlone s accepted closed
+pub alone-ack_owed : (s : State) (accepted : List ℕ) (closed owing : Bool) → (owing ≡ true → (has_peer s.phase ≡ true) × (s.receiving.opened ≡ true))
+    → IsAlone s accepted closed
     → IsAlone (record s { owed = record s.owed { ack = s.owed.ack || owing } }) accepted closed
 alone-ack_owed s accepted closed owing fits h =
     let ack : (s.owed.ack || owing) ≡ true → (has_peer s.phase ≡ true) × (s.receiving.opened ≡ true) = λ e. ⊎_elim h.ack fits (or_cases s.owed.ack owing e) in
     assumption
 
 -- a reset or an abort ends the connection
-pub alone-given_up : (s : State) (accepted : List ℕ) (closed : Bool) (ending : Ending) → gives_up ending ≡ true → IsAlone s accepted closed → IsAlone (after_giving_up s ending) accepted closed
+pub alone-given_up : (s : State) (accepted : List ℕ) (closed : Bool) (ending : Ending) → gives_up ending ≡ true → IsAlone s accepted closed
+    → IsAlone (after_giving_up s ending) accepted closed
 alone-given_up s accepted closed ending gone h = record {
   config = h.config;
   closing = h.closing;
@@ -66,8 +102,13 @@ alone-given_up s accepted closed ending gone h = record {
   unopened = h.unopened;
 }
 
+-- nothing goes out again
+sends-no_resend : (d : Sending) (accepted : List ℕ) (closed : Bool) → Sends d accepted closed false → Sends (without_resend d) accepted closed false
+sends-no_resend d accepted closed h = let range : IfSome (without_resend d).resend (λ r. r.end ≤ max d.nxt (1 + length accepted)) = tt in assumption
+
 -- both sides closed, and both know it
-pub alone-orderly : (s : State) (accepted : List ℕ) (closed : Bool) → s.ending ≡ NotEnded → IsAlone s accepted closed → IsAlone (after_orderly_end s) accepted closed
+pub alone-orderly : (s : State) (accepted : List ℕ) (closed : Bool) → s.ending ≡ NotEnded → IsAlone s accepted closed
+    → IsAlone (after_orderly_end s) accepted closed
 alone-orderly s accepted closed going h =
     let none : gives_up s.ending ≡ false = gives_up-not_ended s.ending going in
     let sends : Sends s.sending accepted closed false = rw none at h.sends in
@@ -79,14 +120,281 @@ alone-orderly s accepted closed going h =
       syn = λ never. absurd (cc);
       ack = λ never. absurd (cc);
       reset = h.reset;
-      sends = record { order = sends.order; most = sends.most; limit = sends.limit; capacity = sends.capacity; ahead = sends.ahead; bytes = sends.bytes; released = sends.released; queue = sends.queue; flags = sends.flags; range = tt };
+      sends = sends-no_resend s.sending accepted closed sends;
       next = h.next;
       unopened = h.unopened;
     }
 
 -- the half that sends moves, SND.UNA and SND.NXT being where they were
-pub alone-sending : (s : State) (accepted : List ℕ) (closed : Bool) (d : Sending) → d.una ≡ s.sending.una → d.nxt ≡ s.sending.nxt → Sends d accepted closed (gives_up s.ending)
+pub alone-sending : (s : State) (accepted : List ℕ) (closed : Bool) (d : Sending) → d.una ≡ s.sending.una → d.nxt ≡ s.sending.nxt
+    → Sends d accepted closed (gives_up s.ending)
     → IsAlone s accepted closed → IsAlone (record s { sending = d }) accepted closed
 alone-sending s accepted closed d una nxt sends h =
     let progress : FitsPhase s.phase s.ending d.una d.nxt s.receiving.opened s.receiving.finished = rw (una, nxt) h.progress in
     assumption
+
+-- OWN SYN
+pub alone-own_syn : (s : State) (accepted : List ℕ) (closed : Bool) (v : Content) → IsPresent s → IsAlone s accepted closed
+    → IsAlone (after_own_syn s v) accepted closed
+unfolding after_own_syn
+alone-own_syn s accepted closed v present h =
+    by_test (is_syn_received s.phase) (λ b. IsAlone (record s {
+      phase = if b then (if s.closing then FinWait1 else Established) else s.phase;
+      sending = if b then with_window (with_syn_acked s.sending) v.seq v.ack (window_from s.link v.window) else s.sending;
+      owed = record s.owed { syn = s.owed.syn && not b };
+    }) accepted closed)
+    (λ e.
+    let d = s.sending in
+    let r = s.receiving in
+    let at = end-syn_received s e h.progress in
+    let knows : has_peer s.phase ≡ true = present-knows s.phase present.shut present.listening in
+    record {
+      config = h.config;
+      closing = h.closing;
+      progress = fits-own_syn s.closing s.ending d.una d.nxt r.opened r.finished at;
+      port = λ _. h.port knows;
+      syn = λ never. absurd (false≢true (and_parts s.owed.syn false never).1);
+      ack = λ _. (knows-own_syn s.closing, at.1.is_opened);
+      reset = h.reset;
+      sends = sends-syn_acked d accepted closed (gives_up s.ending) (window_from s.link v.window) v.seq v.ack at.1.nxt_is h.sends;
+      next = h.next;
+      unopened = h.unopened;
+    })
+    (λ _.
+    let syn : (s.owed.syn && true) ≡ true → is_handshake s.phase ≡ true = λ e. h.syn (and_parts s.owed.syn true e).0 in
+    assumption)
+
+-- ACKNOWLEDGEMENT, of whatever position
+alone-acked : (s : State) (accepted : List ℕ) (closed : Bool) (a : ℕ) → is_synchronized s.phase ≡ true → IsAlone s accepted closed
+    → IsAlone (record s { sending = after_ack s.sending a }) accepted closed
+unfolding after_ack
+alone-acked s accepted closed a synced h =
+    let d = s.sending in
+    let r = s.receiving in
+    let at = end-synchronized s synced h.progress in
+    let none : gives_up s.ending ≡ false = gives_up-not_ended s.ending at.0 in
+    cond_both (acks_more d a) (with_acked d a) d (λ (x : Sending). IsAlone (record s { sending = x }) accepted closed)
+    (λ e.
+    let parts = and_parts (nat_lt d.una a) (nat_le a d.nxt) e in
+    let new : d.una < a = ltb-true d.una a parts.0 in
+    let sent : a ≤ d.nxt = leb-true a d.nxt parts.1 in
+    let sends : Sends (with_acked d a) accepted closed (gives_up s.ending) = rw none (sends-acked d accepted closed a new sent (rw none at h.sends)) in
+    let progress : FitsPhase s.phase s.ending a d.nxt r.opened r.finished = fits-acked s.phase s.ending d.una a d.nxt r.opened r.finished synced
+    (omega arith) h.progress in
+    assumption)
+    (λ _. h)
+
+pub alone-acked_text : (s : State) (accepted : List ℕ) (closed : Bool) (v : Content) → is_synchronized s.phase ≡ true → IsAlone s accepted closed
+    → IsAlone (after_acked_text s v) accepted closed
+unfolding after_acked_text
+alone-acked_text s accepted closed v synced h = alone-acked s accepted closed (position_near s v.ack) synced h
+
+-- WINDOW UPDATE, and the blocks: what both leave as it was
+pub record SameText (d d' : Sending) (accepted : List ℕ) (closed gone : Bool) : Type 0 where
+  pub una : d'.una ≡ d.una
+  pub nxt : d'.nxt ≡ d.nxt
+  pub sends : Sends d' accepted closed gone
+
+same-text : (d : Sending) (accepted : List ℕ) (closed gone : Bool) → Sends d accepted closed gone → SameText d d accepted closed gone
+same-text d accepted closed gone h = record { una = refl; nxt = refl; sends = h }
+
+pub same-window : (d : Sending) (seq ack window : ℕ) (accepted : List ℕ) (closed gone : Bool) → Sends d accepted closed gone
+    → SameText d (after_window_update d seq ack window) accepted closed gone
+unfolding after_window_update
+same-window d seq ack window accepted closed gone h =
+    cond_both (is_newer d seq ack) (with_window d seq ack window) d (λ (x : Sending). SameText d x accepted closed gone)
+    (λ _. let una : d.una ≡ d.una = refl in let nxt : d.nxt ≡ d.nxt = refl in assumption) (λ _. same-text d accepted closed gone h)
+
+pub same-marks : (d : Sending) (left right : ℕ) (accepted : List ℕ) (closed gone : Bool) → Sends d accepted closed gone
+    → SameText d (after_block d left right) accepted closed gone
+unfolding after_block after_mark
+same-marks d left right accepted closed gone h =
+    let from = place_of d left in
+    let to = count_below d right in
+    cond_both (marks_text d left right) (with_marks d left right) d (λ (x : Sending). SameText d x accepted closed gone)
+    (λ e.
+    let order : from < to = ltb-true from to (and_parts (is_of_flight d left right) (nat_lt from to) e).1 in
+    cond_both (can_mark d.queue from to) (marks_with from to d.queue.marks) d.queue.marks
+    (λ (marks : List Bool). SameText d (record d { queue = record d.queue { marks = marks } }) accepted closed gone)
+    (λ _.
+    let flags : length (marks_with from to d.queue.marks) ≡ length d.queue.bytes = length-marks_with from to d.queue.marks (omega arith)
+    (omega (arith, h.flags)) ∙ h.flags in
+    let una : d.una ≡ d.una = refl in let nxt : d.nxt ≡ d.nxt = refl in assumption)
+    (λ _. same-text d accepted closed gone h))
+    (λ _. same-text d accepted closed gone h)
+
+same-blocks : (iss : ℕ) (d : Sending) (blocks : List (ℕ × ℕ)) (accepted : List ℕ) (closed gone : Bool) → Sends d accepted closed gone
+    → SameText d (after_blocks iss d blocks) accepted closed gone
+same-blocks iss d [] accepted closed gone h = same-text d accepted closed gone h
+same-blocks iss d (block ∷ blocks) accepted closed gone h =
+    let first = same-marks d (position_of iss d.una block.0) (position_of iss d.una block.1) accepted closed gone h in
+    let rest = same-blocks iss (after_block d (position_of iss d.una block.0) (position_of iss d.una block.1)) blocks accepted closed gone first.sends in
+    record { una = rest.una ∙ first.una; nxt = rest.nxt ∙ first.nxt; sends = rest.sends }
+
+pub same-news : (s : State) (accepted : List ℕ) (closed gone : Bool) (v : Content) → Sends s.sending accepted closed gone
+    → SameText s.sending (after_news s v).sending accepted closed gone
+unfolding after_news
+same-news s accepted closed gone v h =
+    let d = s.sending in
+    let told = window_from s.link v.window in
+    let first = same-window d v.seq v.ack told accepted closed gone h in
+    let rest = same-blocks s.config.isn.0 (after_window_update d v.seq v.ack told) (blocks_used s v) accepted closed gone first.sends in
+    cond_both (is_current s v) (after_blocks s.config.isn.0 (after_window_update d v.seq v.ack told) (blocks_used s v)) d
+    (λ (x : Sending). SameText d x accepted closed gone)
+    (λ _. record { una = rest.una ∙ first.una; nxt = rest.nxt ∙ first.nxt; sends = rest.sends }) (λ _. same-text d accepted closed gone h)
+
+news-sending : (s : State) (v : Content) → after_news s v ≡ record s { sending = (after_news s v).sending }
+unfolding after_news
+news-sending s v = refl
+
+pub alone-news : (s : State) (accepted : List ℕ) (closed : Bool) (v : Content) → IsAlone s accepted closed → IsAlone (after_news s v) accepted closed
+alone-news s accepted closed v h =
+    let same = same-news s accepted closed (gives_up s.ending) v h.sends in
+    rw (news-sending s v) (alone-sending s accepted closed (after_news s v).sending same.una same.nxt same.sends h)
+
+-- OWN FIN: the connection goes on, or has ended
+pub own_fin-phase : (s : State) (accepted : List ℕ) (closed : Bool) → IsAlone s accepted closed
+    → IsAlone (record s { phase = phase_after_own_fin s.phase }) accepted closed
+own_fin-phase s accepted closed h =
+    let d = s.sending in
+    let knows : has_peer (phase_after_own_fin s.phase) ≡ has_peer s.phase = knows-own_fin s.phase in
+    let progress : FitsPhase (phase_after_own_fin s.phase) s.ending d.una d.nxt s.receiving.opened s.receiving.finished =
+    fits-own_fin s.phase s.ending d.una d.nxt s.receiving.opened s.receiving.finished h.progress in
+    let port : has_peer (phase_after_own_fin s.phase) ≡ true → s.peer.port < 2 ^ 16 = λ e. h.port (sym knows ∙ e) in
+    let syn : s.owed.syn ≡ true → is_handshake (phase_after_own_fin s.phase) ≡ true = λ e. handshake-own_fin s.phase ∙ h.syn e in
+    let ack : s.owed.ack ≡ true → (has_peer (phase_after_own_fin s.phase) ≡ true) × (s.receiving.opened ≡ true) = λ e. (knows ∙ (h.ack e).0, (h.ack e).1) in
+    assumption
+
+alone-own_fin : (s : State) (accepted : List ℕ) (closed : Bool) → is_synchronized s.phase ≡ true → IsAlone s accepted closed
+    → IsAlone (after_own_fin s) accepted closed
+unfolding after_own_fin
+alone-own_fin s accepted closed synced h =
+    let d = s.sending in
+    let at = end-synchronized s synced h.progress in
+    cond_both (is_fin_acked d) (if is_last_ack s.phase then after_orderly_end s else record s { phase = phase_after_own_fin s.phase }) s
+    (λ (x : State). IsAlone x accepted closed)
+    (λ _. cond_both (is_last_ack s.phase) (after_orderly_end s) (record s { phase = phase_after_own_fin s.phase }) (λ (x : State). IsAlone x accepted closed)
+    (λ _. alone-orderly s accepted closed at.0 h) (λ _. own_fin-phase s accepted closed h))
+    (λ _. h)
+
+own_fin-goes_on : (s : State) → is_synchronized s.phase ≡ true → is_closed (after_own_fin s).phase ≡ false → is_synchronized (after_own_fin s).phase ≡ true
+unfolding after_own_fin
+own_fin-goes_on s synced =
+    let P : State → Type 0 = λ x. is_closed x.phase ≡ false → is_synchronized x.phase ≡ true in
+    cond_both (is_fin_acked s.sending) (if is_last_ack s.phase then after_orderly_end s else record s { phase = phase_after_own_fin s.phase }) s P
+    (λ _. cond_both (is_last_ack s.phase) (after_orderly_end s) (record s { phase = phase_after_own_fin s.phase }) P
+    (λ _ never. absurd (cc)) (λ _ _. synchronized-own_fin s.phase ∙ synced))
+    (λ _ _. synced)
+
+-- ALL OF AN ACKNOWLEDGEMENT, whatever it acknowledges
+pub own_syn-synced : (s : State) (v : Content) → IsPresent s → is_synchronized (after_own_syn s v).phase ≡ true
+unfolding after_own_syn
+own_syn-synced s v present = own_syn-synchronized s.phase s.closing present.shut present.listening present.syn_sent
+
+news-synced : (s : State) (v : Content) → IsPresent s → is_synchronized (after_news (after_acked_text (after_own_syn s v) v) v).phase ≡ true
+unfolding after_own_syn after_acked_text after_news
+news-synced s v present = own_syn-synchronized s.phase s.closing present.shut present.listening present.syn_sent
+
+pub alone-its_ack : (s : State) (accepted : List ℕ) (closed : Bool) (v : Content) → IsPresent s → IsAlone s accepted closed
+    → IsAlone (after_its_ack s v) accepted closed
+unfolding after_its_ack
+alone-its_ack s accepted closed v present h =
+    let first = after_own_syn s v in
+    let second = after_acked_text first v in
+    alone-own_fin (after_news second v) accepted closed (news-synced s v present)
+    (alone-news second accepted closed v (alone-acked_text first accepted closed v (own_syn-synced s v present) (alone-own_syn s accepted closed v present h)))
+
+its_ack-goes_on : (s : State) (v : Content) → IsPresent s → is_closed (after_its_ack s v).phase ≡ false → is_synchronized (after_its_ack s v).phase ≡ true
+unfolding after_its_ack
+its_ack-goes_on s v present = own_fin-goes_on (after_news (after_acked_text (after_own_syn s v) v) v) (news-synced s v present)
+
+-- TEXT
+pub owes-taking : (s : State) (accepted : List ℕ) (closed : Bool) → takes_text s.phase ≡ true → IsAlone s accepted closed
+    → (has_peer s.phase ≡ true) × (s.receiving.opened ≡ true)
+owes-taking s accepted closed e h = (
+  synchronized-knows s.phase (takes_text-synchronized s.phase e),
+  (end-takes_text s e h.progress).1.is_opened,
+)
+
+pub alone-text : (s : State) (accepted : List ℕ) (closed : Bool) (v : Content) → IsAlone s accepted closed
+    → IsAlone (record s { receiving = after_text s.receiving v.seq v.text }) accepted closed
+unfolding after_text
+alone-text s accepted closed v h =
+    let next : (after_text s.receiving v.seq v.text).next < 2 ^ 32 = omega arith in
+    assumption
+
+-- an acknowledgement is owed for it
+text-owes : (s : State) (accepted : List ℕ) (closed : Bool) (v : Content) → IsAlone s accepted closed → takes_text_of s v ≡ true
+    → (has_peer s.phase ≡ true) × (s.receiving.opened ≡ true)
+text-owes s accepted closed v h e = owes-taking s accepted closed (and_parts (takes_text s.phase) (not (length v.text == 0)) e).0 h
+
+pub alone-its_text : (s : State) (accepted : List ℕ) (closed : Bool) (v : Content) → IsAlone s accepted closed → IsAlone (after_its_text s v) accepted closed
+unfolding after_its_text
+alone-its_text s accepted closed v h =
+    let after = record s { receiving = if takes_text_of s v then after_text s.receiving v.seq v.text else s.receiving } in
+    let stage : IsAlone after accepted closed = by_test (takes_text_of s v)
+    (λ b. IsAlone (record s { receiving = if b then after_text s.receiving v.seq v.text else s.receiving }) accepted closed)
+    (λ _. alone-text s accepted closed v h) (λ _. h) in
+    alone-ack_owed after accepted closed (takes_text_of s v)
+    (λ e. owes-taking after accepted closed (and_parts (takes_text s.phase) (not (length v.text == 0)) e).0 stage) stage
+
+-- THE PEER'S FIN
+pub alone-fin_taken : (s : State) (accepted : List ℕ) (closed : Bool) → takes_text s.phase ≡ true → IsAlone s accepted closed
+    → IsAlone (record s { phase = phase_after_fin s.phase; receiving = with_fin s.receiving }) accepted closed
+alone-fin_taken s accepted closed e h =
+    let d = s.sending in
+    let r = s.receiving in
+    let at = end-takes_text s e h.progress in
+    let knows : has_peer (phase_after_fin s.phase) ≡ has_peer s.phase = knows-fin s.phase in
+    record {
+      config = h.config;
+      closing = h.closing;
+      progress = fits-fin s.phase s.ending d.una d.nxt r.opened r.finished e h.progress;
+      port = λ known. h.port (sym knows ∙ known);
+      syn = λ owed. handshake-fin s.phase ∙ h.syn owed;
+      ack = λ owed. (knows ∙ (h.ack owed).0, (h.ack owed).1);
+      reset = h.reset;
+      sends = h.sends;
+      next = omega arith;
+      unopened = λ never. absurd (cc (at.1.is_opened));
+    }
+
+alone-fin : (s : State) (accepted : List ℕ) (closed : Bool) (v : Content) → IsAlone s accepted closed → IsAlone (after_fin s v) accepted closed
+unfolding after_fin
+alone-fin s accepted closed v h =
+    let owing : State = record s { owed = record s.owed { ack = s.owed.ack || has_fin s v } } in
+    let owes : IsAlone owing accepted closed = alone-ack_owed s accepted closed (has_fin s v)
+    (λ e. owes-taking s accepted closed (and_parts (takes_text s.phase) (has fin v.flags) e).0 h) h in
+    by_test (takes_fin s v)
+    (λ b. IsAlone (record owing {
+      phase = if b then phase_after_fin s.phase else s.phase;
+      receiving = if b then with_fin s.receiving else s.receiving;
+    }) accepted closed)
+    (λ e. alone-fin_taken owing accepted closed
+    (and_parts (takes_text s.phase) (has fin v.flags) (and_parts (has_fin s v) (is_fin_due s.receiving (number v.seq (length v.text))) e).0).0 owes)
+    (λ _. owes)
+
+-- ALL OF IT, and with the window shut
+pub alone-taking : (s : State) (accepted : List ℕ) (closed : Bool) (v : Content) → IsPresent s → IsAlone s accepted closed
+    → IsAlone (after_taking s v) accepted closed
+unfolding after_taking
+alone-taking s accepted closed v present h =
+    alone-fin (after_its_text (after_its_ack s v) v) accepted closed v
+    (alone-its_text (after_its_ack s v) accepted closed v (alone-its_ack s accepted closed v present h))
+
+-- what an acknowledgement is owed for
+pub owes-going_on : (s : State) (accepted : List ℕ) (closed : Bool) (v : Content) → IsPresent s → IsAlone (after_its_ack s v) accepted closed
+    → not (is_closed (after_its_ack s v).phase) ≡ true
+    → (has_peer (after_its_ack s v).phase ≡ true) × ((after_its_ack s v).receiving.opened ≡ true)
+owes-going_on s accepted closed v present h e =
+    let x = after_its_ack s v in
+    let synced : is_synchronized x.phase ≡ true = its_ack-goes_on s v present (not-true (is_closed x.phase) e) in
+    (synchronized-knows x.phase synced, (end-synchronized x synced h.progress).1.is_opened)
+
+pub alone-taking_shut : (s : State) (accepted : List ℕ) (closed : Bool) (v : Content) → IsPresent s → IsAlone s accepted closed
+    → IsAlone (after_taking_shut s v) accepted closed
+unfolding after_taking_shut
+alone-taking_shut s accepted closed v present h =
+    let x = after_its_ack s v in
+    let first = alone-its_ack s accepted closed v present h in
+    alone-ack_owed x accepted closed (not (is_closed x.phase)) (owes-going_on s accepted closed v present first) first

@@ -1,38 +1,33 @@
 -- What each event does to the half that receives, at one end by itself: what came in order grows by the text that is
 -- taken, and by nothing else.
-use Rattle.std.proofs.Common.{◌≡◌, ℕ, ◌+◌, ◌-◌, ◌^◌, ◌<◌, List, [], ◌++◌, length, take, refl, sym, ◌∙◌, ap, subst, inl, inr, arith, append-nil, drop, length-drop}
-use Rattle.std.specs.Prelude.{◌⊎◌, min, Bool, true, false, not, ◌==◌, if◌then◌else◌, Option, Some, None}
+use Rattle.std.proofs.Common.{◌≡◌, ℕ, ◌+◌, ◌-◌, ◌^◌, ◌<◌, List, ◌++◌, length, take, refl, sym, ◌∙◌, ap, subst, inl, inr, arith, drop, length-drop}
+use Rattle.std.specs.Prelude.{◌⊎◌, min, Bool, true, false, not, ◌==◌, if◌then◌else◌}
 use Rattle.std.proofs.lemmas.Bool.{cond_both, and_parts, false≢true}
 use Rattle.tcp_wire.specs.Flags.{fin, syn, has}
 use Rattle.tcp_wire.specs.Position.{number}
 use Rattle.tcp_wire.specs.Wire.{Content}
-use Rattle.tcp_halves.specs.declared.due.Due.{Due}
 use Rattle.tcp_conn.specs.declared.judgement.Judgement.{Judgement}
 use Rattle.tcp_conn.specs.declared.judgement.Judgement.TheVariants.{Foreign}
 use Rattle.tcp_halves.specs.declared.link.Peer.{Peer}
-use Rattle.tcp_halves.specs.declared.outcome.CallError.{CallError}
-use Rattle.tcp_halves.specs.declared.phase.Ending.TheVariants.{Reset, Aborted}
-use Rattle.tcp_halves.specs.declared.phase.Timer.{Timer}
-use Rattle.tcp_halves.specs.declared.phase.Timer.TheVariants.{Retransmit, Reorder, TimeWait}
-use Rattle.tcp_conn.specs.Phase.{is_last_ack, is_time_wait, takes_text, gives_up, phase_after_own_fin}
+use Rattle.tcp_halves.specs.declared.phase.Ending.TheVariants.{Reset}
+use Rattle.tcp_conn.specs.Phase.{is_last_ack, takes_text, gives_up, phase_after_own_fin}
 use Rattle.tcp_reasm.specs.Reassembly.{after_read}
 use Rattle.tcp_conn.specs.State.{State, Receiving}
 use Rattle.tcp_conn.specs.Sender.{is_fin_acked}
 use Rattle.tcp_conn.specs.Receiver.{with_syn, after_text, is_fin_due, with_fin}
 use Rattle.tcp_conn.specs.Endings.{after_orderly_end, after_giving_up}
-use Rattle.tcp_conn.specs.Calls.{state_unless, bytes_unless, opening_refusal, with_connection, after_connect, after_listen, send_refusal, after_send, receive_refusal, with_bytes_received, after_receive, received_bytes, close_refusal, is_unanswered, with_closing, after_closing, after_close, open_refusal, with_abort, after_abort, after_acknowledge}
-use Rattle.tcp_conn.specs.Timers.{after_retransmit, after_reorder, after_time_wait, after_timer}
-use Rattle.tcp_conn.specs.Due.{due_of}
-use Rattle.tcp_conn.specs.Emission.{after_due, after_emission}
+use Rattle.tcp_conn.specs.Calls.{with_bytes_received}
 use Rattle.tcp_conn.specs.Judgement.{is_foreign, phase_judgement, judgement}
-use Rattle.tcp_conn.specs.Arrival.{after_peer_opens, after_peer_accepts, after_own_syn, after_acked_text, after_news, after_own_fin, after_its_ack, takes_text_of, after_its_text, has_fin, takes_fin, after_fin, after_taking, after_taking_shut, after_judgement}
+use Rattle.tcp_conn.specs.Arrival.{after_peer_opens, after_peer_accepts, after_own_syn, after_acked_text, after_news, after_own_fin, after_its_ack}
+use Rattle.tcp_conn.specs.Arrival.{takes_text_of, after_its_text, has_fin, takes_fin, after_fin, after_taking, after_taking_shut, after_judgement}
 use Rattle.tcp_replay.specs.Alone.{IsAlone}
 use Rattle.tcp_replay.proofs.Lists.{by_test}
-use Rattle.tcp_replay.proofs.Phases.{gives_up-not_ended, at-listen, at-syn_sent, at-synchronized, at-takes_text, not-closed-ended, time_wait-synchronized}
+use Rattle.tcp_replay.proofs.Phases.{gives_up-not_ended, end-listen, end-syn_sent, end-synchronized, end-takes_text, not-closed-ended, time_wait-synchronized}
 use Rattle.tcp_replay.proofs.Judgements.{IsPresent, IsTaken, in-phase}
-use Rattle.tcp_replay.proofs.AloneCalls.{unless-kept}
-use Rattle.tcp_replay.proofs.AloneStages.{alone-its_ack, alone-its_text}
+use Rattle.tcp_replay.proofs.Alone.{alone-its_ack, alone-its_text}
 use Rattle.tcp_replay.proofs.Feeds.{AllText, ByNumber, IsFed, fed-syn, fed-read, fed-given_up, fed-fin, fed-text}
+use Rattle.tcp_replay.proofs.Calls.{KeptByCalls}
+use Rattle.tcp_replay.specs.World.{PartyState}
 
 -- FROM ONE STATE TO ANOTHER: as many bytes more are in order as make what is unread longer
 pub record Feeds (P : ℕ → ℕ → Type 0) (Q : Type 0) (s s' : State) (irs k : ℕ) (delivered : List ℕ) : Type 0 where
@@ -44,7 +39,8 @@ pub record Feeds (P : ℕ → ℕ → Type 0) (Q : Type 0) (s s' : State) (irs k
 
 module _ (P : ℕ → ℕ → Type 0) (Q : Type 0) (s : State) (irs k : ℕ) (delivered : List ℕ) (h : IsFed P s.receiving irs k delivered (gives_up s.ending)) where
   -- nothing comes, and nothing is given up
-  still : (gone : Bool) → gone ≡ gives_up s.ending → IsFed P s.receiving irs (k + (length s.receiving.inbox.unread - length s.receiving.inbox.unread)) delivered gone
+  still : (gone : Bool) → gone ≡ gives_up s.ending
+      → IsFed P s.receiving irs (k + (length s.receiving.inbox.unread - length s.receiving.inbox.unread)) delivered gone
   still gone e =
       let same : k ≡ k + (length s.receiving.inbox.unread - length s.receiving.inbox.unread) = omega arith in
       subst (λ (n : ℕ). IsFed P s.receiving irs n delivered gone) same (subst (λ (b : Bool). IsFed P s.receiving irs k delivered b) (sym e) h)
@@ -54,7 +50,8 @@ module _ (P : ℕ → ℕ → Type 0) (Q : Type 0) (s : State) (irs k : ℕ) (de
 
   feeds-kept : (s' : State) → s'.receiving ≡ s.receiving → gives_up s'.ending ≡ gives_up s.ending → s'.config ≡ s.config → Feeds P Q s s' irs k delivered
   feeds-kept s' same gone config = record {
-    fed = subst (λ (r : Receiving). IsFed P r irs (k + (length r.inbox.unread - length s.receiving.inbox.unread)) delivered (gives_up s'.ending)) (sym same) (still (gives_up s'.ending) gone);
+    fed = subst (λ (r : Receiving). IsFed P r irs (k + (length r.inbox.unread - length s.receiving.inbox.unread)) delivered (gives_up s'.ending)) (sym same)
+        (still (gives_up s'.ending) gone);
     config = config;
     stays = λ e. ap (λ (r : Receiving). r.opened) same ∙ e;
     opens = λ e. inl (ap (λ (r : Receiving). r.opened) (sym same) ∙ e);
@@ -62,9 +59,12 @@ module _ (P : ℕ → ℕ → Type 0) (Q : Type 0) (s : State) (irs k : ℕ) (de
 
   -- what is unread and held is given up
   given_up : IsFed P (after_giving_up s Reset).receiving irs (k + (0 - length s.receiving.inbox.unread)) delivered true
-  given_up = subst (λ (n : ℕ). IsFed P (after_giving_up s Reset).receiving irs n delivered true) (omega arith) (fed-given_up P s.receiving irs k delivered (gives_up s.ending) h)
+  given_up =
+      subst (λ (n : ℕ). IsFed P (after_giving_up s Reset).receiving irs n delivered true) (omega arith)
+      (fed-given_up P s.receiving irs k delivered (gives_up s.ending) h)
 
-  feeds-given_up : (s' : State) → s'.receiving ≡ (after_giving_up s Reset).receiving → gives_up s'.ending ≡ true → s'.config ≡ s.config → Feeds P Q s s' irs k delivered
+  feeds-given_up : (s' : State) → s'.receiving ≡ (after_giving_up s Reset).receiving → gives_up s'.ending ≡ true → s'.config ≡ s.config
+      → Feeds P Q s s' irs k delivered
   feeds-given_up s' same gone config = record {
     fed = subst (λ (b : Bool). IsFed P s'.receiving irs (k + (length s'.receiving.inbox.unread - length s.receiving.inbox.unread)) delivered b) (sym gone)
         (subst (λ (r : Receiving). IsFed P r irs (k + (length r.inbox.unread - length s.receiving.inbox.unread)) delivered true) (sym same) given_up);
@@ -73,69 +73,7 @@ module _ (P : ℕ → ℕ → Type 0) (Q : Type 0) (s : State) (irs k : ℕ) (de
     opens = λ e. inl (ap (λ (r : Receiving). r.opened) (sym same) ∙ e);
   }
 
-  -- THE USER'S CALLS
-  pub feeds-connected : (peer : Peer) → Feeds P Q s (after_connect s peer) irs k delivered
-  unfolding after_connect
-  feeds-connected peer = unless-kept (λ x. Feeds P Q s x irs k delivered) (opening_refusal s) s (with_connection s peer) feeds-same (λ _. feeds-kept (with_connection s peer) refl refl refl)
-
-  pub feeds-listening : Feeds P Q s (after_listen s) irs k delivered
-  unfolding after_listen
-  feeds-listening = unless-kept (λ x. Feeds P Q s x irs k delivered) (opening_refusal s) s _ feeds-same (λ _. feeds-kept _ refl refl refl)
-
-  pub feeds-sent : (text : List ℕ) → Feeds P Q s (after_send s text) irs k delivered
-  unfolding after_send
-  feeds-sent text = unless-kept (λ x. Feeds P Q s x irs k delivered) (send_refusal s text) s _ feeds-same (λ _. feeds-kept _ refl refl refl)
-
-  pub feeds-closed : Feeds P Q s (after_close s) irs k delivered
-  unfolding after_close
-  feeds-closed = unless-kept (λ x. Feeds P Q s x irs k delivered) (close_refusal s) s (after_closing s) feeds-same
-      (λ _. cond_both (is_unanswered s.phase) (record (after_giving_up s Aborted) { closing = true }) (with_closing s) (λ (x : State). Feeds P Q s x irs k delivered)
-      (λ _. feeds-given_up _ refl refl refl) (λ _. feeds-kept _ refl refl refl))
-
-  pub feeds-aborted : Feeds P Q s (after_abort s) irs k delivered
-  unfolding after_abort
-  feeds-aborted = unless-kept (λ x. Feeds P Q s x irs k delivered) (open_refusal s) s (with_abort s) feeds-same (λ _. feeds-given_up (with_abort s) refl refl refl)
-
-  pub feeds-acknowledged : Feeds P Q s (after_acknowledge s) irs k delivered
-  unfolding after_acknowledge
-  feeds-acknowledged = feeds-kept _ refl refl refl
-
-  -- TIMERS
-  feeds-retransmit : Feeds P Q s (after_retransmit s) irs k delivered
-  unfolding after_retransmit
-  feeds-retransmit = feeds-kept _ refl refl refl
-
-  feeds-reorder : Feeds P Q s (after_reorder s) irs k delivered
-  unfolding after_reorder
-  feeds-reorder = feeds-kept _ refl refl refl
-
-  feeds-time_wait : (accepted : List ℕ) (closed : Bool) → IsAlone s accepted closed → Feeds P Q s (after_time_wait s) irs k delivered
-  unfolding after_time_wait
-  feeds-time_wait accepted closed a =
-      cond_both (is_time_wait s.phase) (after_orderly_end s) s (λ (x : State). Feeds P Q s x irs k delivered)
-      (λ e.
-      let going = (at-synchronized s.phase s.ending s.sending.una s.sending.nxt s.receiving.opened s.receiving.finished (time_wait-synchronized s.phase e) a.progress).0 in
-      feeds-kept (after_orderly_end s) refl (sym (gives_up-not_ended s.ending going)) refl)
-      (λ _. feeds-same)
-
-  pub feeds-timer : (accepted : List ℕ) (closed : Bool) (timer : Timer) → IsAlone s accepted closed → Feeds P Q s (after_timer s timer) irs k delivered
-  feeds-timer accepted closed Retransmit a = feeds-retransmit
-  feeds-timer accepted closed Reorder a = feeds-reorder
-  feeds-timer accepted closed TimeWait a = feeds-time_wait accepted closed a
-
-  -- EMISSION
-  feeds-due : (due : Option Due) → Feeds P Q s (after_due s due) irs k delivered
-  feeds-due None = feeds-same
-  feeds-due (Some due) = feeds-kept (after_due s (Some due)) refl refl refl
-
-  pub feeds-emitted : Feeds P Q s (after_emission s) irs k delivered
-  unfolding after_emission
-  feeds-emitted = feeds-due (due_of s)
-
--- RECEIVE
-same-delivered : (P : ℕ → ℕ → Type 0) (Q : Type 0) (s : State) (irs k : ℕ) (delivered : List ℕ) → IsFed P s.receiving irs k delivered (gives_up s.ending) → Feeds P Q s s irs k (delivered ++ [])
-same-delivered P Q s irs k delivered h = subst (λ (xs : List ℕ). Feeds P Q s s irs k xs) (sym (append-nil delivered)) (feeds-same P Q s irs k delivered h)
-
+-- THE USER reads
 fewer : (xs : List ℕ) (n : ℕ) → length (drop n xs) - length xs ≡ 0
 fewer xs n = omega (arith, length-drop n xs)
 
@@ -146,22 +84,41 @@ feeds-read P Q s irs k delivered room h =
     let unread = s.receiving.inbox.unread in
     let same : k ≡ k + (length (drop room unread) - length unread) = omega (arith, fewer unread room) in
     record {
-      fed = subst (λ (n : ℕ). IsFed P (with_bytes_received s room).receiving irs n (delivered ++ take (min room (length unread)) unread) (gives_up s.ending)) same
+      fed = subst (λ (n : ℕ). IsFed P (with_bytes_received s room).receiving irs n (delivered ++ take (min room (length unread)) unread)
+          (gives_up s.ending)) same
           (fed-read P s.receiving irs k delivered (gives_up s.ending) room h);
       config = refl;
       stays = λ e. e;
       opens = λ e. inl e;
     }
 
-received-unless : (P : ℕ → ℕ → Type 0) (Q : Type 0) (s : State) (irs k : ℕ) (delivered : List ℕ) (room : ℕ) (o : Option CallError) → IsFed P s.receiving irs k delivered (gives_up s.ending)
-    → Feeds P Q s (state_unless o s (with_bytes_received s room)) irs k (delivered ++ bytes_unless o (take (min room (length s.receiving.inbox.unread)) s.receiving.inbox.unread))
-received-unless P Q s irs k delivered room None h = feeds-read P Q s irs k delivered room h
-received-unless P Q s irs k delivered room (Some error) h = same-delivered P Q s irs k delivered h
-
-pub feeds-received : (P : ℕ → ℕ → Type 0) (Q : Type 0) (s : State) (irs k : ℕ) (delivered : List ℕ) (room : ℕ) → IsFed P s.receiving irs k delivered (gives_up s.ending)
-    → Feeds P Q s (after_receive s room) irs k (delivered ++ received_bytes s room)
-unfolding after_receive
-feeds-received P Q s irs k delivered room h = received-unless P Q s irs k delivered room (receive_refusal s) h
+-- ALL CALLS, timers and emissions
+pub feeds-calls : (P : ℕ → ℕ → Type 0) (Q : Type 0) (peer : Peer) (p : PartyState) (irs k : ℕ) → IsAlone p.endpoint p.accepted p.closed
+    → IsFed P p.endpoint.receiving irs k p.delivered (gives_up p.endpoint.ending)
+    → KeptByCalls peer p (λ p'. Feeds P Q p.endpoint p'.endpoint irs k p'.delivered)
+feeds-calls P Q peer p irs k a h =
+    let s = p.endpoint in
+    let kept = feeds-kept P Q s irs k p.delivered h in
+    let gone = feeds-given_up P Q s irs k p.delivered h in
+    record {
+      same = feeds-same P Q s irs k p.delivered h;
+      connects = λ _. kept _ refl refl refl;
+      listens = λ _. kept _ refl refl refl;
+      sends = λ _ _ _. kept _ refl refl refl;
+      reads = λ room _. feeds-read P Q s irs k p.delivered room h;
+      withdraws = gone _ refl refl refl;
+      closes = λ _ _. kept _ refl refl refl;
+      aborts = gone _ refl refl refl;
+      acknowledges = kept _ refl refl refl;
+      resends = λ _. kept _ refl refl refl;
+      probes = kept _ refl refl refl;
+      fills = λ _ _ _. kept _ refl refl refl;
+      ends = λ e.
+          let synced = time_wait-synchronized s.phase e in
+          let at = end-synchronized s synced a.progress in
+          kept _ refl (sym (gives_up-not_ended s.ending at.0)) refl;
+      emits = λ _ _ _. kept _ refl refl refl;
+    }
 
 -- AN ACKNOWLEDGEMENT leaves what was received as it was
 pub record Acked (s x : State) : Type 0 where
@@ -169,9 +126,9 @@ pub record Acked (s x : State) : Type 0 where
   pub going : gives_up x.ending ≡ false
   pub config : x.config ≡ s.config
 
-own_fin-acked : (s : State) → gives_up s.ending ≡ false → Acked s (after_own_fin s)
+own_fin-keeps_received : (s : State) → gives_up s.ending ≡ false → Acked s (after_own_fin s)
 unfolding after_own_fin
-own_fin-acked s going =
+own_fin-keeps_received s going =
     cond_both (is_fin_acked s.sending) (if is_last_ack s.phase then after_orderly_end s else record s { phase = phase_after_own_fin s.phase }) s (Acked s)
     (λ _. cond_both (is_last_ack s.phase) (after_orderly_end s) (record s { phase = phase_after_own_fin s.phase }) (Acked s)
     (λ _. record { receiving = refl; going = refl; config = refl }) (λ _. record { receiving = refl; going = going; config = refl }))
@@ -180,12 +137,13 @@ own_fin-acked s going =
 its_ack-acked : (s : State) (v : Content) → gives_up s.ending ≡ false → Acked s (after_its_ack s v)
 unfolding after_its_ack after_news after_acked_text after_own_syn
 its_ack-acked s v going =
-    let a = own_fin-acked (after_news (after_acked_text (after_own_syn s v) v) v) going in
+    let a = own_fin-keeps_received (after_news (after_acked_text (after_own_syn s v) v) v) going in
     record { receiving = a.receiving; going = a.going; config = a.config }
 
 -- TEXT AND FIN
 module _ (P : ℕ → ℕ → Type 0) (s x : State) (irs k : ℕ) (delivered : List ℕ) (v : Content) (accepted : List ℕ) (closed : Bool) where
-  its_text-fed : IsAlone x accepted closed → gives_up x.ending ≡ false → v.seq < 2 ^ 32 → AllText (ByNumber P v.seq) 0 v.text → IsFed P x.receiving irs k delivered false
+  its_text-fed : IsAlone x accepted closed → gives_up x.ending ≡ false → v.seq < 2 ^ 32 → AllText (ByNumber P v.seq) 0 v.text
+      → IsFed P x.receiving irs k delivered false
       → IsFed P (after_its_text x v).receiving irs (k + (length (after_its_text x v).receiving.inbox.unread - length x.receiving.inbox.unread)) delivered false
   unfolding after_its_text
   its_text-fed a going small came h =
@@ -193,18 +151,21 @@ module _ (P : ℕ → ℕ → Type 0) (s x : State) (irs k : ℕ) (delivered : L
       (λ b. IsFed P (if b then after_text x.receiving v.seq v.text else x.receiving) irs
       (k + (length (if b then after_text x.receiving v.seq v.text else x.receiving).inbox.unread - length x.receiving.inbox.unread)) delivered false)
       (λ e.
-      let at = at-takes_text x.phase x.ending x.sending.una x.sending.nxt x.receiving.opened x.receiving.finished (and_parts (takes_text x.phase) (not (length v.text == 0)) e).0 a.progress in
+      let at = end-takes_text x (and_parts (takes_text x.phase) (not (length v.text == 0)) e).0 a.progress in
       fed-text P x.receiving irs k delivered v.seq v.text a.next small at.1.is_opened at.1.goes_on came h)
       (λ _. subst (λ (n : ℕ). IsFed P x.receiving irs n delivered false) (omega arith) h)
 
 fin-fed : (P : ℕ → ℕ → Type 0) (y : State) (irs k u : ℕ) (delivered : List ℕ) (v : Content) (accepted : List ℕ) (closed : Bool) → IsAlone y accepted closed
-    → IsFed P y.receiving irs (k + (length y.receiving.inbox.unread - u)) delivered false → IsFed P (after_fin y v).receiving irs (k + (length (after_fin y v).receiving.inbox.unread - u)) delivered false
+    → IsFed P y.receiving irs (k + (length y.receiving.inbox.unread - u)) delivered false
+    → IsFed P (after_fin y v).receiving irs (k + (length (after_fin y v).receiving.inbox.unread - u)) delivered false
 unfolding after_fin
 fin-fed P y irs k u delivered v accepted closed a h =
-    by_test (takes_fin y v) (λ b. IsFed P (if b then with_fin y.receiving else y.receiving) irs (k + (length (if b then with_fin y.receiving else y.receiving).inbox.unread - u)) delivered false)
+    by_test (takes_fin y v) (λ b. IsFed P (if b then with_fin y.receiving else y.receiving) irs
+    (k + (length (if b then with_fin y.receiving else y.receiving).inbox.unread - u)) delivered false)
     (λ e.
-    let takes : takes_text y.phase ≡ true = (and_parts (takes_text y.phase) (has fin v.flags) (and_parts (has_fin y v) (is_fin_due y.receiving (number v.seq (length v.text))) e).0).0 in
-    let at = at-takes_text y.phase y.ending y.sending.una y.sending.nxt y.receiving.opened y.receiving.finished takes a.progress in
+    let takes : takes_text y.phase ≡ true =
+    (and_parts (takes_text y.phase) (has fin v.flags) (and_parts (has_fin y v) (is_fin_due y.receiving (number v.seq (length v.text))) e).0).0 in
+    let at = end-takes_text y takes a.progress in
     fed-fin P y.receiving irs (k + (length y.receiving.inbox.unread - u)) delivered false at.1.is_opened at.1.goes_on h)
     (λ _. h)
 
@@ -227,7 +188,8 @@ present-going : (s : State) (accepted : List ℕ) (closed : Bool) → IsPresent 
 present-going s accepted closed present a =
     gives_up-not_ended s.ending (not-closed-ended s.phase s.ending s.sending.una s.sending.nxt s.receiving.opened s.receiving.finished present.shut a.progress)
 
-feeds-taking : (P : ℕ → ℕ → Type 0) (Q : Type 0) (s : State) (irs k : ℕ) (delivered : List ℕ) (v : Content) (accepted : List ℕ) (closed : Bool) → IsPresent s → IsAlone s accepted closed → v.seq < 2 ^ 32
+feeds-taking : (P : ℕ → ℕ → Type 0) (Q : Type 0) (s : State) (irs k : ℕ) (delivered : List ℕ) (v : Content) (accepted : List ℕ) (closed : Bool) → IsPresent s
+    → IsAlone s accepted closed → v.seq < 2 ^ 32
     → AllText (ByNumber P v.seq) 0 v.text → IsFed P s.receiving irs k delivered (gives_up s.ending) → Feeds P Q s (after_taking s v) irs k delivered
 unfolding after_taking
 feeds-taking P Q s irs k delivered v accepted closed present a small came h =
@@ -235,21 +197,25 @@ feeds-taking P Q s irs k delivered v accepted closed present a small came h =
     let y = after_its_text x v in
     let acked = its_ack-acked s v (present-going s accepted closed present a) in
     let ax = alone-its_ack s accepted closed v present a in
-    let hs : IsFed P s.receiving irs k delivered false = subst (λ (b : Bool). IsFed P s.receiving irs k delivered b) (present-going s accepted closed present a) h in
+    let hs : IsFed P s.receiving irs k delivered false = subst (λ (b : Bool). IsFed P s.receiving irs k delivered b)
+    (present-going s accepted closed present a) h in
     let hx : IsFed P x.receiving irs k delivered false = subst (λ (r : Receiving). IsFed P r irs k delivered false) (sym acked.receiving) hs in
     let hy = its_text-fed P s x irs k delivered v accepted closed ax acked.going small came hx in
     let hz = fin-fed P y irs k (length x.receiving.inbox.unread) delivered v accepted closed (alone-its_text x accepted closed v ax) hy in
     let same = its_text-ending x v in
     let opened : (after_fin y v).receiving.opened ≡ s.receiving.opened = fin-opened y v ∙ text-opened x v ∙ ap (λ (r : Receiving). r.opened) acked.receiving in
     record {
-      fed = subst (λ (b : Bool). IsFed P (after_fin y v).receiving irs (k + (length (after_fin y v).receiving.inbox.unread - length s.receiving.inbox.unread)) delivered b) (sym (ap gives_up same.0 ∙ acked.going))
-          (subst (λ (r : Receiving). IsFed P (after_fin y v).receiving irs (k + (length (after_fin y v).receiving.inbox.unread - length r.inbox.unread)) delivered false) acked.receiving hz);
+      fed = subst (λ (b : Bool). IsFed P (after_fin y v).receiving irs
+          (k + (length (after_fin y v).receiving.inbox.unread - length s.receiving.inbox.unread)) delivered b) (sym (ap gives_up same.0 ∙ acked.going))
+          (subst (λ (r : Receiving). IsFed P (after_fin y v).receiving irs
+          (k + (length (after_fin y v).receiving.inbox.unread - length r.inbox.unread)) delivered false) acked.receiving hz);
       config = same.1 ∙ acked.config;
       stays = λ e. opened ∙ e;
       opens = λ e. inl (sym opened ∙ e);
     }
 
-feeds-taking_shut : (P : ℕ → ℕ → Type 0) (Q : Type 0) (s : State) (irs k : ℕ) (delivered : List ℕ) (v : Content) (accepted : List ℕ) (closed : Bool) → IsPresent s → IsAlone s accepted closed
+feeds-taking_shut : (P : ℕ → ℕ → Type 0) (Q : Type 0) (s : State) (irs k : ℕ) (delivered : List ℕ) (v : Content) (accepted : List ℕ) (closed : Bool)
+    → IsPresent s → IsAlone s accepted closed
     → IsFed P s.receiving irs k delivered (gives_up s.ending) → Feeds P Q s (after_taking_shut s v) irs k delivered
 unfolding after_taking_shut
 feeds-taking_shut P Q s irs k delivered v accepted closed present a h =
@@ -258,13 +224,16 @@ feeds-taking_shut P Q s irs k delivered v accepted closed present a h =
     feeds-kept P Q s irs k delivered h _ acked.receiving (acked.going ∙ sym going) acked.config
 
 -- the peer's SYN
-feeds-syn : (P : ℕ → ℕ → Type 0) (Q : Type 0) (s s' : State) (irs k : ℕ) (delivered : List ℕ) (seq : ℕ) → Q → irs ≡ seq → s.receiving.opened ≡ false → s'.receiving ≡ with_syn s.receiving seq → s'.ending ≡ s.ending → s'.config ≡ s.config
+feeds-syn : (P : ℕ → ℕ → Type 0) (Q : Type 0) (s s' : State) (irs k : ℕ) (delivered : List ℕ) (seq : ℕ) → Q → irs ≡ seq → s.receiving.opened ≡ false
+    → s'.receiving ≡ with_syn s.receiving seq → s'.ending ≡ s.ending → s'.config ≡ s.config
     → IsFed P s.receiving irs k delivered (gives_up s.ending) → Feeds P Q s s' irs k delivered
 feeds-syn P Q s s' irs k delivered seq is e shut receiving ending config h =
-    let fed = fed-syn P s.receiving irs (k + (length s.receiving.inbox.unread - length s.receiving.inbox.unread)) delivered (gives_up s.ending) shut (feeds-same P Q s irs k delivered h).fed in
+    let fed = fed-syn P s.receiving irs (k + (length s.receiving.inbox.unread - length s.receiving.inbox.unread)) delivered (gives_up s.ending) shut
+    (feeds-same P Q s irs k delivered h).fed in
     let taken : with_syn s.receiving irs ≡ s'.receiving = ap (with_syn s.receiving) e ∙ sym receiving in
     record {
-      fed = subst (λ (b : Bool). IsFed P s'.receiving irs (k + (length s'.receiving.inbox.unread - length s.receiving.inbox.unread)) delivered b) (ap gives_up (sym ending))
+      fed = subst (λ (b : Bool). IsFed P s'.receiving irs (k + (length s'.receiving.inbox.unread - length s.receiving.inbox.unread)) delivered b)
+          (ap gives_up (sym ending))
           (subst (λ (r : Receiving). IsFed P r irs (k + (length r.inbox.unread - length s.receiving.inbox.unread)) delivered (gives_up s.ending)) taken fed);
       config = config;
       stays = λ opened. absurd (false≢true (sym shut ∙ opened));
@@ -272,18 +241,22 @@ feeds-syn P Q s s' irs k delivered seq is e shut receiving ending config h =
     }
 
 opened-by_peer : (s : State) (src : List ℕ) (v : Content)
-    → ((after_peer_opens s src v).receiving ≡ with_syn s.receiving v.seq) × ((after_peer_opens s src v).ending ≡ s.ending) × ((after_peer_opens s src v).config ≡ s.config)
+    → ((after_peer_opens s src v).receiving ≡ with_syn s.receiving v.seq) × ((after_peer_opens s src v).ending ≡ s.ending)
+    × ((after_peer_opens s src v).config ≡ s.config)
 unfolding after_peer_opens
 opened-by_peer s src v = (refl, refl, refl)
 
 accepted-by_peer : (s : State) (v : Content)
-    → ((after_peer_accepts s v).receiving ≡ with_syn s.receiving v.seq) × ((after_peer_accepts s v).ending ≡ s.ending) × ((after_peer_accepts s v).config ≡ s.config)
+    → ((after_peer_accepts s v).receiving ≡ with_syn s.receiving v.seq) × ((after_peer_accepts s v).ending ≡ s.ending)
+    × ((after_peer_accepts s v).config ≡ s.config)
 unfolding after_peer_accepts
 accepted-by_peer s v = (refl, refl, refl)
 
-pub feeds-judgement : (P : ℕ → ℕ → Type 0) (s : State) (irs k : ℕ) (delivered accepted : List ℕ) (closed : Bool) (src dst : List ℕ) (v : Content) → v.seq < 2 ^ 32 → IsAlone s accepted closed
+pub feeds-judgement : (P : ℕ → ℕ → Type 0) (s : State) (irs k : ℕ) (delivered accepted : List ℕ) (closed : Bool) (src dst : List ℕ) (v : Content)
+    → v.seq < 2 ^ 32 → IsAlone s accepted closed
     → (s.receiving.opened ≡ false → irs ≡ v.seq) → (is_foreign s src dst v ≡ false → IsTaken s v → AllText (ByNumber P v.seq) 0 v.text)
-    → IsFed P s.receiving irs k delivered (gives_up s.ending) → Feeds P (has syn v.flags ≡ true) s (after_judgement (judgement s src dst v) s src v) irs k delivered
+    → IsFed P s.receiving irs k delivered (gives_up s.ending)
+    → Feeds P (has syn v.flags ≡ true) s (after_judgement (judgement s src dst v) s src v) irs k delivered
 unfolding judgement
 feeds-judgement P s irs k delivered accepted closed src dst v small a first came h =
     let Q : Type 0 = has syn v.flags ≡ true in
@@ -301,13 +274,13 @@ feeds-judgement P s irs k delivered accepted closed src dst v small a first came
       ack_of_listen = kept _ refl refl refl;
       no_syn = same;
       peer_opens = λ listening is.
-          let shut = (at-listen s.phase s.ending d.una d.nxt r.opened r.finished listening a.progress).1.not_opened in
+          let shut = (end-listen s listening a.progress).1.not_opened in
           let by = opened-by_peer s src v in
           feeds-syn P Q s (after_peer_opens s src v) irs k delivered v.seq is.is_syn (first shut) shut by.0 by.1 by.2 h;
       ack_of_no_syn = kept _ refl refl refl;
       peer_refuses = reset _ refl refl refl;
       peer_accepts = λ sent is.
-          let shut = (at-syn_sent s.phase s.ending d.una d.nxt r.opened r.finished sent a.progress).1.not_opened in
+          let shut = (end-syn_sent s sent a.progress).1.not_opened in
           let by = accepted-by_peer s v in
           feeds-syn P Q s (after_peer_accepts s v) irs k delivered v.seq is.is_syn (first shut) shut by.0 by.1 by.2 h;
       unacceptable = λ present. kept _ refl refl refl;

@@ -25,20 +25,23 @@ use Rattle.tcp_replay.specs.Sound.{IsOwn, IsSoundPair}
 use Rattle.tcp_replay.proofs.Lists.{one_if-most}
 use Rattle.tcp_replay.proofs.Phases.{handshake-knows, handshake-una}
 use Rattle.tcp_replay.proofs.Steps.{Kept, kept-same}
-use Rattle.tcp_replay.proofs.Moves.{kept-alone}
-use Rattle.tcp_replay.proofs.Dues.{if-some-map}
+use Rattle.tcp_replay.proofs.Steps.{kept-alone}
+use Rattle.tcp_replay.proofs.AloneEmissions.{if-some-map}
 use Rattle.tcp_replay.proofs.AloneEmissions.{IsSaid, GoesOutAlone, due-alone}
 
 -- an acknowledgement is of the next position
-true-ack : (p q : PartyState) (ack : ℕ) → p.endpoint.receiving.opened ≡ true → ack ≡ p.endpoint.receiving.next → IsSoundPair p q → IsTrueAck (witness_of p q) ack
-true-ack p q ack opened e h = record { opened = opened; position = next_position p; least = omega arith; most = omega arith; number = e ∙ h.there.takes.next opened }
+true-ack : (p q : PartyState) (ack : ℕ) → p.endpoint.receiving.opened ≡ true → ack ≡ p.endpoint.receiving.next → IsSoundPair p q
+    → IsTrueAck (witness_of p q) ack
+true-ack p q ack opened e h =
+    record { opened = opened; position = next_position p; least = omega arith; most = omega arith; number = e ∙ h.there.takes.next opened }
 
 -- the next position is counted to its end
 pub wanted-is : (p q : PartyState) → IsSoundPair p q → next_wanted p.endpoint.receiving ≡ next_position p
 wanted-is p q h = omega (arith, h.there.takes.order, h.back.alone.sends.limit, one_if-most p.endpoint.receiving.finished)
 
 -- A SYN
-pub syn-bits : (opened : Bool) → (has syn (syn + (if opened then ack else 0)) ≡ true) × (has fin (syn + (if opened then ack else 0)) ≡ false) × (has ack (syn + (if opened then ack else 0)) ≡ opened)
+pub syn-bits : (opened : Bool) → (has syn (syn + (if opened then ack else 0)) ≡ true) × (has fin (syn + (if opened then ack else 0)) ≡ false) × (has ack
+    (syn + (if opened then ack else 0)) ≡ opened)
 syn-bits true = (refl, refl, refl)
 syn-bits false = (refl, refl, refl)
 
@@ -71,12 +74,14 @@ syn-truthful p q h = record {
 
 -- at the positions that are kept of it
 syn-stands : (p q : PartyState) → is_handshake p.endpoint.phase ≡ true → IsSoundPair p q
-    → StandsAt (witness_of p q) (syn_segment p.endpoint) (position_of p.endpoint.config.isn.0 p.endpoint.sending.una (syn_segment p.endpoint).seq) (next_wanted p.endpoint.receiving)
+    → StandsAt (witness_of p q) (syn_segment p.endpoint) (position_of p.endpoint.config.isn.0 p.endpoint.sending.una (syn_segment p.endpoint).seq)
+    (next_wanted p.endpoint.receiving)
 unfolding syn-truthful syn-of_user true-ack
 syn-stands p q handshake h =
     let s = p.endpoint in
     let d = s.sending in
-    let first : d.una ≤ 1 = handshake-una s.phase s.ending d.una d.nxt s.receiving.opened s.receiving.finished handshake h.there.alone.sends.order h.there.alone.progress in
+    let first : d.una ≤ 1 =
+    handshake-una s.phase s.ending d.una d.nxt s.receiving.opened s.receiving.finished handshake h.there.alone.sends.order h.there.alone.progress in
     record {
       truth = syn-truthful p q h;
       position_is = sym (position_of_number s.config.isn.0 d.una 0 h.there.alone.config.isn (omega arith) (omega (arith, first)));
@@ -87,14 +92,17 @@ take-own_length : (n : ℕ) (xs : List ℕ) → take n xs ≡ take (length (take
 take-own_length n xs = sym (ap (λ k. take k xs) (length-take n xs) ∙ take_min n xs)
 
 pub plain-bits : (push last : Bool)
-    → (has syn (ack + (if push then psh else 0) + (if last then fin else 0)) ≡ false) × (has fin (ack + (if push then psh else 0) + (if last then fin else 0)) ≡ last)
-    × (has rst (ack + (if push then psh else 0) + (if last then fin else 0)) ≡ false) × (has ack (ack + (if push then psh else 0) + (if last then fin else 0)) ≡ true)
+    → (has syn (ack + (if push then psh else 0) + (if last then fin else 0)) ≡ false)
+    × (has fin (ack + (if push then psh else 0) + (if last then fin else 0)) ≡ last)
+    × (has rst (ack + (if push then psh else 0) + (if last then fin else 0)) ≡ false)
+    × (has ack (ack + (if push then psh else 0) + (if last then fin else 0)) ≡ true)
 plain-bits true true = (refl, refl, refl, refl)
 plain-bits true false = (refl, refl, refl, refl)
 plain-bits false true = (refl, refl, refl, refl)
 plain-bits false false = (refl, refl, refl, refl)
 
-pub plain-of_user : (s : State) (accepted : List ℕ) (closed : Bool) (due : Due) → IsSaid s accepted closed due → IsOfUser s.config.isn.0 accepted closed (plain_segment s due)
+pub plain-of_user : (s : State) (accepted : List ℕ) (closed : Bool) (due : Due) → IsSaid s accepted closed due
+    → IsOfUser s.config.isn.0 accepted closed (plain_segment s due)
 plain-of_user s accepted closed due said =
     let d = s.sending in
     let plain = said.plain in
@@ -109,15 +117,19 @@ plain-of_user s accepted closed due said =
       has_syn = bits.0 ∙ sym (ne_eqb start 0 (λ none. omega (arith, plain.least)));
       bare = λ none. absurd (omega (arith, plain.least));
       fits = λ some. omega (arith, count, plain.least);
-      text = λ some. plain.text ∙ take-own_length (count_of due) (drop (start - 1) accepted) ∙ ap (λ xs. take (length xs) (drop (start - 1) accepted)) (sym plain.text);
+      text = λ some. plain.text ∙ take-own_length (count_of due) (drop (start - 1) accepted) ∙ ap (λ xs. take (length xs) (drop (start - 1) accepted))
+          (sym plain.text);
       has_fin = λ told. let last = plain.last (sym bits.1 ∙ told) in (last.0, omega (arith, last.1, last.2, count));
     }
 
-plain-truthful : (p q : PartyState) (due : Due) → IsSaid p.endpoint p.accepted p.closed due → IsSoundPair p q → IsTruthful (witness_of p q) (plain_segment p.endpoint due)
-plain-truthful p q due said h = record { own = plain-of_user p.endpoint p.accepted p.closed due said; has_ack = λ told. true-ack p q p.endpoint.receiving.next said.opened refl h }
+plain-truthful : (p q : PartyState) (due : Due) → IsSaid p.endpoint p.accepted p.closed due → IsSoundPair p q
+    → IsTruthful (witness_of p q) (plain_segment p.endpoint due)
+plain-truthful p q due said h =
+    record { own = plain-of_user p.endpoint p.accepted p.closed due said; has_ack = λ told. true-ack p q p.endpoint.receiving.next said.opened refl h }
 
 plain-stands : (p q : PartyState) (due : Due) → IsSaid p.endpoint p.accepted p.closed due → IsSoundPair p q
-    → StandsAt (witness_of p q) (plain_segment p.endpoint due) (position_of p.endpoint.config.isn.0 p.endpoint.sending.una (plain_segment p.endpoint due).seq) (next_wanted p.endpoint.receiving)
+    → StandsAt (witness_of p q) (plain_segment p.endpoint due) (position_of p.endpoint.config.isn.0 p.endpoint.sending.una (plain_segment p.endpoint due).seq)
+    (next_wanted p.endpoint.receiving)
 unfolding plain-truthful plain-of_user true-ack
 plain-stands p q due said h =
     let s = p.endpoint in
@@ -126,7 +138,8 @@ plain-stands p q due said h =
     let plain = said.plain in
     record {
       truth = plain-truthful p q due said h;
-      position_is = sym (position_of_number s.config.isn.0 d.una (start_of d due) h.there.alone.config.isn (omega (arith, plain.within, one_if-most p.closed, sends.ahead, sends.released)) (omega (arith, plain.behind)));
+      position_is = sym (position_of_number s.config.isn.0 d.una (start_of d due) h.there.alone.config.isn
+          (omega (arith, plain.within, one_if-most p.closed, sends.ahead, sends.released)) (omega (arith, plain.behind)));
       wanted_is = λ told. sym (wanted-is p q h);
     }
 
@@ -136,7 +149,8 @@ pub record GoesOut (p q : PartyState) (due : Due) : Type 0 where
   pub to : (destination_of p.endpoint due).addr.0 ≡ q.endpoint.config.addr.0
   pub valid : IsValid (segment_of p.endpoint due)
   pub truthful : has rst (segment_of p.endpoint due).flags ≡ false
-      → StandsAt (witness_of p q) (segment_of p.endpoint due) (position_of p.endpoint.config.isn.0 p.endpoint.sending.una (segment_of p.endpoint due).seq) (next_wanted p.endpoint.receiving)
+      → StandsAt (witness_of p q) (segment_of p.endpoint due) (position_of p.endpoint.config.isn.0 p.endpoint.sending.una (segment_of p.endpoint due).seq)
+      (next_wanted p.endpoint.receiving)
 
 -- the sequence number stands where it is read
 pub seq-in : (src dst : List ℕ) (v : Content) → IsValid v → v.seq ≡ seq_in (encoded_bytes src dst v)
@@ -149,12 +163,14 @@ own-due p q due h = record {
   valid = h.valid;
   spelled = ap (λ (addr : List ℕ). encoded_bytes p.endpoint.config.addr.0 addr (segment_of p.endpoint due)) h.to;
   truthful = λ plain.
-      subst (λ (n : ℕ). StandsAt (witness_of p q) (segment_of p.endpoint due) (position_of p.endpoint.config.isn.0 p.endpoint.sending.una n) (next_wanted p.endpoint.receiving))
+      subst (λ (n : ℕ). StandsAt (witness_of p q) (segment_of p.endpoint due) (position_of p.endpoint.config.isn.0 p.endpoint.sending.una n)
+      (next_wanted p.endpoint.receiving))
       (seq-in p.endpoint.config.addr.0 (destination_of p.endpoint due).addr.0 (segment_of p.endpoint due) h.valid) (h.truthful plain);
 }
 
 -- it is read again
-pub due-decodes : (p q : PartyState) (due : Due) → GoesOut p q due → decode_answer p.endpoint.config.addr.0 q.endpoint.config.addr.0 (bytes_of p.endpoint due) ≡ Ok (segment_of p.endpoint due)
+pub due-decodes : (p q : PartyState) (due : Due) → GoesOut p q due
+    → decode_answer p.endpoint.config.addr.0 q.endpoint.config.addr.0 (bytes_of p.endpoint due) ≡ Ok (segment_of p.endpoint due)
 unfolding bytes_of
 due-decodes p q due h =
     let src = p.endpoint.config.addr.0 in
@@ -163,16 +179,19 @@ due-decodes p q due h =
     ap (λ (addr : List ℕ). decode_answer src dst (encoded_bytes src addr v)) h.to ∙ decoded_encoded src dst v h.valid
 
 -- the end after it, and whom it goes to
-kept-out : (p q : PartyState) (due : Due) → GoesOutAlone p.endpoint p.accepted p.closed due → IfSome (owed_after p.endpoint.receiving.opened p.endpoint.owed due).reset (λ reset. reset.to.addr.0 ≡ q.endpoint.config.addr.0)
+kept-out : (p q : PartyState) (due : Due) → GoesOutAlone p.endpoint p.accepted p.closed due
+    → IfSome (owed_after p.endpoint.receiving.opened p.endpoint.owed due).reset (λ reset. reset.to.addr.0 ≡ q.endpoint.config.addr.0)
     → IsSoundPair p q → Kept p q (state_after p.endpoint due)
 kept-out p q due out reset h =
-    kept-alone p q p.endpoint (state_after p.endpoint due) (kept-same p q h) refl out.alone (record { peer = h.there.speaks.peer; reset = reset }) refl refl h.there.between
+    kept-alone p q p.endpoint (state_after p.endpoint due) (kept-same p q h) refl out.alone
+    (record { peer = h.there.speaks.peer; reset = reset }) refl refl h.there.between
 
 pub reset-bit : (told : Bool) → has rst (rst + (if told then ack else 0)) ≡ true
 reset-bit true = refl
 reset-bit false = refl
 
-goes-plain : (p q : PartyState) (due : Due) → GoesOutAlone p.endpoint p.accepted p.closed due → IsSaid p.endpoint p.accepted p.closed due → IsSoundPair p q → GoesOut p q due
+goes-plain : (p q : PartyState) (due : Due) → GoesOutAlone p.endpoint p.accepted p.closed due → IsSaid p.endpoint p.accepted p.closed due → IsSoundPair p q
+    → GoesOut p q due
 goes-plain p q due out said h = record {
   kept = kept-out p q due out (rw said.common.reset h.there.speaks.reset) h;
   to = ap (λ peer. peer.addr.0) said.common.to ∙ h.there.speaks.peer said.knows;
@@ -180,11 +199,12 @@ goes-plain p q due out said h = record {
   truthful = λ _. rw said.common.segment (plain-stands p q due said h);
 }
 
-reset-to : (waiting : Option WaitingReset) (reset : WaitingReset) (addr : List ℕ) → waiting ≡ Some reset → IfSome waiting (λ r. r.to.addr.0 ≡ addr) → reset.to.addr.0 ≡ addr
+reset-to : (waiting : Option WaitingReset) (reset : WaitingReset) (addr : List ℕ) → waiting ≡ Some reset → IfSome waiting (λ r. r.to.addr.0 ≡ addr)
+    → reset.to.addr.0 ≡ addr
 reset-to None reset addr e h = absurd (cc)
 reset-to (Some waiting) reset addr e h = let same : waiting ≡ reset = cc in ap (λ (r : WaitingReset). r.to.addr.0) (sym same) ∙ h
 
-goes-out : (p q : PartyState) (due : Due) → IsSoundPair p q → GoesOutAlone p.endpoint p.accepted p.closed due → GoesOut p q due
+pub goes-out : (p q : PartyState) (due : Due) → IsSoundPair p q → GoesOutAlone p.endpoint p.accepted p.closed due → GoesOut p q due
 unfolding segment_of
 goes-out p q (Reset reset) h out = record {
   kept = kept-out p q (Reset reset) out tt h;
@@ -198,13 +218,10 @@ goes-out p q Syn h out = record {
   valid = out.valid;
   truthful = λ _. syn-stands p q out.kind h;
 }
-goes-out p q (Resend start count) h out = goes-plain p q (Resend start count) out out.kind h
-goes-out p q (NewText start count) h out = goes-plain p q (NewText start count) out out.kind h
-goes-out p q (Fin start) h out = goes-plain p q (Fin start) out out.kind h
-goes-out p q (ResentFin start) h out = goes-plain p q (ResentFin start) out out.kind h
-goes-out p q Acknowledgement h out = goes-plain p q Acknowledgement out out.kind h
+goes-out p q other h out = goes-plain p q other out out.kind h
 
 -- WHATEVER IS DUE
 pub due-goes : (p q : PartyState) → IsSoundPair p q → IfSome (due_of p.endpoint) (GoesOut p q)
 due-goes p q h =
-    if-some-map (GoesOutAlone p.endpoint p.accepted p.closed) (GoesOut p q) (due_of p.endpoint) (λ due out. goes-out p q due h out) (due-alone p.endpoint p.accepted p.closed h.there.alone)
+    if-some-map (GoesOutAlone p.endpoint p.accepted p.closed) (GoesOut p q) (due_of p.endpoint) (λ due out. goes-out p q due h out)
+    (due-alone p.endpoint p.accepted p.closed h.there.alone)

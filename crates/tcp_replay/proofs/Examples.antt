@@ -17,21 +17,26 @@ use Rattle.tcp_conn.specs.Blocks.{after_block}
 use Rattle.tcp_conn.specs.Receiver.{after_text}
 use Rattle.tcp_conn.specs.Calls.{after_connect, after_listen, after_send, after_receive, after_close}
 use Rattle.tcp_conn.specs.Timers.{after_time_wait}
-use Rattle.tcp_conn.specs.Judgement.{is_foreign, closed_judgement, listen_judgement, syn_sent_judgement, ack_judgement, unacceptable_judgement, acceptable_judgement, present_judgement, phase_judgement, judgement}
-use Rattle.tcp_conn.specs.Arrival.{after_peer_opens, after_peer_accepts, after_own_syn, after_acked_text, after_news, after_own_fin, after_its_ack, after_its_text, after_fin, after_taking, arrival_answer, after_arrival}
+use Rattle.tcp_conn.specs.Judgement.{is_foreign, closed_judgement, listen_judgement, syn_sent_judgement, ack_judgement, unacceptable_judgement}
+use Rattle.tcp_conn.specs.Judgement.{acceptable_judgement, present_judgement, phase_judgement, judgement}
+use Rattle.tcp_conn.specs.Arrival.{after_peer_opens, after_peer_accepts, after_own_syn, after_acked_text, after_news, after_own_fin, after_its_ack}
+use Rattle.tcp_conn.specs.Arrival.{after_its_text, after_fin, after_taking, arrival_answer, after_arrival}
 use Rattle.tcp_conn.specs.Due.{resend_of, new_text_of, due_of}
 use Rattle.tcp_conn.specs.Forms.{segment_of}
 use Rattle.tcp_conn.specs.Writing.{bytes_of}
 use Rattle.tcp_conn.specs.Emission.{emitted_bytes, after_emission}
 use Rattle.tcp_replay.specs.declared.event.Side.TheVariants.{A, B}
 use Rattle.tcp_replay.specs.Events.{EventContent, Connect, Listen, Send, Receive, Close, Timer, Emit, Deliver}
-use Rattle.tcp_replay.specs.World.{WorldState, new_world, party_after_connect, party_after_listen, party_after_send, party_after_receive, party_after_close, party_after_timer, party_after_emission, party_after_arrival, effect_of, world_after_all, stop_of}
+use Rattle.tcp_replay.specs.World.{WorldState, new_world, party_after_connect, party_after_listen, party_after_send, party_after_receive, party_after_close}
+use Rattle.tcp_replay.specs.World.{party_after_timer, party_after_emission, party_after_arrival, effect_of, world_after_all, stop_of}
 
 unfoldable pub a : Config
-a = record { addr = record { 0 = 10 ∷ 0 ∷ 0 ∷ 1 ∷ [] }; port = 1; isn = record { 0 = 1000 }; mss = 1460; send_capacity = 40; recv_capacity = 40; window_shift = None; sack = true; limit = default_limit }
+a =
+    record { addr = record { 0 = 10 ∷ 0 ∷ 0 ∷ 1 ∷ [] }; port = 1; isn = record { 0 = 1000 }; mss = 1460; send_capacity = 40; recv_capacity = 40; window_shift = None; sack = true; limit = default_limit }
 
 unfoldable pub b : Config
-b = record { addr = record { 0 = 10 ∷ 0 ∷ 0 ∷ 2 ∷ [] }; port = 2; isn = record { 0 = 5000 }; mss = 1460; send_capacity = 40; recv_capacity = 40; window_shift = None; sack = true; limit = default_limit }
+b =
+    record { addr = record { 0 = 10 ∷ 0 ∷ 0 ∷ 2 ∷ [] }; port = 2; isn = record { 0 = 5000 }; mss = 1460; send_capacity = 40; recv_capacity = 40; window_shift = None; sack = true; limit = default_limit }
 
 handshake : List EventContent
 handshake = Listen B ∷ Connect A ∷ Emit A ∷ Deliver A 0 ∷ Emit B ∷ Deliver B 0 ∷ Emit A ∷ Deliver A 1 ∷ []
@@ -39,7 +44,8 @@ handshake = Listen B ∷ Connect A ∷ Emit A ∷ Deliver A 0 ∷ Emit B ∷ Del
 events : List EventContent
 events =
     handshake
-    ++ Send A (97 ∷ 98 ∷ 99 ∷ []) ∷ Send B (100 ∷ 101 ∷ 102 ∷ []) ∷ Emit A ∷ Deliver A 2 ∷ Emit B ∷ Deliver B 1 ∷ Receive B 10 ∷ Receive A 10 ∷ Emit A ∷ Deliver A 3
+    ++ Send A (97 ∷ 98 ∷ 99 ∷ []) ∷ Send B
+    (100 ∷ 101 ∷ 102 ∷ []) ∷ Emit A ∷ Deliver A 2 ∷ Emit B ∷ Deliver B 1 ∷ Receive B 10 ∷ Receive A 10 ∷ Emit A ∷ Deliver A 3
     ∷ Close A ∷ Emit A ∷ Deliver A 4 ∷ Emit B ∷ Deliver B 2 ∷ Receive B 10 ∷ Close B ∷ Emit B ∷ Deliver B 3 ∷ Emit A ∷ Deliver A 5 ∷ Timer A TimeWait ∷ []
 
 at_end : WorldState
@@ -59,7 +65,8 @@ record IsWhole : Type 0 where
 
 whole : IsWhole
 unfolding a b handshake events at_end stop_of world_after_all effect_of party_after_connect party_after_listen party_after_send party_after_receive party_after_close party_after_timer party_after_emission party_after_arrival after_connect after_listen after_send after_receive after_close after_time_wait encoded_bytes decode_answer layout_of options_in option_at padding_at position_of offset next_unmarked without_marks after_place place_answer with_ranks after_read blocks runs_newest_first is_acceptable link_of after_ack after_window_update after_block after_text is_foreign closed_judgement listen_judgement syn_sent_judgement ack_judgement unacceptable_judgement acceptable_judgement present_judgement phase_judgement judgement after_peer_opens after_peer_accepts after_own_syn after_acked_text after_news after_own_fin after_its_ack after_its_text after_fin after_taking arrival_answer after_arrival resend_of new_text_of due_of segment_of bytes_of emitted_bytes after_emission
-whole = record { at_b = refl; at_a = refl; a_ended = refl; b_ended = refl; b_had_all = refl; a_had_not_all = refl; a_sent = refl; b_sent = refl; none_refused = refl }
+whole =
+    record { at_b = refl; at_a = refl; a_ended = refl; b_ended = refl; b_had_all = refl; a_had_not_all = refl; a_sent = refl; b_sent = refl; none_refused = refl }
 
 -- a text that came early is held, reported as a block, and comes in order after the one before it
 after_gap : WorldState

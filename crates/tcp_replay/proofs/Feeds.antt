@@ -1,5 +1,6 @@
 -- The half that receives, by itself: where each byte that it has came from, whoever sent it.
-use Rattle.std.proofs.Common.{◌≡◌, ℕ, zero, suc, ◌+◌, ◌-◌, ◌%◌, ◌^◌, ◌<◌, ◌≤◌, List, [], ◌∷◌, ◌++◌, length, take, drop, refl, sym, ◌∙◌, ap, subst, arith, append-nil, length-append, take-append-drop}
+use Rattle.std.proofs.Common.{◌≡◌, ℕ, zero, suc, ◌+◌, ◌-◌, ◌%◌, ◌^◌, ◌<◌, ◌≤◌, List, [], ◌∷◌, ◌++◌, length, take, drop, refl, sym, ◌∙◌, ap, subst, arith}
+use Rattle.std.proofs.Common.{append-nil, length-append, take-append-drop}
 use Rattle.std.specs.Prelude.{min, nat_lt, ℤ, negsuc, Bool, true, false, if◌then◌else◌, replicate, Option, Some, None, slice_get}
 use Rattle.std.proofs.lemmas.Bool.{false≢true, ltb-true, ltb-false}
 use Rattle.std.proofs.lemmas.List.{append_assoc, take_min}
@@ -7,12 +8,13 @@ use Rattle.tcp_wire.specs.Position.{number, distance, offset}
 use Rattle.tcp_wire.proofs.Lemmas.{offset_ahead, offset_of_earlier}
 use Rattle.tcp_reasm.specs.declared.placed.Placed.TheVariants.{NotKept}
 use Rattle.tcp_reasm.specs.Agreement.{advance_of}
-use Rattle.tcp_reasm.specs.Reassembly.{Cell, Inbox, Run, piece, window, overlay, bytes_in_order, with_ranks, with_ranks_from, runs, is_refused, overlay_of, with_overlay, greatest_stamp, answer_for, after_place, place_answer, after_read}
+use Rattle.tcp_reasm.specs.Reassembly.{Cell, Inbox, Run, piece, window, overlay, bytes_in_order, with_ranks, with_ranks_from, runs, is_refused, overlay_of}
+use Rattle.tcp_reasm.specs.Reassembly.{with_overlay, greatest_stamp, answer_for, after_place, place_answer, after_read}
 use Rattle.tcp_reasm.proofs.Agreement.{advance_of-answer_for}
 use Rattle.tcp_conn.specs.State.{Receiving}
 use Rattle.tcp_conn.specs.Receiver.{new_receiving, with_syn, after_text, with_fin, after_handing, without_bytes}
 use Rattle.tcp_replay.proofs.Lists.{by_test, one_if, one_if-false}
-use Rattle.tcp_replay.proofs.Positions.{number-further}
+use Rattle.tcp_replay.proofs.Lists.{number-further}
 
 -- what holds of each byte of a text whose first is at this place, and of each byte that is held from this place on
 abbrev pub AllText : (ℕ → ℕ → Type 0) → ℕ → List ℕ → Type 0
@@ -29,7 +31,8 @@ abbrev pub ByNumber : (ℕ → ℕ → Type 0) → ℕ → ℕ → ℕ → Type 
 ByNumber P start place byte = P (number start place) byte
 
 -- TEXTS, moved from one place to another
-pub text-moved : (P P' : ℕ → ℕ → Type 0) (a b : ℕ) → ((i byte : ℕ) → P (i + a) byte → P' (i + b) byte) → (k from to : ℕ) (text : List ℕ) → from ≡ k + a → to ≡ k + b
+text-moved : (P P' : ℕ → ℕ → Type 0) (a b : ℕ) → ((i byte : ℕ) → P (i + a) byte → P' (i + b) byte) → (k from to : ℕ) (text : List ℕ) → from ≡ k + a
+    → to ≡ k + b
     → AllText P from text → AllText P' to text
 text-moved P P' a b h k from to [] e f t = tt
 text-moved P P' a b h k from to (byte ∷ text) e f t = (
@@ -37,10 +40,11 @@ text-moved P P' a b h k from to (byte ∷ text) e f t = (
   text-moved P P' a b h (suc k) (suc from) (suc to) text (omega (arith, e)) (omega (arith, f)) t.1,
 )
 
-pub text-same : (P P' : ℕ → ℕ → Type 0) (place : ℕ) (text : List ℕ) → ((n byte : ℕ) → P n byte → P' n byte) → AllText P place text → AllText P' place text
+text-same : (P P' : ℕ → ℕ → Type 0) (place : ℕ) (text : List ℕ) → ((n byte : ℕ) → P n byte → P' n byte) → AllText P place text → AllText P' place text
 text-same P P' place text h t = text-moved P P' 0 0 (λ i byte. h (i + 0) byte) place place place text (omega arith) (omega arith) t
 
-pub text-append : (P : ℕ → ℕ → Type 0) (place from : ℕ) (text more : List ℕ) → from ≡ place + length text → AllText P place text → AllText P from more → AllText P place (text ++ more)
+text-append : (P : ℕ → ℕ → Type 0) (place from : ℕ) (text more : List ℕ) → from ≡ place + length text → AllText P place text → AllText P from more
+    → AllText P place (text ++ more)
 text-append P place from [] more e t m = subst (λ (n : ℕ). AllText P n more) (omega (arith, e)) m
 text-append P place from (byte ∷ text) more e t m = (t.0, text-append P (suc place) from text more (omega (arith, e)) t.1 m)
 
@@ -53,7 +57,8 @@ text-drop P place to zero text e t = subst (λ (k : ℕ). AllText P k text) (ome
 text-drop P place to (suc n) [] e t = tt
 text-drop P place to (suc n) (byte ∷ text) e t = text-drop P (suc place) to n text (omega (arith, e)) t.1
 
-pub text-of : (P : ℕ → ℕ → Type 0) (k place : ℕ) (text : List ℕ) → place ≡ k → ((i byte : ℕ) → slice_get text i ≡ Some byte → P (k + i) byte) → AllText P place text
+pub text-of : (P : ℕ → ℕ → Type 0) (k place : ℕ) (text : List ℕ) → place ≡ k → ((i byte : ℕ) → slice_get text i ≡ Some byte → P (k + i) byte)
+    → AllText P place text
 text-of P k place [] e h = tt
 text-of P k place (byte ∷ text) e h = (
   subst (λ (n : ℕ). P n byte) (omega (arith, e)) (h 0 byte refl),
@@ -68,13 +73,15 @@ text-at P place (first ∷ text) zero n byte e is t =
 text-at P place (first ∷ text) (suc i) n byte e is t = text-at P (suc place) text i n byte (omega (arith, e)) is t.1
 
 -- HELD BYTES
-pub held-moved : (P P' : ℕ → ℕ → Type 0) (d : ℕ) → ((i byte : ℕ) → P (i + d) byte → P' i byte) → (from to : ℕ) (held : List (Option Cell)) → from ≡ to + d → AllHeld P from held → AllHeld P' to held
+pub held-moved : (P P' : ℕ → ℕ → Type 0) (d : ℕ) → ((i byte : ℕ) → P (i + d) byte → P' i byte) → (from to : ℕ) (held : List (Option Cell)) → from ≡ to + d
+    → AllHeld P from held → AllHeld P' to held
 held-moved P P' d h from to [] e t = tt
 held-moved P P' d h from to (None ∷ places) e t = held-moved P P' d h (suc from) (suc to) places (omega (arith, e)) t
 held-moved P P' d h from to (Some cell ∷ places) e t =
     (h to cell.byte (subst (λ (n : ℕ). P n cell.byte) e t.0), held-moved P P' d h (suc from) (suc to) places (omega (arith, e)) t.1)
 
-pub held-same : (P P' : ℕ → ℕ → Type 0) (place : ℕ) (held : List (Option Cell)) → ((n byte : ℕ) → P n byte → P' n byte) → AllHeld P place held → AllHeld P' place held
+pub held-same : (P P' : ℕ → ℕ → Type 0) (place : ℕ) (held : List (Option Cell)) → ((n byte : ℕ) → P n byte → P' n byte) → AllHeld P place held
+    → AllHeld P' place held
 held-same P P' place held h t = held-moved P P' 0 (λ i byte had. h i byte (subst (λ (n : ℕ). P n byte) (omega arith) had)) place place held (omega arith) t
 
 pub held-none : (P : ℕ → ℕ → Type 0) (place n : ℕ) → AllHeld P place (replicate n None)
@@ -93,7 +100,8 @@ held-drop P place to (suc n) (None ∷ places) e t = held-drop P (suc place) to 
 held-drop P place to (suc n) (Some cell ∷ places) e t = held-drop P (suc place) to n places (omega (arith, e)) t.1
 
 -- stamps are not spoken of
-held-ranks_from : (P : ℕ → ℕ → Type 0) (all : List Run) (k place : ℕ) (held : List (Option Cell)) → AllHeld P place held → AllHeld P place (with_ranks_from all k held)
+held-ranks_from : (P : ℕ → ℕ → Type 0) (all : List Run) (k place : ℕ) (held : List (Option Cell)) → AllHeld P place held
+    → AllHeld P place (with_ranks_from all k held)
 held-ranks_from P all k place [] t = tt
 held-ranks_from P all k place (None ∷ places) t = held-ranks_from P all (suc k) (suc place) places t
 held-ranks_from P all k place (Some cell ∷ places) t = (t.0, held-ranks_from P all (suc k) (suc place) places t.1)
@@ -103,15 +111,18 @@ unfolding with_ranks
 held-ranks P place held t = held-ranks_from P (runs held) 0 place held t
 
 -- a text laid over what is held
-held-overlay : (P : ℕ → ℕ → Type 0) (place from start : ℕ) (text : List ℕ) (stamp : ℕ) (held : List (Option Cell)) → from ≡ place + start → AllHeld P place held → AllText P from text
+held-overlay : (P : ℕ → ℕ → Type 0) (place from start : ℕ) (text : List ℕ) (stamp : ℕ) (held : List (Option Cell)) → from ≡ place + start
+    → AllHeld P place held → AllText P from text
     → AllHeld P place (overlay start text stamp held)
 held-overlay P place from start text stamp [] e h t = tt
 held-overlay P place from zero [] stamp (first ∷ places) e h t = h
 held-overlay P place from zero (byte ∷ text) stamp (None ∷ places) e h t =
     (subst (λ (n : ℕ). P n byte) (omega (arith, e)) t.0, held-overlay P (suc place) (suc from) zero text stamp places (omega (arith, e)) h t.1)
-held-overlay P place from zero (byte ∷ text) stamp (Some cell ∷ places) e h t = (h.0, held-overlay P (suc place) (suc from) zero text stamp places (omega (arith, e)) h.1 t.1)
+held-overlay P place from zero (byte ∷ text) stamp (Some cell ∷ places) e h t =
+    (h.0, held-overlay P (suc place) (suc from) zero text stamp places (omega (arith, e)) h.1 t.1)
 held-overlay P place from (suc start) text stamp (None ∷ places) e h t = held-overlay P (suc place) from start text stamp places (omega (arith, e)) h t
-held-overlay P place from (suc start) text stamp (Some cell ∷ places) e h t = (h.0, held-overlay P (suc place) from start text stamp places (omega (arith, e)) h.1 t)
+held-overlay P place from (suc start) text stamp (Some cell ∷ places) e h t =
+    (h.0, held-overlay P (suc place) from start text stamp places (omega (arith, e)) h.1 t)
 
 text-in_order : (P : ℕ → ℕ → Type 0) (place : ℕ) (held : List (Option Cell)) → AllHeld P place held → AllText P place (bytes_in_order held)
 text-in_order P place [] h = tt
@@ -129,13 +140,16 @@ pub record Brings (P : ℕ → ℕ → Type 0) (q q' : Inbox) (n : ℕ) : Type 0
 brings-nothing : (P : ℕ → ℕ → Type 0) (q : Inbox) → AllHeld P 0 q.held → Brings P q q 0
 brings-nothing P q h = record { bytes = []; count = refl; unread = sym (append-nil q.unread); text = tt; held = h }
 
-brings-overlay : (P : ℕ → ℕ → Type 0) (q : Inbox) (over : List (Option Cell)) → AllHeld P 0 over → Brings P q (with_overlay q over) (length (bytes_in_order over))
+brings-overlay : (P : ℕ → ℕ → Type 0) (q : Inbox) (over : List (Option Cell)) → AllHeld P 0 over
+    → Brings P q (with_overlay q over) (length (bytes_in_order over))
 brings-overlay P q over h = record {
   bytes = bytes_in_order over;
   count = refl;
   unread = refl;
   text = text-in_order P 0 over h;
-  held = held-ranks P (length (bytes_in_order over)) (drop (length (bytes_in_order over)) over) (held-drop P 0 (length (bytes_in_order over)) (length (bytes_in_order over)) over (omega arith) h);
+  held =
+      held-ranks P (length (bytes_in_order over)) (drop (length (bytes_in_order over)) over)
+      (held-drop P 0 (length (bytes_in_order over)) (length (bytes_in_order over)) over (omega arith) h);
 }
 
 pub brings-place : (P : ℕ → ℕ → Type 0) (q : Inbox) (z : ℤ) (text : List ℕ) → AllHeld P 0 q.held → AllText P (piece z text).start (piece z text).text
@@ -144,11 +158,12 @@ unfolding after_place place_answer
 brings-place P q z text h t =
     let p = piece z text in
     let over = held-overlay P 0 p.start p.start p.text (suc (greatest_stamp q.held)) q.held (omega arith) h t in
-    by_test (is_refused q p) (λ refused. Brings P q (if refused then q else with_overlay q (overlay_of q p)) (advance_of (if refused then NotKept else answer_for (length (bytes_in_order (overlay_of q p))))))
+    by_test (is_refused q p) (λ refused. Brings P q (if refused then q else with_overlay q (overlay_of q p))
+    (advance_of (if refused then NotKept else answer_for (length (bytes_in_order (overlay_of q p))))))
     (λ _. brings-nothing P q h) (λ _. rw advance_of-answer_for (brings-overlay P q (overlay_of q p) over))
 
 -- THE PIECE of a text lies at its numbers, counted from the next one
-pub piece-numbers : (P : ℕ → ℕ → Type 0) (next seq : ℕ) (text : List ℕ) → next < 2 ^ 32 → seq < 2 ^ 32 → AllText (ByNumber P seq) 0 text
+piece-numbers : (P : ℕ → ℕ → Type 0) (next seq : ℕ) (text : List ℕ) → next < 2 ^ 32 → seq < 2 ^ 32 → AllText (ByNumber P seq) 0 text
     → AllText (ByNumber P next) (piece (offset next seq) text).start (piece (offset next seq) text).text
 piece-numbers P next seq text low small t =
     let d = distance next seq in
@@ -167,7 +182,8 @@ piece-numbers P next seq text low small t =
     ap (λ n. offset n seq) (sym there) ∙ ap (offset (number seq k)) (sym here) ∙ offset_of_earlier seq k 0 (omega arith) (omega arith) in
     let same : suc (k - 0 - 1) ≡ k = omega arith in
     subst Q (sym before)
-    (text-moved (ByNumber P seq) (ByNumber P next) k 0 (λ i byte had. subst (λ (n : ℕ). P n byte) (omega (arith, there)) had) 0 k 0 (drop (suc (k - 0 - 1)) text) (omega arith) (omega arith)
+    (text-moved (ByNumber P seq) (ByNumber P next) k 0 (λ i byte had. subst (λ (n : ℕ). P n byte) (omega (arith, there)) had) 0 k 0
+    (drop (suc (k - 0 - 1)) text) (omega arith) (omega arith)
     (text-drop (ByNumber P seq) 0 k (suc (k - 0 - 1)) text (omega (arith, same)) t)))
 
 -- WHAT THE HALF HAS, where k bytes came in order from the initial number irs on and P holds of each byte that came, by its
@@ -193,7 +209,8 @@ fed-new P capacity irs = record {
 }
 
 -- more came
-pub fed-more : (P P' : ℕ → ℕ → Type 0) (r : Receiving) (irs k : ℕ) (delivered : List ℕ) (gone : Bool) → ((n byte : ℕ) → P n byte → P' n byte) → IsFed P r irs k delivered gone → IsFed P' r irs k delivered gone
+pub fed-more : (P P' : ℕ → ℕ → Type 0) (r : Receiving) (irs k : ℕ) (delivered : List ℕ) (gone : Bool) → ((n byte : ℕ) → P n byte → P' n byte)
+    → IsFed P r irs k delivered gone → IsFed P' r irs k delivered gone
 fed-more P P' r irs k delivered gone more h = record {
   next = h.next;
   unopened = h.unopened;
@@ -204,7 +221,8 @@ fed-more P P' r irs k delivered gone more h = record {
 }
 
 -- before the peer's SYN any number serves
-pub fed-any : (P : ℕ → ℕ → Type 0) (r : Receiving) (irs irs' k : ℕ) (delivered : List ℕ) (gone : Bool) → r.opened ≡ false → IsFed P r irs k delivered gone → IsFed P r irs' k delivered gone
+pub fed-any : (P : ℕ → ℕ → Type 0) (r : Receiving) (irs irs' k : ℕ) (delivered : List ℕ) (gone : Bool) → r.opened ≡ false → IsFed P r irs k delivered gone
+    → IsFed P r irs' k delivered gone
 fed-any P r irs irs' k delivered gone shut h = record {
   next = λ e. absurd (false≢true (sym shut ∙ e));
   unopened = h.unopened;
@@ -215,7 +233,8 @@ fed-any P r irs irs' k delivered gone shut h = record {
 }
 
 -- the peer's SYN
-pub fed-syn : (P : ℕ → ℕ → Type 0) (r : Receiving) (irs k : ℕ) (delivered : List ℕ) (gone : Bool) → r.opened ≡ false → IsFed P r irs k delivered gone → IsFed P (with_syn r irs) irs k delivered gone
+pub fed-syn : (P : ℕ → ℕ → Type 0) (r : Receiving) (irs k : ℕ) (delivered : List ℕ) (gone : Bool) → r.opened ≡ false → IsFed P r irs k delivered gone
+    → IsFed P (with_syn r irs) irs k delivered gone
 fed-syn P r irs k delivered gone shut h =
     let none = h.unopened shut in
     let fin : one_if r.finished ≡ 0 = one_if-false r.finished none.2 in
@@ -249,14 +268,15 @@ fed-read P r irs k delivered gone n h =
     }
 
 -- what is unread and held is given up
-nothing-left : (delivered unread : List ℕ) → delivered ++ unread ≡ [] → delivered ++ [] ≡ []
-nothing-left [] unread e = refl
-nothing-left (byte ∷ delivered) unread e = absurd (cc)
+none-left : (delivered unread : List ℕ) → delivered ++ unread ≡ [] → delivered ++ [] ≡ []
+none-left [] unread e = refl
+none-left (byte ∷ delivered) unread e = absurd (cc)
 
-pub fed-given_up : (P : ℕ → ℕ → Type 0) (r : Receiving) (irs k : ℕ) (delivered : List ℕ) (gone : Bool) → IsFed P r irs k delivered gone → IsFed P (without_bytes r) irs k delivered true
+pub fed-given_up : (P : ℕ → ℕ → Type 0) (r : Receiving) (irs k : ℕ) (delivered : List ℕ) (gone : Bool) → IsFed P r irs k delivered gone
+    → IsFed P (without_bytes r) irs k delivered true
 fed-given_up P r irs k delivered gone h = record {
   next = h.next;
-  unopened = λ e. let none = h.unopened e in (none.0, nothing-left delivered r.inbox.unread none.1, none.2);
+  unopened = λ e. let none = h.unopened e in (none.0, none-left delivered r.inbox.unread none.1, none.2);
   bare = λ _. held-none (λ _ _. ⊥) 0 r.inbox.capacity;
   held = held-none (ByNumber P r.next) 0 r.inbox.capacity;
   text = subst (AllText (ByNumber P irs) 1) (sym (append-nil delivered)) (text-front (ByNumber P irs) 1 delivered r.inbox.unread h.text);
@@ -264,7 +284,8 @@ fed-given_up P r irs k delivered gone h = record {
 }
 
 -- the peer's FIN
-pub fed-fin : (P : ℕ → ℕ → Type 0) (r : Receiving) (irs k : ℕ) (delivered : List ℕ) (gone : Bool) → r.opened ≡ true → r.finished ≡ false → IsFed P r irs k delivered gone → IsFed P (with_fin r) irs k delivered gone
+pub fed-fin : (P : ℕ → ℕ → Type 0) (r : Receiving) (irs k : ℕ) (delivered : List ℕ) (gone : Bool) → r.opened ≡ true → r.finished ≡ false
+    → IsFed P r irs k delivered gone → IsFed P (with_fin r) irs k delivered gone
 fed-fin P r irs k delivered gone opened unfinished h =
     let none : one_if r.finished ≡ 0 = one_if-false r.finished unfinished in
     record {
@@ -277,7 +298,8 @@ fed-fin P r irs k delivered gone opened unfinished h =
     }
 
 -- TEXT
-pub fed-text : (P : ℕ → ℕ → Type 0) (r : Receiving) (irs k : ℕ) (delivered : List ℕ) (seq : ℕ) (text : List ℕ) → r.next < 2 ^ 32 → seq < 2 ^ 32 → r.opened ≡ true → r.finished ≡ false
+pub fed-text : (P : ℕ → ℕ → Type 0) (r : Receiving) (irs k : ℕ) (delivered : List ℕ) (seq : ℕ) (text : List ℕ) → r.next < 2 ^ 32 → seq < 2 ^ 32
+    → r.opened ≡ true → r.finished ≡ false
     → AllText (ByNumber P seq) 0 text → IsFed P r irs k delivered false
     → IsFed P (after_text r seq text) irs (k + (length (after_text r seq text).inbox.unread - length r.inbox.unread)) delivered false
 unfolding after_text
@@ -287,17 +309,21 @@ fed-text P r irs k delivered seq text low small opened unfinished came h =
     let q = after_place r.inbox z text in
     let b = brings-place (ByNumber P r.next) r.inbox z text h.held (piece-numbers P r.next seq text low small came) in
     let none : one_if r.finished ≡ 0 = one_if-false r.finished unfinished in
-    let longer : length q.unread ≡ length r.inbox.unread + n = ap length b.unread ∙ length-append r.inbox.unread b.bytes ∙ ap (λ m. length r.inbox.unread + m) b.count in
-    let whole : delivered ++ q.unread ≡ (delivered ++ r.inbox.unread) ++ b.bytes = ap (λ xs. delivered ++ xs) b.unread ∙ sym (append_assoc delivered r.inbox.unread b.bytes) in
+    let longer : length q.unread ≡ length r.inbox.unread + n = ap length b.unread ∙ length-append r.inbox.unread b.bytes ∙ ap
+    (λ m. length r.inbox.unread + m) b.count in
+    let whole : delivered ++ q.unread ≡ (delivered ++ r.inbox.unread) ++ b.bytes = ap (λ xs. delivered ++ xs) b.unread ∙ sym
+    (append_assoc delivered r.inbox.unread b.bytes) in
     let had : length (delivered ++ r.inbox.unread) ≡ k = h.whole refl in
     let next : r.next ≡ number irs (1 + k) = h.next opened ∙ ap (number irs) (omega (arith, none)) in
     record {
       next = λ _. number-further irs (1 + k) n r.next next ∙ ap (number irs) (omega (arith, none, longer));
       unopened = λ shut. absurd (false≢true (sym shut ∙ opened));
       bare = λ shut. absurd (false≢true (sym shut ∙ opened));
-      held = held-moved (ByNumber P r.next) (ByNumber P ((r.next + n) % 2 ^ 32)) n (λ i byte here. subst (λ (m : ℕ). P m byte) (omega arith) here) n 0 q.held (omega arith) b.held;
+      held = held-moved (ByNumber P r.next) (ByNumber P ((r.next + n) % 2 ^ 32)) n (λ i byte here. subst (λ (m : ℕ). P m byte) (omega arith) here) n 0 q.held
+          (omega arith) b.held;
       text = subst (AllText (ByNumber P irs) 1) (sym whole)
           (text-append (ByNumber P irs) 1 (1 + k) (delivered ++ r.inbox.unread) b.bytes (omega (arith, had)) h.text
-          (text-moved (ByNumber P r.next) (ByNumber P irs) 0 (1 + k) (λ i byte here. subst (λ (m : ℕ). P m byte) (omega (arith, next)) here) 0 0 (1 + k) b.bytes (omega arith) (omega arith) b.text));
+          (text-moved (ByNumber P r.next) (ByNumber P irs) 0 (1 + k) (λ i byte here. subst (λ (m : ℕ). P m byte) (omega (arith, next)) here) 0 0
+          (1 + k) b.bytes (omega arith) (omega arith) b.text));
       whole = λ _. ap length whole ∙ length-append (delivered ++ r.inbox.unread) b.bytes ∙ omega (arith, had, b.count, longer);
     }

@@ -1,12 +1,12 @@
 -- The moves of one half of a direction: what each does to the bytes that were accepted, queued, held and
 -- delivered.
-use Rattle.std.proofs.Common.{◌≡◌, ℕ, ◌+◌, ◌-◌, ◌<◌, ◌≤◌, List, [], ◌++◌, length, take, drop, refl, sym, ◌∙◌, ap, ⊎_elim, arith, append_assoc, append-nil, length-append, length-take, length-drop, take-append-drop}
+use Rattle.std.proofs.Common.{◌≡◌, ℕ, ◌+◌, ◌-◌, ◌<◌, ◌≤◌, List, [], ◌++◌, length, take, drop, refl, sym, ◌∙◌, ap, ⊎_elim, arith, append_assoc, append-nil}
+use Rattle.std.proofs.Common.{length-append, length-take, length-drop, take-append-drop}
 use Rattle.std.specs.Prelude.{min, max, Bool, true, false, ◌||◌, if◌then◌else◌, replicate, Option, Some, None, IfSome}
 use Rattle.std.proofs.lemmas.List.{take_all, take-append-le, drop-append-le, drop-drop, take_min, length-replicate}
 use Rattle.std.proofs.lemmas.Bool.{or_cases}
 use Rattle.tcp_wire.specs.Position.{number}
 use Rattle.tcp_wire.specs.Checksum.{AreBytes}
-use Rattle.tcp_sendq.specs.SendQueue as queues
 use Rattle.tcp_reasm.specs.Reassembly.{Inbox, after_read}
 use Rattle.tcp_reasm.specs.Agreement.{Advances}
 use Rattle.tcp_reasm.proofs.Agreement.{after_read-agrees, without_held-agrees, empty_inbox-agrees}
@@ -18,7 +18,8 @@ use Rattle.tcp_conn.specs.Sender.{count_sendable, with_text, with_syn_sent, with
 use Rattle.tcp_replay.specs.Alone.{Sends}
 use Rattle.tcp_replay.specs.Sound.{Takes, HandsOver}
 use Rattle.tcp_replay.proofs.Lists.{one_if, one_if-false, AreBytes-append, AreBytes-take, Agrees-more, take-none, take-further, front-is, nothing-follows}
-use Rattle.tcp_replay.proofs.Positions.{number-further}
+use Rattle.tcp_replay.proofs.Lists.{number-further}
+use Rattle.tcp_sendq.specs.SendQueue as queues
 
 -- THE HALF THAT SENDS. A range ends no later where the bound is higher.
 pub range-more : (m n : ℕ) (range : Option (Range ℕ)) → m ≤ n → IfSome range (λ r. r.end ≤ m) → IfSome range (λ r. r.end ≤ n)
@@ -26,21 +27,26 @@ range-more m n None more h = tt
 range-more m n (Some range) more h = omega arith
 
 -- the queue takes the whole front that the direction takes
-count_sendable-room : (s : Sending) (limit : ℕ) (text : List ℕ) → length (take (count_sendable s limit text) text) ≤ queues.count_taken s.queue (take (count_sendable s limit text) text)
+count_sendable-room : (s : Sending) (limit : ℕ) (text : List ℕ)
+    → length (take (count_sendable s limit text) text) ≤ queues.count_taken s.queue (take (count_sendable s limit text) text)
 count_sendable-room s limit text = omega (arith, length-take (count_sendable s limit text) text)
 
 with_text-queue : (s : Sending) (limit : ℕ) (text : List ℕ) → (with_text s limit text).queue.bytes ≡ s.queue.bytes ++ take (count_sendable s limit text) text
 with_text-queue s limit text =
-    ap (λ more. s.queue.bytes ++ more) (take_all (queues.count_taken s.queue (take (count_sendable s limit text) text)) (take (count_sendable s limit text) text) (count_sendable-room s limit text))
+    ap (λ more. s.queue.bytes ++ more)
+    (take_all (queues.count_taken s.queue (take (count_sendable s limit text) text)) (take (count_sendable s limit text) text)
+    (count_sendable-room s limit text))
 
-with_text-flags : (s : Sending) (limit : ℕ) (text : List ℕ) → length s.queue.marks ≡ length s.queue.bytes → length (with_text s limit text).queue.marks ≡ length (with_text s limit text).queue.bytes
+with_text-flags : (s : Sending) (limit : ℕ) (text : List ℕ) → length s.queue.marks ≡ length s.queue.bytes
+    → length (with_text s limit text).queue.marks ≡ length (with_text s limit text).queue.bytes
 with_text-flags s limit text h =
     let taken = take (count_sendable s limit text) text in
     let n = queues.count_taken s.queue taken in
     omega (arith, h, length-append s.queue.marks (replicate n false), length-replicate n false, length-append s.queue.bytes (take n taken), length-take n taken)
 
 -- more text is accepted, up to the limit
-pub accepted-limit : (s : Sending) (limit : ℕ) (accepted text : List ℕ) → length accepted ≤ limit → Sends s accepted false false → length (accepted ++ take (count_sendable s limit text) text) ≤ limit
+pub accepted-limit : (s : Sending) (limit : ℕ) (accepted text : List ℕ) → length accepted ≤ limit → Sends s accepted false false
+    → length (accepted ++ take (count_sendable s limit text) text) ≤ limit
 accepted-limit s limit accepted text within h =
     let inside : s.released ≤ length accepted = omega (arith, h.released) in
     let count : length s.queue.bytes ≡ length accepted - s.released = ap length (h.queue refl) ∙ length-drop s.released accepted in
@@ -68,42 +74,29 @@ sends-more s limit accepted text most bytes h =
 
 -- the SYN is sent
 pub sends-syn : (s : Sending) (accepted : List ℕ) (closed gone : Bool) → s.nxt ≡ 0 → Sends s accepted closed gone → Sends (with_syn_sent s) accepted closed gone
-sends-syn s accepted closed gone none h = record {
-  order = omega arith;
-  most = omega arith;
-  limit = h.limit;
-  capacity = h.capacity;
-  ahead = h.ahead;
-  bytes = h.bytes;
-  released = omega (arith, h.released, h.order);
-  queue = h.queue;
-  flags = h.flags;
-  range = range-more (max s.nxt (1 + length accepted)) (max 1 (1 + length accepted)) s.resend (omega arith) h.range;
-}
+sends-syn s accepted closed gone none h =
+    let order : (with_syn_sent s).una ≤ (with_syn_sent s).nxt = omega (arith, h.order) in
+    let most : (with_syn_sent s).nxt ≤ 1 + length accepted + one_if closed = omega arith in
+    let released : s.released ≡ min ((with_syn_sent s).una - 1) (length accepted) = omega (arith, h.released, h.order) in
+    let range = range-more (max s.nxt (1 + length accepted)) (max 1 (1 + length accepted)) s.resend (omega arith) h.range in
+    assumption
 
 -- and it is acknowledged
 pub sends-syn_acked : (s : Sending) (accepted : List ℕ) (closed gone : Bool) (wnd wl1 wl2 : ℕ) → s.nxt ≡ 1 → Sends s accepted closed gone
     → Sends (record s { una = s.nxt; wnd = wnd; wl1 = wl1; wl2 = wl2 }) accepted closed gone
-sends-syn_acked s accepted closed gone wnd wl1 wl2 one h = record {
-  order = omega arith;
-  most = h.most;
-  limit = h.limit;
-  capacity = h.capacity;
-  ahead = h.ahead;
-  bytes = h.bytes;
-  released = omega (arith, h.released, h.order);
-  queue = h.queue;
-  flags = h.flags;
-  range = h.range;
-}
+sends-syn_acked s accepted closed gone wnd wl1 wl2 one h =
+    let order : s.nxt ≤ s.nxt = omega arith in
+    let released : s.released ≡ min (s.nxt - 1) (length accepted) = omega (arith, h.released, h.order) in
+    assumption
 
 -- a close: the FIN may follow
 pub sends-closed : (s : Sending) (accepted : List ℕ) (closed gone : Bool) → Sends s accepted closed gone → Sends s accepted true gone
 sends-closed s accepted true gone h = h
-sends-closed s accepted false gone h = record { order = h.order; most = omega (arith, h.most); limit = h.limit; capacity = h.capacity; ahead = h.ahead; bytes = h.bytes; released = h.released; queue = h.queue; flags = h.flags; range = h.range }
+sends-closed s accepted false gone h = let most : s.nxt ≤ 1 + length accepted + 1 = omega (arith, h.most) in assumption
 
 -- a position that was sent is acknowledged, and the text below it released
-pub sends-acked : (s : Sending) (accepted : List ℕ) (closed : Bool) (a : ℕ) → s.una < a → a ≤ s.nxt → Sends s accepted closed false → Sends (with_acked s a) accepted closed false
+pub sends-acked : (s : Sending) (accepted : List ℕ) (closed : Bool) (a : ℕ) → s.una < a → a ≤ s.nxt → Sends s accepted closed false
+    → Sends (with_acked s a) accepted closed false
 sends-acked s accepted closed a new sent h =
     let inside : s.released ≤ length accepted = omega (arith, h.released) in
     let count : length s.queue.bytes ≡ length accepted - s.released = ap length (h.queue refl) ∙ length-drop s.released accepted in
@@ -122,27 +115,26 @@ sends-acked s accepted closed a new sent h =
 
 -- a reset or an abort gives the queue up
 pub sends-given_up : (s : Sending) (accepted : List ℕ) (closed gone : Bool) → Sends s accepted closed gone → Sends (without_text s) accepted closed true
-sends-given_up s accepted closed gone h = record {
-  order = h.order;
-  most = h.most;
-  limit = h.limit;
-  capacity = h.capacity;
-  ahead = h.ahead;
-  bytes = h.bytes;
-  released = h.released;
-  queue = λ never. absurd (cc);
-  flags = length-drop (length s.queue.bytes) s.queue.marks ∙ ap (λ n. n - length s.queue.bytes) h.flags ∙ sym (length-drop (length s.queue.bytes) s.queue.bytes);
-  range = tt;
-}
+sends-given_up s accepted closed gone h =
+    let n = length s.queue.bytes in
+    let queue : true ≡ false → drop n s.queue.bytes ≡ drop s.released accepted = λ never. absurd (cc) in
+    let flags : length (drop n s.queue.marks) ≡ length (drop n s.queue.bytes) = length-drop n s.queue.marks ∙ ap (λ k. k - n) h.flags ∙ sym
+    (length-drop n s.queue.bytes) in
+    let range : IfSome (without_text s).resend (λ r. r.end ≤ max s.nxt (1 + length accepted)) = tt in
+    assumption
 
 -- SND.NXT moves on, and the range
-pub sends-sent : (s : Sending) (accepted : List ℕ) (closed gone : Bool) (n : ℕ) (resend : Option (Range ℕ)) → s.nxt ≤ n → n ≤ 1 + length accepted + (if closed then 1 else 0)
-    → IfSome resend (λ r. r.end ≤ max n (1 + length accepted)) → Sends s accepted closed gone → Sends (record s { nxt = n; resend = resend }) accepted closed gone
+pub sends-sent : (s : Sending) (accepted : List ℕ) (closed gone : Bool) (n : ℕ) (resend : Option (Range ℕ)) → s.nxt ≤ n
+    → n ≤ 1 + length accepted + (if closed then 1 else 0)
+    → IfSome resend (λ r. r.end ≤ max n (1 + length accepted)) → Sends s accepted closed gone
+    → Sends (record s { nxt = n; resend = resend }) accepted closed gone
 sends-sent s accepted closed gone n resend further within range h =
-    record { order = omega (arith, h.order); most = within; limit = h.limit; capacity = h.capacity; ahead = h.ahead; bytes = h.bytes; released = h.released; queue = h.queue; flags = h.flags; range = range }
+    let order : s.una ≤ n = omega (arith, h.order) in
+    assumption
 
 -- THE HALF THAT RECEIVES. More is accepted at the other end, or it closes.
-same-accepted : (accepted more : List ℕ) (closed closed' : Bool) → (closed ≡ true → (more ≡ []) × (closed' ≡ true)) → closed ≡ true → accepted ≡ accepted ++ more
+same-accepted : (accepted more : List ℕ) (closed closed' : Bool) → (closed ≡ true → (more ≡ []) × (closed' ≡ true)) → closed ≡ true
+    → accepted ≡ accepted ++ more
 same-accepted accepted more closed closed' fixed e = sym (ap (λ xs. accepted ++ xs) (fixed e).0 ∙ append-nil accepted)
 
 pub takes-more : (r : Receiving) (irs : ℕ) (accepted : List ℕ) (closed closed' : Bool) (more : List ℕ) → (closed ≡ true → (more ≡ []) × (closed' ≡ true))
@@ -155,8 +147,10 @@ takes-more r irs accepted closed closed' more fixed h = record {
   held = rw (drop-append-le r.ordered accepted more h.order) (Agrees-more r.inbox.held (drop r.ordered accepted) more h.held);
 }
 
-pub hands-more : (r : Receiving) (accepted : List ℕ) (closed closed' : Bool) (delivered more : List ℕ) (ended gone : Bool) → (closed ≡ true → (more ≡ []) × (closed' ≡ true)) → r.ordered ≤ length accepted
-    → HandsOver r.inbox.unread r.ordered accepted closed delivered ended gone → HandsOver r.inbox.unread r.ordered (accepted ++ more) closed' delivered ended gone
+pub hands-more : (r : Receiving) (accepted : List ℕ) (closed closed' : Bool) (delivered more : List ℕ) (ended gone : Bool)
+    → (closed ≡ true → (more ≡ []) × (closed' ≡ true)) → r.ordered ≤ length accepted
+    → HandsOver r.inbox.unread r.ordered accepted closed delivered ended gone
+    → HandsOver r.inbox.unread r.ordered (accepted ++ more) closed' delivered ended gone
 hands-more r accepted closed closed' delivered more ended gone fixed order h = record {
   count = h.count;
   handed = h.handed ∙ sym (take-append-le h.count accepted more (omega (arith, h.least, order)));
@@ -166,19 +160,24 @@ hands-more r accepted closed closed' delivered more ended gone fixed order h = r
 }
 
 -- the peer's SYN is taken
-pub takes-syn : (r : Receiving) (irs seq : ℕ) (accepted : List ℕ) (closed : Bool) → r.opened ≡ false → seq ≡ number irs 0 → Takes r irs accepted closed → Takes (with_syn r seq) irs accepted closed
+pub takes-syn : (r : Receiving) (irs seq : ℕ) (accepted : List ℕ) (closed : Bool) → r.opened ≡ false → seq ≡ number irs 0 → Takes r irs accepted closed
+    → Takes (with_syn r seq) irs accepted closed
 takes-syn r irs seq accepted closed e is h =
     let none = h.unopened e in
     let fin : one_if r.finished ≡ 0 = one_if-false r.finished none.2 in
     record { next = λ _. omega (arith, is, none.1, fin); unopened = λ never. absurd (cc); order = h.order; fin = h.fin; held = h.held }
 
 -- the user reads
-pub takes-read : (r : Receiving) (irs : ℕ) (accepted : List ℕ) (closed : Bool) (n : ℕ) → Takes r irs accepted closed → Takes (after_handing r n) irs accepted closed
+pub takes-read : (r : Receiving) (irs : ℕ) (accepted : List ℕ) (closed : Bool) (n : ℕ) → Takes r irs accepted closed
+    → Takes (after_handing r n) irs accepted closed
 unfolding after_read
-takes-read r irs accepted closed n h = record { next = h.next; unopened = h.unopened; order = h.order; fin = h.fin; held = after_read-agrees r.inbox n (drop r.ordered accepted) h.held }
+takes-read r irs accepted closed n h =
+    record { next = h.next; unopened = h.unopened; order = h.order; fin = h.fin; held = after_read-agrees r.inbox n (drop r.ordered accepted) h.held }
 
 pub hands-read : (r : Receiving) (accepted : List ℕ) (closed : Bool) (delivered : List ℕ) (ended gone : Bool) (n : ℕ)
-    → HandsOver r.inbox.unread r.ordered accepted closed delivered ended gone → HandsOver (after_handing r n).inbox.unread (after_handing r n).ordered accepted closed (delivered ++ take (min n (length r.inbox.unread)) r.inbox.unread) ended gone
+    → HandsOver r.inbox.unread r.ordered accepted closed delivered ended gone
+    → HandsOver (after_handing r n).inbox.unread (after_handing r n).ordered accepted closed
+    (delivered ++ take (min n (length r.inbox.unread)) r.inbox.unread) ended gone
 unfolding after_read
 hands-read r accepted closed delivered ended gone n h =
     let unread = r.inbox.unread in
@@ -189,13 +188,18 @@ hands-read r accepted closed delivered ended gone n h =
       least = h.least;
       whole = h.whole;
       all_handed = λ e.
-          let none : unread ≡ [] = nothing-follows delivered unread accepted h.count h.handed (h.all_handed e).1 in
-          ((h.all_handed e).0, ap (λ xs. delivered ++ xs) (ap (take (min n (length unread))) none ∙ take-none (min n (length unread))) ∙ append-nil delivered ∙ (h.all_handed e).1);
+          let none : unread ≡ [] = nothing-follows delivered unread accepted h.count h.handed (h.all_handed e).1 in (
+            (h.all_handed e).0,
+            ap (λ xs. delivered ++ xs) (ap (take (min n (length unread))) none ∙ take-none (min n (length unread))) ∙
+                append-nil delivered ∙ (h.all_handed e).1,
+          );
     }
 
 -- the end of the stream is handed over, after the FIN, where nothing is unread
-pub hands-ended : (r : Receiving) (irs : ℕ) (accepted : List ℕ) (closed : Bool) (delivered : List ℕ) (ended gone ends : Bool) → (ends ≡ true → (r.finished ≡ true) × (r.inbox.unread ≡ [])) → gone ≡ false
-    → Takes r irs accepted closed → HandsOver r.inbox.unread r.ordered accepted closed delivered ended gone → HandsOver r.inbox.unread r.ordered accepted closed delivered (ended || ends) gone
+pub hands-ended : (r : Receiving) (irs : ℕ) (accepted : List ℕ) (closed : Bool) (delivered : List ℕ) (ended gone ends : Bool)
+    → (ends ≡ true → (r.finished ≡ true) × (r.inbox.unread ≡ [])) → gone ≡ false
+    → Takes r irs accepted closed → HandsOver r.inbox.unread r.ordered accepted closed delivered ended gone
+    → HandsOver r.inbox.unread r.ordered accepted closed delivered (ended || ends) gone
 hands-ended r irs accepted closed delivered ended gone ends only stays takes h = record {
   count = h.count;
   handed = h.handed;
@@ -204,17 +208,20 @@ hands-ended r irs accepted closed delivered ended gone ends only stays takes h =
   all_handed = λ e. ⊎_elim h.all_handed (λ (last : ends ≡ true).
       let all = only last in (
         (takes.fin all.0).0,
-        sym (append-nil delivered) ∙ ap (λ xs. delivered ++ xs) (sym all.1) ∙ h.handed ∙ take_all h.count accepted (omega (arith, h.whole stays, (takes.fin all.0).1)),
+        sym (append-nil delivered) ∙ ap (λ xs. delivered ++ xs) (sym all.1) ∙ h.handed ∙ take_all h.count accepted
+            (omega (arith, h.whole stays, (takes.fin all.0).1)),
       ))
       (or_cases ended ends e);
 }
 
 -- text of the stream is placed: so many bytes more are in order
-further-ordered : (r : Receiving) (inbox : Inbox) (accepted : List ℕ) (n : ℕ) → length accepted ≤ stream_limit → r.ordered ≤ length accepted → Advances r.inbox inbox (drop r.ordered accepted) n
+further-ordered : (r : Receiving) (inbox : Inbox) (accepted : List ℕ) (n : ℕ) → length accepted ≤ stream_limit → r.ordered ≤ length accepted
+    → Advances r.inbox inbox (drop r.ordered accepted) n
     → min max_ordered (r.ordered + n) ≡ r.ordered + n
 further-ordered r inbox accepted n limit order steps = omega (arith, order, limit, steps.within, length-drop r.ordered accepted)
 
-pub takes-advance : (r : Receiving) (irs : ℕ) (accepted : List ℕ) (closed : Bool) (inbox : Inbox) (n : ℕ) → length accepted ≤ stream_limit → r.opened ≡ true → r.finished ≡ false
+pub takes-advance : (r : Receiving) (irs : ℕ) (accepted : List ℕ) (closed : Bool) (inbox : Inbox) (n : ℕ) → length accepted ≤ stream_limit → r.opened ≡ true
+    → r.finished ≡ false
     → Takes r irs accepted closed → Advances r.inbox inbox (drop r.ordered accepted) n → Takes (with_inbox r inbox n) irs accepted closed
 takes-advance r irs accepted closed inbox n limit opened unfinished h steps =
     let further = further-ordered r inbox accepted n limit h.order steps in
@@ -227,8 +234,11 @@ takes-advance r irs accepted closed inbox n limit opened unfinished h steps =
       held = rw further (rw (← drop-drop n r.ordered accepted) steps.held);
     }
 
-pub hands-advance : (r : Receiving) (irs : ℕ) (accepted : List ℕ) (closed : Bool) (delivered : List ℕ) (ended gone : Bool) (inbox : Inbox) (n : ℕ) → length accepted ≤ stream_limit → gone ≡ false
-    → Takes r irs accepted closed → HandsOver r.inbox.unread r.ordered accepted closed delivered ended gone → Advances r.inbox inbox (drop r.ordered accepted) n → HandsOver (with_inbox r inbox n).inbox.unread (with_inbox r inbox n).ordered accepted closed delivered ended gone
+pub hands-advance : (r : Receiving) (irs : ℕ) (accepted : List ℕ) (closed : Bool) (delivered : List ℕ) (ended gone : Bool) (inbox : Inbox) (n : ℕ)
+    → length accepted ≤ stream_limit → gone ≡ false
+    → Takes r irs accepted closed → HandsOver r.inbox.unread r.ordered accepted closed delivered ended gone
+    → Advances r.inbox inbox (drop r.ordered accepted) n
+    → HandsOver (with_inbox r inbox n).inbox.unread (with_inbox r inbox n).ordered accepted closed delivered ended gone
 hands-advance r irs accepted closed delivered ended gone inbox n limit stays takes h steps =
     let further = further-ordered r inbox accepted n limit takes.order steps in
     record {
@@ -241,7 +251,8 @@ hands-advance r irs accepted closed delivered ended gone inbox n limit stays tak
     }
 
 -- the FIN is taken in its turn
-pub takes-fin : (r : Receiving) (irs : ℕ) (accepted : List ℕ) (closed : Bool) → r.opened ≡ true → r.finished ≡ false → closed ≡ true → r.ordered ≡ length accepted
+pub takes-fin : (r : Receiving) (irs : ℕ) (accepted : List ℕ) (closed : Bool) → r.opened ≡ true → r.finished ≡ false → closed ≡ true
+    → r.ordered ≡ length accepted
     → Takes r irs accepted closed → Takes (with_fin r) irs accepted closed
 takes-fin r irs accepted closed opened unfinished is_closed all h =
     let fin : one_if r.finished ≡ 0 = one_if-false r.finished unfinished in
@@ -258,8 +269,17 @@ pub takes-given_up : (r : Receiving) (irs : ℕ) (accepted : List ℕ) (closed :
 takes-given_up r irs accepted closed h =
     record { next = h.next; unopened = h.unopened; order = h.order; fin = h.fin; held = empty_inbox-agrees r.inbox.capacity (drop r.ordered accepted) }
 
-pub hands-given_up : (r : Receiving) (accepted : List ℕ) (closed : Bool) (delivered : List ℕ) (ended gone : Bool) → HandsOver r.inbox.unread r.ordered accepted closed delivered ended gone → HandsOver (without_bytes r).inbox.unread (without_bytes r).ordered accepted closed delivered ended true
+pub hands-given_up : (r : Receiving) (accepted : List ℕ) (closed : Bool) (delivered : List ℕ) (ended gone : Bool)
+    → HandsOver r.inbox.unread r.ordered accepted closed delivered ended gone
+    → HandsOver (without_bytes r).inbox.unread (without_bytes r).ordered accepted closed delivered ended true
 hands-given_up r accepted closed delivered ended gone h =
     let front : delivered ≡ take (length delivered) accepted = front-is delivered r.inbox.unread accepted h.count h.handed in
     let short : length delivered ≤ h.count = omega (arith, ap length h.handed, length-append delivered r.inbox.unread, length-take h.count accepted) in
-    record { count = length delivered; handed = append-nil delivered ∙ front; least = omega (arith, short, h.least); whole = λ never. absurd (cc); all_handed = h.all_handed }
+    record {
+      count = length delivered;
+      handed = append-nil delivered ∙ front;
+      least = omega (arith, short, h.least);
+      whole = λ never. absurd
+          (cc);
+      all_handed = h.all_handed;
+    }

@@ -1,204 +1,347 @@
--- What an event must keep at the party where it happens, for blocks and marks to stay true.
-use Rattle.std.proofs.Common.{◌≡◌, ℕ, ◌+◌, ◌^◌, ◌≤◌, List, [], length, refl, sym, ◌∙◌, subst, arith}
-use Rattle.std.specs.Prelude.{true, false, not, ◌==◌, if◌then◌else◌}
+-- SELECTIVE ACKNOWLEDGEMENT: what is reported is true, and every event keeps blocks and marks true.
+use Rattle.std.proofs.Common.{◌≡◌, ℕ, ◌+◌, ◌^◌, ◌≤◌, List, [], length, refl, sym, ◌∙◌, arith, subst, zero, suc, ◌-◌, ◌∷◌, ◌++◌, take, map, ap, inr}
+use Rattle.std.proofs.Common.{append-nil}
+use Rattle.std.specs.Prelude.{true, false, not, ◌==◌, Bool, nat_lt, Option, Some, None, slice_get}
 use Rattle.std.proofs.lemmas.Bool.{cond_both, and_parts, eqb-false, not-true, false≢true}
-use Rattle.tcp_wire.specs.Position.{offset}
+use Rattle.tcp_wire.specs.Position.{offset, number}
 use Rattle.tcp_wire.specs.Wire.{Content}
-use Rattle.tcp_reasm.specs.Reassembly.{after_place}
+use Rattle.tcp_reasm.specs.Reassembly.{after_place, blocks, Cell, Run, runs, insertion_by_stamp, runs_newest_first, max_blocks}
 use Rattle.tcp_reasm.proofs.Placing.{after_place-keeps}
 use Rattle.tcp_halves.specs.declared.phase.Ending.{Ending}
-use Rattle.tcp_halves.specs.declared.phase.Ending.TheVariants.{Reset}
-use Rattle.tcp_conn.specs.Phase.{is_syn_received, is_last_ack, takes_text, gives_up, phase_after_own_fin}
+use Rattle.tcp_halves.specs.declared.phase.Ending.TheVariants.{Reset, Aborted}
+use Rattle.tcp_conn.specs.Phase.{is_syn_received, takes_text, gives_up}
 use Rattle.tcp_conn.specs.State.{State, Sending, Receiving}
 use Rattle.tcp_conn.specs.Windows.{window_from}
-use Rattle.tcp_conn.specs.Blocks.{reported_blocks, after_blocks}
-use Rattle.tcp_conn.specs.Sender.{with_syn_acked, with_window, after_window_update, is_fin_acked}
-use Rattle.tcp_conn.specs.Receiver.{after_text, with_fin}
-use Rattle.tcp_conn.specs.Endings.{after_orderly_end, after_giving_up}
-use Rattle.tcp_conn.specs.Judgement.{position_near, judgement}
-use Rattle.tcp_conn.specs.Arrival.{after_own_syn, after_acked_text, blocks_used, is_current, after_news, after_own_fin, after_its_ack, takes_text_of, after_its_text, takes_fin, after_fin, after_taking, after_taking_shut, after_peer_opens, after_peer_accepts, after_judgement}
-use Rattle.tcp_replay.specs.World.{PartyState}
-use Rattle.tcp_replay.specs.Truthful.{IsTruthful}
-use Rattle.tcp_replay.specs.Safe.{witness_of, gave_up, next_position}
-use Rattle.tcp_replay.specs.Sound.{IsSoundPair, AreBlocksBehind}
-use Rattle.tcp_replay.proofs.Steps.{Kept}
-use Rattle.tcp_replay.proofs.Phases.{gives_up-not_ended, at-synchronized}
-use Rattle.tcp_replay.proofs.Judgements.{IsPresent, judged}
-use Rattle.tcp_replay.proofs.AloneStages.{same-window}
-use Rattle.tcp_replay.proofs.Stages.{Synced, IsAhead, IsYoung, IsAck, young-later, acked_text-behind, text_advance, text-advances, placed, fin-in_turn, own_syn-near, kept-own_syn, kept-acked_text, kept-news, kept-its_ack, kept-its_text}
-use Rattle.tcp_replay.proofs.Arrivals.{Comes, ack-is, young-is}
-use Rattle.tcp_replay.proofs.Holdings.{Has, HasMore, has-inside, has-text, has-fin}
-use Rattle.tcp_replay.proofs.Marks.{AreTrueMarks, marks-after_ack, marks-given_up, marks-window, marks-blocks}
+use Rattle.tcp_conn.specs.Blocks.{reported_blocks, after_blocks, block_numbers, blocks_to_report, sack_options}
+use Rattle.tcp_conn.specs.Sender.{with_syn_acked, with_window, after_window_update, with_all_resent}
+use Rattle.tcp_conn.specs.Receiver.{after_text, with_fin, after_handing, next_wanted}
+use Rattle.tcp_conn.specs.Endings.{after_giving_up}
+use Rattle.tcp_conn.specs.Judgement.{position_near}
+use Rattle.tcp_conn.specs.Arrival.{after_own_syn, after_acked_text, blocks_used, is_current, after_news, takes_text_of, takes_fin, after_peer_opens}
+use Rattle.tcp_conn.specs.Arrival.{after_peer_accepts}
+use Rattle.tcp_replay.specs.World.{PartyState, address_of, SentSegment, WorldState, max_life, new_party, other, refusal_of, world_with_effect}
+use Rattle.tcp_replay.specs.Truthful.{IsTruthful, IsTrueBlock, Witness, HasPosition}
+use Rattle.tcp_replay.specs.Safe.{witness_of, gave_up, next_position, HasTrueHints, HintsAreTrue}
+use Rattle.tcp_replay.specs.Sound.{IsSoundPair, AreBlocksBehind, KeepBothHints, IsBlockBehind, AreSoundEnds, KeepsHints}
+use Rattle.tcp_replay.proofs.Steps.{Kept, kept-same, Moved}
+use Rattle.tcp_replay.proofs.Phases.{gives_up-not_ended, end-synchronized, time_wait-synchronized}
+use Rattle.tcp_replay.proofs.Alone.{same-window}
+use Rattle.tcp_replay.proofs.Stages.{Synced, IsAhead, IsYoung, text_advance, text-advances, placed, fin-in_turn}
+use Rattle.tcp_replay.proofs.Holdings.{Has, HasMore, has-inside, has-text, has-fin, has-read}
+use Rattle.tcp_replay.proofs.Holdings.{AreTrueMarks, marks-after_ack, marks-given_up, marks-window, marks-blocks, marks-text, marks-none}
+use Rattle.tcp_wire.specs.Flags.{has, rst, ack}
+use Rattle.tcp_halves.specs.declared.due.Due.TheVariants.{Reset, Syn, Resend, NewText, Fin, ResentFin, Acknowledgement}
+use Rattle.tcp_replay.proofs.Events.{Arrives, after_segment, PairKept, Speaks, in-world, said-after, said-back}
+use Rattle.tcp_replay.proofs.Calls.{KeptByCalls}
+use Rattle.tcp_replay.proofs.Arrivals.{on-arrival}
+use Rattle.std.specs.List.{AllByRecursion}
+use Rattle.tcp_wire.specs.Options.{Mss}
+use Rattle.tcp_reasm.specs.Laws.{IsHeld, IsMaximal}
+use Rattle.tcp_reasm.proofs.Maximal.{runs_are_maximal_lem}
+use Rattle.tcp_halves.specs.declared.due.Due.{Due}
+use Rattle.tcp_conn.specs.Due.{is_fin}
+use Rattle.tcp_conn.specs.Forms.{pushes, plain_segment, shift_offered, is_sack_offered, scale_options, permission_options, segment_of}
+use Rattle.tcp_replay.proofs.Lists.{number-further}
+use Rattle.tcp_replay.proofs.Emissions.{GoesOut, plain-bits, wanted-is}
+use Rattle.tcp_halves.specs.declared.config.Config.{Config}
+use Rattle.tcp_replay.specs.Events.{EventContent, HasBytes}
 
 -- Party p's end may be in this state, its peer q being where it is: what it had it has, unless it gave up, and what it
 -- marks q has, unless that gave up.
-pub record Keeps (p q : PartyState) (s : State) : Type 0 where
-  pub config : s.config ≡ p.endpoint.config
-  pub had : gives_up s.ending ≡ false → (gave_up p ≡ false) × HasMore p.endpoint.receiving s.receiving
-  pub marks : gave_up q ≡ false → AreTrueMarks s.sending q.endpoint.receiving
+abbrev pub Keeps : PartyState → PartyState → State → Type 0
+Keeps p q s =
+    (gives_up s.ending ≡ false → (gave_up p ≡ false) × HasMore p.endpoint.receiving s.receiving)
+    × (gave_up q ≡ false → AreTrueMarks s.sending q.endpoint.receiving)
 
-pub keeps-same : (p q : PartyState) → (gave_up q ≡ false → AreTrueMarks p.endpoint.sending q.endpoint.receiving) → Keeps p q p.endpoint
-keeps-same p q h = record { config = refl; had = λ stays. (stays, λ n has. has); marks = h }
+keeps-same : (p q : PartyState) → KeepBothHints p q → Keeps p q p.endpoint
+keeps-same p q h = (λ stays. (stays, λ n has. has), h.there.marks)
 
--- another half that sends, or that receives
-pub keeps-sending : (p q : PartyState) (s : State) (d : Sending) → (AreTrueMarks s.sending q.endpoint.receiving → AreTrueMarks d q.endpoint.receiving) → Keeps p q s → Keeps p q (record s { sending = d })
-keeps-sending p q s d marks h = record { config = h.config; had = h.had; marks = λ stays. marks (h.marks stays) }
-
-pub keeps-receiving : (p q : PartyState) (s : State) (r : Receiving) → HasMore s.receiving r → Keeps p q s → Keeps p q (record s { receiving = r })
-keeps-receiving p q s r more h = record { config = h.config; had = λ stays. let had = h.had stays in (had.0, λ n has. more n (had.1 n has)); marks = h.marks }
+-- the half that receives has more
+has-further : (p q : PartyState) (s : State) (r : Receiving) → HasMore s.receiving r → Keeps p q s → gives_up s.ending ≡ false
+    → (gave_up p ≡ false) × HasMore p.endpoint.receiving r
+has-further p q s r more h stays = let had = h.0 stays in (had.0, λ n has. more n (had.1 n has))
 
 -- a reset or an abort
-pub keeps-given_up : (p q : PartyState) (s : State) (ending : Ending) → gives_up ending ≡ true → length s.sending.queue.marks ≡ length s.sending.queue.bytes → Keeps p q s → Keeps p q (after_giving_up s ending)
-keeps-given_up p q s ending gone flags h = record {
-  config = h.config;
-  had = λ stays. absurd (false≢true (sym stays ∙ gone));
-  marks = λ _. marks-given_up s.sending q.endpoint.receiving flags;
-}
+keeps-given_up : (p q : PartyState) (s : State) (ending : Ending) → gives_up ending ≡ true → length s.sending.queue.marks ≡ length s.sending.queue.bytes
+    → Keeps p q (after_giving_up s ending)
+keeps-given_up p q s ending gone flags = (λ stays. absurd (false≢true (sym stays ∙ gone)), λ _. marks-given_up s.sending q.endpoint.receiving flags)
 
--- both sides closed
-pub keeps-orderly : (p q : PartyState) (s : State) → gives_up s.ending ≡ false → Keeps p q s → Keeps p q (after_orderly_end s)
-keeps-orderly p q s going h = record { config = h.config; had = λ _. h.had going; marks = h.marks }
+-- ---- THE CALLS, the timers and the emissions
+hints-calls : (p q : PartyState) → IsSoundPair p q → KeepBothHints p q → KeptByCalls (address_of q) p (λ p'. Keeps p q p'.endpoint)
+hints-calls p q pair k =
+    let s = p.endpoint in
+    let d = s.sending in
+    let r = q.endpoint.receiving in
+    let h = keeps-same p q k in
+    let gone : Keeps p q (after_giving_up s Aborted) = keeps-given_up p q s Aborted refl pair.there.alone.sends.flags in
+    record {
+      same = h;
+      connects = λ _. h;
+      listens = λ _. h;
+      sends = λ text _ _. (h.0, λ stays. marks-text d r s.config.limit text (h.1 stays));
+      reads = λ room _. (has-further p q s (after_handing s.receiving room) (has-read s.receiving room) h, h.1);
+      withdraws = gone;
+      closes = λ _ _. h;
+      aborts = gone;
+      acknowledges = h;
+      resends = λ _. (h.0, λ _. marks-none d (with_all_resent d) r refl);
+      probes = h;
+      fills = λ _ _ _. h;
+      ends = λ e.
+          let synced = time_wait-synchronized s.phase e in
+          let at = end-synchronized s synced pair.there.alone.progress in
+          (λ _. h.0 (gives_up-not_ended s.ending at.0), h.1);
+      emits = λ _ _ _. h;
+    }
 
--- ---- a segment is taken, stage by stage
-keeps-own_syn : (p q : PartyState) (s : State) (v : Content) → Keeps p q s → Keeps p q (after_own_syn s v)
-unfolding after_own_syn
-keeps-own_syn p q s v h =
-    let marks : gave_up q ≡ false → AreTrueMarks (if is_syn_received s.phase then with_window (with_syn_acked s.sending) v.seq v.ack (window_from s.link v.window) else s.sending) q.endpoint.receiving =
-    λ stays. cond_both (is_syn_received s.phase) (with_window (with_syn_acked s.sending) v.seq v.ack (window_from s.link v.window)) s.sending (λ (d : Sending). AreTrueMarks d q.endpoint.receiving) (λ _. h.marks stays) (λ _. h.marks stays) in
-    record { config = h.config; had = h.had; marks = marks }
-
-keeps-acked_text : (p q : PartyState) (s : State) (v : Content) → Keeps p q s → Keeps p q (after_acked_text s v)
-unfolding after_acked_text
-keeps-acked_text p q s v h = keeps-sending p q s _ (marks-after_ack s.sending q.endpoint.receiving (position_near s v.ack)) h
-
--- a position that the peer has lies within the stream
+-- ---- A SEGMENT IS TAKEN. A position that the peer has lies within the stream
 has-small : (p q : PartyState) → IsSoundPair p q → (n : ℕ) → Has q.endpoint.receiving n → n ≤ 1 + length p.accepted
 has-small p q h n has = has-inside q.endpoint.receiving p.accepted n h.back.takes.order h.back.takes.held has
 
-keeps-news : (p q : PartyState) (s : State) (v : Content) (wanted : ℕ) → IsSoundPair p q → s.sending.una ≤ wanted + 2 ^ 31 → (gave_up q ≡ false → AreBlocksBehind (witness_of q p) wanted (reported_blocks v.options)) → Synced p q s → Keeps p q s → Keeps p q (after_news s v)
+keeps-news : (p q : PartyState) (s : State) (v : Content) (wanted : ℕ) → IsSoundPair p q → s.sending.una ≤ wanted + 2 ^ 31
+    → (gave_up q ≡ false → AreBlocksBehind (witness_of q p) wanted (reported_blocks v.options)) → Synced p q s → Keeps p q s → Keeps p q (after_news s v)
 unfolding after_news
 keeps-news p q s v wanted pair young true_ones at h =
     let d = s.sending in
     let r = q.endpoint.receiving in
     let told = window_from s.link v.window in
-    let sends = at.kept.here.alone.sends in
-    let iss : s.config.isn.0 ≡ p.endpoint.config.isn.0 = at.kept.grows.iss in
     let up = after_window_update d v.seq v.ack told in
-    let window = same-window d v.seq v.ack told p.accepted p.closed (gives_up s.ending) sends in
-    let began = at-synchronized s.phase s.ending d.una d.nxt s.receiving.opened s.receiving.finished at.synced at.kept.here.alone.progress in
+    let window = same-window d v.seq v.ack told p.accepted p.closed (gives_up s.ending) at.kept.here.alone.sends in
+    let began = end-synchronized s at.synced at.kept.here.alone.progress in
     let blocks : gave_up q ≡ false → AreBlocksBehind (witness_of q p) wanted (blocks_used s v) =
-    λ stays. cond_both s.link.sack (reported_blocks v.options) [] (λ (blocks : List (ℕ × ℕ)). AreBlocksBehind (witness_of q p) wanted blocks) (λ _. true_ones stays) (λ _ k block none. absurd (cc)) in
+    λ stays. cond_both s.link.sack (reported_blocks v.options) [] (λ (blocks : List (ℕ × ℕ)). AreBlocksBehind (witness_of q p) wanted blocks)
+    (λ _. true_ones stays)
+    (λ _ k block none. absurd (cc)) in
     let news : gave_up q ≡ false → AreTrueMarks (after_blocks s.config.isn.0 up (blocks_used s v)) r =
-    λ stays. rw iss (marks-blocks (witness_of q p) r up wanted (blocks_used s v) p.accepted p.closed (gives_up s.ending) pair.there.alone.config.isn (omega (arith, window.una, young)) (omega (arith, window.una, began.1.least))
-    (has-small p q pair) (λ n has. has) (blocks stays) window.sends (marks-window d r v.seq v.ack told (h.marks stays))) in
-    record {
-      config = h.config;
-      had = h.had;
-      marks = λ stays. cond_both (is_current s v) (after_blocks s.config.isn.0 up (blocks_used s v)) d (λ (x : Sending). AreTrueMarks x r) (λ _. news stays) (λ _. h.marks stays);
-    }
+    λ stays. rw at.kept.grows.iss (marks-blocks (witness_of q p) r up wanted (blocks_used s v) p.accepted p.closed
+    (gives_up s.ending) pair.there.alone.config.isn
+    (omega (arith, window.una, young)) (omega (arith, window.una, began.1.least)) (has-small p q pair) (λ n has. has) (blocks stays) window.sends
+    (marks-window d r v.seq v.ack told (h.1 stays))) in (
+      h.0,
+      λ stays. cond_both (is_current s v) (after_blocks s.config.isn.0 up (blocks_used s v)) d (λ (x : Sending). AreTrueMarks x r) (λ _. news stays)
+          (λ _. h.1 stays),
+    )
 
-keeps-own_fin : (p q : PartyState) (s : State) → gives_up s.ending ≡ false → Keeps p q s → Keeps p q (after_own_fin s)
-unfolding after_own_fin
-keeps-own_fin p q s going h =
-    cond_both (is_fin_acked s.sending) (if is_last_ack s.phase then after_orderly_end s else record s { phase = phase_after_own_fin s.phase }) s (λ (x : State). Keeps p q x)
-    (λ _. cond_both (is_last_ack s.phase) (after_orderly_end s) (record s { phase = phase_after_own_fin s.phase }) (λ (x : State). Keeps p q x)
-    (λ _. keeps-orderly p q s going h) (λ _. record { config = h.config; had = h.had; marks = h.marks }))
-    (λ _. h)
-
-keeps-its_ack : (p q : PartyState) (s : State) (v : Content) (a : ℕ) → IsSoundPair p q → IsAck s v a → a ≤ next_position q → next_position q ≤ 2 + length p.accepted
-    → (gave_up q ≡ false → AreBlocksBehind (witness_of q p) a (reported_blocks v.options)) → IsPresent s → Kept p q s → Keeps p q s → Keeps p q (after_its_ack s v)
-unfolding after_its_ack
-keeps-its_ack p q s v a pair told had near blocks present kept h =
-    let first = kept-own_syn p q s v present kept in
-    let second = kept-acked_text p q (after_own_syn s v) v a (own_syn-near p q s v a told had near present kept) had first in
-    let third = kept-news p q (after_acked_text (after_own_syn s v) v) v second in
-    let x = after_news (after_acked_text (after_own_syn s v) v) v in
-    let at = at-synchronized x.phase x.ending x.sending.una x.sending.nxt x.receiving.opened x.receiving.finished third.synced third.kept.here.alone.progress in
-    keeps-own_fin p q x (gives_up-not_ended x.ending at.0)
-    (keeps-news p q (after_acked_text (after_own_syn s v) v) v a pair (acked_text-behind p q s v a told had near present kept) blocks second (keeps-acked_text p q (after_own_syn s v) v (keeps-own_syn p q s v h)))
-
-keeps-its_text : (p q : PartyState) (s : State) (v : Content) → IsAhead p q → (truth : IsTruthful (witness_of q p) v) → IsYoung s truth.own.position → Kept p q s → Keeps p q s → Keeps p q (after_its_text s v)
-unfolding after_its_text after_text
-keeps-its_text p q s v close truth young kept h =
+-- text of the stream is placed, and the FIN is taken in its turn
+text-has : (p q : PartyState) (s : State) (v : Content) → IsAhead p q → (truth : IsTruthful (witness_of q p) v) → IsYoung s truth.own.position
+    → takes_text_of s v ≡ true → Kept p q s
+    → HasMore s.receiving (after_text s.receiving v.seq v.text)
+unfolding after_text
+text-has p q s v close truth young e kept =
     let r = s.receiving in
-    let P : Receiving → Type 0 = λ r'. HasMore r r' in
-    let more : HasMore r (if takes_text_of s v then after_text r v.seq v.text else r) = cond_both (takes_text_of s v) (after_text r v.seq v.text) r P
-    (λ e.
     let parts = and_parts (takes_text s.phase) (not (length v.text == 0)) e in
     let some : length v.text ≡ 0 → ⊥ = eqb-false (length v.text) 0 (not-true (length v.text == 0) parts.1) in
-    has-text r (after_place r.inbox (offset r.next v.seq) v.text) q.accepted (text_advance s v) kept.here.takes.order close.limit (after_place-keeps r.inbox (offset r.next v.seq) v.text)
-    (text-advances p q s v parts.0 close truth young some kept))
-    (λ _ n has. has) in
-    let after = keeps-receiving p q s (if takes_text_of s v then after_text r v.seq v.text else r) more h in
-    record { config = after.config; had = after.had; marks = after.marks }
+    has-text r (after_place r.inbox (offset r.next v.seq) v.text) q.accepted (text_advance s v) kept.here.takes.order close.limit
+    (after_place-keeps r.inbox (offset r.next v.seq) v.text)
+    (text-advances p q s v parts.0 close truth young some kept)
 
-keeps-fin : (p q : PartyState) (s : State) (v : Content) → IsAhead p q → IsTruthful (witness_of q p) v → Kept p q s → Keeps p q s → Keeps p q (after_fin s v)
-unfolding after_fin
-keeps-fin p q s v close truth kept h =
-    let r = s.receiving in
-    let more : HasMore r (if takes_fin s v then with_fin r else r) = cond_both (takes_fin s v) (with_fin r) r (λ (r' : Receiving). HasMore r r')
-    (λ e.
+fin-has : (p q : PartyState) (s : State) (v : Content) → IsAhead p q → IsTruthful (witness_of q p) v → takes_fin s v ≡ true → Kept p q s
+    → HasMore s.receiving (with_fin s.receiving)
+fin-has p q s v close truth e kept =
     let fin = fin-in_turn p q s v close truth e kept in
-    has-fin r q.accepted (placed p q s v fin.phase kept).unfinished fin.all kept.here.takes.held)
-    (λ _ n has. has) in
-    let after = keeps-receiving p q s (if takes_fin s v then with_fin r else r) more h in
-    record { config = after.config; had = after.had; marks = after.marks }
-
-keeps-taking : (p q : PartyState) (s : State) (v : Content) (a : ℕ) → IsSoundPair p q → IsAck s v a → a ≤ next_position q → next_position q ≤ 2 + length p.accepted → IsAhead p q
-    → (gave_up q ≡ false → AreBlocksBehind (witness_of q p) a (reported_blocks v.options)) → (truth : IsTruthful (witness_of q p) v) → IsYoung s truth.own.position → IsPresent s → Kept p q s → Keeps p q s → Keeps p q (after_taking s v)
-unfolding after_taking
-keeps-taking p q s v a pair told had near close blocks truth young present kept h =
-    let first = kept-its_ack p q s v a told had near present kept in
-    let x = after_its_ack s v in
-    let later = young-later s v truth.own.position young in
-    keeps-fin p q (after_its_text x v) v close truth (kept-its_text p q x v close truth later first)
-    (keeps-its_text p q x v close truth later first (keeps-its_ack p q s v a pair told had near blocks present kept h))
-
-keeps-taking_shut : (p q : PartyState) (s : State) (v : Content) (a : ℕ) → IsSoundPair p q → IsAck s v a → a ≤ next_position q → next_position q ≤ 2 + length p.accepted
-    → (gave_up q ≡ false → AreBlocksBehind (witness_of q p) a (reported_blocks v.options)) → IsPresent s → Kept p q s → Keeps p q s → Keeps p q (after_taking_shut s v)
-unfolding after_taking_shut
-keeps-taking_shut p q s v a pair told had near blocks present kept h =
-    let after = keeps-its_ack p q s v a pair told had near blocks present kept h in
-    record { config = after.config; had = after.had; marks = after.marks }
+    has-fin s.receiving q.accepted (placed p q s v fin.phase kept).unfinished fin.all kept.here.takes.held
 
 -- WHAT ARRIVES, with blocks that are true
-pub keeps-judgement : (p q : PartyState) (dst : List ℕ) (v : Content) (position wanted : ℕ) → IsSoundPair p q → Comes p q p.endpoint v position wanted
-    → (gave_up q ≡ false → AreBlocksBehind (witness_of q p) wanted (reported_blocks v.options)) → Kept p q p.endpoint → Keeps p q p.endpoint
-    → Keeps p q (after_judgement (judgement p.endpoint q.endpoint.config.addr.0 dst v) p.endpoint q.endpoint.config.addr.0 v)
-unfolding after_peer_opens after_peer_accepts
-keeps-judgement p q dst v position wanted pair c blocks kept h =
+hints-arrive : (p q : PartyState) (g : SentSegment) (v : Content) → IsSoundPair p q → Arrives p q g v → KeepBothHints p q → Keeps p q (after_segment p q v)
+unfolding after_own_syn after_acked_text after_peer_opens after_peer_accepts
+hints-arrive p q g v pair a k =
     let s = p.endpoint in
-    let src = q.endpoint.config.addr.0 in
-    let flags = pair.there.alone.sends.flags in
-    let gone : Keeps p q (after_giving_up s Reset) = keeps-given_up p q s Reset refl flags h in
-    judged s v (λ j. Keeps p q (after_judgement j s src v)) (record {
-      foreign = h;
-      reset_ignored = h;
-      stray = record { config = h.config; had = h.had; marks = h.marks };
-      ack_of_listen = record { config = h.config; had = h.had; marks = h.marks };
-      no_syn = h;
-      peer_opens = λ listening is. record { config = h.config; had = h.had; marks = h.marks };
-      ack_of_no_syn = record { config = h.config; had = h.had; marks = h.marks };
-      peer_refuses = gone;
-      peer_accepts = λ sent is. record { config = h.config; had = h.had; marks = h.marks };
-      unacceptable = λ present. record { config = h.config; had = h.had; marks = h.marks };
-      peer_resets = gone;
-      reset_elsewhere = λ present. record { config = h.config; had = h.had; marks = h.marks };
-      syn_in_window = λ present. record { config = h.config; had = h.had; marks = h.marks };
-      no_ack = h;
-      acks_unsent = λ present. record { config = h.config; had = h.had; marks = h.marks };
-      handshake_refused = record { config = h.config; had = h.had; marks = h.marks };
-      handshake_refused_shut = λ present. record { config = h.config; had = h.had; marks = h.marks };
-      taken = λ present is.
-          let stands = c.truthful is.ack_only.plain in
-          let a = stands.truth.has_ack is.ack_only.is_ack in
-          let behind : gave_up q ≡ false → AreBlocksBehind (witness_of q p) a.position (reported_blocks v.options) =
-          λ stays. subst (λ (n : ℕ). AreBlocksBehind (witness_of q p) n (reported_blocks v.options)) (sym (stands.wanted_is is.ack_only.is_ack)) (blocks stays) in
-          keeps-taking p q s v a.position pair (ack-is p q s v position wanted c is.ack_only kept) a.most c.near c.close behind stands.truth (young-is p q s v position wanted c is.ack_only) present kept h;
-      taken_shut = λ present told.
-          let stands = c.truthful told.plain in
-          let a = stands.truth.has_ack told.is_ack in
-          let behind : gave_up q ≡ false → AreBlocksBehind (witness_of q p) a.position (reported_blocks v.options) =
-          λ stays. subst (λ (n : ℕ). AreBlocksBehind (witness_of q p) n (reported_blocks v.options)) (sym (stands.wanted_is told.is_ack)) (blocks stays) in
-          keeps-taking_shut p q s v a.position pair (ack-is p q s v position wanted c told kept) a.most c.near behind present kept h;
-    }) src dst
+    let d = s.sending in
+    let r = q.endpoint.receiving in
+    let h = keeps-same p q k in
+    let acked = with_window (with_syn_acked d) v.seq v.ack (window_from s.link v.window) in
+    on-arrival p q v g.position g.wanted (Keeps p q) (Keeps p q) a.comes (kept-same p q pair) (record {
+      same = h;
+      owes = λ _ _. h;
+      gone = keeps-given_up p q s Reset refl pair.there.alone.sends.flags;
+      opens = λ _ _. h;
+      accepts = λ _ _. h;
+      own_syn = λ _ _. (h.0, λ stays. cond_both (is_syn_received s.phase) acked d (λ (x : Sending). AreTrueMarks x r) (λ _. h.1 stays) (λ _. h.1 stays));
+      acked_text = λ x _ _ _ b. (b.0, λ stays. marks-after_ack x.sending r (position_near x v.ack) (b.1 stays));
+      news = λ x told synced young b. keeps-news p q x v g.wanted pair young (k.back.blocks a.place g v a.sent a.read) synced b;
+      last = λ x synced _ _ b.
+          let at = end-synchronized x synced.synced synced.kept.here.alone.progress in
+          (λ _. b.0 (gives_up-not_ended x.ending at.0), b.1);
+      passes = λ _ _ _ _ b. b;
+      stays = λ _ _ _ b. b;
+      text = λ x _ told kept young e b.
+          let stands = a.comes.truthful told.plain in (
+            has-further p q x (after_text x.receiving v.seq v.text)
+                (text-has p q x v a.comes.close stands.truth (omega (arith, young, stands.position_is)) e kept) b,
+            b.1,
+          );
+      fin = λ x _ told kept _ e b. (has-further p q x (with_fin x.receiving) (fin-has p q x v a.comes.close (a.comes.truthful told.plain).truth e kept) b, b.1);
+      owing = λ _ _ b. b;
+    }) p.endpoint.config.addr.0
+
+-- ---- WHAT IS REPORTED
+all-map : {X Y : Type 0} (f : X → Y) (P : Y → Type 0) (xs : List X) → AllByRecursion (λ x. P (f x)) xs → AllByRecursion P (map f xs)
+all-map f P [] h = tt
+all-map f P (x ∷ xs) h = (h.0, all-map f P xs h.1)
+
+all-further : {X : Type 0} (P P' : X → Type 0) (xs : List X) → ((x : X) → P x → P' x) → AllByRecursion P xs → AllByRecursion P' xs
+all-further P P' [] further h = tt
+all-further P P' (x ∷ xs) further h = (further x h.0, all-further P P' xs further h.1)
+
+all-take : {X : Type 0} (P : X → Type 0) (n : ℕ) (xs : List X) → AllByRecursion P xs → AllByRecursion P (take n xs)
+all-take P zero xs h = tt
+all-take P (suc n) [] h = tt
+all-take P (suc n) (x ∷ xs) h = (h.0, all-take P n xs h.1)
+
+all-at : {X : Type 0} (P : X → Type 0) (xs : List X) (k : ℕ) (x : X) → AllByRecursion P xs → slice_get xs k ≡ Some x → P x
+all-at P [] k x h e = absurd (cc)
+all-at P (first ∷ xs) zero x h e = let is : first ≡ x = cc in subst P is h.0
+all-at P (first ∷ xs) (suc k) x h e = all-at P xs k x h.1 e
+
+all-insertion : (P : Run → Type 0) (run : Run) (others : List Run) → P run → AllByRecursion P others → AllByRecursion P (insertion_by_stamp run others)
+all-insertion P run [] here h = (here, tt)
+all-insertion P run (other ∷ others) here h =
+    cond_both (nat_lt other.stamp run.stamp) (run ∷ other ∷ others) (other ∷ insertion_by_stamp run others) (AllByRecursion P) (λ _. (here, h))
+    (λ _. (h.0, all-insertion P run others here h.1))
+
+all-newest_first : (P : Run → Type 0) (all : List Run) → AllByRecursion P all → AllByRecursion P (runs_newest_first all)
+unfolding runs_newest_first
+all-newest_first P [] h = tt
+all-newest_first P (run ∷ others) h = all-insertion P run (runs_newest_first others) h.0 (all-newest_first P others h.1)
+
+cell-held : (held : List (Option Cell)) (k : ℕ) → IsHeld held k → (cell : Cell) × (slice_get held k ≡ Some (Some cell))
+cell-held [] k h = absurd (cc)
+cell-held (None ∷ held) zero h = absurd (cc)
+cell-held (Some cell ∷ held) zero h = (cell, refl)
+cell-held (place ∷ held) (suc k) h = cell-held held k h
+
+-- a maximal run of held places is of positions that the end has
+block-true : (p q : PartyState) (run : Run) → p.endpoint.receiving.next ≡ number q.endpoint.config.isn.0 (next_position p)
+    → IsMaximal p.endpoint.receiving.inbox.held run
+    → IsBlockBehind (witness_of p q) (next_position p) (block_numbers p.endpoint.receiving.next (run.from, run.to))
+block-true p q run next is =
+    let irs = q.endpoint.config.isn.0 in
+    let n = next_position p in
+    let held = p.endpoint.receiving.inbox.held in
+    let block : IsTrueBlock (witness_of p q) (block_numbers p.endpoint.receiving.next (run.from, run.to)) = (
+      n + run.from,
+      n + run.to,
+      omega (arith, is.some),
+      number-further irs n run.from p.endpoint.receiving.next next,
+      number-further irs n run.to p.endpoint.receiving.next next,
+      λ position from to.
+          let cell = cell-held held (position - n) (is.inside (position - n) (omega arith) (omega arith)) in
+          inr (cell.0, omega arith, cell.1),
+    ) in
+    (block, omega arith)
+
+reported-true : (p q : PartyState) → p.endpoint.receiving.opened ≡ true → IsSoundPair p q
+    → AreBlocksBehind (witness_of p q) (next_position p) (blocks_to_report p.endpoint)
+unfolding blocks
+reported-true p q opened h =
+    let r = p.endpoint.receiving in
+    let P : ℕ × ℕ → Type 0 = IsBlockBehind (witness_of p q) (next_position p) in
+    let Q : Run → Type 0 = λ run. P (block_numbers r.next (run.from, run.to)) in
+    let all = runs_newest_first (runs r.inbox.held) in
+    let newest = all-newest_first (IsMaximal r.inbox.held) (runs r.inbox.held) (runs_are_maximal_lem r.inbox.held) in
+    let true_ones : AllByRecursion Q all = all-further (IsMaximal r.inbox.held) Q all (λ run is. block-true p q run (h.there.takes.next opened) is) newest in
+    let told : AllByRecursion P (map (block_numbers r.next) (blocks r.inbox)) =
+    all-map (block_numbers r.next) P (blocks r.inbox)
+    (all-map (λ (run : Run). (run.from, run.to)) (λ block. P (block_numbers r.next block)) (take max_blocks all) (all-take Q max_blocks all true_ones)) in
+    cond_both p.endpoint.link.sack (map (block_numbers r.next) (blocks r.inbox)) []
+    (λ (list : List (ℕ × ℕ)). AreBlocksBehind (witness_of p q) (next_position p) list)
+    (λ _ k block e. all-at P (map (block_numbers r.next) (blocks r.inbox)) k block told e)
+    (λ _ k block e. absurd (cc))
+
+-- which options report blocks
+blocks-of_syn : (mss : ℕ) (shift : Option ℕ) (sack : Bool) → reported_blocks (Mss mss ∷ (scale_options shift ++ permission_options sack)) ≡ []
+blocks-of_syn mss None true = refl
+blocks-of_syn mss None false = refl
+blocks-of_syn mss (Some shift) true = refl
+blocks-of_syn mss (Some shift) false = refl
+
+blocks-of_sack : (list : List (ℕ × ℕ)) → reported_blocks (sack_options list) ≡ list
+blocks-of_sack [] = refl
+blocks-of_sack (block ∷ list) = append-nil (block ∷ list)
+
+none-true : (p q : PartyState) (list : List (ℕ × ℕ)) → list ≡ [] → AreBlocksBehind (witness_of p q) (next_position p) list
+none-true p q list e k block is =
+    let never : slice_get {X = ℕ × ℕ} [] k ≡ Some block = subst (λ (list : List (ℕ × ℕ)). slice_get list k ≡ Some block) e is in absurd (cc)
+
+-- an end that reports blocks has taken the peer's SYN
+plain-reports : (p q : PartyState) (due : Due) → segment_of p.endpoint due ≡ plain_segment p.endpoint due → IsSoundPair p q → GoesOut p q due
+    → AreBlocksBehind (witness_of p q) (next_position p) (reported_blocks (segment_of p.endpoint due).options)
+plain-reports p q due is h goes =
+    let s = p.endpoint in
+    let bits = plain-bits (pushes s.sending due) (is_fin due) in
+    let opened = ((goes.truthful (ap (λ (v : Content). has rst v.flags) is ∙ bits.2)).truth.has_ack
+    (ap (λ (v : Content). has ack v.flags) is ∙ bits.3)).opened in
+    let list : reported_blocks (segment_of s due).options ≡ blocks_to_report s = ap (λ (v : Content). reported_blocks v.options) is ∙ blocks-of_sack
+    (blocks_to_report s) in
+    rw list (reported-true p q opened h)
+
+blocks-of_due : (p q : PartyState) (due : Due) → IsSoundPair p q → GoesOut p q due
+    → AreBlocksBehind (witness_of p q) (next_position p) (reported_blocks (segment_of p.endpoint due).options)
+unfolding segment_of
+blocks-of_due p q (Reset reset) h goes = none-true p q [] refl
+blocks-of_due p q Syn h goes = none-true p q _ (blocks-of_syn p.endpoint.config.mss (shift_offered p.endpoint) (is_sack_offered p.endpoint))
+blocks-of_due p q other h goes = plain-reports p q other refl h goes
+
+-- a block stays true of an end that has as many positions or more
+block-more : (x x' : Witness) (block : ℕ × ℕ) → x'.irs ≡ x.irs → ((n : ℕ) → HasPosition x n → HasPosition x' n) → IsTrueBlock x block → IsTrueBlock x' block
+block-more x x' block irs more h =
+    (h.0, h.1, h.2, h.3 ∙ ap (λ n. number n h.0) (sym irs), h.4 ∙ ap (λ n. number n h.1) (sym irs), λ n from to. more n (h.5 n from to))
+
+behind-more : (x x' : Witness) (wanted : ℕ) (block : ℕ × ℕ) → x'.irs ≡ x.irs → ((n : ℕ) → HasPosition x n → HasPosition x' n) → IsBlockBehind x wanted block
+    → IsBlockBehind x' wanted block
+unfolding block-more
+behind-more x x' wanted block irs more h = (block-more x x' block irs more h.0, h.1)
+
+-- p became p', and emitted what is due
+hints-moved : (p p' q : PartyState) → IsSoundPair p q → Moved p p' q → Speaks p p' q → Keeps p q p'.endpoint → KeepBothHints p q → KeepBothHints p' q
+hints-moved p p' q pair moved out keeps h =
+    let mine = witness_of p' q in
+    let back = witness_of q p' in
+    let more : (stays : gave_up p' ≡ false) (n : ℕ) → HasPosition (witness_of p q) n → HasPosition mine n = λ stays. (keeps.0 stays).1 in
+    record {
+      there = record {
+        blocks = said-after p p' q (λ g v. gave_up p' ≡ false → AreBlocksBehind mine g.wanted (reported_blocks v.options)) moved.config out
+            (λ k g v is read stays i block e. behind-more (witness_of p q) mine g.wanted block refl (more stays)
+            (h.there.blocks k g v is read (keeps.0 stays).0 i block e))
+            (λ due goes _ _ stays i block e.
+            let own : AreBlocksBehind (witness_of p q) (next_wanted p.endpoint.receiving) (reported_blocks (segment_of p.endpoint due).options) =
+            subst (λ (n : ℕ). AreBlocksBehind (witness_of p q) n (reported_blocks (segment_of p.endpoint due).options)) (sym (wanted-is p q pair))
+            (blocks-of_due p q due pair goes) in
+            behind-more (witness_of p q) mine (next_wanted p.endpoint.receiving) block refl (more stays) (own i block e));
+        marks = keeps.1;
+      };
+      back = record {
+        blocks = said-back p p' q (λ g v. gave_up q ≡ false → AreBlocksBehind back g.wanted (reported_blocks v.options)) moved.config
+            (λ k g v is read stays i block e.
+            behind-more (witness_of q p) back g.wanted block (ap (λ (c : Config). c.isn.0) moved.config) (λ n has. has)
+            (h.back.blocks k g v is read stays i block e));
+        marks = λ stays place is. let had = keeps.0 stays in had.1 _ (h.back.marks had.0 place is);
+      };
+    }
+
+hints-kept : PairKept (λ _ _. Unit {0}) KeepBothHints (λ p q s _. Keeps p q s)
+hints-kept = record {
+  swapped = λ p q h. record { there = h.back; back = h.there };
+  calls = hints-calls;
+  arrives = λ p q g v _ pair a k. hints-arrive p q g v pair a k;
+  moved = hints-moved;
+}
+
+pub hints-after : (w : WorldState) (event : EventContent) → w.life ≤ max_life → HasBytes event → refusal_of w event ≡ None → AreSoundEnds w
+    → KeepBothHints w.a w.b
+    → KeepBothHints (world_with_effect w event).a (world_with_effect w event).b
+hints-after w event most fits e ends h = in-world _ _ _ hints-kept w event most fits e tt tt ends h
+
+-- nothing is marked or reported yet
+new-hints : (a b : Config) → KeepsHints (new_party a) (new_party b)
+new-hints a b = record { blocks = λ k g v never. absurd (cc); marks = λ stays place never. absurd (cc) }
+
+pub hints-new : (a b : Config) → KeepBothHints (new_party a) (new_party b)
+hints-new a b = record { there = new-hints a b; back = new-hints b a }
+
+-- what is kept tells that the hints are true
+true-there : (p q : PartyState) → KeepsHints p q → HasTrueHints p q
+true-there p q h = record { blocks = λ v sent stays k block is. (h.blocks sent.0 sent.1 v sent.2 sent.3 stays k block is).0; marks = h.marks }
+
+pub hints-true : (w : WorldState) → KeepBothHints w.a w.b → HintsAreTrue w
+hints-true w h = record { there = true-there w.a w.b h.there; back = true-there w.b w.a h.back }

@@ -6,11 +6,15 @@ use Rattle.tcp_wire.specs.Flags.{syn, rst, ack, has}
 use Rattle.tcp_wire.specs.Wire.{Content}
 use Rattle.tcp_reasm.specs.Reassembly.{window}
 use Rattle.tcp_conn.specs.declared.judgement.Judgement.{Judgement}
-use Rattle.tcp_conn.specs.declared.judgement.Judgement.TheVariants.{Foreign, ResetIgnored, Stray, AckOfListen, OpensNothing, PeerOpens, AckOfNoSyn, PeerRefuses, PeerAccepts, Unacceptable, PeerResets, ResetElsewhere, SynInWindow, NoAck, AcksUnsent, HandshakeRefused, HandshakeRefusedShut, Taken, TakenShut}
+use Rattle.tcp_conn.specs.declared.judgement.Judgement.TheVariants.{Foreign, ResetIgnored, Stray, AckOfListen, OpensNothing, PeerOpens, AckOfNoSyn}
+use Rattle.tcp_conn.specs.declared.judgement.Judgement.TheVariants.{PeerRefuses, PeerAccepts, Unacceptable, PeerResets, ResetElsewhere, SynInWindow, NoAck}
+use Rattle.tcp_conn.specs.declared.judgement.Judgement.TheVariants.{AcksUnsent, HandshakeRefused, HandshakeRefusedShut, Taken, TakenShut}
 use Rattle.tcp_conn.specs.Phase.{is_closed, is_listening, is_syn_sent, is_syn_received}
 use Rattle.tcp_conn.specs.State.{State}
 use Rattle.tcp_conn.specs.Sender.{acks_unsent}
-use Rattle.tcp_conn.specs.Judgement.{position_near, is_foreign, closed_judgement, listen_judgement, acks_syn, syn_sent_judgement, is_acceptable_segment, ack_judgement, is_allowed_shut, unacceptable_judgement, acceptable_judgement, present_judgement, phase_judgement, judgement}
+use Rattle.tcp_conn.specs.Judgement.{position_near, is_foreign, closed_judgement, listen_judgement, acks_syn, syn_sent_judgement, is_acceptable_segment}
+use Rattle.tcp_conn.specs.Judgement.{ack_judgement, is_allowed_shut, unacceptable_judgement, acceptable_judgement, present_judgement, phase_judgement}
+use Rattle.tcp_conn.specs.Judgement.{judgement}
 
 -- the phases that are tested first are none of them
 pub record IsPresent (s : State) : Type 0 where
@@ -63,7 +67,8 @@ module _ (s : State) (v : Content) (P : Judgement → Type 0) (c : Cases s v P) 
   in-listen : is_listening s.phase ≡ true → P (listen_judgement v)
   unfolding listen_judgement
   in-listen listening =
-      cond_both (has rst v.flags) ResetIgnored (if has ack v.flags then AckOfListen else (if has syn v.flags then PeerOpens else OpensNothing)) P (λ _. c.reset_ignored)
+      cond_both (has rst v.flags) ResetIgnored (if has ack v.flags then AckOfListen else (if has syn v.flags then PeerOpens else OpensNothing)) P
+      (λ _. c.reset_ignored)
       (λ plain. cond_both (has ack v.flags) AckOfListen (if has syn v.flags then PeerOpens else OpensNothing) P (λ _. c.ack_of_listen)
       (λ _. cond_both (has syn v.flags) PeerOpens OpensNothing P (λ told. c.peer_opens listening (record { plain = plain; is_syn = told })) (λ _. c.no_syn)))
 
@@ -82,7 +87,8 @@ module _ (s : State) (v : Content) (P : Judgement → Type 0) (c : Cases s v P) 
   by-ack : (good refused : Judgement) → IsPresent s → P good → P refused → P (ack_judgement s v good refused)
   unfolding ack_judgement
   by-ack good refused present well ill =
-      cond_both (is_syn_received s.phase) (if acks_syn s v then good else refused) (if acks_unsent s.sending (position_near s v.ack) then AcksUnsent else good) P
+      cond_both (is_syn_received s.phase) (if acks_syn s v then good else refused)
+      (if acks_unsent s.sending (position_near s v.ack) then AcksUnsent else good) P
       (λ _. cond_both (acks_syn s v) good refused P (λ _. well) (λ _. ill))
       (λ _. cond_both (acks_unsent s.sending (position_near s v.ack)) AcksUnsent good P (λ _. c.acks_unsent present) (λ _. well))
 
@@ -93,8 +99,10 @@ module _ (s : State) (v : Content) (P : Judgement → Type 0) (c : Cases s v P) 
       cond_both (has rst v.flags) ResetIgnored (if is_allowed_shut s v then allowed else Unacceptable) P (λ _. c.reset_ignored)
       (λ plain. cond_both (is_allowed_shut s v) allowed Unacceptable P
       (λ e.
-      let told = and_parts (has ack v.flags) (not (has syn v.flags)) (and_parts (window s.receiving.inbox == 0) (has ack v.flags && not (has syn v.flags)) e).1 in
-      by-ack TakenShut HandshakeRefusedShut present (c.taken_shut present (record { plain = plain; no_syn = not-true (has syn v.flags) told.1; is_ack = told.0 })) (c.handshake_refused_shut present))
+      let told = and_parts (has ack v.flags) (not (has syn v.flags))
+      (and_parts (window s.receiving.inbox == 0) (has ack v.flags && not (has syn v.flags)) e).1 in
+      by-ack TakenShut HandshakeRefusedShut present
+      (c.taken_shut present (record { plain = plain; no_syn = not-true (has syn v.flags) told.1; is_ack = told.0 })) (c.handshake_refused_shut present))
       (λ _. c.unacceptable present))
 
   in-acceptable : IsPresent s → is_acceptable_segment s v ≡ true → P (acceptable_judgement s v)
@@ -106,11 +114,21 @@ module _ (s : State) (v : Content) (P : Judgement → Type 0) (c : Cases s v P) 
       (λ _. cond_both (v.seq == s.receiving.next) PeerResets ResetElsewhere P (λ _. c.peer_resets) (λ _. c.reset_elsewhere present))
       (λ plain. cond_both (has syn v.flags) SynInWindow (if not (has ack v.flags) then NoAck else acks) P (λ _. c.syn_in_window present)
       (λ bare. cond_both (not (has ack v.flags)) NoAck acks P (λ _. c.no_ack)
-      (λ told. by-ack Taken HandshakeRefused present (c.taken present (record { ack_only = record { plain = plain; no_syn = bare; is_ack = not-false (has ack v.flags) told }; acceptable = fits })) c.handshake_refused)))
+      (λ told. by-ack Taken HandshakeRefused present
+      (c.taken present (record {
+        ack_only = record {
+          plain = plain;
+          no_syn = bare;
+          is_ack = not-false
+              (has ack v.flags) told;
+        };
+        acceptable = fits;
+      })) c.handshake_refused)))
 
   in-present : IsPresent s → P (present_judgement s v)
   unfolding present_judgement
-  in-present present = cond_both (is_acceptable_segment s v) (acceptable_judgement s v) (unacceptable_judgement s v) P (in-acceptable present) (λ _. in-unacceptable present)
+  in-present present =
+      cond_both (is_acceptable_segment s v) (acceptable_judgement s v) (unacceptable_judgement s v) P (in-acceptable present) (λ _. in-unacceptable present)
 
   pub in-phase : P (phase_judgement s v)
   unfolding phase_judgement

@@ -1,11 +1,13 @@
--- Cases by a test, prefixes of lists, and bytes.
-use Rattle.std.proofs.Common.{◌≡◌, ℕ, zero, suc, ◌+◌, ◌-◌, ◌≤◌, List, [], ◌∷◌, ◌++◌, length, take, drop, refl, sym, ◌∙◌, ap, ⊎_elim, arith, length-append, length-take}
+-- Cases by a test, prefixes of lists, bytes, and the numbers of positions.
+use Rattle.std.proofs.Common.{◌≡◌, ℕ, zero, suc, ◌+◌, ◌-◌, ◌≤◌, List, [], ◌∷◌, ◌++◌, length, take, drop, refl, sym, ◌∙◌, ap, ⊎_elim, arith, length-append}
+use Rattle.std.proofs.Common.{length-take, ◌%◌, ◌^◌, ◌<◌}
 use Rattle.std.specs.Prelude.{Bool, true, false, ◌&&◌, ◌||◌, if◌then◌else◌, Option, Some, None}
 use Rattle.std.proofs.lemmas.List.{nil_from_length, get_or-take, get_or-drop, get_or_past, get_or_append_left, get_or-append_right}
 use Rattle.std.proofs.lemmas.Bool.{cases_lt}
 use Rattle.tcp_wire.specs.Checksum.{AreBytes}
 use Rattle.tcp_reasm.specs.Reassembly.{Cell}
 use Rattle.tcp_reasm.specs.Agreement.{Agrees}
+use Rattle.tcp_wire.specs.Position.{number}
 
 -- what holds by a test, either way
 pub by_test : (b : Bool) (P : Bool → Type 0) → (b ≡ true → P true) → (b ≡ false → P false) → P b
@@ -86,3 +88,11 @@ front-is (x ∷ front) more (w ∷ whole) (suc n) e = let rest = front-is front 
 pub nothing-follows : (front more whole : List ℕ) (n : ℕ) → front ++ more ≡ take n whole → front ≡ whole → more ≡ []
 nothing-follows front more whole n e is =
     nil_from_length more (omega (arith, length-append front more, ap length e, length-take n whole, ap length is))
+
+-- the number after some text
+pub number-further : (s p n w : ℕ) → w ≡ number s p → (w + n) % 2 ^ 32 ≡ number s (p + n)
+number-further s p n w e = omega arith
+
+-- two positions that differ by less than 2^32, with one number, are one
+pub number-same : (s p q : ℕ) → q ≤ p → p < q + 2 ^ 32 → number s p ≡ number s q → p ≡ q
+number-same s p q order close e = omega arith

@@ -1,6 +1,7 @@
 -- What a party's methods do, step by step, is what the definitions say.
 use Rattle.std.proofs.Common.{◌≡◌, ℕ, List, ◌++◌, length, take, drop, refl, sym, ◌∙◌, ap, subst, arith, length-take}
-use Rattle.std.specs.Prelude.{min, Bool, ◌&&◌, ◌||◌, ◌==◌, nat_lt, if◌then◌else◌, ◌↔◌, Option, Some, None, option_map, option_to_list, replicate, Result, Ok, Err}
+use Rattle.std.specs.Prelude.{min, Bool, ◌&&◌, ◌||◌, ◌==◌, nat_lt, if◌then◌else◌, ◌↔◌, Option, Some, None, option_map, option_to_list, replicate, Result, Ok}
+use Rattle.std.specs.Prelude.{Err}
 use Rattle.std.proofs.lemmas.Bool.{cond_both, eqb-true}
 use Rattle.std.proofs.lemmas.List.{take_at, drop_min}
 use Rattle.tcp_wire.specs.Wire.{wire_length}
@@ -16,7 +17,8 @@ use Rattle.tcp_halves.specs.declared.outcome.Received.{Received}
 use Rattle.tcp_halves.specs.declared.outcome.Received.TheVariants.{Bytes, Nothing, EndOfStream}
 use Rattle.tcp_conn.specs.Phase.{takes_text}
 use Rattle.tcp_conn.specs.State.{State}
-use Rattle.tcp_conn.specs.Calls.{answer_unless, bytes_unless, state_unless, receive_refusal, received_value, receive_answer, received_bytes, with_bytes_received, after_receive}
+use Rattle.tcp_conn.specs.Calls.{answer_unless, bytes_unless, state_unless, receive_refusal, received_value, receive_answer, received_bytes}
+use Rattle.tcp_conn.specs.Calls.{with_bytes_received, after_receive}
 use Rattle.tcp_conn.specs.Windows.{advertised_window}
 use Rattle.tcp_conn.specs.Due.{due_of}
 use Rattle.tcp_conn.specs.Forms.{segment_of}
@@ -41,9 +43,12 @@ unfolding pending_length after_emission segment_due
 emits_nothing s e = nothing-as s (due_of s) e
 
 -- the bytes in front are the segment's
-front-is : (s : State) (due : Due) (out : List ℕ) → take (wire_length (segment_of s due)) (bytes_of s due ++ drop (wire_length (segment_of s due)) out) ≡ bytes_of s due
+front-bytes : (s : State) (due : Due) (out : List ℕ)
+    → take (wire_length (segment_of s due)) (bytes_of s due ++ drop (wire_length (segment_of s due)) out) ≡ bytes_of s due
 unfolding bytes_of
-front-is s due out = take_at (bytes_of s due) (drop (wire_length (segment_of s due)) out) (wire_length (segment_of s due)) (length_encoded s.config.addr.0 (destination_of s due).addr.0 (segment_of s due))
+front-bytes s due out =
+    take_at (bytes_of s due) (drop (wire_length (segment_of s due)) out) (wire_length (segment_of s due))
+    (length_encoded s.config.addr.0 (destination_of s due).addr.0 (segment_of s due))
 
 -- the address and the bytes of a segment that goes out
 abbrev pub segment_to : List ℕ → List ℕ → Option (List ℕ × List ℕ)
@@ -56,10 +61,11 @@ something-as s None len to room bytes e f h = absurd (cc)
 something-as s (Some due) len to room bytes e f h =
     let is : wire_length (segment_of s due) ≡ len = cc in
     let there : to ≡ (destination_of s due).addr.0 = cc in
-    let text : bytes ≡ bytes_of s due = h ∙ ap (λ n. take n (buffer_with s (Some due) room)) (sym is) ∙ front-is s due room in
+    let text : bytes ≡ bytes_of s due = h ∙ ap (λ n. take n (buffer_with s (Some due) room)) (sym is) ∙ front-bytes s due room in
     ap (λ (a : List ℕ). segment_to a bytes) there ∙ ap (λ (b : List ℕ). segment_to (destination_of s due).addr.0 b) text
 
-pub emits_something : (s : State) (len : ℕ) (to room out bytes : List ℕ) → pending_length s ≡ Some len → Some to ≡ destination s → out ≡ buffer_after s room → bytes ≡ take len out
+pub emits_something : (s : State) (len : ℕ) (to room out bytes : List ℕ) → pending_length s ≡ Some len → Some to ≡ destination s → out ≡ buffer_after s room
+    → bytes ≡ take len out
     → segment_to to bytes ≡ segment_due s
 unfolding pending_length destination buffer_after segment_due
 emits_something s len to room out bytes e f g h = something-as s (due_of s) len to room bytes e f (h ∙ ap (take len) g)
@@ -67,33 +73,42 @@ emits_something s len to room out bytes e f g h = something-as s (due_of s) len 
 -- of what goes out a party keeps the bytes
 due-bytes : (s : State) → emitted_bytes s ≡ option_map (λ (segment : List ℕ × List ℕ). segment.1) (segment_due s)
 unfolding emitted_bytes segment_due
-due-bytes s = elim (due_of s) as (λ due. option_map (bytes_of s) due ≡ option_map (λ (segment : List ℕ × List ℕ). segment.1) (option_map (λ d. ((destination_of s d).addr.0, bytes_of s d)) due)) [
-  | None ↦ refl
-  | Some due ↦ refl
-]
+due-bytes s =
+    elim (due_of s) as (λ due. option_map (bytes_of s) due ≡ option_map (λ (segment : List ℕ × List ℕ). segment.1)
+    (option_map (λ d. ((destination_of s d).addr.0, bytes_of s d)) due)) [
+      | None ↦ refl
+      | Some due ↦ refl
+    ]
 
-pub emission_is : (p : PartyState) (end : State) (sent : List SentSegment) (segment : Option (List ℕ × List ℕ)) → segment ≡ segment_due p.endpoint → end ≡ after_emission p.endpoint
-    → sent ≡ p.sent ++ option_to_list (option_map (sent_by p.endpoint) (option_map (λ s. s.1) segment)) → record p { endpoint = end; sent = sent } ≡ party_after_emission p
+pub emission_is : (p : PartyState) (end : State) (sent : List SentSegment) (segment : Option (List ℕ × List ℕ)) → segment ≡ segment_due p.endpoint
+    → end ≡ after_emission p.endpoint
+    → sent ≡ p.sent ++ option_to_list (option_map (sent_by p.endpoint) (option_map (λ s. s.1) segment))
+    → record p { endpoint = end; sent = sent } ≡ party_after_emission p
 unfolding party_after_emission
 emission_is p end sent segment is e more =
     let bytes : option_map (λ s. s.1) segment ≡ emitted_bytes p.endpoint = ap (option_map (λ s. s.1)) is ∙ sym (due-bytes p.endpoint) in
-    ap (λ (s : State). record p { endpoint = s; sent = sent }) e ∙ ap (λ (list : List SentSegment). record p { endpoint = after_emission p.endpoint; sent = list }) (more ∙ ap (λ o. p.sent ++ option_to_list (option_map (sent_by p.endpoint) o)) bytes)
+    ap (λ (s : State). record p { endpoint = s; sent = sent }) e ∙ ap
+    (λ (list : List SentSegment). record p { endpoint = after_emission p.endpoint; sent = list })
+    (more ∙ ap (λ o. p.sent ++ option_to_list (option_map (sent_by p.endpoint) o)) bytes)
 
-counted : (o : Option (List ℕ × List ℕ)) (n : ℕ) → option_map (λ _. n) o ≡ option_map (λ _. n) (option_map (λ s. s.1) o)
-counted None n = refl
-counted (Some segment) n = refl
+counts-segment : (o : Option (List ℕ × List ℕ)) (n : ℕ) → option_map (λ _. n) o ≡ option_map (λ _. n) (option_map (λ s. s.1) o)
+counts-segment None n = refl
+counts-segment (Some segment) n = refl
 
-pub outcome_is : (p : PartyState) (n : ℕ) (segment : Option (List ℕ × List ℕ)) → segment ≡ segment_due p.endpoint → n ≡ length p.sent → outcomes.Emitted (option_map (λ _. n) segment) ≡ emission_outcome p
+pub outcome_is : (p : PartyState) (n : ℕ) (segment : Option (List ℕ × List ℕ)) → segment ≡ segment_due p.endpoint → n ≡ length p.sent
+    → outcomes.Emitted (option_map (λ _. n) segment) ≡ emission_outcome p
 outcome_is p n segment is count =
     ap (λ k. outcomes.Emitted (option_map (λ _. k) segment)) count ∙ ap (λ o. outcomes.Emitted (option_map (λ _. length p.sent) o)) is
-    ∙ ap outcomes.Emitted (counted (segment_due p.endpoint) (length p.sent)) ∙ ap (λ o. outcomes.Emitted (option_map (λ _. length p.sent) o)) (sym (due-bytes p.endpoint))
+    ∙ ap outcomes.Emitted (counts-segment (segment_due p.endpoint) (length p.sent)) ∙ ap (λ o. outcomes.Emitted (option_map (λ _. length p.sent) o))
+    (sym (due-bytes p.endpoint))
 
 -- RECEIVE: a buffer as long as what is unread serves as well as a longer one
 same-read : (q : Inbox) (room : ℕ) → after_read q (min room (length q.unread)) ≡ after_read q room
 unfolding after_read
 same-read q room =
     let count : min (min room (length q.unread)) (length q.unread) ≡ min room (length q.unread) = omega arith in
-    ap (λ (bytes : List ℕ). record q { unread = bytes; held = q.held ++ replicate (min (min room (length q.unread)) (length q.unread)) None }) (drop_min room q.unread)
+    ap (λ (bytes : List ℕ). record q { unread = bytes; held = q.held ++ replicate (min (min room (length q.unread)) (length q.unread)) None })
+    (drop_min room q.unread)
     ∙ ap (λ (n : ℕ). record q { unread = drop room q.unread; held = q.held ++ replicate n None }) count
 
 same-received : (s : State) (room : ℕ) → with_bytes_received s (min room (length s.receiving.inbox.unread)) ≡ with_bytes_received s room
@@ -108,37 +123,46 @@ same-count n m = omega arith
 
 same-answer : (s : State) (room : ℕ) → receive_answer s (min room (length s.receiving.inbox.unread)) ≡ receive_answer s room
 same-answer s room =
-    ap (λ n. answer_unless (receive_refusal s) (if length s.receiving.inbox.unread == 0 then (if s.receiving.finished then EndOfStream else Nothing) else Bytes n)) (same-count room (length s.receiving.inbox.unread))
+    ap (λ n. answer_unless (receive_refusal s)
+    (if length s.receiving.inbox.unread == 0 then (if s.receiving.finished then EndOfStream else Nothing) else Bytes n)) (same-count room
+    (length s.receiving.inbox.unread))
 
 same-bytes : (s : State) (room : ℕ) → received_bytes s (min room (length s.receiving.inbox.unread)) ≡ received_bytes s room
 same-bytes s room = ap (λ n. bytes_unless (receive_refusal s) (take n s.receiving.inbox.unread)) (same-count room (length s.receiving.inbox.unread))
 
 -- as many bytes are put out as the answer says
-handed-value : (unread : List ℕ) (finished : Bool) (room : ℕ) (value : Received) → value ≡ (if length unread == 0 then (if finished then EndOfStream else Nothing) else Bytes (min room (length unread)))
+handed-value : (unread : List ℕ) (finished : Bool) (room : ℕ) (value : Received)
+    → value ≡ (if length unread == 0 then (if finished then EndOfStream else Nothing) else Bytes (min room (length unread)))
     → count_handed (Ok value) ≡ length (take (min room (length unread)) unread)
 handed-value unread finished room value e =
     subst (λ (value : Received). count_handed (Ok value) ≡ length (take (min room (length unread)) unread)) (sym e)
-    (cond_both (length unread == 0) (if finished then EndOfStream else Nothing) (Bytes (min room (length unread))) (λ (value : Received). count_handed (Ok value) ≡ length (take (min room (length unread)) unread))
+    (cond_both (length unread == 0) (if finished then EndOfStream else Nothing) (Bytes (min room (length unread)))
+    (λ (value : Received). count_handed (Ok value) ≡ length (take (min room (length unread)) unread))
     (λ none. cond_both finished EndOfStream Nothing (λ (value : Received). count_handed (Ok value) ≡ length (take (min room (length unread)) unread))
-    (λ _. omega (arith, eqb-true (length unread) 0 none, length-take (min room (length unread)) unread)) (λ _. omega (arith, eqb-true (length unread) 0 none, length-take (min room (length unread)) unread)))
+    (λ _. omega (arith, eqb-true (length unread) 0 none, length-take (min room (length unread)) unread))
+    (λ _. omega (arith, eqb-true (length unread) 0 none, length-take (min room (length unread)) unread)))
     (λ _. omega (arith, length-take (min room (length unread)) unread)))
 
-handed-unless : (o : Option CallError) (value : Received) (bytes : List ℕ) → count_handed (Ok value) ≡ length bytes → count_handed (answer_unless o value) ≡ length (bytes_unless o bytes)
+handed-unless : (o : Option CallError) (value : Received) (bytes : List ℕ) → count_handed (Ok value) ≡ length bytes
+    → count_handed (answer_unless o value) ≡ length (bytes_unless o bytes)
 handed-unless None value bytes e = e
 handed-unless (Some error) value bytes e = refl
 
 handed-is : (s : State) (room : ℕ) → count_handed (receive_answer s room) ≡ length (received_bytes s room)
 handed-is s room =
     let unread = s.receiving.inbox.unread in
-    handed-unless (receive_refusal s) (received_value s room) (take (min room (length unread)) unread) (handed-value unread s.receiving.finished room (received_value s room) refl)
+    handed-unless (receive_refusal s) (received_value s room) (take (min room (length unread)) unread)
+    (handed-value unread s.receiving.finished room (received_value s room) refl)
 
 pub received-state : (s end : State) (room n : ℕ) → n ≡ min room (length s.receiving.inbox.unread) → end ≡ after_receive s n → end ≡ after_receive s room
 unfolding after_receive
 received-state s end room n size f =
     f ∙ ap (λ n. state_unless (receive_refusal s) s (with_bytes_received s n)) size ∙ ap (state_unless (receive_refusal s) s) (same-received s room)
 
-pub received-text : (s : State) (room handed : ℕ) (answer : Result Received CallError) (out old : List ℕ) → length old ≡ min room (length s.receiving.inbox.unread) → answer ≡ receive_answer s (length old)
-    → out ≡ received_bytes s (length old) ++ drop (length (received_bytes s (length old))) old → handed ≡ count_handed answer → take handed out ≡ received_bytes s room
+pub received-text : (s : State) (room handed : ℕ) (answer : Result Received CallError) (out old : List ℕ)
+    → length old ≡ min room (length s.receiving.inbox.unread) → answer ≡ receive_answer s (length old)
+    → out ≡ received_bytes s (length old) ++ drop (length (received_bytes s (length old))) old → handed ≡ count_handed answer
+    → take handed out ≡ received_bytes s room
 received-text s room handed answer out old size is g count =
     let bytes = received_bytes s (length old) in
     let all : handed ≡ length bytes = count ∙ ap count_handed is ∙ handed-is s (length old) in
@@ -166,16 +190,17 @@ fault_is c faults.BadShift h = h.shift.0 refl
 fault_is c faults.BadLimit h = h.limit.0 refl
 fault_is c faults.NoMemory h = h.good refl
 
-in-world : (fault named : ConfigError) (P : Type 0) → ((refused_for fault ≡ Err named) ↔ P) → (world_refused_for A fault ≡ Err (worlds.Config A named)) ↔ P
-in-world fault named P h = (λ e. h.0 (cc), λ p. let same : refused_for fault ≡ Err named = h.1 p in cc)
+in-world_named : (fault named : ConfigError) (P : Type 0) → ((refused_for fault ≡ Err named) ↔ P)
+    → (world_refused_for A fault ≡ Err (worlds.Config A named)) ↔ P
+in-world_named fault named P h = (λ e. h.0 (cc), λ p. let same : refused_for fault ≡ Err named = h.1 p in cc)
 
 pub fault-of_a : (a b : Config) (fault : ConfigError) → IsFaultOf a fault → NamesFault a b (Err (worlds.Config A fault))
 fault-of_a a b fault h = record {
   named = fault_is a fault h;
-  bad_capacity_of_a = in-world fault faults.BadCapacity (HasBadCapacity a) h.capacity;
-  bad_mss_of_a = in-world fault faults.BadMss (HasBadMss a) h.mss;
-  bad_shift_of_a = in-world fault faults.BadShift (HasBadShift a) h.shift;
-  bad_limit_of_a = in-world fault faults.BadLimit (HasBadLimit a) h.limit;
+  bad_capacity_of_a = in-world_named fault faults.BadCapacity (HasBadCapacity a) h.capacity;
+  bad_mss_of_a = in-world_named fault faults.BadMss (HasBadMss a) h.mss;
+  bad_shift_of_a = in-world_named fault faults.BadShift (HasBadShift a) h.shift;
+  bad_limit_of_a = in-world_named fault faults.BadLimit (HasBadLimit a) h.limit;
 }
 
 -- a good Config has none

@@ -1,11 +1,14 @@
 -- What the phase of an end says of how far it has come.
 use Rattle.std.proofs.Common.{◌≡◌, ℕ, ◌≤◌, refl, ap, arith}
 use Rattle.std.specs.Prelude.{Bool, true, false, if◌then◌else◌}
+use Rattle.tcp_conn.specs.State.{State}
 use Rattle.tcp_halves.specs.declared.phase.Phase.{Phase}
-use Rattle.tcp_halves.specs.declared.phase.Phase.TheVariants.{Closed, Listen, SynSent, SynReceived, Established, FinWait1, FinWait2, CloseWait, Closing, LastAck, TimeWait}
+use Rattle.tcp_halves.specs.declared.phase.Phase.TheVariants.{Closed, Listen, SynSent, SynReceived, Established, FinWait1, FinWait2, CloseWait, Closing}
+use Rattle.tcp_halves.specs.declared.phase.Phase.TheVariants.{LastAck, TimeWait}
 use Rattle.tcp_halves.specs.declared.phase.Ending.{Ending}
 use Rattle.tcp_halves.specs.declared.phase.Ending.TheVariants.{NotEnded}
-use Rattle.tcp_conn.specs.Phase.{is_closed, is_listening, has_peer, is_syn_sent, is_syn_received, is_handshake, is_time_wait, is_last_ack, takes_text, sends_text, resets_on_abort, is_ended, gives_up, phase_after_own_fin, phase_after_fin}
+use Rattle.tcp_conn.specs.Phase.{is_closed, is_listening, has_peer, is_syn_sent, is_syn_received, is_handshake, is_time_wait, is_last_ack, takes_text}
+use Rattle.tcp_conn.specs.Phase.{sends_text, resets_on_abort, is_ended, gives_up, phase_after_own_fin, phase_after_fin}
 use Rattle.tcp_conn.specs.Calls.{phase_after_close}
 use Rattle.tcp_conn.specs.Arrival.{phase_after_own_syn}
 use Rattle.tcp_replay.specs.Alone.{IsUnused, IsOpening, IsAnswering, IsReceiving, IsDone, FitsPhase}
@@ -26,41 +29,72 @@ not_ended NotEnded e = refl
 not_ended other e = absurd (cc)
 
 -- what is known at one phase
-pub at-listen : (phase : Phase) (ending : Ending) (una nxt : ℕ) (opened finished : Bool) → is_listening phase ≡ true → FitsPhase phase ending una nxt opened finished → (ending ≡ NotEnded) × IsUnused nxt opened
+pub at-listen : (phase : Phase) (ending : Ending) (una nxt : ℕ) (opened finished : Bool) → is_listening phase ≡ true
+    → FitsPhase phase ending una nxt opened finished → (ending ≡ NotEnded) × IsUnused nxt opened
 at-listen Listen ending una nxt opened finished e h = h
 at-listen other ending una nxt opened finished e h = absurd (cc)
 
-pub at-closed : (phase : Phase) (ending : Ending) (una nxt : ℕ) (opened finished : Bool) → is_closed phase ≡ true → ending ≡ NotEnded → FitsPhase phase ending una nxt opened finished → IsUnused nxt opened
+pub at-closed : (phase : Phase) (ending : Ending) (una nxt : ℕ) (opened finished : Bool) → is_closed phase ≡ true → ending ≡ NotEnded
+    → FitsPhase phase ending una nxt opened finished → IsUnused nxt opened
 at-closed Closed ending una nxt opened finished e new h = h new
 at-closed other ending una nxt opened finished e new h = absurd (cc)
 
-pub at-syn_sent : (phase : Phase) (ending : Ending) (una nxt : ℕ) (opened finished : Bool) → is_syn_sent phase ≡ true → FitsPhase phase ending una nxt opened finished → (ending ≡ NotEnded) × IsOpening nxt opened
+pub at-syn_sent : (phase : Phase) (ending : Ending) (una nxt : ℕ) (opened finished : Bool) → is_syn_sent phase ≡ true
+    → FitsPhase phase ending una nxt opened finished → (ending ≡ NotEnded) × IsOpening nxt opened
 at-syn_sent SynSent ending una nxt opened finished e h = h
 at-syn_sent other ending una nxt opened finished e h = absurd (cc)
 
-pub at-syn_received : (phase : Phase) (ending : Ending) (una nxt : ℕ) (opened finished : Bool) → is_syn_received phase ≡ true → FitsPhase phase ending una nxt opened finished → (ending ≡ NotEnded) × IsAnswering nxt opened finished
+pub at-syn_received : (phase : Phase) (ending : Ending) (una nxt : ℕ) (opened finished : Bool) → is_syn_received phase ≡ true
+    → FitsPhase phase ending una nxt opened finished → (ending ≡ NotEnded) × IsAnswering nxt opened finished
 at-syn_received SynReceived ending una nxt opened finished e h = h
 at-syn_received other ending una nxt opened finished e h = absurd (cc)
 
-pub at-takes_text : (phase : Phase) (ending : Ending) (una nxt : ℕ) (opened finished : Bool) → takes_text phase ≡ true → FitsPhase phase ending una nxt opened finished → (ending ≡ NotEnded) × IsReceiving una opened finished
+pub at-takes_text : (phase : Phase) (ending : Ending) (una nxt : ℕ) (opened finished : Bool) → takes_text phase ≡ true
+    → FitsPhase phase ending una nxt opened finished → (ending ≡ NotEnded) × IsReceiving una opened finished
 at-takes_text Established ending una nxt opened finished e h = h
 at-takes_text FinWait1 ending una nxt opened finished e h = h
 at-takes_text FinWait2 ending una nxt opened finished e h = h
 at-takes_text other ending una nxt opened finished e h = absurd (cc)
 
-pub at-synchronized : (phase : Phase) (ending : Ending) (una nxt : ℕ) (opened finished : Bool) → is_synchronized phase ≡ true → FitsPhase phase ending una nxt opened finished → (ending ≡ NotEnded) × IsDone una opened
+pub at-synchronized : (phase : Phase) (ending : Ending) (una nxt : ℕ) (opened finished : Bool) → is_synchronized phase ≡ true
+    → FitsPhase phase ending una nxt opened finished → (ending ≡ NotEnded) × IsDone una opened
 at-synchronized Closed ending una nxt opened finished e h = absurd (cc)
 at-synchronized Listen ending una nxt opened finished e h = absurd (cc)
 at-synchronized SynSent ending una nxt opened finished e h = absurd (cc)
 at-synchronized SynReceived ending una nxt opened finished e h = absurd (cc)
 at-synchronized other ending una nxt opened finished e h = assumption
 
+-- and of an end, by its phase
+abbrev pub Progress : State → Type 0
+Progress s = FitsPhase s.phase s.ending s.sending.una s.sending.nxt s.receiving.opened s.receiving.finished
+
+pub end-closed : (s : State) → is_closed s.phase ≡ true → s.ending ≡ NotEnded → Progress s → IsUnused s.sending.nxt s.receiving.opened
+end-closed s e new h = at-closed s.phase s.ending s.sending.una s.sending.nxt s.receiving.opened s.receiving.finished e new h
+
+pub end-listen : (s : State) → is_listening s.phase ≡ true → Progress s → (s.ending ≡ NotEnded) × IsUnused s.sending.nxt s.receiving.opened
+end-listen s e h = at-listen s.phase s.ending s.sending.una s.sending.nxt s.receiving.opened s.receiving.finished e h
+
+pub end-syn_sent : (s : State) → is_syn_sent s.phase ≡ true → Progress s → (s.ending ≡ NotEnded) × IsOpening s.sending.nxt s.receiving.opened
+end-syn_sent s e h = at-syn_sent s.phase s.ending s.sending.una s.sending.nxt s.receiving.opened s.receiving.finished e h
+
+pub end-syn_received : (s : State) → is_syn_received s.phase ≡ true → Progress s
+    → (s.ending ≡ NotEnded) × IsAnswering s.sending.nxt s.receiving.opened s.receiving.finished
+end-syn_received s e h = at-syn_received s.phase s.ending s.sending.una s.sending.nxt s.receiving.opened s.receiving.finished e h
+
+pub end-takes_text : (s : State) → takes_text s.phase ≡ true → Progress s
+    → (s.ending ≡ NotEnded) × IsReceiving s.sending.una s.receiving.opened s.receiving.finished
+end-takes_text s e h = at-takes_text s.phase s.ending s.sending.una s.sending.nxt s.receiving.opened s.receiving.finished e h
+
+pub end-synchronized : (s : State) → is_synchronized s.phase ≡ true → Progress s → (s.ending ≡ NotEnded) × IsDone s.sending.una s.receiving.opened
+end-synchronized s e h = at-synchronized s.phase s.ending s.sending.una s.sending.nxt s.receiving.opened s.receiving.finished e h
+
 -- what is known of phases
-pub not-closed-ended : (phase : Phase) (ending : Ending) (una nxt : ℕ) (opened finished : Bool) → is_closed phase ≡ false → FitsPhase phase ending una nxt opened finished → ending ≡ NotEnded
+pub not-closed-ended : (phase : Phase) (ending : Ending) (una nxt : ℕ) (opened finished : Bool) → is_closed phase ≡ false
+    → FitsPhase phase ending una nxt opened finished → ending ≡ NotEnded
 not-closed-ended Closed ending una nxt opened finished e h = absurd (cc)
 not-closed-ended other ending una nxt opened finished e h = h.0
 
-pub synchronized-closed : (phase : Phase) → is_synchronized phase ≡ true → is_closed phase ≡ false
+synchronized-closed : (phase : Phase) → is_synchronized phase ≡ true → is_closed phase ≡ false
 synchronized-closed Closed e = absurd (cc)
 synchronized-closed other e = refl
 
@@ -87,7 +121,7 @@ pub time_wait-synchronized : (phase : Phase) → is_time_wait phase ≡ true →
 time_wait-synchronized TimeWait e = refl
 time_wait-synchronized other e = absurd (cc)
 
-pub last_ack-synchronized : (phase : Phase) → is_last_ack phase ≡ true → is_synchronized phase ≡ true
+last_ack-synchronized : (phase : Phase) → is_last_ack phase ≡ true → is_synchronized phase ≡ true
 last_ack-synchronized LastAck e = refl
 last_ack-synchronized other e = absurd (cc)
 
@@ -110,7 +144,8 @@ resets_on_abort-knows Listen e = absurd (cc)
 resets_on_abort-knows other e = refl
 
 -- where the peer is known, the own SYN has a number; where an acknowledgement may go out, it was sent
-pub knows-nxt : (phase : Phase) (ending : Ending) (una nxt : ℕ) (opened finished : Bool) → has_peer phase ≡ true → una ≤ nxt → FitsPhase phase ending una nxt opened finished → 1 ≤ nxt
+pub knows-nxt : (phase : Phase) (ending : Ending) (una nxt : ℕ) (opened finished : Bool) → has_peer phase ≡ true → una ≤ nxt
+    → FitsPhase phase ending una nxt opened finished → 1 ≤ nxt
 knows-nxt Closed ending una nxt opened finished e order h = absurd (cc)
 knows-nxt Listen ending una nxt opened finished e order h = absurd (cc)
 knows-nxt other ending una nxt opened finished e order h = omega arith
@@ -119,7 +154,8 @@ knows-nxt other ending una nxt opened finished e order h = omega arith
 pub present-knows : (phase : Phase) → is_closed phase ≡ false → is_listening phase ≡ false → has_peer phase ≡ true
 present-knows phase shut listening = rw (shut, listening) refl
 
-pub present-opened : (phase : Phase) (ending : Ending) (una nxt : ℕ) (opened finished : Bool) → is_closed phase ≡ false → is_listening phase ≡ false → is_syn_sent phase ≡ false
+pub present-opened : (phase : Phase) (ending : Ending) (una nxt : ℕ) (opened finished : Bool) → is_closed phase ≡ false → is_listening phase ≡ false
+    → is_syn_sent phase ≡ false
     → FitsPhase phase ending una nxt opened finished → opened ≡ true
 present-opened Closed ending una nxt opened finished e f g h = absurd (cc)
 present-opened Listen ending una nxt opened finished e f g h = absurd (cc)
@@ -127,7 +163,8 @@ present-opened SynSent ending una nxt opened finished e f g h = absurd (cc)
 present-opened other ending una nxt opened finished e f g h = h.1.is_opened
 
 -- the own SYN is acknowledged
-pub own_syn-synchronized : (phase : Phase) (closing : Bool) → is_closed phase ≡ false → is_listening phase ≡ false → is_syn_sent phase ≡ false → is_synchronized (phase_after_own_syn phase closing) ≡ true
+pub own_syn-synchronized : (phase : Phase) (closing : Bool) → is_closed phase ≡ false → is_listening phase ≡ false → is_syn_sent phase ≡ false
+    → is_synchronized (phase_after_own_syn phase closing) ≡ true
 own_syn-synchronized Closed closing e f g = absurd (cc)
 own_syn-synchronized Listen closing e f g = absurd (cc)
 own_syn-synchronized SynSent closing e f g = absurd (cc)
@@ -145,7 +182,8 @@ knows-own_syn true = refl
 knows-own_syn false = refl
 
 -- SND.UNA moves on
-pub fits-acked : (phase : Phase) (ending : Ending) (una a nxt : ℕ) (opened finished : Bool) → is_synchronized phase ≡ true → una ≤ a → FitsPhase phase ending una nxt opened finished → FitsPhase phase ending a nxt opened finished
+pub fits-acked : (phase : Phase) (ending : Ending) (una a nxt : ℕ) (opened finished : Bool) → is_synchronized phase ≡ true → una ≤ a
+    → FitsPhase phase ending una nxt opened finished → FitsPhase phase ending a nxt opened finished
 fits-acked Closed ending una a nxt opened finished e more h = absurd (cc)
 fits-acked Listen ending una a nxt opened finished e more h = absurd (cc)
 fits-acked SynSent ending una a nxt opened finished e more h = absurd (cc)
@@ -158,10 +196,12 @@ pub fits-sent : (phase : Phase) (ending : Ending) (una nxt n : ℕ) (opened fini
 fits-sent Closed ending una nxt n opened finished none same h = λ new. record { nxt_is = none refl (h new).nxt_is; not_opened = (h new).not_opened }
 fits-sent Listen ending una nxt n opened finished none same h = (h.0, record { nxt_is = none refl h.1.nxt_is; not_opened = h.1.not_opened })
 fits-sent SynSent ending una nxt n opened finished none same h = (h.0, record { nxt_is = same h.1.nxt_is; not_opened = h.1.not_opened })
-fits-sent SynReceived ending una nxt n opened finished none same h = (h.0, record { nxt_is = same h.1.nxt_is; is_opened = h.1.is_opened; goes_on = h.1.goes_on })
+fits-sent SynReceived ending una nxt n opened finished none same h =
+    (h.0, record { nxt_is = same h.1.nxt_is; is_opened = h.1.is_opened; goes_on = h.1.goes_on })
 fits-sent other ending una nxt n opened finished none same h = h
 
-pub fits-sent_text : (phase : Phase) (ending : Ending) (una nxt n : ℕ) (opened finished : Bool) → is_synchronized phase ≡ true → FitsPhase phase ending una nxt opened finished → FitsPhase phase ending una n opened finished
+pub fits-sent_text : (phase : Phase) (ending : Ending) (una nxt n : ℕ) (opened finished : Bool) → is_synchronized phase ≡ true
+    → FitsPhase phase ending una nxt opened finished → FitsPhase phase ending una n opened finished
 fits-sent_text Closed ending una nxt n opened finished e h = absurd (cc)
 fits-sent_text Listen ending una nxt n opened finished e h = absurd (cc)
 fits-sent_text SynSent ending una nxt n opened finished e h = absurd (cc)
@@ -169,7 +209,8 @@ fits-sent_text SynReceived ending una nxt n opened finished e h = absurd (cc)
 fits-sent_text other ending una nxt n opened finished e h = h
 
 -- the own FIN is acknowledged
-pub fits-own_fin : (phase : Phase) (ending : Ending) (una nxt : ℕ) (opened finished : Bool) → FitsPhase phase ending una nxt opened finished → FitsPhase (phase_after_own_fin phase) ending una nxt opened finished
+pub fits-own_fin : (phase : Phase) (ending : Ending) (una nxt : ℕ) (opened finished : Bool) → FitsPhase phase ending una nxt opened finished
+    → FitsPhase (phase_after_own_fin phase) ending una nxt opened finished
 fits-own_fin FinWait1 ending una nxt opened finished h = h
 fits-own_fin other ending una nxt opened finished h = h
 
@@ -186,7 +227,8 @@ synchronized-own_fin FinWait1 = refl
 synchronized-own_fin other = refl
 
 -- the peer's FIN is taken
-pub fits-fin : (phase : Phase) (ending : Ending) (una nxt : ℕ) (opened finished : Bool) → takes_text phase ≡ true → FitsPhase phase ending una nxt opened finished → FitsPhase (phase_after_fin phase) ending una nxt opened true
+pub fits-fin : (phase : Phase) (ending : Ending) (una nxt : ℕ) (opened finished : Bool) → takes_text phase ≡ true
+    → FitsPhase phase ending una nxt opened finished → FitsPhase (phase_after_fin phase) ending una nxt opened true
 fits-fin Established ending una nxt opened finished e h = assumption
 fits-fin FinWait1 ending una nxt opened finished e h = assumption
 fits-fin FinWait2 ending una nxt opened finished e h = assumption
@@ -201,7 +243,8 @@ handshake-fin Established = refl
 handshake-fin other = refl
 
 -- the user closes
-pub fits-closing : (phase : Phase) (ending : Ending) (una nxt : ℕ) (opened finished : Bool) → FitsPhase phase ending una nxt opened finished → FitsPhase (phase_after_close phase) ending una nxt opened finished
+pub fits-closing : (phase : Phase) (ending : Ending) (una nxt : ℕ) (opened finished : Bool) → FitsPhase phase ending una nxt opened finished
+    → FitsPhase (phase_after_close phase) ending una nxt opened finished
 fits-closing Established ending una nxt opened finished h = h
 fits-closing other ending una nxt opened finished h = h
 
@@ -214,7 +257,8 @@ handshake-closing Established = refl
 handshake-closing other = refl
 
 -- in the handshake nothing but the SYN is acknowledged
-pub handshake-una : (phase : Phase) (ending : Ending) (una nxt : ℕ) (opened finished : Bool) → is_handshake phase ≡ true → una ≤ nxt → FitsPhase phase ending una nxt opened finished → una ≤ 1
+pub handshake-una : (phase : Phase) (ending : Ending) (una nxt : ℕ) (opened finished : Bool) → is_handshake phase ≡ true → una ≤ nxt
+    → FitsPhase phase ending una nxt opened finished → una ≤ 1
 handshake-una SynSent ending una nxt opened finished e order h = omega (arith, h.1.nxt_is)
 handshake-una SynReceived ending una nxt opened finished e order h = omega (arith, h.1.nxt_is)
 handshake-una other ending una nxt opened finished e order h = absurd (cc)

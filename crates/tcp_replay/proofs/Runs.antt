@@ -1,5 +1,6 @@
 -- A run, taken event by event.
-use Rattle.std.proofs.Common.{◌≡◌, ℕ, ◌+◌, ◌<◌, ◌≤◌, List, [], ◌∷◌, ◌++◌, length, get_or, take, drop, map, refl, sym, ◌∙◌, ap, subst, arith, add-one, take-append-drop}
+use Rattle.std.proofs.Common.{◌≡◌, ℕ, ◌+◌, ◌<◌, ◌≤◌, List, [], ◌∷◌, ◌++◌, length, get_or, take, drop, map, refl, sym, ◌∙◌, ap, subst, arith, add-one}
+use Rattle.std.proofs.Common.{take-append-drop}
 use Rattle.std.specs.Prelude.{true, Option, Some, None, Result, Ok, Err, IfSome, IfNone, ◌==◌, nat_le, if◌then◌else◌}
 use Rattle.std.specs.List.{AllByRecursion}
 use Rattle.std.proofs.lemmas.Bool.{cond_both}
@@ -10,33 +11,38 @@ use Rattle.tcp_replay.specs.declared.outcome.Outcome.{Outcome}
 use Rattle.tcp_replay.specs.declared.outcome.StepError.TheVariants.{NoSuchSegment, NoChange, PlaceOutside, Expired, NoMemory}
 use Rattle.tcp_replay.specs.declared.outcome.StepError.{StepError}
 use Rattle.tcp_replay.specs.Events.{EventContent, side_of, Deliver, Damage}
-use Rattle.tcp_replay.specs.World.{WorldState, PartyState, SentSegment, party_of, other, is_missing, sent_at, segment_at, is_expired, age_refusal, delivery_refusal, damage_refusal, effect_of, world_with_effect, refusal_of, grows_for, stop_of, run_of, stop_or, stay_or, later, StopsForMemory}
+use Rattle.tcp_replay.specs.World.{WorldState, PartyState, SentSegment, party_of, other, is_missing, sent_at, segment_at, is_expired, age_refusal}
+use Rattle.tcp_replay.specs.World.{delivery_refusal, damage_refusal, effect_of, world_with_effect, refusal_of, grows_for, stop_of, run_of, stop_or, stay_or}
+use Rattle.tcp_replay.specs.World.{later, StopsForMemory}
 
 -- where nothing was refused, the first event wasn't, nor any of the rest
-record Goes (refused : Option StepError) (rest : Option (ℕ × StepError)) : Type 0 where
+record GoesThrough (refused : Option StepError) (rest : Option (ℕ × StepError)) : Type 0 where
   first : refused ≡ None
   others : rest ≡ None
 
-goes : (refused : Option StepError) (rest : Option (ℕ × StepError)) → stop_or refused rest ≡ None → Goes refused rest
-goes None None e = record { first = refl; others = refl }
-goes None (Some stop) e = absurd (cc)
-goes (Some error) rest e = absurd (cc)
+goes-through : (refused : Option StepError) (rest : Option (ℕ × StepError)) → stop_or refused rest ≡ None → GoesThrough refused rest
+goes-through None None e = record { first = refl; others = refl }
+goes-through None (Some stop) e = absurd (cc)
+goes-through (Some error) rest e = absurd (cc)
 
 -- the run goes on by one event
 pub record GoesOn (w : WorldState) (list : List EventContent) (next : WorldState) : Type 0 where
   pub stop : stop_of w list ≡ None
   pub end : run_of w list ≡ next
 
-pub run-more : (w : WorldState) (list : List EventContent) (event : EventContent) → stop_of w list ≡ None → refusal_of (run_of w list) event ≡ None → GoesOn w (list ++ event ∷ []) (world_with_effect (run_of w list) event)
+run-more : (w : WorldState) (list : List EventContent) (event : EventContent) → stop_of w list ≡ None → refusal_of (run_of w list) event ≡ None
+    → GoesOn w (list ++ event ∷ []) (world_with_effect (run_of w list) event)
 unfolding stop_of run_of
 run-more w [] event e f = record { stop = ap (λ r. stop_or r None) f; end = ap (λ r. stay_or r w (world_with_effect w event)) f }
 run-more w (first ∷ list) event e f =
-    let both = goes (refusal_of w first) (stop_of (world_with_effect w first) list) e in
-    let here : stay_or (refusal_of w first) w (run_of (world_with_effect w first) list) ≡ run_of (world_with_effect w first) list = ap (λ r. stay_or r w (run_of (world_with_effect w first) list)) both.first in
+    let both = goes-through (refusal_of w first) (stop_of (world_with_effect w first) list) e in
+    let here : stay_or (refusal_of w first) w (run_of (world_with_effect w first) list) ≡ run_of (world_with_effect w first) list = ap
+    (λ r. stay_or r w (run_of (world_with_effect w first) list)) both.first in
     let more = run-more (world_with_effect w first) list event both.others (ap (λ v. refusal_of v event) (sym here) ∙ f) in
     record {
       stop = ap (λ r. stop_or r (stop_of (world_with_effect w first) (list ++ event ∷ []))) both.first ∙ ap later more.stop;
-      end = ap (λ r. stay_or r w (run_of (world_with_effect w first) (list ++ event ∷ []))) both.first ∙ more.end ∙ ap (λ v. world_with_effect v event) (sym here);
+      end = ap (λ r. stay_or r w (run_of (world_with_effect w first) (list ++ event ∷ []))) both.first ∙ more.end ∙ ap (λ v. world_with_effect v event)
+          (sym here);
     }
 
 -- the run stops at one
@@ -44,13 +50,20 @@ pub record Stops (w : WorldState) (list : List EventContent) (index : ℕ) (erro
   pub stop : stop_of w list ≡ Some (index, error)
   pub stays : run_of w list ≡ end
 
-pub run-stop : (w : WorldState) (list rest : List EventContent) (event : EventContent) (error : StepError) → stop_of w list ≡ None → refusal_of (run_of w list) event ≡ Some error
+run-stop : (w : WorldState) (list rest : List EventContent) (event : EventContent) (error : StepError) → stop_of w list ≡ None
+    → refusal_of (run_of w list) event ≡ Some error
     → Stops w (list ++ event ∷ rest) (length list) error (run_of w list)
 unfolding stop_of run_of
-run-stop w [] rest event error e f = record { stop = ap (λ r. stop_or r (stop_of (world_with_effect w event) rest)) f; stays = ap (λ r. stay_or r w (run_of (world_with_effect w event) rest)) f }
+run-stop w [] rest event error e f =
+    record {
+      stop = ap (λ r. stop_or r (stop_of (world_with_effect w event) rest)) f;
+      stays = ap
+          (λ r. stay_or r w (run_of (world_with_effect w event) rest)) f;
+    }
 run-stop w (first ∷ list) rest event error e f =
-    let both = goes (refusal_of w first) (stop_of (world_with_effect w first) list) e in
-    let here : stay_or (refusal_of w first) w (run_of (world_with_effect w first) list) ≡ run_of (world_with_effect w first) list = ap (λ r. stay_or r w (run_of (world_with_effect w first) list)) both.first in
+    let both = goes-through (refusal_of w first) (stop_of (world_with_effect w first) list) e in
+    let here : stay_or (refusal_of w first) w (run_of (world_with_effect w first) list) ≡ run_of (world_with_effect w first) list = ap
+    (λ r. stay_or r w (run_of (world_with_effect w first) list)) both.first in
     let more = run-stop (world_with_effect w first) list rest event error both.others (ap (λ v. refusal_of v event) (sym here) ∙ f) in
     record {
       stop = ap (λ r. stop_or r (stop_of (world_with_effect w first) (list ++ event ∷ rest))) both.first ∙ ap later more.stop;
@@ -68,11 +81,13 @@ damage-not_memory life p q k place value =
     let outside = if nat_le (length (segment_at p k)) place then Some PlaceOutside else age in
     cond_both (is_missing p k) (Some NoSuchSegment) (if value == 0 then Some NoChange else outside) P (λ _ e. absurd (cc))
     (λ _. cond_both (value == 0) (Some NoChange) outside P (λ _ e. absurd (cc))
-    (λ _. cond_both (nat_le (length (segment_at p k)) place) (Some PlaceOutside) age P (λ _ e. absurd (cc)) (λ _. age-not_memory life q.endpoint (sent_at p k))))
+    (λ _. cond_both (nat_le (length (segment_at p k)) place) (Some PlaceOutside) age P (λ _ e. absurd (cc))
+    (λ _. age-not_memory life q.endpoint (sent_at p k))))
 
 delivery-not_memory : (life : ℕ) (p q : PartyState) (k : ℕ) → delivery_refusal life p q k ≡ Some NoMemory → ⊥
 delivery-not_memory life p q k =
-    cond_both (is_missing p k) (Some NoSuchSegment) (age_refusal life q.endpoint (sent_at p k)) (λ r. r ≡ Some NoMemory → ⊥) (λ _ e. absurd (cc)) (λ _. age-not_memory life q.endpoint (sent_at p k))
+    cond_both (is_missing p k) (Some NoSuchSegment) (age_refusal life q.endpoint (sent_at p k)) (λ r. r ≡ Some NoMemory → ⊥) (λ _ e. absurd (cc))
+    (λ _. age-not_memory life q.endpoint (sent_at p k))
 
 effect-not_memory : (life : ℕ) (p q : PartyState) (event : EventContent) → (effect_of life p q event).refusal ≡ Some NoMemory → ⊥
 unfolding effect_of
@@ -98,23 +113,26 @@ pub not-refused : (refused : Option StepError) (o : Outcome) → IfSome refused 
 not-refused None o h = refl
 not-refused (Some e) o h = absurd (cc)
 
-is-refused : (refused : Option StepError) (error : StepError) (Q : Type 0) → IfSome refused (λ e. refused_by error ≡ Err e) → IfNone refused ((error ≡ NoMemory) × Q) → (error ≡ NoMemory → ⊥) → refused ≡ Some error
+is-refused : (refused : Option StepError) (error : StepError) (Q : Type 0) → IfSome refused (λ e. refused_by error ≡ Err e)
+    → IfNone refused ((error ≡ NoMemory) × Q) → (error ≡ NoMemory → ⊥) → refused ≡ Some error
 is-refused None error Q h m other = absurd (other m.0)
 is-refused (Some e) error Q h m other = cc
 
-is-memory : (refused : Option StepError) (error : StepError) → IfSome refused (λ e. refused_by error ≡ Err e) → error ≡ NoMemory → (refused ≡ Some NoMemory → ⊥) → refused ≡ None
+is-memory : (refused : Option StepError) (error : StepError) → IfSome refused (λ e. refused_by error ≡ Err e) → error ≡ NoMemory
+    → (refused ≡ Some NoMemory → ⊥) → refused ≡ None
 is-memory None error h e never = refl
 is-memory (Some e) error h is never = absurd (never (cc))
 
 -- the events up to one, that one, and the rest
-split-at : (list : List EventContent) (i : ℕ) (event : EventContent) → i < length list → event ≡ get_or list i event → take i list ++ event ∷ drop (i + 1) list ≡ list
+split-at : (list : List EventContent) (i : ℕ) (event : EventContent) → i < length list → event ≡ get_or list i event
+    → take i list ++ event ∷ drop (i + 1) list ≡ list
 split-at list i event inside is =
     ap (λ rest. take i list ++ rest) (ap (λ e. e ∷ drop (i + 1) list) is ∙ sym (drop_more list i event inside)) ∙ take-append-drop i list
 
-pub next-front : {X : Type 0} (list : List X) (i : ℕ) (event : X) → i < length list → event ≡ get_or list i event → take i list ++ event ∷ [] ≡ take (i + 1) list
+pub next-front : {X : Type 0} (list : List X) (i : ℕ) (event : X) → i < length list → event ≡ get_or list i event
+    → take i list ++ event ∷ [] ≡ take (i + 1) list
 next-front list i event inside is = ap (λ e. take i list ++ e ∷ []) is ∙ sym (take_more list i event inside)
 
--- a run as far as an event, in the code's words
 -- something holds of each event so far, taken in turn
 all-last : {X : Type 0} (P : X → Type 0) (list : List X) (e : X) → AllByRecursion P list → P e → AllByRecursion P (list ++ e ∷ [])
 all-last P [] e all fits = (fits, tt)
@@ -124,18 +142,22 @@ pub all-go_on : {X : Type 0} (P : X → Type 0) (list : List X) (i : ℕ) (e : X
     → AllByRecursion P (take (i + 1) list)
 all-go_on P list i e inside is all fits = subst (AllByRecursion P) (next-front list i e inside is) (all-last P (take i list) e all fits)
 
-pub all-done : {X : Type 0} (P : X → Type 0) (list : List X) (i : ℕ) → length list ≤ i → AllByRecursion P (take i list) → AllByRecursion P list
+all-done : {X : Type 0} (P : X → Type 0) (list : List X) (i : ℕ) → length list ≤ i → AllByRecursion P (take i list) → AllByRecursion P list
 all-done P list i done all = subst (AllByRecursion P) (take_all i list done) all
 
+-- a run as far as an event, in the code's words
 pub record RunsTo (w here : WorldState) (list : List EventContent) (i : ℕ) : Type 0 where
   pub going : stop_of w (take i list) ≡ None
   pub now : here ≡ run_of w (take i list)
 
-pub run_refused : (w here new : WorldState) (list : List EventContent) (i : ℕ) (event : EventContent) (error : StepError) (Q : Type 0) → i < length list → event ≡ get_or list i event
-    → RunsTo w here list i → IfSome (refusal_of here event) (λ e. refused_by error ≡ Err e) → IfNone (refusal_of here event) ((error ≡ NoMemory) × Q) → new ≡ here
+pub run_refused : (w here new : WorldState) (list : List EventContent) (i : ℕ) (event : EventContent) (error : StepError) (Q : Type 0) → i < length list
+    → event ≡ get_or list i event
+    → RunsTo w here list i → IfSome (refusal_of here event) (λ e. refused_by error ≡ Err e) → IfNone (refusal_of here event) ((error ≡ NoMemory) × Q)
+    → new ≡ here
     → (error ≡ NoMemory → ⊥) → (stop_of w list ≡ Some (i, error)) × (new ≡ run_of w list)
 run_refused w here new list i event error Q inside is so_far h m same other =
-    let refused : refusal_of (run_of w (take i list)) event ≡ Some error = ap (λ v. refusal_of v event) (sym so_far.now) ∙ is-refused (refusal_of here event) error Q h m other in
+    let refused : refusal_of (run_of w (take i list)) event ≡ Some error = ap (λ v. refusal_of v event) (sym so_far.now) ∙ is-refused
+    (refusal_of here event) error Q h m other in
     let stops = run-stop w (take i list) (drop (i + 1) list) event error so_far.going refused in
     let whole = split-at list i event inside is in
     let count : length (take i list) ≡ i = length-take-le i list (omega arith) in (
@@ -147,8 +169,10 @@ grows-if : (refusal : Option StepError) (error : StepError) (Q : Type 0) → ref
 grows-if None error Q e m = m.1
 grows-if (Some other) error Q e m = absurd (cc)
 
-pub run_out_of_memory : (w here new : WorldState) (list : List EventContent) (i : ℕ) (event : EventContent) (error : StepError) → i < length list → event ≡ get_or list i event
-    → RunsTo w here list i → IfSome (refusal_of here event) (λ e. refused_by error ≡ Err e) → IfNone (refusal_of here event) ((error ≡ NoMemory) × (grows_for here event ≡ true)) → new ≡ here
+pub run_out_of_memory : (w here new : WorldState) (list : List EventContent) (i : ℕ) (event : EventContent) (error : StepError) → i < length list
+    → event ≡ get_or list i event
+    → RunsTo w here list i → IfSome (refusal_of here event) (λ e. refused_by error ≡ Err e)
+    → IfNone (refusal_of here event) ((error ≡ NoMemory) × (grows_for here event ≡ true)) → new ≡ here
     → error ≡ NoMemory → StopsForMemory w list i new
 run_out_of_memory w here new list i event error inside is so_far h m same memory =
     let none : refusal_of here event ≡ None = is-memory (refusal_of here event) error h memory (refusal-not_memory here event) in
@@ -162,7 +186,8 @@ run_out_of_memory w here new list i event error inside is so_far h m same memory
       stays = same ∙ so_far.now;
     }
 
-pub run_goes_on : (w here new : WorldState) (list : List EventContent) (i : ℕ) (event : EventContent) (o : Outcome) → i < length list → event ≡ get_or list i event
+pub run_goes_on : (w here new : WorldState) (list : List EventContent) (i : ℕ) (event : EventContent) (o : Outcome) → i < length list
+    → event ≡ get_or list i event
     → RunsTo w here list i → IfSome (refusal_of here event) (λ e. answered o ≡ Err e) → new ≡ world_with_effect here event → RunsTo w new list (i + 1)
 run_goes_on w here new list i event o inside is so_far h state =
     let fine : refusal_of (run_of w (take i list)) event ≡ None = ap (λ v. refusal_of v event) (sym so_far.now) ∙ not-refused (refusal_of here event) o h in
@@ -177,7 +202,8 @@ unfolding stop_of run_of
 run_begins w list = record { going = refl; now = refl }
 
 -- the content of an event of the code's list, by its index
-pub content_at : {X Y : Type 0} (content : X → Y) (list : List X) (i : ℕ) (event : X) → i < length list → event ≡ get_or list i event → content event ≡ get_or (map content list) i (content event)
+pub content_at : {X Y : Type 0} (content : X → Y) (list : List X) (i : ℕ) (event : X) → i < length list → event ≡ get_or list i event
+    → content event ≡ get_or (map content list) i (content event)
 content_at content list i event inside is = ap content is ∙ sym (get_or-map content list i event (content event) inside)
 
 pub content_inside : {X Y : Type 0} (content : X → Y) (list : List X) (i : ℕ) → i < length list → i < length (map content list)

@@ -11,13 +11,15 @@ use Rattle.tcp_conn.specs.State.{State}
 use Rattle.tcp_replay.specs.declared.outcome.Outcome.{Outcome}
 use Rattle.tcp_replay.specs.declared.solo_log.SoloLog.{SoloLog}
 use Rattle.tcp_replay.specs.OneEnd.{SendsItsUsers, HandsOverWhatCame, AcknowledgesInOrder}
-use Rattle.tcp_replay.specs.Solo.{SoloState, solo_start, end_after, bytes_taken, bytes_put_out, hands_end, segment_emitted, solo_outcome, after_solo, solo_run, run_alone, segments, IsLogOf}
+use Rattle.tcp_replay.specs.Solo.{SoloState, solo_start, end_after, bytes_taken, bytes_put_out, hands_end, segment_emitted, solo_outcome, after_solo}
+use Rattle.tcp_replay.specs.Solo.{solo_run, run_alone, segments, IsLogOf}
 use Rattle.tcp_replay.specs.SoloEvents.{SoloContent, HasRanges}
 use Rattle.tcp_replay.proofs.Runs.{next-front}
 use Rattle.tcp_replay.proofs.SoloRuns.{run-last, one_end_is_true_lem}
 
 -- nothing has happened yet
-pub log-begins : {A : Type 0} (c : Config) (log : SoloLog A) → log.endpoint ≡ new_end c → log.accepted.items ≡ [] → log.delivered.items ≡ [] → log.emitted.items ≡ [] → log.outcomes.items ≡ [] → log.ended ≡ false
+pub log-begins : {A : Type 0} (c : Config) (log : SoloLog A) → log.endpoint ≡ new_end c → log.accepted.items ≡ [] → log.delivered.items ≡ []
+    → log.emitted.items ≡ [] → log.outcomes.items ≡ [] → log.ended ≡ false
     → IsLogOf log (run_alone c [])
 unfolding solo_run
 log-begins c log endpoint accepted delivered emitted outcomes ended =
@@ -43,17 +45,21 @@ log-step log log' x e h n =
     record {
       accepted = n.accepted ∙ ap (λ xs. xs ++ bytes_taken s e) h.accepted ∙ ap (λ (s : State). x.accepted ++ bytes_taken s e) h.endpoint;
       delivered = n.delivered ∙ ap (λ xs. xs ++ bytes_put_out s e) h.delivered ∙ ap (λ (s : State). x.delivered ++ bytes_put_out s e) h.endpoint;
-      emitted = n.emitted ∙ ap (λ xs. xs ++ option_to_list (segment_emitted s e)) h.emitted ∙ ap (λ (s : State). x.emitted ++ option_to_list (segment_emitted s e)) h.endpoint;
-      outcomes = n.outcomes ∙ ap (λ (xs : List Outcome). xs ++ solo_outcome s (length log.emitted.items) e ∷ []) h.outcomes ∙ ap (λ (k : ℕ). x.outcomes ++ solo_outcome s k e ∷ []) count
+      emitted = n.emitted ∙ ap (λ xs. xs ++ option_to_list (segment_emitted s e)) h.emitted ∙ ap
+          (λ (s : State). x.emitted ++ option_to_list (segment_emitted s e)) h.endpoint;
+      outcomes = n.outcomes ∙ ap (λ (xs : List Outcome). xs ++ solo_outcome s (length log.emitted.items) e ∷ []) h.outcomes ∙ ap
+          (λ (k : ℕ). x.outcomes ++ solo_outcome s k e ∷ []) count
           ∙ ap (λ (s : State). x.outcomes ++ solo_outcome s (length x.emitted) e ∷ []) h.endpoint;
       ended = n.ended ∙ ap (λ b. b || hands_end s e) h.ended ∙ ap (λ (s : State). x.ended || hands_end s e) h.endpoint;
       endpoint = n.endpoint ∙ ap (λ (s : State). end_after s e) h.endpoint;
     }
 
-pub log-goes_on : {A : Type 0} (c : Config) (list : List SoloContent) (i : ℕ) (log log' : SoloLog A) (e : SoloContent) → i < length list → e ≡ get_or list i e → IsLogOf log (run_alone c (take i list))
+pub log-goes_on : {A : Type 0} (c : Config) (list : List SoloContent) (i : ℕ) (log log' : SoloLog A) (e : SoloContent) → i < length list → e ≡ get_or list i e
+    → IsLogOf log (run_alone c (take i list))
     → Steps log log' e → IsLogOf log' (run_alone c (take (i + 1) list))
 log-goes_on c list i log log' e inside is h n =
-    subst (λ (x : SoloState). IsLogOf log' x) (sym (run-last (solo_start c) (take i list) e) ∙ ap (run_alone c) (next-front list i e inside is)) (log-step log log' (run_alone c (take i list)) e h n)
+    subst (λ (x : SoloState). IsLogOf log' x) (sym (run-last (solo_start c) (take i list) e) ∙ ap (run_alone c) (next-front list i e inside is))
+    (log-step log log' (run_alone c (take i list)) e h n)
 
 -- WHAT THE LOG SAYS
 pub record IsTrueLog {A : Type 0} (c : Config) (list : List SoloContent) (log : SoloLog A) : Type 0 where
@@ -61,7 +67,8 @@ pub record IsTrueLog {A : Type 0} (c : Config) (list : List SoloContent) (log : 
   pub hands_over : HandsOverWhatCame c list log.delivered.items
   pub acknowledges : AcknowledgesInOrder c list
 
-log-true : {A : Type 0} (c : Config) (list : List SoloContent) (log : SoloLog A) → IsConfig c → AllByRecursion HasRanges list → IsLogOf log (run_alone c list) → IsTrueLog c list log
+log-true : {A : Type 0} (c : Config) (list : List SoloContent) (log : SoloLog A) → IsConfig c → AllByRecursion HasRanges list → IsLogOf log (run_alone c list)
+    → IsTrueLog c list log
 log-true c list log is fits h =
     let true_end = one_end_is_true_lem c list is fits in
     let closed = (run_alone c list).closed in
@@ -73,7 +80,8 @@ log-true c list log is fits h =
     }
 
 -- after the last event
-pub log-ends : {A X : Type 0} (c : Config) (content : X → SoloContent) (events : List X) (i : ℕ) (log : SoloLog A) → IsConfig c → length events ≤ i → AllByRecursion HasRanges (take i (map content events))
+pub log-ends : {A X : Type 0} (c : Config) (content : X → SoloContent) (events : List X) (i : ℕ) (log : SoloLog A) → IsConfig c → length events ≤ i
+    → AllByRecursion HasRanges (take i (map content events))
     → IsLogOf log (run_alone c (take i (map content events))) → IsTrueLog c (map content events) log
 log-ends c content events i log is done fits h =
     let more : length (map content events) ≤ i = simp length-map done in

@@ -1,6 +1,7 @@
 -- ONE END after every list of events: what it keeps of its own, where what it has came from, and what it emitted.
-use Rattle.std.proofs.Common.{◌≡◌, ℕ, ◌+◌, List, [], ◌∷◌, ◌++◌, refl, sym, ◌∙◌, ap, subst, ⊎_elim, inl, inr, arith, append-nil, append_assoc}
-use Rattle.std.specs.Prelude.{◌⊎◌, zero, suc, Bool, true, false, ◌||◌, if◌then◌else◌, Option, Some, None, IfSome, option_map, option_to_list, slice_get, Result, Ok, Err, is_some}
+use Rattle.std.proofs.Common.{◌≡◌, ℕ, ◌+◌, List, [], ◌∷◌, ◌++◌, refl, sym, ◌∙◌, ap, subst, ⊎_elim, inl, inr, arith, append-nil, append_assoc, ◌<◌, ◌^◌}
+use Rattle.std.specs.Prelude.{◌⊎◌, zero, suc, Bool, true, false, if◌then◌else◌, Option, Some, None, IfSome, option_map, option_to_list, slice_get, Result}
+use Rattle.std.specs.Prelude.{Ok, Err, is_some, ◌||◌}
 use Rattle.std.specs.List.{AllByRecursion}
 use Rattle.std.proofs.lemmas.Bool.{false≢true}
 use Rattle.tcp_wire.specs.Checksum.{AreBytes}
@@ -26,87 +27,108 @@ use Rattle.tcp_conn.specs.Due.{due_of}
 use Rattle.tcp_conn.specs.Forms.{segment_of}
 use Rattle.tcp_conn.specs.Writing.{bytes_of, destination_of}
 use Rattle.tcp_replay.specs.Alone.{IsAlone}
-use Rattle.tcp_replay.specs.OneEnd.{SendsItsUsers, Came, TookSyn, CameIn, HandsOverWhatCame, count_come, count_in_order, wanted_position, AcknowledgesInOrder, OneEndIsTrue}
-use Rattle.tcp_replay.specs.Solo.{SoloState, solo_start, end_after, bytes_taken, bytes_put_out, is_close, segment_due, segment_emitted, after_solo, solo_run, run_alone}
+use Rattle.tcp_replay.specs.OneEnd.{SendsItsUsers, Came, TookSyn, CameIn, HandsOverWhatCame, count_come, count_in_order, wanted_position}
+use Rattle.tcp_replay.specs.OneEnd.{AcknowledgesInOrder, OneEndIsTrue}
+use Rattle.tcp_replay.specs.Solo.{SoloState, solo_start, end_after, bytes_taken, bytes_put_out, is_close, segment_due, segment_emitted, after_solo}
+use Rattle.tcp_replay.specs.Solo.{solo_run, run_alone}
 use Rattle.tcp_replay.specs.SoloEvents.{SoloContent, HasRanges, Connect, Listen, Send, Receive, Close, Abort, Acknowledge, Timer, Emit, Arrive}
 use Rattle.tcp_replay.specs.Truthful.{IsOfUser}
-use Rattle.tcp_replay.specs.World.{front_taken}
+use Rattle.tcp_replay.specs.World.{front_taken, PartyState, party_after_abort, party_after_acknowledge, party_after_close, party_after_connect}
+use Rattle.tcp_replay.specs.World.{party_after_listen, party_after_receive, party_after_send, party_after_timer}
 use Rattle.tcp_replay.proofs.Lists.{by_test, one_if}
-use Rattle.tcp_replay.proofs.Truths.{of_user-grows}
+use Rattle.tcp_replay.proofs.Steps.{of_user-grows}
 use Rattle.tcp_replay.proofs.Alone.{alone-new}
-use Rattle.tcp_replay.proofs.AloneArrivals.{alone-judgement}
-use Rattle.tcp_replay.proofs.AloneCalls.{alone-connected, alone-listening, send-unclosed, alone-sent, alone-received, or-false, alone-closed, alone-aborted, alone-acknowledged, alone-timer}
-use Rattle.tcp_replay.proofs.AloneEmissions.{IsSaid, GoesOutAlone, due-alone, alone-emitted}
+use Rattle.tcp_replay.proofs.AloneCalls.{alone-judgement, send-unclosed, IsAloneIn, alone-calls}
+use Rattle.tcp_replay.proofs.AloneEmissions.{IsSaid, GoesOutAlone, due-alone}
 use Rattle.tcp_replay.proofs.Emissions.{syn-of_user, syn-opened, plain-of_user, reset-bit}
 use Rattle.tcp_replay.proofs.Judgements.{IsTaken}
 use Rattle.tcp_replay.proofs.Feeds.{AllText, ByNumber, text-of, text-at, text-front, IsFed, fed-new, fed-more, fed-any}
-use Rattle.tcp_replay.proofs.AloneFeeds.{Feeds, feeds-same, feeds-connected, feeds-listening, feeds-sent, feeds-closed, feeds-aborted, feeds-acknowledged, feeds-timer, feeds-emitted, feeds-received, feeds-judgement}
+use Rattle.tcp_replay.proofs.AloneFeeds.{Feeds, feeds-same, feeds-judgement, feeds-calls}
+use Rattle.tcp_replay.proofs.Calls.{or-false, KeptByCalls, on-abort, on-acknowledge, on-close, on-connect, on-emission, on-listen, on-receive, on-send}
+use Rattle.tcp_replay.proofs.Calls.{on-timer, with_end}
+use Rattle.tcp_halves.specs.declared.link.Peer.{Peer}
 
 -- ARRIVALS, by what the bytes are read as
-read-arrival : (s : State) (src dst bytes : List ℕ) (r : Result Content DecodeError) → decode_answer src dst bytes ≡ r → after_arrival s src dst bytes ≡ after_reading s src dst r
+read-arrival : (s : State) (src dst bytes : List ℕ) (r : Result Content DecodeError) → decode_answer src dst bytes ≡ r
+    → after_arrival s src dst bytes ≡ after_reading s src dst r
 unfolding after_arrival
 read-arrival s src dst bytes r e = ap (after_reading s src dst) e
 
 -- WHAT IT KEEPS OF ITS OWN
-alone-reading : (s : State) (accepted : List ℕ) (closed : Bool) (src dst bytes : List ℕ) (r : Result Content DecodeError) → AreBytes bytes → decode_answer src dst bytes ≡ r → IsAlone s accepted closed
+alone-reading : (s : State) (accepted : List ℕ) (closed : Bool) (src dst bytes : List ℕ) (r : Result Content DecodeError) → AreBytes bytes
+    → decode_answer src dst bytes ≡ r → IsAlone s accepted closed
     → IsAlone (after_reading s src dst r) accepted closed
 alone-reading s accepted closed src dst bytes (Ok v) fits e h = alone-judgement s accepted closed src dst v (decoded_valid src dst v bytes fits e) h
 alone-reading s accepted closed src dst bytes (Err fault) fits e h = h
 
-alone-arrived : (s : State) (accepted : List ℕ) (closed : Bool) (src dst bytes : List ℕ) → AreBytes bytes → IsAlone s accepted closed → IsAlone (after_arrival s src dst bytes) accepted closed
+alone-arrived : (s : State) (accepted : List ℕ) (closed : Bool) (src dst bytes : List ℕ) → AreBytes bytes → IsAlone s accepted closed
+    → IsAlone (after_arrival s src dst bytes) accepted closed
 alone-arrived s accepted closed src dst bytes fits h =
     subst (λ (x : State). IsAlone x accepted closed) (sym (read-arrival s src dst bytes (decode_answer src dst bytes) refl))
     (alone-reading s accepted closed src dst bytes (decode_answer src dst bytes) fits refl h)
 
-alone-still : (s : State) (accepted : List ℕ) (closed : Bool) → IsAlone s accepted closed → IsAlone s (accepted ++ []) (closed || false)
-alone-still s accepted closed h =
-    subst (λ (xs : List ℕ). IsAlone s xs (closed || false)) (sym (append-nil accepted)) (subst (λ (b : Bool). IsAlone s accepted b) (sym (or-false closed)) h)
+-- the party of an end, which keeps no list of what it emitted
+abbrev pub party_in : SoloState → PartyState
+party_in x = record { endpoint = x.endpoint; sent = []; accepted = x.accepted; delivered = x.delivered; closed = x.closed; ended = x.ended }
 
--- the bytes are as many as before, or the close is
-same-closed : (s : State) (accepted : List ℕ) (closed : Bool) → IsAlone s accepted closed → IsAlone s accepted (closed || false)
-same-closed s accepted closed h = subst (λ (b : Bool). IsAlone s accepted b) (sym (or-false closed)) h
+-- some peer
+abbrev peer_of : State → Peer
+peer_of s = record { addr = s.config.addr; port = s.config.port }
 
-same-accepted : (s : State) (accepted : List ℕ) (closed : Bool) → IsAlone s accepted closed → IsAlone s (accepted ++ []) closed
-same-accepted s accepted closed h = subst (λ (xs : List ℕ). IsAlone s xs closed) (sym (append-nil accepted)) h
+-- ANY EVENT at one end: what its calls, timers and emissions keep, and an arrival
+module _ (x : SoloState) (P : PartyState → Type 0) (alone : IsAloneIn (party_in x)) where
+  module _ (calls : (peer : Peer) → peer.port < 2 ^ 16 → KeptByCalls peer (party_in x) P) where
+    -- nothing is added
+    nothing-added : (p : PartyState) → P p
+        → P (record p { accepted = p.accepted ++ []; delivered = p.delivered ++ []; closed = p.closed || false; ended = p.ended || false })
+    nothing-added p h = rw (append-nil p.accepted, append-nil p.delivered, or-false p.closed, or-false p.ended) h
 
-alone-step : (s : State) (accepted : List ℕ) (closed : Bool) (e : SoloContent) → HasRanges e → IsAlone s accepted closed → IsAlone (end_after s e) (accepted ++ bytes_taken s e) (closed || is_close s e)
-alone-step s accepted closed (Connect addr port) fits h = alone-still _ accepted closed (alone-connected s accepted closed _ fits h)
-alone-step s accepted closed Listen fits h = alone-still _ accepted closed (alone-listening s accepted closed h)
-alone-step s accepted closed (Send text) fits h = same-closed _ (accepted ++ bytes_taken s (Send text)) closed (alone-sent s accepted text closed fits h)
-alone-step s accepted closed (Receive room) fits h = alone-still _ accepted closed (alone-received s accepted closed room h)
-alone-step s accepted closed Close fits h = same-accepted _ accepted (closed || is_close s Close) (alone-closed s accepted closed h)
-alone-step s accepted closed Abort fits h = alone-still _ accepted closed (alone-aborted s accepted closed h)
-alone-step s accepted closed Acknowledge fits h = alone-still _ accepted closed (alone-acknowledged s accepted closed h)
-alone-step s accepted closed (Timer which) fits h = alone-still _ accepted closed (alone-timer s accepted closed which h)
-alone-step s accepted closed Emit fits h = alone-still _ accepted closed (alone-emitted s accepted closed h)
-alone-step s accepted closed (Arrive src dst bytes) fits h = alone-still _ accepted closed (alone-arrived s accepted closed src dst bytes fits h)
+    own-calls : KeptByCalls (peer_of x.endpoint) (party_in x) P
+    own-calls = calls (peer_of x.endpoint) alone.config.port
+
+    solo-step : (e : SoloContent) → HasRanges e
+        → ((src dst bytes : List ℕ) → e ≡ Arrive src dst bytes → P (with_end (party_in x) (after_arrival x.endpoint src dst bytes)))
+        → P (party_in (after_solo x e))
+    unfolding party_after_connect party_after_listen party_after_send party_after_receive party_after_close party_after_abort party_after_acknowledge party_after_timer
+    solo-step (Connect addr port) fits arrives = nothing-added _ (on-connect _ (party_in x) P (calls _ fits))
+    solo-step Listen fits arrives = nothing-added _ (on-listen _ (party_in x) P own-calls)
+    solo-step (Send text) fits arrives = rw (append-nil x.delivered, or-false x.closed, or-false x.ended) (on-send _ (party_in x) P own-calls text fits)
+    solo-step (Receive room) fits arrives = rw (append-nil x.accepted, or-false x.closed) (on-receive _ (party_in x) P own-calls room)
+    solo-step Close fits arrives = rw (append-nil x.accepted, append-nil x.delivered, or-false x.ended) (on-close _ (party_in x) P own-calls)
+    solo-step Abort fits arrives = nothing-added _ (on-abort _ (party_in x) P own-calls)
+    solo-step Acknowledge fits arrives = nothing-added _ (on-acknowledge _ (party_in x) P own-calls)
+    solo-step (Timer which) fits arrives = nothing-added _ (on-timer _ (party_in x) P own-calls which)
+    solo-step Emit fits arrives = nothing-added _ (on-emission _ (party_in x) P own-calls alone)
+    solo-step (Arrive src dst bytes) fits arrives = nothing-added _ (arrives src dst bytes refl)
+
+alone-step : (x : SoloState) (e : SoloContent) → HasRanges e → IsAloneIn (party_in x) → IsAloneIn (party_in (after_solo x e))
+alone-step x e fits h =
+    solo-step x IsAloneIn h (λ peer port. alone-calls peer (party_in x) port h) e fits
+    (λ src dst bytes is. alone-arrived x.endpoint x.accepted x.closed src dst bytes (subst HasRanges is fits) h)
 
 -- after a close nothing more is accepted
 taken-unless : (o : Option CallError) (n : ℕ) (text : List ℕ) → (o ≡ None → ⊥) → front_taken (answer_unless o n) text ≡ []
 taken-unless None n text never = absurd (never refl)
 taken-unless (Some error) n text never = refl
 
-fixed-step : (s : State) (accepted : List ℕ) (closed : Bool) (e : SoloContent) → IsAlone s accepted closed → closed ≡ true → (bytes_taken s e ≡ []) × ((closed || is_close s e) ≡ true)
-fixed-step s accepted closed (Send text) h shut =
-    (taken-unless (send_refusal s text) (count_sendable s.sending s.config.limit text) text (λ open_. false≢true (sym (send-unclosed s accepted text closed open_ h) ∙ shut)), ap (λ b. b || false) shut)
-fixed-step s accepted closed (Connect addr port) h shut = (refl, ap (λ b. b || false) shut)
-fixed-step s accepted closed Listen h shut = (refl, ap (λ b. b || false) shut)
-fixed-step s accepted closed (Receive room) h shut = (refl, ap (λ b. b || false) shut)
+fixed-step : (s : State) (accepted : List ℕ) (closed : Bool) (e : SoloContent) → IsAlone s accepted closed → closed ≡ true
+    → (bytes_taken s e ≡ []) × ((closed || is_close s e) ≡ true)
+fixed-step s accepted closed (Send text) h shut = (
+  taken-unless (send_refusal s text) (count_sendable s.sending s.config.limit text) text
+      (λ open_. false≢true (sym (send-unclosed s accepted text closed open_ h) ∙ shut)),
+  ap (λ b. b || false) shut,
+)
 fixed-step s accepted closed Close h shut = (refl, ap (λ b. b || is_close s Close) shut)
-fixed-step s accepted closed Abort h shut = (refl, ap (λ b. b || false) shut)
-fixed-step s accepted closed Acknowledge h shut = (refl, ap (λ b. b || false) shut)
-fixed-step s accepted closed (Timer which) h shut = (refl, ap (λ b. b || false) shut)
-fixed-step s accepted closed Emit h shut = (refl, ap (λ b. b || false) shut)
-fixed-step s accepted closed (Arrive src dst bytes) h shut = (refl, ap (λ b. b || false) shut)
+fixed-step s accepted closed other h shut = (refl, ap (λ b. b || false) shut)
 
 -- WHAT IS EMITTED
 pub record Says (s : State) (accepted : List ℕ) (closed : Bool) (v : Content) : Type 0 where
   pub own : IsOfUser s.config.isn.0 accepted closed v
   pub told : has ack v.flags ≡ true → (s.receiving.opened ≡ true) × (v.ack ≡ s.receiving.next)
 
-syn-says : (s : State) (accepted : List ℕ) (closed : Bool) → Says s accepted closed (segment_of s Syn)
+syn-speaks : (s : State) (accepted : List ℕ) (closed : Bool) → Says s accepted closed (segment_of s Syn)
 unfolding segment_of
-syn-says s accepted closed = record {
+syn-speaks s accepted closed = record {
   own = syn-of_user s accepted closed;
   told = λ e. let opened = syn-opened s e in (opened, ap (λ (b : Bool). if b then s.receiving.next else 0) opened);
 }
@@ -115,30 +137,27 @@ plain-says : (s : State) (accepted : List ℕ) (closed : Bool) (due : Due) → I
 plain-says s accepted closed due said =
     subst (Says s accepted closed) (sym said.common.segment) (record { own = plain-of_user s accepted closed due said; told = λ _. (said.opened, refl) })
 
-due-says : (s : State) (accepted : List ℕ) (closed : Bool) (due : Due) → GoesOutAlone s accepted closed due → has rst (segment_of s due).flags ≡ false → Says s accepted closed (segment_of s due)
+due-says : (s : State) (accepted : List ℕ) (closed : Bool) (due : Due) → GoesOutAlone s accepted closed due → has rst (segment_of s due).flags ≡ false
+    → Says s accepted closed (segment_of s due)
 unfolding segment_of
 due-says s accepted closed (Reset reset) out plain = absurd (false≢true (sym plain ∙ reset-bit (is_some reset.ack)))
-due-says s accepted closed Syn out plain = syn-says s accepted closed
-due-says s accepted closed (Resend start count) out plain = plain-says s accepted closed (Resend start count) out.kind
-due-says s accepted closed (NewText start count) out plain = plain-says s accepted closed (NewText start count) out.kind
-due-says s accepted closed (Fin start) out plain = plain-says s accepted closed (Fin start) out.kind
-due-says s accepted closed (ResentFin start) out plain = plain-says s accepted closed (ResentFin start) out.kind
-due-says s accepted closed Acknowledgement out plain = plain-says s accepted closed Acknowledgement out.kind
+due-says s accepted closed Syn out plain = syn-speaks s accepted closed
+due-says s accepted closed other out plain = plain-says s accepted closed other out.kind
 
 pub record Emits (s : State) (accepted : List ℕ) (closed : Bool) (to bytes : List ℕ) : Type 0 where
   pub content : Content
   pub read : decode_answer s.config.addr.0 to bytes ≡ Ok content
   pub says : has rst content.flags ≡ false → Says s accepted closed content
 
-some-is : {x y : List ℕ × List ℕ} → Some x ≡ Some y → x ≡ y
-some-is e = cc
+some-segment : {x y : List ℕ × List ℕ} → Some x ≡ Some y → x ≡ y
+some-segment e = cc
 
 emits-due : (s : State) (accepted : List ℕ) (closed : Bool) (to bytes : List ℕ) (due : Option Due) → IfSome due (GoesOutAlone s accepted closed)
     → option_map {U = List ℕ × List ℕ} (λ due. ((destination_of s due).addr.0, bytes_of s due)) due ≡ Some (to, bytes) → Emits s accepted closed to bytes
 unfolding bytes_of
 emits-due s accepted closed to bytes None out e = absurd (cc)
 emits-due s accepted closed to bytes (Some due) out e =
-    let same = some-is e in
+    let same = some-segment e in
     let there : (destination_of s due).addr.0 ≡ to = ap (λ (segment : List ℕ × List ℕ). segment.0) same in
     let spelled : bytes_of s due ≡ bytes = ap (λ (segment : List ℕ × List ℕ). segment.1) same in
     record {
@@ -149,12 +168,14 @@ emits-due s accepted closed to bytes (Some due) out e =
       says = due-says s accepted closed due out;
     }
 
-emits : (s : State) (accepted : List ℕ) (closed : Bool) (to bytes : List ℕ) → IsAlone s accepted closed → segment_due s ≡ Some (to, bytes) → Emits s accepted closed to bytes
+emits : (s : State) (accepted : List ℕ) (closed : Bool) (to bytes : List ℕ) → IsAlone s accepted closed → segment_due s ≡ Some (to, bytes)
+    → Emits s accepted closed to bytes
 unfolding segment_due
 emits s accepted closed to bytes h e = emits-due s accepted closed to bytes (due_of s) (due-alone s accepted closed h) e
 
 -- a member of a list to which one was added, or none
-emitted-more : (sent : List (List ℕ × List ℕ)) (new : Option (List ℕ × List ℕ)) (k : ℕ) (segment : List ℕ × List ℕ) → slice_get (sent ++ option_to_list new) k ≡ Some segment
+emitted-more : (sent : List (List ℕ × List ℕ)) (new : Option (List ℕ × List ℕ)) (k : ℕ) (segment : List ℕ × List ℕ)
+    → slice_get (sent ++ option_to_list new) k ≡ Some segment
     → (slice_get sent k ≡ Some segment) ⊎ (new ≡ Some segment)
 emitted-more [] None k segment e = absurd (cc)
 emitted-more [] (Some last) zero segment e = inr e
@@ -162,9 +183,9 @@ emitted-more [] (Some last) (suc k) segment e = absurd (cc)
 emitted-more (first ∷ sent) new zero segment e = inl e
 emitted-more (first ∷ sent) new (suc k) segment e = emitted-more sent new k segment e
 
-emission : (s : State) (e : SoloContent) (segment : List ℕ × List ℕ) → segment_emitted s e ≡ Some segment → (e ≡ Emit) × (segment_due s ≡ Some segment)
-emission s Emit segment is = (refl, is)
-emission s other segment is = absurd (cc)
+emission-is_due : (s : State) (e : SoloContent) (segment : List ℕ × List ℕ) → segment_emitted s e ≡ Some segment → (e ≡ Emit) × (segment_due s ≡ Some segment)
+emission-is_due s Emit segment is = (refl, is)
+emission-is_due s other segment is = absurd (cc)
 
 -- WHERE WHAT IT HAS CAME FROM stays so while more happens
 came-more : (list : List SoloContent) (e : SoloContent) → Came list → Came (list ++ e ∷ [])
@@ -181,7 +202,8 @@ came-more list e h = record {
 
 byte-more : (c : Config) (list : List SoloContent) (e : SoloContent) (n byte : ℕ) → CameIn c list n byte → CameIn c (list ++ e ∷ []) n byte
 unfolding came-more
-byte-more c list e n byte h = record { came = came-more list e h.came; mine = h.mine; acceptable = h.acceptable; no_rst = h.no_rst; no_syn = h.no_syn; has_ack = h.has_ack; place = h.place; byte_is = h.byte_is; number = h.number }
+byte-more c list e n byte h =
+    record { came = came-more list e h.came; mine = h.mine; acceptable = h.acceptable; no_rst = h.no_rst; no_syn = h.no_syn; has_ack = h.has_ack; place = h.place; byte_is = h.byte_is; number = h.number }
 
 syn-more : (c : Config) (list : List SoloContent) (e : SoloContent) (irs : ℕ) → TookSyn c list irs → TookSyn c (list ++ e ∷ []) irs
 unfolding came-more
@@ -191,8 +213,10 @@ syn-more c list e irs h = record { came = came-more list e h.came; is_syn = h.is
 came-last : (list : List SoloContent) (src dst bytes : List ℕ) (v : Content) → decode_answer src dst bytes ≡ Ok v → Came (list ++ Arrive src dst bytes ∷ [])
 came-last list src dst bytes v e = record { front = list; src = src; dst = dst; bytes = bytes; rest = []; whole = refl; content = v; read = e }
 
-text-came : (c : Config) (list : List SoloContent) (x : SoloState) (src dst bytes : List ℕ) (v : Content) → run_alone c list ≡ x → decode_answer src dst bytes ≡ Ok v
-    → is_foreign x.endpoint src dst v ≡ false → IsTaken x.endpoint v → AllText (ByNumber (CameIn c (list ++ Arrive src dst bytes ∷ [])) v.seq) 0 v.text
+text-came : (c : Config) (list : List SoloContent) (x : SoloState) (src dst bytes : List ℕ) (v : Content) → run_alone c list ≡ x
+    → decode_answer src dst bytes ≡ Ok v
+    → is_foreign x.endpoint src dst v ≡ false → IsTaken x.endpoint v
+    → AllText (ByNumber (CameIn c (list ++ Arrive src dst bytes ∷ [])) v.seq) 0 v.text
 unfolding came-last
 text-came c list x src dst bytes v at e mine fits =
     text-of (ByNumber (CameIn c (list ++ Arrive src dst bytes ∷ [])) v.seq) 0 0 v.text refl (λ i byte is. record {
@@ -238,30 +262,32 @@ run-last x (first ∷ list) e = run-last (after_solo x first) list e
 fed-irs : (P : ℕ → ℕ → Type 0) (s : State) (irs n k : ℕ) (delivered : List ℕ) → IsFed P s.receiving irs k delivered (gives_up s.ending)
     → IsFed P s.receiving (if s.receiving.opened then irs else n) k delivered (gives_up s.ending)
 fed-irs P s irs n k delivered h =
-    by_test s.receiving.opened (λ b. IsFed P s.receiving (if b then irs else n) k delivered (gives_up s.ending)) (λ _. h) (λ shut. fed-any P s.receiving irs n k delivered (gives_up s.ending) shut h)
-
-same-delivered : (P : ℕ → ℕ → Type 0) (Q : Type 0) (s s' : State) (irs k : ℕ) (delivered : List ℕ) → Feeds P Q s s' irs k delivered → Feeds P Q s s' irs k (delivered ++ [])
-same-delivered P Q s s' irs k delivered h = subst (λ (xs : List ℕ). Feeds P Q s s' irs k xs) (sym (append-nil delivered)) h
+    by_test s.receiving.opened (λ b. IsFed P s.receiving (if b then irs else n) k delivered (gives_up s.ending)) (λ _. h)
+    (λ shut. fed-any P s.receiving irs n k delivered (gives_up s.ending) shut h)
 
 -- a SYN came
 abbrev pub IsSynRead : Result Content DecodeError → Type 0
 IsSynRead (Ok v) = has syn v.flags ≡ true
 IsSynRead (Err fault) = ⊥
 
-feeds-reading : (P : ℕ → ℕ → Type 0) (s : State) (irs k : ℕ) (delivered accepted : List ℕ) (closed : Bool) (src dst bytes : List ℕ) (r : Result Content DecodeError) → AreBytes bytes → decode_answer src dst bytes ≡ r
+feeds-reading : (P : ℕ → ℕ → Type 0) (s : State) (irs k : ℕ) (delivered accepted : List ℕ) (closed : Bool) (src dst bytes : List ℕ)
+    (r : Result Content DecodeError) → AreBytes bytes → decode_answer src dst bytes ≡ r
     → IsAlone s accepted closed
     → ((v : Content) → decode_answer src dst bytes ≡ Ok v → is_foreign s src dst v ≡ false → IsTaken s v → AllText (ByNumber P v.seq) 0 v.text)
-    → IsFed P s.receiving irs k delivered (gives_up s.ending) → Feeds P (IsSynRead r) s (after_reading s src dst r) (if s.receiving.opened then irs else seq_read r) k delivered
+    → IsFed P s.receiving irs k delivered (gives_up s.ending)
+    → Feeds P (IsSynRead r) s (after_reading s src dst r) (if s.receiving.opened then irs else seq_read r) k delivered
 feeds-reading P s irs k delivered accepted closed src dst bytes (Ok v) fits e a came h =
     feeds-judgement P s (if s.receiving.opened then irs else v.seq) k delivered accepted closed src dst v (decoded_valid src dst v bytes fits e).seq a
     (λ shut. ap (λ (b : Bool). if b then irs else v.seq) shut) (came v e) (fed-irs P s irs v.seq k delivered h)
 feeds-reading P s irs k delivered accepted closed src dst bytes (Err fault) fits e a came h =
     feeds-same P ⊥ s (if s.receiving.opened then irs else 0) k delivered (fed-irs P s irs 0 k delivered h)
 
-feeds-arrived : (P : ℕ → ℕ → Type 0) (s : State) (irs k : ℕ) (delivered accepted : List ℕ) (closed : Bool) (src dst bytes : List ℕ) → AreBytes bytes → IsAlone s accepted closed
+feeds-arrived : (P : ℕ → ℕ → Type 0) (s : State) (irs k : ℕ) (delivered accepted : List ℕ) (closed : Bool) (src dst bytes : List ℕ) → AreBytes bytes
+    → IsAlone s accepted closed
     → ((v : Content) → decode_answer src dst bytes ≡ Ok v → is_foreign s src dst v ≡ false → IsTaken s v → AllText (ByNumber P v.seq) 0 v.text)
     → IsFed P s.receiving irs k delivered (gives_up s.ending)
-    → Feeds P (IsSynRead (decode_answer src dst bytes)) s (after_arrival s src dst bytes) (if s.receiving.opened then irs else seq_read (decode_answer src dst bytes)) k delivered
+    → Feeds P (IsSynRead (decode_answer src dst bytes)) s (after_arrival s src dst bytes)
+    (if s.receiving.opened then irs else seq_read (decode_answer src dst bytes)) k delivered
 feeds-arrived P s irs k delivered accepted closed src dst bytes fits a came h =
     let r = decode_answer src dst bytes in
     subst (λ (s' : State). Feeds P (IsSynRead r) s s' (if s.receiving.opened then irs else seq_read r) k delivered) (sym (read-arrival s src dst bytes r refl))
@@ -271,43 +297,43 @@ abbrev pub BringsSyn : SoloContent → Type 0
 BringsSyn (Arrive src dst bytes) = IsSynRead (decode_answer src dst bytes)
 BringsSyn other = ⊥
 
+-- the number of the last segment serves until a SYN is taken
+fed-next : (P : ℕ → ℕ → Type 0) (s : State) (irs k : ℕ) (delivered : List ℕ) (e : SoloContent) → IsFed P s.receiving irs k delivered (gives_up s.ending)
+    → IsFed P s.receiving (next_irs s irs e) k delivered (gives_up s.ending)
+fed-next P s irs k delivered (Arrive src dst bytes) h = fed-irs P s irs (seq_read (decode_answer src dst bytes)) k delivered h
+fed-next P s irs k delivered other h = h
+
 -- by event
 feeds-by : (c : Config) (list : List SoloContent) (x : SoloState) (irs k : ℕ) (e : SoloContent) → HasRanges e → Holds c list x irs k
     → IsFed (CameIn c (list ++ e ∷ [])) x.endpoint.receiving irs k x.delivered (gives_up x.endpoint.ending)
-    → Feeds (CameIn c (list ++ e ∷ [])) (BringsSyn e) x.endpoint (end_after x.endpoint e) (next_irs x.endpoint irs e) k (x.delivered ++ bytes_put_out x.endpoint e)
-feeds-by c list x irs k (Connect addr port) fits h fed = same-delivered _ _ x.endpoint _ irs k x.delivered (feeds-connected _ _ x.endpoint irs k x.delivered fed _)
-feeds-by c list x irs k Listen fits h fed = same-delivered _ _ x.endpoint _ irs k x.delivered (feeds-listening _ _ x.endpoint irs k x.delivered fed)
-feeds-by c list x irs k (Send text) fits h fed = same-delivered _ _ x.endpoint _ irs k x.delivered (feeds-sent _ _ x.endpoint irs k x.delivered fed text)
-feeds-by c list x irs k (Receive room) fits h fed = feeds-received _ _ x.endpoint irs k x.delivered room fed
-feeds-by c list x irs k Close fits h fed = same-delivered _ _ x.endpoint _ irs k x.delivered (feeds-closed _ _ x.endpoint irs k x.delivered fed)
-feeds-by c list x irs k Abort fits h fed = same-delivered _ _ x.endpoint _ irs k x.delivered (feeds-aborted _ _ x.endpoint irs k x.delivered fed)
-feeds-by c list x irs k Acknowledge fits h fed = same-delivered _ _ x.endpoint _ irs k x.delivered (feeds-acknowledged _ _ x.endpoint irs k x.delivered fed)
-feeds-by c list x irs k (Timer which) fits h fed = same-delivered _ _ x.endpoint _ irs k x.delivered (feeds-timer _ _ x.endpoint irs k x.delivered fed x.accepted x.closed which h.alone)
-feeds-by c list x irs k Emit fits h fed = same-delivered _ _ x.endpoint _ irs k x.delivered (feeds-emitted _ _ x.endpoint irs k x.delivered fed)
-feeds-by c list x irs k (Arrive src dst bytes) fits h fed =
-    same-delivered _ _ x.endpoint _ _ k x.delivered (feeds-arrived _ x.endpoint irs k x.delivered x.accepted x.closed src dst bytes fits h.alone
-    (λ v e mine ok. text-came c list x src dst bytes v h.at e mine ok) fed)
+    → Feeds (CameIn c (list ++ e ∷ [])) (BringsSyn e) x.endpoint (end_after x.endpoint e) (next_irs x.endpoint irs e) k
+    (x.delivered ++ bytes_put_out x.endpoint e)
+feeds-by c list x irs k e fits h fed =
+    let P = λ (e : SoloContent) (s : State) (delivered : List ℕ). Feeds (CameIn c (list ++ e ∷ [])) (BringsSyn e) x.endpoint s
+    (next_irs x.endpoint irs e) k delivered in
+    solo-step x (λ p. P e p.endpoint p.delivered) h.alone
+    (λ peer _. feeds-calls _ (BringsSyn e) peer (party_in x) (next_irs x.endpoint irs e) k h.alone (fed-next _ x.endpoint irs k x.delivered e fed)) e fits
+    (λ src dst bytes is. subst (λ e. P e (after_arrival x.endpoint src dst bytes) x.delivered) (sym is)
+    (feeds-arrived _ x.endpoint irs k x.delivered x.accepted x.closed src dst bytes (subst HasRanges is fits) h.alone
+    (λ v e mine ok. text-came c list x src dst bytes v h.at e mine ok)
+    (subst (λ e. IsFed (CameIn c (list ++ e ∷ [])) x.endpoint.receiving irs k x.delivered (gives_up x.endpoint.ending)) is fed)))
 
 feeds-step : (c : Config) (list : List SoloContent) (x : SoloState) (irs k : ℕ) (e : SoloContent) → HasRanges e → Holds c list x irs k
-    → Feeds (CameIn c (list ++ e ∷ [])) (BringsSyn e) x.endpoint (end_after x.endpoint e) (next_irs x.endpoint irs e) k (x.delivered ++ bytes_put_out x.endpoint e)
+    → Feeds (CameIn c (list ++ e ∷ [])) (BringsSyn e) x.endpoint (end_after x.endpoint e) (next_irs x.endpoint irs e) k
+    (x.delivered ++ bytes_put_out x.endpoint e)
 feeds-step c list x irs k e fits h =
-    feeds-by c list x irs k e fits h (fed-more (CameIn c list) (CameIn c (list ++ e ∷ [])) x.endpoint.receiving irs k x.delivered (gives_up x.endpoint.ending) (byte-more c list e) h.fed)
+    feeds-by c list x irs k e fits h
+    (fed-more (CameIn c list) (CameIn c (list ++ e ∷ [])) x.endpoint.receiving irs k x.delivered (gives_up x.endpoint.ending) (byte-more c list e) h.fed)
 
 -- the SYN, once it was taken or where it comes
 irs-same : (s : State) (irs : ℕ) (e : SoloContent) → s.receiving.opened ≡ true → next_irs s irs e ≡ irs
 irs-same s irs (Arrive src dst bytes) opened = ap (λ (b : Bool). if b then irs else seq_read (decode_answer src dst bytes)) opened
-irs-same s irs (Connect addr port) opened = refl
-irs-same s irs Listen opened = refl
-irs-same s irs (Send text) opened = refl
-irs-same s irs (Receive room) opened = refl
-irs-same s irs Close opened = refl
-irs-same s irs Abort opened = refl
-irs-same s irs Acknowledge opened = refl
-irs-same s irs (Timer which) opened = refl
-irs-same s irs Emit opened = refl
+irs-same s irs other opened = refl
 
-syn-read : (c : Config) (list : List SoloContent) (x : SoloState) (irs : ℕ) (src dst bytes : List ℕ) (r : Result Content DecodeError) → decode_answer src dst bytes ≡ r → IsSynRead r → run_alone c list ≡ x
-    → x.endpoint.receiving.opened ≡ false → (after_arrival x.endpoint src dst bytes).receiving.opened ≡ true → TookSyn c (list ++ Arrive src dst bytes ∷ []) (seq_read r)
+syn-read : (c : Config) (list : List SoloContent) (x : SoloState) (irs : ℕ) (src dst bytes : List ℕ) (r : Result Content DecodeError)
+    → decode_answer src dst bytes ≡ r → IsSynRead r → run_alone c list ≡ x
+    → x.endpoint.receiving.opened ≡ false → (after_arrival x.endpoint src dst bytes).receiving.opened ≡ true
+    → TookSyn c (list ++ Arrive src dst bytes ∷ []) (seq_read r)
 unfolding came-last
 syn-read c list x irs src dst bytes (Err fault) e is at shut opened = absurd is
 syn-read c list x irs src dst bytes (Ok v) e is at shut opened = record {
@@ -318,20 +344,23 @@ syn-read c list x irs src dst bytes (Ok v) e is at shut opened = record {
   number = refl;
 }
 
-syn-new : (c : Config) (list : List SoloContent) (x : SoloState) (irs : ℕ) (e : SoloContent) → BringsSyn e → run_alone c list ≡ x → x.endpoint.receiving.opened ≡ false
+syn-new : (c : Config) (list : List SoloContent) (x : SoloState) (irs : ℕ) (e : SoloContent) → BringsSyn e → run_alone c list ≡ x
+    → x.endpoint.receiving.opened ≡ false
     → (end_after x.endpoint e).receiving.opened ≡ true → TookSyn c (list ++ e ∷ []) (next_irs x.endpoint irs e)
 syn-new c list x irs (Arrive src dst bytes) is at shut opened =
     subst (TookSyn c (list ++ Arrive src dst bytes ∷ [])) (ap (λ (b : Bool). if b then irs else seq_read (decode_answer src dst bytes)) (sym shut))
     (syn-read c list x irs src dst bytes (decode_answer src dst bytes) refl is at shut opened)
 syn-new c list x irs other is at shut opened = absurd is
 
-syn-step : (c : Config) (list : List SoloContent) (x : SoloState) (irs k : ℕ) (e : SoloContent) → HasRanges e → Holds c list x irs k → (end_after x.endpoint e).receiving.opened ≡ true
+syn-step : (c : Config) (list : List SoloContent) (x : SoloState) (irs k : ℕ) (e : SoloContent) → HasRanges e → Holds c list x irs k
+    → (end_after x.endpoint e).receiving.opened ≡ true
     → TookSyn c (list ++ e ∷ []) (next_irs x.endpoint irs e)
 syn-step c list x irs k e fits h opened =
     let s = x.endpoint in
     by_test s.receiving.opened (λ _. TookSyn c (list ++ e ∷ []) (next_irs s irs e))
     (λ had. subst (TookSyn c (list ++ e ∷ [])) (sym (irs-same s irs e had)) (syn-more c list e irs (h.taken had)))
-    (λ shut. ⊎_elim (λ (had : s.receiving.opened ≡ true). absurd (false≢true (sym shut ∙ had))) (λ is. syn-new c list x irs e is h.at shut opened) ((feeds-step c list x irs k e fits h).opens opened))
+    (λ shut. ⊎_elim (λ (had : s.receiving.opened ≡ true). absurd (false≢true (sym shut ∙ had))) (λ is. syn-new c list x irs e is h.at shut opened)
+    ((feeds-step c list x irs k e fits h).opens opened))
 
 -- all that was emitted
 sends-step : (c : Config) (list : List SoloContent) (x : SoloState) (irs k : ℕ) (e : SoloContent) → Holds c list x irs k
@@ -339,11 +368,12 @@ sends-step : (c : Config) (list : List SoloContent) (x : SoloState) (irs k : ℕ
 sends-step c list x irs k e h n to bytes is =
     let s = x.endpoint in
     let more : (v : Content) → IsOfUser c.isn.0 x.accepted x.closed v → IsOfUser c.isn.0 (x.accepted ++ bytes_taken s e) (x.closed || is_close s e) v =
-    λ v own. of_user-grows c.isn.0 c.isn.0 x.accepted (bytes_taken s e) (x.accepted ++ bytes_taken s e) x.closed (x.closed || is_close s e) v refl refl (fixed-step s x.accepted x.closed e h.alone) own in
+    λ v own. of_user-grows c.isn.0 c.isn.0 x.accepted (bytes_taken s e) (x.accepted ++ bytes_taken s e) x.closed (x.closed || is_close s e) v refl refl
+    (fixed-step s x.accepted x.closed e h.alone) own in
     ⊎_elim
     (λ (old : slice_get x.emitted n ≡ Some (to, bytes)). let had = h.sends n to bytes old in (had.0, had.1, λ plain. more had.0 (had.2 plain)))
     (λ (new : segment_emitted s e ≡ Some (to, bytes)).
-    let out = emits s x.accepted x.closed to bytes h.alone (emission s e (to, bytes) new).1 in (
+    let out = emits s x.accepted x.closed to bytes h.alone (emission-is_due s e (to, bytes) new).1 in (
       out.content,
       subst (λ (c : Config). decode_answer c.addr.0 to bytes ≡ Ok out.content) h.config out.read,
       λ plain. more out.content (subst (λ (c : Config). IsOfUser c.isn.0 x.accepted x.closed out.content) h.config (out.says plain).own),
@@ -357,18 +387,19 @@ holds-step c list x irs k e fits h =
     record {
       at = run-last (solo_start c) list e ∙ ap (λ (y : SoloState). after_solo y e) h.at;
       config = feeds.config ∙ h.config;
-      alone = alone-step x.endpoint x.accepted x.closed e fits h.alone;
+      alone = alone-step x e fits h.alone;
       fed = feeds.fed;
       taken = syn-step c list x irs k e fits h;
       sends = sends-step c list x irs k e h;
     }
 
 -- ALL EVENTS
-record Reaches (c : Config) (list rest : List SoloContent) (x : SoloState) (irs k : ℕ) : Type 0 where
+record HoldsAfter (c : Config) (list rest : List SoloContent) (x : SoloState) (irs k : ℕ) : Type 0 where
   holds : Holds c (list ++ rest) (solo_run x rest) (irs_of x irs rest) (k + count_in_order x.endpoint rest)
   stays : x.endpoint.receiving.opened ≡ true → irs_of x irs rest ≡ irs
 
-reaches : (c : Config) (list rest : List SoloContent) (x : SoloState) (irs k : ℕ) → AllByRecursion HasRanges rest → Holds c list x irs k → Reaches c list rest x irs k
+reaches : (c : Config) (list rest : List SoloContent) (x : SoloState) (irs k : ℕ) → AllByRecursion HasRanges rest → Holds c list x irs k
+    → HoldsAfter c list rest x irs k
 unfolding solo_run count_in_order
 reaches c list [] x irs k fits h =
     let none : k ≡ k + 0 = omega arith in
@@ -379,7 +410,8 @@ reaches c list (e ∷ rest) x irs k fits h =
     let further = reaches c (list ++ e ∷ []) rest (after_solo x e) (next_irs s irs e) (k + count_come s e) fits.1 next in
     let sum : (k + count_come s e) + count_in_order (end_after s e) rest ≡ k + (count_come s e + count_in_order (end_after s e) rest) = omega arith in
     record {
-      holds = subst (λ (l : List SoloContent). Holds c l (solo_run (after_solo x e) rest) (irs_of (after_solo x e) (next_irs s irs e) rest) (k + (count_come s e + count_in_order (end_after s e) rest)))
+      holds = subst (λ (l : List SoloContent). Holds c l (solo_run (after_solo x e) rest) (irs_of (after_solo x e) (next_irs s irs e) rest)
+          (k + (count_come s e + count_in_order (end_after s e) rest)))
           (append_assoc list (e ∷ []) rest)
           (subst (Holds c ((list ++ e ∷ []) ++ rest) (solo_run (after_solo x e) rest) (irs_of (after_solo x e) (next_irs s irs e) rest)) sum further.holds);
       stays = λ opened. further.stays ((feeds-step c list x irs k e fits.0 h).stays opened) ∙ irs-same s irs e opened;
@@ -410,14 +442,15 @@ not-empty : (xs more : List ℕ) (i byte : ℕ) → xs ++ more ≡ [] → slice_
 not-empty [] more i byte none is = absurd (cc)
 not-empty (x ∷ xs) more i byte none is = absurd (cc)
 
-handed-over : (c : Config) (list : List SoloContent) (x : SoloState) (irs k : ℕ) → Holds c list x irs k → HandsOverWhatCame c list x.delivered
-handed-over c list x irs k h =
+hands-over : (c : Config) (list : List SoloContent) (x : SoloState) (irs k : ℕ) → Holds c list x irs k → HandsOverWhatCame c list x.delivered
+hands-over c list x irs k h =
     let r = x.endpoint.receiving in
     record {
       irs = irs;
       came = λ i byte is. (
         h.taken (by_test r.opened (λ b. b ≡ true) (λ _. refl) (λ shut. absurd (not-empty x.delivered r.inbox.unread i byte (h.fed.unopened shut).1 is))),
-        text-at (ByNumber (CameIn c list) irs) 1 x.delivered i (1 + i) byte refl is (text-front (ByNumber (CameIn c list) irs) 1 x.delivered r.inbox.unread h.fed.text),
+        text-at (ByNumber (CameIn c list) irs) 1 x.delivered i (1 + i) byte refl is
+            (text-front (ByNumber (CameIn c list) irs) 1 x.delivered r.inbox.unread h.fed.text),
       );
     }
 
@@ -443,7 +476,8 @@ acknowledges c list is fits = record {
       let same : out.content ≡ v = content-is (sym out.read ∙ ap (λ (c : Config). decode_answer c.addr.0 to bytes) there.holds.config ∙ read) in
       let says = out.says (ap (λ (w : Content). has rst w.flags) same ∙ plain) in
       let told = says.told (ap (λ (w : Content). has ack w.flags) same ∙ acked) in
-      let one : irs_of (solo_start c) 0 list ≡ irs = ap (irs_of (solo_start c) 0) whole ∙ irs-split (solo_start c) 0 front (Emit ∷ rest) ∙ beyond.stays told.0 in (
+      let one : irs_of (solo_start c) 0 list ≡ irs = ap (irs_of (solo_start c) 0) whole ∙ irs-split (solo_start c) 0 front (Emit ∷ rest) ∙
+      beyond.stays told.0 in (
         subst (TookSyn c front) (sym one) (there.holds.taken told.0),
         ap (λ (w : Content). w.ack) (sym same) ∙ told.1 ∙ there.holds.fed.next told.0
             ∙ ap (λ (n : ℕ). number irs (1 + n + one_if x.endpoint.receiving.finished)) count ∙ ap (λ (n : ℕ). number n (wanted_position c front)) (sym one),
@@ -455,6 +489,6 @@ one_end_is_true_lem c list is fits =
     let there = reaches c [] list (solo_start c) 0 0 fits (holds-new c is) in
     record {
       sends = there.holds.sends;
-      hands_over = handed-over c list (run_alone c list) (irs_of (solo_start c) 0 list) (0 + count_in_order (new_end c) list) there.holds;
+      hands_over = hands-over c list (run_alone c list) (irs_of (solo_start c) 0 list) (0 + count_in_order (new_end c) list) there.holds;
       acknowledges = acknowledges c list is fits;
     }

@@ -20,20 +20,23 @@ use Rattle.tcp_conn.specs.Sender.{acks_more, with_acked, after_ack, with_syn_ack
 use Rattle.tcp_conn.specs.Receiver.{after_text, is_fin_due, with_fin}
 use Rattle.tcp_conn.specs.Endings.{after_orderly_end}
 use Rattle.tcp_conn.specs.Judgement.{position_near}
-use Rattle.tcp_conn.specs.Arrival.{after_own_syn, after_acked_text, after_news, after_own_fin, after_its_ack, takes_text_of, after_its_text, has_fin, takes_fin, after_fin, after_taking, after_taking_shut}
+use Rattle.tcp_conn.specs.Arrival.{after_own_syn, after_acked_text, after_news, after_own_fin, after_its_ack, takes_text_of, after_its_text, has_fin}
+use Rattle.tcp_conn.specs.Arrival.{takes_fin, after_fin, after_taking, after_taking_shut}
 use Rattle.tcp_replay.specs.World.{PartyState}
 use Rattle.tcp_replay.specs.Truthful.{IsTruthful}
 use Rattle.tcp_replay.specs.Alone.{Sends}
 use Rattle.tcp_replay.specs.Safe.{witness_of, next_position}
 use Rattle.tcp_replay.proofs.Lists.{by_test, one_if, one_if-false, one_if-most, drop-take_sub}
-use Rattle.tcp_replay.proofs.Positions.{number-further, number-same}
+use Rattle.tcp_replay.proofs.Lists.{number-further, number-same}
 use Rattle.tcp_replay.proofs.Halves.{takes-advance, hands-advance, takes-fin}
-use Rattle.tcp_replay.proofs.Truths.{positive, position-of_text}
+use Rattle.tcp_replay.proofs.Steps.{positive, position-of_text}
 use Rattle.tcp_replay.proofs.Steps.{Kept}
-use Rattle.tcp_replay.proofs.Phases.{is_synchronized, gives_up-not_ended, at-syn_received, at-synchronized, at-takes_text, present-knows, knows-own_fin, knows-fin}
+use Rattle.tcp_replay.proofs.Phases.{is_synchronized, gives_up-not_ended, end-syn_received, end-synchronized, end-takes_text, present-knows, knows-own_fin}
+use Rattle.tcp_replay.proofs.Phases.{knows-fin}
 use Rattle.tcp_replay.proofs.Judgements.{IsPresent}
-use Rattle.tcp_replay.proofs.AloneStages.{alone-own_syn, alone-acked_text, same-news, alone-news, own_fin-phase, own_syn-synced, owes-taking, alone-text, alone-fin_taken, owes-going_on}
-use Rattle.tcp_replay.proofs.Moves.{next_of, kept-alone, kept-changed, kept-ack_owed, kept-orderly}
+use Rattle.tcp_replay.proofs.Alone.{alone-own_syn, alone-acked_text, same-news, alone-news, own_fin-phase, own_syn-synced, owes-taking, alone-text}
+use Rattle.tcp_replay.proofs.Alone.{alone-fin_taken, owes-going_on}
+use Rattle.tcp_replay.proofs.Steps.{next_of, kept-alone, kept-changed, kept-ack_owed, kept-orderly}
 
 -- a state in which both SYNs were taken
 pub record Synced (p q : PartyState) (s : State) : Type 0 where
@@ -52,21 +55,22 @@ kept-own_syn p q s v present h =
       kept = kept-alone p q s (after_own_syn s v) h refl (alone-own_syn s p.accepted p.closed v present h.here.alone)
           (record { peer = λ _. h.here.speaks.peer knows; reset = h.here.speaks.reset }) refl refl
           (cond_both (is_syn_received s.phase) acked d (λ (x : Sending). x.una ≤ next_position q)
-          (λ e. omega (arith, (at-syn_received s.phase s.ending d.una d.nxt r.opened r.finished e h.here.alone.progress).1.nxt_is)) (λ _. h.here.between));
+          (λ e. omega (arith, (end-syn_received s e h.here.alone.progress).1.nxt_is)) (λ _. h.here.between));
       synced = own_syn-synced s v present;
     }
 
 -- ACKNOWLEDGEMENT of a position that the peer wants next, or wanted before
-acked-una : (d : Sending) (a n : ℕ) → d.una ≤ n → a ≤ n → (after_ack d a).una ≤ n
+una-acked : (d : Sending) (a n : ℕ) → d.una ≤ n → a ≤ n → (after_ack d a).una ≤ n
 unfolding after_ack
-acked-una d a n low had = cond_both (acks_more d a) (with_acked d a) d (λ (x : Sending). x.una ≤ n) (λ _. had) (λ _. low)
+una-acked d a n low had = cond_both (acks_more d a) (with_acked d a) d (λ (x : Sending). x.una ≤ n) (λ _. had) (λ _. low)
 
-pub kept-acked_text : (p q : PartyState) (s : State) (v : Content) (a : ℕ) → position_near s v.ack ≡ a → a ≤ next_position q → Synced p q s → Synced p q (after_acked_text s v)
+pub kept-acked_text : (p q : PartyState) (s : State) (v : Content) (a : ℕ) → position_near s v.ack ≡ a → a ≤ next_position q → Synced p q s
+    → Synced p q (after_acked_text s v)
 unfolding after_acked_text
 kept-acked_text p q s v a is had h = record {
   kept = kept-alone p q s (after_acked_text s v) h.kept refl (alone-acked_text s p.accepted p.closed v h.synced h.kept.here.alone)
       (record { peer = h.kept.here.speaks.peer; reset = h.kept.here.speaks.reset }) refl refl
-      (acked-una s.sending (position_near s v.ack) (next_position q) h.kept.here.between (omega (arith, is, had)));
+      (una-acked s.sending (position_near s v.ack) (next_position q) h.kept.here.between (omega (arith, is, had)));
   synced = h.synced;
 }
 
@@ -76,19 +80,21 @@ unfolding after_news
 kept-news p q s v h =
     let same = same-news s p.accepted p.closed (gives_up s.ending) v h.kept.here.alone.sends in
     record {
-      kept = kept-alone p q s (after_news s v) h.kept refl (alone-news s p.accepted p.closed v h.kept.here.alone) (record { peer = h.kept.here.speaks.peer; reset = h.kept.here.speaks.reset }) refl refl
+      kept = kept-alone p q s (after_news s v) h.kept refl (alone-news s p.accepted p.closed v h.kept.here.alone)
+          (record { peer = h.kept.here.speaks.peer; reset = h.kept.here.speaks.reset }) refl refl
           (omega (arith, same.una, h.kept.here.between));
       synced = h.synced;
     }
 
 -- OWN FIN: the connection goes on, or has ended
-pub kept-own_fin : (p q : PartyState) (s : State) → Synced p q s → Kept p q (after_own_fin s)
+kept-own_fin : (p q : PartyState) (s : State) → Synced p q s → Kept p q (after_own_fin s)
 unfolding after_own_fin
 kept-own_fin p q s h =
     let d = s.sending in
-    let at = at-synchronized s.phase s.ending d.una d.nxt s.receiving.opened s.receiving.finished h.synced h.kept.here.alone.progress in
+    let at = end-synchronized s h.synced h.kept.here.alone.progress in
     let knows : has_peer (phase_after_own_fin s.phase) ≡ has_peer s.phase = knows-own_fin s.phase in
-    cond_both (is_fin_acked d) (if is_last_ack s.phase then after_orderly_end s else record s { phase = phase_after_own_fin s.phase }) s (λ (x : State). Kept p q x)
+    cond_both (is_fin_acked d) (if is_last_ack s.phase then after_orderly_end s else record s { phase = phase_after_own_fin s.phase }) s
+    (λ (x : State). Kept p q x)
     (λ _. cond_both (is_last_ack s.phase) (after_orderly_end s) (record s { phase = phase_after_own_fin s.phase }) (λ (x : State). Kept p q x)
     (λ _. kept-orderly p q s at.0 h.kept)
     (λ _. kept-alone p q s _ h.kept refl (own_fin-phase s p.accepted p.closed h.kept.here.alone)
@@ -110,13 +116,15 @@ lies-before ordered position text accepted least order is =
     ap (drop k) is ∙ drop-take_sub k (length text) (drop (position - 1) accepted)
     ∙ ap (take (length text - k)) (drop-drop k (position - 1) accepted ∙ ap (λ n. drop n accepted) whole)
 
-lies-at : (irs ordered position next seq : ℕ) (text accepted : List ℕ) → 1 + ordered ≤ position + 2 ^ 31 → position < 1 + ordered + 2 ^ 31 → 1 ≤ position → next ≡ number irs (1 + ordered) → seq ≡ number irs position
+lies-at : (irs ordered position next seq : ℕ) (text accepted : List ℕ) → 1 + ordered ≤ position + 2 ^ 31 → position < 1 + ordered + 2 ^ 31 → 1 ≤ position
+    → next ≡ number irs (1 + ordered) → seq ≡ number irs position
     → text ≡ take (length text) (drop (position - 1) accepted) → LiesAt (offset next seq) text (drop ordered accepted)
 lies-at irs ordered position next seq text accepted young close least next_is seq_is is =
     let P : ℤ → Type 0 = λ z. LiesAt z text (drop ordered accepted) in
     subst (λ (n : ℕ). P (offset n seq)) (sym next_is) (subst (λ (m : ℕ). P (offset (number irs (1 + ordered)) m)) (sym seq_is)
     (⊎_elim
-    (λ less. let behind : position ≤ ordered = omega arith in subst P (sym (offset_of_earlier irs (1 + ordered) position less (omega arith))) (lies-before ordered position text accepted least behind is))
+    (λ less. let behind : position ≤ ordered = omega arith in subst P (sym (offset_of_earlier irs (1 + ordered) position less (omega arith)))
+    (lies-before ordered position text accepted least behind is))
     (λ more. subst P (sym (offset_of_later irs (1 + ordered) position more (omega arith))) (lies-ahead ordered position text accepted more is))
     (cases_lt position (1 + ordered))))
 
@@ -129,7 +137,7 @@ pub record Placed (p q : PartyState) (s : State) (v : Content) : Type 0 where
 
 pub placed : (p q : PartyState) (s : State) (v : Content) → takes_text s.phase ≡ true → Kept p q s → Placed p q s v
 placed p q s v e h =
-    let at = at-takes_text s.phase s.ending s.sending.una s.sending.nxt s.receiving.opened s.receiving.finished e h.here.alone.progress in
+    let at = end-takes_text s e h.here.alone.progress in
     let none : one_if s.receiving.finished ≡ 0 = one_if-false s.receiving.finished at.1.goes_on in
     record {
       opened = at.1.is_opened;
@@ -151,7 +159,8 @@ pub record IsAhead (p q : PartyState) : Type 0 where
 abbrev pub IsYoung : State → ℕ → Type 0
 IsYoung s position = next_of s.receiving ≤ position + 2 ^ 31
 
-pub text-advances : (p q : PartyState) (s : State) (v : Content) → takes_text s.phase ≡ true → IsAhead p q → (truth : IsTruthful (witness_of q p) v) → IsYoung s truth.own.position → (length v.text ≡ 0 → ⊥) → Kept p q s
+pub text-advances : (p q : PartyState) (s : State) (v : Content) → takes_text s.phase ≡ true → IsAhead p q → (truth : IsTruthful (witness_of q p) v)
+    → IsYoung s truth.own.position → (length v.text ≡ 0 → ⊥) → Kept p q s
     → Advances s.receiving.inbox (after_place s.receiving.inbox (offset s.receiving.next v.seq) v.text) (drop s.receiving.ordered q.accepted) (text_advance s v)
 text-advances p q s v e close truth young some h =
     let r = s.receiving in
@@ -161,10 +170,12 @@ text-advances p q s v e close truth young some h =
     let least : 1 ≤ truth.own.position = position-of_text q.endpoint.config.isn.0 q.accepted q.closed v truth.own nonempty in
     let fit : truth.own.position + length v.text ≤ 1 + length q.accepted = truth.own.fits nonempty in
     let lies : LiesAt (offset r.next v.seq) v.text (drop r.ordered q.accepted) =
-    lies-at q.endpoint.config.isn.0 r.ordered truth.own.position r.next v.seq v.text q.accepted (omega (arith, young)) (omega (arith, fit, close.ahead, h.grows.next, one_if-most r.finished)) least at.next truth.own.seq (truth.own.text nonempty) in
+    lies-at q.endpoint.config.isn.0 r.ordered truth.own.position r.next v.seq v.text q.accepted (omega (arith, young))
+    (omega (arith, fit, close.ahead, h.grows.next, one_if-most r.finished)) least at.next truth.own.seq (truth.own.text nonempty) in
     after_place-agrees r.inbox (offset r.next v.seq) v.text (drop r.ordered q.accepted) takes.held lies
 
-takes-text : (p q : PartyState) (s : State) (v : Content) → takes_text s.phase ≡ true → IsAhead p q → (truth : IsTruthful (witness_of q p) v) → IsYoung s truth.own.position
+takes-text : (p q : PartyState) (s : State) (v : Content) → takes_text s.phase ≡ true → IsAhead p q → (truth : IsTruthful (witness_of q p) v)
+    → IsYoung s truth.own.position
     → (length v.text ≡ 0 → ⊥) → Kept p q s → Kept p q (record s { receiving = after_text s.receiving v.seq v.text })
 unfolding after_text
 takes-text p q s v e close truth young some h =
@@ -175,22 +186,28 @@ takes-text p q s v e close truth young some h =
     let steps = text-advances p q s v e close truth young some h in
     let inbox = after_place r.inbox (offset r.next v.seq) v.text in
     let new = takes-advance r q.endpoint.config.isn.0 q.accepted q.closed inbox (text_advance s v) close.limit at.opened at.unfinished takes steps in
-    let hands = hands-advance r q.endpoint.config.isn.0 q.accepted q.closed p.delivered p.ended (gives_up s.ending) inbox (text_advance s v) close.limit gone takes h.here.hands steps in
-    kept-changed p q s _ h refl (alone-text s p.accepted p.closed v h.here.alone) (record { peer = h.here.speaks.peer; reset = h.here.speaks.reset }) new hands h.here.between (λ e. e) (omega (arith, takes.order, close.limit))
+    let hands = hands-advance r q.endpoint.config.isn.0 q.accepted q.closed p.delivered p.ended (gives_up s.ending) inbox
+    (text_advance s v) close.limit gone takes h.here.hands steps in
+    kept-changed p q s _ h refl (alone-text s p.accepted p.closed v h.here.alone)
+    (record { peer = h.here.speaks.peer; reset = h.here.speaks.reset }) new hands h.here.between (λ e. e) (omega (arith, takes.order, close.limit))
 
-pub kept-its_text : (p q : PartyState) (s : State) (v : Content) → IsAhead p q → (truth : IsTruthful (witness_of q p) v) → IsYoung s truth.own.position → Kept p q s → Kept p q (after_its_text s v)
+pub kept-its_text : (p q : PartyState) (s : State) (v : Content) → IsAhead p q → (truth : IsTruthful (witness_of q p) v) → IsYoung s truth.own.position
+    → Kept p q s → Kept p q (after_its_text s v)
 unfolding after_its_text
 kept-its_text p q s v close truth young h =
     let after = record s { receiving = if takes_text_of s v then after_text s.receiving v.seq v.text else s.receiving } in
-    let stage : Kept p q after = by_test (takes_text_of s v) (λ b. Kept p q (record s { receiving = if b then after_text s.receiving v.seq v.text else s.receiving }))
+    let stage : Kept p q after = by_test (takes_text_of s v)
+    (λ b. Kept p q (record s { receiving = if b then after_text s.receiving v.seq v.text else s.receiving }))
     (λ e.
     let parts = and_parts (takes_text s.phase) (not (length v.text == 0)) e in
     takes-text p q s v parts.0 close truth young (eqb-false (length v.text) 0 (not-true (length v.text == 0) parts.1)) h)
     (λ _. h) in
-    kept-ack_owed p q after (takes_text_of s v) (λ e. owes-taking after p.accepted p.closed (and_parts (takes_text s.phase) (not (length v.text == 0)) e).0 stage.here.alone) stage
+    kept-ack_owed p q after (takes_text_of s v)
+    (λ e. owes-taking after p.accepted p.closed (and_parts (takes_text s.phase) (not (length v.text == 0)) e).0 stage.here.alone) stage
 
 -- THE PEER'S FIN: its number is the next one, so that all before it has come
-fin-next : (irs position count ordered whole next seq : ℕ) → position + count ≡ 1 + whole → ordered ≤ whole → whole < ordered + 2 ^ 32 → seq ≡ number irs position → next ≡ number irs (1 + ordered)
+fin-next : (irs position count ordered whole next seq : ℕ) → position + count ≡ 1 + whole → ordered ≤ whole → whole < ordered + 2 ^ 32
+    → seq ≡ number irs position → next ≡ number irs (1 + ordered)
     → number seq count ≡ next → ordered ≡ whole
 fin-next irs position count ordered whole next seq last order close seq_is next_is due =
     let one : (seq + count) % 2 ^ 32 ≡ number irs (position + count) = number-further irs position count seq seq_is in
@@ -202,7 +219,8 @@ pub record TakesFin (p q : PartyState) (s : State) (v : Content) : Type 0 where
   pub is_closed : q.closed ≡ true
   pub all : s.receiving.ordered ≡ length q.accepted
 
-pub fin-in_turn : (p q : PartyState) (s : State) (v : Content) → IsAhead p q → IsTruthful (witness_of q p) v → takes_fin s v ≡ true → Kept p q s → TakesFin p q s v
+pub fin-in_turn : (p q : PartyState) (s : State) (v : Content) → IsAhead p q → IsTruthful (witness_of q p) v → takes_fin s v ≡ true → Kept p q s
+    → TakesFin p q s v
 fin-in_turn p q s v close truth e h =
     let r = s.receiving in
     let told = and_parts (has_fin s v) (is_fin_due r (number v.seq (length v.text))) e in
@@ -213,7 +231,8 @@ fin-in_turn p q s v close truth e h =
     record {
       phase = flag.0;
       is_closed = last.0;
-      all = fin-next q.endpoint.config.isn.0 truth.own.position (length v.text) r.ordered (length q.accepted) r.next v.seq last.1 h.here.takes.order (omega (arith, close.ahead, h.grows.next, one_if-most r.finished)) truth.own.seq at.next
+      all = fin-next q.endpoint.config.isn.0 truth.own.position (length v.text) r.ordered (length q.accepted) r.next v.seq last.1 h.here.takes.order
+          (omega (arith, close.ahead, h.grows.next, one_if-most r.finished)) truth.own.seq at.next
           (eqb-true (number v.seq (length v.text)) r.next due.0);
     }
 
@@ -230,11 +249,12 @@ fin-true p q s v close truth e h =
     h.here.hands h.here.between
     (λ opened. opened) (omega (arith, one_if-false r.finished at.unfinished))
 
-pub kept-fin : (p q : PartyState) (s : State) (v : Content) → IsAhead p q → IsTruthful (witness_of q p) v → Kept p q s → Kept p q (after_fin s v)
+kept-fin : (p q : PartyState) (s : State) (v : Content) → IsAhead p q → IsTruthful (witness_of q p) v → Kept p q s → Kept p q (after_fin s v)
 unfolding after_fin
 kept-fin p q s v close truth h =
     let owing : State = record s { owed = record s.owed { ack = s.owed.ack || has_fin s v } } in
-    let owes : Kept p q owing = kept-ack_owed p q s (has_fin s v) (λ e. owes-taking s p.accepted p.closed (and_parts (takes_text s.phase) (has fin v.flags) e).0 h.here.alone) h in
+    let owes : Kept p q owing = kept-ack_owed p q s (has_fin s v)
+    (λ e. owes-taking s p.accepted p.closed (and_parts (takes_text s.phase) (has fin v.flags) e).0 h.here.alone) h in
     by_test (takes_fin s v)
     (λ b. Kept p q (record owing { phase = if b then phase_after_fin s.phase else s.phase; receiving = if b then with_fin s.receiving else s.receiving }))
     (λ e. fin-true p q owing v close truth e owes) (λ _. owes)
@@ -244,7 +264,8 @@ pub record IsAck (s : State) (v : Content) (a : ℕ) : Type 0 where
   pub number : v.ack ≡ number s.config.isn.0 a
   pub behind : s.sending.una ≤ a + 2 ^ 31
 
-near-is : (s : State) (v : Content) (a : ℕ) (accepted : List ℕ) (closed gone : Bool) → s.config.isn.0 < 2 ^ 32 → Sends s.sending accepted closed gone → a ≤ 2 + length accepted → IsAck s v a → position_near s v.ack ≡ a
+near-is : (s : State) (v : Content) (a : ℕ) (accepted : List ℕ) (closed gone : Bool) → s.config.isn.0 < 2 ^ 32 → Sends s.sending accepted closed gone
+    → a ≤ 2 + length accepted → IsAck s v a → position_near s v.ack ≡ a
 near-is s v a accepted closed gone fits sends most h =
     ap (position_near s) h.number ∙ position_of_number s.config.isn.0 s.sending.una a fits (omega (arith, sends.ahead, sends.released)) h.behind
 
@@ -257,25 +278,30 @@ unfolding after_own_syn
 own_syn-behind p q s v a told h =
     let d = s.sending in
     cond_both (is_syn_received s.phase) (with_window (with_syn_acked d) v.seq v.ack (window_from s.link v.window)) d (λ (x : Sending). x.una ≤ a + 2 ^ 31)
-    (λ e. omega (arith, (at-syn_received s.phase s.ending d.una d.nxt s.receiving.opened s.receiving.finished e h.here.alone.progress).1.nxt_is)) (λ _. told.behind)
+    (λ e. omega (arith, (end-syn_received s e h.here.alone.progress).1.nxt_is)) (λ _. told.behind)
 
-pub own_syn-near : (p q : PartyState) (s : State) (v : Content) (a : ℕ) → IsAck s v a → a ≤ next_position q → next_position q ≤ 2 + length p.accepted → IsPresent s → Kept p q s → position_near (after_own_syn s v) v.ack ≡ a
+pub own_syn-near : (p q : PartyState) (s : State) (v : Content) (a : ℕ) → IsAck s v a → a ≤ next_position q → next_position q ≤ 2 + length p.accepted
+    → IsPresent s → Kept p q s → position_near (after_own_syn s v) v.ack ≡ a
 own_syn-near p q s v a told had near present h =
     let first = kept-own_syn p q s v present h in
-    near-is (after_own_syn s v) v a p.accepted p.closed (gives_up (after_own_syn s v).ending) first.kept.here.alone.config.isn first.kept.here.alone.sends (omega (arith, had, near))
+    near-is (after_own_syn s v) v a p.accepted p.closed (gives_up (after_own_syn s v).ending) first.kept.here.alone.config.isn first.kept.here.alone.sends
+    (omega (arith, had, near))
     (record { number = own_syn-number s v a told; behind = own_syn-behind p q s v a told h })
 
-pub acked_text-behind : (p q : PartyState) (s : State) (v : Content) (a : ℕ) → IsAck s v a → a ≤ next_position q → next_position q ≤ 2 + length p.accepted → IsPresent s → Kept p q s
+pub acked_text-behind : (p q : PartyState) (s : State) (v : Content) (a : ℕ) → IsAck s v a → a ≤ next_position q → next_position q ≤ 2 + length p.accepted
+    → IsPresent s → Kept p q s
     → (after_acked_text (after_own_syn s v) v).sending.una ≤ a + 2 ^ 31
 unfolding after_acked_text
 acked_text-behind p q s v a told had near present h =
     let x = after_own_syn s v in
-    acked-una x.sending (position_near x v.ack) (a + 2 ^ 31) (own_syn-behind p q s v a told h) (omega (arith, own_syn-near p q s v a told had near present h))
+    una-acked x.sending (position_near x v.ack) (a + 2 ^ 31) (own_syn-behind p q s v a told h) (omega (arith, own_syn-near p q s v a told had near present h))
 
-pub kept-its_ack : (p q : PartyState) (s : State) (v : Content) (a : ℕ) → IsAck s v a → a ≤ next_position q → next_position q ≤ 2 + length p.accepted → IsPresent s → Kept p q s → Kept p q (after_its_ack s v)
+pub kept-its_ack : (p q : PartyState) (s : State) (v : Content) (a : ℕ) → IsAck s v a → a ≤ next_position q → next_position q ≤ 2 + length p.accepted
+    → IsPresent s → Kept p q s → Kept p q (after_its_ack s v)
 unfolding after_its_ack
 kept-its_ack p q s v a told had near present h =
-    kept-own_fin p q _ (kept-news p q _ v (kept-acked_text p q (after_own_syn s v) v a (own_syn-near p q s v a told had near present h) had (kept-own_syn p q s v present h)))
+    kept-own_fin p q _ (kept-news p q _ v
+    (kept-acked_text p q (after_own_syn s v) v a (own_syn-near p q s v a told had near present h) had (kept-own_syn p q s v present h)))
 
 -- which leaves the half that receives as it was
 pub its_ack-receiving : (s : State) (v : Content) → (after_its_ack s v).receiving ≡ s.receiving
@@ -289,7 +315,8 @@ its_ack-receiving s v =
 pub young-later : (s : State) (v : Content) (position : ℕ) → IsYoung s position → IsYoung (after_its_ack s v) position
 young-later s v position young = omega (arith, young, ap next_of (its_ack-receiving s v))
 
-pub kept-taking : (p q : PartyState) (s : State) (v : Content) (a : ℕ) → IsAck s v a → a ≤ next_position q → next_position q ≤ 2 + length p.accepted → IsAhead p q
+pub kept-taking : (p q : PartyState) (s : State) (v : Content) (a : ℕ) → IsAck s v a → a ≤ next_position q → next_position q ≤ 2 + length p.accepted
+    → IsAhead p q
     → (truth : IsTruthful (witness_of q p) v) → IsYoung s truth.own.position → IsPresent s → Kept p q s → Kept p q (after_taking s v)
 unfolding after_taking
 kept-taking p q s v a told had near close truth young present h =
@@ -297,7 +324,8 @@ kept-taking p q s v a told had near close truth young present h =
     kept-fin p q _ v close truth (kept-its_text p q _ v close truth (young-later s v truth.own.position young) first)
 
 -- and with the window shut
-pub kept-taking_shut : (p q : PartyState) (s : State) (v : Content) (a : ℕ) → IsAck s v a → a ≤ next_position q → next_position q ≤ 2 + length p.accepted → IsPresent s → Kept p q s → Kept p q (after_taking_shut s v)
+pub kept-taking_shut : (p q : PartyState) (s : State) (v : Content) (a : ℕ) → IsAck s v a → a ≤ next_position q → next_position q ≤ 2 + length p.accepted
+    → IsPresent s → Kept p q s → Kept p q (after_taking_shut s v)
 unfolding after_taking_shut
 kept-taking_shut p q s v a told had near present h =
     let x = after_its_ack s v in

@@ -1,13 +1,110 @@
--- What an event must keep at the party where it happens, for both directions to stay sound.
-use Rattle.std.proofs.Common.{◌≡◌, ℕ, zero, suc, List, [], ◌∷◌, ◌++◌, refl, sym, ◌∙◌, ap, subst, ⊎_elim, inl, inr, arith, append-nil}
-use Rattle.std.specs.Prelude.{◌⊎◌, Option, Some, None, option_to_list, slice_get}
-use Rattle.tcp_halves.specs.declared.config.Config.{Config}
-use Rattle.tcp_conn.specs.State.{State}
+-- FROM STEP TO STEP: what was true stays true, and what an event must keep at the party where it happens, for both directions to stay sound.
+use Rattle.std.proofs.Common.{◌≡◌, ℕ, zero, suc, ◌+◌, ◌-◌, ◌<◌, ◌≤◌, List, [], ◌++◌, length, take, drop, refl, sym, ◌∙◌, ap, arith, length-append}
+use Rattle.std.proofs.Common.{length-drop, append-nil, ◌∷◌, subst, ⊎_elim, inl, inr}
+use Rattle.std.specs.Prelude.{Bool, true, false, ◌⊎◌, Option, Some, None, option_to_list, slice_get, ◌||◌}
+use Rattle.std.proofs.lemmas.List.{take-append-le, drop-append-le}
+use Rattle.tcp_wire.specs.Position.{number}
+use Rattle.tcp_wire.specs.Wire.{Content, encoded_bytes}
+use Rattle.tcp_replay.specs.Truthful.{Witness, IsOfUser, IsTruthful, StandsAt}
 use Rattle.tcp_replay.specs.World.{PartyState, SentSegment}
-use Rattle.tcp_replay.specs.Safe.{witness_of, gave_up}
-use Rattle.tcp_replay.specs.Sound.{SpeaksTo, Takes, HandsOver, IsSoundEnd, IsOwn, AreOwn, IsSoundPair}
-use Rattle.tcp_replay.proofs.Halves.{takes-more, hands-more}
-use Rattle.tcp_replay.proofs.Truths.{Grows, grows-same, own-grows}
+use Rattle.tcp_replay.specs.Safe.{witness_of, gave_up, next_position}
+use Rattle.tcp_replay.specs.Sound.{IsOwn, SpeaksTo, Takes, HandsOver, IsSoundEnd, AreOwn, IsSoundPair}
+use Rattle.tcp_replay.proofs.Lists.{one_if}
+use Rattle.tcp_halves.specs.declared.config.Config.{Config}
+use Rattle.tcp_conn.specs.State.{State, Sending, Receiving, with_ack_owed}
+use Rattle.tcp_replay.proofs.Halves.{takes-more, hands-more, takes-given_up, hands-given_up}
+use Rattle.tcp_halves.specs.declared.link.WaitingReset.{WaitingReset}
+use Rattle.tcp_halves.specs.declared.phase.Ending.{Ending}
+use Rattle.tcp_halves.specs.declared.phase.Ending.TheVariants.{NotEnded}
+use Rattle.tcp_conn.specs.Phase.{has_peer, gives_up}
+use Rattle.tcp_conn.specs.Endings.{after_orderly_end, after_giving_up}
+use Rattle.tcp_conn.specs.Arrival.{with_reset}
+use Rattle.tcp_replay.specs.Alone.{Sends, IsWritable, IsAlone}
+use Rattle.tcp_replay.proofs.Phases.{gives_up-not_ended}
+use Rattle.tcp_replay.proofs.Alone.{first_reset-keeps, alone-reset, alone-owing, alone-ack_owed, alone-given_up, alone-orderly, alone-sending}
+
+-- an end that has more to show than before
+pub record Grows (x x' : Witness) : Type 0 where
+  pub iss : x'.iss ≡ x.iss
+  pub irs : x'.irs ≡ x.irs
+  pub more : List ℕ
+  pub accepted : x'.accepted ≡ x.accepted ++ more
+  -- after a close nothing more is accepted
+  pub closed : x.closed ≡ true → (more ≡ []) × (x'.closed ≡ true)
+  pub opened : x.opened ≡ true → x'.opened ≡ true
+  pub next : x.next ≤ x'.next
+
+pub grows-same : (x : Witness) → Grows x x
+grows-same x =
+    record { iss = refl; irs = refl; more = []; accepted = sym (append-nil x.accepted); closed = λ e. (refl, e); opened = λ e. e; next = omega arith }
+
+within-grows : (position : ℕ) (old more new : List ℕ) (closed closed' : Bool) → new ≡ old ++ more → (closed ≡ true → (more ≡ []) × (closed' ≡ true))
+    → position ≤ 1 + length old + one_if closed → position ≤ 1 + length new + one_if closed'
+within-grows position old more new true closed' e fixed h = rw (fixed refl).1 (omega (arith, h, ap length e, length-append old more))
+within-grows position old more new false closed' e fixed h = omega (arith, h, ap length e, length-append old more)
+
+text-grows : (position : ℕ) (text old more new : List ℕ) → new ≡ old ++ more → 1 ≤ position → position + length text ≤ 1 + length old
+    → text ≡ take (length text) (drop (position - 1) old) → text ≡ take (length text) (drop (position - 1) new)
+text-grows position text old more new e least fits h =
+    let inside : position - 1 ≤ length old = omega arith in
+    let room : length text ≤ length (drop (position - 1) old) = omega (arith, length-drop (position - 1) old) in
+    h ∙ sym (take-append-le (length text) (drop (position - 1) old) more room)
+    ∙ ap (take (length text)) (sym (drop-append-le (position - 1) old more inside) ∙ ap (drop (position - 1)) (sym e))
+
+pub positive : (n : ℕ) → (n ≡ 0 → ⊥) → 1 ≤ n
+positive zero h = absurd (h refl)
+positive (suc n) h = omega arith
+
+-- a segment with text isn't at the SYN's position
+pub position-of_text : (iss : ℕ) (accepted : List ℕ) (closed : Bool) (v : Content) → (h : IsOfUser iss accepted closed v) → 0 < length v.text → 1 ≤ h.position
+position-of_text iss accepted closed v h some =
+    positive h.position (λ none. let empty : length v.text ≡ 0 = ap length (h.bare none).0 in omega (arith, some, empty))
+
+-- of one end's stream, while more is accepted
+pub of_user-grows : (iss iss' : ℕ) (accepted more new : List ℕ) (closed closed' : Bool) (v : Content) → iss' ≡ iss → new ≡ accepted ++ more
+    → (closed ≡ true → (more ≡ []) × (closed' ≡ true))
+    → IsOfUser iss accepted closed v → IsOfUser iss' new closed' v
+of_user-grows iss iss' accepted more new closed closed' v same_iss e fixed h = record {
+  position = h.position;
+  seq = h.seq ∙ ap (λ s. number s h.position) (sym same_iss);
+  within = within-grows h.position accepted more new closed closed' e fixed h.within;
+  has_syn = h.has_syn;
+  bare = h.bare;
+  fits = λ some. omega (arith, ap length e, length-append accepted more, h.fits some);
+  text = λ some. text-grows h.position v.text accepted more new e (position-of_text iss accepted closed v h some) (h.fits some) (h.text some);
+  has_fin = λ told.
+      let shut = fixed (h.has_fin told).0 in
+      let same : length new ≡ length accepted = ap length e ∙ ap (λ xs. length (accepted ++ xs)) shut.0 ∙ ap length (append-nil accepted) in
+      (shut.1, omega (arith, same, (h.has_fin told).1));
+}
+
+truthful-grows : (x x' : Witness) (v : Content) → Grows x x' → IsTruthful x v → IsTruthful x' v
+truthful-grows x x' v g h = record {
+  own = of_user-grows x.iss x'.iss x.accepted g.more x'.accepted x.closed x'.closed v g.iss g.accepted g.closed h.own;
+  has_ack = λ told. let a = h.has_ack told in record {
+    opened = g.opened a.opened;
+    position = a.position;
+    least = a.least;
+    most = omega (arith, a.most, g.next);
+    number = a.number ∙ ap (λ s. number s a.position) (sym g.irs);
+  };
+}
+
+stands-grows : (x x' : Witness) (v : Content) (position wanted : ℕ) → Grows x x' → StandsAt x v position wanted → StandsAt x' v position wanted
+unfolding truthful-grows of_user-grows
+stands-grows x x' v position wanted g h = record { truth = truthful-grows x x' v g h.truth; position_is = h.position_is; wanted_is = h.wanted_is }
+
+pub own-grows : (x y x' y' : PartyState) (sent : SentSegment) → x'.endpoint.config.addr.0 ≡ x.endpoint.config.addr.0
+    → y'.endpoint.config.addr.0 ≡ y.endpoint.config.addr.0
+    → Grows (witness_of x y) (witness_of x' y') → IsOwn x y sent → IsOwn x' y' sent
+own-grows x y x' y' sent src dst g h = record {
+  content = h.content;
+  valid = h.valid;
+  spelled =
+      h.spelled ∙ ap (λ a. encoded_bytes a y.endpoint.config.addr.0 h.content) (sym src) ∙ ap (λ b. encoded_bytes x'.endpoint.config.addr.0 b h.content)
+      (sym dst);
+  truthful = λ plain. stands-grows (witness_of x y) (witness_of x' y') h.content sent.position sent.wanted g (h.truthful plain);
+}
 
 -- Party p became p', while its peer q stayed.
 pub record Moved (p p' q : PartyState) : Type 0 where
@@ -66,7 +163,9 @@ back-from-move p p' q h back = record {
   takes = subst (λ (c : Config). Takes q.endpoint.receiving c.isn.0 p'.accepted p'.closed) (sym h.config)
       (subst (λ (accepted : List ℕ). Takes q.endpoint.receiving p.endpoint.config.isn.0 accepted p'.closed) (sym h.grows.accepted)
       (takes-more q.endpoint.receiving p.endpoint.config.isn.0 p.accepted p.closed p'.closed h.grows.more h.grows.closed back.takes));
-  hands = subst (λ (accepted : List ℕ). HandsOver q.endpoint.receiving.inbox.unread q.endpoint.receiving.ordered accepted p'.closed q.delivered q.ended (gave_up q)) (sym h.grows.accepted)
+  hands =
+      subst (λ (accepted : List ℕ). HandsOver q.endpoint.receiving.inbox.unread q.endpoint.receiving.ordered accepted p'.closed q.delivered q.ended
+      (gave_up q)) (sym h.grows.accepted)
       (hands-more q.endpoint.receiving p.accepted p.closed p'.closed q.delivered h.grows.more q.ended (gave_up q) h.grows.closed back.takes.order back.hands);
   between = omega (arith, back.between, h.grows.next);
   limit = back.limit;
@@ -83,3 +182,88 @@ pair-from-move p p' q h e pair = record {
 
 pub pair-swapped : (p q : PartyState) → IsSoundPair p q → IsSoundPair q p
 pair-swapped p q h = record { there = h.back; back = h.there; own_there = h.own_back; own_back = h.own_there }
+
+-- the next position that a half wants
+abbrev pub next_of : Receiving → ℕ
+next_of r = 1 + r.ordered + one_if r.finished
+
+-- from one state to another
+pub kept-changed : (p q : PartyState) (s s' : State) → Kept p q s → s'.config ≡ s.config → IsAlone s' p.accepted p.closed → SpeaksTo s' q.endpoint.config.addr.0
+    → Takes s'.receiving q.endpoint.config.isn.0 q.accepted q.closed
+    → HandsOver s'.receiving.inbox.unread s'.receiving.ordered q.accepted q.closed p.delivered p.ended (gives_up s'.ending)
+    → s'.sending.una ≤ next_position q → (s.receiving.opened ≡ true → s'.receiving.opened ≡ true) → next_of s.receiving ≤ next_of s'.receiving → Kept p q s'
+kept-changed p q s s' h config alone speaks takes hands between opened next = record {
+  here =
+      record {
+        alone = alone;
+        speaks = speaks;
+        takes = takes;
+        hands = hands;
+        between = between;
+        limit = omega
+            (arith, ap (λ (c : Config). c.limit) config, h.here.limit);
+      };
+  config = config ∙ h.config;
+  grows = record {
+    iss = ap (λ (c : Config). c.isn.0) config ∙ h.grows.iss;
+    irs = h.grows.irs;
+    more = h.grows.more;
+    accepted = h.grows.accepted;
+    closed = h.grows.closed;
+    opened = λ e. opened (h.grows.opened e);
+    next = omega (arith, h.grows.next, next);
+  };
+}
+
+-- what an end does by itself that moves neither what it received nor SND.UNA
+pub kept-alone : (p q : PartyState) (s s' : State) → Kept p q s → s'.config ≡ s.config → IsAlone s' p.accepted p.closed → SpeaksTo s' q.endpoint.config.addr.0
+    → s'.receiving ≡ s.receiving → gives_up s'.ending ≡ gives_up s.ending → s'.sending.una ≤ next_position q → Kept p q s'
+kept-alone p q s s' h config alone speaks receiving ending between =
+    let takes : Takes s'.receiving q.endpoint.config.isn.0 q.accepted q.closed = rw receiving h.here.takes in
+    let hands : HandsOver s'.receiving.inbox.unread s'.receiving.ordered q.accepted q.closed p.delivered p.ended (gives_up s'.ending) = rw
+    (receiving, ending) h.here.hands in
+    kept-changed p q s s' h config alone speaks takes hands between (λ e. ap (λ (r : Receiving). r.opened) receiving ∙ e) (omega (arith, ap next_of receiving))
+
+-- a reset to the peer waits, unless one did
+pub kept-reset : (p q : PartyState) (s : State) (reset : WaitingReset) → IsWritable reset → reset.to.addr.0 ≡ q.endpoint.config.addr.0 → Kept p q s
+    → Kept p q (with_reset s reset)
+kept-reset p q s reset fits to h =
+    let addr = q.endpoint.config.addr.0 in
+    let alone = alone-reset s p.accepted p.closed reset fits h.here.alone in
+    let waits = first_reset-keeps (λ (r : WaitingReset). r.to.addr.0 ≡ addr) s.owed.reset reset h.here.speaks.reset to in
+    kept-alone p q s (with_reset s reset) h refl alone (record { peer = h.here.speaks.peer; reset = waits }) refl refl h.here.between
+
+-- an acknowledgement is owed to the peer, whose SYN was taken
+pub kept-owing : (p q : PartyState) (s : State) → has_peer s.phase ≡ true → s.receiving.opened ≡ true → Kept p q s → Kept p q (with_ack_owed s)
+kept-owing p q s knows opened h =
+    let alone = alone-owing s p.accepted p.closed knows opened h.here.alone in
+    kept-alone p q s (with_ack_owed s) h refl alone (record { peer = h.here.speaks.peer; reset = h.here.speaks.reset }) refl refl h.here.between
+
+pub kept-ack_owed : (p q : PartyState) (s : State) (owing : Bool) → (owing ≡ true → (has_peer s.phase ≡ true) × (s.receiving.opened ≡ true)) → Kept p q s
+    → Kept p q (record s { owed = record s.owed { ack = s.owed.ack || owing } })
+kept-ack_owed p q s owing fits h =
+    let alone = alone-ack_owed s p.accepted p.closed owing fits h.here.alone in
+    kept-alone p q s _ h refl alone (record { peer = h.here.speaks.peer; reset = h.here.speaks.reset }) refl refl h.here.between
+
+-- a reset or an abort ends the connection
+pub kept-given_up : (p q : PartyState) (s : State) (ending : Ending) → gives_up ending ≡ true → Kept p q s → Kept p q (after_giving_up s ending)
+kept-given_up p q s ending gone h =
+    kept-changed p q s (after_giving_up s ending) h refl (alone-given_up s p.accepted p.closed ending gone h.here.alone)
+    (record { peer = λ never. absurd (cc); reset = h.here.speaks.reset })
+    (takes-given_up s.receiving q.endpoint.config.isn.0 q.accepted q.closed h.here.takes)
+    (rw gone (hands-given_up s.receiving q.accepted q.closed p.delivered p.ended (gives_up s.ending) h.here.hands))
+    h.here.between (λ e. e) (omega arith)
+
+-- both sides closed, and both know it
+pub kept-orderly : (p q : PartyState) (s : State) → s.ending ≡ NotEnded → Kept p q s → Kept p q (after_orderly_end s)
+kept-orderly p q s going h =
+    let none : false ≡ gives_up s.ending = sym (gives_up-not_ended s.ending going) in
+    kept-alone p q s (after_orderly_end s) h refl (alone-orderly s p.accepted p.closed going h.here.alone)
+    (record { peer = λ never. absurd (cc); reset = h.here.speaks.reset }) refl none h.here.between
+
+-- the half that sends moves, SND.UNA and SND.NXT being where they were
+kept-sending : (p q : PartyState) (s : State) (d : Sending) → d.una ≡ s.sending.una → d.nxt ≡ s.sending.nxt
+    → Sends d p.accepted p.closed (gives_up s.ending) → Kept p q s → Kept p q (record s { sending = d })
+kept-sending p q s d una nxt sends h =
+    let alone = alone-sending s p.accepted p.closed d una nxt sends h.here.alone in
+    kept-alone p q s _ h refl alone (record { peer = h.here.speaks.peer; reset = h.here.speaks.reset }) refl refl (omega (arith, una, h.here.between))

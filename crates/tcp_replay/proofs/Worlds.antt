@@ -1,49 +1,79 @@
--- THE HEADLINE on the definitions: every event keeps both ends sound, and sound ends are safe.
+-- THE HEADLINE on the definitions: every event keeps both ends sound, sound ends are safe, and no segment expires where the lifetime is the longest.
 use Rattle.std.proofs.Common.{◌≡◌, ℕ, ◌+◌, ◌-◌, ◌≤◌, List, [], ◌∷◌, ◌++◌, length, take, drop, refl, sym, ◌∙◌, ap, arith, length-take, take-append-drop}
-use Rattle.std.specs.Prelude.{min, Bool, true, false, Option, Some, None}
+use Rattle.std.proofs.Common.{subst, ◌<◌, ⊎_elim}
+use Rattle.std.specs.Prelude.{min, Bool, true, false, Option, Some, None, IfSome, option_map, Result, Ok, Err, OnOk, OnErr, IfOk, not, ◌==◌, if◌then◌else◌}
+use Rattle.std.specs.Prelude.{nat_le, IfErr, IfNone, ◌||◌}
 use Rattle.std.specs.List.{AllByRecursion}
 use Rattle.tcp_wire.specs.declared.fault.DecodeError.TheVariants.{BadChecksum}
 use Rattle.tcp_reasm.proofs.Agreement.{empty_inbox-agrees}
 use Rattle.tcp_halves.specs.declared.config.Config.{Config}
 use Rattle.tcp_halves.specs.declared.outcome.Arrival.TheVariants.{Malformed}
-use Rattle.tcp_conn.specs.Config.{IsConfig}
+use Rattle.tcp_conn.specs.Config.{IsConfig, default_limit}
 use Rattle.tcp_replay.specs.declared.event.Side.{Side}
 use Rattle.tcp_replay.specs.declared.event.Side.TheVariants.{A, B}
-use Rattle.tcp_replay.specs.declared.outcome.Outcome.TheVariants as outcomes
 use Rattle.tcp_replay.specs.declared.outcome.StepError.{StepError}
-use Rattle.tcp_replay.specs.Events.{EventContent, side_of, HasBytes, IsDamage, Connect, Listen, Send, Receive, Close, Abort, Acknowledge, Timer, Emit, Deliver, Damage}
-use Rattle.tcp_replay.specs.World.{WorldState, PartyState, max_life, both, new_party, new_world_with, party_of, other, world_from, Effect, effect_of, refusal_of, outcome_of, world_with_effect, stay_or, world_after, run_of, world_after_all}
-use Rattle.tcp_replay.specs.Safe.{IsSafeDirection, EmitsTruth, IsSafe}
-use Rattle.tcp_replay.specs.Sound.{IsSoundEnd, AreOwn, IsSoundPair, AreSoundEnds}
-use Rattle.tcp_replay.proofs.Lists.{one_if}
+use Rattle.tcp_replay.specs.Events.{EventContent, side_of, HasBytes, IsDamage, Damage, Deliver}
+use Rattle.tcp_replay.specs.World.{WorldState, PartyState, max_life, both, new_party, new_world_with, party_of, other, world_from, Effect, effect_of}
+use Rattle.tcp_replay.specs.World.{refusal_of, outcome_of, world_with_effect, stay_or, world_after, run_of, world_after_all, SentSegment, address_of}
+use Rattle.tcp_replay.specs.World.{sent_by, KeepsAllSegments, is_missing, sent_at, segment_at, is_late, acks_late, flags_in, is_expired, age_refusal}
+use Rattle.tcp_replay.specs.World.{delivery_refusal, damage_refusal, grows_for}
+use Rattle.tcp_replay.specs.Safe.{IsSafeDirection, EmitsTruth, IsSafe, HintsAreTrue, FindsDamage, EveryRunIsSafe}
+use Rattle.tcp_replay.specs.Sound.{IsSoundEnd, AreOwn, IsSoundPair, AreSoundEnds, IsOwn, IsSound}
+use Rattle.tcp_replay.proofs.Lists.{one_if, one_if-most}
 use Rattle.tcp_replay.proofs.Alone.{alone-new}
-use Rattle.tcp_replay.proofs.Steps.{pair-swapped}
-use Rattle.tcp_replay.proofs.Users.{pair-connected, pair-listening, pair-sent, pair-received, pair-close, pair-aborted, pair-acknowledged, pair-timer}
-use Rattle.tcp_replay.proofs.Deliveries.{own-decodes, pair-emitted, pair-delivered, pair-damaged, finds-damage}
+use Rattle.tcp_replay.proofs.Steps.{pair-swapped, pair-from-move}
+use Rattle.tcp_replay.proofs.Events.{own-decodes, finds-damage, PairKept, in-world, some-is}
+use Rattle.tcp_halves.specs.declared.due.Due.{Due}
+use Rattle.tcp_replay.proofs.Emissions.{GoesOut, own-due, wanted-is}
+use Rattle.tcp_replay.proofs.Calls.{KeptByCalls}
+use Rattle.tcp_halves.specs.declared.link.Peer.{Peer}
+use Rattle.tcp_conn.specs.Writing.{bytes_of}
+use Rattle.tcp_replay.specs.declared.outcome.Outcome.{Outcome}
+use Rattle.tcp_replay.specs.declared.outcome.Outcome.TheVariants.{Arrived}
+use Rattle.tcp_replay.proofs.Hints.{hints-new, hints-after, hints-true}
+use Rattle.tcp_replay.proofs.Runs.{not-refused}
+use Rattle.std.proofs.lemmas.Bool.{cond_both, and_parts, or_cases, leb-true}
+use Rattle.tcp_wire.specs.Flags.{rst, ack, has}
+use Rattle.tcp_conn.specs.State.{State}
+use Rattle.tcp_conn.specs.Receiver.{next_wanted}
+use Rattle.tcp_replay.specs.declared.outcome.StepError.TheVariants.{NoSuchSegment, NoChange, PlaceOutside, Expired, NoMemory}
+use Rattle.tcp_replay.specs.declared.outcome.Outcome.TheVariants as outcomes
 
--- ANY EVENT that isn't refused, at the party whose side it names
-ends-effect : (life : ℕ) (p q : PartyState) (event : EventContent) → life ≤ max_life → HasBytes event → (effect_of life p q event).refusal ≡ None → IsSoundPair p q
-    → IsSoundPair (effect_of life p q event).here (effect_of life p q event).there
-unfolding effect_of
-ends-effect life p q (Connect side) most fits e h = pair-connected p q h
-ends-effect life p q (Listen side) most fits e h = pair-listening p q h
-ends-effect life p q (Send side bytes) most fits e h = pair-sent p q bytes fits h
-ends-effect life p q (Receive side room) most fits e h = pair-received p q room h
-ends-effect life p q (Close side) most fits e h = pair-close p q h
-ends-effect life p q (Abort side) most fits e h = pair-aborted p q h
-ends-effect life p q (Acknowledge side) most fits e h = pair-acknowledged p q h
-ends-effect life p q (Timer side which) most fits e h = pair-timer p q which h
-ends-effect life p q (Emit side) most fits e h = pair-emitted p q h
-ends-effect life p q (Deliver from k) most fits e h = pair-swapped _ _ (pair-delivered q p life k most e (pair-swapped _ _ h))
-ends-effect life p q (Damage from k place value) most fits e h = pair-swapped _ _ (pair-damaged q p life k place value fits e (pair-swapped _ _ h))
+-- SOUNDNESS rests on nothing else
+nothing-kept : (peer : Peer) (p : PartyState) → KeptByCalls peer p (λ _. Unit {0})
+nothing-kept peer p = record {
+  same = tt;
+  connects = λ _. tt;
+  listens = λ _. tt;
+  sends = λ _ _ _. tt;
+  reads = λ _ _. tt;
+  withdraws = tt;
+  closes = λ _ _. tt;
+  aborts = tt;
+  acknowledges = tt;
+  resends = λ _. tt;
+  probes = tt;
+  fills = λ _ _ _. tt;
+  ends = λ _. tt;
+  emits = λ _ _ _. tt;
+}
 
-ends-from : (w : WorldState) (side : Side) (event : EventContent) → w.life ≤ max_life → HasBytes event → (effect_of w.life (party_of w side) (party_of w (other side)) event).refusal ≡ None → AreSoundEnds w
-    → AreSoundEnds (world_from w.life side (effect_of w.life (party_of w side) (party_of w (other side)) event).here (effect_of w.life (party_of w side) (party_of w (other side)) event).there)
-ends-from w A event most fits e h = ends-effect w.life w.a w.b event most fits e h
-ends-from w B event most fits e h = pair-swapped _ _ (ends-effect w.life w.b w.a event most fits e (pair-swapped _ _ h))
+own-new : (p q : PartyState) (due : Option Due) → IfSome due (GoesOut p q) → (g : SentSegment)
+    → option_map (sent_by p.endpoint) (option_map (bytes_of p.endpoint) due) ≡ Some g → IsOwn p q g
+own-new p q None goes g e = absurd (cc)
+own-new p q (Some due) goes g e = subst (IsOwn p q) (some-is e) (own-due p q due goes)
 
-pub ends-after : (w : WorldState) (event : EventContent) → w.life ≤ max_life → HasBytes event → refusal_of w event ≡ None → AreSoundEnds w → AreSoundEnds (world_with_effect w event)
-ends-after w event most fits e h = ends-from w (side_of event) event most fits e h
+sound-kept : PairKept (λ _ _. Unit {0}) IsSoundPair (λ _ _ _ _. Unit {0})
+sound-kept = record {
+  swapped = pair-swapped;
+  calls = λ p q pair _. nothing-kept (address_of q) p;
+  arrives = λ p q g v _ pair comes _. tt;
+  moved = λ p p' q pair moved out _ _. pair-from-move p p' q moved (record { new = _; sent = out.sent; own = own-new p q out.due out.goes }) pair;
+}
+
+pub ends-after : (w : WorldState) (event : EventContent) → w.life ≤ max_life → HasBytes event → refusal_of w event ≡ None → AreSoundEnds w
+    → AreSoundEnds (world_with_effect w event)
+ends-after w event most fits e h = in-world _ _ _ sound-kept w event most fits e tt tt h h
 
 -- the lifetime stays
 life-from : (life : ℕ) (side : Side) (p q : PartyState) → (world_from life side p q).life ≡ life
@@ -59,29 +89,36 @@ record IsFound (p q : PartyState) (effect : Effect) : Type 0 where
   here : effect.here ≡ p
   there : effect.there ≡ q
 
-damage-found : (life : ℕ) (p q : PartyState) (event : EventContent) → IsDamage event → HasBytes event → (effect_of life p q event).refusal ≡ None → IsSoundPair p q → IsFound p q (effect_of life p q event)
+damage-is_found : (life : ℕ) (p q : PartyState) (event : EventContent) → IsDamage event → HasBytes event → (effect_of life p q event).refusal ≡ None
+    → IsSoundPair p q → IsFound p q (effect_of life p q event)
 unfolding effect_of
-damage-found life p q (Damage from k place value) is fits e h =
+damage-is_found life p q (Damage from k place value) is fits e h =
     let found = finds-damage q p life k place value fits e (pair-swapped _ _ h) in
     record { outcome = found.answer; here = refl; there = found.same }
-damage-found life p q other is fits e h = absurd is
+damage-is_found life p q other is fits e h = absurd is
 
-damage-from : (w : WorldState) (side : Side) (event : EventContent) → IsDamage event → HasBytes event → (effect_of w.life (party_of w side) (party_of w (other side)) event).refusal ≡ None → AreSoundEnds w
+damage-from : (w : WorldState) (side : Side) (event : EventContent) → IsDamage event → HasBytes event
+    → (effect_of w.life (party_of w side) (party_of w (other side)) event).refusal ≡ None → AreSoundEnds w
     → ((effect_of w.life (party_of w side) (party_of w (other side)) event).outcome ≡ outcomes.Arrived (Malformed BadChecksum))
-    × (world_from w.life side (effect_of w.life (party_of w side) (party_of w (other side)) event).here (effect_of w.life (party_of w side) (party_of w (other side)) event).there ≡ w)
+    × (world_from w.life side (effect_of w.life (party_of w side) (party_of w (other side)) event).here
+    (effect_of w.life (party_of w side) (party_of w (other side)) event).there ≡ w)
 damage-from w A event is fits e h =
-    let found = damage-found w.life w.a w.b event is fits e h in
+    let found = damage-is_found w.life w.a w.b event is fits e h in
     (found.outcome, ap (λ (p : PartyState). both w.life p (effect_of w.life w.a w.b event).there) found.here ∙ ap (both w.life w.a) found.there)
 damage-from w B event is fits e h =
-    let found = damage-found w.life w.b w.a event is fits e (pair-swapped _ _ h) in
-    (found.outcome, ap (λ (p : PartyState). both w.life (effect_of w.life w.b w.a event).there p) found.here ∙ ap (λ (q : PartyState). both w.life q w.b) found.there)
+    let found = damage-is_found w.life w.b w.a event is fits e (pair-swapped _ _ h) in (
+      found.outcome,
+      ap (λ (p : PartyState). both w.life (effect_of w.life w.b w.a event).there p) found.here ∙ ap
+          (λ (q : PartyState). both w.life q w.b) found.there,
+    )
 
 pub damage-refused : (w : WorldState) (event : EventContent) → IsDamage event → HasBytes event → refusal_of w event ≡ None → AreSoundEnds w
     → (outcome_of w event ≡ outcomes.Arrived (Malformed BadChecksum)) × (world_with_effect w event ≡ w)
 damage-refused w event is fits e h = damage-from w (side_of event) event is fits e h
 
 -- SOUND ENDS ARE SAFE
-released-ordered : (una released whole ordered : ℕ) (finished : Bool) → released ≡ min (una - 1) whole → una ≤ 1 + ordered + one_if finished → (finished ≡ true → ordered ≡ whole) → released ≤ ordered
+released-ordered : (una released whole ordered : ℕ) (finished : Bool) → released ≡ min (una - 1) whole → una ≤ 1 + ordered + one_if finished
+    → (finished ≡ true → ordered ≡ whole) → released ≤ ordered
 released-ordered una released whole ordered true is had fin = omega (arith, fin refl)
 released-ordered una released whole ordered false is had fin = omega arith
 
@@ -120,7 +157,15 @@ new-end : (a b : Config) → IsConfig a → IsSoundEnd (new_party a) (new_party 
 new-end a b one = record {
   alone = alone-new a one;
   speaks = record { peer = λ never. absurd (cc); reset = tt };
-  takes = record { next = λ never. absurd (cc); unopened = λ _. (refl, refl, refl); order = omega arith; fin = λ never. absurd (cc); held = empty_inbox-agrees a.recv_capacity [] };
+  takes =
+      record {
+        next = λ never. absurd (cc);
+        unopened = λ _. (refl, refl, refl);
+        order = omega arith;
+        fin = λ never. absurd
+            (cc);
+        held = empty_inbox-agrees a.recv_capacity [];
+      };
   hands = record { count = 0; handed = refl; least = omega arith; whole = λ _. refl; all_handed = λ never. absurd (cc) };
   between = omega arith;
   limit = omega arith;
@@ -130,7 +175,10 @@ pub ends-new : (life : ℕ) (a b : Config) → IsConfig a → IsConfig b → Are
 ends-new life a b one two = record { there = new-end a b one; back = new-end b a two; own_there = λ k g none. absurd (cc); own_back = λ k g none. absurd (cc) }
 
 -- ANY RUN keeps what each event that isn't refused keeps
-module _ (P : WorldState → Type 0) (keeps : (w : WorldState) (event : EventContent) → HasBytes event → refusal_of w event ≡ None → P w → P (world_with_effect w event)) where
+abbrev pub IsKeptByEvents : (WorldState → Type 0) → Type 0
+IsKeptByEvents P = (w : WorldState) (event : EventContent) → HasBytes event → refusal_of w event ≡ None → P w → P (world_with_effect w event)
+
+module _ (P : WorldState → Type 0) (keeps : IsKeptByEvents P) where
   stays-or-goes : (refusal : Option StepError) (here there : WorldState) → P here → (refusal ≡ None → P there) → P (stay_or refusal here there)
   stays-or-goes None here there h next = next refl
   stays-or-goes (Some error) here there h next = h
@@ -141,9 +189,162 @@ module _ (P : WorldState → Type 0) (keeps : (w : WorldState) (event : EventCon
   pub kept-run : (w : WorldState) (list : List EventContent) → AllByRecursion HasBytes list → P w → P (run_of w list)
   unfolding run_of
   kept-run w [] fits h = h
-  kept-run w (event ∷ list) fits h = stays-or-goes (refusal_of w event) w (run_of (world_with_effect w event) list) h (λ e. kept-run (world_with_effect w event) list fits.1 (keeps w event fits.0 e h))
+  kept-run w (event ∷ list) fits h =
+      stays-or-goes (refusal_of w event) w (run_of (world_with_effect w event) list) h
+      (λ e. kept-run (world_with_effect w event) list fits.1 (keeps w event fits.0 e h))
 
   pub kept-after_all : (w : WorldState) (list : List EventContent) → AllByRecursion HasBytes list → P w → P (world_after_all w list)
   unfolding world_after_all
   kept-after_all w [] fits h = h
   kept-after_all w (event ∷ list) fits h = kept-after_all (world_after w event) list fits.1 (kept-after w event fits.0 h)
+
+pub sound-new : (life : ℕ) (a b : Config) → life ≤ max_life → IsConfig a → IsConfig b → IsSound (new_world_with life a b)
+sound-new life a b most one two = record { ends = ends-new life a b one two; hints = hints-new a b; life = most }
+
+pub sound-after : (w : WorldState) (event : EventContent) → HasBytes event → refusal_of w event ≡ None → IsSound w → IsSound (world_with_effect w event)
+sound-after w event fits e h = record {
+  ends = ends-after w event h.life fits e h.ends;
+  hints = hints-after w event h.life fits e h.ends h.hints;
+  life = omega (arith, life-after w event, h.life);
+}
+
+sound-step : (w : WorldState) (event : EventContent) → HasBytes event → IsSound w → IsSound (world_after w event)
+sound-step w event fits h = kept-after IsSound sound-after w event fits h
+
+sound-run : (w : WorldState) (list : List EventContent) → AllByRecursion HasBytes list → IsSound w → IsSound (run_of w list)
+sound-run w list fits h = kept-run IsSound sound-after w list fits h
+
+sound-after_all : (w : WorldState) (list : List EventContent) → AllByRecursion HasBytes list → IsSound w → IsSound (world_after_all w list)
+sound-after_all w list fits h = kept-after_all IsSound sound-after w list fits h
+
+pub safe-sound : (w : WorldState) → IsSound w → IsSafe w
+safe-sound w h = safe-ends w h.ends
+
+pub hints-sound : (w : WorldState) → IsSound w → HintsAreTrue w
+hints-sound w h = hints-true w h.hints
+
+damage-sound : (w : WorldState) → IsSound w → FindsDamage w
+damage-sound w h event is fits e = damage-refused w event is fits e h.ends
+
+pub every_run_is_safe_lem : EveryRunIsSafe
+every_run_is_safe_lem life a b list most one two fits =
+    let start = sound-new life a b most one two in
+    let stops = sound-run (new_world_with life a b) list fits start in
+    let goes_on = sound-after_all (new_world_with life a b) list fits start in
+    (safe-sound _ stops, safe-sound _ goes_on, hints-sound _ stops, hints-sound _ goes_on, damage-sound _ stops, damage-sound _ goes_on)
+
+-- ONE STEP of the code: what it did if it answered Ok, and nothing if it didn't
+pub sound_step : (r : Result Outcome StepError) (w new : WorldState) (event : EventContent) → IsSound w → OnOk r (new ≡ world_with_effect w event)
+    → OnOk r (HasBytes event)
+    → IfSome (refusal_of w event) (λ e. r ≡ Err e) → OnErr r (new ≡ w) → IsSound new
+sound_step (Ok o) w new event sound state bytes refused kept =
+    subst (λ (w : WorldState). IsSound w) (sym state) (sound-after w event bytes (not-refused (refusal_of w event) o refused) sound)
+sound_step (Err e) w new event sound state bytes refused kept = subst (λ (w : WorldState). IsSound w) (sym kept) sound
+
+pub damage_step : (r : Result Outcome StepError) (w new : WorldState) (event : EventContent) → IsSound w → OnOk r (new ≡ world_with_effect w event)
+    → IfOk r (λ o. o ≡ outcome_of w event) → OnOk r (HasBytes event)
+    → IfSome (refusal_of w event) (λ e. r ≡ Err e) → IsDamage event → IfOk r (λ o. (o ≡ Arrived (Malformed BadChecksum)) × (new ≡ w))
+damage_step (Ok o) w new event sound state outcome bytes refused is =
+    let told = damage-refused w event is bytes (not-refused (refusal_of w event) o refused) sound.ends in
+    (outcome ∙ told.0, state ∙ told.1)
+damage_step (Err e) w new event sound state outcome bytes refused is = tt
+
+-- NOTHING IS OLD at an end whose positions stay below the lifetime
+age-none : (life : ℕ) (s : State) (g : SentSegment) → next_wanted s.receiving < life → s.sending.una < life → is_expired life s g ≡ true → ⊥
+age-none life s g next una e =
+    let old = and_parts (not (has rst (flags_in g.bytes))) (is_late life s g || acks_late life s g) e in
+    ⊎_elim (λ (late : is_late life s g ≡ true). let behind : g.position + life ≤ next_wanted s.receiving = leb-true (g.position + life)
+    (next_wanted s.receiving) late in absurd (omega (arith, behind, next)))
+    (λ (late : acks_late life s g ≡ true).
+    let behind : g.wanted + life ≤ s.sending.una = leb-true (g.wanted + life) s.sending.una
+    (and_parts (has ack (flags_in g.bytes)) (nat_le (g.wanted + life) s.sending.una) late).1 in
+    absurd (omega (arith, behind, una)))
+    (or_cases (is_late life s g) (acks_late life s g) old.1)
+
+age-not_expired : (life : ℕ) (s : State) (g : SentSegment) → next_wanted s.receiving < life → s.sending.una < life → age_refusal life s g ≡ Some Expired → ⊥
+age-not_expired life s g next una =
+    cond_both (is_expired life s g) (Some Expired) None (λ r. r ≡ Some Expired → ⊥) (λ old _. age-none life s g next una old) (λ _ e. absurd (cc))
+
+delivery-not_expired : (life : ℕ) (p q : PartyState) (k : ℕ) → next_wanted q.endpoint.receiving < life → q.endpoint.sending.una < life
+    → delivery_refusal life p q k ≡ Some Expired → ⊥
+delivery-not_expired life p q k next una =
+    cond_both (is_missing p k) (Some NoSuchSegment) (age_refusal life q.endpoint (sent_at p k)) (λ r. r ≡ Some Expired → ⊥) (λ _ e. absurd (cc))
+    (λ _. age-not_expired life q.endpoint (sent_at p k) next una)
+
+damage-not_expired : (life : ℕ) (p q : PartyState) (k place value : ℕ) → next_wanted q.endpoint.receiving < life → q.endpoint.sending.una < life
+    → damage_refusal life p q k place value ≡ Some Expired → ⊥
+damage-not_expired life p q k place value next una =
+    let P : Option StepError → Type 0 = λ r. r ≡ Some Expired → ⊥ in
+    let age = age_refusal life q.endpoint (sent_at p k) in
+    let outside = if nat_le (length (segment_at p k)) place then Some PlaceOutside else age in
+    cond_both (is_missing p k) (Some NoSuchSegment) (if value == 0 then Some NoChange else outside) P (λ _ e. absurd (cc))
+    (λ _. cond_both (value == 0) (Some NoChange) outside P (λ _ e. absurd (cc))
+    (λ _. cond_both (nat_le (length (segment_at p k)) place) (Some PlaceOutside) age P (λ _ e. absurd (cc))
+    (λ _. age-not_expired life q.endpoint (sent_at p k) next una)))
+
+-- the positions of an end lie within what both ends accepted
+record StaysBelow (life : ℕ) (s : State) : Type 0 where
+  next : next_wanted s.receiving < life
+  una : s.sending.una < life
+
+stays-below : (life : ℕ) (p q : PartyState) → length p.accepted + 2 < life → length q.accepted + 2 < life → IsSoundPair p q → StaysBelow life q.endpoint
+stays-below life p q short short' h = record {
+  next = omega (arith, wanted-is q p (pair-swapped p q h), h.back.takes.order, one_if-most q.endpoint.receiving.finished, short);
+  una = omega (arith, h.back.between, h.there.takes.order, one_if-most p.endpoint.receiving.finished, short');
+}
+
+effect-not_expired : (life : ℕ) (p q : PartyState) (event : EventContent) → StaysBelow life q.endpoint → (effect_of life p q event).refusal ≡ Some Expired → ⊥
+unfolding effect_of
+effect-not_expired life p q (Deliver from k) h e = delivery-not_expired life p q k h.next h.una e
+effect-not_expired life p q (Damage from k place value) h e = damage-not_expired life p q k place value h.next h.una e
+effect-not_expired life p q another h e = absurd (cc)
+
+below-from_side : (w : WorldState) (side : Side) → IsSound w → KeepsAllSegments w → StaysBelow w.life (party_of w (other side)).endpoint
+below-from_side w A h keeps =
+    stays-below w.life w.a w.b (omega (arith, h.ends.there.limit, keeps.limit_of_a, keeps.life))
+    (omega (arith, h.ends.back.limit, keeps.limit_of_b, keeps.life)) h.ends
+below-from_side w B h keeps =
+    stays-below w.life w.b w.a (omega (arith, h.ends.back.limit, keeps.limit_of_b, keeps.life))
+    (omega (arith, h.ends.there.limit, keeps.limit_of_a, keeps.life)) (pair-swapped w.a w.b h.ends)
+
+not-expired : (w : WorldState) (event : EventContent) → IsSound w → KeepsAllSegments w → refusal_of w event ≡ Some Expired → ⊥
+not-expired w event h keeps e =
+    effect-not_expired w.life (party_of w (side_of event)) (party_of w (other (side_of event))) event (below-from_side w (side_of event) h keeps) e
+
+-- WHAT THE ENDS WERE MADE FROM stays, and its limits
+abbrev HaveLimits : PartyState → PartyState → Type 0
+HaveLimits x y = (x.endpoint.config.limit ≤ default_limit) × (y.endpoint.config.limit ≤ default_limit)
+
+limits-kept : PairKept (λ _ _. Unit {0}) HaveLimits (λ _ _ _ _. Unit {0})
+limits-kept = record {
+  swapped = λ p q h. (h.1, h.0);
+  calls = λ p q _ _. nothing-kept (address_of q) p;
+  arrives = λ p q g v _ _ _ _. tt;
+  moved = λ p p' q _ moved _ _ h. (omega (arith, ap (λ (c : Config). c.limit) moved.config, h.0), h.1);
+}
+
+keeps-after : (w : WorldState) (event : EventContent) → HasBytes event → refusal_of w event ≡ None → IsSound w → KeepsAllSegments w
+    → KeepsAllSegments (world_with_effect w event)
+keeps-after w event fits e h keeps =
+    let limits = in-world _ _ _ limits-kept w event h.life fits e tt tt h.ends (keeps.limit_of_a, keeps.limit_of_b) in
+    record { life = life-after w event ∙ keeps.life; limit_of_a = limits.0; limit_of_b = limits.1 }
+
+-- ONE STEP of the code
+refused-expired : (r : Result Outcome StepError) (refused : Option StepError) (Q : Type 0) → r ≡ Err Expired → IfSome refused (λ e. r ≡ Err e)
+    → IfNone refused (IfErr r (λ e. (e ≡ NoMemory) × Q)) → refused ≡ Some Expired
+refused-expired (Ok o) refused Q e h m = absurd (cc)
+refused-expired (Err error) None Q e h m = let never : error ≡ NoMemory = m.0 in absurd (cc)
+refused-expired (Err error) (Some other) Q e h m = cc
+
+pub unexpired_step : (r : Result Outcome StepError) (w : WorldState) (event : EventContent) → IsSound w → KeepsAllSegments w
+    → IfSome (refusal_of w event) (λ e. r ≡ Err e)
+    → IfNone (refusal_of w event) (IfErr r (λ e. (e ≡ NoMemory) × (grows_for w event ≡ true))) → r ≡ Err Expired → ⊥
+unexpired_step r w event sound keeps refused memory e =
+    not-expired w event sound keeps (refused-expired r (refusal_of w event) (grows_for w event ≡ true) e refused memory)
+
+pub keeps_step : (r : Result Outcome StepError) (w new : WorldState) (event : EventContent) → IsSound w → OnOk r (new ≡ world_with_effect w event)
+    → OnOk r (HasBytes event)
+    → IfSome (refusal_of w event) (λ e. r ≡ Err e) → OnErr r (new ≡ w) → KeepsAllSegments w → KeepsAllSegments new
+keeps_step (Ok o) w new event sound state bytes refused kept keeps =
+    subst (λ (w : WorldState). KeepsAllSegments w) (sym state) (keeps-after w event bytes (not-refused (refusal_of w event) o refused) sound keeps)
+keeps_step (Err e) w new event sound state bytes refused kept keeps = subst (λ (w : WorldState). KeepsAllSegments w) (sym kept) keeps

@@ -12,4 +12,5 @@ returns-in_default-clause-segment g c = (emits_nothing _ (sym c.in_default.ensur
 pub returns-clause-segment : goal.returns-clause-segment
 returns-clause-segment g c =
     let bytes : c.extend_from_slice.new.self.items ≡ take c.in-Some.len c.emit.new.out = grind (arith, common_steps) in
-    emits_something _ c.in-Some.len _ _ c.emit.new.out c.extend_from_slice.new.self.items (sym c.in-Some.ensures.value) c.in-Some-emit.ensures.destination c.emit.ensures.bytes bytes
+    emits_something _ c.in-Some.len _ _ c.emit.new.out c.extend_from_slice.new.self.items
+    (sym c.in-Some.ensures.value) c.in-Some-emit.ensures.destination c.emit.ensures.bytes bytes

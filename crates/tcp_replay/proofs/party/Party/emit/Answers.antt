@@ -9,7 +9,8 @@ use Rattle.tcp_replay.proofs.party.Party.emit.Goals as goal
 pub returns-in_default-clause-state : goal.returns-in_default-clause-state
 returns-in_default-clause-state g c =
     let none : ◌≡◌ {A = Option (List ℕ × List ℕ)} None (segment_due c.self.inside.endpoint) = grind (arith, common_steps) in
-    emission_is _ c.emit_for.new.endpoint _ None none c.in_ok-bytes.ensures.state (rw c.in_ok-bytes.ensures.list (sym (append-nil _))) ∙ ap party_after_emission c.self.view_is
+    emission_is _ c.emit_for.new.endpoint _ None none c.in_ok-bytes.ensures.state (rw c.in_ok-bytes.ensures.list (sym (append-nil _))) ∙
+    ap party_after_emission c.self.view_is
 
 pub returns-in_default-clause-outcome : goal.returns-in_default-clause-outcome
 returns-in_default-clause-outcome g c =
@@ -19,7 +20,8 @@ returns-in_default-clause-outcome g c =
 pub returns-clause-state : goal.returns-clause-state
 returns-clause-state g c =
     let some : segment_to c.in-Some.field-0-0.0 c.in-Some.bytes.items ≡ segment_due c.self.inside.endpoint = grind (arith, common_steps) in
-    let kept : ◌≡◌ {A = SentSegment} (record { bytes = c.in-Some.bytes.items; position = c.position-position.result; wanted = c.next-wanted.result }) (sent_by c.self.inside.endpoint c.in-Some.bytes.items) = grind (arith, common_steps) in
+    let kept : ◌≡◌ {A = SentSegment} (record { bytes = c.in-Some.bytes.items; position = c.position-position.result; wanted = c.next-wanted.result })
+    (sent_by c.self.inside.endpoint c.in-Some.bytes.items) = grind (arith, common_steps) in
     emission_is _ c.emit_for.new.endpoint _ (segment_to c.in-Some.field-0-0.0 c.in-Some.bytes.items) some c.in_ok-bytes.ensures.state
     (rw (c.push_reserved.ensures.items, c.in_ok-bytes.ensures.list, kept) refl) ∙ ap party_after_emission c.self.view_is
 

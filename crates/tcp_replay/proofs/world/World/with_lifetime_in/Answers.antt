@@ -1,7 +1,7 @@
 use Rattle.std.proofs.Common.{◌≡◌}
 use Rattle.tcp_replay.specs.World.{new_party}
 use Rattle.tcp_replay.proofs.Parties.{fault-of_a, fault-of_b, fault-of_none}
-use Rattle.tcp_replay.proofs.Sounds.{sound-new}
+use Rattle.tcp_replay.proofs.Worlds.{sound-new}
 use Rattle.tcp_replay.proofs.world.World.with_lifetime_in.Goals as goal
 
 -- what two good Configs make is sound
@@ -19,7 +19,8 @@ returns-in-Err-clause-fault g c =
 pub returns-in-Err-new_in-clause-fault : goal.returns-in-Err-new_in-clause-fault
 returns-in-Err-new_in-clause-fault g c =
     let e = c.in-Err-new_in.ensures in
-    fault-of_b c.args.a c.args.b c.in-Err-new_in.fault c.in-Ok.ensures.made.good (record { capacity = e.bad_capacity; mss = e.bad_mss; shift = e.bad_shift; limit = e.bad_limit; good = e.good })
+    fault-of_b c.args.a c.args.b c.in-Err-new_in.fault c.in-Ok.ensures.made.good
+    (record { capacity = e.bad_capacity; mss = e.bad_mss; shift = e.bad_shift; limit = e.bad_limit; good = e.good })
 
 pub returns-clause-fault : goal.returns-clause-fault
 returns-clause-fault g c = fault-of_none c.args.a c.args.b _ c.in-Ok.ensures.made.good

@@ -1,0 +1,437 @@
+-- WHAT EACH STATE SAYS OF BOTH FINS, AND WHO THE PEER IS: every event keeps it.
+use Rattle.std.proofs.Common.{◌≡◌, ℕ, ◌+◌, ◌<◌, List, length, refl, sym, ◌∙◌, ap, arith, ◌≤◌}
+use Rattle.std.specs.Prelude.{true, false, None, Bool, nat_lt, nat_le, not, ◌==◌, Ok}
+use Rattle.std.proofs.lemmas.Bool.{false≢true, cond_both, and_parts, ltb-true}
+use Rattle.tcp_halves.specs.declared.outcome.CallError.TheVariants.{NotOpen, Ended}
+use Rattle.tcp_halves.specs.declared.phase.Ending.{Ending}
+use Rattle.tcp_halves.specs.declared.phase.Ending.TheVariants.{NotEnded, Orderly, Aborted, Reset}
+use Rattle.tcp_halves.specs.declared.phase.Phase.{Phase}
+use Rattle.tcp_halves.specs.declared.phase.Phase.TheVariants.{Listen, SynSent, LastAck, Closed, SynReceived, Established, FinWait1, FinWait2, CloseWait}
+use Rattle.tcp_halves.specs.declared.phase.Phase.TheVariants.{Closing, TimeWait}
+use Rattle.tcp_conn.specs.Phase.{has_peer, is_closed, is_listening, is_syn_sent, is_ended, gives_up, is_last_ack, is_syn_received, takes_text}
+use Rattle.tcp_conn.specs.Phase.{phase_after_own_fin, phase_after_fin}
+use Rattle.tcp_conn.specs.State.{State, Sending}
+use Rattle.tcp_conn.specs.Endings.{after_giving_up, after_orderly_end}
+use Rattle.tcp_conn.specs.Calls.{refusal_if, open_refusal, close_refusal, is_unanswered, with_closing}
+use Rattle.tcp_replay.specs.World.{PartyState, address_of, SentSegment, new_party}
+use Rattle.tcp_replay.specs.Safe.{next_position}
+use Rattle.tcp_replay.specs.Sound.{IsSoundPair, IsOwn}
+use Rattle.tcp_replay.proofs.Lists.{one_if-false}
+use Rattle.tcp_replay.proofs.Steps.{next_of}
+use Rattle.tcp_replay.proofs.Phases.{at-closed, knows-closing, gives_up-not_ended, end-listen, end-syn_sent, end-syn_received, end-synchronized, present-knows}
+use Rattle.tcp_replay.proofs.Phases.{syn_sent-knows, knows-own_fin, knows-fin}
+use Rattle.tcp_replay.proofs.AloneCalls.{send-open}
+use Rattle.tcp_progress.proofs.Table.{Table, table-unopened, table-more, table-close, table-time_wait, Between, table-unanswered, table-acked}
+use Rattle.tcp_progress.proofs.Table.{table-own_fin, table-last_ack, table-no_own_fin, table-fin, last_ack-own_syn, last_ack-own_fin, last_ack-fin}
+use Rattle.tcp_progress.proofs.Table.{last_ack-takes, own_fin-acked, own_fin-unacked, own_fin-is_acked, own_fin-is_unacked}
+use Rattle.tcp_replay.proofs.Calls.{KeptByCalls, option_or-none, refusal_if-none}
+use Rattle.tcp_wire.specs.Position.{number}
+use Rattle.tcp_wire.specs.Flags.{fin, rst, has}
+use Rattle.tcp_wire.specs.Wire.{Content}
+use Rattle.tcp_conn.specs.Windows.{window_from}
+use Rattle.tcp_conn.specs.Sender.{acks_more, with_acked, after_ack, with_syn_acked, with_window, is_fin_acked}
+use Rattle.tcp_conn.specs.Receiver.{after_text, is_fin_due, with_fin}
+use Rattle.tcp_conn.specs.Judgement.{position_near}
+use Rattle.tcp_conn.specs.Arrival.{after_own_syn, after_acked_text, after_news, after_its_ack, takes_text_of, has_fin, takes_fin, after_peer_opens}
+use Rattle.tcp_conn.specs.Arrival.{after_peer_accepts}
+use Rattle.tcp_replay.specs.Alone.{Sends, FitsPhase, IsAlone}
+use Rattle.tcp_replay.proofs.Steps.{kept-same, Moved}
+use Rattle.tcp_replay.proofs.Judgements.{IsPresent}
+use Rattle.tcp_replay.proofs.Stages.{Synced}
+use Rattle.tcp_progress.proofs.Acked.{news-keep, own_fin-keeps}
+use Rattle.tcp_replay.proofs.Events.{Arrives, after_segment, same-content, AllSaid, Both, PairKept, Speaks, both-swapped, said-after, said-back}
+use Rattle.tcp_replay.proofs.Arrivals.{on-arrival}
+use Rattle.tcp_wire.specs.Decoded.{decode_answer}
+use Rattle.tcp_halves.specs.declared.config.Config.{Config}
+use Rattle.tcp_halves.specs.declared.due.Due.{Due}
+use Rattle.tcp_halves.specs.declared.due.Due.TheVariants.{Reset, Syn, Resend, NewText, Fin, ResentFin, Acknowledgement}
+use Rattle.tcp_conn.specs.Config.{IsConfig}
+use Rattle.tcp_conn.specs.Forms.{segment_of}
+use Rattle.tcp_replay.proofs.Emissions.{wanted-is}
+use Rattle.tcp_replay.proofs.Events.{own-decodes}
+use Rattle.tcp_progress.specs.Stage.{SaysByPhase, KnowsPort, ReleasesAll}
+use Rattle.tcp_progress.proofs.OnlySent.{KeepsSent}
+use Rattle.tcp_halves.specs.declared.outcome.CallError.TheVariants as errors
+
+-- Party p's end may be in this state, its peer q being where it is; `end` is the position after p's FIN.
+pub record MayBe (p q : PartyState) (phase : Phase) (ending : Ending) (closing finished : Bool) (port una next end : ℕ) : Type 0 where
+  pub table : Table phase ending closing finished una end
+  pub port_is : has_peer phase ≡ true → port ≡ q.endpoint.config.port
+  -- LAST-ACK isn't entered after a close, and nothing is taken in it
+  pub last : phase ≡ LastAck → p.closed ≡ true → (p.endpoint.phase ≡ LastAck) × (next ≡ next_position p)
+  -- what q acknowledges with its FIN from LAST-ACK is released
+  pub released : q.endpoint.phase ≡ LastAck → finished ≡ true → una ≡ next_position q
+
+abbrev pub MayBeIn : PartyState → PartyState → State → List ℕ → Type 0
+MayBeIn p q s accepted = MayBe p q s.phase s.ending s.closing s.receiving.finished s.peer.port s.sending.una (next_of s.receiving) (2 + length accepted)
+
+-- a reset or an abort
+pub may_be-given_up : (p q : PartyState) (s : State) (accepted : List ℕ) (ending : Ending) → gives_up ending ≡ true → MayBeIn p q s accepted
+    → MayBeIn p q (after_giving_up s ending) accepted
+may_be-given_up p q s accepted ending gone h = record {
+  table =
+      (λ (e : ending ≡ NotEnded). absurd (false≢true (sym (ap gives_up e) ∙ gone)), λ (e : ending ≡ Orderly). absurd (false≢true (sym (ap gives_up e) ∙ gone)));
+  port_is = λ never. absurd (cc);
+  last = λ never. absurd (cc);
+  released = h.released;
+}
+
+-- a close, where the handshake has an answer
+has-answer : (phase : Phase) → is_unanswered phase ≡ false → (is_listening phase ≡ false) × (is_syn_sent phase ≡ false)
+has-answer Listen e = absurd (cc)
+has-answer SynSent e = absurd (cc)
+has-answer other e = (refl, refl)
+
+closing : (p q : PartyState) → IsSoundPair p q → close_refusal p.endpoint ≡ None → is_unanswered p.endpoint.phase ≡ false → MayBeIn p q p.endpoint p.accepted
+    → MayBeIn p q (with_closing p.endpoint) p.accepted
+closing p q pair e unanswered h =
+    let s = p.endpoint in
+    let sends = pair.there.alone.sends in
+    let parts = option_or-none (open_refusal s) (refusal_if s.closing errors.Closing) e in
+    let opens = option_or-none (refusal_if (is_ended s.ending) (Ended s.ending)) (refusal_if (is_closed s.phase) NotOpen) parts.0 in
+    let unclosed : p.closed ≡ false = sym pair.there.alone.closing ∙ refusal_if-none s.closing errors.Closing parts.1 in
+    let below : s.sending.una < 2 + length p.accepted = omega (arith, sends.order, sends.most, one_if-false p.closed unclosed) in
+    let shut = refusal_if-none (is_closed s.phase) NotOpen opens.1 in
+    let other = has-answer s.phase unanswered in
+    record {
+      table = table-close s.phase s.ending s.closing s.receiving.finished s.sending.una (2 + length p.accepted) shut other.0 other.1 below h.table;
+      port_is = λ knows. h.port_is (sym (knows-closing s.phase) ∙ knows);
+      last = λ _ closes. absurd (false≢true (sym unclosed ∙ closes));
+      released = h.released;
+    }
+
+-- THE CALLS, the timers and the emissions
+pub may_be-calls : (p q : PartyState) → IsSoundPair p q → MayBeIn p q p.endpoint p.accepted
+    → KeptByCalls (address_of q) p (λ p'. MayBeIn p q p'.endpoint p'.accepted)
+may_be-calls p q pair h =
+    let s = p.endpoint in
+    let r = s.receiving in
+    let una = s.sending.una in
+    let end = 2 + length p.accepted in
+    let gone = may_be-given_up p q s p.accepted Aborted refl h in
+    record {
+      same = h;
+      connects = λ can.
+          let new = at-closed s.phase s.ending una s.sending.nxt r.opened r.finished can.shut can.ending pair.there.alone.progress in
+          let unfinished : r.finished ≡ false = pair.there.alone.unopened new.not_opened in
+          record {
+            table = table-unopened s.phase s.ending s.closing r.finished una end can.shut can.ending h.table;
+            port_is = λ _. refl;
+            last = λ never. absurd (cc);
+            released = λ _ done. absurd (false≢true (sym unfinished ∙ done));
+          };
+      listens = λ can. record {
+        table = table-unopened s.phase s.ending s.closing r.finished una end can.shut can.ending h.table;
+        port_is = λ never. absurd (cc);
+        last = λ never. absurd (cc);
+        released = h.released;
+      };
+      sends = λ text _ e. record {
+        table = table-more s.phase s.ending s.closing r.finished una end _ (send-open s text e).1 h.table;
+        port_is = h.port_is;
+        last = h.last;
+        released = h.released;
+      };
+      reads = λ _ _. h;
+      withdraws = record { table = (λ never. absurd (cc), λ never. absurd (cc)); port_is = gone.port_is; last = gone.last; released = gone.released };
+      closes = λ e unanswered. closing p q pair e unanswered h;
+      aborts = gone;
+      acknowledges = h;
+      resends = λ _. h;
+      probes = h;
+      fills = λ _ _ _. h;
+      ends = λ e. record {
+        table = table-time_wait s.phase s.ending s.closing r.finished una end e h.table;
+        port_is = λ never. absurd (cc);
+        last = λ never. absurd (cc);
+        released = h.released;
+      };
+      emits = λ _ _ _. h;
+    }
+
+-- ---- SND.UNA doesn't go back
+pub own_syn-more : (s : State) (v : Content) → s.sending.una ≤ s.sending.nxt → s.sending.una ≤ (after_own_syn s v).sending.una
+unfolding after_own_syn
+own_syn-more s v order =
+    let d = s.sending in
+    cond_both (is_syn_received s.phase) (with_window (with_syn_acked d) v.seq v.ack (window_from s.link v.window)) d (λ (x : Sending). d.una ≤ x.una)
+    (λ _. order) (λ _. omega arith)
+
+ack-more : (d : Sending) (a : ℕ) → d.una ≤ (after_ack d a).una
+unfolding after_ack
+ack-more d a =
+    cond_both (acks_more d a) (with_acked d a) d (λ (x : Sending). d.una ≤ x.una)
+    (λ e. let less : d.una < a = ltb-true d.una a (and_parts (nat_lt d.una a) (nat_le a d.nxt) e).0 in omega (arith, less)) (λ _. omega arith)
+
+pub acked_text-more : (s : State) (v : Content) → s.sending.una ≤ (after_acked_text s v).sending.una
+unfolding after_acked_text
+acked_text-more s v = ack-more s.sending (position_near s v.ack)
+
+pub its_ack-una : (s : State) (v : Content) → (after_its_ack s v).sending.una ≡ (after_acked_text (after_own_syn s v) v).sending.una
+unfolding after_its_ack
+its_ack-una s v =
+    let two = after_acked_text (after_own_syn s v) v in
+    (own_fin-keeps (after_news two v)).una ∙ (news-keep two v).una
+
+-- ---- BETWEEN THE ACKNOWLEDGEMENT and what it does to the state, SND.UNA moving on
+record IsBetween (p q : PartyState) (phase : Phase) (closing finished : Bool) (port una next : ℕ) : Type 0 where
+  between : (una' : ℕ) → una ≤ una' → Between phase closing finished una' (2 + length p.accepted)
+  port_is : has_peer phase ≡ true → port ≡ q.endpoint.config.port
+  last : phase ≡ LastAck → p.closed ≡ true → (p.endpoint.phase ≡ LastAck) × (next ≡ next_position p)
+  -- what q acknowledges with its FIN from LAST-ACK is released, and no more is acknowledged
+  released : q.endpoint.phase ≡ LastAck → finished ≡ true → next_position q ≤ una
+
+abbrev BetweenIn : PartyState → PartyState → State → Type 0
+BetweenIn p q s = IsBetween p q s.phase s.closing s.receiving.finished s.peer.port s.sending.una (next_of s.receiving)
+
+between-more : (p q : PartyState) (phase : Phase) (closing finished : Bool) (port una una' next : ℕ) → una ≤ una'
+    → IsBetween p q phase closing finished port una next → IsBetween p q phase closing finished port una' next
+between-more p q phase closing finished port una una' next more h = record {
+  between = λ n further. h.between n (omega (arith, more, further));
+  port_is = h.port_is;
+  last = h.last;
+  released = λ last done. omega (arith, more, h.released last done);
+}
+
+own_syn-between : (p q : PartyState) (v : Content) → IsPresent p.endpoint → IsSoundPair p q → MayBeIn p q p.endpoint p.accepted
+    → BetweenIn p q (after_own_syn p.endpoint v)
+unfolding after_own_syn
+own_syn-between p q v present pair h =
+    let s = p.endpoint in
+    let d = s.sending in
+    let r = s.receiving in
+    let more = own_syn-more s v pair.there.alone.sends.order in
+    record {
+      between = λ una further. table-acked s.phase s.ending s.closing r.finished d.una una
+          (2 + length p.accepted) present.shut present.listening present.syn_sent
+          (λ e. (end-syn_received s e pair.there.alone.progress).1.goes_on) (omega (arith, more, further)) h.table;
+      port_is = λ _. h.port_is (present-knows s.phase present.shut present.listening);
+      last = λ e closes. h.last (last_ack-own_syn s.phase s.closing e) closes;
+      released = λ last done. omega (arith, more, h.released last done);
+    }
+
+-- the own FIN's acknowledgement, and none of it
+module _ (p q : PartyState) (x : State) (synced : Synced p q x) (b : BetweenIn p q x) where
+  going-sends : Sends x.sending p.accepted p.closed false
+  going-sends =
+      let alone = synced.kept.here.alone in
+      let at = end-synchronized x synced.synced alone.progress in
+      rw (gives_up-not_ended x.ending at.0) at alone.sends
+
+  released-now : q.endpoint.phase ≡ LastAck → x.receiving.finished ≡ true → x.sending.una ≡ next_position q
+  released-now last done = omega (arith, b.released last done, synced.kept.here.between)
+
+  ends-last : is_fin_acked x.sending ≡ true → is_last_ack x.phase ≡ true → MayBeIn p q (after_orderly_end x) p.accepted
+  ends-last e last = record {
+    table = table-last_ack x.phase x.closing x.receiving.finished x.sending.una _ last (own_fin-acked x.sending p.accepted p.closed going-sends e)
+        (b.between x.sending.una (omega arith));
+    port_is = λ never. absurd (cc);
+    last = λ never. absurd (cc);
+    released = released-now;
+  }
+
+  fin-passes : is_fin_acked x.sending ≡ true → is_last_ack x.phase ≡ false → MayBeIn p q (record x { phase = phase_after_own_fin x.phase }) p.accepted
+  fin-passes e other = record {
+    table = table-own_fin x.phase x.ending x.closing x.receiving.finished x.sending.una _ other (own_fin-acked x.sending p.accepted p.closed going-sends e)
+        (b.between x.sending.una (omega arith));
+    port_is = λ knows. b.port_is (sym (knows-own_fin x.phase) ∙ knows);
+    last = λ is closes. b.last (last_ack-own_fin x.phase is) closes;
+    released = released-now;
+  }
+
+  fin-unacked : is_fin_acked x.sending ≡ false → MayBeIn p q x p.accepted
+  fin-unacked e = record {
+    table = table-no_own_fin x.phase x.ending x.closing x.receiving.finished x.sending.una _ (own_fin-unacked x.sending p.accepted p.closed going-sends e)
+        (b.between x.sending.una (omega arith));
+    port_is = b.port_is;
+    last = b.last;
+    released = released-now;
+  }
+
+-- TEXT is taken in no LAST-ACK, and a FIN acknowledges all that it was sent where it comes from one
+taken-last : (s : State) → s.phase ≡ LastAck → takes_text s.phase ≡ true → ⊥
+taken-last s is e = false≢true (sym (last_ack-takes s.phase is) ∙ e)
+
+may_be-text : (p q : PartyState) (s : State) (v : Content) → takes_text_of s v ≡ true → MayBeIn p q s p.accepted
+    → MayBeIn p q (record s { receiving = after_text s.receiving v.seq v.text }) p.accepted
+unfolding after_text
+may_be-text p q s v e h =
+    let takes = (and_parts (takes_text s.phase) (not (length v.text == 0)) e).0 in
+    record { table = h.table; port_is = h.port_is; last = λ is _. absurd (taken-last s is takes); released = h.released }
+
+may_be-fin : (p q : PartyState) (s : State) (v : Content) → takes_fin s v ≡ true
+    → (has fin v.flags ≡ true → q.endpoint.phase ≡ LastAck → s.sending.una ≡ next_position q) → MayBeIn p q s p.accepted
+    → MayBeIn p q (record s { phase = phase_after_fin s.phase; receiving = with_fin s.receiving }) p.accepted
+may_be-fin p q s v e all h =
+    let parts = and_parts (takes_text s.phase) (has fin v.flags) (and_parts (has_fin s v) (is_fin_due s.receiving (number v.seq (length v.text))) e).0 in
+    record {
+      table = table-fin s.phase s.ending s.closing s.receiving.finished s.sending.una _ parts.0 h.table;
+      port_is = λ knows. h.port_is (sym (knows-fin s.phase) ∙ knows);
+      last = λ is _. absurd (taken-last s (last_ack-fin s.phase is) parts.0);
+      released = λ last _. all parts.1 last;
+    }
+
+-- ---- WHATEVER IS JUDGED of a segment that the peer emitted
+pub may_be-arrives : (p q : PartyState) (g : SentSegment) (v : Content) → IsSoundPair p q → Arrives p q g v → v.src_port ≡ q.endpoint.config.port
+    → (has rst v.flags ≡ false → has fin v.flags ≡ true → q.endpoint.phase ≡ LastAck → g.wanted ≡ next_position q)
+    → (q.endpoint.receiving.opened ≡ true → next_position q ≤ p.endpoint.sending.nxt)
+    → MayBeIn p q p.endpoint p.accepted → MayBeIn p q (after_segment p q v) p.accepted
+unfolding after_acked_text after_news after_peer_opens after_peer_accepts
+may_be-arrives p q g v pair a port from_last sent h =
+    let s = p.endpoint in
+    let d = s.sending in
+    let r = s.receiving in
+    let end = 2 + length p.accepted in
+    let unfinished : r.opened ≡ false → r.finished ≡ true → ⊥ = λ shut done. false≢true (sym (pair.there.alone.unopened shut) ∙ done) in
+    on-arrival p q v g.position g.wanted (λ x. MayBeIn p q x p.accepted) (BetweenIn p q) a.comes (kept-same p q pair) (record {
+      same = h;
+      owes = λ _ _. h;
+      gone = may_be-given_up p q s p.accepted Reset refl h;
+      opens = λ listening is.
+          let at = end-listen s listening pair.there.alone.progress in
+          record { table = refl; port_is = λ _. port; last = λ never. absurd (cc); released = λ _ done. absurd (unfinished at.1.not_opened done) };
+      accepts = λ opens is.
+          let at = end-syn_sent s opens pair.there.alone.progress in
+          record {
+            table = (table-unanswered s.phase s.ending s.closing r.finished d.una end opens h.table, pair.there.alone.unopened at.1.not_opened);
+            port_is = λ _. h.port_is (syn_sent-knows s.phase opens);
+            last = λ never. absurd (cc);
+            released = λ _ done. absurd (unfinished at.1.not_opened done);
+          };
+      own_syn = λ present _. own_syn-between p q v present pair h;
+      acked_text = λ x _ _ _ b. between-more p q x.phase x.closing x.receiving.finished x.peer.port x.sending.una _ (next_of x.receiving)
+          (ack-more x.sending (position_near x v.ack)) b;
+      news = λ x _ _ _ b. between-more p q x.phase x.closing x.receiving.finished x.peer.port x.sending.una _ (next_of x.receiving)
+          (omega (arith, (news-keep x v).una)) b;
+      last = λ x synced e last b. ends-last p q x synced b e last;
+      passes = λ x synced e other b. fin-passes p q x synced b e other;
+      stays = λ x synced e b. fin-unacked p q x synced b e;
+      text = λ x _ _ _ _ e b. may_be-text p q x v e b;
+      fin = λ x _ told _ una e b.
+          let acks = (a.comes.truthful told.plain).truth.has_ack told.is_ack in
+          may_be-fin p q x v e (λ told_fin last. let all = from_last told.plain told_fin last in una (sym all) (omega (arith, all, sent acks.opened)) ∙ all) b;
+      owing = λ _ _ b. b;
+    }) s.config.addr.0
+
+-- in LAST-ACK each FIN that x emitted acknowledges all that x wants, the peer's FIN included
+abbrev pub AcksAll : PartyState → PartyState → Type 0
+AcksAll x y = x.endpoint.phase ≡ LastAck → AllSaid x y (λ g v. has rst v.flags ≡ false → has fin v.flags ≡ true → g.wanted ≡ next_position x)
+
+-- WHAT x KEEPS against its peer y
+pub record KeepsStages (x y : PartyState) : Type 0 where
+  pub table : Table x.endpoint.phase x.endpoint.ending x.endpoint.closing x.endpoint.receiving.finished x.endpoint.sending.una (2 + length x.accepted)
+  pub port : KnowsPort x y
+  -- each segment that x emitted names x's port
+  pub names : AllSaid x y (λ g v. v.src_port ≡ x.endpoint.config.port)
+  pub acks : AcksAll x y
+  pub released : ReleasesAll x y
+
+-- a FIN comes after a close
+fin-closed : (p q : PartyState) (g : SentSegment) (v : Content) → IsOwn p q g → decode_answer p.endpoint.config.addr.0 q.endpoint.config.addr.0 g.bytes ≡ Ok v
+    → has rst v.flags ≡ false → has fin v.flags ≡ true → p.closed ≡ true
+fin-closed p q g v own read plain told =
+    let same : own.content ≡ v = same-content own.content v (decode_answer p.endpoint.config.addr.0 q.endpoint.config.addr.0 g.bytes)
+    (own-decodes p q g own) read in
+    let stands = own.truthful (ap (λ (v : Content). has rst v.flags) same ∙ plain) in
+    (stands.truth.own.has_fin (ap (λ (v : Content). has fin v.flags) same ∙ told)).0
+
+-- EMIT: whatever goes out, a reset too, names the own port
+due-names : (s : State) (due : Due) → (segment_of s due).src_port ≡ s.config.port
+unfolding segment_of
+due-names s (Reset reset) = refl
+due-names s other = refl
+
+-- p became p', and emitted what is due
+stages-moved : (p p' q : PartyState) → IsSoundPair p q → Moved p p' q → Speaks p p' q → MayBeIn p q p'.endpoint p'.accepted → Both KeepsStages p q
+    → Both KeepsStages p' q
+stages-moved p p' q pair moved out may h =
+    let port = ap (λ (c : Config). c.port) (sym moved.config) in
+    record {
+      there = record {
+        table = may.table;
+        port = may.port_is;
+        names = said-after p p' q (λ g v. v.src_port ≡ p'.endpoint.config.port) moved.config out (λ k g v is read. h.there.names k g v is read ∙ port)
+            (λ due _ _ _. due-names p.endpoint due ∙ port);
+        acks = λ last. said-after p p' q (λ g v. has rst v.flags ≡ false → has fin v.flags ≡ true → g.wanted ≡ next_position p') moved.config out
+            (λ k g v is read plain told.
+            let was = may.last last (fin-closed p q g v (pair.own_there k g is) read plain told) in
+            h.there.acks was.0 k g v is read plain told ∙ sym was.1)
+            (λ due _ _ after _ _. wanted-is p q pair ∙ ap (λ (s : State). next_of s.receiving) (sym after));
+        released = λ last done. let was = may.last last (pair.back.takes.fin done).0 in h.there.released was.0 done ∙ sym was.1;
+      };
+      back = record {
+        table = h.back.table;
+        port = λ knows. h.back.port knows ∙ port;
+        names = said-back p p' q (λ g v. v.src_port ≡ q.endpoint.config.port) moved.config h.back.names;
+        acks = λ last. said-back p p' q (λ g v. has rst v.flags ≡ false → has fin v.flags ≡ true → g.wanted ≡ next_position q) moved.config (h.back.acks last);
+        released = may.released;
+      };
+    }
+
+may_be-same : (p q : PartyState) → Both KeepsStages p q → MayBeIn p q p.endpoint p.accepted
+may_be-same p q h = record { table = h.there.table; port_is = h.there.port; last = λ is _. (is, refl); released = h.back.released }
+
+-- where neither end took what the other didn't send
+pub stages-kept : PairKept (Both KeepsSent) (Both KeepsStages) (λ p q s accepted. MayBeIn p q s accepted)
+stages-kept = record {
+  swapped = both-swapped KeepsStages;
+  calls = λ p q pair h. may_be-calls p q pair (may_be-same p q h);
+  arrives = λ p q g v sent pair a h. may_be-arrives p q g v pair a (h.back.names a.place g v a.sent a.read)
+      (λ plain told last. h.back.acks last a.place g v a.sent a.read plain told)
+      sent.back.taken.next (may_be-same p q h);
+  moved = stages-moved;
+}
+
+-- NEW PARTIES have it
+new-keeps : (a b : Config) → KeepsStages (new_party a) (new_party b)
+new-keeps a b = record {
+  table = (λ _. refl, λ never. absurd (cc));
+  port = λ never. absurd (cc);
+  names = λ k g v never. absurd (cc);
+  acks = λ never. absurd (cc);
+  released = λ never. absurd (cc);
+}
+
+pub new-stages : (a b : Config) → IsConfig a → IsConfig b → Both KeepsStages (new_party a) (new_party b)
+new-stages a b one two = record { there = new-keeps a b; back = new-keeps b a }
+
+-- ---- WHAT FOLLOWS of each end
+sends-on : (s : State) (accepted : List ℕ) (closed : Bool) → s.ending ≡ NotEnded → IsAlone s accepted closed → Sends s.sending accepted closed false
+sends-on s accepted closed going alone = rw (gives_up-not_ended s.ending going) at alone.sends
+
+-- before a close no FIN was sent
+unsent : (s : State) (accepted : List ℕ) (closed : Bool) → s.ending ≡ NotEnded → s.closing ≡ false → IsAlone s accepted closed → is_fin_acked s.sending ≡ false
+unsent s accepted closed going early alone =
+    let sends = sends-on s accepted closed going alone in
+    let unclosed : closed ≡ false = sym alone.closing ∙ early in
+    own_fin-is_unacked s.sending accepted closed sends (omega (arith, sends.order, sends.most, one_if-false closed unclosed))
+
+says : (phase : Phase) (s : State) (accepted : List ℕ) (closed : Bool)
+    → FitsPhase phase s.ending s.sending.una s.sending.nxt s.receiving.opened s.receiving.finished → IsAlone s accepted closed
+    → Table phase s.ending s.closing s.receiving.finished s.sending.una (2 + length accepted) → SaysByPhase phase s
+says Closed s accepted closed fits alone h = λ e.
+    let row = h.1 e in
+    let sends : Sends s.sending accepted closed false = rw (ap gives_up e) at alone.sends in
+    record { closing = row.0; acked = own_fin-is_acked s.sending accepted closed sends row.2; finished = row.1 }
+says Listen s accepted closed fits alone h = tt
+says SynSent s accepted closed fits alone h = tt
+says SynReceived s accepted closed fits alone h = (h, fits.1.nxt_is)
+says Established s accepted closed fits alone h = record { closing = h.0; acked = unsent s accepted closed fits.0 h.0 alone; finished = h.1 }
+says FinWait1 s accepted closed fits alone h =
+    record { closing = h.0; acked = own_fin-is_unacked s.sending accepted closed (sends-on s accepted closed fits.0 alone) h.2; finished = h.1 }
+says FinWait2 s accepted closed fits alone h =
+    record { closing = h.0; acked = own_fin-is_acked s.sending accepted closed (sends-on s accepted closed fits.0 alone) h.2; finished = h.1 }
+says CloseWait s accepted closed fits alone h = record { closing = h.0; acked = unsent s accepted closed fits.0 h.0 alone; finished = h.1 }
+says Closing s accepted closed fits alone h =
+    record { closing = h.0; acked = own_fin-is_unacked s.sending accepted closed (sends-on s accepted closed fits.0 alone) h.2; finished = h.1 }
+says LastAck s accepted closed fits alone h =
+    record { closing = h.0; acked = own_fin-is_unacked s.sending accepted closed (sends-on s accepted closed fits.0 alone) h.2; finished = h.1 }
+says TimeWait s accepted closed fits alone h =
+    record { closing = h.0; acked = own_fin-is_acked s.sending accepted closed (sends-on s accepted closed fits.0 alone) h.2; finished = h.1 }
+
+-- each state says what it does of both FINs, in both ends
+pub stages-say : (p q : PartyState) → IsSoundPair p q → Both KeepsStages p q → SaysByPhase p.endpoint.phase p.endpoint × SaysByPhase q.endpoint.phase q.endpoint
+stages-say p q pair h = (
+  says p.endpoint.phase p.endpoint p.accepted p.closed pair.there.alone.progress pair.there.alone h.there.table,
+  says q.endpoint.phase q.endpoint q.accepted q.closed pair.back.alone.progress pair.back.alone h.back.table,
+)
