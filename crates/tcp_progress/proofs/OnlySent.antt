@@ -33,7 +33,7 @@ use Rattle.tcp_replay.proofs.Calls.{KeptByCalls}
 use Rattle.tcp_replay.proofs.Arrivals.{on-arrival}
 use Rattle.tcp_halves.specs.declared.config.Config.{Config}
 use Rattle.tcp_halves.specs.declared.due.Due.{Due}
-use Rattle.tcp_halves.specs.declared.due.Due.TheVariants.{Reset, Syn, Resend, NewText, Fin, ResentFin, Acknowledgement}
+use Rattle.tcp_halves.specs.declared.due.Due.TheVariants.{Reset, Syn}
 use Rattle.tcp_conn.specs.Forms.{pushes, text_of, syn_segment, plain_segment, segment_of}
 use Rattle.tcp_conn.specs.Due.{is_fin, start_of, count_of}
 use Rattle.tcp_conn.specs.Emission.{after_due}

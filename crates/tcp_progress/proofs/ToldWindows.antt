@@ -26,7 +26,7 @@ use Rattle.tcp_replay.proofs.Calls.{KeptByCalls}
 use Rattle.tcp_replay.proofs.Arrivals.{on-arrival}
 use Rattle.tcp_replay.proofs.Steps.{kept-same, Moved}
 use Rattle.tcp_halves.specs.declared.due.Due.{Due}
-use Rattle.tcp_halves.specs.declared.due.Due.TheVariants.{Reset, Syn, Resend, NewText, Fin, ResentFin, Acknowledgement}
+use Rattle.tcp_halves.specs.declared.due.Due.TheVariants.{Reset, Syn}
 use Rattle.tcp_conn.specs.Config.{IsConfig}
 use Rattle.tcp_conn.specs.Windows.{own_shift, window_field}
 use Rattle.tcp_conn.specs.Forms.{pushes, syn_segment, plain_segment, segment_of}

@@ -1,6 +1,6 @@
 -- WHAT IS DUE at one end by itself: it is what may go out, it can be written, it is of what its user sent, and the end keeps what it does.
 use Rattle.std.proofs.Common.{◌≡◌, ℕ, ◌+◌, ◌-◌, ◌<◌, ◌≤◌, List, length, refl, sym, ◌∙◌, ap, arith, length-drop, ◌^◌, [], take, drop, subst, length-take}
-use Rattle.std.specs.Prelude.{min, max, Bool, true, false, ◌&&◌, ◌==◌, nat_lt, nat_le, Option, Some, None, IfSome, not, if◌then◌else◌}
+use Rattle.std.specs.Prelude.{min, max, Bool, true, false, ◌&&◌, ◌==◌, nat_lt, nat_le, Option, Some, None, IfSome, not}
 use Rattle.std.proofs.lemmas.Bool.{cond_both, ltb-true, eqb-true, and_parts, false≢true}
 use Rattle.std.specs.declared.ops.Range.{Range}
 use Rattle.tcp_sendq.specs.SendQueue.{next_unmarked}

@@ -30,7 +30,7 @@ use Rattle.tcp_replay.proofs.Stages.{Synced, IsAhead, IsYoung, text_advance, tex
 use Rattle.tcp_replay.proofs.Holdings.{Has, HasMore, has-inside, has-text, has-fin, has-read}
 use Rattle.tcp_replay.proofs.Holdings.{AreTrueMarks, marks-after_ack, marks-given_up, marks-window, marks-blocks, marks-text, marks-none}
 use Rattle.tcp_wire.specs.Flags.{has, rst, ack}
-use Rattle.tcp_halves.specs.declared.due.Due.TheVariants.{Reset, Syn, Resend, NewText, Fin, ResentFin, Acknowledgement}
+use Rattle.tcp_halves.specs.declared.due.Due.TheVariants.{Reset, Syn}
 use Rattle.tcp_replay.proofs.Events.{Arrives, after_segment, PairKept, Speaks, in-world, said-after, said-back}
 use Rattle.tcp_replay.proofs.Calls.{KeptByCalls}
 use Rattle.tcp_replay.proofs.Arrivals.{on-arrival}

@@ -13,7 +13,7 @@ use Rattle.tcp_wire.specs.declared.fault.DecodeError.{DecodeError}
 use Rattle.tcp_wire.proofs.RoundTrip.{decoded_encoded, decoded_valid}
 use Rattle.tcp_halves.specs.declared.config.Config.{Config}
 use Rattle.tcp_halves.specs.declared.due.Due.{Due}
-use Rattle.tcp_halves.specs.declared.due.Due.TheVariants.{Reset, Syn, Resend, NewText, Fin, ResentFin, Acknowledgement}
+use Rattle.tcp_halves.specs.declared.due.Due.TheVariants.{Reset, Syn}
 use Rattle.tcp_halves.specs.declared.outcome.CallError.{CallError}
 use Rattle.tcp_conn.specs.Config.{IsConfig}
 use Rattle.tcp_conn.specs.Phase.{gives_up}
