@@ -1,6 +1,5 @@
 -- TOLD WINDOWS, on the definitions: every event keeps what each end tells of its window within its room.
-use Rattle.std.proofs.Common.{◌≡◌, ℕ, suc, ◌+◌, ◌≤◌, List, [], ◌∷◌, ◌++◌, length, drop, refl, sym, ◌∙◌, arith, length-append, length-drop, ◌*◌, ◌^◌, ap}
-use Rattle.std.proofs.Common.{subst}
+use Rattle.std.proofs.Common.{◌≡◌, ℕ, suc, ◌+◌, ◌≤◌, List, [], ◌∷◌, ◌++◌, length, drop, refl, sym, ◌∙◌, arith, length-append, length-drop, ◌*◌, ◌^◌, ap, subst}
 use Rattle.std.specs.Prelude.{ℤ, true, false, Option, Some, None, Bool}
 use Rattle.std.proofs.lemmas.Bool.{cond_both, false≢true}
 use Rattle.tcp_wire.specs.Flags.{rst, syn, has}

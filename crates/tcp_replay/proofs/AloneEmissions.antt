@@ -25,8 +25,8 @@ use Rattle.tcp_conn.specs.Emission.{range_after, resend_after, owed_after, state
 use Rattle.tcp_conn.proofs.Segments.{plain_segment_valid, reset_segment_valid, syn_segment_valid}
 use Rattle.tcp_replay.proofs.Lists.{one_if, one_if-most, AreBytes-take, AreBytes-drop}
 use Rattle.tcp_replay.proofs.Halves.{range-more, sends-sent}
-use Rattle.tcp_replay.proofs.Phases.{gives_up-not_ended, handshake-knows, end-synchronized, sends_text-synchronized, synchronized-knows, knows-nxt}
-use Rattle.tcp_replay.proofs.Phases.{fits-sent, fits-sent_text}
+use Rattle.tcp_replay.proofs.Phases.{gives_up-not_ended, handshake-knows, end-synchronized, sends_text-synchronized, synchronized-knows, knows-nxt, fits-sent}
+use Rattle.tcp_replay.proofs.Phases.{fits-sent_text}
 
 -- text that may go out: it begins after what was released, and ends within what was accepted, or was sent
 pub record IsText (d : Sending) (accepted : List ℕ) (start count : ℕ) : Type 0 where
