@@ -8,8 +8,7 @@ use Rattle.tcp_replay.specs.Events.{EventContent, HasBytes}
 use Rattle.tcp_replay.specs.World.{WorldState, PartyState, max_life, new_world_with, refusal_of, world_with_effect, run_of, world_after_all}
 use Rattle.tcp_replay.specs.Sound.{IsSound, IsSoundPair}
 use Rattle.tcp_replay.proofs.Steps.{pair-swapped}
-use Rattle.tcp_replay.proofs.Worlds.{sound-new, sound-after}
-use Rattle.tcp_replay.proofs.Worlds.{kept-run, kept-after_all, life-after}
+use Rattle.tcp_replay.proofs.Worlds.{sound-new, sound-after, kept-run, kept-after_all, life-after}
 use Rattle.tcp_progress.specs.Settled.{least_life}
 use Rattle.tcp_progress.specs.Steady.{EveryWorldIsSteady, IsSteady, IsSteadyEnd}
 use Rattle.tcp_progress.proofs.OnlySent.{new-sent, takes-only_sent, KeepsSent, sent-kept}

@@ -18,8 +18,7 @@ use Rattle.tcp_conn.specs.Due.{sending_due, reset_due, syn_due, ack_due, text_li
 use Rattle.tcp_conn.specs.Emission.{range_after, sending_after, owed_after}
 use Rattle.tcp_conn.specs.Timers.{after_gaps, needs_probe}
 use Rattle.tcp_replay.proofs.Halves.{range-more}
-use Rattle.tcp_replay.proofs.AloneEmissions.{option_or-both, end-is}
-use Rattle.tcp_replay.proofs.AloneEmissions.{range_after-ends, going-on}
+use Rattle.tcp_replay.proofs.AloneEmissions.{option_or-both, end-is, range_after-ends, going-on}
 use Rattle.tcp_halves.specs.declared.link.WaitingReset.{WaitingReset}
 use Rattle.tcp_halves.specs.declared.phase.Ending.TheVariants.{Aborted}
 use Rattle.tcp_conn.specs.Phase.{sends_text, gives_up, is_syn_received}

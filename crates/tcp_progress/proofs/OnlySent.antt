@@ -1,6 +1,6 @@
 -- NOTHING IS TAKEN BEFORE IT IS SENT, on the definitions: every event keeps it.
-use Rattle.std.proofs.Common.{◌≡◌, ℕ, suc, ◌+◌, ◌-◌, ◌^◌, ◌<◌, ◌≤◌, List, [], ◌∷◌, length, drop, sym, ap, subst, ⊎_elim, arith, length-drop, refl, zero}
-use Rattle.std.proofs.Common.{◌∙◌, length-take}
+use Rattle.std.proofs.Common.{◌≡◌, ℕ, suc, ◌+◌, ◌-◌, ◌^◌, ◌<◌, ◌≤◌, List, [], ◌∷◌, length, drop, sym, ap, subst, ⊎_elim, arith, length-drop, refl, zero, ◌∙◌}
+use Rattle.std.proofs.Common.{length-take}
 use Rattle.std.specs.Prelude.{min, ℤ, true, false, not, ◌==◌, Option, Some, None, slice_get}
 use Rattle.std.proofs.lemmas.Bool.{cases_lt, and_parts, cond_both, eqb-false, not-true, false≢true}
 use Rattle.tcp_wire.specs.Position.{number, offset, position_of}
@@ -18,8 +18,7 @@ use Rattle.tcp_replay.specs.Truthful.{IsTruthful}
 use Rattle.tcp_replay.specs.Safe.{witness_of}
 use Rattle.tcp_replay.proofs.Lists.{one_if, one_if-false, one_if-most}
 use Rattle.tcp_replay.proofs.Feeds.{AllText, AllHeld, Brings, brings-place, held-moved, held-same, held-none, held-more}
-use Rattle.tcp_replay.proofs.Steps.{Kept, kept-same, Moved}
-use Rattle.tcp_replay.proofs.Steps.{next_of}
+use Rattle.tcp_replay.proofs.Steps.{Kept, kept-same, Moved, next_of}
 use Rattle.tcp_replay.proofs.Stages.{IsAhead, IsYoung, text_advance, text-advances, placed, fin-in_turn}
 use Rattle.tcp_halves.specs.declared.phase.Ending.TheVariants.{Aborted}
 use Rattle.tcp_conn.specs.Windows.{window_from}
@@ -33,15 +32,14 @@ use Rattle.tcp_replay.proofs.Calls.{KeptByCalls}
 use Rattle.tcp_replay.proofs.Arrivals.{on-arrival}
 use Rattle.tcp_halves.specs.declared.config.Config.{Config}
 use Rattle.tcp_halves.specs.declared.due.Due.{Due}
-use Rattle.tcp_halves.specs.declared.due.Due.TheVariants.{Reset, Syn, Resend, NewText, Fin, ResentFin, Acknowledgement}
+use Rattle.tcp_halves.specs.declared.due.Due.TheVariants.{Reset, Syn}
 use Rattle.tcp_conn.specs.Forms.{pushes, text_of, syn_segment, plain_segment, segment_of}
 use Rattle.tcp_conn.specs.Due.{is_fin, start_of, count_of}
 use Rattle.tcp_conn.specs.Emission.{after_due}
 use Rattle.tcp_replay.specs.Events.{EventContent, HasBytes}
 use Rattle.tcp_replay.proofs.AloneEmissions.{IsSaid, GoesOutAlone}
 use Rattle.tcp_replay.proofs.Emissions.{syn-bits, plain-bits, reset-bit}
-use Rattle.tcp_replay.proofs.Worlds.{kept-run, kept-after_all}
-use Rattle.tcp_replay.proofs.Worlds.{sound-new, sound-after}
+use Rattle.tcp_replay.proofs.Worlds.{kept-run, kept-after_all, sound-new, sound-after}
 use Rattle.tcp_progress.specs.Sent.{TakesOnlySent, TakeOnlySent, NothingIsTakenBeforeItIsSent}
 
 -- the byte at this place behind a position lies below another one

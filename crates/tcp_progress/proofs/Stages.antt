@@ -17,13 +17,13 @@ use Rattle.tcp_replay.specs.World.{PartyState, address_of, SentSegment, new_part
 use Rattle.tcp_replay.specs.Safe.{next_position}
 use Rattle.tcp_replay.specs.Sound.{IsSoundPair, IsOwn}
 use Rattle.tcp_replay.proofs.Lists.{one_if-false}
-use Rattle.tcp_replay.proofs.Steps.{next_of}
+use Rattle.tcp_replay.proofs.Steps.{next_of, kept-same, Moved}
 use Rattle.tcp_replay.proofs.Phases.{at-closed, knows-closing, gives_up-not_ended, end-listen, end-syn_sent, end-syn_received, end-synchronized, present-knows}
 use Rattle.tcp_replay.proofs.Phases.{syn_sent-knows, knows-own_fin, knows-fin}
 use Rattle.tcp_replay.proofs.AloneCalls.{send-open}
-use Rattle.tcp_progress.proofs.Table.{Table, table-unopened, table-more, table-close, table-time_wait, Between, table-unanswered, table-acked}
-use Rattle.tcp_progress.proofs.Table.{table-own_fin, table-last_ack, table-no_own_fin, table-fin, last_ack-own_syn, last_ack-own_fin, last_ack-fin}
-use Rattle.tcp_progress.proofs.Table.{last_ack-takes, own_fin-acked, own_fin-unacked, own_fin-is_acked, own_fin-is_unacked}
+use Rattle.tcp_progress.proofs.Table.{Table, table-unopened, table-more, table-close, table-time_wait, Between, table-unanswered, table-acked, table-own_fin}
+use Rattle.tcp_progress.proofs.Table.{table-last_ack, table-no_own_fin, table-fin, last_ack-own_syn, last_ack-own_fin, last_ack-fin, last_ack-takes}
+use Rattle.tcp_progress.proofs.Table.{own_fin-acked, own_fin-unacked, own_fin-is_acked, own_fin-is_unacked}
 use Rattle.tcp_replay.proofs.Calls.{KeptByCalls, option_or-none, refusal_if-none}
 use Rattle.tcp_wire.specs.Position.{number}
 use Rattle.tcp_wire.specs.Flags.{fin, rst, has}
@@ -35,20 +35,18 @@ use Rattle.tcp_conn.specs.Judgement.{position_near}
 use Rattle.tcp_conn.specs.Arrival.{after_own_syn, after_acked_text, after_news, after_its_ack, takes_text_of, has_fin, takes_fin, after_peer_opens}
 use Rattle.tcp_conn.specs.Arrival.{after_peer_accepts}
 use Rattle.tcp_replay.specs.Alone.{Sends, FitsPhase, IsAlone}
-use Rattle.tcp_replay.proofs.Steps.{kept-same, Moved}
 use Rattle.tcp_replay.proofs.Judgements.{IsPresent}
 use Rattle.tcp_replay.proofs.Stages.{Synced}
 use Rattle.tcp_progress.proofs.Acked.{news-keep, own_fin-keeps}
-use Rattle.tcp_replay.proofs.Events.{Arrives, after_segment, same-content, AllSaid, Both, PairKept, Speaks, both-swapped, said-after, said-back}
+use Rattle.tcp_replay.proofs.Events.{Arrives, after_segment, same-content, AllSaid, Both, PairKept, Speaks, both-swapped, said-after, said-back, own-decodes}
 use Rattle.tcp_replay.proofs.Arrivals.{on-arrival}
 use Rattle.tcp_wire.specs.Decoded.{decode_answer}
 use Rattle.tcp_halves.specs.declared.config.Config.{Config}
 use Rattle.tcp_halves.specs.declared.due.Due.{Due}
-use Rattle.tcp_halves.specs.declared.due.Due.TheVariants.{Reset, Syn, Resend, NewText, Fin, ResentFin, Acknowledgement}
+use Rattle.tcp_halves.specs.declared.due.Due.TheVariants.{Reset}
 use Rattle.tcp_conn.specs.Config.{IsConfig}
 use Rattle.tcp_conn.specs.Forms.{segment_of}
 use Rattle.tcp_replay.proofs.Emissions.{wanted-is}
-use Rattle.tcp_replay.proofs.Events.{own-decodes}
 use Rattle.tcp_progress.specs.Stage.{SaysByPhase, KnowsPort, ReleasesAll}
 use Rattle.tcp_progress.proofs.OnlySent.{KeepsSent}
 use Rattle.tcp_halves.specs.declared.outcome.CallError.TheVariants as errors

@@ -1,6 +1,5 @@
 -- TOLD WINDOWS, on the definitions: every event keeps what each end tells of its window within its room.
-use Rattle.std.proofs.Common.{◌≡◌, ℕ, suc, ◌+◌, ◌≤◌, List, [], ◌∷◌, ◌++◌, length, drop, refl, sym, ◌∙◌, arith, length-append, length-drop, ◌*◌, ◌^◌, ap}
-use Rattle.std.proofs.Common.{subst}
+use Rattle.std.proofs.Common.{◌≡◌, ℕ, suc, ◌+◌, ◌≤◌, List, [], ◌∷◌, ◌++◌, length, drop, refl, sym, ◌∙◌, arith, length-append, length-drop, ◌*◌, ◌^◌, ap, subst}
 use Rattle.std.specs.Prelude.{ℤ, true, false, Option, Some, None, Bool}
 use Rattle.std.proofs.lemmas.Bool.{cond_both, false≢true}
 use Rattle.tcp_wire.specs.Flags.{rst, syn, has}
@@ -26,7 +25,7 @@ use Rattle.tcp_replay.proofs.Calls.{KeptByCalls}
 use Rattle.tcp_replay.proofs.Arrivals.{on-arrival}
 use Rattle.tcp_replay.proofs.Steps.{kept-same, Moved}
 use Rattle.tcp_halves.specs.declared.due.Due.{Due}
-use Rattle.tcp_halves.specs.declared.due.Due.TheVariants.{Reset, Syn, Resend, NewText, Fin, ResentFin, Acknowledgement}
+use Rattle.tcp_halves.specs.declared.due.Due.TheVariants.{Reset, Syn}
 use Rattle.tcp_conn.specs.Config.{IsConfig}
 use Rattle.tcp_conn.specs.Windows.{own_shift, window_field}
 use Rattle.tcp_conn.specs.Forms.{pushes, syn_segment, plain_segment, segment_of}

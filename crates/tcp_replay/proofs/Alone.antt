@@ -7,13 +7,12 @@ use Rattle.tcp_conn.specs.Config.{IsConfig}
 use Rattle.tcp_halves.specs.declared.link.WaitingReset.{WaitingReset}
 use Rattle.tcp_halves.specs.declared.phase.Ending.{Ending}
 use Rattle.tcp_halves.specs.declared.phase.Ending.TheVariants.{NotEnded}
-use Rattle.tcp_conn.specs.Phase.{has_peer, gives_up, is_closed, is_syn_received, is_last_ack, takes_text, phase_after_own_fin, phase_after_fin}
-use Rattle.tcp_conn.specs.Phase.{is_handshake}
+use Rattle.tcp_conn.specs.Phase.{has_peer, gives_up, is_closed, is_syn_received, is_last_ack, takes_text, phase_after_own_fin, phase_after_fin, is_handshake}
 use Rattle.tcp_conn.specs.State.{State, Sending, with_ack_owed, place_of}
 use Rattle.tcp_conn.specs.NewEnd.{new_end}
 use Rattle.tcp_conn.specs.Endings.{after_orderly_end, after_giving_up}
-use Rattle.tcp_conn.specs.Arrival.{first_reset, with_reset, after_own_syn, after_acked_text, blocks_used, is_current, after_news, after_own_fin}
-use Rattle.tcp_conn.specs.Arrival.{after_its_ack, takes_text_of, after_its_text, has_fin, takes_fin, after_fin, after_taking, after_taking_shut}
+use Rattle.tcp_conn.specs.Arrival.{first_reset, with_reset, after_own_syn, after_acked_text, blocks_used, is_current, after_news, after_own_fin, after_its_ack}
+use Rattle.tcp_conn.specs.Arrival.{takes_text_of, after_its_text, has_fin, takes_fin, after_fin, after_taking, after_taking_shut}
 use Rattle.tcp_replay.specs.Alone.{Sends, FitsPhase, IsWritable, IsAlone}
 use Rattle.tcp_replay.proofs.Halves.{sends-given_up, sends-syn_acked, sends-acked}
 use Rattle.tcp_replay.proofs.Phases.{gives_up-not_ended, is_synchronized, end-syn_received, end-synchronized, end-takes_text, synchronized-knows}

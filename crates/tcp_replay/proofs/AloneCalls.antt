@@ -15,8 +15,8 @@ use Rattle.tcp_conn.specs.Arrival.{reset_at_ack, reset_of_stray, with_reset, aft
 use Rattle.tcp_replay.specs.Alone.{IsWritable, IsAlone, Sends}
 use Rattle.tcp_replay.proofs.Halves.{sends-syn, sends-syn_acked, sends-more, sends-closed}
 use Rattle.tcp_replay.proofs.Phases.{end-listen, end-syn_sent, syn_sent-knows, present-knows, present-opened, gives_up-not_ended, not_ended, end-closed}
-use Rattle.tcp_replay.proofs.Phases.{closed-unknown, resets_on_abort-knows, handshake-knows, sends_text-synchronized, time_wait-synchronized}
-use Rattle.tcp_replay.proofs.Phases.{end-synchronized, fits-closing, knows-closing, handshake-closing}
+use Rattle.tcp_replay.proofs.Phases.{closed-unknown, resets_on_abort-knows, handshake-knows, sends_text-synchronized, time_wait-synchronized, end-synchronized}
+use Rattle.tcp_replay.proofs.Phases.{fits-closing, knows-closing, handshake-closing}
 use Rattle.tcp_replay.proofs.Alone.{alone-reset, alone-owing, alone-given_up, alone-taking, alone-taking_shut, alone-ack_owed, alone-orderly, alone-sending}
 use Rattle.tcp_replay.proofs.Alone.{owes-taking}
 use Rattle.tcp_replay.proofs.Judgements.{IsPresent, judged}

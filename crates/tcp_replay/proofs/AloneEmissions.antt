@@ -1,6 +1,6 @@
 -- WHAT IS DUE at one end by itself: it is what may go out, it can be written, it is of what its user sent, and the end keeps what it does.
 use Rattle.std.proofs.Common.{◌≡◌, ℕ, ◌+◌, ◌-◌, ◌<◌, ◌≤◌, List, length, refl, sym, ◌∙◌, ap, arith, length-drop, ◌^◌, [], take, drop, subst, length-take}
-use Rattle.std.specs.Prelude.{min, max, Bool, true, false, ◌&&◌, ◌==◌, nat_lt, nat_le, Option, Some, None, IfSome, not, if◌then◌else◌}
+use Rattle.std.specs.Prelude.{min, max, Bool, true, false, ◌&&◌, ◌==◌, nat_lt, nat_le, Option, Some, None, IfSome, not}
 use Rattle.std.proofs.lemmas.Bool.{cond_both, ltb-true, eqb-true, and_parts, false≢true}
 use Rattle.std.specs.declared.ops.Range.{Range}
 use Rattle.tcp_sendq.specs.SendQueue.{next_unmarked}
@@ -25,8 +25,8 @@ use Rattle.tcp_conn.specs.Emission.{range_after, resend_after, owed_after, state
 use Rattle.tcp_conn.proofs.Segments.{plain_segment_valid, reset_segment_valid, syn_segment_valid}
 use Rattle.tcp_replay.proofs.Lists.{one_if, one_if-most, AreBytes-take, AreBytes-drop}
 use Rattle.tcp_replay.proofs.Halves.{range-more, sends-sent}
-use Rattle.tcp_replay.proofs.Phases.{gives_up-not_ended, handshake-knows, end-synchronized, sends_text-synchronized, synchronized-knows, knows-nxt}
-use Rattle.tcp_replay.proofs.Phases.{fits-sent, fits-sent_text}
+use Rattle.tcp_replay.proofs.Phases.{gives_up-not_ended, handshake-knows, end-synchronized, sends_text-synchronized, synchronized-knows, knows-nxt, fits-sent}
+use Rattle.tcp_replay.proofs.Phases.{fits-sent_text}
 
 -- text that may go out: it begins after what was released, and ends within what was accepted, or was sent
 pub record IsText (d : Sending) (accepted : List ℕ) (start count : ℕ) : Type 0 where

@@ -9,7 +9,7 @@ use Rattle.tcp_wire.specs.Wire.{Content, IsValid, encoded_bytes}
 use Rattle.tcp_wire.specs.Decoded.{decode_answer}
 use Rattle.tcp_wire.proofs.Lemmas.{decoded_encoded, IsWire_encoded, position_of_number}
 use Rattle.tcp_halves.specs.declared.due.Due.{Due}
-use Rattle.tcp_halves.specs.declared.due.Due.TheVariants.{Reset, Syn, Resend, NewText, Fin, ResentFin, Acknowledgement}
+use Rattle.tcp_halves.specs.declared.due.Due.TheVariants.{Reset, Syn}
 use Rattle.tcp_halves.specs.declared.link.WaitingReset.{WaitingReset}
 use Rattle.tcp_conn.specs.State.{State}
 use Rattle.tcp_conn.specs.Due.{is_fin, start_of, count_of, due_of}
@@ -24,10 +24,8 @@ use Rattle.tcp_replay.specs.Safe.{witness_of, next_position}
 use Rattle.tcp_replay.specs.Sound.{IsOwn, IsSoundPair}
 use Rattle.tcp_replay.proofs.Lists.{one_if-most}
 use Rattle.tcp_replay.proofs.Phases.{handshake-knows, handshake-una}
-use Rattle.tcp_replay.proofs.Steps.{Kept, kept-same}
-use Rattle.tcp_replay.proofs.Steps.{kept-alone}
-use Rattle.tcp_replay.proofs.AloneEmissions.{if-some-map}
-use Rattle.tcp_replay.proofs.AloneEmissions.{IsSaid, GoesOutAlone, due-alone}
+use Rattle.tcp_replay.proofs.Steps.{Kept, kept-same, kept-alone}
+use Rattle.tcp_replay.proofs.AloneEmissions.{if-some-map, IsSaid, GoesOutAlone, due-alone}
 
 -- an acknowledgement is of the next position
 true-ack : (p q : PartyState) (ack : ℕ) → p.endpoint.receiving.opened ≡ true → ack ≡ p.endpoint.receiving.next → IsSoundPair p q

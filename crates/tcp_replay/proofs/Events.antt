@@ -1,7 +1,7 @@
 -- EVERY EVENT of two sound ends, gone through once: deliveries, damage that is found, what was emitted, and what a fact of both has to keep.
 use Rattle.std.proofs.Common.{◌≡◌, ◌≢◌, ℕ, ◌+◌, ◌<◌, ◌≤◌, List, [], length, refl, sym, ◌∙◌, ap, subst, arith, append-nil, ⊎_elim, ◌++◌}
-use Rattle.std.specs.Prelude.{Bool, true, false, not, nat_le, ◌==◌, if◌then◌else◌, Option, Some, None, Ok, Err, slice_get, slice_index, bit_xor, ◌||◌}
-use Rattle.std.specs.Prelude.{IfSome, Result, option_map, option_to_list}
+use Rattle.std.specs.Prelude.{Bool, true, false, not, nat_le, ◌==◌, if◌then◌else◌, Option, Some, None, Ok, Err, slice_get, slice_index, bit_xor, ◌||◌, IfSome}
+use Rattle.std.specs.Prelude.{Result, option_map, option_to_list}
 use Rattle.std.proofs.lemmas.Bool.{eqb-false, leb-false}
 use Rattle.std.proofs.lemmas.Nat.{xor_of_8}
 use Rattle.std.proofs.lemmas.Option.{slice_get-get_or, unwrap_or-slice_get}
@@ -29,8 +29,7 @@ use Rattle.tcp_replay.specs.Sound.{IsSoundEnd, IsOwn, AreOwn, IsSoundPair, AreSo
 use Rattle.tcp_replay.proofs.Lists.{one_if-most, and-fails, or-fails}
 use Rattle.tcp_replay.proofs.Arrivals.{Comes, fair-judgement}
 use Rattle.tcp_replay.proofs.Emissions.{wanted-is, GoesOut, due-decodes, due-goes, seq-in}
-use Rattle.tcp_replay.specs.Events.{Abort, Acknowledge, Close, Connect, Damage, Deliver, Emit, EventContent, HasBytes, Receive, Send, Timer, side_of}
-use Rattle.tcp_replay.specs.Events.{Listen}
+use Rattle.tcp_replay.specs.Events.{Abort, Acknowledge, Close, Connect, Damage, Deliver, Emit, EventContent, HasBytes, Receive, Send, Timer, side_of, Listen}
 use Rattle.tcp_halves.specs.declared.config.Config.{Config}
 use Rattle.tcp_halves.specs.declared.due.Due.{Due}
 use Rattle.tcp_replay.proofs.AloneEmissions.{GoesOutAlone, due-alone}

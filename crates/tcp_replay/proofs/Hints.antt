@@ -1,6 +1,5 @@
 -- SELECTIVE ACKNOWLEDGEMENT: what is reported is true, and every event keeps blocks and marks true.
-use Rattle.std.proofs.Common.{◌≡◌, ℕ, ◌+◌, ◌^◌, ◌≤◌, List, [], length, refl, sym, ◌∙◌, arith, subst, zero, suc, ◌-◌, ◌∷◌, ◌++◌, take, map, ap, inr}
-use Rattle.std.proofs.Common.{append-nil}
+use Rattle.std.proofs.Common.{◌≡◌, ℕ, ◌+◌, ◌^◌, ◌≤◌, List, [], length, refl, sym, ◌∙◌, arith, subst, zero, suc, ◌-◌, ◌∷◌, ◌++◌, take, map, ap, inr, append-nil}
 use Rattle.std.specs.Prelude.{true, false, not, ◌==◌, Bool, nat_lt, Option, Some, None, slice_get}
 use Rattle.std.proofs.lemmas.Bool.{cond_both, and_parts, eqb-false, not-true, false≢true}
 use Rattle.tcp_wire.specs.Position.{offset, number}
@@ -27,10 +26,10 @@ use Rattle.tcp_replay.proofs.Steps.{Kept, kept-same, Moved}
 use Rattle.tcp_replay.proofs.Phases.{gives_up-not_ended, end-synchronized, time_wait-synchronized}
 use Rattle.tcp_replay.proofs.Alone.{same-window}
 use Rattle.tcp_replay.proofs.Stages.{Synced, IsAhead, IsYoung, text_advance, text-advances, placed, fin-in_turn}
-use Rattle.tcp_replay.proofs.Holdings.{Has, HasMore, has-inside, has-text, has-fin, has-read}
-use Rattle.tcp_replay.proofs.Holdings.{AreTrueMarks, marks-after_ack, marks-given_up, marks-window, marks-blocks, marks-text, marks-none}
+use Rattle.tcp_replay.proofs.Holdings.{Has, HasMore, has-inside, has-text, has-fin, has-read, AreTrueMarks, marks-after_ack, marks-given_up, marks-window}
+use Rattle.tcp_replay.proofs.Holdings.{marks-blocks, marks-text, marks-none}
 use Rattle.tcp_wire.specs.Flags.{has, rst, ack}
-use Rattle.tcp_halves.specs.declared.due.Due.TheVariants.{Reset, Syn, Resend, NewText, Fin, ResentFin, Acknowledgement}
+use Rattle.tcp_halves.specs.declared.due.Due.TheVariants.{Reset, Syn}
 use Rattle.tcp_replay.proofs.Events.{Arrives, after_segment, PairKept, Speaks, in-world, said-after, said-back}
 use Rattle.tcp_replay.proofs.Calls.{KeptByCalls}
 use Rattle.tcp_replay.proofs.Arrivals.{on-arrival}

@@ -11,8 +11,8 @@ use Rattle.tcp_conn.specs.State.{State}
 use Rattle.tcp_replay.specs.declared.outcome.Outcome.{Outcome}
 use Rattle.tcp_replay.specs.declared.solo_log.SoloLog.{SoloLog}
 use Rattle.tcp_replay.specs.OneEnd.{SendsItsUsers, HandsOverWhatCame, AcknowledgesInOrder}
-use Rattle.tcp_replay.specs.Solo.{SoloState, solo_start, end_after, bytes_taken, bytes_put_out, hands_end, segment_emitted, solo_outcome, after_solo}
-use Rattle.tcp_replay.specs.Solo.{solo_run, run_alone, segments, IsLogOf}
+use Rattle.tcp_replay.specs.Solo.{SoloState, solo_start, end_after, bytes_taken, bytes_put_out, hands_end, segment_emitted, solo_outcome, after_solo, solo_run}
+use Rattle.tcp_replay.specs.Solo.{run_alone, segments, IsLogOf}
 use Rattle.tcp_replay.specs.SoloEvents.{SoloContent, HasRanges}
 use Rattle.tcp_replay.proofs.Runs.{next-front}
 use Rattle.tcp_replay.proofs.SoloRuns.{run-last, one_end_is_true_lem}

@@ -1,7 +1,7 @@
 -- ONE END after every list of events: what it keeps of its own, where what it has came from, and what it emitted.
 use Rattle.std.proofs.Common.{◌≡◌, ℕ, ◌+◌, List, [], ◌∷◌, ◌++◌, refl, sym, ◌∙◌, ap, subst, ⊎_elim, inl, inr, arith, append-nil, append_assoc, ◌<◌, ◌^◌}
-use Rattle.std.specs.Prelude.{◌⊎◌, zero, suc, Bool, true, false, if◌then◌else◌, Option, Some, None, IfSome, option_map, option_to_list, slice_get, Result}
-use Rattle.std.specs.Prelude.{Ok, Err, is_some, ◌||◌}
+use Rattle.std.specs.Prelude.{◌⊎◌, zero, suc, Bool, true, false, if◌then◌else◌, Option, Some, None, IfSome, option_map, option_to_list, slice_get, Result, Ok}
+use Rattle.std.specs.Prelude.{Err, is_some, ◌||◌}
 use Rattle.std.specs.List.{AllByRecursion}
 use Rattle.std.proofs.lemmas.Bool.{false≢true}
 use Rattle.tcp_wire.specs.Checksum.{AreBytes}
@@ -13,7 +13,7 @@ use Rattle.tcp_wire.specs.declared.fault.DecodeError.{DecodeError}
 use Rattle.tcp_wire.proofs.RoundTrip.{decoded_encoded, decoded_valid}
 use Rattle.tcp_halves.specs.declared.config.Config.{Config}
 use Rattle.tcp_halves.specs.declared.due.Due.{Due}
-use Rattle.tcp_halves.specs.declared.due.Due.TheVariants.{Reset, Syn, Resend, NewText, Fin, ResentFin, Acknowledgement}
+use Rattle.tcp_halves.specs.declared.due.Due.TheVariants.{Reset, Syn}
 use Rattle.tcp_halves.specs.declared.outcome.CallError.{CallError}
 use Rattle.tcp_conn.specs.Config.{IsConfig}
 use Rattle.tcp_conn.specs.Phase.{gives_up}
@@ -27,10 +27,10 @@ use Rattle.tcp_conn.specs.Due.{due_of}
 use Rattle.tcp_conn.specs.Forms.{segment_of}
 use Rattle.tcp_conn.specs.Writing.{bytes_of, destination_of}
 use Rattle.tcp_replay.specs.Alone.{IsAlone}
-use Rattle.tcp_replay.specs.OneEnd.{SendsItsUsers, Came, TookSyn, CameIn, HandsOverWhatCame, count_come, count_in_order, wanted_position}
-use Rattle.tcp_replay.specs.OneEnd.{AcknowledgesInOrder, OneEndIsTrue}
-use Rattle.tcp_replay.specs.Solo.{SoloState, solo_start, end_after, bytes_taken, bytes_put_out, is_close, segment_due, segment_emitted, after_solo}
-use Rattle.tcp_replay.specs.Solo.{solo_run, run_alone}
+use Rattle.tcp_replay.specs.OneEnd.{SendsItsUsers, Came, TookSyn, CameIn, HandsOverWhatCame, count_come, count_in_order, wanted_position, AcknowledgesInOrder}
+use Rattle.tcp_replay.specs.OneEnd.{OneEndIsTrue}
+use Rattle.tcp_replay.specs.Solo.{SoloState, solo_start, end_after, bytes_taken, bytes_put_out, is_close, segment_due, segment_emitted, after_solo, solo_run}
+use Rattle.tcp_replay.specs.Solo.{run_alone}
 use Rattle.tcp_replay.specs.SoloEvents.{SoloContent, HasRanges, Connect, Listen, Send, Receive, Close, Abort, Acknowledge, Timer, Emit, Arrive}
 use Rattle.tcp_replay.specs.Truthful.{IsOfUser}
 use Rattle.tcp_replay.specs.World.{front_taken, PartyState, party_after_abort, party_after_acknowledge, party_after_close, party_after_connect}

@@ -26,17 +26,14 @@ use Rattle.tcp_replay.specs.World.{PartyState}
 use Rattle.tcp_replay.specs.Truthful.{IsTruthful}
 use Rattle.tcp_replay.specs.Alone.{Sends}
 use Rattle.tcp_replay.specs.Safe.{witness_of, next_position}
-use Rattle.tcp_replay.proofs.Lists.{by_test, one_if, one_if-false, one_if-most, drop-take_sub}
-use Rattle.tcp_replay.proofs.Lists.{number-further, number-same}
+use Rattle.tcp_replay.proofs.Lists.{by_test, one_if, one_if-false, one_if-most, drop-take_sub, number-further, number-same}
 use Rattle.tcp_replay.proofs.Halves.{takes-advance, hands-advance, takes-fin}
-use Rattle.tcp_replay.proofs.Steps.{positive, position-of_text}
-use Rattle.tcp_replay.proofs.Steps.{Kept}
+use Rattle.tcp_replay.proofs.Steps.{positive, position-of_text, Kept, next_of, kept-alone, kept-changed, kept-ack_owed, kept-orderly}
 use Rattle.tcp_replay.proofs.Phases.{is_synchronized, gives_up-not_ended, end-syn_received, end-synchronized, end-takes_text, present-knows, knows-own_fin}
 use Rattle.tcp_replay.proofs.Phases.{knows-fin}
 use Rattle.tcp_replay.proofs.Judgements.{IsPresent}
 use Rattle.tcp_replay.proofs.Alone.{alone-own_syn, alone-acked_text, same-news, alone-news, own_fin-phase, own_syn-synced, owes-taking, alone-text}
 use Rattle.tcp_replay.proofs.Alone.{alone-fin_taken, owes-going_on}
-use Rattle.tcp_replay.proofs.Steps.{next_of, kept-alone, kept-changed, kept-ack_owed, kept-orderly}
 
 -- a state in which both SYNs were taken
 pub record Synced (p q : PartyState) (s : State) : Type 0 where

@@ -1,6 +1,6 @@
 -- FROM STEP TO STEP: what was true stays true, and what an event must keep at the party where it happens, for both directions to stay sound.
-use Rattle.std.proofs.Common.{◌≡◌, ℕ, zero, suc, ◌+◌, ◌-◌, ◌<◌, ◌≤◌, List, [], ◌++◌, length, take, drop, refl, sym, ◌∙◌, ap, arith, length-append}
-use Rattle.std.proofs.Common.{length-drop, append-nil, ◌∷◌, subst, ⊎_elim, inl, inr}
+use Rattle.std.proofs.Common.{◌≡◌, ℕ, zero, suc, ◌+◌, ◌-◌, ◌<◌, ◌≤◌, List, [], ◌++◌, length, take, drop, refl, sym, ◌∙◌, ap, arith, length-append, length-drop}
+use Rattle.std.proofs.Common.{append-nil, ◌∷◌, subst, ⊎_elim, inl, inr}
 use Rattle.std.specs.Prelude.{Bool, true, false, ◌⊎◌, Option, Some, None, option_to_list, slice_get, ◌||◌}
 use Rattle.std.proofs.lemmas.List.{take-append-le, drop-append-le}
 use Rattle.tcp_wire.specs.Position.{number}

@@ -16,11 +16,10 @@ use Rattle.tcp_conn.specs.Calls.{send_refusal, receive_refusal, received_value, 
 use Rattle.tcp_replay.specs.World.{PartyState, address_of, is_end_of_stream}
 use Rattle.tcp_replay.specs.Sound.{IsSoundPair, SpeaksTo}
 use Rattle.tcp_replay.proofs.Halves.{accepted-limit, takes-read, hands-read, hands-ended}
-use Rattle.tcp_replay.proofs.Steps.{Moved, Kept, kept-same}
+use Rattle.tcp_replay.proofs.Steps.{Moved, Kept, kept-same, kept-alone, kept-given_up, kept-orderly}
 use Rattle.tcp_replay.proofs.Phases.{gives_up-not_ended, resets_on_abort-knows, time_wait-synchronized, end-synchronized, knows-closing}
-use Rattle.tcp_replay.proofs.Steps.{kept-alone, kept-given_up, kept-orderly}
-use Rattle.tcp_replay.proofs.AloneCalls.{send-open, send-unclosed, alone-with_text, receive-open, alone-bytes_received, alone-close_asked}
-use Rattle.tcp_replay.proofs.AloneCalls.{alone-close_begun, alone-own_reset, alone-calls}
+use Rattle.tcp_replay.proofs.AloneCalls.{send-open, send-unclosed, alone-with_text, receive-open, alone-bytes_received, alone-close_asked, alone-close_begun}
+use Rattle.tcp_replay.proofs.AloneCalls.{alone-own_reset, alone-calls}
 use Rattle.tcp_replay.proofs.Calls.{KeptByCalls}
 use Rattle.tcp_replay.proofs.Emissions.{goes-out}
 

@@ -1,6 +1,6 @@
 -- THE HEADLINE on the definitions: every event keeps both ends sound, sound ends are safe, and no segment expires where the lifetime is the longest.
-use Rattle.std.proofs.Common.{◌≡◌, ℕ, ◌+◌, ◌-◌, ◌≤◌, List, [], ◌∷◌, ◌++◌, length, take, drop, refl, sym, ◌∙◌, ap, arith, length-take, take-append-drop}
-use Rattle.std.proofs.Common.{subst, ◌<◌, ⊎_elim}
+use Rattle.std.proofs.Common.{◌≡◌, ℕ, ◌+◌, ◌-◌, ◌≤◌, List, [], ◌∷◌, ◌++◌, length, take, drop, refl, sym, ◌∙◌, ap, arith, length-take, take-append-drop, subst}
+use Rattle.std.proofs.Common.{◌<◌, ⊎_elim}
 use Rattle.std.specs.Prelude.{min, Bool, true, false, Option, Some, None, IfSome, option_map, Result, Ok, Err, OnOk, OnErr, IfOk, not, ◌==◌, if◌then◌else◌}
 use Rattle.std.specs.Prelude.{nat_le, IfErr, IfNone, ◌||◌}
 use Rattle.std.specs.List.{AllByRecursion}
@@ -14,9 +14,9 @@ use Rattle.tcp_replay.specs.declared.event.Side.TheVariants.{A, B}
 use Rattle.tcp_replay.specs.declared.outcome.StepError.{StepError}
 use Rattle.tcp_replay.specs.Events.{EventContent, side_of, HasBytes, IsDamage, Damage, Deliver}
 use Rattle.tcp_replay.specs.World.{WorldState, PartyState, max_life, both, new_party, new_world_with, party_of, other, world_from, Effect, effect_of}
-use Rattle.tcp_replay.specs.World.{refusal_of, outcome_of, world_with_effect, stay_or, world_after, run_of, world_after_all, SentSegment, address_of}
-use Rattle.tcp_replay.specs.World.{sent_by, KeepsAllSegments, is_missing, sent_at, segment_at, is_late, acks_late, flags_in, is_expired, age_refusal}
-use Rattle.tcp_replay.specs.World.{delivery_refusal, damage_refusal, grows_for}
+use Rattle.tcp_replay.specs.World.{refusal_of, outcome_of, world_with_effect, stay_or, world_after, run_of, world_after_all, SentSegment, address_of, sent_by}
+use Rattle.tcp_replay.specs.World.{KeepsAllSegments, is_missing, sent_at, segment_at, is_late, acks_late, flags_in, is_expired, age_refusal, delivery_refusal}
+use Rattle.tcp_replay.specs.World.{damage_refusal, grows_for}
 use Rattle.tcp_replay.specs.Safe.{IsSafeDirection, EmitsTruth, IsSafe, HintsAreTrue, FindsDamage, EveryRunIsSafe}
 use Rattle.tcp_replay.specs.Sound.{IsSoundEnd, AreOwn, IsSoundPair, AreSoundEnds, IsOwn, IsSound}
 use Rattle.tcp_replay.proofs.Lists.{one_if, one_if-most}
