@@ -74,9 +74,9 @@ fresh-goes p q life k start v least h opened f = goes p q life k f.g f.sent (fre
 pub open-present : (p q : PartyState) → IsSteadyPair p q → IsOpenTo q → IsPresent q.endpoint.phase
 open-present p q h open_to = live-present q p (steady-back q p h) open_to.live
 
-pub fresh-mine : (p q : PartyState) (k start : ℕ) (v : Content) → IsSteadyPair p q → IsPresent q.endpoint.phase → IsFresh p q k start v
+pub fresh-mine : (p q : PartyState) (k start : ℕ) (v : Content) → IsSteadyPair p q → IsFresh p q k start v
     → is_foreign q.endpoint p.endpoint.config.addr.0 q.endpoint.config.addr.0 v ≡ false
-fresh-mine p q k start v h present f = of_peer p q v h present f.src f.dst
+fresh-mine p q k start v h f = of_peer p q v h f.src f.dst
 
 -- the number that it acknowledges
 pub record Acks (p q : PartyState) (v : Content) : Type 0 where
@@ -144,7 +144,7 @@ judged-at p q k start v h opened open_to f here =
     let seq : v.seq ≡ s.receiving.next = f.seq ∙ ap (number p.endpoint.config.isn.0) here ∙ sym (h.pair.back.takes.next open_to.live.opened) in
     let fits : is_acceptable_segment s v ≡ true =
     ap (λ n. is_acceptable s.receiving.next (window s.receiving.inbox) n (count_numbers v)) seq ∙ right-here s.receiving.next (window s.receiving.inbox) (count_numbers v) h.pair.back.alone.next wide.least wide.most in
-    judged-acceptable s p.endpoint.config.addr.0 s.config.addr.0 v (fresh-mine p q k start v h present f) present (fresh-plain p q k start v h opened f) fits
+    judged-acceptable s p.endpoint.config.addr.0 s.config.addr.0 v (fresh-mine p q k start v h f) present (fresh-plain p q k start v h opened f) fits
 
 -- ---- its acknowledgement is taken
 acked-is : (d : Sending) (a : ℕ) → d.una ≤ a → a ≤ d.nxt → (after_ack d a).una ≡ a

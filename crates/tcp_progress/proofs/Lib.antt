@@ -35,6 +35,10 @@ pub mod Back
 pub mod Turns
 pub mod AlwaysSteady
 pub mod Streams
+pub mod Short
+pub mod SynOut
+pub mod Handshake
+pub mod Leaving
 pub mod NotStuck
 pub mod Emitted
 pub mod Arriving

@@ -41,7 +41,7 @@ pub record IsLess (K : WorldState → Type 0) (n : ℕ) (w : WorldState) : Type 
   pub less : left_in w < n
 
 -- from either side
-swapped : (x y : PartyState) → GoOn y x → GoOn x y
+pub swapped : (x y : PartyState) → GoOn y x → GoOn x y
 swapped x y h = record { there = h.back; back = h.there; live = λ some. let both = h.live (omega (arith, some)) in (both.1, both.0) }
 
 pub is-less : (K : WorldState → Type 0) (n life : ℕ) (side : Side) (p q : PartyState) → K (world_from life side p q) → GoOn p q → left_of_both p q < n → IsLess K n (world_from life side p q)

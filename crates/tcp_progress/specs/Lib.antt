@@ -5,4 +5,5 @@ pub mod Sent
 pub mod Stage
 pub mod Edge
 pub mod Settled
+pub mod Handshake
 pub mod Steady

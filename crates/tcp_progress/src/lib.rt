@@ -1,15 +1,17 @@
-//! No world is stuck (RFC 9293, 3.8): while both ends live, some list of reads, timers, emissions and deliveries hands over and has
-//! acknowledged all that was accepted. Below it laws of one end, of what a segment brings and of what goes out whatever came
-//! before it (RFC 9293, 3.8.1, 3.8.6.1 and 3.10.7.4), and of two ends, of what always holds between them. They do nothing when
-//! they run: each is there for the law that it ensures.
+//! No world is stuck (RFC 9293, 3.8): while both ends live, or are opening the connection, some list of reads, timers, emissions
+//! and deliveries hands over and has acknowledged all that was accepted. Below it laws of one end, of what a segment brings and of
+//! what goes out whatever came before it (RFC 9293, 3.8.1, 3.8.6.1 and 3.10.7.4), and of two ends, of what always holds between
+//! them. They do nothing when they run: each is there for the law that it ensures.
 #![tactic(auto)]
 
 ghost use Rattle.tcp_progress.specs.Progress.{AckedIsReleased, OwedIsTold, TakesWhatIsNext};
 
+mod opening;
 mod sending;
 mod sent;
 mod settled;
 
+pub use opening::a_handshake_can_be_finished;
 pub use sending::{
     what_is_in_flight_goes_out_again, what_is_unsent_goes_out, who_is_spoken_to_answers,
 };

@@ -1,0 +1,160 @@
+-- THE HANDSHAKE GOES THROUGH (RFC 9293, 3.5): the SYN of who is in SYN-SENT is taken in LISTEN, and the SYN of who is in SYN-RECEIVED, with its
+-- acknowledgement, in SYN-SENT.
+use Rattle.std.proofs.Common.{◌≡◌, ℕ, ◌≤◌, List, inl, inr, refl, sym, ◌∙◌, ap, subst, arith}
+use Rattle.std.specs.Prelude.{true, false, None}
+use Rattle.std.proofs.lemmas.Bool.{eq-eqb}
+use Rattle.tcp_numbers.specs.Position.{number}
+use Rattle.tcp_wire.specs.Flags.{ack, syn, rst, has}
+use Rattle.tcp_wire.specs.Wire.{Content}
+use Rattle.tcp_wire.proofs.Lemmas.{position_of_number}
+use Rattle.tcp_halves.specs.declared.phase.Ending.TheVariants.{NotEnded}
+use Rattle.tcp_halves.specs.declared.phase.Phase.TheVariants.{Listen, SynSent, SynReceived}
+use Rattle.tcp_halves.specs.Phase.{is_handshake, is_listening, is_syn_received, is_syn_sent}
+use Rattle.tcp_conn.specs.declared.judgement.Judgement.{Judgement}
+use Rattle.tcp_conn.specs.declared.judgement.Judgement.TheVariants.{PeerAccepts, PeerOpens}
+use Rattle.tcp_conn.specs.State.{State}
+use Rattle.tcp_conn.specs.Arrival.{after_arrival, after_judgement, after_peer_accepts, after_peer_opens}
+use Rattle.tcp_conn.specs.Judgement.{acks_syn, is_foreign, judgement, listen_judgement, phase_judgement, position_near, syn_sent_judgement}
+use Rattle.tcp_replay.specs.declared.event.Side.{Side}
+use Rattle.tcp_replay.specs.declared.event.Side.TheVariants.{A, B}
+use Rattle.tcp_replay.specs.Alone.{IsAnswering, IsOpening}
+use Rattle.tcp_replay.specs.World.{WorldState, PartyState, SentSegment, delivery_refusal, other, party_after_arrival, segment_at, world_from}
+use Rattle.tcp_replay.specs.Safe.{next_position}
+use Rattle.tcp_replay.proofs.Deliveries.{arrival-ok}
+use Rattle.tcp_replay.proofs.Lists.{one_if}
+use Rattle.tcp_replay.proofs.Phases.{at-listen, at-syn_received, at-syn_sent, handshake-una}
+use Rattle.tcp_progress.specs.Handshake.{AreOpen, CanReachUnaided}
+use Rattle.tcp_progress.specs.Settled.{AreOpening, IsLive, least_life}
+use Rattle.tcp_progress.specs.Steady.{IsSteadyPair}
+use Rattle.tcp_progress.proofs.Arriving.{goes, is-there, of_peer, unexpired}
+use Rattle.tcp_progress.proofs.Ready.{lives, pair-of, steady-back, turned, turned-back}
+use Rattle.tcp_progress.proofs.SynOut.{IsSyn, short-syn}
+use Rattle.tcp_progress.proofs.Ways.{IsInvariant}
+use Rattle.tcp_progress.proofs.Short.{short-delivery, short-here}
+
+-- ---- WHAT EACH STATE OF THE HANDSHAKE HAS, on either side
+unopened-listen : (p q : PartyState) → IsSteadyPair p q → p.endpoint.phase ≡ Listen → p.endpoint.receiving.opened ≡ false
+unopened-listen p q h phase =
+    let s = p.endpoint in
+    (at-listen s.phase s.ending s.sending.una s.sending.nxt s.receiving.opened s.receiving.finished (ap is_listening phase) h.pair.there.alone.progress).1.not_opened
+
+opening : (p q : PartyState) → IsSteadyPair p q → p.endpoint.phase ≡ SynSent → (p.endpoint.ending ≡ NotEnded) × IsOpening p.endpoint.sending.nxt p.endpoint.receiving.opened
+opening p q h phase =
+    let s = p.endpoint in
+    at-syn_sent s.phase s.ending s.sending.una s.sending.nxt s.receiving.opened s.receiving.finished (ap is_syn_sent phase) h.pair.there.alone.progress
+
+answering : (p q : PartyState) → IsSteadyPair p q → p.endpoint.phase ≡ SynReceived → (p.endpoint.ending ≡ NotEnded) × IsAnswering p.endpoint.sending.nxt p.endpoint.receiving.opened p.endpoint.receiving.finished
+answering p q h phase =
+    let s = p.endpoint in
+    at-syn_received s.phase s.ending s.sending.una s.sending.nxt s.receiving.opened s.receiving.finished (ap is_syn_received phase) h.pair.there.alone.progress
+
+-- ---- p's SYN is delivered to q, which has none yet
+syn-goes : (p q : PartyState) (life k : ℕ) (v : Content) → least_life ≤ life → IsSteadyPair p q → q.endpoint.receiving.opened ≡ false → IsSyn p q k v → delivery_refusal life p q k ≡ None
+syn-goes p q life k v least h unopened f =
+    let none = h.pair.back.takes.unopened unopened in
+    let first : next_position q ≡ 1 = omega (arith, none.1, ap one_if none.2) in
+    goes p q life k f.g f.sent (unexpired p q life f.g h (omega (arith, first, f.starts, least)) (omega (arith, h.pair.back.between, f.wanted, least)))
+
+arrives : (p q : PartyState) (k : ℕ) (v : Content) (j : Judgement) → IsSyn p q k v → judgement q.endpoint p.endpoint.config.addr.0 q.endpoint.config.addr.0 v ≡ j
+    → party_after_arrival q p (segment_at p k) ≡ record q { endpoint = after_judgement j q.endpoint p.endpoint.config.addr.0 v }
+unfolding party_after_arrival
+arrives p q k v j f judged =
+    let s = q.endpoint in
+    let src = p.endpoint.config.addr.0 in
+    let dst = s.config.addr.0 in
+    ap (λ (t : State). record q { endpoint = t })
+    (ap (λ (g : SentSegment). after_arrival s src dst g.bytes) (is-there p k f.g f.sent) ∙ arrival-ok s src dst f.g.bytes v f.read ∙ ap (λ j. after_judgement j s src v) judged)
+
+-- ---- in LISTEN a SYN without acknowledgement opens
+judged-opens : (s : State) (src dst : List ℕ) (v : Content) → is_foreign s src dst v ≡ false → s.phase ≡ Listen → has rst v.flags ≡ false → has ack v.flags ≡ false → has syn v.flags ≡ true
+    → judgement s src dst v ≡ PeerOpens
+unfolding judgement phase_judgement listen_judgement
+judged-opens s src dst v mine phase no_rst no_ack has_syn = rw (mine, phase, no_rst, no_ack, has_syn) refl
+
+opens-phase : (q : PartyState) (src : List ℕ) (v : Content) → (after_judgement PeerOpens q.endpoint src v).phase ≡ SynReceived
+unfolding after_peer_opens
+opens-phase q src v = refl
+
+listen-takes : (p q : PartyState) (k : ℕ) (v : Content) → IsSteadyPair p q → p.endpoint.receiving.opened ≡ false → q.endpoint.phase ≡ Listen → IsSyn p q k v
+    → (party_after_arrival q p (segment_at p k)).endpoint.phase ≡ SynReceived
+listen-takes p q k v h unopened phase f =
+    let s = q.endpoint in
+    let src = p.endpoint.config.addr.0 in
+    ap (λ (x : PartyState). x.endpoint.phase)
+    (arrives p q k v PeerOpens f (judged-opens s src s.config.addr.0 v (of_peer p q v h f.src f.dst) phase f.no_rst (f.has_ack ∙ unopened) f.has_syn))
+    ∙ opens-phase q src v
+
+-- ---- in SYN-SENT a SYN with the acknowledgement of the own SYN is accepted
+judged-accepts : (s : State) (src dst : List ℕ) (v : Content) → is_foreign s src dst v ≡ false → s.phase ≡ SynSent → has rst v.flags ≡ false → has ack v.flags ≡ true → has syn v.flags ≡ true → acks_syn s v ≡ true
+    → judgement s src dst v ≡ PeerAccepts
+unfolding judgement phase_judgement syn_sent_judgement
+judged-accepts s src dst v mine phase no_rst has_ack has_syn acks = rw (mine, phase, no_rst, has_ack, has_syn, acks) refl
+
+-- who has taken the SYN of an end in SYN-SENT wants the position after it, and acknowledges that
+acks-own_syn : (p q : PartyState) (k : ℕ) (v : Content) → IsSteadyPair p q → p.endpoint.phase ≡ SynReceived → q.endpoint.phase ≡ SynSent → IsSyn p q k v → acks_syn q.endpoint v ≡ true
+acks-own_syn p q k v h answers calls f =
+    let s = q.endpoint in
+    let alone = h.pair.back.alone in
+    let opened = (answering p q h answers).1.is_opened in
+    let nxt = (opening q p (steady-back q p h) calls).1.nxt_is in
+    let first : next_position p ≡ 1 = omega (arith, h.back.sent.taken opened, nxt) in
+    let una = handshake-una s.phase s.ending s.sending.una s.sending.nxt s.receiving.opened s.receiving.finished (ap is_handshake calls) alone.sends.order alone.progress in
+    let number_is : v.ack ≡ number s.config.isn.0 1 = f.acks opened ∙ h.pair.there.takes.next opened ∙ ap (number s.config.isn.0) first in
+    let is : position_near s v.ack ≡ 1 = ap (position_near s) number_is ∙ position_of_number s.config.isn.0 s.sending.una 1 alone.config.isn (omega arith) (omega (arith, una)) in
+    eq-eqb (position_near s v.ack) s.sending.nxt (is ∙ sym nxt)
+
+accepts-live : (q : PartyState) (src : List ℕ) (v : Content) → q.endpoint.ending ≡ NotEnded → IsLive (record q { endpoint = after_judgement PeerAccepts q.endpoint src v })
+unfolding after_peer_accepts
+accepts-live q src v going = record { opened = refl; goes_on = going }
+
+syn_sent-takes : (p q : PartyState) (k : ℕ) (v : Content) → IsSteadyPair p q → p.endpoint.phase ≡ SynReceived → q.endpoint.phase ≡ SynSent → IsSyn p q k v
+    → IsLive (party_after_arrival q p (segment_at p k))
+syn_sent-takes p q k v h answers calls f =
+    let s = q.endpoint in
+    let src = p.endpoint.config.addr.0 in
+    let opened = (answering p q h answers).1.is_opened in
+    let judged = judged-accepts s src s.config.addr.0 v (of_peer p q v h f.src f.dst) calls f.no_rst (f.has_ack ∙ opened) f.has_syn (acks-own_syn p q k v h answers calls f) in
+    subst IsLive (sym (arrives p q k v PeerAccepts f judged)) (accepts-live q src v (opening q p (steady-back q p h) calls).0)
+
+-- ---- BOTH LIVE
+pub record AreOpened (K : WorldState → Type 0) (w : WorldState) : Type 0 where
+  pub stays : K w
+  pub both : AreOpen w
+
+are-opened : (K : WorldState → Type 0) (life : ℕ) (side : Side) (p q : PartyState) → K (world_from life side p q) → IsLive p → IsLive q → AreOpened K (world_from life side p q)
+are-opened K life A p q h one two = record { stays = h; both = record { a = one; b = two } }
+are-opened K life B p q h one two = record { stays = h; both = record { a = two; b = one } }
+
+-- p in SYN-RECEIVED answers q in SYN-SENT
+by-answer : {K : WorldState → Type 0} → IsInvariant K → (life : ℕ) (side : Side) (p q : PartyState) → K (world_from life side p q) → p.endpoint.phase ≡ SynReceived → q.endpoint.phase ≡ SynSent
+    → CanReachUnaided 4 (AreOpened K) (world_from life side p q)
+by-answer {K} i life side p q h answers calls =
+    short-syn i 1 life side p q (ap is_handshake answers) h (λ p' k v still f h'.
+    let pair = pair-of i life side p' q h' in
+    let phase = still.phase ∙ answers in
+    let mine = answering p' q pair phase in
+    let unopened = (opening q p' (steady-back q p' pair) calls).1.not_opened in
+    short-delivery i 0 life side p' q k (syn-goes p' q life k v (lives life side p' q (i.steady _ h')).0 pair unopened f) h' (λ h''.
+    short-here
+    (are-opened K life side p' (party_after_arrival q p' (segment_at p' k)) h'' (record { opened = mine.1.is_opened; goes_on = mine.0 }) (syn_sent-takes p' q k v pair phase calls f))))
+
+-- p in SYN-SENT calls q in LISTEN, which answers
+by-call : {K : WorldState → Type 0} → IsInvariant K → (life : ℕ) (side : Side) (p q : PartyState) → K (world_from life side p q) → p.endpoint.phase ≡ SynSent → q.endpoint.phase ≡ Listen
+    → CanReachUnaided 8 (AreOpened K) (world_from life side p q)
+by-call {K} i life side p q h calls listens =
+    short-syn i 5 life side p q (ap is_handshake calls) h (λ p' k v still f h'.
+    let pair = pair-of i life side p' q h' in
+    let phase = still.phase ∙ calls in
+    let q' = party_after_arrival q p' (segment_at p' k) in
+    short-delivery i 4 life side p' q k (syn-goes p' q life k v (lives life side p' q (i.steady _ h')).0 pair (unopened-listen q p' (steady-back q p' pair) listens) f) h' (λ h''.
+    turned-back (CanReachUnaided 4 (AreOpened K)) life side p' q'
+    (by-answer i life (other side) q' p' (turned K life side p' q' h'') (listen-takes p' q k v pair (opening p' q pair phase).1.not_opened listens f) phase)))
+
+pub handshake : {K : WorldState → Type 0} → IsInvariant K → (life : ℕ) (side : Side) (p q : PartyState) → K (world_from life side p q) → AreOpening p q → CanReachUnaided 8 (AreOpened K) (world_from life side p q)
+handshake {K} i life side p q h opens =
+    elim opens.answers [
+      | inl listens ↦ by-call i life side p q h opens.calls listens
+      | inr answers ↦
+          let way = turned-back (CanReachUnaided 4 (AreOpened K)) life side p q (by-answer i life (other side) q p (turned K life side p q h) answers opens.calls) in
+          record { way = way.way; unaided = way.unaided; most = omega (arith, way.most) }
+    ]
