@@ -6,3 +6,5 @@ pub mod Stage
 pub mod Edge
 pub mod Settled
 pub mod Steady
+pub mod Left
+pub mod Fair
