@@ -32,7 +32,7 @@ twice A = refl
 twice B = refl
 
 -- WHERE ONE SIDE IS SERVED the other stays as it is
-emissions-other : (n : ℕ) (w : WorldState) (side : Side) → party_of (world_after_all w (emissions side n)) (other side) ≡ party_of w (other side)
+pub emissions-other : (n : ℕ) (w : WorldState) (side : Side) → party_of (world_after_all w (emissions side n)) (other side) ≡ party_of w (other side)
 unfolding world_after_all
 emissions-other zero w side = refl
 emissions-other (suc n) w side = emissions-other n (world_after w (Emit side)) side ∙ emit-other w side

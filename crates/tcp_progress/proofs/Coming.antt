@@ -27,7 +27,7 @@ among-behind (x ∷ xs) ys zs among side k (inl now) = inl now
 among-behind (x ∷ xs) ys zs among side k (inr more) = inr (among-behind xs ys zs among side k more)
 
 -- ---- WHAT COMES AMONG some events comes among more
-due-among : (due : Option Due) (side : Side) (k : ℕ) (xs ys : List EventContent) → AreAmong xs ys
+pub due-among : (due : Option Due) (side : Side) (k : ℕ) (xs ys : List EventContent) → AreAmong xs ys
     → IfSome due (λ due. is_reset due ≡ false → Delivers side k xs) → IfSome due (λ due. is_reset due ≡ false → Delivers side k ys)
 due-among None side k xs ys among h = tt
 due-among (Some due) side k xs ys among h = λ plain. among side k (h plain)

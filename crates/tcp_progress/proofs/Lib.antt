@@ -60,4 +60,6 @@ pub mod Asking
 pub mod Replying
 pub mod Behind
 pub mod Draining
+pub mod Plain
+pub mod Had
 pub mod Lowering

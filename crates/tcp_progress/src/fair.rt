@@ -1,5 +1,5 @@
 //! That whoever is served often enough gets through (RFC 9293, 3.8), whatever the network does meanwhile.
-ghost use Rattle.tcp_progress.specs.Fair.{EachBurstEnds, WhatIsLeftNeverGrows, WhoIsServedGetsThrough};
+ghost use Rattle.tcp_progress.specs.Fair.{EachBurstEnds, TurnsCanBeHad, WhatIsLeftNeverGrows, WhoIsServedGetsThrough};
 
 /// Whoever is served gets through: from whatever world two ends were brought to, while both live, a list of calm events in which
 /// there are as many turns of a caller's loop as something is left, and one more, hands over all that was accepted, both ways, and
@@ -11,6 +11,12 @@ ghost use Rattle.tcp_progress.specs.Fair.{EachBurstEnds, WhatIsLeftNeverGrows, W
 /// other's; all that both sent comes, while no timer runs out, and both answer until nothing is due; and what they answered comes.
 pub fn who_is_served_gets_through()
     ensures { WhoIsServedGetsThrough }
+{}
+
+/// Turns can be had, as many as one likes: from whatever world two ends were brought to in which no end has given up, some list of
+/// calm events has so many turns in it, and no end gives up in it. So that whoever is served gets through is said of something.
+pub fn turns_can_be_had()
+    ensures { TurnsCanBeHad }
 {}
 
 /// Each burst ends: from whatever world two ends were brought to, a side that emits again and again, with no arrival between, has
