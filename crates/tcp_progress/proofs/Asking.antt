@@ -28,11 +28,10 @@ use Rattle.tcp_progress.specs.Steady.{IsSteadyPair}
 use Rattle.tcp_progress.proofs.Again.{again_lem}
 use Rattle.tcp_progress.proofs.Back.{emissions-last, old-phase, syn-again, syn-old}
 use Rattle.tcp_progress.proofs.Forward.{in-flight}
-use Rattle.tcp_progress.proofs.Going.{IsGoing, Lowers, both-live, over-event, steps-both}
+use Rattle.tcp_progress.proofs.Going.{IsGoing, Lowers, going-live, over-event, side-pair, steps-both}
 use Rattle.tcp_progress.proofs.Older.{IsPending, burst-old, pending-now}
 use Rattle.tcp_progress.proofs.Serving.{cleared, cleared-same, emit-endpoint, may-send-cleared, none-some, reset-gone, timer-endpoint}
 use Rattle.tcp_progress.proofs.Turning.{calm-emissions}
-use Rattle.tcp_progress.proofs.Useful.{side-pair}
 
 -- ---- WHOSE SYN ISN'T ACKNOWLEDGED is in SYN-RECEIVED, and has sent nothing else
 first-phase : (s : State) (phase : Phase) → s.sending.una ≡ 0 → s.receiving.opened ≡ true → s.ending ≡ NotEnded
@@ -49,8 +48,8 @@ first-phase s Closing una took going fits says = absurd (omega (arith, una, fits
 first-phase s LastAck una took going fits says = absurd (omega (arith, una, fits.1.least))
 first-phase s TimeWait una took going fits says = absurd (omega (arith, una, fits.1.least))
 
-pub first-of : (p q : PartyState) → IsSteadyPair p q → IsLive p → p.endpoint.sending.una ≡ 0 → (p.endpoint.phase ≡ SynReceived) × (p.endpoint.sending.nxt ≡ 1)
-first-of p q h live una = first-phase p.endpoint p.endpoint.phase una live.opened live.goes_on h.pair.there.alone.progress h.there.stage
+pub syn-alone : (p q : PartyState) → IsSteadyPair p q → IsLive p → p.endpoint.sending.una ≡ 0 → (p.endpoint.phase ≡ SynReceived) × (p.endpoint.sending.nxt ≡ 1)
+syn-alone p q h live una = first-phase p.endpoint p.endpoint.phase una live.opened live.goes_on h.pair.there.alone.progress h.there.stage
 
 -- ---- IN SYN-RECEIVED: the SYN goes out again, after a waiting reset
 pub reset-due : (s : State) (reset : WaitingReset) → s.owed.reset ≡ Some reset → due_of (after_retransmit s) ≡ Some (Reset reset)
@@ -66,8 +65,8 @@ syn-goes (suc n) w side later calm h due una all idle come up =
     let p = party_of w side in
     let q = party_of w (other side) in
     let pair = side-pair w side h.kept in
-    let live = both-live w side h in
-    pending-now n w side later calm h.kept h.on Syn (syn_segment p.endpoint) due refl (syn-old p q pair due live.0.opened (ap has_peer (first-of p q pair live.0 una).0) una all) come.0 up.0 up.1
+    let live = going-live w side h in
+    pending-now n w side later calm h Syn (syn_segment p.endpoint) due refl (syn-old p q pair due live.0.opened (ap has_peer (syn-alone p q pair live.0 una).0) una all) come.0 up
 
 syn-or-reset : (n : ℕ) (waiting : Option WaitingReset) (s : State) (w : WorldState) (side : Side) (later : List EventContent) → s.owed.reset ≡ waiting → s.phase ≡ SynReceived → (party_of w side).endpoint ≡ after_retransmit s
     → AllByRecursion IsCalm later → IsGoing w → (party_of w side).endpoint.sending.una ≡ 0
@@ -118,7 +117,7 @@ asks n w side later calm h behind one idle come up =
     let s = p.endpoint in
     let v = world_after w (Timer side Retransmit) in
     let pair = side-pair w side h.kept in
-    let live = both-live w side h in
+    let live = going-live w side h in
     let some : s.sending.una < s.sending.nxt = omega (arith, behind, one) in
     over-event w (Timer side Retransmit) (world_after_all (world_after_all v (emissions side n)) later) (IsPending (world_after_all v (emissions side n)) side later) tt h
     (steps-both v (emissions side n) later (calm-emissions side n) calm) up
@@ -128,10 +127,10 @@ asks n w side later calm h behind one idle come up =
       | inr first ↦ syn-or-reset n s.owed.reset s v side later refl first.0 (timer-endpoint w side) calm h' (is.una_of_x ∙ first.1) (is.next_of_y ∙ one ∙ first.2) idle come.1 up
       | inl text ↦
           let again = sends-again p q pair live.0 text.0 some in
-          burst-old n again.count v side later calm h'.kept h'.on h'.some h'.read
+          burst-old n again.count v side later calm h'
           (subst (λ (una : ℕ). CoversNext (after_emissions again.count (party_of v side).endpoint) una) (sym is.una_of_x)
           (subst (λ (t : State). CoversNext (after_emissions again.count t) s.sending.una) (sym (timer-endpoint w side)) again.covers))
           (omega (arith, text.1, is.una_of_x))
           (ap (λ (t : State). (after_emission (after_emissions again.count t)).sending.nxt) (timer-endpoint w side) ∙ again.keeps ∙ sym one ∙ sym is.next_of_y)
-          idle come.1 up.0 up.1
+          idle come.1 up
     ])

@@ -30,7 +30,7 @@ use Rattle.tcp_replay.specs.Safe.{next_position, unread_of}
 use Rattle.tcp_replay.proofs.Emissions.{GoesOut, due-decodes, due-goes, seq-in, wanted-is}
 use Rattle.tcp_replay.proofs.Lists.{one_if, one_if-most}
 use Rattle.tcp_progress.specs.Answered.{StandsAtNext}
-use Rattle.tcp_progress.specs.Left.{all_of, left_of_both}
+use Rattle.tcp_progress.specs.Measure.{all_of, left_of_both}
 use Rattle.tcp_progress.specs.Resent as resent
 use Rattle.tcp_progress.specs.Resent.{CoversNext, KeepsFlight, after_emissions}
 use Rattle.tcp_progress.specs.Settled.{CanReach, IsLive}

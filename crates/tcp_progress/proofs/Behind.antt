@@ -9,7 +9,7 @@ use Rattle.tcp_replay.specs.Events.{EventContent, Emit, Timer}
 use Rattle.tcp_replay.specs.Safe.{next_position}
 use Rattle.tcp_replay.specs.World.{WorldState, PartyState, other, party_of, world_after, world_after_all}
 use Rattle.tcp_progress.specs.Fair.{AllCome, IsCalm, IsIdle, IsUntimed, NoneGaveUp, emissions, served}
-use Rattle.tcp_progress.specs.Left.{left_in}
+use Rattle.tcp_progress.specs.Measure.{left_in}
 use Rattle.tcp_progress.proofs.AlwaysSteady.{IsKept}
 use Rattle.tcp_progress.proofs.Answering.{KeepsOwed, owed-same}
 use Rattle.tcp_progress.proofs.Asking.{asks}
@@ -50,9 +50,9 @@ spoken-to : (w : WorldState) (asker : Side) (there back : List EventContent) →
     → IsGoing w → Waits w (other asker) → IsPending w asker there → AllCome w there back → AreIdle (world_after_all w there)
     → NoneGaveUp (world_after_all w (there ++ back)) → left_in (world_after_all w (there ++ back)) < left_in w
 spoken-to w A there back untimed calm h waits old come idle up =
-    spoken-lowers w B old.place old.content there back untimed calm h.kept h.on h.some h.read waits old.old old.comes come idle.1 up.0 up.1
+    spoken-lowers w B old.place old.content there back untimed calm h waits old.old old.comes come idle.1 up
 spoken-to w B there back untimed calm h waits old come idle up =
-    spoken-lowers w A old.place old.content there back untimed calm h.kept h.on h.some h.read waits old.old old.comes come idle.0 up.0 up.1
+    spoken-lowers w A old.place old.content there back untimed calm h waits old.old old.comes come idle.0 up
 
 -- what is old is so still, while the other is served
 pending-later : (m : ℕ) (u v : WorldState) (asker server : Side) (rest : List EventContent) → IsStillFrom u v → IsPending u asker (served server m ++ rest) → IsPending v asker rest
@@ -85,8 +85,8 @@ record IsThere (w : WorldState) (back : List EventContent) : Type 0 where
   up : NoneGaveUp w
   less : left_in (world_after_all w back) ≤ left_in w
 
-is-there : (w : WorldState) (back : List EventContent) → AllByRecursion IsCalm back → IsKept w → NoneGaveUp (world_after_all w back) → IsThere w back
-is-there w back calm h up =
+at-there : (w : WorldState) (back : List EventContent) → AllByRecursion IsCalm back → IsKept w → NoneGaveUp (world_after_all w back) → IsThere w back
+at-there w back calm h up =
     let steps = steps-all w back calm h in
     record { up = (steps.stays_a up.0, steps.stays_b up.1); less = steps-left w (world_after_all w back) steps }
 
@@ -95,7 +95,7 @@ both-there : (first : Side) (n m : ℕ) (w : WorldState) (there back : List Even
 both-there first n m w there back g h up =
     let steps = steps-both w (served first n) (served (other first) m) (calm-served first n) (calm-served (other first) m) h in
     let v = after_both first n m w in
-    is-there (world_after_all v there) back g.calm (steps-all v there (all-untimed there g.untimed) steps.kept).kept (subst NoneGaveUp (after-append v there back) up)
+    at-there (world_after_all v there) back g.calm (steps-all v there (all-untimed there g.untimed) steps.kept).kept (subst NoneGaveUp (after-append v there back) up)
 
 -- what is less there is less once all is back
 less-back : (n : ℕ) (w : WorldState) (there back : List EventContent) → IsThere (world_after_all w there) back → left_in (world_after_all w there) < n

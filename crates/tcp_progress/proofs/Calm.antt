@@ -81,15 +81,15 @@ grows-then p p' p'' one two = record {
 }
 
 -- at one event
-pub record Moves (p p' : PartyState) : Type 0 where
+pub record IsMoved (p p' : PartyState) : Type 0 where
   pub grows : Grows p p'
   pub ending : MayEnd p.endpoint p'.endpoint
 
-pub moves-same : (p : PartyState) → Moves p p
+pub moves-same : (p : PartyState) → IsMoved p p
 moves-same p = record { grows = grows-same p; ending = inl refl }
 
 -- what an end does by itself
-moves-still : (p p' : PartyState) (more : List SentSegment) → IsStill p p' → p'.sent ≡ p.sent ++ more → length p.delivered ≤ length p'.delivered → (p.ended ≡ true → p'.ended ≡ true) → Moves p p'
+moves-still : (p p' : PartyState) (more : List SentSegment) → IsStill p p' → p'.sent ≡ p.sent ++ more → length p.delivered ≤ length p'.delivered → (p.ended ≡ true → p'.ended ≡ true) → IsMoved p p'
 moves-still p p' more h sent handed ended = record {
   grows = record {
     config = h.config;
@@ -107,11 +107,11 @@ moves-still p p' more h sent handed ended = record {
   ending = inl h.ending;
 }
 
-pub moves-read : (p : PartyState) (room : ℕ) → Moves p (party_after_receive p room)
+pub moves-read : (p : PartyState) (room : ℕ) → IsMoved p (party_after_receive p room)
 unfolding party_after_receive
 moves-read p room = moves-still p (party_after_receive p room) [] (still-reading p room) (sym (append-nil p.sent)) (omega (arith, length-append p.delivered)) (λ e. rw e refl)
 
-pub moves-acknowledged : (p : PartyState) → Moves p (party_after_acknowledge p)
+pub moves-acknowledged : (p : PartyState) → IsMoved p (party_after_acknowledge p)
 unfolding party_after_acknowledge after_acknowledge
 moves-acknowledged p =
     moves-still p (party_after_acknowledge p) []
@@ -126,13 +126,13 @@ still-reorder : (p : PartyState) → IsStill p (party_after_timer p timers.Reord
 unfolding party_after_timer after_reorder
 still-reorder p = gaps-still p (marks_end p.endpoint)
 
-pub moves-timer : (p : PartyState) (side : Side) (which : Which) → IsCalm (Timer side which) → Moves p (party_after_timer p which)
+pub moves-timer : (p : PartyState) (side : Side) (which : Which) → IsCalm (Timer side which) → IsMoved p (party_after_timer p which)
 unfolding party_after_timer
 moves-timer p side timers.Retransmit calm = moves-still p (party_after_timer p timers.Retransmit) [] (still-retransmit p) (sym (append-nil p.sent)) (omega arith) (λ e. e)
 moves-timer p side timers.Reorder calm = moves-still p (party_after_timer p timers.Reorder) [] (still-reorder p) (sym (append-nil p.sent)) (omega arith) (λ e. e)
 moves-timer p side timers.TimeWait calm = absurd calm
 
-pub moves-emission : (p : PartyState) → Moves p (party_after_emission p)
+pub moves-emission : (p : PartyState) → IsMoved p (party_after_emission p)
 unfolding party_after_emission
 moves-emission p = moves-still p (party_after_emission p) (option_to_list (option_map (sent_by p.endpoint) (emitted_bytes p.endpoint))) (still-emission p) refl (omega arith) (λ e. e)
 
@@ -277,7 +277,7 @@ may_end-judgement s src dst v accepted closed alone =
     ]
 
 -- a segment of q arrives
-pub moves-arrival : (p q : PartyState) (life k : ℕ) → life ≤ max_life → delivery_refusal life q p k ≡ None → IsSoundPair p q → KeepBothSent p q → Moves p (party_after_arrival p q (segment_at q k))
+pub moves-arrival : (p q : PartyState) (life k : ℕ) → life ≤ max_life → delivery_refusal life q p k ≡ None → IsSoundPair p q → KeepBothSent p q → IsMoved p (party_after_arrival p q (segment_at q k))
 unfolding party_after_arrival
 moves-arrival p q life k most e pair h =
     let s = p.endpoint in
@@ -292,7 +292,7 @@ moves-arrival p q life k most e pair h =
     let fair = fair-judgement p q s dst v g.position g.wanted (comes p q life g most there.1 pair own) (kept-same p q pair) in
     let same : after_arrival s src dst g.bytes ≡ t = arrival-ok s src dst g.bytes v (own-decodes q p g own) in
     let reaches = delivered-reaches p q life k most e pair h in
-    let moves : s.sending.nxt ≤ t.sending.nxt → Moves p (record p { endpoint = t }) = λ nxt. record {
+    let moves : s.sending.nxt ≤ t.sending.nxt → IsMoved p (record p { endpoint = t }) = λ nxt. record {
       grows = record {
         config = fair.config;
         una = una-judgement s src dst v p.accepted p.closed pair.there.alone;
@@ -308,4 +308,4 @@ moves-arrival p q life k most e pair h =
       };
       ending = may_end-judgement s src dst v p.accepted p.closed pair.there.alone;
     } in
-    subst (λ (x : State). Moves p (record p { endpoint = x })) (sym same) (moves (subst (λ (x : State). s.sending.nxt ≤ x.sending.nxt) same reaches.nxt))
+    subst (λ (x : State). IsMoved p (record p { endpoint = x })) (sym same) (moves (subst (λ (x : State). s.sending.nxt ≤ x.sending.nxt) same reaches.nxt))

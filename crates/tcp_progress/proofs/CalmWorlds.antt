@@ -21,7 +21,7 @@ use Rattle.tcp_replay.proofs.Phases.{gives_up-not_ended}
 use Rattle.tcp_replay.proofs.Steps.{pair-swapped}
 use Rattle.tcp_replay.proofs.Deliveries.{finds-damage}
 use Rattle.tcp_progress.specs.Fair.{IsCalm}
-use Rattle.tcp_progress.specs.Left.{left_in, left_of_both}
+use Rattle.tcp_progress.specs.Measure.{left_in, left_of_both}
 use Rattle.tcp_progress.specs.Settled.{IsLive}
 use Rattle.tcp_progress.specs.Stage.{SaysByPhase, Says}
 use Rattle.tcp_progress.specs.Steady.{IsSteadyPair}
@@ -31,11 +31,11 @@ use Rattle.tcp_progress.proofs.Forward.{acked-all}
 use Rattle.tcp_progress.proofs.Measure.{GoOn}
 use Rattle.tcp_progress.proofs.Ready.{steady-back}
 use Rattle.tcp_progress.proofs.AlwaysSteady.{IsKept, kept-after, kept-steady}
-use Rattle.tcp_progress.proofs.Calm.{Grows, Moves, grows-same, grows-then, moves-acknowledged, moves-arrival, moves-emission, moves-read, moves-same, moves-timer, not-both, on-swapped}
+use Rattle.tcp_progress.proofs.Calm.{Grows, IsMoved, grows-same, grows-then, moves-acknowledged, moves-arrival, moves-emission, moves-read, moves-same, moves-timer, not-both, on-swapped}
 
 -- ---- ONE OF TWO PARTIES MOVES
 abbrev pub OneMoves : PartyState → PartyState → PartyState → PartyState → Type 0
-OneMoves p q p' q' = (Moves p p' × (q' ≡ q)) ⊎ ((p' ≡ p) × Moves q q')
+OneMoves p q p' q' = (IsMoved p p' × (q' ≡ q)) ⊎ ((p' ≡ p) × IsMoved q q')
 
 one-swapped : (p q p' q' : PartyState) → OneMoves p q p' q' → OneMoves q p q' p'
 one-swapped p q p' q' (inl here) = inr (here.1, here.0)
@@ -49,7 +49,7 @@ calm-effect life p q (Acknowledge side) calm most e pair h = inl (moves-acknowle
 calm-effect life p q (Timer side which) calm most e pair h = inl (moves-timer p side which calm, refl)
 calm-effect life p q (Emit side) calm most e pair h = inl (moves-emission p, refl)
 calm-effect life p q (Deliver from k) calm most e pair h = inr (refl, moves-arrival q p life k most e (pair-swapped _ _ pair) (sent-swapped _ _ h))
-calm-effect life p q (Damage from k place value) calm most e pair h = inr (refl, subst (λ (x : PartyState). Moves q x) (sym (finds-damage q p life k place value calm e (pair-swapped _ _ pair)).same) (moves-same q))
+calm-effect life p q (Damage from k place value) calm most e pair h = inr (refl, subst (λ (x : PartyState). IsMoved q x) (sym (finds-damage q p life k place value calm e (pair-swapped _ _ pair)).same) (moves-same q))
 calm-effect life p q (Connect side) calm most e pair h = absurd calm
 calm-effect life p q (Listens side) calm most e pair h = absurd calm
 calm-effect life p q (Send side text) calm most e pair h = absurd calm
@@ -65,7 +65,7 @@ pub calm-event : (w : WorldState) (event : EventContent) → IsCalm event → re
 calm-event w event calm e h = calm-from w (side_of event) event calm h.sound.life e h.sound.ends h.all.sent
 
 -- ---- WHO HAS GIVEN UP STAYS SO
-moves-stays : (p p' : PartyState) → Moves p p' → gave_up p' ≡ false → gave_up p ≡ false
+moves-stays : (p p' : PartyState) → IsMoved p p' → gave_up p' ≡ false → gave_up p ≡ false
 moves-stays p p' h e =
     elim h.ending [
       | inl same ↦ ap gives_up (sym same) ∙ e
@@ -153,7 +153,7 @@ says-over s LastAck over fits says = absurd (not-both s.ending fits.0 over)
 says-over s TimeWait over fits says = absurd (not-both s.ending fits.0 over)
 
 -- who ends in order from LAST-ACK leaves nothing behind
-over-nothing : (p p' q : PartyState) → Moves p p' → IsSteadyPair p q → IsSteadyPair p' q → p'.endpoint.ending ≡ Orderly → p.endpoint.phase ≡ LastAck → left_of_both p' q ≡ 0
+over-nothing : (p p' q : PartyState) → IsMoved p p' → IsSteadyPair p q → IsSteadyPair p' q → p'.endpoint.ending ≡ Orderly → p.endpoint.phase ≡ LastAck → left_of_both p' q ≡ 0
 over-nothing p p' q h before after over last =
     let s = p'.endpoint in
     let says = says-over s s.phase over after.pair.there.alone.progress after.there.stage in
@@ -167,7 +167,7 @@ over-nothing p p' q h before after over last =
     let none : left_of_both q p' ≡ 0 = nothing-left q p p' (steady-back q p before) h.grows.accepted h.grows.closed una h.grows.next least last in
     omega (arith, none)
 
-on-moved : (p p' q : PartyState) → Moves p p' → IsSteadyPair p q → IsSteadyPair p' q → GoOn p q → gave_up p' ≡ false → GoOn p' q
+on-moved : (p p' q : PartyState) → IsMoved p p' → IsSteadyPair p q → IsSteadyPair p' q → GoOn p q → gave_up p' ≡ false → GoOn p' q
 on-moved p p' q h before after on stays =
     let lived : 0 < left_of_both p' q → IsLive p × IsLive q = λ some. on.live (omega (arith, some, h.grows.una, h.grows.next, ap length h.grows.accepted, ap one_if h.grows.closed)) in
     let goes : p.endpoint.ending ≡ NotEnded → (p'.endpoint.ending ≡ NotEnded) ⊎ ((p'.endpoint.ending ≡ Orderly) × (left_of_both p' q ≡ 0)) = λ e.

@@ -33,7 +33,7 @@ use Rattle.tcp_replay.proofs.AloneStages.{same-news}
 use Rattle.tcp_replay.proofs.Arrivals.{Comes, Fair, fair-judgement}
 use Rattle.tcp_replay.proofs.Deliveries.{arrival-ok, comes, own-decodes}
 use Rattle.tcp_replay.proofs.Stages.{IsAck, kept-acked_text, kept-news, kept-own_syn, own_syn-near}
-use Rattle.tcp_progress.specs.Left.{all_of, left_of_both}
+use Rattle.tcp_progress.specs.Measure.{all_of, left_of_both}
 use Rattle.tcp_progress.specs.Progress.{IsPlainAck}
 use Rattle.tcp_progress.specs.Settled.{IsLive, least_life}
 use Rattle.tcp_progress.specs.Stage.{SaysByPhase}

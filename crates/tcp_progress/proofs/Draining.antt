@@ -23,15 +23,15 @@ use Rattle.tcp_replay.specs.World.{WorldState, effect_of, other, party_after_emi
 use Rattle.tcp_replay.proofs.Dues.{option_or-both}
 use Rattle.tcp_replay.proofs.Lists.{one_if}
 use Rattle.tcp_progress.specs.Fair.{BurstEnds, EachBurstEnds, IsIdle, served}
-use Rattle.tcp_progress.specs.Left.{all_of}
+use Rattle.tcp_progress.specs.Measure.{all_of}
 use Rattle.tcp_progress.proofs.Again.{emission}
 use Rattle.tcp_progress.proofs.AlwaysSteady.{IsKept}
 use Rattle.tcp_progress.proofs.CalmWorlds.{steps-event}
 use Rattle.tcp_progress.proofs.Ready.{has-room}
 use Rattle.tcp_progress.proofs.Serving.{emit-endpoint}
 use Rattle.tcp_progress.proofs.Still.{still-emission}
-use Rattle.tcp_progress.proofs.Useful.{side-pair}
 use Rattle.tcp_progress.proofs.Everywhere.{in-every-world}
+use Rattle.tcp_progress.proofs.Going.{side-pair}
 
 -- ---- WHAT IS DUE ADVANCES: of what is sent again, or SND.NXT; or something is owed no more
 record Again (d : Sending) (start : ℕ) : Type 0 where

@@ -22,7 +22,7 @@ use Rattle.tcp_replay.specs.Alone.{FitsPhase, Sends}
 use Rattle.tcp_replay.specs.World.{WorldState, PartyState, world_from, party_after_receive, party_after_timer}
 use Rattle.tcp_replay.specs.Safe.{next_position, unread_of, count_released, gave_up}
 use Rattle.tcp_replay.proofs.Lists.{one_if}
-use Rattle.tcp_progress.specs.Left.{all_of, left_of_both, left_in}
+use Rattle.tcp_progress.specs.Measure.{all_of, left_of_both, left_in}
 use Rattle.tcp_progress.specs.Settled.{CanReach, IsThrough, IsSettled}
 use Rattle.tcp_progress.specs.Stage.{SaysByPhase}
 use Rattle.tcp_progress.specs.Steady.{IsSteadyPair}
@@ -124,7 +124,7 @@ pub all-come : (x y : PartyState) → IsSteadyPair x y → IsAllTaken x y → Ha
 all-come x y h left = has-all (length x.accepted) y.endpoint.receiving.ordered x.closed y.endpoint.receiving.finished h.pair.back.takes.order h.pair.back.takes.fin left.taken
 
 -- who is up hasn't given up
-up-stays : (ending : Ending) → (ending ≡ NotEnded) ⊎ (ending ≡ Orderly) → gives_up ending ≡ false
+pub up-stays : (ending : Ending) → (ending ≡ NotEnded) ⊎ (ending ≡ Orderly) → gives_up ending ≡ false
 up-stays ending (inl goes) = rw goes refl
 up-stays ending (inr over) = rw over refl
 

@@ -3,7 +3,8 @@ use Rattle.std.proofs.Common.{List}
 use Rattle.std.specs.List.{AllByRecursion}
 use Rattle.tcp_replay.specs.Events.{EventContent}
 use Rattle.tcp_replay.specs.World.{WorldState, world_after_all}
-use Rattle.tcp_progress.specs.Fair.{InEveryWorld, NeverGrows, WhatIsLeftNeverGrows}
+use Rattle.tcp_progress.specs.Everywhere.{InEveryWorld}
+use Rattle.tcp_progress.specs.Fair.{NeverGrows, WhatIsLeftNeverGrows}
 use Rattle.tcp_progress.specs.Settled.{HasStreamsOf}
 use Rattle.tcp_progress.proofs.AlwaysSteady.{IsKept, kept-by_runs}
 use Rattle.tcp_progress.proofs.CalmWorlds.{Steps, steps-all, steps-left}

@@ -20,7 +20,7 @@ use Rattle.tcp_replay.specs.World.{WorldState, PartyState, world_from, other, se
 use Rattle.tcp_replay.specs.Safe.{next_position}
 use Rattle.tcp_replay.proofs.Lists.{one_if, one_if-most}
 use Rattle.tcp_replay.proofs.Phases.{gives_up-not_ended}
-use Rattle.tcp_progress.specs.Left.{all_of, left_of_both}
+use Rattle.tcp_progress.specs.Measure.{all_of, left_of_both}
 use Rattle.tcp_progress.specs.Resent.{CoversNext, GoesOut, IsInFlight}
 use Rattle.tcp_progress.specs.Settled.{CanReach, IsLive}
 use Rattle.tcp_progress.specs.Stage.{SaysByPhase}

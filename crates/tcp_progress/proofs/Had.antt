@@ -18,9 +18,9 @@ use Rattle.tcp_progress.proofs.CalmWorlds.{Steps, steps-all, steps-event}
 use Rattle.tcp_progress.proofs.Coming.{AreAmong, among-left, among-right, come-both, due-among}
 use Rattle.tcp_progress.proofs.Draining.{burst-ends, served-ends}
 use Rattle.tcp_progress.proofs.Everywhere.{in-every-world}
-use Rattle.tcp_progress.proofs.Plain.{Goes, IsFine, IsNoReset, IsSafe, goes-safely, no_reset-emitted, no_reset-later, safe-later}
+use Rattle.tcp_progress.proofs.Plain.{GoesSafely, IsFine, IsNoReset, IsSafe, goes-safely, no_reset-emitted, no_reset-later, safe-later}
 use Rattle.tcp_progress.proofs.Turning.{after-append, calm-append, calm-emissions}
-use Rattle.tcp_progress.proofs.Useful.{side-pair}
+use Rattle.tcp_progress.proofs.Going.{side-pair}
 
 -- ---- WHAT IS BROUGHT of so many emissions of a side: each segment that goes out, but no reset
 abbrev brought_due : Option Due → Side → ℕ → List EventContent → List EventContent
@@ -131,15 +131,19 @@ safe-emissions : (w : WorldState) (side : Side) (n : ℕ) → AllByRecursion (Is
 safe-emissions w side zero = tt
 safe-emissions w side (suc n) = (tt, safe-emissions w side n)
 
+-- what holds of one world holds of the same
+holds-at : (Holds : WorldState → Type 0) (u v : WorldState) → u ≡ v → Holds v → Holds u
+holds-at Holds u v same h = subst Holds (sym same) h
+
 -- ---- ONE SIDE EMITS until nothing is due: what goes out is brought safely
-record Emits (w : WorldState) (side : Side) : Type 0 where
+record EmitsAll (w : WorldState) (side : Side) : Type 0 where
   count : ℕ
   idle : IsIdle (world_after_all w (emissions side count)) side
-  goes : Goes w (world_after_all w (emissions side count))
+  goes : GoesSafely w (world_after_all w (emissions side count))
   safe : AllByRecursion (IsSafe (world_after_all w (emissions side count))) (brought count w side)
 
-emits : (w : WorldState) (side : Side) → IsFine w → Emits w side
-emits w side h =
+emits-all : (w : WorldState) (side : Side) → IsFine w → EmitsAll w side
+emits-all w side h =
     let end = burst-ends w side h.kept in
     record { count = end.0; idle = end.1; goes = goes-safely w (emissions side end.0) (safe-emissions w side end.0) h; safe = safe-brought end.0 w side h.kept }
 
@@ -149,7 +153,7 @@ unfolding world_after_all
 after-timeout w side h = (goes-safely w (Timer side Retransmit ∷ []) (tt, tt) h).fine
 
 -- ---- BOTH WERE SERVED: what they sent is brought, both answer, and what they answered is brought
-record Answers (w : WorldState) (sent : List EventContent) : Type 0 where
+record IsAnswered (w : WorldState) (sent : List EventContent) : Type 0 where
   there : List EventContent
   back : List EventContent
   among : AreAmong sent there
@@ -160,13 +164,13 @@ record Answers (w : WorldState) (sent : List EventContent) : Type 0 where
   comes : AllCome w there back
   fine : IsFine (world_after_all w (there ++ back))
 
-answers : (w : WorldState) (sent : List EventContent) → AllByRecursion IsDelivery sent → AllByRecursion (IsSafe w) sent → IsFine w → Answers w sent
-answers w sent delivered safe h =
+are-answered : (w : WorldState) (sent : List EventContent) → AllByRecursion IsDelivery sent → AllByRecursion (IsSafe w) sent → IsFine w → IsAnswered w sent
+are-answered w sent delivered safe h =
     let y = world_after_all w sent in
     let goes = goes-safely w sent safe h in
-    let one = emits y A goes.fine in
+    let one = emits-all y A goes.fine in
     let ya = world_after_all y (emissions A one.count) in
-    let two = emits ya B one.goes.fine in
+    let two = emits-all ya B one.goes.fine in
     let yb = world_after_all ya (emissions B two.count) in
     let from-a = brought one.count y A in
     let from-b = brought two.count ya B in
@@ -182,13 +186,14 @@ answers w sent delivered safe h =
       untimed = all-append _ sent emitted (deliveries-untimed sent delivered)
       (all-append _ (emissions A one.count) (emissions B two.count) (untimed-emissions A one.count) (untimed-emissions B two.count));
       calm = deliveries-calm back (all-append _ from-a from-b (all-brought one.count y A) (all-brought two.count ya B));
-      idle_a = subst (λ (u : WorldState). IsIdle u A) (sym end) (ap (λ p. due_of p.endpoint) unmoved ∙ one.idle);
-      idle_b = subst (λ (u : WorldState). IsIdle u B) (sym end) two.idle;
+      idle_a = holds-at (λ u. IsIdle u A) (world_after_all w (sent ++ emitted)) yb end (ap (λ p. due_of p.endpoint) unmoved ∙ one.idle);
+      idle_b = holds-at (λ u. IsIdle u B) (world_after_all w (sent ++ emitted)) yb end two.idle;
       comes = come-both w sent emitted back (deliveries-come w sent (emitted ++ back) delivered)
       (come-both y (emissions A one.count) (emissions B two.count) back
       (burst-comes one.count y A (emissions B two.count ++ back) (λ from k h. among-right (emissions B two.count) back from k (among-left from-a from-b from k h)))
       (burst-comes two.count ya B back (among-right from-a from-b)));
-      fine = subst IsFine (sym (after-append w (sent ++ emitted) back ∙ ap (λ (u : WorldState). world_after_all u back) end)) last.fine;
+      fine = holds-at IsFine (world_after_all w ((sent ++ emitted) ++ back)) (world_after_all yb back)
+      (after-append w (sent ++ emitted) back ∙ ap (λ (u : WorldState). world_after_all u back) end) last.fine;
     }
 
 -- ---- A TURN
@@ -203,17 +208,17 @@ has-turn w h =
     let v = world_after_all w reads in
     let read = goes-safely w reads (tt, (tt, (tt, (tt, tt)))) h in
     let va = world_after v (Timer A Retransmit) in
-    let one = emits va A (after-timeout v A read.fine) in
+    let one = emits-all va A (after-timeout v A read.fine) in
     let u = world_after_all v (served A one.count) in
     let ub = world_after u (Timer B Retransmit) in
-    let two = emits ub B (after-timeout u B one.goes.fine) in
+    let two = emits-all ub B (after-timeout u B one.goes.fine) in
     let x = world_after_all u (served B two.count) in
     let from-a = brought one.count va A in
     let from-b = brought two.count ub B in
     let sent = from-a ++ from-b in
     let second = goes-safely u (served B two.count) (tt, safe-emissions u B two.count) one.goes.fine in
     let safe = all-append _ from-a from-b (safe-later u x from-a second.steps one.safe) two.safe in
-    let g = answers x sent (all-append _ from-a from-b (all-brought one.count va A) (all-brought two.count ub B)) safe two.goes.fine in
+    let g = are-answered x sent (all-append _ from-a from-b (all-brought one.count va A) (all-brought two.count ub B)) safe two.goes.fine in
     let both = both_served A one.count two.count in
     let after-first : world_after_all w (reads ++ served A one.count) ≡ u = after-append w reads (served A one.count) in
     let after-both : world_after_all w (reads ++ both) ≡ x = after-append w reads both ∙ after-append v (served A one.count) (served B two.count) in
@@ -230,16 +235,16 @@ has-turn w h =
         form = refl;
         untimed = g.untimed;
         calm = g.calm;
-        first_out = subst (λ (z : WorldState). IsIdle z A) (sym after-first) one.idle;
-        then_out = subst (λ (z : WorldState). IsIdle z B) (sym after-both) two.idle;
-        answered_a = subst (λ (z : WorldState). IsIdle z A) (sym (after-there g.there)) g.idle_a;
-        answered_b = subst (λ (z : WorldState). IsIdle z B) (sym (after-there g.there)) g.idle_b;
+        first_out = holds-at (λ z. IsIdle z A) (world_after_all w (reads ++ served A one.count)) u after-first one.idle;
+        then_out = holds-at (λ z. IsIdle z B) (world_after_all w (reads ++ both)) x after-both two.idle;
+        answered_a = holds-at (λ z. IsIdle z A) (world_after_all w (reads ++ (both ++ g.there))) (world_after_all x g.there) (after-there g.there) g.idle_a;
+        answered_b = holds-at (λ z. IsIdle z B) (world_after_all w (reads ++ (both ++ g.there))) (world_after_all x g.there) (after-there g.there) g.idle_b;
         comes_there = come-both v (served A one.count) (served B two.count) g.there
         (tt, burst-comes one.count va A (served B two.count ++ g.there) (λ from k h. among-right (served B two.count) g.there from k (g.among from k (among-left from-a from-b from k h))))
         (tt, burst-comes two.count ub B g.there (λ from k h. g.among from k (among-right from-a from-b from k h)));
-        comes_back = subst (λ (z : WorldState). AllCome z g.there g.back) (sym after-both) g.comes;
+        comes_back = holds-at (λ z. AllCome z g.there g.back) (world_after_all w (reads ++ both)) x after-both g.comes;
       };
-      fine = subst IsFine (sym (after-there (g.there ++ g.back))) g.fine;
+      fine = holds-at IsFine (world_after_all w (reads ++ (both ++ (g.there ++ g.back)))) (world_after_all x (g.there ++ g.back)) (after-there (g.there ++ g.back)) g.fine;
     }
 
 -- as many as one likes

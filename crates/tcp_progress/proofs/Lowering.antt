@@ -9,16 +9,15 @@ use Rattle.tcp_replay.specs.World.{WorldState, PartyState, other, party_of, worl
 use Rattle.tcp_replay.specs.Safe.{next_position}
 use Rattle.tcp_replay.proofs.Lists.{one_if}
 use Rattle.tcp_progress.specs.Fair.{AllCome, IsIdle, IsTurn, NoneGaveUp, both_served, reads, served}
-use Rattle.tcp_progress.specs.Left.{all_of, left_in, left_of_both}
+use Rattle.tcp_progress.specs.Measure.{all_of, left_in, left_of_both}
 use Rattle.tcp_progress.specs.Settled.{IsLive}
 use Rattle.tcp_progress.specs.Steady.{IsSteadyPair}
 use Rattle.tcp_progress.proofs.CalmWorlds.{Steps, on-all, steps-all, steps-left, steps-then}
 use Rattle.tcp_progress.proofs.Serving.{HasMore, served-lowers}
 use Rattle.tcp_progress.proofs.Behind.{AreIdle, IsBehind, IsServed, after_both, after_first, behind-lowers}
 use Rattle.tcp_progress.proofs.Turning.{TurnLowers, after-append, all-untimed, calm-append, calm-served, have-read, reads-calm, turn-same}
-use Rattle.tcp_progress.proofs.Useful.{AreStill, side-left, side-pair}
 use Rattle.tcp_progress.proofs.Coming.{among-behind, among-left, come-after, come-among, come-first}
-use Rattle.tcp_progress.proofs.Going.{IsGoing, both-live, lowers-only, over-all, steps-both}
+use Rattle.tcp_progress.proofs.Going.{IsGoing, going-live, lowers-only, over-all, steps-both, AreStill, side-left, side-pair}
 
 -- ---- WHERE SOMETHING IS LEFT: one has more for the other, or what one sent is taken and not acknowledged, and nothing is on its way
 abbrev What : PartyState → PartyState → Type 0
@@ -84,7 +83,7 @@ served-first first n m w there back g h more up =
     after-append w (served first n) after ∙ after-append (after_first first n w) second later in
     let up' = subst NoneGaveUp (sym end) up in
     let come = come-among w (served first n) (second ++ there) after (among-behind second there later (among-left there back)) g.comes in
-    subst (λ (u : WorldState). left_in u < left_in w) end (served-lowers n w first after calm h.kept h.on h.some h.read more g.out come up'.0 up'.1)
+    subst (λ (u : WorldState). left_in u < left_in w) end (served-lowers n w first after calm h more g.out come up')
 
 served-then : (first : Side) (n m : ℕ) (w : WorldState) (there back : List EventContent) → IsServed first n m w there back → IsGoing w
     → HasMore (party_of w (other first)) (party_of w first) → NoneGaveUp (world_after_all (after_both first n m w) (there ++ back))
@@ -102,12 +101,12 @@ served-then first n m w there back g h more up =
     let up' = subst NoneGaveUp (sym joined) up in
     let come = come-among u second there later (among-left there back) g.then_comes in
     inl (subst (λ (x : WorldState). left_in x < left_in u) joined
-    (served-lowers m u (other first) later calm hu.kept hu.on hu.some hu.read more' g.then_out come up'.0 up'.1))))
+    (served-lowers m u (other first) later calm hu more' g.then_out come up'))))
 
 from-reads : (first : Side) (n m : ℕ) (w : WorldState) (there back : List EventContent) → IsServed first n m w there back → IsGoing w
     → NoneGaveUp (world_after_all (after_both first n m w) (there ++ back)) → left_in (world_after_all (after_both first n m w) (there ++ back)) < left_in w
 from-reads first n m w there back g h up =
-    let live = both-live w first h in
+    let live = going-live w first h in
     elim (what-left (party_of w first) (party_of w (other first)) (side-pair w first h.kept) live.0 live.1 (omega (arith, h.some, side-left w first))) [
       | inr behind ↦ behind-lowers first n m w there back g h behind up
       | inl more ↦ elim more [

@@ -5,7 +5,7 @@ use Rattle.tcp_halves.specs.declared.phase.Ending.TheVariants.{NotEnded, Orderly
 use Rattle.tcp_replay.specs.declared.event.Side.{Side}
 use Rattle.tcp_replay.specs.declared.event.Side.TheVariants.{A, B}
 use Rattle.tcp_replay.specs.World.{WorldState, PartyState, world_from}
-use Rattle.tcp_progress.specs.Left.{left_in, left_of_both}
+use Rattle.tcp_progress.specs.Measure.{left_in, left_of_both}
 use Rattle.tcp_progress.specs.Settled.{IsLive}
 
 -- an end whose SYNs were taken, that lives or has ended in order

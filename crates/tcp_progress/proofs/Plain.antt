@@ -236,7 +236,7 @@ pub record IsFine (w : WorldState) : Type 0 where
   pub up : NoneGaveUp w
 
 -- over safe events
-pub record Goes (w v : WorldState) : Type 0 where
+pub record GoesSafely (w v : WorldState) : Type 0 where
   pub steps : Steps w v
   pub fine : IsFine v
 
@@ -252,7 +252,7 @@ all-calm : (w : WorldState) (events : List EventContent) → AllByRecursion (IsS
 all-calm w [] safe = tt
 all-calm w (event ∷ events) safe = (safe-calm _ _ event safe.0, all-calm w events safe.1)
 
-pub goes-safely : (w : WorldState) (events : List EventContent) → AllByRecursion (IsSafe w) events → IsFine w → Goes w (world_after_all w events)
+pub goes-safely : (w : WorldState) (events : List EventContent) → AllByRecursion (IsSafe w) events → IsFine w → GoesSafely w (world_after_all w events)
 goes-safely w events safe h =
     let steps = steps-all w events (all-calm w events safe) h.kept in
     record { steps = steps; fine = record { kept = steps.kept; up = all-safe w events safe h } }

@@ -25,16 +25,15 @@ use Rattle.tcp_progress.specs.Fair.{AllCome, IsCalm, IsIdle, NoneGaveUp, emissio
 use Rattle.tcp_progress.specs.Settled.{IsLive}
 use Rattle.tcp_progress.specs.Stage.{SaysByPhase}
 use Rattle.tcp_progress.specs.Steady.{IsSteadyPair}
-use Rattle.tcp_progress.proofs.Asking.{first-of, reset-due}
+use Rattle.tcp_progress.proofs.Asking.{syn-alone, reset-due}
 use Rattle.tcp_progress.proofs.Bursting.{IsBounded, IsBursting, still-done, timeout-bursts}
 use Rattle.tcp_progress.proofs.Bursts.{burst-waits}
 use Rattle.tcp_progress.proofs.CalmWorlds.{steps-all}
 use Rattle.tcp_progress.proofs.Forward.{acked-all, fin-last, live-sends, past-syn, text-end}
-use Rattle.tcp_progress.proofs.Going.{IsGoing, IsStillFrom, Lowers, both-live, over-all, over-event}
+use Rattle.tcp_progress.proofs.Going.{IsGoing, IsStillFrom, Lowers, going-live, over-all, over-event, side-pair}
 use Rattle.tcp_progress.proofs.Serving.{cleared, cleared-same, emit-endpoint, may-send-cleared, none-some, reset-gone, timer-endpoint}
 use Rattle.tcp_progress.proofs.Speaking.{Waits, idle-no_syn}
 use Rattle.tcp_progress.proofs.Turning.{after-append, calm-append, calm-emissions, calm-served}
-use Rattle.tcp_progress.proofs.Useful.{side-pair}
 
 -- ---- IN A PHASE THAT SENDS NOTHING: its SYN isn't acknowledged, or all is
 quiet-phase : (s : State) (phase : Phase) → sends_text phase ≡ false → s.receiving.opened ≡ true → s.ending ≡ NotEnded
@@ -62,15 +61,15 @@ quiet-waits w u side h h' still quiet at behind idle =
     let is = still side in
     let pair = side-pair w side h.kept in
     let pair' = side-pair u side h'.kept in
-    let live = both-live w side h in
-    let live' = both-live u side h' in
+    let live = going-live w side h in
+    let live' = going-live u side h' in
     let behind' : q'.endpoint.sending.una < next_position p' = omega (arith, behind, is.una_of_y, is.next_of_x) in
     let no_syn = idle-no_syn p'.endpoint idle in
     elim (quiet-phase p.endpoint p.endpoint.phase quiet live.0.opened live.0.goes_on pair.pair.there.alone.progress pair.there.stage) [
       | inl una ↦
           let una' : p'.endpoint.sending.una ≡ 0 = is.una_of_x ∙ una in
-          let one = (first-of p q pair live.0 una).1 in
-          let one' = (first-of p' q' pair' live'.0 una').1 in
+          let one = (syn-alone p q pair live.0 una).1 in
+          let one' = (syn-alone p' q' pair' live'.0 una').1 in
           record { at = omega (arith, one, one', at, is.next_of_y); behind = behind'; range = inr una'; syn = no_syn }
       | inr acked ↦
           let sends' = pair'.pair.there.alone.sends in
@@ -107,7 +106,7 @@ text-waits : (n : ℕ) (waiting : Option WaitingReset) (s : State) (w : WorldSta
 unfolding world_after_all
 text-waits n None s w side later e same bursts calm h at behind idle come up =
     let is : (party_of w side).endpoint ≡ after_retransmit (cleared s) = same ∙ ap after_retransmit (sym (cleared-same s e)) in
-    burst-waits n w side later calm h.kept h.on h.some h.read (ap (λ (t : State). t.sending.nxt) same ∙ retransmit-nxt s ∙ at, behind, subst IsBursting (sym is) bursts) idle come up.0 up.1
+    burst-waits n w side later calm h (ap (λ (t : State). t.sending.nxt) same ∙ retransmit-nxt s ∙ at, behind, subst IsBursting (sym is) bursts) idle come up
 text-waits zero (Some reset) s w side later e same bursts calm h at behind idle come up = absurd (none-some (Reset reset) (sym idle ∙ ap due_of same ∙ reset-due s reset e))
 text-waits (suc n) (Some reset) s w side later e same bursts calm h at behind idle come up =
     let v = world_after w (Emit side) in
@@ -115,9 +114,9 @@ text-waits (suc n) (Some reset) s w side later e same bursts calm h at behind id
     over-event w (Emit side) (world_after_all v (emissions side n ++ later)) (Waits (world_after_all v (emissions side n)) side) tt h
     (steps-all v (emissions side n ++ later) (calm-append (emissions side n) later (calm-emissions side n) calm)) up
     (λ h' still.
-    burst-waits n v side later calm h'.kept h'.on h'.some h'.read
+    burst-waits n v side later calm h'
     (ap (λ (t : State). t.sending.nxt) is ∙ retransmit-nxt (cleared s) ∙ at ∙ sym (still side).next_of_y, omega (arith, behind, (still side).una_of_y, (still side).next_of_x), subst IsBursting (sym is) bursts)
-    idle come.1 up.0 up.1)
+    idle come.1 up)
 
 -- ---- ONE SIDE IS SERVED: then it waits to be spoken to; or something is brought on
 pub replies : (n : ℕ) (w : WorldState) (side : Side) (later : List EventContent) → AllByRecursion IsCalm later → IsGoing w → (party_of w side).endpoint.sending.nxt ≡ next_position (party_of w (other side))
@@ -135,7 +134,7 @@ replies n w side later calm h at behind idle come up =
           over-event w (Timer side Retransmit) (world_after_all v events) (Waits (world_after_all v (emissions side n)) side) tt h
           (steps-all v events (calm-append (emissions side n) later (calm-emissions side n) calm)) up
           (λ h' still.
-          text-waits n s.owed.reset s v side later refl (timer-endpoint w side) (cleared-bursts p q (side-pair w side h.kept) (both-live w side h).0 sends) calm h'
+          text-waits n s.owed.reset s v side later refl (timer-endpoint w side) (cleared-bursts p q (side-pair w side h.kept) (going-live w side h).0 sends) calm h'
           (at ∙ sym (still side).next_of_y) (omega (arith, behind, (still side).una_of_y, (still side).next_of_x)) idle come.1 up)
       | inr quiet ↦
           let u = world_after_all w (served side n) in

@@ -22,21 +22,22 @@ use Rattle.tcp_replay.specs.Events.{EventContent, Emit, Timer}
 use Rattle.tcp_replay.specs.World.{WorldState, PartyState, effect_of, other, party_after_emission, party_after_timer, party_of, world_after, world_after_all}
 use Rattle.tcp_replay.specs.Safe.{gave_up, next_position}
 use Rattle.tcp_replay.proofs.Emissions.{reset-bit}
-use Rattle.tcp_progress.specs.Fair.{AllCome, Comes, Delivers, IsCalm, IsIdle, emissions, is_reset, served}
-use Rattle.tcp_progress.specs.Left.{all_of, left_in}
+use Rattle.tcp_progress.specs.Fair.{AllCome, Comes, Delivers, IsCalm, IsIdle, emissions, is_reset, served, NoneGaveUp}
+use Rattle.tcp_progress.specs.Measure.{all_of, left_in}
 use Rattle.tcp_progress.specs.Resent.{CoversNext, MaySend, after_emissions}
 use Rattle.tcp_progress.specs.Settled.{IsLive}
 use Rattle.tcp_progress.specs.Steady.{IsSteadyPair}
 use Rattle.tcp_progress.proofs.Again.{again_lem}
 use Rattle.tcp_progress.proofs.New.{new_lem}
 use Rattle.tcp_progress.proofs.AlwaysSteady.{IsKept}
-use Rattle.tcp_progress.proofs.CalmWorlds.{on-event, steps-all, steps-event, steps-left}
+use Rattle.tcp_progress.proofs.CalmWorlds.{steps-all}
 use Rattle.tcp_progress.proofs.Emitted.{fresh-emitted}
 use Rattle.tcp_progress.proofs.Forward.{fin-last, flight-sends, in-flight, past-syn, unsent-phase, waits}
 use Rattle.tcp_progress.proofs.Measure.{GoOn}
 use Rattle.tcp_progress.proofs.Ready.{has-room, no-syn-owed, sends-no_handshake}
 use Rattle.tcp_progress.proofs.Turning.{calm-append, calm-emissions}
-use Rattle.tcp_progress.proofs.Useful.{AreRead, IsUseful, are_read-still, side-left, side-on, side-pair, useful-comes}
+use Rattle.tcp_progress.proofs.Useful.{IsUseful, useful-comes}
+use Rattle.tcp_progress.proofs.Going.{IsGoing, going-live, lowers-only, over-event, side-pair}
 
 -- ---- AN END WITH NO RESET
 abbrev pub cleared : State → State
@@ -132,83 +133,69 @@ not-reset s dues.Acknowledgement e = refl
 pub comes-due : (w : WorldState) (side : Side) (later : List EventContent) (due : Due) → due_of (party_of w side).endpoint ≡ Some due → is_reset due ≡ false → Comes w (Emit side) later → Delivers side (length (party_of w side).sent) later
 comes-due w side later due e plain h = (subst (λ (o : Option Due). IfSome o (λ due. is_reset due ≡ false → Delivers side (length (party_of w side).sent) later)) e h) plain
 
--- what covers goes out at once
-covering-out : (w : WorldState) (side : Side) (later : List EventContent) → AllByRecursion IsCalm later → IsKept w → GoOn w.a w.b → 0 < left_in w → AreRead w
-    → CoversNext (party_of w side).endpoint (next_position (party_of w (other side))) → Comes w (Emit side) later
-    → gave_up (world_after_all (world_after w (Emit side)) later).a ≡ false → gave_up (world_after_all (world_after w (Emit side)) later).b ≡ false
-    → left_in (world_after_all (world_after w (Emit side)) later) < left_in w
-covering-out w side later calm h on some read covers comes one two =
-    let p = party_of w side in
-    let q = party_of w (other side) in
+-- ---- WHAT IS USEFUL GOES OUT, and comes: something is brought on
+pub useful-out : (w : WorldState) (side : Side) (later : List EventContent) (due : Due) → AllByRecursion IsCalm later → IsGoing w
+    → due_of (party_of w side).endpoint ≡ Some due → has rst (segment_of (party_of w side).endpoint due).flags ≡ false
+    → IsUseful (party_after_emission (party_of w side)) (party_of w (other side)) (length (party_of w side).sent) → Comes w (Emit side) later
+    → NoneGaveUp (world_after_all (world_after w (Emit side)) later) → left_in (world_after_all (world_after w (Emit side)) later) < left_in w
+useful-out w side later due calm h is no_rst u comes up =
+    let k = length (party_of w side).sent in
     let v = world_after w (Emit side) in
-    let step = steps-event w (Emit side) tt h in
-    let rest = steps-all v later calm step.kept in
-    let on' = on-event w (Emit side) tt h on (rest.stays_a one) (rest.stays_b two) in
+    let end = world_after_all v later in
+    let come = comes-due w side later due is (not-reset (party_of w side).endpoint due no_rst) comes in
+    lowers-only w end
+    (over-event w (Emit side) end ⊥ tt h (steps-all v later calm) up (λ hv still. inl (useful-comes v side k later calm hv (emit-useful w side k u) come up)))
+
+-- what covers goes out at once
+covering-out : (w : WorldState) (side : Side) (later : List EventContent) → AllByRecursion IsCalm later → IsGoing w
+    → CoversNext (party_of w side).endpoint (next_position (party_of w (other side))) → Comes w (Emit side) later
+    → NoneGaveUp (world_after_all (world_after w (Emit side)) later) → left_in (world_after_all (world_after w (Emit side)) later) < left_in w
+covering-out w side later calm h covers comes up =
+    let p = party_of w side in
     let no_rst : has rst (segment_of p.endpoint covers.due).flags ≡ false = ap (λ (v : Content). has rst v.flags) (sym covers.form) ∙ covers.no_rst in
-    let goes = fresh-emitted p q (side-pair w side h) covers.due covers.is_due no_rst (ap (λ (v : Content). has syn v.flags) (sym covers.form) ∙ covers.no_syn) in
-    let u : IsUseful (party_after_emission p) q (length p.sent) = record {
+    let no_syn : has syn (segment_of p.endpoint covers.due).flags ≡ false = ap (λ (v : Content). has syn v.flags) (sym covers.form) ∙ covers.no_syn in
+    let goes = fresh-emitted p (party_of w (other side)) (side-pair w side h.kept) covers.due covers.is_due no_rst no_syn in
+    useful-out w side later covers.due calm h covers.is_due no_rst (record {
       start = _;
       content = _;
       fresh = goes;
       use_of = inl (omega (arith, covers.starts, covers.begins), omega (arith, covers.starts, covers.ends, ap count_numbers covers.form));
-    } in
-    elim (cases_lt (left_in v) (left_in w)) [
-      | inl less ↦ omega (arith, less, steps-left v (world_after_all v later) rest)
-      | inr as_much ↦
-          let less = useful-comes v side (length p.sent) later calm step.kept on' (omega (arith, some, as_much)) (are_read-still w v h step on on' as_much read)
-          (emit-useful w side (length p.sent) u) (comes-due w side later covers.due covers.is_due (not-reset p.endpoint covers.due no_rst) comes) one two in
-          omega (arith, less, steps-left w v step)
-    ]
+    }) comes up
 
 -- or after so many emissions
-burst-covers : (n count : ℕ) (w : WorldState) (side : Side) (later : List EventContent) → AllByRecursion IsCalm later → IsKept w → GoOn w.a w.b → 0 < left_in w → AreRead w
+burst-covers : (n count : ℕ) (w : WorldState) (side : Side) (later : List EventContent) → AllByRecursion IsCalm later → IsGoing w
     → CoversNext (after_emissions count (party_of w side).endpoint) (next_position (party_of w (other side)))
     → IsIdle (world_after_all w (emissions side n)) side → AllCome w (emissions side n) later
-    → gave_up (world_after_all w (emissions side n ++ later)).a ≡ false → gave_up (world_after_all w (emissions side n ++ later)).b ≡ false
-    → left_in (world_after_all w (emissions side n ++ later)) < left_in w
+    → NoneGaveUp (world_after_all w (emissions side n ++ later)) → left_in (world_after_all w (emissions side n ++ later)) < left_in w
 unfolding world_after_all
-burst-covers zero count w side later calm h on some read covers idle come one two =
+burst-covers zero count w side later calm h covers idle come up =
     let s = (party_of w side).endpoint in
     absurd (none-some covers.due (sym idle ∙ ap due_of (sym (idle-stays count s idle)) ∙ covers.is_due))
-burst-covers (suc n) zero w side later calm h on some read covers idle come one two =
-    covering-out w side (emissions side n ++ later) (calm-append (emissions side n) later (calm-emissions side n) calm) h on some read covers come.0 one two
-burst-covers (suc n) (suc count) w side later calm h on some read covers idle come one two =
+burst-covers (suc n) zero w side later calm h covers idle come up =
+    covering-out w side (emissions side n ++ later) (calm-append (emissions side n) later (calm-emissions side n) calm) h covers come.0 up
+burst-covers (suc n) (suc count) w side later calm h covers idle come up =
     let v = world_after w (Emit side) in
     let events = emissions side n ++ later in
-    let step = steps-event w (Emit side) tt h in
-    let rest = steps-all v events (calm-append (emissions side n) later (calm-emissions side n) calm) step.kept in
-    let on' = on-event w (Emit side) tt h on (rest.stays_a one) (rest.stays_b two) in
+    let end = world_after_all v events in
     let covers' = subst (λ (t : State). CoversNext (after_emissions count t) (next_position (party_of v (other side)))) (sym (emit-endpoint w side))
     (subst (λ (x : PartyState). CoversNext (after_emissions count (after_emission (party_of w side).endpoint)) (next_position x)) (sym (emit-other w side)) covers) in
-    elim (cases_lt (left_in v) (left_in w)) [
-      | inl less ↦ omega (arith, less, steps-left v (world_after_all v events) rest)
-      | inr as_much ↦
-          let less = burst-covers n count v side later calm step.kept on' (omega (arith, some, as_much)) (are_read-still w v h step on on' as_much read) covers' idle come.1 one two in
-          omega (arith, less, steps-left w v step)
-    ]
+    lowers-only w end
+    (over-event w (Emit side) end ⊥ tt h (steps-all v events (calm-append (emissions side n) later (calm-emissions side n) calm)) up
+    (λ hv still. inl (burst-covers n count v side later calm hv covers' idle come.1 up)))
 
 -- SERVED: what is left gets less
-pub served-lowers : (n : ℕ) (w : WorldState) (side : Side) (later : List EventContent) → AllByRecursion IsCalm later → IsKept w → GoOn w.a w.b → 0 < left_in w → AreRead w
-    → HasMore (party_of w side) (party_of w (other side))
-    → IsIdle (world_after_all w (served side n)) side → AllCome w (served side n) later
-    → gave_up (world_after_all w (served side n ++ later)).a ≡ false → gave_up (world_after_all w (served side n ++ later)).b ≡ false
-    → left_in (world_after_all w (served side n ++ later)) < left_in w
+pub served-lowers : (n : ℕ) (w : WorldState) (side : Side) (later : List EventContent) → AllByRecursion IsCalm later → IsGoing w
+    → HasMore (party_of w side) (party_of w (other side)) → IsIdle (world_after_all w (served side n)) side → AllCome w (served side n) later
+    → NoneGaveUp (world_after_all w (served side n ++ later)) → left_in (world_after_all w (served side n ++ later)) < left_in w
 unfolding world_after_all
-served-lowers n w side later calm h on some read more idle come one two =
+served-lowers n w side later calm h more idle come up =
     let p = party_of w side in
-    let q = party_of w (other side) in
     let v = world_after w (Timer side Retransmit) in
     let events = emissions side n ++ later in
-    let step = steps-event w (Timer side Retransmit) tt h in
-    let rest = steps-all v events (calm-append (emissions side n) later (calm-emissions side n) calm) step.kept in
-    let on' = on-event w (Timer side Retransmit) tt h on (rest.stays_a one) (rest.stays_b two) in
-    let live = (side-on w side on).live (omega (arith, some, side-left w side)) in
-    let covers = timeout-covers p q (side-pair w side h) live.0 more in
+    let end = world_after_all v events in
+    let covers = timeout-covers p (party_of w (other side)) (side-pair w side h.kept) (going-live w side h).0 more in
     let covers' = subst (λ (t : State). CoversNext (after_emissions covers.count t) (next_position (party_of v (other side)))) (sym (timer-endpoint w side))
     (subst (λ (x : PartyState). CoversNext (after_emissions covers.count (after_retransmit p.endpoint)) (next_position x)) (sym (timer-other w side)) covers.covers) in
-    elim (cases_lt (left_in v) (left_in w)) [
-      | inl less ↦ omega (arith, less, steps-left v (world_after_all v events) rest)
-      | inr as_much ↦
-          let less = burst-covers n covers.count v side later calm step.kept on' (omega (arith, some, as_much)) (are_read-still w v h step on on' as_much read) covers' idle come.1 one two in
-          omega (arith, less, steps-left w v step)
-    ]
+    lowers-only w end
+    (over-event w (Timer side Retransmit) end ⊥ tt h (steps-all v events (calm-append (emissions side n) later (calm-emissions side n) calm)) up
+    (λ hv still. inl (burst-covers n covers.count v side later calm hv covers' idle come.1 up)))

@@ -31,20 +31,22 @@ use Rattle.tcp_replay.specs.World.{WorldState, PartyState, SentSegment, delivery
 use Rattle.tcp_replay.proofs.Deliveries.{arrival-ok, delivered-there, finds-damage, own-decodes, segment-sent}
 use Rattle.tcp_replay.proofs.Steps.{pair-swapped}
 use Rattle.tcp_progress.specs.Answered.{StandsAtNext}
-use Rattle.tcp_progress.specs.Fair.{AllCome, Comes, Delivers, IsCalm, IsIdle, IsUntimed}
-use Rattle.tcp_progress.specs.Left.{left_in}
+use Rattle.tcp_progress.specs.Fair.{AllCome, Comes, Delivers, IsCalm, IsIdle, IsUntimed, NoneGaveUp}
+use Rattle.tcp_progress.specs.Measure.{left_in}
 use Rattle.tcp_progress.specs.Steady.{IsSteadyPair}
 use Rattle.tcp_progress.proofs.AlwaysSteady.{IsKept, kept-steady}
 use Rattle.tcp_progress.proofs.Answering.{KeepsOwed, RangeDone, owed-judgement, owed-same, quiet-or-none, range-done, range-same, stands-or-none}
-use Rattle.tcp_progress.proofs.CalmWorlds.{after-either, on-event, steps-all, steps-event, steps-left}
+use Rattle.tcp_progress.proofs.CalmWorlds.{after-either, steps-all}
+use Rattle.tcp_progress.proofs.Delivered.{IsOpenTo}
 use Rattle.tcp_progress.proofs.Emitted.{IsFresh, fresh-emitted}
 use Rattle.tcp_progress.proofs.Forward.{past-syn}
 use Rattle.tcp_progress.proofs.Measure.{GoOn}
-use Rattle.tcp_progress.proofs.Serving.{comes-due, emit-endpoint, emit-useful, not-reset}
+use Rattle.tcp_progress.proofs.Serving.{emit-endpoint, useful-out}
 use Rattle.tcp_progress.proofs.Still.{still-emission, still-next}
 use Rattle.tcp_progress.proofs.Turning.{all-untimed, calm-append, untimed-calm}
-use Rattle.tcp_progress.proofs.Useful.{AreRead, AreStill, IsUseful, are_read-still, sent-still, side-left, side-on, side-pair, side-still, useful-comes}
+use Rattle.tcp_progress.proofs.Useful.{IsUseful, sent-still}
 use Rattle.tcp_progress.proofs.Waking.{IsOld, old-wakes}
+use Rattle.tcp_progress.proofs.Going.{AreStill, IsGoing, Lowers, going-live, lowers-only, over-event, side-pair}
 
 -- ---- WHAT AN EVENT LEAVES of what an end owes, unless the end emits
 receive-owed : (s : State) (room : ℕ) (refusal : Option CallError) → KeepsOwed s (state_unless refusal s (with_bytes_received s room))
@@ -166,11 +168,6 @@ idle-no_syn s idle =
       | inr none ↦ none
     ]
 
--- it goes out, and something is brought on; or all that it owes is as it was
-abbrev Answers : WorldState → Side → List EventContent → Type 0
-Answers w side later =
-    (left_in (world_after_all (world_after w (Emit side)) later) < left_in w) ⊎ KeepsOwed (party_of w side).endpoint (party_of (world_after w (Emit side)) side).endpoint
-
 useful-standing : (p q : PartyState) (stands : StandsAtNext p.endpoint) → IsFresh (party_after_emission p) q (length p.sent) (start_of p.endpoint.sending stands.due) (segment_of p.endpoint stands.due)
     → p.endpoint.sending.nxt ≡ next_position q → q.endpoint.sending.una < next_position p → IsUseful (party_after_emission p) q (length p.sent)
 useful-standing p q stands goes at behind = record {
@@ -180,28 +177,17 @@ useful-standing p q stands goes at behind = record {
   use_of = inr (stands.starts ∙ at, omega (arith, behind, still-next p (party_after_emission p) (still-emission p)));
 }
 
-pub standing-out : (w : WorldState) (side : Side) (later : List EventContent) → AllByRecursion IsCalm later → IsKept w → GoOn w.a w.b → 0 < left_in w → AreRead w
+pub standing-out : (w : WorldState) (side : Side) (later : List EventContent) → AllByRecursion IsCalm later → IsGoing w
     → (party_of w side).endpoint.sending.nxt ≡ next_position (party_of w (other side)) → (party_of w (other side)).endpoint.sending.una < next_position (party_of w side)
-    → StandsAtNext (party_of w side).endpoint → Comes w (Emit side) later
-    → gave_up (world_after_all (world_after w (Emit side)) later).a ≡ false → gave_up (world_after_all (world_after w (Emit side)) later).b ≡ false
+    → StandsAtNext (party_of w side).endpoint → Comes w (Emit side) later → NoneGaveUp (world_after_all (world_after w (Emit side)) later)
     → left_in (world_after_all (world_after w (Emit side)) later) < left_in w
-standing-out w side later calm h on some read at behind stands comes one two =
+standing-out w side later calm h at behind stands comes up =
     let p = party_of w side in
     let q = party_of w (other side) in
-    let v = world_after w (Emit side) in
-    let step = steps-event w (Emit side) tt h in
-    let rest = steps-all v later calm step.kept in
-    let on' = on-event w (Emit side) tt h on (rest.stays_a one) (rest.stays_b two) in
     let no_rst : has rst (segment_of p.endpoint stands.due).flags ≡ false = ap (λ (v : Content). has rst v.flags) (sym stands.form) ∙ stands.no_rst in
-    let goes = fresh-emitted p q (side-pair w side h) stands.due stands.is_due no_rst (ap (λ (v : Content). has syn v.flags) (sym stands.form) ∙ stands.no_syn) in
-    let u : IsUseful (party_after_emission p) q (length p.sent) = useful-standing p q stands goes at behind in
-    elim (cases_lt (left_in v) (left_in w)) [
-      | inl less ↦ omega (arith, less, steps-left v (world_after_all v later) rest)
-      | inr as_much ↦
-          let less = useful-comes v side (length p.sent) later calm step.kept on' (omega (arith, some, as_much)) (are_read-still w v h step on on' as_much read)
-          (emit-useful w side (length p.sent) u) (comes-due w side later stands.due stands.is_due (not-reset p.endpoint stands.due no_rst) comes) one two in
-          omega (arith, less, steps-left w v step)
-    ]
+    let no_syn : has syn (segment_of p.endpoint stands.due).flags ≡ false = ap (λ (v : Content). has syn v.flags) (sym stands.form) ∙ stands.no_syn in
+    let goes = fresh-emitted p q (side-pair w side h.kept) stands.due stands.is_due no_rst no_syn in
+    useful-out w side later stands.due calm h stands.is_due no_rst (useful-standing p q stands goes at behind) comes up
 
 -- whose SYN isn't acknowledged sends no text
 pub first-quiet : (p q : PartyState) → IsSteadyPair p q → p.endpoint.sending.una ≡ 0 → sends_text p.endpoint.phase ≡ false
@@ -218,61 +204,56 @@ waiting-due w side h none waits =
       | inr first ↦ quiet-or-none (party_of w side).endpoint none waits.syn (first-quiet (party_of w side) (party_of w (other side)) (side-pair w side h) first)
     ]
 
-emits : (w : WorldState) (side : Side) (later : List EventContent) (waiting : Option WaitingReset) → (party_of w side).endpoint.owed.reset ≡ waiting → AllByRecursion IsCalm later → IsKept w → GoOn w.a w.b → 0 < left_in w → AreRead w → Waits w side
-    → Comes w (Emit side) later
-    → gave_up (world_after_all (world_after w (Emit side)) later).a ≡ false → gave_up (world_after_all (world_after w (Emit side)) later).b ≡ false → Answers w side later
-emits w side later (Some reset) is calm h on some read waits comes one two = inr (subst (λ (t : State). KeepsOwed (party_of w side).endpoint t) (sym (emit-endpoint w side)) (reset-owed (party_of w side).endpoint reset is))
-emits w side later None is calm h on some read waits comes one two =
-    elim (waiting-due w side h is waits) [
-      | inl none ↦ inr (subst (λ (t : State). KeepsOwed (party_of w side).endpoint t) (sym (emit-endpoint w side)) (none-owed (party_of w side).endpoint none))
-      | inr stands ↦ inl (standing-out w side later calm h on some read waits.at waits.behind stands comes one two)
+-- at any event: something is brought on in the end, or all that it owes is as it was
+abbrev BringsOrKeeps : WorldState → Side → EventContent → List EventContent → Type 0
+BringsOrKeeps w side event later = Lowers w (world_after_all (world_after w event) later) (KeepsOwed (party_of w side).endpoint (party_of (world_after w event) side).endpoint)
+
+-- where it emits
+emits : (w : WorldState) (side : Side) (later : List EventContent) (waiting : Option WaitingReset) → (party_of w side).endpoint.owed.reset ≡ waiting
+    → AllByRecursion IsCalm later → IsGoing w → Waits w side → Comes w (Emit side) later → NoneGaveUp (world_after_all (world_after w (Emit side)) later)
+    → BringsOrKeeps w side (Emit side) later
+emits w side later (Some reset) is calm h waits comes up =
+    let s = (party_of w side).endpoint in
+    inr (subst (λ (t : State). KeepsOwed s t) (sym (emit-endpoint w side)) (reset-owed s reset is))
+emits w side later None is calm h waits comes up =
+    let s = (party_of w side).endpoint in
+    elim (waiting-due w side h.kept is waits) [
+      | inl none ↦ inr (subst (λ (t : State). KeepsOwed s t) (sym (emit-endpoint w side)) (none-owed s none))
+      | inr stands ↦ inl (standing-out w side later calm h waits.at waits.behind stands comes up)
     ]
 
 side-owed : (w v : WorldState) (side : Side) (event : EventContent) → OwedIn w v event → (event ≡ Emit side) ⊎ KeepsOwed (party_of w side).endpoint (party_of v side).endpoint
 side-owed w v A event h = h.a
 side-owed w v B event h = h.b
 
--- at any event: something is brought on in the end, or all that it owes is as it was
-abbrev Goes : WorldState → Side → EventContent → List EventContent → Type 0
-Goes w side event later = (left_in (world_after_all (world_after w event) later) < left_in w) ⊎ KeepsOwed (party_of w side).endpoint (party_of (world_after w event) side).endpoint
-
-goes-on : (w : WorldState) (side : Side) (event : EventContent) (later : List EventContent) → IsUntimed event → AllByRecursion IsCalm later → IsKept w → GoOn w.a w.b → 0 < left_in w → AreRead w → Waits w side
-    → Comes w event later → gave_up (world_after_all (world_after w event) later).a ≡ false → gave_up (world_after_all (world_after w event) later).b ≡ false → Goes w side event later
-goes-on w side event later untimed calm h on some read waits comes one two =
-    elim (side-owed w (world_after w event) side event (owed-event w event untimed h on)) [
+goes-on : (w : WorldState) (side : Side) (event : EventContent) (later : List EventContent) → IsUntimed event → AllByRecursion IsCalm later → IsGoing w → Waits w side
+    → Comes w event later → NoneGaveUp (world_after_all (world_after w event) later) → BringsOrKeeps w side event later
+goes-on w side event later untimed calm h waits comes up =
+    elim (side-owed w (world_after w event) side event (owed-event w event untimed h.kept h.on)) [
       | inr keeps ↦ inr keeps
       | inl is ↦
-          subst (λ (e : EventContent). Comes w e later → gave_up (world_after_all (world_after w e) later).a ≡ false → gave_up (world_after_all (world_after w e) later).b ≡ false → Goes w side e later) (sym is)
-          (λ comes' one' two'. emits w side later (party_of w side).endpoint.owed.reset refl calm h on some read waits comes' one' two') comes one two
+          let Said : EventContent → Type 0 = λ e. Comes w e later → NoneGaveUp (world_after_all (world_after w e) later) → BringsOrKeeps w side e later in
+          subst Said (sym is) (λ comes' up'. emits w side later (party_of w side).endpoint.owed.reset refl calm h waits comes' up') comes up
     ]
 
 -- ---- WHO OWES AN ACKNOWLEDGEMENT tells it before nothing is due there, and it comes, among these events or behind them
-pub owing-lowers : (w : WorldState) (side : Side) (events back : List EventContent) → AllByRecursion IsUntimed events → AllByRecursion IsCalm back
-    → IsKept w → GoOn w.a w.b → 0 < left_in w → AreRead w → Waits w side → (party_of w side).endpoint.owed.ack ≡ true
-    → AllCome w events back → IsIdle (world_after_all w events) side
-    → gave_up (world_after_all w (events ++ back)).a ≡ false → gave_up (world_after_all w (events ++ back)).b ≡ false
-    → left_in (world_after_all w (events ++ back)) < left_in w
+pub owing-lowers : (w : WorldState) (side : Side) (events back : List EventContent) → AllByRecursion IsUntimed events → AllByRecursion IsCalm back → IsGoing w
+    → Waits w side → (party_of w side).endpoint.owed.ack ≡ true → AllCome w events back → IsIdle (world_after_all w events) side
+    → NoneGaveUp (world_after_all w (events ++ back)) → left_in (world_after_all w (events ++ back)) < left_in w
 unfolding world_after_all
-owing-lowers w side [] back untimed after h on some read waits owes come idle one two = absurd (owing-due (party_of w side).endpoint owes idle)
-owing-lowers w side (event ∷ events) back untimed after h on some read waits owes come idle one two =
+owing-lowers w side [] back untimed after h waits owes come idle up = absurd (owing-due (party_of w side).endpoint owes idle)
+owing-lowers w side (event ∷ events) back untimed after h waits owes come idle up =
     let v = world_after w event in
     let later = events ++ back in
+    let end = world_after_all v later in
     let calm = calm-append events back (all-untimed events untimed.1) after in
-    let step = steps-event w event (untimed-calm event untimed.0) h in
-    let rest = steps-all v later calm step.kept in
-    let on' = on-event w event (untimed-calm event untimed.0) h on (rest.stays_a one) (rest.stays_b two) in
-    elim (goes-on w side event later untimed.0 calm h on some read waits come.0 one two) [
+    elim (goes-on w side event later untimed.0 calm h waits come.0 up) [
       | inl less ↦ less
-      | inr keeps ↦ elim (cases_lt (left_in v) (left_in w)) [
-        | inl less ↦ omega (arith, less, steps-left v (world_after_all v later) rest)
-        | inr as_much ↦
-            let some' : 0 < left_in v = omega (arith, some, as_much) in
-            let live = (side-on v side on').live (omega (arith, some', side-left v side)) in
-            let waits' = waits-later w v side (side-still w v side step on' as_much) keeps waits in
-            let less = owing-lowers v side events back untimed.1 after step.kept on' some' (are_read-still w v h step on on' as_much read) waits'
-            (keeps.ack live.0.goes_on owes) come.1 idle one two in
-            omega (arith, less, steps-left w v step)
-      ]
+      | inr keeps ↦
+          lowers-only w end
+          (over-event w event end ⊥ (untimed-calm event untimed.0) h (steps-all v later calm) up (λ hv still.
+          let waits' = waits-later w v side (still side) keeps waits in
+          inl (owing-lowers v side events back untimed.1 after hv waits' (keeps.ack (going-live v side hv).0.goes_on owes) come.1 idle up)))
     ]
 
 -- ---- WHAT IS OLD still is
@@ -294,56 +275,48 @@ old-still p q p' q' k v still old = record {
 }
 
 -- ---- WHO IS STILL SPOKEN TO by what is old to it answers before all is idle
-spoken : (w : WorldState) (side : Side) (k : ℕ) (v : Content) → IsKept w → GoOn w.a w.b → 0 < left_in w → AreRead w → IsOld (party_of w (other side)) (party_of w (other (other side))) k v
-    → KeepsOwed (party_of w side).endpoint (party_of (world_after w (Deliver (other side) k)) side).endpoint × ((party_of (world_after w (Deliver (other side) k)) side).endpoint.owed.ack ≡ true)
+spoken : (w : WorldState) (side : Side) (k : ℕ) (v : Content) → IsGoing w → IsOld (party_of w (other side)) (party_of w (other (other side))) k v
+    → KeepsOwed (party_of w side).endpoint (party_of (world_after w (Deliver (other side) k)) side).endpoint
+    × ((party_of (world_after w (Deliver (other side) k)) side).endpoint.owed.ack ≡ true)
 unfolding effect_of
-spoken w A k v h on some read old =
-    let live = (side-on w A on).live (omega (arith, some, side-left w A)) in
-    let wakes = old-wakes w.b w.a w.life k v (kept-steady w h).least (side-pair w B h) (record { live = live.0; read = read.a }) old in
-    let P : PartyState → Type 0 = λ x. KeepsOwed w.a.endpoint x.endpoint × (x.endpoint.owed.ack ≡ true) in
-    subst (λ (r : Option StepError). P (stay_or r w (world_with_effect w (Deliver B k))).a) (sym wakes.0) (subst P (sym wakes.1) (record { range = range-same w.a.endpoint.sending; syn = λ e. e; ack = λ _ _. refl }, refl))
-spoken w B k v h on some read old =
-    let live = (side-on w A on).live (omega (arith, some, side-left w A)) in
-    let wakes = old-wakes w.a w.b w.life k v (kept-steady w h).least (side-pair w A h) (record { live = live.1; read = read.b }) old in
-    let P : PartyState → Type 0 = λ x. KeepsOwed w.b.endpoint x.endpoint × (x.endpoint.owed.ack ≡ true) in
-    subst (λ (r : Option StepError). P (stay_or r w (world_with_effect w (Deliver A k))).b) (sym wakes.0) (subst P (sym wakes.1) (record { range = range-same w.b.endpoint.sending; syn = λ e. e; ack = λ _ _. refl }, refl))
+spoken w A k v h old =
+    let open_to : IsOpenTo w.a = record { live = (going-live w A h).0; read = h.read.a } in
+    let wakes = old-wakes w.b w.a w.life k v (kept-steady w h.kept).least (side-pair w B h.kept) open_to old in
+    let Said : PartyState → Type 0 = λ x. KeepsOwed w.a.endpoint x.endpoint × (x.endpoint.owed.ack ≡ true) in
+    subst (λ (r : Option StepError). Said (stay_or r w (world_with_effect w (Deliver B k))).a) (sym wakes.0)
+    (subst Said (sym wakes.1) (record { range = range-same w.a.endpoint.sending; syn = λ e. e; ack = λ _ _. refl }, refl))
+spoken w B k v h old =
+    let open_to : IsOpenTo w.b = record { live = (going-live w A h).1; read = h.read.b } in
+    let wakes = old-wakes w.a w.b w.life k v (kept-steady w h.kept).least (side-pair w A h.kept) open_to old in
+    let Said : PartyState → Type 0 = λ x. KeepsOwed w.b.endpoint x.endpoint × (x.endpoint.owed.ack ≡ true) in
+    subst (λ (r : Option StepError). Said (stay_or r w (world_with_effect w (Deliver A k))).b) (sym wakes.0)
+    (subst Said (sym wakes.1) (record { range = range-same w.b.endpoint.sending; syn = λ e. e; ack = λ _ _. refl }, refl))
 
-pub spoken-lowers : (w : WorldState) (side : Side) (k : ℕ) (v : Content) (events back : List EventContent)
-    → AllByRecursion IsUntimed events → AllByRecursion IsCalm back → IsKept w → GoOn w.a w.b → 0 < left_in w → AreRead w → Waits w side
-    → IsOld (party_of w (other side)) (party_of w (other (other side))) k v → Delivers (other side) k events
-    → AllCome w events back → IsIdle (world_after_all w events) side
-    → gave_up (world_after_all w (events ++ back)).a ≡ false → gave_up (world_after_all w (events ++ back)).b ≡ false
-    → left_in (world_after_all w (events ++ back)) < left_in w
+pub spoken-lowers : (w : WorldState) (side : Side) (k : ℕ) (v : Content) (events back : List EventContent) → AllByRecursion IsUntimed events
+    → AllByRecursion IsCalm back → IsGoing w → Waits w side → IsOld (party_of w (other side)) (party_of w (other (other side))) k v
+    → Delivers (other side) k events → AllCome w events back → IsIdle (world_after_all w events) side
+    → NoneGaveUp (world_after_all w (events ++ back)) → left_in (world_after_all w (events ++ back)) < left_in w
 unfolding world_after_all
-spoken-lowers w side k v [] back untimed after h on some read waits old comes come idle one two = absurd comes
-spoken-lowers w side k v (event ∷ events) back untimed after h on some read waits old comes come idle one two =
+spoken-lowers w side k v [] back untimed after h waits old comes come idle up = absurd comes
+spoken-lowers w side k v (event ∷ events) back untimed after h waits old comes come idle up =
     let u = world_after w event in
     let later = events ++ back in
+    let end = world_after_all u later in
     let calm = calm-append events back (all-untimed events untimed.1) after in
-    let step = steps-event w event (untimed-calm event untimed.0) h in
-    let rest = steps-all u later calm step.kept in
-    let on' = on-event w event (untimed-calm event untimed.0) h on (rest.stays_a one) (rest.stays_b two) in
-    elim (cases_lt (left_in u) (left_in w)) [
-      | inl less ↦ omega (arith, less, steps-left u (world_after_all u later) rest)
-      | inr as_much ↦
-          let some' : 0 < left_in u = omega (arith, some, as_much) in
-          let read' = are_read-still w u h step on on' as_much read in
-          let still = side-still w u side step on' as_much in
-          elim comes [
-            | inl now ↦
-                let Said : PartyState → Type 0 = λ x. KeepsOwed (party_of w side).endpoint x.endpoint × (x.endpoint.owed.ack ≡ true) in
-                let said = subst (λ (e : EventContent). Said (party_of (world_after w e) side)) (sym now) (spoken w side k v h on some read old) in
-                let waits' = waits-later w u side still said.0 waits in
-                let less = owing-lowers u side events back untimed.1 after step.kept on' some' read' waits' said.1 come.1 idle one two in
-                omega (arith, less, steps-left w u step)
-            | inr more ↦ elim (goes-on w side event later untimed.0 calm h on some read waits come.0 one two) [
-              | inl less ↦ less
-              | inr keeps ↦
-                  let waits' = waits-later w u side still keeps waits in
-                  let old' = old-still (party_of w (other side)) (party_of w (other (other side))) (party_of u (other side))
-                  (party_of u (other (other side))) k v (side-still w u (other side) step on' as_much) old in
-                  let less = spoken-lowers u side k v events back untimed.1 after step.kept on' some' read' waits' old' more come.1 idle one two in
-                  omega (arith, less, steps-left w u step)
-            ]
-          ]
+    let over = over-event w event end ⊥ (untimed-calm event untimed.0) h (steps-all u later calm) up in
+    elim comes [
+      | inl now ↦
+          let Said : PartyState → Type 0 = λ x. KeepsOwed (party_of w side).endpoint x.endpoint × (x.endpoint.owed.ack ≡ true) in
+          let said = subst (λ (e : EventContent). Said (party_of (world_after w e) side)) (sym now) (spoken w side k v h old) in
+          lowers-only w end (over (λ hu still.
+          inl (owing-lowers u side events back untimed.1 after hu (waits-later w u side (still side) said.0 waits) said.1 come.1 idle up)))
+      | inr more ↦ elim (goes-on w side event later untimed.0 calm h waits come.0 up) [
+        | inl less ↦ less
+        | inr keeps ↦
+            lowers-only w end (over (λ hu still.
+            let waits' = waits-later w u side (still side) keeps waits in
+            let old' = old-still (party_of w (other side)) (party_of w (other (other side))) (party_of u (other side)) (party_of u (other (other side))) k v
+            (still (other side)) old in
+            inl (spoken-lowers u side k v events back untimed.1 after hu waits' old' more come.1 idle up)))
+      ]
     ]

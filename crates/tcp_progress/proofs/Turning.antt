@@ -10,14 +10,14 @@ use Rattle.tcp_replay.specs.Events.{EventContent, Connect, Listen as Listens, Se
 use Rattle.tcp_replay.specs.World.{WorldState, PartyState, both, other, effect_of, party_after_receive, world_after, world_after_all}
 use Rattle.tcp_replay.specs.Safe.{gave_up, unread_of}
 use Rattle.tcp_replay.proofs.Phases.{gives_up-not_ended}
-use Rattle.tcp_progress.specs.Fair.{AreThrough, GetsThrough, HasTurns, IsCalm, IsTurn, IsUntimed, WhoIsServedGetsThrough, all_room, both_served, emissions, reads, served, time_waits}
-use Rattle.tcp_progress.specs.Left.{left_in}
-use Rattle.tcp_progress.specs.Settled.{IsLive, IsSettled}
+use Rattle.tcp_progress.specs.Fair.{GetsThrough, HasTurns, IsCalm, IsTurn, IsUntimed, WhoIsServedGetsThrough, all_room, both_served, emissions, reads, served}
+use Rattle.tcp_progress.specs.Measure.{left_in}
+use Rattle.tcp_progress.specs.Settled.{IsLive, IsThrough}
 use Rattle.tcp_progress.specs.Steady.{IsSteadyPair}
 use Rattle.tcp_progress.proofs.AlwaysSteady.{IsKept, kept-steady}
 use Rattle.tcp_progress.proofs.Calm.{Grows}
 use Rattle.tcp_progress.proofs.CalmWorlds.{Steps, on-all, steps-all, steps-left}
-use Rattle.tcp_progress.proofs.Ended.{HasRead, IsComplete, all-come, complete, complete-back, hands-still, read-end, through}
+use Rattle.tcp_progress.proofs.Ended.{HasRead, IsComplete, all-come, complete, complete-back, hands-still, read-end, through, up-stays}
 use Rattle.tcp_progress.proofs.Measure.{GoOn, IsUp}
 use Rattle.tcp_progress.proofs.Ready.{steady-back}
 use Rattle.tcp_progress.proofs.Still.{still-reading}
@@ -133,17 +133,11 @@ pub record IsDone (w : WorldState) : Type 0 where
   pub none : left_in w ≡ 0
   pub read : HaveRead w
 
-up-stays : (p : PartyState) → IsUp p → gave_up p ≡ false
-up-stays p up = elim up.kept [
-  | inl goes ↦ gives_up-not_ended p.endpoint.ending goes
-  | inr over ↦ rw over refl
-]
-
 -- how much its user was handed and has unread
 pub in-order : (p q : PartyState) → IsSteadyPair p q → IsUp p → length p.delivered + length (unread_of p) ≡ p.endpoint.receiving.ordered
 in-order p q h up =
     let hands = h.pair.there.hands in
-    omega (arith, ap length hands.handed, length-append p.delivered, length-take hands.count q.accepted, hands.whole (up-stays p up), h.pair.there.takes.order)
+    omega (arith, ap length hands.handed, length-append p.delivered, length-take hands.count q.accepted, hands.whole (up-stays p.endpoint.ending up.kept), h.pair.there.takes.order)
 
 -- at x, which has all of y
 read-stays : (x y x' y' : PartyState) → IsSteadyPair x y → IsSteadyPair x' y' → IsComplete x y → IsUp x' → Grows x x' → Grows y y' → HasRead x → HasRead x'
@@ -175,11 +169,12 @@ done-steps w v steps done on =
 pub done-all : (w : WorldState) (events : List EventContent) → AllByRecursion IsCalm events → IsDone w → gave_up (world_after_all w events).a ≡ false → gave_up (world_after_all w events).b ≡ false → IsDone (world_after_all w events)
 done-all w events calm done one two = done-steps w (world_after_all w events) (steps-all w events calm done.kept) done (on-all w events calm done.kept done.on one two)
 
-pub done-through : (w : WorldState) → IsDone w → AreThrough w
+-- through both ways
+pub done-through : (w : WorldState) → IsDone w → IsThrough w.a w.b × IsThrough w.b w.a
 done-through w done =
     let pair = (kept-steady w done.kept).ends in
     let whole = complete w.a w.b done.on done.none in
-    record { there = through w.a w.b pair whole done.read.b; back = through w.b w.a (steady-back w.b w.a pair) (complete-back w.a w.b whole) done.read.a }
+    (through w.a w.b pair whole done.read.b, through w.b w.a (steady-back w.b w.a pair) (complete-back w.a w.b whole) done.read.a)
 
 -- a turn where nothing is left
 turn-done : (w : WorldState) (turn : List EventContent) → IsKept w → GoOn w.a w.b → left_in w ≡ 0 → IsTurn w turn → gave_up (world_after_all w turn).a ≡ false → gave_up (world_after_all w turn).b ≡ false → IsDone (world_after_all w turn)
@@ -248,19 +243,21 @@ module _ (lowers : TurnLowers) where
   turns-done zero w events most h on turns one two = first-turn zero w events h on turns one two (λ u after less h' on' rest one' two'. absurd (omega (arith, most, less)))
   turns-done (suc n) w events most h on turns one two = first-turn (suc n) w events h on turns one two (λ u after less h' on' rest one' two'. turns-done n u after (omega (arith, most, less)) h' on' rest one' two')
 
-  both-live : (w : WorldState) → IsLive w.a → IsLive w.b → GoOn w.a w.b
-  both-live w a b = record { there = record { opened = a.opened; kept = inl a.goes_on }; back = record { opened = b.opened; kept = inl b.goes_on }; live = λ _. (a, b) }
+  live-on : (w : WorldState) → IsLive w.a → IsLive w.b → GoOn w.a w.b
+  live-on w a b = record { there = record { opened = a.opened; kept = inl a.goes_on }; back = record { opened = b.opened; kept = inl b.goes_on }; live = λ _. (a, b) }
 
   pub gets-through : (w : WorldState) → IsKept w → GetsThrough w
   gets-through w h a b events turns stays =
       let v = world_after_all w events in
       let steps = steps-all w events (turns-calm (suc (left_in w)) w events turns) h in
-      let done = turns-done (left_in w) w events (omega arith) h (both-live w a b) turns stays.0 stays.1 in
-      let whole = complete v.a v.b done.on done.none in (
-        done-through v done,
-        steps-streams w v steps,
-        subst IsSettled (sym (after-append w events time_waits)) (waited v done.kept whole done.read.a done.read.b),
-      )
+      let done = turns-done (left_in w) w events (omega arith) h (live-on w a b) turns stays.0 stays.1 in
+      let both = done-through v done in
+      record {
+        there = both.0;
+        back = both.1;
+        streams = steps-streams w v steps;
+        settles = waited v done.kept (complete v.a v.b done.on done.none) done.read.a done.read.b;
+      }
 
   pub served_lem : WhoIsServedGetsThrough
   served_lem = in-every-world GetsThrough gets-through

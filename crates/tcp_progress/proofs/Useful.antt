@@ -1,8 +1,7 @@
 -- WHAT IS SURE TO COME AND BRINGS ON: a segment that is useful stays so until something is brought on, and brings on when it comes.
-use Rattle.std.proofs.Common.{◌≡◌, ℕ, zero, suc, ◌+◌, ◌-◌, ◌<◌, ◌≤◌, List, [], ◌∷◌, ◌++◌, length, inl, inr, refl, sym, ◌∙◌, ap, subst, arith}
-use Rattle.std.specs.Prelude.{Bool, true, false, Some, None, Ok, ◌⊎◌, slice_get}
+use Rattle.std.proofs.Common.{◌≡◌, ℕ, zero, suc, ◌+◌, ◌-◌, ◌<◌, ◌≤◌, List, [], ◌∷◌, ◌++◌, length, inl, inr, sym, ◌∙◌, ap, subst, arith}
+use Rattle.std.specs.Prelude.{true, Some, None, Ok, ◌⊎◌, slice_get}
 use Rattle.std.specs.List.{AllByRecursion}
-use Rattle.std.proofs.lemmas.Bool.{cases_lt}
 use Rattle.tcp_numbers.specs.Position.{number}
 use Rattle.tcp_wire.specs.Decoded.{decode_answer}
 use Rattle.tcp_wire.specs.Wire.{Content}
@@ -12,80 +11,17 @@ use Rattle.tcp_replay.specs.declared.event.Side.{Side}
 use Rattle.tcp_replay.specs.declared.event.Side.TheVariants.{A, B}
 use Rattle.tcp_replay.specs.Events.{EventContent, Deliver}
 use Rattle.tcp_replay.specs.World.{WorldState, PartyState, SentSegment, delivery_refusal, effect_of, max_life, other, party_after_arrival, party_of, segment_at, stay_or, world_after, world_after_all, world_with_effect}
-use Rattle.tcp_replay.specs.Safe.{gave_up, next_position, unread_of}
-use Rattle.tcp_replay.proofs.Lists.{one_if}
-use Rattle.tcp_progress.specs.Fair.{Delivers, IsCalm}
-use Rattle.tcp_progress.specs.Left.{all_of, left_in, left_of_both}
+use Rattle.tcp_replay.specs.Safe.{next_position}
+use Rattle.tcp_progress.specs.Fair.{Delivers, IsCalm, NoneGaveUp}
+use Rattle.tcp_progress.specs.Measure.{left_in, left_of_both}
 use Rattle.tcp_progress.specs.Settled.{least_life}
 use Rattle.tcp_progress.specs.Steady.{IsSteadyPair}
-use Rattle.tcp_progress.proofs.AlwaysSteady.{IsKept, kept-steady}
-use Rattle.tcp_progress.proofs.Calm.{Grows}
-use Rattle.tcp_progress.proofs.CalmWorlds.{Steps, on-event, steps-all, steps-event, steps-left}
+use Rattle.tcp_progress.proofs.AlwaysSteady.{kept-steady}
+use Rattle.tcp_progress.proofs.CalmWorlds.{steps-all, steps-event, steps-left}
 use Rattle.tcp_progress.proofs.Delivered.{IsOpenTo, delivered-at}
 use Rattle.tcp_progress.proofs.DeliveredNext.{delivered-next}
 use Rattle.tcp_progress.proofs.Emitted.{IsFresh}
-use Rattle.tcp_progress.proofs.Measure.{GoOn, IsUp}
-use Rattle.tcp_progress.proofs.Ready.{steady-back}
-use Rattle.tcp_progress.proofs.Turning.{empty-length, in-order}
-
--- ---- NOTHING IS BROUGHT ON: then both are where they were
-pub record AreThere (n u m v n' u' m' v' : ℕ) : Type 0 where
-  pub n_is : n' ≡ n
-  pub u_is : u' ≡ u
-  pub m_is : m' ≡ m
-  pub v_is : v' ≡ v
-
-there-still : (a b n u m v n' u' m' v' : ℕ) → n ≤ n' → u ≤ u' → m ≤ m' → v ≤ v' → n' ≤ a → u' ≤ a → m' ≤ b → v' ≤ b
-    → ((a - n) + (a - u)) + ((b - m) + (b - v)) ≤ ((a - n') + (a - u')) + ((b - m') + (b - v')) → AreThere n u m v n' u' m' v'
-there-still a b n u m v n' u' m' v' one two three four five six seven eight some = record {
-  n_is = omega (arith, one, two, three, four, five, six, seven, eight, some);
-  u_is = omega (arith, one, two, three, four, five, six, seven, eight, some);
-  m_is = omega (arith, one, two, three, four, five, six, seven, eight, some);
-  v_is = omega (arith, one, two, three, four, five, six, seven, eight, some);
-}
-
--- two parties that are where they were
-pub record AreStill (x y x' y' : PartyState) : Type 0 where
-  pub there : Grows x x'
-  pub back : Grows y y'
-  pub next_of_y : next_position y' ≡ next_position y
-  pub una_of_x : x'.endpoint.sending.una ≡ x.endpoint.sending.una
-  pub next_of_x : next_position x' ≡ next_position x
-  pub una_of_y : y'.endpoint.sending.una ≡ y.endpoint.sending.una
-
--- how far an end may be
-una-most : (x y : PartyState) → IsSteadyPair x y → x.endpoint.sending.una ≤ all_of x
-una-most x y h = omega (arith, h.pair.there.alone.sends.order, h.pair.there.alone.sends.most)
-
-next-most : (x y : PartyState) → IsSteadyPair x y → y.endpoint.receiving.opened ≡ true → next_position y ≤ all_of x
-next-most x y h opened = omega (arith, h.there.sent.taken opened, h.pair.there.alone.sends.most)
-
-pub are-still : (x y x' y' : PartyState) → IsSteadyPair x' y' → GoOn x' y' → Grows x x' → Grows y y' → left_of_both x y ≤ left_of_both x' y' → AreStill x y x' y'
-are-still x y x' y' h on gx gy some =
-    let alls : all_of x' ≡ all_of x = omega (arith, ap length gx.accepted, ap one_if gx.closed) in
-    let alls' : all_of y' ≡ all_of y = omega (arith, ap length gy.accepted, ap one_if gy.closed) in
-    let is = there-still (all_of x) (all_of y) (next_position y) x.endpoint.sending.una (next_position x) y.endpoint.sending.una (next_position y') x'.endpoint.sending.una (next_position x') y'.endpoint.sending.una
-    gy.next gx.una gx.next gy.una
-    (omega (arith, next-most x' y' h on.back.opened, alls)) (omega (arith, una-most x' y' h, alls))
-    (omega (arith, next-most y' x' (steady-back y' x' h) on.there.opened, alls')) (omega (arith, una-most y' x' (steady-back y' x' h), alls'))
-    (omega (arith, some, alls, alls')) in
-    record { there = gx; back = gy; next_of_y = is.n_is; una_of_x = is.u_is; next_of_x = is.m_is; una_of_y = is.v_is }
-
-still-back : (x y x' y' : PartyState) → AreStill x y x' y' → AreStill y x y' x'
-still-back x y x' y' h = record { there = h.back; back = h.there; next_of_y = h.next_of_x; una_of_x = h.una_of_y; next_of_x = h.next_of_y; una_of_y = h.una_of_x }
-
--- a user who has read all has still read all
-not-more : (n n' all : ℕ) (fin fin' : Bool) → n' ≤ all → (fin ≡ true → n ≡ all) → 1 + n' + one_if fin' ≡ 1 + n + one_if fin → n' ≤ n
-not-more n n' all true fin' most last same = omega (arith, most, last refl)
-not-more n n' all false fin' most last same = omega (arith, same)
-
-pub read-still : (x y x' y' : PartyState) → IsSteadyPair x y → IsSteadyPair x' y' → IsUp x → IsUp x' → AreStill x y x' y' → unread_of x ≡ [] → unread_of x' ≡ []
-read-still x y x' y' h h' up up' still none =
-    let r = x.endpoint.receiving in
-    let r' = x'.endpoint.receiving in
-    let most : r'.ordered ≤ length y.accepted = omega (arith, h'.pair.there.takes.order, ap length still.back.accepted) in
-    let ordered = not-more r.ordered r'.ordered (length y.accepted) r.finished r'.finished most (λ e. (h.pair.there.takes.fin e).1) still.next_of_x in
-    empty-length (unread_of x') (omega (arith, in-order x y h up, in-order x' y' h' up', ap length none, still.there.handed, ordered))
+use Rattle.tcp_progress.proofs.Going.{AreStill, IsGoing, going-live, lowers-only, over-event, side-left, side-pair, side-read}
 
 -- ---- WHAT WAS FRESH STILL IS
 pub sent-still : (xs ys : List SentSegment) (k : ℕ) (g : SentSegment) → slice_get xs k ≡ Some g → slice_get (xs ++ ys) k ≡ Some g
@@ -156,78 +92,39 @@ useful-delivered p q life k least most h opened ready u =
           (taken.0, omega (arith, stands.1, taken.1.una, taken.1.next, h.back.sent.taken opened, h.pair.back.alone.sends.most))
     ]
 
--- ---- THE WORLD FROM ONE SIDE
-pub side-pair : (w : WorldState) (side : Side) → IsKept w → IsSteadyPair (party_of w side) (party_of w (other side))
-side-pair w A h = (kept-steady w h).ends
-side-pair w B h = steady-back w.b w.a (kept-steady w h).ends
-
-pub side-on : (w : WorldState) (side : Side) → GoOn w.a w.b → GoOn (party_of w side) (party_of w (other side))
-side-on w A h = h
-side-on w B h = record { there = h.back; back = h.there; live = λ some. let both = h.live (omega (arith, some)) in (both.1, both.0) }
-
-pub side-left : (w : WorldState) (side : Side) → left_of_both (party_of w side) (party_of w (other side)) ≡ left_in w
-side-left w A = refl
-side-left w B = omega arith
-
-pub side-still : (w v : WorldState) (side : Side) → Steps w v → GoOn v.a v.b → left_in w ≤ left_in v → AreStill (party_of w side) (party_of w (other side)) (party_of v side) (party_of v (other side))
-side-still w v A steps on some = are-still w.a w.b v.a v.b (kept-steady v steps.kept).ends on steps.there steps.back some
-side-still w v B steps on some = still-back w.a w.b v.a v.b (are-still w.a w.b v.a v.b (kept-steady v steps.kept).ends on steps.there steps.back some)
-
--- both users have read all
-pub record AreRead (w : WorldState) : Type 0 where
-  pub a : unread_of w.a ≡ []
-  pub b : unread_of w.b ≡ []
-
-pub are_read-still : (w v : WorldState) → IsKept w → Steps w v → GoOn w.a w.b → GoOn v.a v.b → left_in w ≤ left_in v → AreRead w → AreRead v
-are_read-still w v h steps on on' some read =
-    let still = side-still w v A steps on' some in
-    let pair = (kept-steady w h).ends in
-    let pair' = (kept-steady v steps.kept).ends in
-    record {
-      a = read-still w.a w.b v.a v.b pair pair' on.there on'.there still read.a;
-      b = read-still w.b w.a v.b v.a (steady-back w.b w.a pair) (steady-back v.b v.a pair') on.back on'.back (still-back w.a w.b v.a v.b still) read.b;
-    }
-
-pub side-read : (w : WorldState) (side : Side) → AreRead w → unread_of (party_of w side) ≡ []
-side-read w A h = h.a
-side-read w B h = h.b
-
--- a delivery
+-- ---- A DELIVERY of what is useful leaves less
 pub deliver-left : (w : WorldState) (side : Side) (k : ℕ) → delivery_refusal w.life (party_of w side) (party_of w (other side)) k ≡ None
     → left_in (world_after w (Deliver side k)) ≡ left_of_both (party_of w side) (party_after_arrival (party_of w (other side)) (party_of w side) (segment_at (party_of w side) k))
 unfolding effect_of
 deliver-left w A k e = ap (λ r. left_in (stay_or r w (world_with_effect w (Deliver A k)))) e
 deliver-left w B k e = ap (λ r. left_in (stay_or r w (world_with_effect w (Deliver B k)))) e ∙ omega arith
 
-useful-now : (w : WorldState) (side : Side) (k : ℕ) → IsKept w → GoOn w.a w.b → 0 < left_in w → AreRead w → IsUseful (party_of w side) (party_of w (other side)) k → left_in (world_after w (Deliver side k)) < left_in w
-useful-now w side k h on some read u =
-    let live = (side-on w side on).live (omega (arith, some, side-left w side)) in
-    let comes = useful-delivered (party_of w side) (party_of w (other side)) w.life k (kept-steady w h).least (kept-steady w h).most (side-pair w side h) live.0.opened
-    (record { live = live.1; read = side-read w (other side) read }) u in
+useful-now : (w : WorldState) (side : Side) (k : ℕ) → IsGoing w → IsUseful (party_of w side) (party_of w (other side)) k
+    → left_in (world_after w (Deliver side k)) < left_in w
+useful-now w side k h u =
+    let live = going-live w side h in
+    let steady = kept-steady w h.kept in
+    let comes = useful-delivered (party_of w side) (party_of w (other side)) w.life k steady.least steady.most (side-pair w side h.kept) live.0.opened
+    (record { live = live.1; read = side-read w (other side) h.read }) u in
     omega (arith, deliver-left w side k comes.0, comes.1, side-left w side)
 
 -- ---- WHAT IS USEFUL AND COMES BRINGS ON, whatever comes before it
-pub useful-comes : (w : WorldState) (side : Side) (k : ℕ) (events : List EventContent) → AllByRecursion IsCalm events → IsKept w → GoOn w.a w.b → 0 < left_in w → AreRead w
-    → IsUseful (party_of w side) (party_of w (other side)) k → Delivers side k events → gave_up (world_after_all w events).a ≡ false → gave_up (world_after_all w events).b ≡ false
+pub useful-comes : (w : WorldState) (side : Side) (k : ℕ) (events : List EventContent) → AllByRecursion IsCalm events → IsGoing w
+    → IsUseful (party_of w side) (party_of w (other side)) k → Delivers side k events → NoneGaveUp (world_after_all w events)
     → left_in (world_after_all w events) < left_in w
 unfolding world_after_all
-useful-comes w side k [] calm h on some read u comes one two = absurd comes
-useful-comes w side k (event ∷ events) calm h on some read u comes one two =
+useful-comes w side k [] calm h u comes up = absurd comes
+useful-comes w side k (event ∷ events) calm h u comes up =
     let v = world_after w event in
-    let step = steps-event w event calm.0 h in
-    let rest = steps-all v events calm.1 step.kept in
-    let on' = on-event w event calm.0 h on (rest.stays_a one) (rest.stays_b two) in
-    elim (cases_lt (left_in v) (left_in w)) [
-      | inl less ↦ omega (arith, less, steps-left v (world_after_all v events) rest)
-      | inr as_much ↦ elim comes [
-        | inl now ↦
-            let less : left_in v < left_in w = subst (λ (e : EventContent). left_in (world_after w e) < left_in w) (sym now) (useful-now w side k h on some read u) in
-            absurd (omega (arith, less, as_much))
-        | inr later ↦
-            let still = side-still w v side step on' as_much in
-            let live = (side-on w side on).live (omega (arith, some, side-left w side)) in
-            let u' = useful-still (party_of w side) (party_of w (other side)) (party_of v side) (party_of v (other side)) k (side-pair w side h) (side-pair v side step.kept) live.0.opened still u in
-            let less = useful-comes v side k events calm.1 step.kept on' (omega (arith, some, as_much)) (are_read-still w v h step on on' as_much read) u' later one two in
-            omega (arith, less, steps-left w v step)
-      ]
+    let end = world_after_all v events in
+    elim comes [
+      | inl now ↦
+          let less : left_in v < left_in w = subst (λ (e : EventContent). left_in (world_after w e) < left_in w) (sym now) (useful-now w side k h u) in
+          omega (arith, less, steps-left v end (steps-all v events calm.1 (steps-event w event calm.0 h.kept).kept))
+      | inr later ↦
+          lowers-only w end
+          (over-event w event end ⊥ calm.0 h (steps-all v events calm.1) up (λ hv still.
+          let u' = useful-still (party_of w side) (party_of w (other side)) (party_of v side) (party_of v (other side)) k (side-pair w side h.kept)
+          (side-pair v side hv.kept) (going-live w side h).0.opened (still side) u in
+          inl (useful-comes v side k events calm.1 hv u' later up)))
     ]

@@ -2,19 +2,18 @@
 -- network does in the turn and between turns.
 use Rattle.std.specs.Prelude.{◌≡◌, ℕ, zero, suc, ◌^◌, ◌<◌, ◌≤◌, Bool, true, false, List, [], ◌∷◌, ◌++◌, length, None, IfSome, ◌⊎◌}
 use Rattle.std.specs.List.{AllByRecursion}
-use Rattle.tcp_halves.specs.declared.config.Config.{Config}
 use Rattle.tcp_halves.specs.declared.due.Due.{Due}
 use Rattle.tcp_halves.specs.declared.due.Due.TheVariants as dues
 use Rattle.tcp_halves.specs.declared.phase.Timer.TheVariants as timers
-use Rattle.tcp_conn.specs.Config.{IsConfig}
 use Rattle.tcp_conn.specs.Due.{due_of}
 use Rattle.tcp_replay.specs.declared.event.Side.{Side}
 use Rattle.tcp_replay.specs.declared.event.Side.TheVariants.{A, B}
-use Rattle.tcp_replay.specs.Events.{EventContent, HasBytes, Receive, Acknowledge, Timer, Emit, Deliver, Damage}
-use Rattle.tcp_replay.specs.World.{WorldState, max_life, new_world_with, party_of, other, run_of, world_after, world_after_all}
+use Rattle.tcp_replay.specs.Events.{EventContent, Receive, Acknowledge, Timer, Emit, Deliver, Damage}
+use Rattle.tcp_replay.specs.World.{WorldState, party_of, other, world_after, world_after_all}
 use Rattle.tcp_replay.specs.Safe.{gave_up}
-use Rattle.tcp_progress.specs.Left.{left_in}
-use Rattle.tcp_progress.specs.Settled.{IsLive, IsThrough, IsSettled, HasStreamsOf, least_life}
+use Rattle.tcp_progress.specs.Measure.{left_in}
+use Rattle.tcp_progress.specs.Everywhere.{InEveryWorld}
+use Rattle.tcp_progress.specs.Settled.{IsLive, IsThrough, IsSettled, HasStreamsOf}
 
 -- CALM: what clock, network and users do who only read: nothing is sent, closed or aborted, and TIME-WAIT doesn't run out (RFC 9293,
 -- 3.10.8). The network delivers what it likes, as often, as late and in what order it likes, and damages it; any other timer runs out
@@ -107,22 +106,26 @@ HasTurns (suc n) w events =
     (before : List EventContent) × (turn : List EventContent) × (after : List EventContent) × (events ≡ before ++ (turn ++ after))
     × AllByRecursion IsCalm before × IsTurn (world_after_all w before) turn × HasTurns n (world_after_all (world_after_all w before) turn) after
 
--- ---- GETS THROUGH: with one turn more than what is left, unless an end is reset, each user has been handed all that the other's end
--- accepted, and all of it is acknowledged; and once TIME-WAIT runs out at both ends, they have ended in order where both users closed
-pub record AreThrough (w : WorldState) : Type 0 where
-  pub there : IsThrough w.a w.b
-  pub back : IsThrough w.b w.a
-
+-- ---- GETS THROUGH: TIME-WAIT runs out at both ends, in the end (RFC 9293, 3.10.8)
 abbrev pub time_waits : List EventContent
 time_waits = Timer A timers.TimeWait ∷ Timer B timers.TimeWait ∷ []
+
+-- GOT THROUGH, from w to v: each user was handed all that the other's end had accepted, and all of it is acknowledged; nothing more was
+-- accepted; and once TIME-WAIT has run out at both ends the world is settled: where both users closed, both ends have ended in order
+pub record GotThrough (w v : WorldState) : Type 0 where
+  pub there : IsThrough v.a v.b
+  pub back : IsThrough v.b v.a
+  pub streams : HasStreamsOf w v
+  pub settles : IsSettled (world_after_all v time_waits)
 
 abbrev pub NoneGaveUp : WorldState → Type 0
 NoneGaveUp w = (gave_up w.a ≡ false) × (gave_up w.b ≡ false)
 
+-- with one turn more than what is left, unless an end is reset
 abbrev pub GetsThrough : WorldState → Type 0
 GetsThrough w =
     IsLive w.a → IsLive w.b → (events : List EventContent) → HasTurns (suc (left_in w)) w events → NoneGaveUp (world_after_all w events)
-    → AreThrough (world_after_all w events) × HasStreamsOf w (world_after_all w events) × IsSettled (world_after_all w (events ++ time_waits))
+    → GotThrough w (world_after_all w events)
 
 -- TURNS CAN BE HAD, as many as one likes, in which no end gives up
 pub record CanHaveTurns (n : ℕ) (w : WorldState) : Type 0 where
@@ -140,13 +143,7 @@ NeverGrows w =
     (events : List EventContent) → AllByRecursion IsCalm events
     → (left_in (world_after_all w events) ≤ left_in w) × HasStreamsOf w (world_after_all w events)
 
--- ---- IN EVERY WORLD that any list of events leads to, from any two Configs, whether a run stops at a refusal or goes on
-abbrev pub InEveryWorld : (WorldState → Type 0) → Type 0
-InEveryWorld Holds =
-    (life : ℕ) (a b : Config) (list : List EventContent) → least_life ≤ life → life ≤ max_life → IsConfig a → IsConfig b
-    → AllByRecursion HasBytes list
-    → Holds (run_of (new_world_with life a b) list) × Holds (world_after_all (new_world_with life a b) list)
-
+-- ---- THE LAWS, in every world that any list of events leads to
 abbrev pub WhoIsServedGetsThrough : Type 0
 WhoIsServedGetsThrough = InEveryWorld GetsThrough
 

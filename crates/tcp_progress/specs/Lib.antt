@@ -6,5 +6,6 @@ pub mod Stage
 pub mod Edge
 pub mod Settled
 pub mod Steady
-pub mod Left
+pub mod Everywhere
+pub mod Measure
 pub mod Fair
