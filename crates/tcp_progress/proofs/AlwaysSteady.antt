@@ -21,13 +21,13 @@ use Rattle.tcp_progress.proofs.TableWorlds.{KeepBothStages, stage-effect, stages
 use Rattle.tcp_progress.proofs.Ways.{IsInvariant}
 
 -- two parties
-record KeepAll (x y : PartyState) : Type 0 where
-  sent : KeepBothSent x y
-  told : KeepBothTold x y
-  edges : KeepBothEdges x y
-  stages : KeepBothStages x y
+pub record KeepAll (x y : PartyState) : Type 0 where
+  pub sent : KeepBothSent x y
+  pub told : KeepBothTold x y
+  pub edges : KeepBothEdges x y
+  pub stages : KeepBothStages x y
 
-all-swapped : (p q : PartyState) → KeepAll p q → KeepAll q p
+pub all-swapped : (p q : PartyState) → KeepAll p q → KeepAll q p
 all-swapped p q h = record { sent = sent-swapped p q h.sent; told = told-swapped p q h.told; edges = edges-swapped p q h.edges; stages = stages-swapped p q h.stages }
 
 all-effect : (life : ℕ) (p q : PartyState) (event : EventContent) → life ≤ max_life → HasBytes event → (effect_of life p q event).refusal ≡ None → IsSoundPair p q → KeepAll p q
@@ -49,11 +49,11 @@ all-from w B event most fits e ends h = all-swapped _ _ (all-effect w.life w.b w
 
 -- a world
 pub record IsKept (w : WorldState) : Type 0 where
-  sound : IsSound w
-  all : KeepAll w.a w.b
-  least : least_life ≤ w.life
+  pub sound : IsSound w
+  pub all : KeepAll w.a w.b
+  pub least : least_life ≤ w.life
 
-kept-after : (w : WorldState) (event : EventContent) → HasBytes event → refusal_of w event ≡ None → IsKept w → IsKept (world_with_effect w event)
+pub kept-after : (w : WorldState) (event : EventContent) → HasBytes event → refusal_of w event ≡ None → IsKept w → IsKept (world_with_effect w event)
 kept-after w event fits e h = record { sound = sound-after w event fits e h.sound; all = all-from w (side_of event) event h.sound.life fits e h.sound.ends h.all; least = omega (arith, life-after w event, h.least) }
 
 steady-end : (x y : PartyState) → IsSoundPair x y → KeepAll x y → IsSteadyEnd x y
@@ -69,7 +69,7 @@ steady-end x y pair h = record {
   sent = takes-only_sent x y h.sent;
 }
 
-kept-steady : (w : WorldState) → IsKept w → IsSteady w
+pub kept-steady : (w : WorldState) → IsKept w → IsSteady w
 kept-steady w h = record {
   ends = record { pair = h.sound.ends; there = steady-end w.a w.b h.sound.ends h.all; back = steady-end w.b w.a (pair-swapped _ _ h.sound.ends) (all-swapped _ _ h.all) };
   least = h.least;

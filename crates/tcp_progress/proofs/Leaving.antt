@@ -15,22 +15,10 @@ use Rattle.tcp_replay.proofs.Lists.{one_if, one_if-most}
 use Rattle.tcp_progress.specs.Settled.{HasEndedInOrder}
 use Rattle.tcp_progress.specs.Stage.{Says, SaysByPhase}
 use Rattle.tcp_progress.specs.Steady.{IsSteadyPair}
-use Rattle.tcp_progress.proofs.Measure.{GoOn, left_of_both}
+use Rattle.tcp_progress.specs.Measure.{left_of_both}
+use Rattle.tcp_progress.proofs.CalmWorlds.{says-over}
+use Rattle.tcp_progress.proofs.Measure.{GoOn}
 use Rattle.tcp_progress.proofs.Table.{own_fin-acked}
-
--- who has ended in order has both FINs, its own acknowledged
-says-over : (s : State) (phase : Phase) → s.ending ≡ Orderly → FitsPhase phase s.ending s.sending.una s.sending.nxt s.receiving.opened s.receiving.finished → SaysByPhase phase s → Says true true true s
-says-over s Closed over fits says = says over
-says-over s Listen over fits says = absurd (cc (fits.0))
-says-over s SynSent over fits says = absurd (cc (fits.0))
-says-over s SynReceived over fits says = absurd (cc (fits.0))
-says-over s Established over fits says = absurd (cc (fits.0))
-says-over s FinWait1 over fits says = absurd (cc (fits.0))
-says-over s FinWait2 over fits says = absurd (cc (fits.0))
-says-over s CloseWait over fits says = absurd (cc (fits.0))
-says-over s Closing over fits says = absurd (cc (fits.0))
-says-over s LastAck over fits says = absurd (cc (fits.0))
-says-over s TimeWait over fits says = absurd (cc (fits.0))
 
 -- who hasn't given up goes on, or has ended in order
 kept-ending : (ending : Ending) → gives_up ending ≡ false → (ending ≡ NotEnded) ⊎ (ending ≡ Orderly)

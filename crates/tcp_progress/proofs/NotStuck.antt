@@ -15,6 +15,7 @@ use Rattle.tcp_progress.proofs.Handshake.{AreOpened, handshake}
 use Rattle.tcp_progress.proofs.Leaving.{ended-on}
 use Rattle.tcp_progress.proofs.Streams.{quiet-streams}
 use Rattle.tcp_progress.proofs.AlwaysSteady.{IsKept, kept-stays, kept-by_runs}
+use Rattle.tcp_progress.proofs.Everywhere.{in-every-world}
 
 -- with the streams that there were
 of-streams : (w : WorldState) → CanReach IsSettled w → CanSettle w
@@ -58,6 +59,4 @@ not_stuck_lem life a b list least most one two fits =
     (not-stuck _ kept.stops, not-stuck _ kept.goes_on)
 
 pub handshake_lem : HandshakesCanBeFinished
-handshake_lem life a b list least most one two fits =
-    let kept = kept-by_runs life a b list least most one two fits in
-    (can-open _ kept.stops, can-open _ kept.goes_on)
+handshake_lem = in-every-world CanOpen can-open

@@ -159,7 +159,7 @@ sent-emitted p q pair h =
     }) h
 
 -- a segment that the peer emitted arrives
-delivered-reaches : (p q : PartyState) (life k : ℕ) → life ≤ max_life → delivery_refusal life q p k ≡ None → IsSoundPair p q → KeepBothSent p q
+pub delivered-reaches : (p q : PartyState) (life k : ℕ) → life ≤ max_life → delivery_refusal life q p k ≡ None → IsSoundPair p q → KeepBothSent p q
     → Reaches p q (after_arrival p.endpoint q.endpoint.config.addr.0 p.endpoint.config.addr.0 (segment_at q k))
 delivered-reaches p q life k most e pair h =
     let src = q.endpoint.config.addr.0 in

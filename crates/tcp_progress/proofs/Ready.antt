@@ -112,7 +112,7 @@ pub by-flushing : {K P : WorldState → Type 0} → IsInvariant K → (life : �
 by-flushing i life side p q h next = flushing i life side p q (p.endpoint.owed.reset) refl h next
 
 -- it MAY SEND
-sends-no_handshake : (phase : Phase) → sends_text phase ≡ true → is_handshake phase ≡ false
+pub sends-no_handshake : (phase : Phase) → sends_text phase ≡ true → is_handshake phase ≡ false
 sends-no_handshake SynSent e = absurd (cc)
 sends-no_handshake SynReceived e = absurd (cc)
 sends-no_handshake other e = refl

@@ -32,7 +32,7 @@ use Rattle.tcp_progress.proofs.Table.{Table, Between, table-unanswered, table-ac
 use Rattle.tcp_progress.proofs.TableCalls.{MayBe, may_be-given_up}
 
 -- ---- SND.UNA doesn't go back
-own_syn-more : (s : State) (v : Content) → s.sending.una ≤ s.sending.nxt → s.sending.una ≤ (after_own_syn s v).sending.una
+pub own_syn-more : (s : State) (v : Content) → s.sending.una ≤ s.sending.nxt → s.sending.una ≤ (after_own_syn s v).sending.una
 unfolding after_own_syn
 own_syn-more s v order =
     let d = s.sending in
@@ -52,7 +52,7 @@ ack-to d a least most =
     (λ e. ⊎_elim (λ (no : nat_lt d.una a ≡ false). omega (arith, least, ltb-false d.una a no)) (λ (no : nat_le a d.nxt ≡ false). absurd (omega (arith, most, leb-false a d.nxt no)))
     (and_cases (nat_lt d.una a) (nat_le a d.nxt) e))
 
-acked_text-more : (s : State) (v : Content) → s.sending.una ≤ (after_acked_text s v).sending.una
+pub acked_text-more : (s : State) (v : Content) → s.sending.una ≤ (after_acked_text s v).sending.una
 unfolding after_acked_text
 acked_text-more s v = ack-more s.sending (position_near s v.ack)
 
@@ -60,7 +60,7 @@ acked_text-to : (s : State) (v : Content) (a : ℕ) → position_near s v.ack �
 unfolding after_acked_text
 acked_text-to s v a is least most = ack-to s.sending (position_near s v.ack) (omega (arith, is, least)) (omega (arith, is, most)) ∙ is
 
-its_ack-una : (s : State) (v : Content) → (after_its_ack s v).sending.una ≡ (after_acked_text (after_own_syn s v) v).sending.una
+pub its_ack-una : (s : State) (v : Content) → (after_its_ack s v).sending.una ≡ (after_acked_text (after_own_syn s v) v).sending.una
 unfolding after_its_ack
 its_ack-una s v =
     let two = after_acked_text (after_own_syn s v) v in

@@ -1,12 +1,11 @@
 -- A HANDSHAKE CAN BE FINISHED (RFC 9293, 3.5): whatever was lost, delayed, repeated, reordered or damaged before both ends were open.
 use Rattle.std.specs.Prelude.{ℕ, ◌≤◌, ◌⊎◌, List, length}
 use Rattle.std.specs.List.{AllByRecursion}
-use Rattle.tcp_halves.specs.declared.config.Config.{Config}
 use Rattle.tcp_halves.specs.declared.phase.Timer.TheVariants.{Retransmit}
-use Rattle.tcp_conn.specs.Config.{IsConfig}
-use Rattle.tcp_replay.specs.Events.{EventContent, HasBytes, Timer, Emit, Deliver}
-use Rattle.tcp_replay.specs.World.{WorldState, max_life, new_world_with, run_of, world_after_all}
-use Rattle.tcp_progress.specs.Settled.{AreOpening, CanReach, HasStreamsOf, IsLive, least_life}
+use Rattle.tcp_replay.specs.Events.{EventContent, Timer, Emit, Deliver}
+use Rattle.tcp_replay.specs.World.{WorldState}
+use Rattle.tcp_progress.specs.Settled.{AreOpening, CanReach, HasStreamsOf, IsLive}
+use Rattle.tcp_progress.specs.Everywhere.{InEveryWorld}
 
 -- OPEN: each end has the other's SYN, and neither has ended
 pub record AreOpen (w : WorldState) : Type 0 where
@@ -31,9 +30,5 @@ pub record CanReachUnaided (count : ℕ) (P : WorldState → Type 0) (w : WorldS
 abbrev pub CanOpen : WorldState → Type 0
 CanOpen w = AreOpening w.a w.b ⊎ AreOpening w.b w.a → CanReachUnaided 8 (λ v. AreOpen v × HasStreamsOf w v) w
 
--- over every list of events, whatever two Configs the ends were made from, however long segments live from that on, and whether a
--- run stops at a refusal or goes on
 abbrev pub HandshakesCanBeFinished : Type 0
-HandshakesCanBeFinished =
-    (life : ℕ) (a b : Config) (list : List EventContent) → least_life ≤ life → life ≤ max_life → IsConfig a → IsConfig b → AllByRecursion HasBytes list
-    → CanOpen (run_of (new_world_with life a b) list) × CanOpen (world_after_all (new_world_with life a b) list)
+HandshakesCanBeFinished = InEveryWorld CanOpen

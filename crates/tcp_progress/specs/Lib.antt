@@ -7,3 +7,6 @@ pub mod Edge
 pub mod Settled
 pub mod Handshake
 pub mod Steady
+pub mod Everywhere
+pub mod Measure
+pub mod Fair
