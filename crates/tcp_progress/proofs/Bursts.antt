@@ -25,7 +25,8 @@ same-emission s e = rw e refl
 
 abbrev pub IsBurstingTo : WorldState → Side → Type 0
 IsBurstingTo w side =
-    ((party_of w side).endpoint.sending.nxt ≡ next_position (party_of w (other side))) × ((party_of w (other side)).endpoint.sending.una < next_position (party_of w side)) × IsBursting (party_of w side).endpoint
+    ((party_of w side).endpoint.sending.nxt ≡ next_position (party_of w (other side)))
+    × ((party_of w (other side)).endpoint.sending.una < next_position (party_of w side)) × IsBursting (party_of w side).endpoint
 
 waits-idle : (w : WorldState) (side : Side) → IsBurstingTo w side → due_of (party_of w side).endpoint ≡ None → Waits w side
 waits-idle w side ready idle =
@@ -48,7 +49,8 @@ burst-waits (suc n) w side later calm h ready idle come up =
     let events = emissions side n ++ later in
     let end = world_after_all v events in
     let calm' = calm-append (emissions side n) later (calm-emissions side n) calm in
-    let goes-on : IsBursting (after_emission s) → (after_emission s).sending.nxt ≡ s.sending.nxt → Lowers w end (Waits (world_after_all v (emissions side n)) side) = λ next same.
+    let goes-on : IsBursting (after_emission s) → (after_emission s).sending.nxt ≡ s.sending.nxt → Lowers w end
+    (Waits (world_after_all v (emissions side n)) side) = λ next same.
     over-event w (Emit side) end (Waits (world_after_all v (emissions side n)) side) tt h (steps-all v events calm') up (λ hv still.
     let is = still side in
     let at = ap (λ (t : State). t.sending.nxt) (emit-endpoint w side) ∙ same ∙ ready.0 ∙ sym is.next_of_y in
