@@ -84,8 +84,13 @@ stands-or-none s reset syn done =
     elim (cases_Bool (sends_text s.phase)) [
       | inr quiet ↦ quiet-or-none s reset syn quiet
       | inl sends ↦
-          let rested : IsRested s = record { phase = sends-synchronized s.phase sends; reset = reset; syn = syn; none = λ _. done-none s.sending
-          (text_limit s) s.sending.resend done } in
+          let rested : IsRested s = record {
+            phase = sends-synchronized s.phase sends;
+            reset = reset;
+            syn = syn;
+            none = λ _. done-none s.sending
+                (text_limit s) s.sending.resend done;
+          } in
           elim (cases_Bool (new_count s.sending (text_limit s) s.owed.probe == 0)) [
             | inr some ↦ inr (text-stands s rested sends some)
             | inl no_text ↦
@@ -130,7 +135,7 @@ pub range-done : (d e : Sending) → KeepsRange d e → RangeDone d → RangeDon
 range-done d e keeps h =
     elim keeps.resend [
       | inl same ↦ subst (λ (o : Option (Range ℕ)). IfSome o (λ range. range.end ≤ max range.start e.una)) (sym same)
-      (some-done d.resend d.una e.una keeps.una h)
+          (some-done d.resend d.una e.una keeps.una h)
       | inr none ↦ subst (λ (o : Option (Range ℕ)). IfSome o (λ range. range.end ≤ max range.start e.una)) (sym none) tt
     ]
 
@@ -247,7 +252,7 @@ owed-judgement s src dst v accepted closed alone opened =
       ack_of_listen = record { range = range-same d; syn = λ e. e; ack = λ _ e. e };
       no_syn = owed-same s;
       peer_opens = λ listening is. let at = at-listen s.phase s.ending d.una d.nxt r.opened r.finished listening alone.progress in absurd
-      (false≢true (sym at.1.not_opened ∙ opened));
+          (false≢true (sym at.1.not_opened ∙ opened));
       ack_of_no_syn = record { range = range-same d; syn = λ e. e; ack = λ _ e. e };
       peer_refuses = record { range = record { resend = inr refl; una = omega arith; nxt = refl }; syn = λ _. refl; ack = λ over. absurd (cc) };
       peer_accepts = λ sent is. record { range = record { resend = inl refl; una = order; nxt = refl }; syn = λ _. refl; ack = λ _ _. refl };

@@ -1,5 +1,5 @@
 -- WHO ASKS: one side that doesn't know that the other has all is served; what it sends again is old to the other, and comes.
-use Rattle.std.proofs.Common.{◌≡◌, ℕ, zero, suc, ◌<◌, List, ◌++◌, inl, inr, refl, sym, ◌∙◌, ap, subst, arith}
+use Rattle.std.proofs.Common.{◌≡◌, ℕ, zero, suc, ◌<◌, List, inl, inr, refl, sym, ◌∙◌, ap, subst, arith}
 use Rattle.std.specs.Prelude.{true, Option, Some, None}
 use Rattle.std.specs.List.{AllByRecursion}
 use Rattle.std.proofs.lemmas.Bool.{false≢true}
@@ -140,7 +140,7 @@ asks n w side later calm h behind one idle come up =
     let is = still side in
     elim (old-phase s s.phase refl some live.0.opened live.0.goes_on pair.pair.there.alone.progress pair.there.stage) [
       | inr first ↦ syn-or-reset n s.owed.reset s v side later refl first.0 (timer-endpoint w side) calm h' (is.una_of_x ∙ first.1)
-      (is.next_of_y ∙ one ∙ first.2) idle come.1 up
+          (is.next_of_y ∙ one ∙ first.2) idle come.1 up
       | inl text ↦
           let again = sends-again p q pair live.0 text.0 some in
           burst-old n again.count v side later calm h'

@@ -74,16 +74,34 @@ resent-emits s start h r sent =
           let due = resend-text s start r inside here in
           let keeps = emission-keeps s (Resend from count) due run.most in
           let next = emission-resends s start (from + count) (Resend from count) r due refl refl run.most (omega (arith, run.ahead)) in
-          inr (inr (record { due = Resend from count; is_due = due; keeps = keeps; next = record { may = next.may; bounded = bounded-kept d
-          (after_emission s).sending keeps h; form = inr (from + count, next) } }))
+          inr (inr (record {
+            due = Resend from count;
+            is_due = due;
+            keeps = keeps;
+            next = record {
+              may = next.may;
+              bounded = bounded-kept d
+                  (after_emission s).sending keeps h;
+              form = inr (from + count, next);
+            };
+          }))
       | inr past ↦
           let at : start ≡ end_of_text d = omega (arith, past, ahead, sent, h.most) in
           let due = resend-fin s start r past (omega (arith, at)) (omega (arith, at, sent)) in
           let keeps = emission-keeps s (ResentFin (end_of_text d)) due (omega (arith, at, sent)) in
           let next = emission-resends s start (end_of_text d + 1) (ResentFin (end_of_text d)) r due refl refl (omega (arith, at, sent)) (omega (arith, at)) in
-          inr (inr (record { due = ResentFin
-          (end_of_text d); is_due = due; keeps = keeps; next = record { may = next.may; bounded = bounded-kept d
-          (after_emission s).sending keeps h; form = inr (end_of_text d + 1, next) } }))
+          inr (inr (record {
+            due = ResentFin
+                (end_of_text d);
+            is_due = due;
+            keeps = keeps;
+            next = record {
+              may = next.may;
+              bounded = bounded-kept d
+                  (after_emission s).sending keeps h;
+              form = inr (end_of_text d + 1, next);
+            };
+          }))
     ]
 
 pub bursting-emits : (s : State) → IsBursting s → Emits s

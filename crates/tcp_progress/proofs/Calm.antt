@@ -1,6 +1,6 @@
 -- CALM EVENTS only bring both ends on: SND.UNA, SND.NXT and RCV.NXT don't go back, nothing more is accepted, and no end that lives comes to
 -- an end but by a reset, or in order and with nothing left.
-use Rattle.std.proofs.Common.{◌≡◌, ℕ, ◌+◌, ◌≤◌, List, [], ◌++◌, length, inl, inr, refl, sym, ◌∙◌, ap, subst, arith, append-nil, append_assoc, length-append}
+use Rattle.std.proofs.Common.{◌≡◌, ℕ, ◌≤◌, List, [], ◌++◌, length, inl, inr, refl, sym, ◌∙◌, ap, subst, arith, append-nil, append_assoc, length-append}
 use Rattle.std.specs.Prelude.{Bool, true, false, Option, Some, None, ◌⊎◌, option_map, option_to_list, if◌then◌else◌}
 use Rattle.std.proofs.lemmas.Bool.{cases_Bool, cond_both}
 use Rattle.tcp_wire.specs.Flags.{has, rst}
@@ -13,6 +13,7 @@ use Rattle.tcp_halves.specs.declared.phase.Phase.TheVariants.{LastAck, TimeWait}
 use Rattle.tcp_halves.specs.declared.phase.Timer.{Timer as Which}
 use Rattle.tcp_halves.specs.declared.phase.Timer.TheVariants as timers
 use Rattle.tcp_halves.specs.Phase.{gives_up, is_closed}
+use Rattle.tcp_halves.specs.Sender.{Sending}
 use Rattle.tcp_conn.specs.State.{State}
 use Rattle.tcp_conn.specs.declared.judgement.Judgement.{Judgement}
 use Rattle.tcp_conn.specs.declared.judgement.Judgement.TheVariants.{Foreign, PeerRefuses, PeerResets, ResetIgnored, Stray}
@@ -67,8 +68,20 @@ pub record Grows (p p' : PartyState) : Type 0 where
 
 pub grows-same : (p : PartyState) → Grows p p
 grows-same p =
-    record { config = refl; una = omega arith; nxt = omega arith; next = omega arith; opened = λ e. e; accepted = refl; closed = refl; more = []; sent = sym
-    (append-nil p.sent); handed = omega arith; ended = λ e. e }
+    record {
+      config = refl;
+      una = omega arith;
+      nxt = omega arith;
+      next = omega arith;
+      opened = λ e. e;
+      accepted = refl;
+      closed = refl;
+      more = [];
+      sent = sym
+          (append-nil p.sent);
+      handed = omega arith;
+      ended = λ e. e;
+    }
 
 pub grows-then : (p p' p'' : PartyState) → Grows p p' → Grows p' p'' → Grows p p''
 grows-then p p' p'' one two = record {
@@ -122,14 +135,43 @@ pub moves-acknowledged : (p : PartyState) → IsMoved p (party_after_acknowledge
 unfolding party_after_acknowledge after_acknowledge
 moves-acknowledged p =
     moves-still p (party_after_acknowledge p) []
-    (record { config = refl; phase = refl; ending = refl; closing = refl; opened = refl; finished = refl; una = refl; nxt = omega arith; ordered = refl; accepted = refl; closed = refl })
+    (record {
+      config = refl;
+      phase = refl;
+      ending = refl;
+      closing = refl;
+      opened = refl;
+      finished = refl;
+      una = refl;
+      nxt = omega arith;
+      ordered = refl;
+      accepted = refl;
+      closed = refl;
+    })
     (sym (append-nil p.sent)) (omega arith) (λ e. e)
+
+-- another sending side with the same SND.UNA, whose SND.NXT doesn't go back
+sending-still : (p : PartyState) (d : Sending) → d.una ≡ p.endpoint.sending.una → p.endpoint.sending.nxt ≤ d.nxt
+    → IsStill p (record p { endpoint = record p.endpoint { sending = d } })
+sending-still p d una nxt = record {
+  config = refl;
+  phase = refl;
+  ending = refl;
+  closing = refl;
+  opened = refl;
+  finished = refl;
+  una = una;
+  nxt = nxt;
+  ordered = refl;
+  accepted = refl;
+  closed = refl;
+}
 
 gaps-still : (p : PartyState) (end : Option ℕ) → IsStill p (record p { endpoint = record p.endpoint { sending = after_gaps p.endpoint.sending end } })
 gaps-still p None =
-    record { config = refl; phase = refl; ending = refl; closing = refl; opened = refl; finished = refl; una = refl; nxt = omega arith; ordered = refl; accepted = refl; closed = refl }
+    sending-still p (after_gaps p.endpoint.sending None) refl (omega arith)
 gaps-still p (Some end) =
-    record { config = refl; phase = refl; ending = refl; closing = refl; opened = refl; finished = refl; una = refl; nxt = omega arith; ordered = refl; accepted = refl; closed = refl }
+    sending-still p (after_gaps p.endpoint.sending (Some end)) refl (omega arith)
 
 still-reorder : (p : PartyState) → IsStill p (party_after_timer p timers.Reorder)
 unfolding party_after_timer after_reorder
@@ -175,7 +217,7 @@ una-judgement s src dst v accepted closed alone =
       ack_of_listen = omega arith;
       no_syn = omega arith;
       peer_opens = λ listening is. let at = at-listen s.phase s.ending d.una d.nxt r.opened r.finished listening alone.progress in omega
-      (arith, at.1.nxt_is, order);
+          (arith, at.1.nxt_is, order);
       ack_of_no_syn = omega arith;
       peer_refuses = omega arith;
       peer_accepts = λ sent is. omega (arith, order);

@@ -252,5 +252,14 @@ on-all w (event ∷ events) calm h on one two =
 -- less is left, or as much
 pub steps-left : (w v : WorldState) → Steps w v → left_in v ≤ left_in w
 steps-left w v h =
-    omega (arith, h.there.una, h.there.next, h.back.una, h.back.next, ap length h.there.accepted, ap one_if h.there.closed, ap length h.back.accepted,
-    ap one_if h.back.closed)
+    omega (
+      arith,
+      h.there.una,
+      h.there.next,
+      h.back.una,
+      h.back.next,
+      ap length h.there.accepted,
+      ap one_if h.there.closed,
+      ap length h.back.accepted,
+      ap one_if h.back.closed,
+    )

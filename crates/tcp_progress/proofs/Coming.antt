@@ -57,6 +57,6 @@ pub come-both : (w : WorldState) (xs ys later : List EventContent) → AllCome w
 unfolding world_after_all
 come-both w [] ys later one two = two
 come-both w (x ∷ xs) ys later one two = (
-    subst (λ (events : List EventContent). Comes w x events) (sym (append_assoc xs ys later)) one.0,
-    come-both (world_after w x) xs ys later one.1 two,
+  subst (λ (events : List EventContent). Comes w x events) (sym (append_assoc xs ys later)) one.0,
+  come-both (world_after w x) xs ys later one.1 two,
 )

@@ -1,5 +1,5 @@
 -- EACH BURST ENDS: with no arrival between, an end has something due only so often.
-use Rattle.std.proofs.Common.{◌≡◌, ℕ, zero, suc, ◌+◌, ◌-◌, ◌<◌, ◌≤◌, List, [], ◌∷◌, ◌++◌, drop, length, refl, sym, ◌∙◌, ap, subst, arith, length-drop}
+use Rattle.std.proofs.Common.{◌≡◌, ℕ, zero, suc, ◌+◌, ◌-◌, ◌<◌, ◌≤◌, List, [], ◌∷◌, drop, length, refl, ◌∙◌, ap, subst, arith, length-drop}
 use Rattle.std.specs.Prelude.{Bool, true, false, ◌&&◌, ◌==◌, not, min, max, nat_le, nat_lt, Option, Some, None, IfSome, is_some}
 use Rattle.std.specs.Option.{option_or}
 use Rattle.std.specs.declared.ops.Range.{Range}

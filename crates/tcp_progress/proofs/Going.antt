@@ -152,8 +152,13 @@ over w v u Q h steps on' rest next =
     elim (cases_lt (left_in v) (left_in w)) [
       | inl less ↦ inl (omega (arith, less, steps-left v u rest))
       | inr as_much ↦
-          elim (next (record { kept = steps.kept; on = on'; some = omega
-          (arith, h.some, as_much); read = are_read-still w v h.kept steps h.on on' as_much h.read }) (λ side. side-still w v side steps on' as_much)) [
+          elim (next (record {
+            kept = steps.kept;
+            on = on';
+            some = omega
+                (arith, h.some, as_much);
+            read = are_read-still w v h.kept steps h.on on' as_much h.read;
+          }) (λ side. side-still w v side steps on' as_much)) [
             | inl less ↦ inl (omega (arith, less, steps-left w v steps))
             | inr is ↦ inr is
           ]

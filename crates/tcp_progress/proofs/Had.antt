@@ -17,10 +17,10 @@ use Rattle.tcp_progress.proofs.AlwaysSteady.{IsKept}
 use Rattle.tcp_progress.proofs.Behind.{emissions-other}
 use Rattle.tcp_progress.proofs.CalmWorlds.{Steps, steps-all, steps-event}
 use Rattle.tcp_progress.proofs.Coming.{AreAmong, among-left, among-right, come-both, due-among}
-use Rattle.tcp_progress.proofs.Draining.{burst-ends, served-ends}
+use Rattle.tcp_progress.proofs.Draining.{burst-ends}
 use Rattle.tcp_progress.proofs.Everywhere.{in-every-world}
 use Rattle.tcp_progress.proofs.Plain.{GoesSafely, IsFine, IsNoReset, IsSafe, goes-safely, no_reset-emitted, no_reset-later, safe-later}
-use Rattle.tcp_progress.proofs.Turning.{after-append, calm-append, calm-emissions}
+use Rattle.tcp_progress.proofs.Turning.{after-append, calm-emissions}
 use Rattle.tcp_progress.proofs.Going.{side-pair}
 
 -- ---- WHAT IS BROUGHT of so many emissions of a side: each segment that goes out, but no reset
@@ -47,10 +47,9 @@ burst-comes zero w side later among = tt
 burst-comes (suc n) w side later among =
     let due = due_of (party_of w side).endpoint in
     let k = length (party_of w side).sent in
-    let rest = brought n (world_after w (Emit side)) side in
-    (
+    let rest = brought n (world_after w (Emit side)) side in (
       due-among due side k (brought_due due side k rest) (emissions side n ++ later)
-      (λ from j h. among-right (emissions side n) later from j (among from j h)) (due-brought due side k rest),
+          (λ from j h. among-right (emissions side n) later from j (among from j h)) (due-brought due side k rest),
       burst-comes n (world_after w (Emit side)) side later (λ from j h. among from j (among-brought due side k rest from j h)),
     )
 
@@ -123,8 +122,11 @@ due-safe w v side None rest is h steps safe = safe
 due-safe w v side (Some due) rest is h steps safe =
     let k = length (party_of w side).sent in
     cond_both (is_reset due) rest (Deliver side k ∷ rest) (λ (events : List EventContent). AllByRecursion (IsSafe v) events) (λ _. safe)
-    (λ plain. (side-later (world_after w (Emit side)) v side k steps
-    (emit-no_reset w side k (no_reset-emitted (party_of w side) (party_of w (other side)) due (side-pair w side h).pair is plain)), safe))
+    (λ plain. (
+      side-later (world_after w (Emit side)) v side k steps
+          (emit-no_reset w side k (no_reset-emitted (party_of w side) (party_of w (other side)) due (side-pair w side h).pair is plain)),
+      safe,
+    ))
 
 safe-brought : (n : ℕ) (w : WorldState) (side : Side) → IsKept w → AllByRecursion (IsSafe (world_after_all w (emissions side n))) (brought n w side)
 unfolding world_after_all
@@ -192,17 +194,17 @@ are-answered w sent delivered safe h =
       back = back;
       among = among-left sent emitted;
       untimed = all-append _ sent emitted (deliveries-untimed sent delivered)
-      (all-append _ (emissions A one.count) (emissions B two.count) (untimed-emissions A one.count) (untimed-emissions B two.count));
+          (all-append _ (emissions A one.count) (emissions B two.count) (untimed-emissions A one.count) (untimed-emissions B two.count));
       calm = deliveries-calm back (all-append _ from-a from-b (all-brought one.count y A) (all-brought two.count ya B));
       idle_a = holds-at (λ u. IsIdle u A) (world_after_all w (sent ++ emitted)) yb end (ap (λ p. due_of p.endpoint) unmoved ∙ one.idle);
       idle_b = holds-at (λ u. IsIdle u B) (world_after_all w (sent ++ emitted)) yb end two.idle;
       comes = come-both w sent emitted back (deliveries-come w sent (emitted ++ back) delivered)
-      (come-both y (emissions A one.count) (emissions B two.count) back
-      (burst-comes one.count y A (emissions B two.count ++ back)
-      (λ from k h. among-right (emissions B two.count) back from k (among-left from-a from-b from k h)))
-      (burst-comes two.count ya B back (among-right from-a from-b)));
+          (come-both y (emissions A one.count) (emissions B two.count) back
+          (burst-comes one.count y A (emissions B two.count ++ back)
+          (λ from k h. among-right (emissions B two.count) back from k (among-left from-a from-b from k h)))
+          (burst-comes two.count ya B back (among-right from-a from-b)));
       fine = holds-at IsFine (world_after_all w ((sent ++ emitted) ++ back)) (world_after_all yb back)
-      (after-append w (sent ++ emitted) back ∙ ap (λ (u : WorldState). world_after_all u back) end) last.fine;
+          (after-append w (sent ++ emitted) back ∙ ap (λ (u : WorldState). world_after_all u back) end) last.fine;
     }
 
 -- ---- A TURN
@@ -234,6 +236,9 @@ has-turn w h =
     let after-there : (events : List EventContent) → world_after_all w (reads ++ (both ++ events)) ≡ world_after_all x events = λ events.
     after-append w reads (both ++ events) ∙ after-append v both events ∙ ap (λ (z : WorldState). world_after_all z events)
     (after-append v (served A one.count) (served B two.count)) in
+    let later = served B two.count ++ g.there in
+    let first-among : AreAmong from-a later = λ from k h. among-right (served B two.count) g.there from k (g.among from k (among-left from-a from-b from k h)) in
+    let first-comes : AllCome v (served A one.count) later = (tt, burst-comes one.count va A later first-among) in
     record {
       turn = reads ++ (both ++ (g.there ++ g.back));
       is = record {
@@ -242,21 +247,19 @@ has-turn w h =
         then_count = two.count;
         there = g.there;
         back = g.back;
-        form = refl;
+        form = refl {a = reads ++ (both ++ (g.there ++ g.back))};
         untimed = g.untimed;
         calm = g.calm;
         first_out = holds-at (λ z. IsIdle z A) (world_after_all w (reads ++ served A one.count)) u after-first one.idle;
         then_out = holds-at (λ z. IsIdle z B) (world_after_all w (reads ++ both)) x after-both two.idle;
         answered_a = holds-at (λ z. IsIdle z A) (world_after_all w (reads ++ (both ++ g.there))) (world_after_all x g.there) (after-there g.there) g.idle_a;
         answered_b = holds-at (λ z. IsIdle z B) (world_after_all w (reads ++ (both ++ g.there))) (world_after_all x g.there) (after-there g.there) g.idle_b;
-        comes_there = come-both v (served A one.count) (served B two.count) g.there
-        (tt, burst-comes one.count va A (served B two.count ++ g.there)
-        (λ from k h. among-right (served B two.count) g.there from k (g.among from k (among-left from-a from-b from k h))))
-        (tt, burst-comes two.count ub B g.there (λ from k h. g.among from k (among-right from-a from-b from k h)));
+        comes_there = come-both v (served A one.count) (served B two.count) g.there first-comes
+            (tt, burst-comes two.count ub B g.there (λ from k h. g.among from k (among-right from-a from-b from k h)));
         comes_back = holds-at (λ z. AllCome z g.there g.back) (world_after_all w (reads ++ both)) x after-both g.comes;
       };
       fine = holds-at IsFine (world_after_all w (reads ++ (both ++ (g.there ++ g.back)))) (world_after_all x (g.there ++ g.back))
-      (after-there (g.there ++ g.back)) g.fine;
+          (after-there (g.there ++ g.back)) g.fine;
     }
 
 -- as many as one likes

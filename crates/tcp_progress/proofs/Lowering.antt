@@ -49,7 +49,7 @@ what-left p q pair here there some =
           elim (cases_lt (next_position p) q.endpoint.sending.nxt) [
             | inl flight ↦ inl (inr (inl flight))
             | inr both ↦ what-idle p q pair (omega (arith, taken, pair.there.sent.taken there.opened))
-            (omega (arith, both, pair.back.sent.taken here.opened)) some
+                (omega (arith, both, pair.back.sent.taken here.opened)) some
           ]
     ]
 
@@ -63,8 +63,12 @@ more-still p q p' q' still more =
             | inl flight ↦ inl flight
             | inr none ↦
                 let same : q'.endpoint.sending.nxt ≡ q.endpoint.sending.nxt = omega (arith, none, still.next_of_x, unsent.1, still.back.nxt) in
-                inr (omega (arith, same, still.una_of_y, unsent.0), omega (arith, same, still.next_of_x, unsent.1), omega
-                (arith, same, unsent.2, ap length still.back.accepted, ap one_if still.back.closed))
+                inr (
+                  omega (arith, same, still.una_of_y, unsent.0),
+                  omega (arith, same, still.next_of_x, unsent.1),
+                  omega
+                      (arith, same, unsent.2, ap length still.back.accepted, ap one_if still.back.closed),
+                )
           ]
     ]
 
@@ -162,8 +166,13 @@ lowers_lem w turn h on t one two some =
     elim (cases_lt (left_in v) (left_in w)) [
       | inl less ↦ omega (arith, less, steps-left v end later-steps, ap left_in same)
       | inr as_much ↦
-          let going : IsGoing v = record { kept = steps.kept; on = on'; some = omega
-          (arith, some, as_much); read = record { a = read.a.all; b = read.b.all } } in
+          let going : IsGoing v = record {
+            kept = steps.kept;
+            on = on';
+            some = omega
+                (arith, some, as_much);
+            read = record { a = read.a.all; b = read.b.all };
+          } in
           let less = from-reads first t.count t.then_count v t.there t.back (turn-served w turn t) going up in
           omega (arith, less, steps-left w v steps, ap left_in same)
     ]

@@ -1,8 +1,7 @@
 -- WHAT THE OTHER HAS AND DIDN'T TELL goes out again where one side is served, and is old to the other.
-use Rattle.std.proofs.Common.{◌≡◌, ℕ, zero, suc, ◌<◌, ◌≤◌, List, ◌++◌, length, inl, inr, sym, ◌∙◌, ap, subst, arith}
-use Rattle.std.specs.Prelude.{false, Some, ◌⊎◌}
+use Rattle.std.proofs.Common.{◌≡◌, ℕ, zero, suc, ◌≤◌, List, ◌++◌, length, inl, inr, sym, ◌∙◌, ap, subst, arith}
+use Rattle.std.specs.Prelude.{false, Some}
 use Rattle.std.specs.List.{AllByRecursion}
-use Rattle.std.proofs.lemmas.Bool.{cases_lt}
 use Rattle.tcp_wire.specs.Flags.{has, rst, syn}
 use Rattle.tcp_wire.specs.Wire.{Content}
 use Rattle.tcp_halves.specs.declared.due.Due.{Due}
@@ -15,10 +14,9 @@ use Rattle.tcp_conn.specs.Judgement.{count_numbers}
 use Rattle.tcp_replay.specs.declared.event.Side.{Side}
 use Rattle.tcp_replay.specs.declared.event.Side.TheVariants.{A, B}
 use Rattle.tcp_replay.specs.Events.{EventContent, Deliver, Emit, Timer}
-use Rattle.tcp_replay.specs.Safe.{gave_up, next_position}
+use Rattle.tcp_replay.specs.Safe.{next_position}
 use Rattle.tcp_replay.specs.World.{WorldState, effect_of, other, party_after_emission, party_of, world_after, world_after_all}
 use Rattle.tcp_progress.specs.Fair.{AllCome, Comes, Delivers, IsCalm, IsIdle, emissions, is_reset, served, NoneGaveUp}
-use Rattle.tcp_progress.specs.Measure.{left_in}
 use Rattle.tcp_progress.specs.Resent.{CoversNext, after_emissions}
 use Rattle.tcp_progress.specs.Steady.{IsSteadyPair}
 use Rattle.tcp_progress.proofs.AlwaysSteady.{IsKept}

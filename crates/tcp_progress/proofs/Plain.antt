@@ -1,6 +1,6 @@
 -- WHERE NO RESET COMES no end gives up: reads, the retransmission timeout and emissions end nothing, nor does a segment that is no reset.
 use Rattle.std.proofs.Common.{◌≡◌, ℕ, ◌+◌, List, [], ◌∷◌, length, inl, inr, refl, sym, ◌∙◌, ap, subst}
-use Rattle.std.specs.Prelude.{Bool, true, false, ◌&&◌, ◌==◌, not, if◌then◌else◌, ◌⊎◌, Option, Some, None, IfSome, Ok, option_map, option_to_list, slice_get}
+use Rattle.std.specs.Prelude.{Bool, true, false, ◌&&◌, not, if◌then◌else◌, Option, Some, IfSome, Ok, slice_get}
 use Rattle.std.specs.List.{AllByRecursion}
 use Rattle.std.proofs.lemmas.Bool.{cases_Bool, cond_both, false≢true}
 use Rattle.tcp_wire.specs.Decoded.{decode_answer}
@@ -9,7 +9,6 @@ use Rattle.tcp_wire.specs.Wire.{Content}
 use Rattle.tcp_halves.specs.declared.config.Config.{Config}
 use Rattle.tcp_halves.specs.declared.due.Due.{Due}
 use Rattle.tcp_halves.specs.declared.due.Due.TheVariants as dues
-use Rattle.tcp_halves.specs.declared.phase.Timer.{Timer as Which}
 use Rattle.tcp_halves.specs.declared.phase.Timer.TheVariants as timers
 use Rattle.tcp_halves.specs.Due.{is_fin}
 use Rattle.tcp_halves.specs.Phase.{gives_up, is_closed, is_listening, is_syn_received, is_syn_sent}
@@ -21,7 +20,7 @@ use Rattle.tcp_conn.specs.Emission.{after_emission, emitted_bytes}
 use Rattle.tcp_conn.specs.Forms.{pushes, segment_of}
 use Rattle.tcp_conn.specs.Writing.{bytes_of}
 use Rattle.tcp_conn.specs.declared.judgement.Judgement.{Judgement}
-use Rattle.tcp_conn.specs.declared.judgement.Judgement.TheVariants.{Foreign, Stray, AckOfListen, AckOfNoSyn, OpensNothing, PeerOpens, PeerAccepts}
+use Rattle.tcp_conn.specs.declared.judgement.Judgement.TheVariants.{Foreign, AckOfListen, AckOfNoSyn, OpensNothing, PeerOpens, PeerAccepts}
 use Rattle.tcp_conn.specs.declared.judgement.Judgement.TheVariants.{Unacceptable, SynInWindow, NoAck, AcksUnsent, HandshakeRefused, HandshakeRefusedShut}
 use Rattle.tcp_conn.specs.declared.judgement.Judgement.TheVariants.{Taken, TakenShut}
 use Rattle.tcp_conn.specs.Judgement.{acceptable_judgement, ack_judgement, acks_syn, closed_judgement, is_acceptable_segment, is_allowed_shut, is_foreign}
@@ -30,9 +29,9 @@ use Rattle.tcp_conn.specs.Judgement.{unacceptable_judgement}
 use Rattle.tcp_replay.specs.declared.event.Side.{Side}
 use Rattle.tcp_replay.specs.declared.event.Side.TheVariants.{A, B}
 use Rattle.tcp_replay.specs.Alone.{IsAlone}
-use Rattle.tcp_replay.specs.Events.{EventContent, side_of, Connect, Listen as Listens, Send, Receive, Close, Abort, Acknowledge, Timer, Emit, Deliver, Damage}
-use Rattle.tcp_replay.specs.World.{WorldState, PartyState, SentSegment, effect_of, other, party_after_arrival, party_after_emission, party_after_receive}
-use Rattle.tcp_replay.specs.World.{party_after_timer, party_of, refusal_of, segment_at, sent_by, world_after, world_after_all, world_from, world_with_effect}
+use Rattle.tcp_replay.specs.Events.{EventContent, side_of, Receive, Timer, Emit, Deliver}
+use Rattle.tcp_replay.specs.World.{WorldState, PartyState, SentSegment, effect_of, other, party_after_arrival, party_after_emission}
+use Rattle.tcp_replay.specs.World.{party_of, refusal_of, segment_at, sent_by, world_after, world_after_all, world_from, world_with_effect}
 use Rattle.tcp_replay.specs.Safe.{gave_up}
 use Rattle.tcp_replay.specs.Sound.{IsSoundPair}
 use Rattle.tcp_replay.proofs.Deliveries.{arrival-ok}

@@ -77,8 +77,16 @@ quiet-waits w u side h h' still quiet at behind idle =
       | inr acked ↦
           let sends' = pair'.pair.there.alone.sends in
           let same : p'.endpoint.sending.nxt ≡ p'.endpoint.sending.una =
-          omega (arith, acked-all p.endpoint acked, fin-last p q pair live.0 acked, is.una_of_x, sends'.order, sends'.most, ap length is.there.accepted,
-          ap one_if is.there.closed) in
+          omega (
+            arith,
+            acked-all p.endpoint acked,
+            fin-last p q pair live.0 acked,
+            is.una_of_x,
+            sends'.order,
+            sends'.most,
+            ap length is.there.accepted,
+            ap one_if is.there.closed,
+          ) in
           record {
             at = omega (arith, same, is.una_of_x, acked-all p.endpoint acked, at, is.next_of_y);
             behind = behind';
@@ -121,9 +129,12 @@ text-waits (suc n) (Some reset) s w side later e same bursts calm h at behind id
     over-event w (Emit side) (world_after_all v (emissions side n ++ later)) (Waits (world_after_all v (emissions side n)) side) tt h
     (steps-all v (emissions side n ++ later) (calm-append (emissions side n) later (calm-emissions side n) calm)) up
     (λ h' still.
-    burst-waits n v side later calm h'
-    (ap (λ (t : State). t.sending.nxt) is ∙ retransmit-nxt (cleared s) ∙ at ∙ sym (still side).next_of_y, omega
-    (arith, behind, (still side).una_of_y, (still side).next_of_x), subst IsBursting (sym is) bursts)
+    burst-waits n v side later calm h' (
+      ap (λ (t : State). t.sending.nxt) is ∙ retransmit-nxt (cleared s) ∙ at ∙ sym (still side).next_of_y,
+      omega
+          (arith, behind, (still side).una_of_y, (still side).next_of_x),
+      subst IsBursting (sym is) bursts,
+    )
     idle come.1 up)
 
 -- ---- ONE SIDE IS SERVED: then it waits to be spoken to; or something is brought on

@@ -2,7 +2,7 @@
 use Rattle.std.proofs.Common.{◌≡◌, ℕ, zero, suc, ◌<◌, List, ◌++◌, length, inl, inr, refl, sym, ◌∙◌, ap, subst, arith}
 use Rattle.std.specs.Prelude.{true, false, max, Option, Some, None, IfSome, ◌⊎◌}
 use Rattle.std.specs.List.{AllByRecursion}
-use Rattle.std.proofs.lemmas.Bool.{cases_lt, false≢true}
+use Rattle.std.proofs.lemmas.Bool.{false≢true}
 use Rattle.tcp_wire.specs.Flags.{has, rst, syn}
 use Rattle.tcp_wire.specs.Wire.{Content}
 use Rattle.tcp_halves.specs.declared.due.Due.{Due}
@@ -20,7 +20,7 @@ use Rattle.tcp_replay.specs.declared.event.Side.{Side}
 use Rattle.tcp_replay.specs.declared.event.Side.TheVariants.{A, B}
 use Rattle.tcp_replay.specs.Events.{EventContent, Emit, Timer}
 use Rattle.tcp_replay.specs.World.{WorldState, PartyState, effect_of, other, party_after_emission, party_after_timer, party_of, world_after, world_after_all}
-use Rattle.tcp_replay.specs.Safe.{gave_up, next_position}
+use Rattle.tcp_replay.specs.Safe.{next_position}
 use Rattle.tcp_replay.proofs.Emissions.{reset-bit}
 use Rattle.tcp_progress.specs.Fair.{AllCome, Comes, Delivers, IsCalm, IsIdle, emissions, is_reset, served, NoneGaveUp}
 use Rattle.tcp_progress.specs.Measure.{all_of, left_in}
@@ -29,11 +29,9 @@ use Rattle.tcp_progress.specs.Settled.{IsLive}
 use Rattle.tcp_progress.specs.Steady.{IsSteadyPair}
 use Rattle.tcp_progress.proofs.Again.{again_lem}
 use Rattle.tcp_progress.proofs.New.{new_lem}
-use Rattle.tcp_progress.proofs.AlwaysSteady.{IsKept}
 use Rattle.tcp_progress.proofs.CalmWorlds.{steps-all}
 use Rattle.tcp_progress.proofs.Emitted.{fresh-emitted}
 use Rattle.tcp_progress.proofs.Forward.{fin-last, flight-sends, in-flight, past-syn, unsent-phase, waits}
-use Rattle.tcp_progress.proofs.Measure.{GoOn}
 use Rattle.tcp_progress.proofs.Ready.{has-room, no-syn-owed, sends-no_handshake}
 use Rattle.tcp_progress.proofs.Turning.{calm-append, calm-emissions}
 use Rattle.tcp_progress.proofs.Useful.{IsUseful, useful-comes}

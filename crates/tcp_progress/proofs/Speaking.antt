@@ -3,7 +3,7 @@ use Rattle.std.proofs.Common.{◌≡◌, ℕ, ◌<◌, List, [], ◌∷◌, ◌+
 use Rattle.std.specs.Prelude.{Bool, true, false, if◌then◌else◌, ◌⊎◌, Option, Some, None, Ok, slice_get}
 use Rattle.std.specs.List.{AllByRecursion}
 use Rattle.std.specs.Option.{option_or}
-use Rattle.std.proofs.lemmas.Bool.{cases_Bool, cases_lt}
+use Rattle.std.proofs.lemmas.Bool.{cases_Bool}
 use Rattle.tcp_numbers.specs.Position.{number}
 use Rattle.tcp_wire.specs.Decoded.{decode_answer}
 use Rattle.tcp_wire.specs.Flags.{has, rst, syn}
@@ -25,7 +25,7 @@ use Rattle.tcp_replay.specs.declared.event.Side.{Side}
 use Rattle.tcp_replay.specs.declared.event.Side.TheVariants.{A, B}
 use Rattle.tcp_replay.specs.declared.outcome.StepError.{StepError}
 use Rattle.tcp_replay.specs.Events.{EventContent, side_of, Connect, Listen as Listens, Send, Receive, Close, Abort, Acknowledge, Timer, Emit, Deliver, Damage}
-use Rattle.tcp_replay.specs.Safe.{gave_up, next_position}
+use Rattle.tcp_replay.specs.Safe.{next_position}
 use Rattle.tcp_replay.specs.Sound.{IsSoundPair}
 use Rattle.tcp_replay.specs.World.{WorldState, PartyState, SentSegment, delivery_refusal, effect_of, other, party_after_acknowledge, party_after_arrival}
 use Rattle.tcp_replay.specs.World.{party_after_emission, party_after_receive, party_of, refusal_of, segment_at, sent_at, stay_or, world_after}

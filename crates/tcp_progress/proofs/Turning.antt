@@ -10,7 +10,6 @@ use Rattle.tcp_replay.specs.declared.event.Side.{Side}
 use Rattle.tcp_replay.specs.Events.{EventContent, Connect, Listen as Listens, Send, Receive, Close, Abort, Acknowledge, Timer, Emit, Deliver, Damage}
 use Rattle.tcp_replay.specs.World.{WorldState, PartyState, both, other, effect_of, party_after_receive, world_after, world_after_all}
 use Rattle.tcp_replay.specs.Safe.{gave_up, unread_of}
-use Rattle.tcp_replay.proofs.Phases.{gives_up-not_ended}
 use Rattle.tcp_progress.specs.Fair.{GetsThrough, HasTurns, IsCalm, IsTurn, IsUntimed, WhoIsServedGetsThrough, all_room, both_served, emissions, reads, served}
 use Rattle.tcp_progress.specs.Measure.{left_in}
 use Rattle.tcp_progress.specs.Settled.{IsLive, IsThrough}
@@ -142,8 +141,14 @@ pub record IsDone (w : WorldState) : Type 0 where
 pub in-order : (p q : PartyState) → IsSteadyPair p q → IsUp p → length p.delivered + length (unread_of p) ≡ p.endpoint.receiving.ordered
 in-order p q h up =
     let hands = h.pair.there.hands in
-    omega (arith, ap length hands.handed, length-append p.delivered, length-take hands.count q.accepted, hands.whole (up-stays p.endpoint.ending up.kept),
-    h.pair.there.takes.order)
+    omega (
+      arith,
+      ap length hands.handed,
+      length-append p.delivered,
+      length-take hands.count q.accepted,
+      hands.whole (up-stays p.endpoint.ending up.kept),
+      h.pair.there.takes.order,
+    )
 
 -- at x, which has all of y
 read-stays : (x y x' y' : PartyState) → IsSteadyPair x y → IsSteadyPair x' y' → IsComplete x y → IsUp x' → Grows x x' → Grows y y' → HasRead x → HasRead x'
@@ -168,7 +173,7 @@ done-steps w v steps done on =
       read = record {
         a = read-stays w.a w.b v.a v.b pair pair' whole on.there steps.there steps.back done.read.a;
         b = read-stays w.b w.a v.b v.a (steady-back w.b w.a pair) (steady-back v.b v.a pair')
-        (complete-back w.a w.b whole) on.back steps.back steps.there done.read.b;
+            (complete-back w.a w.b whole) on.back steps.back steps.there done.read.b;
       };
     }
 
@@ -206,7 +211,7 @@ turn-done w turn h on none t one two =
 abbrev pub TurnLowers : Type 0
 TurnLowers =
     (w : WorldState) (turn : List EventContent) → IsKept w → GoOn w.a w.b → IsTurn w turn → gave_up (world_after_all w turn).a ≡ false
-        → gave_up (world_after_all w turn).b ≡ false
+    → gave_up (world_after_all w turn).b ≡ false
     → 0 < left_in w → left_in (world_after_all w turn) < left_in w
 
 -- so turn after turn all is done
@@ -226,7 +231,7 @@ module _ (lowers : TurnLowers) where
       let two'' : gave_up (world_after_all v turn).b ≡ false = subst (λ (x : WorldState). gave_up x.b ≡ false) is two' in
       elim (cases_lt 0 (left_in v)) [
         | inr none ↦ done-all u after (turns-calm n u after rest)
-        (subst IsDone (sym is) (turn-done v turn steps.kept on (omega (arith, none)) t one'' two'')) one two
+            (subst IsDone (sym is) (turn-done v turn steps.kept on (omega (arith, none)) t one'' two'')) one two
         | inl some ↦
             let less : left_in u < left_in v = subst (λ (x : WorldState). left_in x < left_in v) (sym is) (lowers v turn steps.kept on t one'' two'' some) in
             next u after (omega (arith, less, steps-left w v steps)) steps'.kept on' rest one two
