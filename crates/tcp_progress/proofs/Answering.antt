@@ -12,11 +12,13 @@ use Rattle.tcp_halves.specs.declared.due.Due.TheVariants.{ResentFin}
 use Rattle.tcp_halves.specs.declared.phase.Ending.TheVariants.{NotEnded}
 use Rattle.tcp_halves.specs.Marks.{after_block, after_blocks, marks_text, with_marks}
 use Rattle.tcp_halves.specs.Phase.{is_last_ack, is_syn_received, phase_after_own_fin, sends_text}
-use Rattle.tcp_halves.specs.Sender.{Sending, acks_more, after_ack, after_window_update, end_of_text, is_fin_acked, is_newer, place_of, position_at, with_acked, with_syn_acked, with_window}
+use Rattle.tcp_halves.specs.Sender.{Sending, acks_more, after_ack, after_window_update, end_of_text, is_fin_acked, is_newer, place_of, position_at}
+use Rattle.tcp_halves.specs.Sender.{with_acked, with_syn_acked, with_window}
 use Rattle.tcp_conn.specs.declared.judgement.Judgement.{Judgement}
 use Rattle.tcp_conn.specs.State.{State}
 use Rattle.tcp_conn.specs.Windows.{window_from}
-use Rattle.tcp_conn.specs.Arrival.{after_acked_text, after_fin, after_its_ack, after_its_text, after_judgement, after_news, after_own_fin, after_own_syn, after_peer_accepts, after_peer_opens, after_taking, after_taking_shut, blocks_used, is_current, with_news}
+use Rattle.tcp_conn.specs.Arrival.{after_acked_text, after_fin, after_its_ack, after_its_text, after_judgement, after_news, after_own_fin, after_own_syn}
+use Rattle.tcp_conn.specs.Arrival.{after_peer_accepts, after_peer_opens, after_taking, after_taking_shut, blocks_used, is_current, with_news}
 use Rattle.tcp_conn.specs.Due.{due_of, new_count, new_text_of, resend_of, resend_start, resent_fin, resent_run, resent_text, text_limit}
 use Rattle.tcp_conn.specs.Endings.{after_orderly_end}
 use Rattle.tcp_conn.specs.Judgement.{judgement, position_near}
@@ -32,14 +34,16 @@ use Rattle.tcp_progress.proofs.Exhausted.{IsRested}
 abbrev pub RangeDone : Sending → Type 0
 RangeDone d = IfSome d.resend (λ range. range.end ≤ max range.start d.una)
 
-done-text : (d : Sending) (limit : ℕ) (range : Range ℕ) (run : ℕ × ℕ) → range.end ≤ max range.start d.una → max range.start d.una ≤ position_at d run.0 → resent_text d limit range.end run ≡ None
+done-text : (d : Sending) (limit : ℕ) (range : Range ℕ) (run : ℕ × ℕ) → range.end ≤ max range.start d.una → max range.start d.una ≤ position_at d run.0
+    → resent_text d limit range.end run ≡ None
 done-text d limit range run most ahead =
     let test : nat_lt (position_at d run.0) range.end ≡ false = grind (arith, nat_tests, most, ahead) in
     rw test refl
 
 done-fin : (d : Sending) (range : Range ℕ) → range.end ≤ max range.start d.una → resent_fin d range ≡ None
 done-fin d range most =
-    cond_both (nat_lt (end_of_text d) range.end && nat_le (resend_start d range) (end_of_text d)) (Some (ResentFin (end_of_text d))) None (λ (due : Option Due). due ≡ None)
+    cond_both (nat_lt (end_of_text d) range.end && nat_le (resend_start d range) (end_of_text d)) (Some (ResentFin (end_of_text d))) None
+    (λ (due : Option Due). due ≡ None)
     (λ yes. absurd (grind (arith, nat_tests, yes, most))) (λ _. refl)
 
 done-run : (d : Sending) (limit : ℕ) (range : Range ℕ) → range.end ≤ max range.start d.una → resend_of d limit (Some range) ≡ None
@@ -52,7 +56,8 @@ done-run d limit range most =
     (λ (run : Option (ℕ × ℕ)). resent_run d limit range run ≡ None)
     (λ _. done-text d limit range (first, first + count_leading false (drop first d.queue.marks)) most ahead) (λ _. done-fin d range most)
 
-pub done-none : (d : Sending) (limit : ℕ) (range : Option (Range ℕ)) → IfSome range (λ range. range.end ≤ max range.start d.una) → resend_of d limit range ≡ None
+pub done-none : (d : Sending) (limit : ℕ) (range : Option (Range ℕ)) → IfSome range (λ range. range.end ≤ max range.start d.una)
+    → resend_of d limit range ≡ None
 unfolding resend_of
 done-none d limit None most = refl
 done-none d limit (Some range) most = done-run d limit range most
@@ -79,7 +84,13 @@ stands-or-none s reset syn done =
     elim (cases_Bool (sends_text s.phase)) [
       | inr quiet ↦ quiet-or-none s reset syn quiet
       | inl sends ↦
-          let rested : IsRested s = record { phase = sends-synchronized s.phase sends; reset = reset; syn = syn; none = λ _. done-none s.sending (text_limit s) s.sending.resend done } in
+          let rested : IsRested s = record {
+            phase = sends-synchronized s.phase sends;
+            reset = reset;
+            syn = syn;
+            none = λ _. done-none s.sending
+                (text_limit s) s.sending.resend done;
+          } in
           elim (cases_Bool (new_count s.sending (text_limit s) s.owed.probe == 0)) [
             | inr some ↦ inr (text-stands s rested sends some)
             | inl no_text ↦
@@ -115,20 +126,24 @@ range-then d e f one two = record {
   nxt = two.nxt ∙ one.nxt;
 }
 
-some-done : (range : Option (Range ℕ)) (una una' : ℕ) → una ≤ una' → IfSome range (λ range. range.end ≤ max range.start una) → IfSome range (λ range. range.end ≤ max range.start una')
+some-done : (range : Option (Range ℕ)) (una una' : ℕ) → una ≤ una' → IfSome range (λ range. range.end ≤ max range.start una)
+    → IfSome range (λ range. range.end ≤ max range.start una')
 some-done None una una' more h = tt
 some-done (Some range) una una' more h = omega (arith, more, h)
 
 pub range-done : (d e : Sending) → KeepsRange d e → RangeDone d → RangeDone e
 range-done d e keeps h =
     elim keeps.resend [
-      | inl same ↦ subst (λ (o : Option (Range ℕ)). IfSome o (λ range. range.end ≤ max range.start e.una)) (sym same) (some-done d.resend d.una e.una keeps.una h)
+      | inl same ↦ subst (λ (o : Option (Range ℕ)). IfSome o (λ range. range.end ≤ max range.start e.una)) (sym same)
+          (some-done d.resend d.una e.una keeps.una h)
       | inr none ↦ subst (λ (o : Option (Range ℕ)). IfSome o (λ range. range.end ≤ max range.start e.una)) (sym none) tt
     ]
 
 block-range : (d : Sending) (left right : ℕ) → KeepsRange d (after_block d left right)
 unfolding after_block
-block-range d left right = cond_both (marks_text d left right) (with_marks d left right) d (λ (e : Sending). KeepsRange d e) (λ _. record { resend = inl refl; una = omega arith; nxt = refl }) (λ _. range-same d)
+block-range d left right =
+    cond_both (marks_text d left right) (with_marks d left right) d (λ (e : Sending). KeepsRange d e)
+    (λ _. record { resend = inl refl; una = omega arith; nxt = refl }) (λ _. range-same d)
 
 blocks-range : (iss : ℕ) (d : Sending) (blocks : List (ℕ × ℕ)) → KeepsRange d (after_blocks iss d blocks)
 blocks-range iss d [] = range-same d
@@ -138,14 +153,17 @@ blocks-range iss d (block ∷ blocks) =
 
 update-range : (d : Sending) (seq ack window : ℕ) → KeepsRange d (after_window_update d seq ack window)
 unfolding after_window_update
-update-range d seq ack window = cond_both (is_newer d seq ack) (with_window d seq ack window) d (λ (e : Sending). KeepsRange d e) (λ _. record { resend = inl refl; una = omega arith; nxt = refl }) (λ _. range-same d)
+update-range d seq ack window =
+    cond_both (is_newer d seq ack) (with_window d seq ack window) d (λ (e : Sending). KeepsRange d e)
+    (λ _. record { resend = inl refl; una = omega arith; nxt = refl }) (λ _. range-same d)
 
 news-range : (s : State) (v : Content) → KeepsRange s.sending (after_news s v).sending
 unfolding after_news
 news-range s v =
     let told : Sending = after_window_update s.sending v.seq v.ack (window_from s.link v.window) in
     cond_both (is_current s v) (with_news s v) s.sending (λ (e : Sending). KeepsRange s.sending e)
-    (λ _. range-then s.sending told (with_news s v) (update-range s.sending v.seq v.ack (window_from s.link v.window)) (blocks-range s.config.isn.0 told (blocks_used s v)))
+    (λ _. range-then s.sending told (with_news s v) (update-range s.sending v.seq v.ack (window_from s.link v.window))
+    (blocks-range s.config.isn.0 told (blocks_used s v)))
     (λ _. range-same s.sending)
 
 own_fin-range : (s : State) → KeepsRange s.sending (after_own_fin s).sending
@@ -170,7 +188,8 @@ acked-range s v =
 own_syn-range : (s : State) (v : Content) → s.sending.una ≤ s.sending.nxt → KeepsRange s.sending (after_own_syn s v).sending
 unfolding after_own_syn
 own_syn-range s v order =
-    cond_both (is_syn_received s.phase) (with_window (with_syn_acked s.sending) v.seq v.ack (window_from s.link v.window)) s.sending (λ (e : Sending). KeepsRange s.sending e)
+    cond_both (is_syn_received s.phase) (with_window (with_syn_acked s.sending) v.seq v.ack (window_from s.link v.window)) s.sending
+    (λ (e : Sending). KeepsRange s.sending e)
     (λ _. record { resend = inl refl; una = order; nxt = refl }) (λ _. range-same s.sending)
 
 its_ack-range : (s : State) (v : Content) → s.sending.una ≤ s.sending.nxt → KeepsRange s.sending (after_its_ack s v).sending
@@ -192,7 +211,9 @@ pub record KeepsOwed (s t : State) : Type 0 where
 pub owed-same : (s : State) → KeepsOwed s s
 owed-same s = record { range = range-same s.sending; syn = λ e. e; ack = λ _ e. e }
 
-its_ack-owed : (s : State) (v : Content) → (s.owed.syn ≡ false → (after_its_ack s v).owed.syn ≡ false) × ((after_its_ack s v).ending ≡ NotEnded → s.owed.ack ≡ true → (after_its_ack s v).owed.ack ≡ true)
+its_ack-owed : (s : State) (v : Content)
+    → (s.owed.syn ≡ false → (after_its_ack s v).owed.syn ≡ false)
+    × ((after_its_ack s v).ending ≡ NotEnded → s.owed.ack ≡ true → (after_its_ack s v).owed.ack ≡ true)
 unfolding after_its_ack after_own_syn after_acked_text after_news after_own_fin
 its_ack-owed s v =
     let three = after_news (after_acked_text (after_own_syn s v) v) v in
@@ -230,7 +251,8 @@ owed-judgement s src dst v accepted closed alone opened =
       stray = record { range = range-same d; syn = λ e. e; ack = λ _ e. e };
       ack_of_listen = record { range = range-same d; syn = λ e. e; ack = λ _ e. e };
       no_syn = owed-same s;
-      peer_opens = λ listening is. let at = at-listen s.phase s.ending d.una d.nxt r.opened r.finished listening alone.progress in absurd (false≢true (sym at.1.not_opened ∙ opened));
+      peer_opens = λ listening is. let at = at-listen s.phase s.ending d.una d.nxt r.opened r.finished listening alone.progress in absurd
+          (false≢true (sym at.1.not_opened ∙ opened));
       ack_of_no_syn = record { range = range-same d; syn = λ e. e; ack = λ _ e. e };
       peer_refuses = record { range = record { resend = inr refl; una = omega arith; nxt = refl }; syn = λ _. refl; ack = λ over. absurd (cc) };
       peer_accepts = λ sent is. record { range = record { resend = inl refl; una = order; nxt = refl }; syn = λ _. refl; ack = λ _ _. refl };

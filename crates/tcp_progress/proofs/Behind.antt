@@ -1,5 +1,5 @@
 -- WHAT ISN'T ACKNOWLEDGED, and nothing is on its way: who sent it sends it again, the other is spoken to by what is old to it, and answers.
-use Rattle.std.proofs.Common.{◌≡◌, ℕ, zero, suc, ◌<◌, ◌≤◌, List, [], ◌∷◌, ◌++◌, inl, inr, refl, sym, ◌∙◌, ap, subst, arith}
+use Rattle.std.proofs.Common.{◌≡◌, ℕ, zero, suc, ◌<◌, ◌≤◌, List, ◌++◌, inl, inr, refl, sym, ◌∙◌, ap, subst, arith}
 use Rattle.std.specs.Prelude.{◌⊎◌}
 use Rattle.std.specs.List.{AllByRecursion}
 use Rattle.tcp_halves.specs.declared.phase.Timer.TheVariants.{Retransmit}
@@ -55,7 +55,8 @@ spoken-to w B there back untimed calm h waits old come idle up =
     spoken-lowers w A old.place old.content there back untimed calm h waits old.old old.comes come idle.0 up
 
 -- what is old is so still, while the other is served
-pending-later : (m : ℕ) (u v : WorldState) (asker server : Side) (rest : List EventContent) → IsStillFrom u v → IsPending u asker (served server m ++ rest) → IsPending v asker rest
+pending-later : (m : ℕ) (u v : WorldState) (asker server : Side) (rest : List EventContent) → IsStillFrom u v → IsPending u asker (served server m ++ rest)
+    → IsPending v asker rest
 pending-later m u v asker server rest still old = record {
   place = old.place;
   content = old.content;
@@ -95,7 +96,8 @@ both-there : (first : Side) (n m : ℕ) (w : WorldState) (there back : List Even
 both-there first n m w there back g h up =
     let steps = steps-both w (served first n) (served (other first) m) (calm-served first n) (calm-served (other first) m) h in
     let v = after_both first n m w in
-    at-there (world_after_all v there) back g.calm (steps-all v there (all-untimed there g.untimed) steps.kept).kept (subst NoneGaveUp (after-append v there back) up)
+    at-there (world_after_all v there) back g.calm (steps-all v there (all-untimed there g.untimed) steps.kept).kept
+    (subst NoneGaveUp (after-append v there back) up)
 
 -- what is less there is less once all is back
 less-back : (n : ℕ) (w : WorldState) (there back : List EventContent) → IsThere (world_after_all w there) back → left_in (world_after_all w there) < n
@@ -128,14 +130,17 @@ asked-first first n m w there back g h behind up =
           (over-all w (served first n) end ⊥ (calm-served first n) h (steps-both u second later calm' later-calm) up (λ hu still.
           let is = still first in
           let at : (party_of u (other first)).endpoint.sending.nxt ≡ next_position (party_of u (other (other first))) =
-          ap (λ (x : PartyState). x.endpoint.sending.nxt) unmoved ∙ sym behind.two ∙ sym is.next_of_x ∙ ap (λ (side : Side). next_position (party_of u side)) (sym (twice first)) in
+          ap (λ (x : PartyState). x.endpoint.sending.nxt) unmoved ∙ sym behind.two ∙ sym is.next_of_x ∙ ap (λ (side : Side). next_position (party_of u side))
+          (sym (twice first)) in
           let behind' : (party_of u (other (other first))).endpoint.sending.una < next_position (party_of u (other first)) =
-          subst (λ (side : Side). (party_of u side).endpoint.sending.una < next_position (party_of u (other first))) (sym (twice first)) (omega (arith, behind.behind, is.una_of_x, is.next_of_y)) in
+          subst (λ (side : Side). (party_of u side).endpoint.sending.una < next_position (party_of u (other first))) (sym (twice first))
+          (omega (arith, behind.behind, is.una_of_x, is.next_of_y)) in
           elim (replies m u (other first) there there-calm hu at behind' g.then_out g.then_comes up') [
             | inl now ↦ inl (less u now)
             | inr waits ↦
                 over-all u second end ⊥ calm' hu (steps-all v later later-calm) up
-                (λ hv still'. inl (spoken-to v first there back g.untimed g.calm hv waits (pending-later m u v first (other first) there still' old) g.comes_back g.answered up))
+                (λ hv still'. inl (spoken-to v first there back g.untimed g.calm hv waits
+                (pending-later m u v first (other first) there still' old) g.comes_back g.answered up))
           ]))
     ]
 
@@ -156,24 +161,30 @@ asked-then first n m w there back g h behind up =
     let joined : world_after_all w (served first n ++ (second ++ there)) ≡ world_after_all v there =
     after-append w (served first n) (second ++ there) ∙ after-append u second there in
     let unmoved = served-other n w first in
-    elim (replies n w first (second ++ there) (calm-append second there calm' there-calm) h (sym behind.two) behind.behind g.out g.comes (subst NoneGaveUp (sym joined) h'.up)) [
+    elim (replies n w first (second ++ there) (calm-append second there calm' there-calm) h (sym behind.two) behind.behind g.out g.comes
+    (subst NoneGaveUp (sym joined) h'.up)) [
       | inl less ↦ less-back (left_in w) v there back h' (subst (λ (x : WorldState). left_in x < left_in w) joined less)
       | inr waits ↦
           lowers-only w end
           (over-all w (served first n) end ⊥ (calm-served first n) h (steps-both u second later calm' later-calm) up (λ hu still.
           let is = still first in
           let behind' : (party_of u (other first)).endpoint.sending.una < next_position (party_of u (other (other first))) =
-          subst (λ (side : Side). (party_of u (other first)).endpoint.sending.una < next_position (party_of u side)) (sym (twice first)) (omega (arith, behind.behind, is.una_of_y, is.next_of_x)) in
+          subst (λ (side : Side). (party_of u (other first)).endpoint.sending.una < next_position (party_of u side)) (sym (twice first))
+          (omega (arith, behind.behind, is.una_of_y, is.next_of_x)) in
           let one' : next_position (party_of u (other (other first))) ≡ (party_of u (other first)).endpoint.sending.nxt =
-          ap (λ (side : Side). next_position (party_of u side)) (twice first) ∙ is.next_of_x ∙ behind.one ∙ ap (λ (x : PartyState). x.endpoint.sending.nxt) (sym unmoved) in
+          ap (λ (side : Side). next_position (party_of u side)) (twice first) ∙ is.next_of_x ∙ behind.one ∙ ap (λ (x : PartyState). x.endpoint.sending.nxt)
+          (sym unmoved) in
           elim (asks m u (other first) there there-calm hu behind' one' g.then_out g.then_comes h'.up) [
             | inl less ↦ inl (less-back (left_in u) v there back h' less)
             | inr old ↦
-                let same : party_of v first ≡ party_of u first = subst (λ (side : Side). party_of v side ≡ party_of u side) (twice first) (served-other m u (other first)) in
-                let keeps : KeepsOwed (party_of u first).endpoint (party_of v first).endpoint = subst (λ (x : PartyState). KeepsOwed (party_of u first).endpoint x.endpoint) (sym same) (owed-same (party_of u first).endpoint) in
+                let same : party_of v first ≡ party_of u first = subst (λ (side : Side). party_of v side ≡ party_of u side) (twice first)
+                (served-other m u (other first)) in
+                let keeps : KeepsOwed (party_of u first).endpoint (party_of v first).endpoint = subst
+                (λ (x : PartyState). KeepsOwed (party_of u first).endpoint x.endpoint) (sym same) (owed-same (party_of u first).endpoint) in
                 over-all u second end ⊥ calm' hu (steps-all v later later-calm) up
                 (λ hv still'.
-                inl (spoken-to v (other first) there back g.untimed g.calm hv (subst (Waits v) (sym (twice first)) (waits-later u v first (still' first) keeps waits)) old g.comes_back g.answered up))
+                inl (spoken-to v (other first) there back g.untimed g.calm hv
+                (subst (Waits v) (sym (twice first)) (waits-later u v first (still' first) keeps waits)) old g.comes_back g.answered up))
           ]))
     ]
 

@@ -12,7 +12,8 @@ use Rattle.tcp_conn.specs.Emission.{after_emission}
 use Rattle.tcp_conn.specs.Timers.{after_retransmit}
 use Rattle.tcp_progress.specs.Answered.{StandsAtNext}
 use Rattle.tcp_progress.specs.Resent.{KeepsFlight, MaySend}
-use Rattle.tcp_progress.proofs.Again.{Resends, count_now, emission-keeps, emission-resends, fits, from_now, resend-fin, resend-text, timeout-keeps, timeout-resends, may-after_retransmit}
+use Rattle.tcp_progress.proofs.Again.{Resends, count_now, emission-keeps, emission-resends, fits, from_now, resend-fin, resend-text, timeout-keeps}
+use Rattle.tcp_progress.proofs.Again.{timeout-resends, may-after_retransmit}
 use Rattle.tcp_progress.proofs.Answering.{RangeDone, stands-or-none}
 use Rattle.tcp_progress.proofs.New.{nothing-resent}
 
@@ -22,7 +23,8 @@ pub record IsBounded (d : Sending) : Type 0 where
   pub most : d.nxt ≤ 1 + end_of_text d
 
 bounded-kept : (d e : Sending) → KeepsFlight d e → IsBounded d → IsBounded e
-bounded-kept d e keeps h = record { ahead = omega (arith, h.ahead, keeps.una, keeps.released); most = omega (arith, h.most, keeps.nxt, keeps.released, ap length keeps.queued) }
+bounded-kept d e keeps h =
+    record { ahead = omega (arith, h.ahead, keeps.una, keeps.released); most = omega (arith, h.most, keeps.nxt, keeps.released, ap length keeps.queued) }
 
 -- STILL GOING THROUGH what is sent again, or through with it
 pub record IsBursting (s : State) : Type 0 where
@@ -31,7 +33,8 @@ pub record IsBursting (s : State) : Type 0 where
   pub form : RangeDone s.sending ⊎ ((start : ℕ) × Resends s start)
 
 through-done : (s : State) (start : ℕ) → Resends s start → s.sending.nxt ≤ start → RangeDone s.sending
-through-done s start r past = subst (λ (o : Option (Range ℕ)). IfSome o (λ range. range.end ≤ max range.start s.sending.una)) (sym r.range) (omega (arith, past))
+through-done s start r past =
+    subst (λ (o : Option (Range ℕ)). IfSome o (λ range. range.end ≤ max range.start s.sending.una)) (sym r.range) (omega (arith, past))
 
 -- one emission
 pub record IsOut (s : State) : Type 0 where
@@ -71,13 +74,34 @@ resent-emits s start h r sent =
           let due = resend-text s start r inside here in
           let keeps = emission-keeps s (Resend from count) due run.most in
           let next = emission-resends s start (from + count) (Resend from count) r due refl refl run.most (omega (arith, run.ahead)) in
-          inr (inr (record { due = Resend from count; is_due = due; keeps = keeps; next = record { may = next.may; bounded = bounded-kept d (after_emission s).sending keeps h; form = inr (from + count, next) } }))
+          inr (inr (record {
+            due = Resend from count;
+            is_due = due;
+            keeps = keeps;
+            next = record {
+              may = next.may;
+              bounded = bounded-kept d
+                  (after_emission s).sending keeps h;
+              form = inr (from + count, next);
+            };
+          }))
       | inr past ↦
           let at : start ≡ end_of_text d = omega (arith, past, ahead, sent, h.most) in
           let due = resend-fin s start r past (omega (arith, at)) (omega (arith, at, sent)) in
           let keeps = emission-keeps s (ResentFin (end_of_text d)) due (omega (arith, at, sent)) in
           let next = emission-resends s start (end_of_text d + 1) (ResentFin (end_of_text d)) r due refl refl (omega (arith, at, sent)) (omega (arith, at)) in
-          inr (inr (record { due = ResentFin (end_of_text d); is_due = due; keeps = keeps; next = record { may = next.may; bounded = bounded-kept d (after_emission s).sending keeps h; form = inr (end_of_text d + 1, next) } }))
+          inr (inr (record {
+            due = ResentFin
+                (end_of_text d);
+            is_due = due;
+            keeps = keeps;
+            next = record {
+              may = next.may;
+              bounded = bounded-kept d
+                  (after_emission s).sending keeps h;
+              form = inr (end_of_text d + 1, next);
+            };
+          }))
     ]
 
 pub bursting-emits : (s : State) → IsBursting s → Emits s
@@ -92,11 +116,13 @@ bursting-emits s h =
     ]
 
 -- THE TIMEOUT
-pub still-done : (range : Option (Range ℕ)) (una nxt : ℕ) → nxt ≤ una → IfSome range (λ range. range.end ≤ nxt) → IfSome range (λ range. range.end ≤ max range.start una)
+pub still-done : (range : Option (Range ℕ)) (una nxt : ℕ) → nxt ≤ una → IfSome range (λ range. range.end ≤ nxt)
+    → IfSome range (λ range. range.end ≤ max range.start una)
 still-done None una nxt idle h = tt
 still-done (Some range) una nxt idle h = omega (arith, idle, h)
 
-pub timeout-bursts : (s : State) → MaySend s → IsBounded s.sending → IfSome s.sending.resend (λ range. range.end ≤ s.sending.nxt) → IsBursting (after_retransmit s)
+pub timeout-bursts : (s : State) → MaySend s → IsBounded s.sending → IfSome s.sending.resend (λ range. range.end ≤ s.sending.nxt)
+    → IsBursting (after_retransmit s)
 timeout-bursts s may bounded range =
     elim (cases_lt s.sending.una s.sending.nxt) [
       | inl flight ↦ record {

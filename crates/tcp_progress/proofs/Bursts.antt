@@ -1,17 +1,15 @@
 -- THE OTHER SIDE IS SERVED: what it sends again goes out, and then it waits to be spoken to; or something is brought on.
 use Rattle.std.proofs.Common.{◌≡◌, ℕ, zero, suc, ◌<◌, List, ◌++◌, inl, inr, refl, sym, ◌∙◌, ap, subst, arith}
-use Rattle.std.specs.Prelude.{false, None, ◌⊎◌}
+use Rattle.std.specs.Prelude.{None}
 use Rattle.std.specs.List.{AllByRecursion}
-use Rattle.std.proofs.lemmas.Bool.{cases_lt}
 use Rattle.tcp_conn.specs.State.{State}
 use Rattle.tcp_conn.specs.Due.{due_of}
 use Rattle.tcp_conn.specs.Emission.{after_emission}
 use Rattle.tcp_replay.specs.declared.event.Side.{Side}
 use Rattle.tcp_replay.specs.Events.{EventContent, Emit}
-use Rattle.tcp_replay.specs.Safe.{gave_up, next_position}
+use Rattle.tcp_replay.specs.Safe.{next_position}
 use Rattle.tcp_replay.specs.World.{WorldState, other, party_of, world_after, world_after_all}
 use Rattle.tcp_progress.specs.Fair.{AllCome, IsCalm, IsIdle, emissions, NoneGaveUp}
-use Rattle.tcp_progress.specs.Measure.{left_in}
 use Rattle.tcp_progress.proofs.Bursting.{IsBursting, bursting-emits}
 use Rattle.tcp_progress.proofs.CalmWorlds.{steps-all}
 use Rattle.tcp_progress.proofs.Serving.{emit-endpoint, none-some}
@@ -25,7 +23,8 @@ same-emission s e = rw e refl
 
 abbrev pub IsBurstingTo : WorldState → Side → Type 0
 IsBurstingTo w side =
-    ((party_of w side).endpoint.sending.nxt ≡ next_position (party_of w (other side))) × ((party_of w (other side)).endpoint.sending.una < next_position (party_of w side)) × IsBursting (party_of w side).endpoint
+    ((party_of w side).endpoint.sending.nxt ≡ next_position (party_of w (other side)))
+    × ((party_of w (other side)).endpoint.sending.una < next_position (party_of w side)) × IsBursting (party_of w side).endpoint
 
 waits-idle : (w : WorldState) (side : Side) → IsBurstingTo w side → due_of (party_of w side).endpoint ≡ None → Waits w side
 waits-idle w side ready idle =
@@ -48,7 +47,8 @@ burst-waits (suc n) w side later calm h ready idle come up =
     let events = emissions side n ++ later in
     let end = world_after_all v events in
     let calm' = calm-append (emissions side n) later (calm-emissions side n) calm in
-    let goes-on : IsBursting (after_emission s) → (after_emission s).sending.nxt ≡ s.sending.nxt → Lowers w end (Waits (world_after_all v (emissions side n)) side) = λ next same.
+    let goes-on : IsBursting (after_emission s) → (after_emission s).sending.nxt ≡ s.sending.nxt → Lowers w end
+    (Waits (world_after_all v (emissions side n)) side) = λ next same.
     over-event w (Emit side) end (Waits (world_after_all v (emissions side n)) side) tt h (steps-all v events calm') up (λ hv still.
     let is = still side in
     let at = ap (λ (t : State). t.sending.nxt) (emit-endpoint w side) ∙ same ∙ ready.0 ∙ sym is.next_of_y in

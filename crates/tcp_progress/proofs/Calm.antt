@@ -1,6 +1,6 @@
 -- CALM EVENTS only bring both ends on: SND.UNA, SND.NXT and RCV.NXT don't go back, nothing more is accepted, and no end that lives comes to
 -- an end but by a reset, or in order and with nothing left.
-use Rattle.std.proofs.Common.{◌≡◌, ℕ, ◌+◌, ◌≤◌, List, [], ◌++◌, length, inl, inr, refl, sym, ◌∙◌, ap, subst, arith, append-nil, append_assoc, length-append}
+use Rattle.std.proofs.Common.{◌≡◌, ℕ, ◌≤◌, List, [], ◌++◌, length, inl, inr, refl, sym, ◌∙◌, ap, subst, arith, append-nil, append_assoc, length-append}
 use Rattle.std.specs.Prelude.{Bool, true, false, Option, Some, None, ◌⊎◌, option_map, option_to_list, if◌then◌else◌}
 use Rattle.std.proofs.lemmas.Bool.{cases_Bool, cond_both}
 use Rattle.tcp_wire.specs.Flags.{has, rst}
@@ -8,10 +8,12 @@ use Rattle.tcp_wire.specs.Wire.{Content}
 use Rattle.tcp_halves.specs.declared.phase.Ending.{Ending}
 use Rattle.tcp_halves.specs.declared.phase.Ending.TheVariants.{NotEnded, Orderly}
 use Rattle.tcp_halves.specs.declared.phase.Phase.{Phase}
-use Rattle.tcp_halves.specs.declared.phase.Phase.TheVariants.{Closed, Listen, SynSent, SynReceived, Established, FinWait1, FinWait2, CloseWait, Closing, LastAck, TimeWait}
+use Rattle.tcp_halves.specs.declared.phase.Phase.TheVariants.{Closed, Listen, SynSent, SynReceived, Established, FinWait1, FinWait2, CloseWait, Closing}
+use Rattle.tcp_halves.specs.declared.phase.Phase.TheVariants.{LastAck, TimeWait}
 use Rattle.tcp_halves.specs.declared.phase.Timer.{Timer as Which}
 use Rattle.tcp_halves.specs.declared.phase.Timer.TheVariants as timers
 use Rattle.tcp_halves.specs.Phase.{gives_up, is_closed}
+use Rattle.tcp_halves.specs.Sender.{Sending}
 use Rattle.tcp_conn.specs.State.{State}
 use Rattle.tcp_conn.specs.declared.judgement.Judgement.{Judgement}
 use Rattle.tcp_conn.specs.declared.judgement.Judgement.TheVariants.{Foreign, PeerRefuses, PeerResets, ResetIgnored, Stray}
@@ -19,11 +21,13 @@ use Rattle.tcp_conn.specs.Calls.{after_acknowledge}
 use Rattle.tcp_conn.specs.Timers.{after_gaps, after_reorder, marks_end}
 use Rattle.tcp_conn.specs.Emission.{emitted_bytes}
 use Rattle.tcp_conn.specs.Judgement.{closed_judgement, is_foreign, judgement, phase_judgement}
-use Rattle.tcp_conn.specs.Arrival.{after_acked_text, after_arrival, after_fin, after_its_ack, after_its_text, after_judgement, after_news, after_own_syn, after_peer_accepts, after_peer_opens, after_taking, after_taking_shut}
+use Rattle.tcp_conn.specs.Arrival.{after_acked_text, after_arrival, after_fin, after_its_ack, after_its_text, after_judgement, after_news, after_own_syn}
+use Rattle.tcp_conn.specs.Arrival.{after_peer_accepts, after_peer_opens, after_taking, after_taking_shut}
 use Rattle.tcp_replay.specs.declared.event.Side.{Side}
 use Rattle.tcp_replay.specs.Alone.{FitsPhase, IsAlone}
 use Rattle.tcp_replay.specs.Events.{Timer}
-use Rattle.tcp_replay.specs.World.{PartyState, SentSegment, max_life, delivery_refusal, sent_at, sent_by, segment_at, party_after_receive, party_after_acknowledge, party_after_timer, party_after_emission, party_after_arrival}
+use Rattle.tcp_replay.specs.World.{PartyState, SentSegment, max_life, delivery_refusal, sent_at, sent_by, segment_at, party_after_receive}
+use Rattle.tcp_replay.specs.World.{party_after_acknowledge, party_after_timer, party_after_emission, party_after_arrival}
 use Rattle.tcp_replay.specs.Safe.{next_position}
 use Rattle.tcp_replay.specs.Sound.{IsSoundPair}
 use Rattle.tcp_replay.proofs.Phases.{at-listen}
@@ -63,7 +67,21 @@ pub record Grows (p p' : PartyState) : Type 0 where
   pub ended : p.ended ≡ true → p'.ended ≡ true
 
 pub grows-same : (p : PartyState) → Grows p p
-grows-same p = record { config = refl; una = omega arith; nxt = omega arith; next = omega arith; opened = λ e. e; accepted = refl; closed = refl; more = []; sent = sym (append-nil p.sent); handed = omega arith; ended = λ e. e }
+grows-same p =
+    record {
+      config = refl;
+      una = omega arith;
+      nxt = omega arith;
+      next = omega arith;
+      opened = λ e. e;
+      accepted = refl;
+      closed = refl;
+      more = [];
+      sent = sym
+          (append-nil p.sent);
+      handed = omega arith;
+      ended = λ e. e;
+    }
 
 pub grows-then : (p p' p'' : PartyState) → Grows p p' → Grows p' p'' → Grows p p''
 grows-then p p' p'' one two = record {
@@ -89,7 +107,8 @@ pub moves-same : (p : PartyState) → IsMoved p p
 moves-same p = record { grows = grows-same p; ending = inl refl }
 
 -- what an end does by itself
-moves-still : (p p' : PartyState) (more : List SentSegment) → IsStill p p' → p'.sent ≡ p.sent ++ more → length p.delivered ≤ length p'.delivered → (p.ended ≡ true → p'.ended ≡ true) → IsMoved p p'
+moves-still : (p p' : PartyState) (more : List SentSegment) → IsStill p p' → p'.sent ≡ p.sent ++ more → length p.delivered ≤ length p'.delivered
+    → (p.ended ≡ true → p'.ended ≡ true) → IsMoved p p'
 moves-still p p' more h sent handed ended = record {
   grows = record {
     config = h.config;
@@ -109,18 +128,50 @@ moves-still p p' more h sent handed ended = record {
 
 pub moves-read : (p : PartyState) (room : ℕ) → IsMoved p (party_after_receive p room)
 unfolding party_after_receive
-moves-read p room = moves-still p (party_after_receive p room) [] (still-reading p room) (sym (append-nil p.sent)) (omega (arith, length-append p.delivered)) (λ e. rw e refl)
+moves-read p room =
+    moves-still p (party_after_receive p room) [] (still-reading p room) (sym (append-nil p.sent)) (omega (arith, length-append p.delivered)) (λ e. rw e refl)
 
 pub moves-acknowledged : (p : PartyState) → IsMoved p (party_after_acknowledge p)
 unfolding party_after_acknowledge after_acknowledge
 moves-acknowledged p =
     moves-still p (party_after_acknowledge p) []
-    (record { config = refl; phase = refl; ending = refl; closing = refl; opened = refl; finished = refl; una = refl; nxt = omega arith; ordered = refl; accepted = refl; closed = refl })
+    (record {
+      config = refl;
+      phase = refl;
+      ending = refl;
+      closing = refl;
+      opened = refl;
+      finished = refl;
+      una = refl;
+      nxt = omega arith;
+      ordered = refl;
+      accepted = refl;
+      closed = refl;
+    })
     (sym (append-nil p.sent)) (omega arith) (λ e. e)
 
+-- another sending side with the same SND.UNA, whose SND.NXT doesn't go back
+sending-still : (p : PartyState) (d : Sending) → d.una ≡ p.endpoint.sending.una → p.endpoint.sending.nxt ≤ d.nxt
+    → IsStill p (record p { endpoint = record p.endpoint { sending = d } })
+sending-still p d una nxt = record {
+  config = refl;
+  phase = refl;
+  ending = refl;
+  closing = refl;
+  opened = refl;
+  finished = refl;
+  una = una;
+  nxt = nxt;
+  ordered = refl;
+  accepted = refl;
+  closed = refl;
+}
+
 gaps-still : (p : PartyState) (end : Option ℕ) → IsStill p (record p { endpoint = record p.endpoint { sending = after_gaps p.endpoint.sending end } })
-gaps-still p None = record { config = refl; phase = refl; ending = refl; closing = refl; opened = refl; finished = refl; una = refl; nxt = omega arith; ordered = refl; accepted = refl; closed = refl }
-gaps-still p (Some end) = record { config = refl; phase = refl; ending = refl; closing = refl; opened = refl; finished = refl; una = refl; nxt = omega arith; ordered = refl; accepted = refl; closed = refl }
+gaps-still p None =
+    sending-still p (after_gaps p.endpoint.sending None) refl (omega arith)
+gaps-still p (Some end) =
+    sending-still p (after_gaps p.endpoint.sending (Some end)) refl (omega arith)
 
 still-reorder : (p : PartyState) → IsStill p (party_after_timer p timers.Reorder)
 unfolding party_after_timer after_reorder
@@ -128,13 +179,17 @@ still-reorder p = gaps-still p (marks_end p.endpoint)
 
 pub moves-timer : (p : PartyState) (side : Side) (which : Which) → IsCalm (Timer side which) → IsMoved p (party_after_timer p which)
 unfolding party_after_timer
-moves-timer p side timers.Retransmit calm = moves-still p (party_after_timer p timers.Retransmit) [] (still-retransmit p) (sym (append-nil p.sent)) (omega arith) (λ e. e)
-moves-timer p side timers.Reorder calm = moves-still p (party_after_timer p timers.Reorder) [] (still-reorder p) (sym (append-nil p.sent)) (omega arith) (λ e. e)
+moves-timer p side timers.Retransmit calm =
+    moves-still p (party_after_timer p timers.Retransmit) [] (still-retransmit p) (sym (append-nil p.sent)) (omega arith) (λ e. e)
+moves-timer p side timers.Reorder calm =
+    moves-still p (party_after_timer p timers.Reorder) [] (still-reorder p) (sym (append-nil p.sent)) (omega arith) (λ e. e)
 moves-timer p side timers.TimeWait calm = absurd calm
 
 pub moves-emission : (p : PartyState) → IsMoved p (party_after_emission p)
 unfolding party_after_emission
-moves-emission p = moves-still p (party_after_emission p) (option_to_list (option_map (sent_by p.endpoint) (emitted_bytes p.endpoint))) (still-emission p) refl (omega arith) (λ e. e)
+moves-emission p =
+    moves-still p (party_after_emission p) (option_to_list (option_map (sent_by p.endpoint) (emitted_bytes p.endpoint))) (still-emission p) refl (omega arith)
+    (λ e. e)
 
 -- ---- ARRIVALS. SND.UNA doesn't go back
 taking-una : (s : State) (v : Content) → (after_taking s v).sending.una ≡ (after_its_ack s v).sending.una
@@ -161,7 +216,8 @@ una-judgement s src dst v accepted closed alone =
       stray = omega arith;
       ack_of_listen = omega arith;
       no_syn = omega arith;
-      peer_opens = λ listening is. let at = at-listen s.phase s.ending d.una d.nxt r.opened r.finished listening alone.progress in omega (arith, at.1.nxt_is, order);
+      peer_opens = λ listening is. let at = at-listen s.phase s.ending d.una d.nxt r.opened r.finished listening alone.progress in omega
+          (arith, at.1.nxt_is, order);
       ack_of_no_syn = omega arith;
       peer_refuses = omega arith;
       peer_accepts = λ sent is. omega (arith, order);
@@ -242,11 +298,13 @@ ends-judgement s src dst v goes =
     ]
 
 -- in CLOSED nothing ends
-pub closed-ending : (s : State) (src dst : List ℕ) (v : Content) → is_closed s.phase ≡ true → (after_judgement (judgement s src dst v) s src v).ending ≡ s.ending
+pub closed-ending : (s : State) (src dst : List ℕ) (v : Content) → is_closed s.phase ≡ true
+    → (after_judgement (judgement s src dst v) s src v).ending ≡ s.ending
 unfolding judgement phase_judgement closed_judgement
 closed-ending s src dst v shut =
     let P : Judgement → Type 0 = λ j. (after_judgement j s src v).ending ≡ s.ending in
-    rw shut (cond_both (is_foreign s src dst v) Foreign (if has rst v.flags then ResetIgnored else Stray) P (λ _. refl) (λ _. cond_both (has rst v.flags) ResetIgnored Stray P (λ _. refl) (λ _. refl)))
+    rw shut (cond_both (is_foreign s src dst v) Foreign (if has rst v.flags then ResetIgnored else Stray) P (λ _. refl)
+    (λ _. cond_both (has rst v.flags) ResetIgnored Stray P (λ _. refl) (λ _. refl)))
 
 pub not-both : (ending : Ending) → ending ≡ NotEnded → ending ≡ Orderly → ⊥
 not-both ending goes over = absurd (cc)
@@ -254,7 +312,8 @@ not-both ending goes over = absurd (cc)
 pub on-swapped : (x y : PartyState) → GoOn x y → GoOn y x
 on-swapped x y h = record { there = h.back; back = h.there; live = λ some. let both = h.live (omega (arith, some)) in (both.1, both.0) }
 
-pub open-goes : (phase : Phase) (ending : Ending) (una nxt : ℕ) (opened finished : Bool) → is_closed phase ≡ false → FitsPhase phase ending una nxt opened finished → ending ≡ NotEnded
+pub open-goes : (phase : Phase) (ending : Ending) (una nxt : ℕ) (opened finished : Bool) → is_closed phase ≡ false
+    → FitsPhase phase ending una nxt opened finished → ending ≡ NotEnded
 open-goes Closed ending una nxt opened finished e h = absurd (cc)
 open-goes Listen ending una nxt opened finished e h = h.0
 open-goes SynSent ending una nxt opened finished e h = h.0
@@ -267,7 +326,8 @@ open-goes Closing ending una nxt opened finished e h = h.0
 open-goes LastAck ending una nxt opened finished e h = h.0
 open-goes TimeWait ending una nxt opened finished e h = h.0
 
-may_end-judgement : (s : State) (src dst : List ℕ) (v : Content) (accepted : List ℕ) (closed : Bool) → IsAlone s accepted closed → MayEnd s (after_judgement (judgement s src dst v) s src v)
+may_end-judgement : (s : State) (src dst : List ℕ) (v : Content) (accepted : List ℕ) (closed : Bool) → IsAlone s accepted closed
+    → MayEnd s (after_judgement (judgement s src dst v) s src v)
 may_end-judgement s src dst v accepted closed alone =
     elim (cases_Bool (is_closed s.phase)) [
       | inl shut ↦ inl (closed-ending s src dst v shut)
@@ -277,7 +337,8 @@ may_end-judgement s src dst v accepted closed alone =
     ]
 
 -- a segment of q arrives
-pub moves-arrival : (p q : PartyState) (life k : ℕ) → life ≤ max_life → delivery_refusal life q p k ≡ None → IsSoundPair p q → KeepBothSent p q → IsMoved p (party_after_arrival p q (segment_at q k))
+pub moves-arrival : (p q : PartyState) (life k : ℕ) → life ≤ max_life → delivery_refusal life q p k ≡ None → IsSoundPair p q → KeepBothSent p q
+    → IsMoved p (party_after_arrival p q (segment_at q k))
 unfolding party_after_arrival
 moves-arrival p q life k most e pair h =
     let s = p.endpoint in

@@ -5,15 +5,18 @@ use Rattle.std.specs.Prelude.{true, false, Option, Some, None, ◌⊎◌}
 use Rattle.std.proofs.lemmas.Bool.{false≢true}
 use Rattle.tcp_halves.specs.declared.phase.Ending.TheVariants.{NotEnded, Orderly}
 use Rattle.tcp_halves.specs.declared.phase.Phase.{Phase}
-use Rattle.tcp_halves.specs.declared.phase.Phase.TheVariants.{Closed, Listen, SynSent, SynReceived, Established, FinWait1, FinWait2, CloseWait, Closing, LastAck, TimeWait}
+use Rattle.tcp_halves.specs.declared.phase.Phase.TheVariants.{Closed, Listen, SynSent, SynReceived, Established, FinWait1, FinWait2, CloseWait, Closing}
+use Rattle.tcp_halves.specs.declared.phase.Phase.TheVariants.{LastAck, TimeWait}
 use Rattle.tcp_halves.specs.Phase.{gives_up}
 use Rattle.tcp_conn.specs.State.{State}
 use Rattle.tcp_replay.specs.declared.event.Side.{Side}
 use Rattle.tcp_replay.specs.declared.event.Side.TheVariants.{A, B}
 use Rattle.tcp_replay.specs.declared.outcome.StepError.{StepError}
 use Rattle.tcp_replay.specs.Alone.{FitsPhase, Sends}
-use Rattle.tcp_replay.specs.Events.{EventContent, HasBytes, side_of, Connect, Listen as Listens, Send, Receive, Close, Abort, Acknowledge, Timer, Emit, Deliver, Damage}
-use Rattle.tcp_replay.specs.World.{WorldState, PartyState, max_life, other, party_of, world_from, effect_of, refusal_of, world_with_effect, stay_or, world_after, world_after_all}
+use Rattle.tcp_replay.specs.Events.{EventContent, HasBytes, side_of, Connect, Listen as Listens, Send, Receive, Close, Abort, Acknowledge, Timer, Emit}
+use Rattle.tcp_replay.specs.Events.{Deliver, Damage}
+use Rattle.tcp_replay.specs.World.{WorldState, PartyState, max_life, other, party_of, world_from, effect_of, refusal_of, world_with_effect, stay_or}
+use Rattle.tcp_replay.specs.World.{world_after, world_after_all}
 use Rattle.tcp_replay.specs.Safe.{gave_up, next_position}
 use Rattle.tcp_replay.specs.Sound.{IsSoundPair}
 use Rattle.tcp_replay.proofs.Lists.{one_if, one_if-most}
@@ -31,7 +34,8 @@ use Rattle.tcp_progress.proofs.Forward.{acked-all}
 use Rattle.tcp_progress.proofs.Measure.{GoOn}
 use Rattle.tcp_progress.proofs.Ready.{steady-back}
 use Rattle.tcp_progress.proofs.AlwaysSteady.{IsKept, kept-after, kept-steady}
-use Rattle.tcp_progress.proofs.Calm.{Grows, IsMoved, grows-same, grows-then, moves-acknowledged, moves-arrival, moves-emission, moves-read, moves-same, moves-timer, not-both, on-swapped}
+use Rattle.tcp_progress.proofs.Calm.{Grows, IsMoved, grows-same, grows-then, moves-acknowledged, moves-arrival, moves-emission, moves-read, moves-same}
+use Rattle.tcp_progress.proofs.Calm.{moves-timer, not-both, on-swapped}
 
 -- ---- ONE OF TWO PARTIES MOVES
 abbrev pub OneMoves : PartyState → PartyState → PartyState → PartyState → Type 0
@@ -41,7 +45,8 @@ one-swapped : (p q p' q' : PartyState) → OneMoves p q p' q' → OneMoves q p q
 one-swapped p q p' q' (inl here) = inr (here.1, here.0)
 one-swapped p q p' q' (inr there) = inl (there.1, there.0)
 
-calm-effect : (life : ℕ) (p q : PartyState) (event : EventContent) → IsCalm event → life ≤ max_life → (effect_of life p q event).refusal ≡ None → IsSoundPair p q → KeepBothSent p q
+calm-effect : (life : ℕ) (p q : PartyState) (event : EventContent) → IsCalm event → life ≤ max_life → (effect_of life p q event).refusal ≡ None
+    → IsSoundPair p q → KeepBothSent p q
     → OneMoves p q (effect_of life p q event).here (effect_of life p q event).there
 unfolding effect_of
 calm-effect life p q (Receive side room) calm most e pair h = inl (moves-read p room, refl)
@@ -49,19 +54,23 @@ calm-effect life p q (Acknowledge side) calm most e pair h = inl (moves-acknowle
 calm-effect life p q (Timer side which) calm most e pair h = inl (moves-timer p side which calm, refl)
 calm-effect life p q (Emit side) calm most e pair h = inl (moves-emission p, refl)
 calm-effect life p q (Deliver from k) calm most e pair h = inr (refl, moves-arrival q p life k most e (pair-swapped _ _ pair) (sent-swapped _ _ h))
-calm-effect life p q (Damage from k place value) calm most e pair h = inr (refl, subst (λ (x : PartyState). IsMoved q x) (sym (finds-damage q p life k place value calm e (pair-swapped _ _ pair)).same) (moves-same q))
+calm-effect life p q (Damage from k place value) calm most e pair h =
+    inr (refl, subst (λ (x : PartyState). IsMoved q x) (sym (finds-damage q p life k place value calm e (pair-swapped _ _ pair)).same) (moves-same q))
 calm-effect life p q (Connect side) calm most e pair h = absurd calm
 calm-effect life p q (Listens side) calm most e pair h = absurd calm
 calm-effect life p q (Send side text) calm most e pair h = absurd calm
 calm-effect life p q (Close side) calm most e pair h = absurd calm
 calm-effect life p q (Abort side) calm most e pair h = absurd calm
 
-calm-from : (w : WorldState) (side : Side) (event : EventContent) → IsCalm event → w.life ≤ max_life → (effect_of w.life (party_of w side) (party_of w (other side)) event).refusal ≡ None → IsSoundPair w.a w.b → KeepBothSent w.a w.b
-    → let v = world_from w.life side (effect_of w.life (party_of w side) (party_of w (other side)) event).here (effect_of w.life (party_of w side) (party_of w (other side)) event).there in OneMoves w.a w.b v.a v.b
+calm-from : (w : WorldState) (side : Side) (event : EventContent) → IsCalm event → w.life ≤ max_life
+    → (effect_of w.life (party_of w side) (party_of w (other side)) event).refusal ≡ None → IsSoundPair w.a w.b → KeepBothSent w.a w.b
+    → let v = world_from w.life side (effect_of w.life (party_of w side) (party_of w (other side)) event).here
+    (effect_of w.life (party_of w side) (party_of w (other side)) event).there in OneMoves w.a w.b v.a v.b
 calm-from w A event calm most e pair h = calm-effect w.life w.a w.b event calm most e pair h
 calm-from w B event calm most e pair h = one-swapped _ _ _ _ (calm-effect w.life w.b w.a event calm most e (pair-swapped _ _ pair) (sent-swapped _ _ h))
 
-pub calm-event : (w : WorldState) (event : EventContent) → IsCalm event → refusal_of w event ≡ None → IsKept w → OneMoves w.a w.b (world_with_effect w event).a (world_with_effect w event).b
+pub calm-event : (w : WorldState) (event : EventContent) → IsCalm event → refusal_of w event ≡ None → IsKept w
+    → OneMoves w.a w.b (world_with_effect w event).a (world_with_effect w event).b
 calm-event w event calm e h = calm-from w (side_of event) event calm h.sound.life e h.sound.ends h.all.sent
 
 -- ---- WHO HAS GIVEN UP STAYS SO
@@ -139,7 +148,8 @@ steps-all w (event ∷ events) calm h =
     steps-then w (world_after w event) (world_after_all (world_after w event) events) one (steps-all (world_after w event) events calm.1 one.kept)
 
 -- ---- BOTH GO ON, while no end is reset
-pub says-over : (s : State) (phase : Phase) → s.ending ≡ Orderly → FitsPhase phase s.ending s.sending.una s.sending.nxt s.receiving.opened s.receiving.finished → SaysByPhase phase s → Says true true true s
+pub says-over : (s : State) (phase : Phase) → s.ending ≡ Orderly → FitsPhase phase s.ending s.sending.una s.sending.nxt s.receiving.opened s.receiving.finished
+    → SaysByPhase phase s → Says true true true s
 says-over s Closed over fits says = says over
 says-over s Listen over fits says = absurd (not-both s.ending fits.0 over)
 says-over s SynSent over fits says = absurd (not-both s.ending fits.0 over)
@@ -153,7 +163,8 @@ says-over s LastAck over fits says = absurd (not-both s.ending fits.0 over)
 says-over s TimeWait over fits says = absurd (not-both s.ending fits.0 over)
 
 -- who ends in order from LAST-ACK leaves nothing behind
-over-nothing : (p p' q : PartyState) → IsMoved p p' → IsSteadyPair p q → IsSteadyPair p' q → p'.endpoint.ending ≡ Orderly → p.endpoint.phase ≡ LastAck → left_of_both p' q ≡ 0
+over-nothing : (p p' q : PartyState) → IsMoved p p' → IsSteadyPair p q → IsSteadyPair p' q → p'.endpoint.ending ≡ Orderly → p.endpoint.phase ≡ LastAck
+    → left_of_both p' q ≡ 0
 over-nothing p p' q h before after over last =
     let s = p'.endpoint in
     let says = says-over s s.phase over after.pair.there.alone.progress after.there.stage in
@@ -169,7 +180,8 @@ over-nothing p p' q h before after over last =
 
 on-moved : (p p' q : PartyState) → IsMoved p p' → IsSteadyPair p q → IsSteadyPair p' q → GoOn p q → gave_up p' ≡ false → GoOn p' q
 on-moved p p' q h before after on stays =
-    let lived : 0 < left_of_both p' q → IsLive p × IsLive q = λ some. on.live (omega (arith, some, h.grows.una, h.grows.next, ap length h.grows.accepted, ap one_if h.grows.closed)) in
+    let lived : 0 < left_of_both p' q → IsLive p × IsLive q = λ some. on.live
+    (omega (arith, some, h.grows.una, h.grows.next, ap length h.grows.accepted, ap one_if h.grows.closed)) in
     let goes : p.endpoint.ending ≡ NotEnded → (p'.endpoint.ending ≡ NotEnded) ⊎ ((p'.endpoint.ending ≡ Orderly) × (left_of_both p' q ≡ 0)) = λ e.
     elim h.ending [
       | inl same ↦ inl (same ∙ e)
@@ -216,14 +228,18 @@ on-one p q p' q' (inl here) before after on one two =
     subst (λ (x : PartyState). GoOn p' x) (sym here.1) (on-moved p p' q here.0 before (subst (λ (x : PartyState). IsSteadyPair p' x) here.1 after) on one)
 on-one p q p' q' (inr there) before after on one two =
     let after' : IsSteadyPair p q' = subst (λ (x : PartyState). IsSteadyPair x q') there.0 after in
-    subst (λ (x : PartyState). GoOn x q') (sym there.0) (on-swapped q' p (on-moved q q' p there.1 (steady-back q p before) (steady-back q' p after') (on-swapped p q on) two))
+    subst (λ (x : PartyState). GoOn x q') (sym there.0)
+    (on-swapped q' p (on-moved q q' p there.1 (steady-back q p before) (steady-back q' p after') (on-swapped p q on) two))
 
-pub on-event : (w : WorldState) (event : EventContent) → IsCalm event → IsKept w → GoOn w.a w.b → gave_up (world_after w event).a ≡ false → gave_up (world_after w event).b ≡ false → GoOn (world_after w event).a (world_after w event).b
+pub on-event : (w : WorldState) (event : EventContent) → IsCalm event → IsKept w → GoOn w.a w.b → gave_up (world_after w event).a ≡ false
+    → gave_up (world_after w event).b ≡ false → GoOn (world_after w event).a (world_after w event).b
 on-event w event calm h on =
     after-either (λ (v : WorldState). gave_up v.a ≡ false → gave_up v.b ≡ false → GoOn v.a v.b) (refusal_of w event) w (world_with_effect w event) (λ _ _. on)
-    (λ e. on-one w.a w.b _ _ (calm-event w event calm e h) (kept-steady w h).ends (kept-steady (world_with_effect w event) (kept-after w event (calm-bytes event calm) e h)).ends on)
+    (λ e. on-one w.a w.b _ _ (calm-event w event calm e h) (kept-steady w h).ends
+    (kept-steady (world_with_effect w event) (kept-after w event (calm-bytes event calm) e h)).ends on)
 
-pub on-all : (w : WorldState) (events : List EventContent) → AllByRecursion IsCalm events → IsKept w → GoOn w.a w.b → gave_up (world_after_all w events).a ≡ false → gave_up (world_after_all w events).b ≡ false
+pub on-all : (w : WorldState) (events : List EventContent) → AllByRecursion IsCalm events → IsKept w → GoOn w.a w.b
+    → gave_up (world_after_all w events).a ≡ false → gave_up (world_after_all w events).b ≡ false
     → GoOn (world_after_all w events).a (world_after_all w events).b
 unfolding world_after_all
 on-all w [] calm h on one two = on
@@ -235,4 +251,15 @@ on-all w (event ∷ events) calm h on one two =
 
 -- less is left, or as much
 pub steps-left : (w v : WorldState) → Steps w v → left_in v ≤ left_in w
-steps-left w v h = omega (arith, h.there.una, h.there.next, h.back.una, h.back.next, ap length h.there.accepted, ap one_if h.there.closed, ap length h.back.accepted, ap one_if h.back.closed)
+steps-left w v h =
+    omega (
+      arith,
+      h.there.una,
+      h.there.next,
+      h.back.una,
+      h.back.next,
+      ap length h.there.accepted,
+      ap one_if h.there.closed,
+      ap length h.back.accepted,
+      ap one_if h.back.closed,
+    )

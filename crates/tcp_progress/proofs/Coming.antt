@@ -52,10 +52,11 @@ unfolding world_after_all
 come-after w [] ys later h = h
 come-after w (x ∷ xs) ys later h = come-after (world_after w x) xs ys later h.1
 
-pub come-both : (w : WorldState) (xs ys later : List EventContent) → AllCome w xs (ys ++ later) → AllCome (world_after_all w xs) ys later → AllCome w (xs ++ ys) later
+pub come-both : (w : WorldState) (xs ys later : List EventContent) → AllCome w xs (ys ++ later) → AllCome (world_after_all w xs) ys later
+    → AllCome w (xs ++ ys) later
 unfolding world_after_all
 come-both w [] ys later one two = two
 come-both w (x ∷ xs) ys later one two = (
-    subst (λ (events : List EventContent). Comes w x events) (sym (append_assoc xs ys later)) one.0,
-    come-both (world_after w x) xs ys later one.1 two,
+  subst (λ (events : List EventContent). Comes w x events) (sym (append_assoc xs ys later)) one.0,
+  come-both (world_after w x) xs ys later one.1 two,
 )

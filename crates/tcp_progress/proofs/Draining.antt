@@ -1,5 +1,5 @@
 -- EACH BURST ENDS: with no arrival between, an end has something due only so often.
-use Rattle.std.proofs.Common.{◌≡◌, ℕ, zero, suc, ◌+◌, ◌-◌, ◌<◌, ◌≤◌, List, [], ◌∷◌, ◌++◌, drop, length, refl, sym, ◌∙◌, ap, subst, arith, length-drop}
+use Rattle.std.proofs.Common.{◌≡◌, ℕ, zero, suc, ◌+◌, ◌-◌, ◌<◌, ◌≤◌, List, [], ◌∷◌, drop, length, refl, ◌∙◌, ap, subst, arith, length-drop}
 use Rattle.std.specs.Prelude.{Bool, true, false, ◌&&◌, ◌==◌, not, min, max, nat_le, nat_lt, Option, Some, None, IfSome, is_some}
 use Rattle.std.specs.Option.{option_or}
 use Rattle.std.specs.declared.ops.Range.{Range}
@@ -14,7 +14,8 @@ use Rattle.tcp_halves.specs.declared.phase.Timer.TheVariants.{Retransmit}
 use Rattle.tcp_halves.specs.Phase.{sends_text}
 use Rattle.tcp_halves.specs.Sender.{Sending, end_of_text, place_of, position_at}
 use Rattle.tcp_conn.specs.State.{State}
-use Rattle.tcp_conn.specs.Due.{ack_due, due_of, fin_of, new_count, new_text_of, reset_due, resend_of, resend_start, resent_fin, resent_run, resent_text, syn_due, text_due, text_limit}
+use Rattle.tcp_conn.specs.Due.{ack_due, due_of, fin_of, new_count, new_text_of, reset_due, resend_of, resend_start, resent_fin, resent_run, resent_text}
+use Rattle.tcp_conn.specs.Due.{syn_due, text_due, text_limit}
 use Rattle.tcp_conn.specs.Emission.{state_after}
 use Rattle.tcp_replay.specs.declared.event.Side.{Side}
 use Rattle.tcp_replay.specs.declared.event.Side.TheVariants.{A, B}
@@ -62,26 +63,32 @@ leading-some (false ∷ marks) h = omega arith
 run-some : (q : Queue) (at : ℕ) → first_unmarked q at < length q.marks → 0 < count_leading false (drop (first_unmarked q at) q.marks)
 run-some q at h =
     let c = count_leading true (drop at q.marks) in
-    subst (λ (marks : List Bool). 0 < count_leading false marks) (drop-drop c at q.marks) (leading-some (drop at q.marks) (omega (arith, h, length-drop at q.marks)))
+    subst (λ (marks : List Bool). 0 < count_leading false marks) (drop-drop c at q.marks)
+    (leading-some (drop at q.marks) (omega (arith, h, length-drop at q.marks)))
 
-text-again : (d : Sending) (limit : ℕ) (range : Range ℕ) (run : ℕ × ℕ) → 1 ≤ limit → d.resend ≡ Some range → max range.start d.una ≤ position_at d run.0 → run.0 < run.1 → IfSome (resent_text d limit range.end run) (Advances d)
+text-again : (d : Sending) (limit : ℕ) (range : Range ℕ) (run : ℕ × ℕ) → 1 ≤ limit → d.resend ≡ Some range → max range.start d.una ≤ position_at d run.0
+    → run.0 < run.1 → IfSome (resent_text d limit range.end run) (Advances d)
 text-again d limit range run room is ahead some =
     let from = position_at d run.0 in
     cond_both (nat_lt from range.end) (Some (Resend from (min limit (min (run.1 - run.0) (range.end - from))))) None (λ (o : Option Due). IfSome o (Advances d))
-    (λ e. let below : from < range.end = ltb-true from range.end e in (record { range = range; is = is; ahead = ahead; inside = below }, omega (arith, below, some, room)))
+    (λ e. let below : from < range.end = ltb-true from range.end e in
+    (record { range = range; is = is; ahead = ahead; inside = below }, omega (arith, below, some, room)))
     (λ _. tt)
 
 fin-again : (d : Sending) (range : Range ℕ) → d.resend ≡ Some range → IfSome (resent_fin d range) (Advances d)
 fin-again d range is =
-    cond_both (nat_lt (end_of_text d) range.end && nat_le (resend_start d range) (end_of_text d)) (Some (ResentFin (end_of_text d))) None (λ (o : Option Due). IfSome o (Advances d))
+    cond_both (nat_lt (end_of_text d) range.end && nat_le (resend_start d range) (end_of_text d)) (Some (ResentFin (end_of_text d))) None
+    (λ (o : Option Due). IfSome o (Advances d))
     (λ e. record { range = range; is = is; ahead = grind (arith, nat_tests, e); inside = grind (arith, nat_tests, e) })
     (λ _. tt)
 
-run-again : (d : Sending) (limit : ℕ) (range : Range ℕ) → 1 ≤ limit → d.resend ≡ Some range → IfSome (resent_run d limit range (next_unmarked d.queue (place_of d (resend_start d range)))) (Advances d)
+run-again : (d : Sending) (limit : ℕ) (range : Range ℕ) → 1 ≤ limit → d.resend ≡ Some range
+    → IfSome (resent_run d limit range (next_unmarked d.queue (place_of d (resend_start d range)))) (Advances d)
 unfolding next_unmarked
 run-again d limit range room is =
     let first = first_unmarked d.queue (place_of d (resend_start d range)) in
-    cond_both (nat_lt first (length d.queue.marks)) (Some (first, first + count_leading false (drop first d.queue.marks))) None (λ (run : Option (ℕ × ℕ)). IfSome (resent_run d limit range run) (Advances d))
+    cond_both (nat_lt first (length d.queue.marks)) (Some (first, first + count_leading false (drop first d.queue.marks))) None
+    (λ (run : Option (ℕ × ℕ)). IfSome (resent_run d limit range run) (Advances d))
     (λ e.
     text-again d limit range (first, first + count_leading false (drop first d.queue.marks)) room is (omega arith)
     (omega (arith, run-some d.queue (place_of d (resend_start d range)) (ltb-true first (length d.queue.marks) e))))
@@ -99,7 +106,8 @@ new-advances d limit probe =
     (λ e. let some : 0 < new_count d limit probe = grind (arith, nat_tests, e) in (refl, some))
 
 fin-advances : (d : Sending) (closing : Bool) → IfSome (fin_of d closing) (Advances d)
-fin-advances d closing = cond_both (closing && (d.nxt == end_of_text d)) (Some (Fin d.nxt)) None (λ (o : Option Due). IfSome o (Advances d)) (λ _. refl) (λ _. tt)
+fin-advances d closing =
+    cond_both (closing && (d.nxt == end_of_text d)) (Some (Fin d.nxt)) None (λ (o : Option Due). IfSome o (Advances d)) (λ _. refl) (λ _. tt)
 
 advance-settles : (s : State) (due : Due) → Advances s.sending due → Settles s due
 advance-settles s (Resend start count) h = h
@@ -169,11 +177,14 @@ settles-less n s (NewText start count) h most = omega (arith, h.0, h.1, most)
 settles-less n s (Fin start) h most = omega (arith, h, most)
 settles-less n s (Resend start count) h most =
     let again = h.0 in
-    let before : again_left s.sending.resend s.sending.una ≡ again.range.end - max again.range.start s.sending.una = ap (λ (o : Option (Range ℕ)). again_left o s.sending.una) again.is in
-    let after : again_left (state_after s (Resend start count)).sending.resend s.sending.una ≡ again.range.end - max (start + count) s.sending.una = rw again.is refl in
+    let before : again_left s.sending.resend s.sending.una ≡ again.range.end - max again.range.start s.sending.una = ap
+    (λ (o : Option (Range ℕ)). again_left o s.sending.una) again.is in
+    let after : again_left (state_after s (Resend start count)).sending.resend s.sending.una ≡ again.range.end - max
+    (start + count) s.sending.una = rw again.is refl in
     omega (arith, before, after, again.ahead, again.inside, h.1)
 settles-less n s (ResentFin start) h most =
-    let before : again_left s.sending.resend s.sending.una ≡ h.range.end - max h.range.start s.sending.una = ap (λ (o : Option (Range ℕ)). again_left o s.sending.una) h.is in
+    let before : again_left s.sending.resend s.sending.una ≡ h.range.end - max h.range.start s.sending.una = ap
+    (λ (o : Option (Range ℕ)). again_left o s.sending.una) h.is in
     let after : again_left (state_after s (ResentFin start)).sending.resend s.sending.una ≡ h.range.end - max (start + 1) s.sending.una = rw h.is refl in
     omega (arith, before, after, h.ahead, h.inside)
 
@@ -184,7 +195,8 @@ emitted-party w A = refl
 emitted-party w B = refl
 
 emission-less : (w : WorldState) (side : Side) (due : Due) → IsKept w → due_of (party_of w side).endpoint ≡ Some due
-    → due_left (all_of (party_of (world_after w (Emit side)) side)) (party_of (world_after w (Emit side)) side).endpoint < due_left (all_of (party_of w side)) (party_of w side).endpoint
+    → due_left (all_of (party_of (world_after w (Emit side)) side)) (party_of (world_after w (Emit side)) side).endpoint < due_left (all_of (party_of w side))
+    (party_of w side).endpoint
 emission-less w side due h is =
     let p = party_of w side in
     let q = party_of w (other side) in
@@ -201,17 +213,20 @@ emission-less w side due h is =
     rw (all, same) less
 
 -- THE BURST ENDS
-burst-within : (fuel : ℕ) (w : WorldState) (side : Side) (due : Option Due) → due_of (party_of w side).endpoint ≡ due → IsKept w → due_left (all_of (party_of w side)) (party_of w side).endpoint < fuel → BurstEnds w side
+burst-within : (fuel : ℕ) (w : WorldState) (side : Side) (due : Option Due) → due_of (party_of w side).endpoint ≡ due → IsKept w
+    → due_left (all_of (party_of w side)) (party_of w side).endpoint < fuel → BurstEnds w side
 unfolding world_after_all
 burst-within fuel w side None is h less = (0, is)
 burst-within zero w side (Some due) is h less = absurd (omega (arith, less))
 burst-within (suc fuel) w side (Some due) is h less =
     let v = world_after w (Emit side) in
-    let rest = burst-within fuel v side (due_of (party_of v side).endpoint) refl (steps-event w (Emit side) tt h).kept (omega (arith, less, emission-less w side due h is)) in
+    let rest = burst-within fuel v side (due_of (party_of v side).endpoint) refl (steps-event w (Emit side) tt h).kept
+    (omega (arith, less, emission-less w side due h is)) in
     (suc rest.0, rest.1)
 
 pub burst-ends : (w : WorldState) (side : Side) → IsKept w → BurstEnds w side
-burst-ends w side h = burst-within (suc (due_left (all_of (party_of w side)) (party_of w side).endpoint)) w side (due_of (party_of w side).endpoint) refl h (omega arith)
+burst-ends w side h =
+    burst-within (suc (due_left (all_of (party_of w side)) (party_of w side).endpoint)) w side (due_of (party_of w side).endpoint) refl h (omega arith)
 
 pub burst_lem : EachBurstEnds
 burst_lem = in-every-world (λ w. (side : Side) → BurstEnds w side) (λ w h side. burst-ends w side h)

@@ -1,7 +1,4 @@
 -- WHAT EVERY WORLD KEEPS is enough for what is claimed of every world; and over calm events what is left never grows.
-use Rattle.std.proofs.Common.{List}
-use Rattle.std.specs.List.{AllByRecursion}
-use Rattle.tcp_replay.specs.Events.{EventContent}
 use Rattle.tcp_replay.specs.World.{WorldState, world_after_all}
 use Rattle.tcp_progress.specs.Everywhere.{InEveryWorld}
 use Rattle.tcp_progress.specs.Fair.{NeverGrows, WhatIsLeftNeverGrows}

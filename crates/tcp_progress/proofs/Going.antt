@@ -52,11 +52,13 @@ una-most x y h = omega (arith, h.pair.there.alone.sends.order, h.pair.there.alon
 next-most : (x y : PartyState) → IsSteadyPair x y → y.endpoint.receiving.opened ≡ true → next_position y ≤ all_of x
 next-most x y h opened = omega (arith, h.there.sent.taken opened, h.pair.there.alone.sends.most)
 
-pub are-still : (x y x' y' : PartyState) → IsSteadyPair x' y' → GoOn x' y' → Grows x x' → Grows y y' → left_of_both x y ≤ left_of_both x' y' → AreStill x y x' y'
+pub are-still : (x y x' y' : PartyState) → IsSteadyPair x' y' → GoOn x' y' → Grows x x' → Grows y y' → left_of_both x y ≤ left_of_both x' y'
+    → AreStill x y x' y'
 are-still x y x' y' h on gx gy some =
     let alls : all_of x' ≡ all_of x = omega (arith, ap length gx.accepted, ap one_if gx.closed) in
     let alls' : all_of y' ≡ all_of y = omega (arith, ap length gy.accepted, ap one_if gy.closed) in
-    let is = there-still (all_of x) (all_of y) (next_position y) x.endpoint.sending.una (next_position x) y.endpoint.sending.una (next_position y') x'.endpoint.sending.una (next_position x') y'.endpoint.sending.una
+    let is = there-still (all_of x) (all_of y) (next_position y) x.endpoint.sending.una (next_position x) y.endpoint.sending.una
+    (next_position y') x'.endpoint.sending.una (next_position x') y'.endpoint.sending.una
     gy.next gx.una gx.next gy.una
     (omega (arith, next-most x' y' h on.back.opened, alls)) (omega (arith, una-most x' y' h, alls))
     (omega (arith, next-most y' x' (steady-back y' x' h) on.there.opened, alls')) (omega (arith, una-most y' x' (steady-back y' x' h), alls'))
@@ -64,7 +66,8 @@ are-still x y x' y' h on gx gy some =
     record { there = gx; back = gy; next_of_y = is.n_is; una_of_x = is.u_is; next_of_x = is.m_is; una_of_y = is.v_is }
 
 still-back : (x y x' y' : PartyState) → AreStill x y x' y' → AreStill y x y' x'
-still-back x y x' y' h = record { there = h.back; back = h.there; next_of_y = h.next_of_x; una_of_x = h.una_of_y; next_of_x = h.next_of_y; una_of_y = h.una_of_x }
+still-back x y x' y' h =
+    record { there = h.back; back = h.there; next_of_y = h.next_of_x; una_of_x = h.una_of_y; next_of_x = h.next_of_y; una_of_y = h.una_of_x }
 
 -- a user who has read all has still read all
 not-more : (n n' all : ℕ) (fin fin' : Bool) → n' ≤ all → (fin ≡ true → n ≡ all) → 1 + n' + one_if fin' ≡ 1 + n + one_if fin → n' ≤ n
@@ -92,7 +95,8 @@ pub side-left : (w : WorldState) (side : Side) → left_of_both (party_of w side
 side-left w A = refl
 side-left w B = omega arith
 
-pub side-still : (w v : WorldState) (side : Side) → Steps w v → GoOn v.a v.b → left_in w ≤ left_in v → AreStill (party_of w side) (party_of w (other side)) (party_of v side) (party_of v (other side))
+pub side-still : (w v : WorldState) (side : Side) → Steps w v → GoOn v.a v.b → left_in w ≤ left_in v
+    → AreStill (party_of w side) (party_of w (other side)) (party_of v side) (party_of v (other side))
 side-still w v A steps on some = are-still w.a w.b v.a v.b (kept-steady v steps.kept).ends on steps.there steps.back some
 side-still w v B steps on some = still-back w.a w.b v.a v.b (are-still w.a w.b v.a v.b (kept-steady v steps.kept).ends on steps.there steps.back some)
 
@@ -129,7 +133,8 @@ IsStillFrom w v = (side : Side) → AreStill (party_of w side) (party_of w (othe
 pub going-live : (w : WorldState) (side : Side) → IsGoing w → IsLive (party_of w side) × IsLive (party_of w (other side))
 going-live w side h = (side-on w side h.on).live (omega (arith, h.some, side-left w side))
 
-pub steps-both : (w : WorldState) (xs ys : List EventContent) → AllByRecursion IsCalm xs → AllByRecursion IsCalm ys → IsKept w → Steps w (world_after_all (world_after_all w xs) ys)
+pub steps-both : (w : WorldState) (xs ys : List EventContent) → AllByRecursion IsCalm xs → AllByRecursion IsCalm ys → IsKept w
+    → Steps w (world_after_all (world_after_all w xs) ys)
 steps-both w xs ys calm calm' h =
     let one = steps-all w xs calm h in
     steps-then w (world_after_all w xs) (world_after_all (world_after_all w xs) ys) one (steps-all (world_after_all w xs) ys calm' one.kept)
@@ -147,13 +152,20 @@ over w v u Q h steps on' rest next =
     elim (cases_lt (left_in v) (left_in w)) [
       | inl less ↦ inl (omega (arith, less, steps-left v u rest))
       | inr as_much ↦
-          elim (next (record { kept = steps.kept; on = on'; some = omega (arith, h.some, as_much); read = are_read-still w v h.kept steps h.on on' as_much h.read }) (λ side. side-still w v side steps on' as_much)) [
+          elim (next (record {
+            kept = steps.kept;
+            on = on';
+            some = omega
+                (arith, h.some, as_much);
+            read = are_read-still w v h.kept steps h.on on' as_much h.read;
+          }) (λ side. side-still w v side steps on' as_much)) [
             | inl less ↦ inl (omega (arith, less, steps-left w v steps))
             | inr is ↦ inr is
           ]
     ]
 
-pub over-event : (w : WorldState) (event : EventContent) (u : WorldState) (Q : Type 0) → IsCalm event → IsGoing w → (IsKept (world_after w event) → Steps (world_after w event) u) → NoneGaveUp u
+pub over-event : (w : WorldState) (event : EventContent) (u : WorldState) (Q : Type 0) → IsCalm event → IsGoing w
+    → (IsKept (world_after w event) → Steps (world_after w event) u) → NoneGaveUp u
     → (IsGoing (world_after w event) → IsStillFrom w (world_after w event) → Lowers (world_after w event) u Q) → Lowers w u Q
 over-event w event u Q calm h rest up next =
     let v = world_after w event in
@@ -161,7 +173,8 @@ over-event w event u Q calm h rest up next =
     let more = rest steps.kept in
     over w v u Q h steps (on-event w event calm h.kept h.on (more.stays_a up.0) (more.stays_b up.1)) more next
 
-pub over-all : (w : WorldState) (events : List EventContent) (u : WorldState) (Q : Type 0) → AllByRecursion IsCalm events → IsGoing w → (IsKept (world_after_all w events) → Steps (world_after_all w events) u) → NoneGaveUp u
+pub over-all : (w : WorldState) (events : List EventContent) (u : WorldState) (Q : Type 0) → AllByRecursion IsCalm events → IsGoing w
+    → (IsKept (world_after_all w events) → Steps (world_after_all w events) u) → NoneGaveUp u
     → (IsGoing (world_after_all w events) → IsStillFrom w (world_after_all w events) → Lowers (world_after_all w events) u Q) → Lowers w u Q
 over-all w events u Q calm h rest up next =
     let v = world_after_all w events in

@@ -11,15 +11,16 @@ use Rattle.tcp_replay.specs.declared.event.Side.{Side}
 use Rattle.tcp_replay.specs.declared.event.Side.TheVariants.{A, B}
 use Rattle.tcp_replay.specs.Events.{EventContent, Emit, Deliver, Timer}
 use Rattle.tcp_replay.specs.World.{WorldState, effect_of, other, party_after_emission, party_of, world_after, world_after_all}
-use Rattle.tcp_progress.specs.Fair.{AllCome, CanHaveTurns, Comes, Delivers, IsCalm, IsIdle, IsTurn, IsUntimed, NoneGaveUp, TurnsCanBeHad, both_served, emissions, is_reset, reads, served}
+use Rattle.tcp_progress.specs.Fair.{AllCome, CanHaveTurns, Comes, Delivers, IsCalm, IsIdle, IsTurn, IsUntimed, NoneGaveUp, TurnsCanBeHad, both_served}
+use Rattle.tcp_progress.specs.Fair.{emissions, is_reset, reads, served}
 use Rattle.tcp_progress.proofs.AlwaysSteady.{IsKept}
 use Rattle.tcp_progress.proofs.Behind.{emissions-other}
 use Rattle.tcp_progress.proofs.CalmWorlds.{Steps, steps-all, steps-event}
 use Rattle.tcp_progress.proofs.Coming.{AreAmong, among-left, among-right, come-both, due-among}
-use Rattle.tcp_progress.proofs.Draining.{burst-ends, served-ends}
+use Rattle.tcp_progress.proofs.Draining.{burst-ends}
 use Rattle.tcp_progress.proofs.Everywhere.{in-every-world}
 use Rattle.tcp_progress.proofs.Plain.{GoesSafely, IsFine, IsNoReset, IsSafe, goes-safely, no_reset-emitted, no_reset-later, safe-later}
-use Rattle.tcp_progress.proofs.Turning.{after-append, calm-append, calm-emissions}
+use Rattle.tcp_progress.proofs.Turning.{after-append, calm-emissions}
 use Rattle.tcp_progress.proofs.Going.{side-pair}
 
 -- ---- WHAT IS BROUGHT of so many emissions of a side: each segment that goes out, but no reset
@@ -46,10 +47,9 @@ burst-comes zero w side later among = tt
 burst-comes (suc n) w side later among =
     let due = due_of (party_of w side).endpoint in
     let k = length (party_of w side).sent in
-    let rest = brought n (world_after w (Emit side)) side in
-    (
+    let rest = brought n (world_after w (Emit side)) side in (
       due-among due side k (brought_due due side k rest) (emissions side n ++ later)
-      (λ from j h. among-right (emissions side n) later from j (among from j h)) (due-brought due side k rest),
+          (λ from j h. among-right (emissions side n) later from j (among from j h)) (due-brought due side k rest),
       burst-comes n (world_after w (Emit side)) side later (λ from j h. among from j (among-brought due side k rest from j h)),
     )
 
@@ -58,14 +58,17 @@ abbrev IsDelivery : EventContent → Type 0
 IsDelivery (Deliver from k) = Unit {0}
 IsDelivery other = ⊥
 
-due-delivers : (due : Option Due) (side : Side) (k : ℕ) (rest : List EventContent) → AllByRecursion IsDelivery rest → AllByRecursion IsDelivery (brought_due due side k rest)
+due-delivers : (due : Option Due) (side : Side) (k : ℕ) (rest : List EventContent) → AllByRecursion IsDelivery rest
+    → AllByRecursion IsDelivery (brought_due due side k rest)
 due-delivers None side k rest h = h
 due-delivers (Some due) side k rest h =
     cond_both (is_reset due) rest (Deliver side k ∷ rest) (λ (events : List EventContent). AllByRecursion IsDelivery events) (λ _. h) (λ _. (tt, h))
 
 all-brought : (n : ℕ) (w : WorldState) (side : Side) → AllByRecursion IsDelivery (brought n w side)
 all-brought zero w side = tt
-all-brought (suc n) w side = due-delivers (due_of (party_of w side).endpoint) side (length (party_of w side).sent) (brought n (world_after w (Emit side)) side) (all-brought n (world_after w (Emit side)) side)
+all-brought (suc n) w side =
+    due-delivers (due_of (party_of w side).endpoint) side (length (party_of w side).sent) (brought n (world_after w (Emit side)) side)
+    (all-brought n (world_after w (Emit side)) side)
 
 -- so nothing goes out at them, and no timer runs out
 delivery-comes : (w : WorldState) (event : EventContent) (later : List EventContent) → IsDelivery event → Comes w event later
@@ -107,17 +110,23 @@ unfolding effect_of
 emit-no_reset w A k h = h
 emit-no_reset w B k h = h
 
-side-later : (w v : WorldState) (side : Side) (k : ℕ) → Steps w v → IsNoReset (party_of w side) (party_of w (other side)) k → IsNoReset (party_of v side) (party_of v (other side)) k
+side-later : (w v : WorldState) (side : Side) (k : ℕ) → Steps w v → IsNoReset (party_of w side) (party_of w (other side)) k
+    → IsNoReset (party_of v side) (party_of v (other side)) k
 side-later w v A k steps h = no_reset-later w.a w.b v.a v.b k steps.there steps.back h
 side-later w v B k steps h = no_reset-later w.b w.a v.b v.a k steps.back steps.there h
 
-due-safe : (w v : WorldState) (side : Side) (due : Option Due) (rest : List EventContent) → due_of (party_of w side).endpoint ≡ due → IsKept w → Steps (world_after w (Emit side)) v
+due-safe : (w v : WorldState) (side : Side) (due : Option Due) (rest : List EventContent) → due_of (party_of w side).endpoint ≡ due → IsKept w
+    → Steps (world_after w (Emit side)) v
     → AllByRecursion (IsSafe v) rest → AllByRecursion (IsSafe v) (brought_due due side (length (party_of w side).sent) rest)
 due-safe w v side None rest is h steps safe = safe
 due-safe w v side (Some due) rest is h steps safe =
     let k = length (party_of w side).sent in
     cond_both (is_reset due) rest (Deliver side k ∷ rest) (λ (events : List EventContent). AllByRecursion (IsSafe v) events) (λ _. safe)
-    (λ plain. (side-later (world_after w (Emit side)) v side k steps (emit-no_reset w side k (no_reset-emitted (party_of w side) (party_of w (other side)) due (side-pair w side h).pair is plain)), safe))
+    (λ plain. (
+      side-later (world_after w (Emit side)) v side k steps
+          (emit-no_reset w side k (no_reset-emitted (party_of w side) (party_of w (other side)) due (side-pair w side h).pair is plain)),
+      safe,
+    ))
 
 safe-brought : (n : ℕ) (w : WorldState) (side : Side) → IsKept w → AllByRecursion (IsSafe (world_after_all w (emissions side n))) (brought n w side)
 unfolding world_after_all
@@ -125,7 +134,8 @@ safe-brought zero w side h = tt
 safe-brought (suc n) w side h =
     let v = world_after w (Emit side) in
     let kept = (steps-event w (Emit side) tt h).kept in
-    due-safe w (world_after_all v (emissions side n)) side (due_of (party_of w side).endpoint) (brought n v side) refl h (steps-all v (emissions side n) (calm-emissions side n) kept) (safe-brought n v side kept)
+    due-safe w (world_after_all v (emissions side n)) side (due_of (party_of w side).endpoint) (brought n v side) refl h
+    (steps-all v (emissions side n) (calm-emissions side n) kept) (safe-brought n v side kept)
 
 safe-emissions : (w : WorldState) (side : Side) (n : ℕ) → AllByRecursion (IsSafe w) (emissions side n)
 safe-emissions w side zero = tt
@@ -184,16 +194,17 @@ are-answered w sent delivered safe h =
       back = back;
       among = among-left sent emitted;
       untimed = all-append _ sent emitted (deliveries-untimed sent delivered)
-      (all-append _ (emissions A one.count) (emissions B two.count) (untimed-emissions A one.count) (untimed-emissions B two.count));
+          (all-append _ (emissions A one.count) (emissions B two.count) (untimed-emissions A one.count) (untimed-emissions B two.count));
       calm = deliveries-calm back (all-append _ from-a from-b (all-brought one.count y A) (all-brought two.count ya B));
       idle_a = holds-at (λ u. IsIdle u A) (world_after_all w (sent ++ emitted)) yb end (ap (λ p. due_of p.endpoint) unmoved ∙ one.idle);
       idle_b = holds-at (λ u. IsIdle u B) (world_after_all w (sent ++ emitted)) yb end two.idle;
       comes = come-both w sent emitted back (deliveries-come w sent (emitted ++ back) delivered)
-      (come-both y (emissions A one.count) (emissions B two.count) back
-      (burst-comes one.count y A (emissions B two.count ++ back) (λ from k h. among-right (emissions B two.count) back from k (among-left from-a from-b from k h)))
-      (burst-comes two.count ya B back (among-right from-a from-b)));
+          (come-both y (emissions A one.count) (emissions B two.count) back
+          (burst-comes one.count y A (emissions B two.count ++ back)
+          (λ from k h. among-right (emissions B two.count) back from k (among-left from-a from-b from k h)))
+          (burst-comes two.count ya B back (among-right from-a from-b)));
       fine = holds-at IsFine (world_after_all w ((sent ++ emitted) ++ back)) (world_after_all yb back)
-      (after-append w (sent ++ emitted) back ∙ ap (λ (u : WorldState). world_after_all u back) end) last.fine;
+          (after-append w (sent ++ emitted) back ∙ ap (λ (u : WorldState). world_after_all u back) end) last.fine;
     }
 
 -- ---- A TURN
@@ -223,7 +234,11 @@ has-turn w h =
     let after-first : world_after_all w (reads ++ served A one.count) ≡ u = after-append w reads (served A one.count) in
     let after-both : world_after_all w (reads ++ both) ≡ x = after-append w reads both ∙ after-append v (served A one.count) (served B two.count) in
     let after-there : (events : List EventContent) → world_after_all w (reads ++ (both ++ events)) ≡ world_after_all x events = λ events.
-    after-append w reads (both ++ events) ∙ after-append v both events ∙ ap (λ (z : WorldState). world_after_all z events) (after-append v (served A one.count) (served B two.count)) in
+    after-append w reads (both ++ events) ∙ after-append v both events ∙ ap (λ (z : WorldState). world_after_all z events)
+    (after-append v (served A one.count) (served B two.count)) in
+    let later = served B two.count ++ g.there in
+    let first-among : AreAmong from-a later = λ from k h. among-right (served B two.count) g.there from k (g.among from k (among-left from-a from-b from k h)) in
+    let first-comes : AllCome v (served A one.count) later = (tt, burst-comes one.count va A later first-among) in
     record {
       turn = reads ++ (both ++ (g.there ++ g.back));
       is = record {
@@ -232,19 +247,19 @@ has-turn w h =
         then_count = two.count;
         there = g.there;
         back = g.back;
-        form = refl;
+        form = refl {a = reads ++ (both ++ (g.there ++ g.back))};
         untimed = g.untimed;
         calm = g.calm;
         first_out = holds-at (λ z. IsIdle z A) (world_after_all w (reads ++ served A one.count)) u after-first one.idle;
         then_out = holds-at (λ z. IsIdle z B) (world_after_all w (reads ++ both)) x after-both two.idle;
         answered_a = holds-at (λ z. IsIdle z A) (world_after_all w (reads ++ (both ++ g.there))) (world_after_all x g.there) (after-there g.there) g.idle_a;
         answered_b = holds-at (λ z. IsIdle z B) (world_after_all w (reads ++ (both ++ g.there))) (world_after_all x g.there) (after-there g.there) g.idle_b;
-        comes_there = come-both v (served A one.count) (served B two.count) g.there
-        (tt, burst-comes one.count va A (served B two.count ++ g.there) (λ from k h. among-right (served B two.count) g.there from k (g.among from k (among-left from-a from-b from k h))))
-        (tt, burst-comes two.count ub B g.there (λ from k h. g.among from k (among-right from-a from-b from k h)));
+        comes_there = come-both v (served A one.count) (served B two.count) g.there first-comes
+            (tt, burst-comes two.count ub B g.there (λ from k h. g.among from k (among-right from-a from-b from k h)));
         comes_back = holds-at (λ z. AllCome z g.there g.back) (world_after_all w (reads ++ both)) x after-both g.comes;
       };
-      fine = holds-at IsFine (world_after_all w (reads ++ (both ++ (g.there ++ g.back)))) (world_after_all x (g.there ++ g.back)) (after-there (g.there ++ g.back)) g.fine;
+      fine = holds-at IsFine (world_after_all w (reads ++ (both ++ (g.there ++ g.back)))) (world_after_all x (g.there ++ g.back))
+          (after-there (g.there ++ g.back)) g.fine;
     }
 
 -- as many as one likes

@@ -23,7 +23,8 @@ use Rattle.tcp_progress.proofs.Going.{IsGoing, going-live, lowers-only, over-all
 abbrev What : PartyState → PartyState → Type 0
 What p q = (HasMore p q ⊎ HasMore q p) ⊎ (IsBehind p q ⊎ IsBehind q p)
 
-what-idle : (p q : PartyState) → IsSteadyPair p q → next_position q ≡ p.endpoint.sending.nxt → next_position p ≡ q.endpoint.sending.nxt → 0 < left_of_both p q → What p q
+what-idle : (p q : PartyState) → IsSteadyPair p q → next_position q ≡ p.endpoint.sending.nxt → next_position p ≡ q.endpoint.sending.nxt → 0 < left_of_both p q
+    → What p q
 what-idle p q pair one two some =
     elim (cases_lt p.endpoint.sending.una (next_position q)) [
       | inl behind ↦ inr (inl (record { behind = behind; one = one; two = two }))
@@ -47,7 +48,8 @@ what-left p q pair here there some =
       | inr taken ↦
           elim (cases_lt (next_position p) q.endpoint.sending.nxt) [
             | inl flight ↦ inl (inr (inl flight))
-            | inr both ↦ what-idle p q pair (omega (arith, taken, pair.there.sent.taken there.opened)) (omega (arith, both, pair.back.sent.taken here.opened)) some
+            | inr both ↦ what-idle p q pair (omega (arith, taken, pair.there.sent.taken there.opened))
+                (omega (arith, both, pair.back.sent.taken here.opened)) some
           ]
     ]
 
@@ -61,12 +63,18 @@ more-still p q p' q' still more =
             | inl flight ↦ inl flight
             | inr none ↦
                 let same : q'.endpoint.sending.nxt ≡ q.endpoint.sending.nxt = omega (arith, none, still.next_of_x, unsent.1, still.back.nxt) in
-                inr (omega (arith, same, still.una_of_y, unsent.0), omega (arith, same, still.next_of_x, unsent.1), omega (arith, same, unsent.2, ap length still.back.accepted, ap one_if still.back.closed))
+                inr (
+                  omega (arith, same, still.una_of_y, unsent.0),
+                  omega (arith, same, still.next_of_x, unsent.1),
+                  omega
+                      (arith, same, unsent.2, ap length still.back.accepted, ap one_if still.back.closed),
+                )
           ]
     ]
 
 -- the other side has more
-more-back : (side : Side) (w : WorldState) → HasMore (party_of w (other side)) (party_of w side) → HasMore (party_of w (other side)) (party_of w (other (other side)))
+more-back : (side : Side) (w : WorldState) → HasMore (party_of w (other side)) (party_of w side)
+    → HasMore (party_of w (other side)) (party_of w (other (other side)))
 more-back A w h = h
 more-back B w h = h
 
@@ -144,7 +152,8 @@ lowers_lem w turn h on t one two some =
     let two-served = served (other first) t.then_count in
     let end = world_after_all (after_both first t.count t.then_count v) later in
     let same : world_after_all w turn ≡ end =
-    turn-same w turn t ∙ after-append v (both_served first t.count t.then_count) later ∙ ap (λ (u : WorldState). world_after_all u later) (after-append v (served first t.count) two-served) in
+    turn-same w turn t ∙ after-append v (both_served first t.count t.then_count) later ∙ ap (λ (u : WorldState). world_after_all u later)
+    (after-append v (served first t.count) two-served) in
     let calm = calm-append t.there t.back (all-untimed t.there t.untimed) t.calm in
     let up : NoneGaveUp end = subst NoneGaveUp same (one, two) in
     let steps = steps-all w reads reads-calm h in
@@ -157,7 +166,13 @@ lowers_lem w turn h on t one two some =
     elim (cases_lt (left_in v) (left_in w)) [
       | inl less ↦ omega (arith, less, steps-left v end later-steps, ap left_in same)
       | inr as_much ↦
-          let going : IsGoing v = record { kept = steps.kept; on = on'; some = omega (arith, some, as_much); read = record { a = read.a.all; b = read.b.all } } in
+          let going : IsGoing v = record {
+            kept = steps.kept;
+            on = on';
+            some = omega
+                (arith, some, as_much);
+            read = record { a = read.a.all; b = read.b.all };
+          } in
           let less = from-reads first t.count t.then_count v t.there t.back (turn-served w turn t) going up in
           omega (arith, less, steps-left w v steps, ap left_in same)
     ]

@@ -1,8 +1,7 @@
 -- WHAT THE OTHER HAS AND DIDN'T TELL goes out again where one side is served, and is old to the other.
-use Rattle.std.proofs.Common.{◌≡◌, ℕ, zero, suc, ◌<◌, ◌≤◌, List, ◌++◌, length, inl, inr, sym, ◌∙◌, ap, subst, arith}
-use Rattle.std.specs.Prelude.{false, Some, ◌⊎◌}
+use Rattle.std.proofs.Common.{◌≡◌, ℕ, zero, suc, ◌≤◌, List, ◌++◌, length, inl, inr, sym, ◌∙◌, ap, subst, arith}
+use Rattle.std.specs.Prelude.{false, Some}
 use Rattle.std.specs.List.{AllByRecursion}
-use Rattle.std.proofs.lemmas.Bool.{cases_lt}
 use Rattle.tcp_wire.specs.Flags.{has, rst, syn}
 use Rattle.tcp_wire.specs.Wire.{Content}
 use Rattle.tcp_halves.specs.declared.due.Due.{Due}
@@ -15,10 +14,9 @@ use Rattle.tcp_conn.specs.Judgement.{count_numbers}
 use Rattle.tcp_replay.specs.declared.event.Side.{Side}
 use Rattle.tcp_replay.specs.declared.event.Side.TheVariants.{A, B}
 use Rattle.tcp_replay.specs.Events.{EventContent, Deliver, Emit, Timer}
-use Rattle.tcp_replay.specs.Safe.{gave_up, next_position}
+use Rattle.tcp_replay.specs.Safe.{next_position}
 use Rattle.tcp_replay.specs.World.{WorldState, effect_of, other, party_after_emission, party_of, world_after, world_after_all}
 use Rattle.tcp_progress.specs.Fair.{AllCome, Comes, Delivers, IsCalm, IsIdle, emissions, is_reset, served, NoneGaveUp}
-use Rattle.tcp_progress.specs.Measure.{left_in}
 use Rattle.tcp_progress.specs.Resent.{CoversNext, after_emissions}
 use Rattle.tcp_progress.specs.Steady.{IsSteadyPair}
 use Rattle.tcp_progress.proofs.AlwaysSteady.{IsKept}
@@ -39,7 +37,8 @@ pub record IsPending (w : WorldState) (side : Side) (later : List EventContent) 
   pub old : IsOld (party_of w side) (party_of w (other side)) place content
   pub comes : Delivers side place later
 
-emit-old : (w : WorldState) (side : Side) (k : ℕ) (v : Content) → IsOld (party_after_emission (party_of w side)) (party_of w (other side)) k v → IsOld (party_of (world_after w (Emit side)) side) (party_of (world_after w (Emit side)) (other side)) k v
+emit-old : (w : WorldState) (side : Side) (k : ℕ) (v : Content) → IsOld (party_after_emission (party_of w side)) (party_of w (other side)) k v
+    → IsOld (party_of (world_after w (Emit side)) side) (party_of (world_after w (Emit side)) (other side)) k v
 unfolding effect_of
 emit-old w A k v h = h
 emit-old w B k v h = h
@@ -70,7 +69,8 @@ carried n w side later calm h k v old comes up =
     let old' = old-still (party_of w side) (party_of w (other side)) (party_of u side) (party_of u (other side)) k v (still side) old in
     inr (record { place = k; content = v; old = old'; comes = comes }))
 
-emitted-pair : (w : WorldState) (side : Side) → IsKept (world_after w (Emit side)) → IsSteadyPair (party_after_emission (party_of w side)) (party_of w (other side))
+emitted-pair : (w : WorldState) (side : Side) → IsKept (world_after w (Emit side))
+    → IsSteadyPair (party_after_emission (party_of w side)) (party_of w (other side))
 unfolding effect_of
 emitted-pair w A h = side-pair (world_after w (Emit A)) A h
 emitted-pair w B h = side-pair (world_after w (Emit B)) B h
@@ -93,7 +93,8 @@ pending-now n w side later calm h due v is plain old come up =
 -- it goes out at once
 old-out : (w : WorldState) (side : Side) → IsGoing w → (covers : CoversNext (party_of w side).endpoint (party_of w side).endpoint.sending.una)
     → 1 ≤ (party_of w side).endpoint.sending.una → (after_emission (party_of w side).endpoint).sending.nxt ≡ next_position (party_of w (other side))
-    → IsOld (party_after_emission (party_of w side)) (party_of w (other side)) (length (party_of w side).sent) (segment_of (party_of w side).endpoint covers.due)
+    → IsOld (party_after_emission (party_of w side)) (party_of w (other side)) (length (party_of w side).sent)
+    (segment_of (party_of w side).endpoint covers.due)
 old-out w side h covers least all =
     let p = party_of w side in
     let q = party_of w (other side) in
@@ -125,7 +126,8 @@ burst-old zero count w side later calm h covers least all idle come up =
 burst-old (suc n) zero w side later calm h covers least all idle come up =
     let p = party_of w side in
     let no_rst : has rst (segment_of p.endpoint covers.due).flags ≡ false = ap (λ (v : Content). has rst v.flags) (sym covers.form) ∙ covers.no_rst in
-    pending-now n w side later calm h covers.due (segment_of p.endpoint covers.due) covers.is_due (not-reset p.endpoint covers.due no_rst) (old-out w side h covers least all) come.0 up
+    pending-now n w side later calm h covers.due (segment_of p.endpoint covers.due) covers.is_due (not-reset p.endpoint covers.due no_rst)
+    (old-out w side h covers least all) come.0 up
 burst-old (suc n) (suc count) w side later calm h covers least all idle come up =
     let s = (party_of w side).endpoint in
     let v = world_after w (Emit side) in

@@ -1,6 +1,6 @@
 -- WHERE NO RESET COMES no end gives up: reads, the retransmission timeout and emissions end nothing, nor does a segment that is no reset.
 use Rattle.std.proofs.Common.{◌≡◌, ℕ, ◌+◌, List, [], ◌∷◌, length, inl, inr, refl, sym, ◌∙◌, ap, subst}
-use Rattle.std.specs.Prelude.{Bool, true, false, ◌&&◌, ◌==◌, not, if◌then◌else◌, ◌⊎◌, Option, Some, None, IfSome, Ok, option_map, option_to_list, slice_get}
+use Rattle.std.specs.Prelude.{Bool, true, false, ◌&&◌, not, if◌then◌else◌, Option, Some, IfSome, Ok, slice_get}
 use Rattle.std.specs.List.{AllByRecursion}
 use Rattle.std.proofs.lemmas.Bool.{cases_Bool, cond_both, false≢true}
 use Rattle.tcp_wire.specs.Decoded.{decode_answer}
@@ -9,7 +9,6 @@ use Rattle.tcp_wire.specs.Wire.{Content}
 use Rattle.tcp_halves.specs.declared.config.Config.{Config}
 use Rattle.tcp_halves.specs.declared.due.Due.{Due}
 use Rattle.tcp_halves.specs.declared.due.Due.TheVariants as dues
-use Rattle.tcp_halves.specs.declared.phase.Timer.{Timer as Which}
 use Rattle.tcp_halves.specs.declared.phase.Timer.TheVariants as timers
 use Rattle.tcp_halves.specs.Due.{is_fin}
 use Rattle.tcp_halves.specs.Phase.{gives_up, is_closed, is_listening, is_syn_received, is_syn_sent}
@@ -21,13 +20,18 @@ use Rattle.tcp_conn.specs.Emission.{after_emission, emitted_bytes}
 use Rattle.tcp_conn.specs.Forms.{pushes, segment_of}
 use Rattle.tcp_conn.specs.Writing.{bytes_of}
 use Rattle.tcp_conn.specs.declared.judgement.Judgement.{Judgement}
-use Rattle.tcp_conn.specs.declared.judgement.Judgement.TheVariants.{Foreign, Stray, AckOfListen, AckOfNoSyn, OpensNothing, PeerOpens, PeerAccepts, Unacceptable, SynInWindow, NoAck, AcksUnsent, HandshakeRefused, HandshakeRefusedShut, Taken, TakenShut}
-use Rattle.tcp_conn.specs.Judgement.{acceptable_judgement, ack_judgement, acks_syn, closed_judgement, is_acceptable_segment, is_allowed_shut, is_foreign, judgement, listen_judgement, phase_judgement, position_near, present_judgement, syn_sent_judgement, unacceptable_judgement}
+use Rattle.tcp_conn.specs.declared.judgement.Judgement.TheVariants.{Foreign, AckOfListen, AckOfNoSyn, OpensNothing, PeerOpens, PeerAccepts}
+use Rattle.tcp_conn.specs.declared.judgement.Judgement.TheVariants.{Unacceptable, SynInWindow, NoAck, AcksUnsent, HandshakeRefused, HandshakeRefusedShut}
+use Rattle.tcp_conn.specs.declared.judgement.Judgement.TheVariants.{Taken, TakenShut}
+use Rattle.tcp_conn.specs.Judgement.{acceptable_judgement, ack_judgement, acks_syn, closed_judgement, is_acceptable_segment, is_allowed_shut, is_foreign}
+use Rattle.tcp_conn.specs.Judgement.{judgement, listen_judgement, phase_judgement, position_near, present_judgement, syn_sent_judgement}
+use Rattle.tcp_conn.specs.Judgement.{unacceptable_judgement}
 use Rattle.tcp_replay.specs.declared.event.Side.{Side}
 use Rattle.tcp_replay.specs.declared.event.Side.TheVariants.{A, B}
 use Rattle.tcp_replay.specs.Alone.{IsAlone}
-use Rattle.tcp_replay.specs.Events.{EventContent, side_of, Connect, Listen as Listens, Send, Receive, Close, Abort, Acknowledge, Timer, Emit, Deliver, Damage}
-use Rattle.tcp_replay.specs.World.{WorldState, PartyState, SentSegment, effect_of, other, party_after_arrival, party_after_emission, party_after_receive, party_after_timer, party_of, refusal_of, segment_at, sent_by, world_after, world_after_all, world_from, world_with_effect}
+use Rattle.tcp_replay.specs.Events.{EventContent, side_of, Receive, Timer, Emit, Deliver}
+use Rattle.tcp_replay.specs.World.{WorldState, PartyState, SentSegment, effect_of, other, party_after_arrival, party_after_emission}
+use Rattle.tcp_replay.specs.World.{party_of, refusal_of, segment_at, sent_by, world_after, world_after_all, world_from, world_with_effect}
 use Rattle.tcp_replay.specs.Safe.{gave_up}
 use Rattle.tcp_replay.specs.Sound.{IsSoundPair}
 use Rattle.tcp_replay.proofs.Deliveries.{arrival-ok}
@@ -87,7 +91,8 @@ acceptable-plain s v plain =
 present-plain : (s : State) (v : Content) → has rst v.flags ≡ false → NotReset (present_judgement s v)
 unfolding present_judgement
 present-plain s v plain =
-    cond_both (is_acceptable_segment s v) (acceptable_judgement s v) (unacceptable_judgement s v) NotReset (λ _. acceptable-plain s v plain) (λ _. unacceptable-plain s v plain)
+    cond_both (is_acceptable_segment s v) (acceptable_judgement s v) (unacceptable_judgement s v) NotReset (λ _. acceptable-plain s v plain)
+    (λ _. unacceptable-plain s v plain)
 
 judged-plain : (s : State) (src dst : List ℕ) (v : Content) → has rst v.flags ≡ false → NotReset (judgement s src dst v)
 unfolding judgement phase_judgement
@@ -168,8 +173,10 @@ no_reset-stays p q k h plain stays =
     let s = q.endpoint in
     let src = p.endpoint.config.addr.0 in
     let dst = s.config.addr.0 in
-    let at : decode_answer src dst (segment_at p k) ≡ Ok plain.content = ap (λ (g : SentSegment). decode_answer src dst g.bytes) (is-there p k plain.g plain.sent) ∙ plain.read in
-    let same : after_arrival s src dst (segment_at p k) ≡ after_judgement (judgement s src dst plain.content) s src plain.content = arrival-ok s src dst (segment_at p k) plain.content at in
+    let at : decode_answer src dst (segment_at p k) ≡ Ok plain.content = ap (λ (g : SentSegment). decode_answer src dst g.bytes)
+    (is-there p k plain.g plain.sent) ∙ plain.read in
+    let same : after_arrival s src dst (segment_at p k) ≡ after_judgement (judgement s src dst plain.content) s src plain.content = arrival-ok s src dst
+    (segment_at p k) plain.content at in
     ap (λ (t : State). gives_up t.ending) same ∙ stays-judgement s src dst plain.content q.accepted q.closed h.back.alone plain.no_rst stays
 
 -- ---- SAFE: at these no end gives up
@@ -220,8 +227,10 @@ stays-effect life p q (Emit side) safe pair h = record { here = ap gives_up (sti
 stays-effect life p q (Deliver from k) safe pair h = record { here = h.here; there = no_reset-stays p q k pair safe h.there }
 stays-effect life p q event safe pair h = absurd safe
 
-stays-from : (w : WorldState) (side : Side) (event : EventContent) → IsSafeAt (party_of w side) (party_of w (other side)) event → IsSoundPair w.a w.b → NoneGaveUp w
-    → NoneGaveUp (world_from w.life side (effect_of w.life (party_of w side) (party_of w (other side)) event).here (effect_of w.life (party_of w side) (party_of w (other side)) event).there)
+stays-from : (w : WorldState) (side : Side) (event : EventContent) → IsSafeAt (party_of w side) (party_of w (other side)) event → IsSoundPair w.a w.b
+    → NoneGaveUp w
+    → NoneGaveUp (world_from w.life side (effect_of w.life (party_of w side) (party_of w (other side)) event).here
+    (effect_of w.life (party_of w side) (party_of w (other side)) event).there)
 stays-from w A event safe pair up = let both = stays-effect w.life w.a w.b event safe pair (record { here = up.0; there = up.1 }) in (both.here, both.there)
 stays-from w B event safe pair up =
     let both = stays-effect w.life w.b w.a event safe (pair-swapped _ _ pair) (record { here = up.1; there = up.0 }) in (both.there, both.here)

@@ -7,7 +7,8 @@ use Rattle.tcp_halves.specs.declared.due.Due.TheVariants.{Reset}
 use Rattle.tcp_halves.specs.declared.link.WaitingReset.{WaitingReset}
 use Rattle.tcp_halves.specs.declared.phase.Ending.TheVariants.{NotEnded}
 use Rattle.tcp_halves.specs.declared.phase.Phase.{Phase}
-use Rattle.tcp_halves.specs.declared.phase.Phase.TheVariants.{Closed, Listen, SynSent, SynReceived, Established, FinWait1, FinWait2, CloseWait, Closing, LastAck, TimeWait}
+use Rattle.tcp_halves.specs.declared.phase.Phase.TheVariants.{Closed, Listen, SynSent, SynReceived, Established, FinWait1, FinWait2, CloseWait, Closing}
+use Rattle.tcp_halves.specs.declared.phase.Phase.TheVariants.{LastAck, TimeWait}
 use Rattle.tcp_halves.specs.declared.phase.Timer.TheVariants.{Retransmit}
 use Rattle.tcp_halves.specs.Phase.{sends_text}
 use Rattle.tcp_halves.specs.Sender.{Sending, is_fin_acked, with_all_resent}
@@ -37,7 +38,8 @@ use Rattle.tcp_progress.proofs.Turning.{after-append, calm-append, calm-emission
 
 -- ---- IN A PHASE THAT SENDS NOTHING: its SYN isn't acknowledged, or all is
 quiet-phase : (s : State) (phase : Phase) → sends_text phase ≡ false → s.receiving.opened ≡ true → s.ending ≡ NotEnded
-    → FitsPhase phase s.ending s.sending.una s.sending.nxt s.receiving.opened s.receiving.finished → SaysByPhase phase s → (s.sending.una ≡ 0) ⊎ (is_fin_acked s.sending ≡ true)
+    → FitsPhase phase s.ending s.sending.una s.sending.nxt s.receiving.opened s.receiving.finished → SaysByPhase phase s
+    → (s.sending.una ≡ 0) ⊎ (is_fin_acked s.sending ≡ true)
 quiet-phase s Closed quiet took going fits says = absurd (false≢true (sym (fits going).not_opened ∙ took))
 quiet-phase s Listen quiet took going fits says = absurd (false≢true (sym fits.1.not_opened ∙ took))
 quiet-phase s SynSent quiet took going fits says = absurd (false≢true (sym fits.1.not_opened ∙ took))
@@ -51,7 +53,8 @@ quiet-phase s Closing quiet took going fits says = absurd (false≢true (sym qui
 quiet-phase s LastAck quiet took going fits says = absurd (false≢true (sym quiet))
 
 -- once nothing is due there, and both are where they were, it waits
-quiet-waits : (w u : WorldState) (side : Side) → IsGoing w → IsGoing u → IsStillFrom w u → sends_text (party_of w side).endpoint.phase ≡ false → (party_of w side).endpoint.sending.nxt ≡ next_position (party_of w (other side))
+quiet-waits : (w u : WorldState) (side : Side) → IsGoing w → IsGoing u → IsStillFrom w u → sends_text (party_of w side).endpoint.phase ≡ false
+    → (party_of w side).endpoint.sending.nxt ≡ next_position (party_of w (other side))
     → (party_of w (other side)).endpoint.sending.una < next_position (party_of w side) → IsIdle u side → Waits u side
 quiet-waits w u side h h' still quiet at behind idle =
     let p = party_of w side in
@@ -74,7 +77,16 @@ quiet-waits w u side h h' still quiet at behind idle =
       | inr acked ↦
           let sends' = pair'.pair.there.alone.sends in
           let same : p'.endpoint.sending.nxt ≡ p'.endpoint.sending.una =
-          omega (arith, acked-all p.endpoint acked, fin-last p q pair live.0 acked, is.una_of_x, sends'.order, sends'.most, ap length is.there.accepted, ap one_if is.there.closed) in
+          omega (
+            arith,
+            acked-all p.endpoint acked,
+            fin-last p q pair live.0 acked,
+            is.una_of_x,
+            sends'.order,
+            sends'.most,
+            ap length is.there.accepted,
+            ap one_if is.there.closed,
+          ) in
           record {
             at = omega (arith, same, is.una_of_x, acked-all p.endpoint acked, at, is.next_of_y);
             behind = behind';
@@ -99,28 +111,37 @@ retransmit-nxt : (s : State) → (after_retransmit s).sending.nxt ≡ s.sending.
 unfolding after_retransmit
 retransmit-nxt s = cond_both (sends_again s) (with_all_resent s.sending) s.sending (λ (d : Sending). d.nxt ≡ s.sending.nxt) (λ _. refl) (λ _. refl)
 
-text-waits : (n : ℕ) (waiting : Option WaitingReset) (s : State) (w : WorldState) (side : Side) (later : List EventContent) → s.owed.reset ≡ waiting → (party_of w side).endpoint ≡ after_retransmit s → IsBursting (after_retransmit (cleared s))
-    → AllByRecursion IsCalm later → IsGoing w → s.sending.nxt ≡ next_position (party_of w (other side)) → (party_of w (other side)).endpoint.sending.una < next_position (party_of w side)
+text-waits : (n : ℕ) (waiting : Option WaitingReset) (s : State) (w : WorldState) (side : Side) (later : List EventContent) → s.owed.reset ≡ waiting
+    → (party_of w side).endpoint ≡ after_retransmit s → IsBursting (after_retransmit (cleared s))
+    → AllByRecursion IsCalm later → IsGoing w → s.sending.nxt ≡ next_position (party_of w (other side))
+    → (party_of w (other side)).endpoint.sending.una < next_position (party_of w side)
     → IsIdle (world_after_all w (emissions side n)) side → AllCome w (emissions side n) later → NoneGaveUp (world_after_all w (emissions side n ++ later))
     → Lowers w (world_after_all w (emissions side n ++ later)) (Waits (world_after_all w (emissions side n)) side)
 unfolding world_after_all
 text-waits n None s w side later e same bursts calm h at behind idle come up =
     let is : (party_of w side).endpoint ≡ after_retransmit (cleared s) = same ∙ ap after_retransmit (sym (cleared-same s e)) in
     burst-waits n w side later calm h (ap (λ (t : State). t.sending.nxt) same ∙ retransmit-nxt s ∙ at, behind, subst IsBursting (sym is) bursts) idle come up
-text-waits zero (Some reset) s w side later e same bursts calm h at behind idle come up = absurd (none-some (Reset reset) (sym idle ∙ ap due_of same ∙ reset-due s reset e))
+text-waits zero (Some reset) s w side later e same bursts calm h at behind idle come up =
+    absurd (none-some (Reset reset) (sym idle ∙ ap due_of same ∙ reset-due s reset e))
 text-waits (suc n) (Some reset) s w side later e same bursts calm h at behind idle come up =
     let v = world_after w (Emit side) in
     let is : (party_of v side).endpoint ≡ after_retransmit (cleared s) = emit-endpoint w side ∙ ap after_emission same ∙ reset-gone s reset e in
     over-event w (Emit side) (world_after_all v (emissions side n ++ later)) (Waits (world_after_all v (emissions side n)) side) tt h
     (steps-all v (emissions side n ++ later) (calm-append (emissions side n) later (calm-emissions side n) calm)) up
     (λ h' still.
-    burst-waits n v side later calm h'
-    (ap (λ (t : State). t.sending.nxt) is ∙ retransmit-nxt (cleared s) ∙ at ∙ sym (still side).next_of_y, omega (arith, behind, (still side).una_of_y, (still side).next_of_x), subst IsBursting (sym is) bursts)
+    burst-waits n v side later calm h' (
+      ap (λ (t : State). t.sending.nxt) is ∙ retransmit-nxt (cleared s) ∙ at ∙ sym (still side).next_of_y,
+      omega
+          (arith, behind, (still side).una_of_y, (still side).next_of_x),
+      subst IsBursting (sym is) bursts,
+    )
     idle come.1 up)
 
 -- ---- ONE SIDE IS SERVED: then it waits to be spoken to; or something is brought on
-pub replies : (n : ℕ) (w : WorldState) (side : Side) (later : List EventContent) → AllByRecursion IsCalm later → IsGoing w → (party_of w side).endpoint.sending.nxt ≡ next_position (party_of w (other side))
-    → (party_of w (other side)).endpoint.sending.una < next_position (party_of w side) → IsIdle (world_after_all w (served side n)) side → AllCome w (served side n) later → NoneGaveUp (world_after_all w (served side n ++ later))
+pub replies : (n : ℕ) (w : WorldState) (side : Side) (later : List EventContent) → AllByRecursion IsCalm later → IsGoing w
+    → (party_of w side).endpoint.sending.nxt ≡ next_position (party_of w (other side))
+    → (party_of w (other side)).endpoint.sending.una < next_position (party_of w side) → IsIdle (world_after_all w (served side n)) side
+    → AllCome w (served side n) later → NoneGaveUp (world_after_all w (served side n ++ later))
     → Lowers w (world_after_all w (served side n ++ later)) (Waits (world_after_all w (served side n)) side)
 unfolding world_after_all
 replies n w side later calm h at behind idle come up =
@@ -134,7 +155,8 @@ replies n w side later calm h at behind idle come up =
           over-event w (Timer side Retransmit) (world_after_all v events) (Waits (world_after_all v (emissions side n)) side) tt h
           (steps-all v events (calm-append (emissions side n) later (calm-emissions side n) calm)) up
           (λ h' still.
-          text-waits n s.owed.reset s v side later refl (timer-endpoint w side) (cleared-bursts p q (side-pair w side h.kept) (going-live w side h).0 sends) calm h'
+          text-waits n s.owed.reset s v side later refl (timer-endpoint w side)
+          (cleared-bursts p q (side-pair w side h.kept) (going-live w side h).0 sends) calm h'
           (at ∙ sym (still side).next_of_y) (omega (arith, behind, (still side).una_of_y, (still side).next_of_x)) idle come.1 up)
       | inr quiet ↦
           let u = world_after_all w (served side n) in

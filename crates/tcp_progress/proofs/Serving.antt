@@ -2,7 +2,7 @@
 use Rattle.std.proofs.Common.{◌≡◌, ℕ, zero, suc, ◌<◌, List, ◌++◌, length, inl, inr, refl, sym, ◌∙◌, ap, subst, arith}
 use Rattle.std.specs.Prelude.{true, false, max, Option, Some, None, IfSome, ◌⊎◌}
 use Rattle.std.specs.List.{AllByRecursion}
-use Rattle.std.proofs.lemmas.Bool.{cases_lt, false≢true}
+use Rattle.std.proofs.lemmas.Bool.{false≢true}
 use Rattle.tcp_wire.specs.Flags.{has, rst, syn}
 use Rattle.tcp_wire.specs.Wire.{Content}
 use Rattle.tcp_halves.specs.declared.due.Due.{Due}
@@ -20,7 +20,7 @@ use Rattle.tcp_replay.specs.declared.event.Side.{Side}
 use Rattle.tcp_replay.specs.declared.event.Side.TheVariants.{A, B}
 use Rattle.tcp_replay.specs.Events.{EventContent, Emit, Timer}
 use Rattle.tcp_replay.specs.World.{WorldState, PartyState, effect_of, other, party_after_emission, party_after_timer, party_of, world_after, world_after_all}
-use Rattle.tcp_replay.specs.Safe.{gave_up, next_position}
+use Rattle.tcp_replay.specs.Safe.{next_position}
 use Rattle.tcp_replay.proofs.Emissions.{reset-bit}
 use Rattle.tcp_progress.specs.Fair.{AllCome, Comes, Delivers, IsCalm, IsIdle, emissions, is_reset, served, NoneGaveUp}
 use Rattle.tcp_progress.specs.Measure.{all_of, left_in}
@@ -29,11 +29,9 @@ use Rattle.tcp_progress.specs.Settled.{IsLive}
 use Rattle.tcp_progress.specs.Steady.{IsSteadyPair}
 use Rattle.tcp_progress.proofs.Again.{again_lem}
 use Rattle.tcp_progress.proofs.New.{new_lem}
-use Rattle.tcp_progress.proofs.AlwaysSteady.{IsKept}
 use Rattle.tcp_progress.proofs.CalmWorlds.{steps-all}
 use Rattle.tcp_progress.proofs.Emitted.{fresh-emitted}
 use Rattle.tcp_progress.proofs.Forward.{fin-last, flight-sends, in-flight, past-syn, unsent-phase, waits}
-use Rattle.tcp_progress.proofs.Measure.{GoOn}
 use Rattle.tcp_progress.proofs.Ready.{has-room, no-syn-owed, sends-no_handshake}
 use Rattle.tcp_progress.proofs.Turning.{calm-append, calm-emissions}
 use Rattle.tcp_progress.proofs.Useful.{IsUseful, useful-comes}
@@ -56,12 +54,15 @@ record Covers (s : State) (position : ℕ) : Type 0 where
   count : ℕ
   covers : CoversNext (after_emissions count s) position
 
-covers-uncleared : (s : State) (position : ℕ) (waiting : Option WaitingReset) → s.owed.reset ≡ waiting → Covers (after_retransmit (cleared s)) position → Covers (after_retransmit s) position
+covers-uncleared : (s : State) (position : ℕ) (waiting : Option WaitingReset) → s.owed.reset ≡ waiting → Covers (after_retransmit (cleared s)) position
+    → Covers (after_retransmit s) position
 covers-uncleared s position None e c = subst (λ (t : State). Covers (after_retransmit t) position) (cleared-same s e) c
-covers-uncleared s position (Some reset) e c = record { count = suc c.count; covers = subst (λ (t : State). CoversNext (after_emissions c.count t) position) (sym (reset-gone s reset e)) c.covers }
+covers-uncleared s position (Some reset) e c =
+    record { count = suc c.count; covers = subst (λ (t : State). CoversNext (after_emissions c.count t) position) (sym (reset-gone s reset e)) c.covers }
 
 pub may-send-cleared : (p q : PartyState) → IsSteadyPair p q → sends_text p.endpoint.phase ≡ true → MaySend (cleared p.endpoint)
-may-send-cleared p q h sends = record { phase = sends; reset = refl; syn = no-syn-owed p q h (sends-no_handshake p.endpoint.phase sends); limit = has-room p q h }
+may-send-cleared p q h sends =
+    record { phase = sends; reset = refl; syn = no-syn-owed p q h (sends-no_handshake p.endpoint.phase sends); limit = has-room p q h }
 
 -- IN FLIGHT AND NOT TAKEN, or UNSENT with nothing in flight
 abbrev pub HasMore : PartyState → PartyState → Type 0
@@ -77,11 +78,14 @@ timeout-covers p q h live more =
     (elim more [
       | inl flight ↦
           let sends = flight-sends p q (next_position q) h live (omega arith) h.pair.there.between flight in
-          let again = again_lem (cleared s) (next_position q) (may-send-cleared p q h sends) (in-flight p q (next_position q) h live sends h.pair.there.between flight) in
+          let again = again_lem (cleared s) (next_position q) (may-send-cleared p q h sends)
+          (in-flight p q (next_position q) h live sends h.pair.there.between flight) in
           record { count = again.1.count; covers = again.1.covers }
       | inr unsent ↦
-          let sends = unsent-phase s s.phase (all_of p) unsent.0 unsent.2 (fin-last p q h live) live.opened live.goes_on h.pair.there.alone.progress h.there.stage in
-          let goes = new_lem (cleared s) (may-send-cleared p q h sends) (record { idle = unsent.0; waits = waits p q h live (past-syn p q h sends) unsent.0 unsent.2; range = h.there.range }) in
+          let sends = unsent-phase s s.phase (all_of p) unsent.0 unsent.2
+          (fin-last p q h live) live.opened live.goes_on h.pair.there.alone.progress h.there.stage in
+          let goes = new_lem (cleared s) (may-send-cleared p q h sends)
+          (record { idle = unsent.0; waits = waits p q h live (past-syn p q h sends) unsent.0 unsent.2; range = h.there.range }) in
           record { count = 0; covers = subst (CoversNext (after_retransmit (cleared s))) (sym unsent.1) goes.0 }
     ])
 
@@ -104,7 +108,8 @@ unfolding effect_of
 emit-other w A = refl
 emit-other w B = refl
 
-pub timer-endpoint : (w : WorldState) (side : Side) → (party_of (world_after w (Timer side Retransmit)) side).endpoint ≡ after_retransmit (party_of w side).endpoint
+pub timer-endpoint : (w : WorldState) (side : Side)
+    → (party_of (world_after w (Timer side Retransmit)) side).endpoint ≡ after_retransmit (party_of w side).endpoint
 unfolding effect_of party_after_timer
 timer-endpoint w A = refl
 timer-endpoint w B = refl
@@ -114,7 +119,8 @@ unfolding effect_of
 timer-other w A = refl
 timer-other w B = refl
 
-pub emit-useful : (w : WorldState) (side : Side) (k : ℕ) → IsUseful (party_after_emission (party_of w side)) (party_of w (other side)) k → IsUseful (party_of (world_after w (Emit side)) side) (party_of (world_after w (Emit side)) (other side)) k
+pub emit-useful : (w : WorldState) (side : Side) (k : ℕ) → IsUseful (party_after_emission (party_of w side)) (party_of w (other side)) k
+    → IsUseful (party_of (world_after w (Emit side)) side) (party_of (world_after w (Emit side)) (other side)) k
 unfolding effect_of
 emit-useful w A k h = h
 emit-useful w B k h = h
@@ -130,8 +136,10 @@ not-reset s (dues.Fin start) e = refl
 not-reset s (dues.ResentFin start) e = refl
 not-reset s dues.Acknowledgement e = refl
 
-pub comes-due : (w : WorldState) (side : Side) (later : List EventContent) (due : Due) → due_of (party_of w side).endpoint ≡ Some due → is_reset due ≡ false → Comes w (Emit side) later → Delivers side (length (party_of w side).sent) later
-comes-due w side later due e plain h = (subst (λ (o : Option Due). IfSome o (λ due. is_reset due ≡ false → Delivers side (length (party_of w side).sent) later)) e h) plain
+pub comes-due : (w : WorldState) (side : Side) (later : List EventContent) (due : Due) → due_of (party_of w side).endpoint ≡ Some due → is_reset due ≡ false
+    → Comes w (Emit side) later → Delivers side (length (party_of w side).sent) later
+comes-due w side later due e plain h =
+    (subst (λ (o : Option Due). IfSome o (λ due. is_reset due ≡ false → Delivers side (length (party_of w side).sent) later)) e h) plain
 
 -- ---- WHAT IS USEFUL GOES OUT, and comes: something is brought on
 pub useful-out : (w : WorldState) (side : Side) (later : List EventContent) (due : Due) → AllByRecursion IsCalm later → IsGoing w
@@ -178,7 +186,8 @@ burst-covers (suc n) (suc count) w side later calm h covers idle come up =
     let events = emissions side n ++ later in
     let end = world_after_all v events in
     let covers' = subst (λ (t : State). CoversNext (after_emissions count t) (next_position (party_of v (other side)))) (sym (emit-endpoint w side))
-    (subst (λ (x : PartyState). CoversNext (after_emissions count (after_emission (party_of w side).endpoint)) (next_position x)) (sym (emit-other w side)) covers) in
+    (subst (λ (x : PartyState). CoversNext (after_emissions count (after_emission (party_of w side).endpoint)) (next_position x))
+    (sym (emit-other w side)) covers) in
     lowers-only w end
     (over-event w (Emit side) end ⊥ tt h (steps-all v events (calm-append (emissions side n) later (calm-emissions side n) calm)) up
     (λ hv still. inl (burst-covers n count v side later calm hv covers' idle come.1 up)))
@@ -195,7 +204,8 @@ served-lowers n w side later calm h more idle come up =
     let end = world_after_all v events in
     let covers = timeout-covers p (party_of w (other side)) (side-pair w side h.kept) (going-live w side h).0 more in
     let covers' = subst (λ (t : State). CoversNext (after_emissions covers.count t) (next_position (party_of v (other side)))) (sym (timer-endpoint w side))
-    (subst (λ (x : PartyState). CoversNext (after_emissions covers.count (after_retransmit p.endpoint)) (next_position x)) (sym (timer-other w side)) covers.covers) in
+    (subst (λ (x : PartyState). CoversNext (after_emissions covers.count (after_retransmit p.endpoint)) (next_position x))
+    (sym (timer-other w side)) covers.covers) in
     lowers-only w end
     (over-event w (Timer side Retransmit) end ⊥ tt h (steps-all v events (calm-append (emissions side n) later (calm-emissions side n) calm)) up
     (λ hv still. inl (burst-covers n covers.count v side later calm hv covers' idle come.1 up)))

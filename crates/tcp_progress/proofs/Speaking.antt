@@ -3,7 +3,7 @@ use Rattle.std.proofs.Common.{◌≡◌, ℕ, ◌<◌, List, [], ◌∷◌, ◌+
 use Rattle.std.specs.Prelude.{Bool, true, false, if◌then◌else◌, ◌⊎◌, Option, Some, None, Ok, slice_get}
 use Rattle.std.specs.List.{AllByRecursion}
 use Rattle.std.specs.Option.{option_or}
-use Rattle.std.proofs.lemmas.Bool.{cases_Bool, cases_lt}
+use Rattle.std.proofs.lemmas.Bool.{cases_Bool}
 use Rattle.tcp_numbers.specs.Position.{number}
 use Rattle.tcp_wire.specs.Decoded.{decode_answer}
 use Rattle.tcp_wire.specs.Flags.{has, rst, syn}
@@ -25,9 +25,11 @@ use Rattle.tcp_replay.specs.declared.event.Side.{Side}
 use Rattle.tcp_replay.specs.declared.event.Side.TheVariants.{A, B}
 use Rattle.tcp_replay.specs.declared.outcome.StepError.{StepError}
 use Rattle.tcp_replay.specs.Events.{EventContent, side_of, Connect, Listen as Listens, Send, Receive, Close, Abort, Acknowledge, Timer, Emit, Deliver, Damage}
-use Rattle.tcp_replay.specs.Safe.{gave_up, next_position}
+use Rattle.tcp_replay.specs.Safe.{next_position}
 use Rattle.tcp_replay.specs.Sound.{IsSoundPair}
-use Rattle.tcp_replay.specs.World.{WorldState, PartyState, SentSegment, delivery_refusal, effect_of, other, party_after_acknowledge, party_after_arrival, party_after_emission, party_after_receive, party_of, refusal_of, segment_at, sent_at, stay_or, world_after, world_after_all, world_from, world_with_effect}
+use Rattle.tcp_replay.specs.World.{WorldState, PartyState, SentSegment, delivery_refusal, effect_of, other, party_after_acknowledge, party_after_arrival}
+use Rattle.tcp_replay.specs.World.{party_after_emission, party_after_receive, party_of, refusal_of, segment_at, sent_at, stay_or, world_after}
+use Rattle.tcp_replay.specs.World.{world_after_all, world_from, world_with_effect}
 use Rattle.tcp_replay.proofs.Deliveries.{arrival-ok, delivered-there, finds-damage, own-decodes, segment-sent}
 use Rattle.tcp_replay.proofs.Steps.{pair-swapped}
 use Rattle.tcp_progress.specs.Answered.{StandsAtNext}
@@ -61,7 +63,8 @@ acknowledged-owed : (p : PartyState) → KeepsOwed p.endpoint (party_after_ackno
 unfolding party_after_acknowledge after_acknowledge
 acknowledged-owed p = record { range = range-same p.endpoint.sending; syn = λ e. e; ack = λ _ e. rw e refl }
 
-arrival-owed : (p q : PartyState) (life k : ℕ) → delivery_refusal life q p k ≡ None → IsSoundPair p q → p.endpoint.receiving.opened ≡ true → KeepsOwed p.endpoint (party_after_arrival p q (segment_at q k)).endpoint
+arrival-owed : (p q : PartyState) (life k : ℕ) → delivery_refusal life q p k ≡ None → IsSoundPair p q → p.endpoint.receiving.opened ≡ true
+    → KeepsOwed p.endpoint (party_after_arrival p q (segment_at q k)).endpoint
 unfolding party_after_arrival
 arrival-owed p q life k e pair opened =
     let s = p.endpoint in
@@ -79,17 +82,21 @@ record KeepBothOwed (p q p' q' : PartyState) (event : EventContent) : Type 0 whe
   here : (event ≡ Emit (side_of event)) ⊎ KeepsOwed p.endpoint p'.endpoint
   there : KeepsOwed q.endpoint q'.endpoint
 
-owed-effect : (life : ℕ) (p q : PartyState) (event : EventContent) → IsUntimed event → (effect_of life p q event).refusal ≡ None → IsSoundPair p q → q.endpoint.receiving.opened ≡ true
+owed-effect : (life : ℕ) (p q : PartyState) (event : EventContent) → IsUntimed event → (effect_of life p q event).refusal ≡ None → IsSoundPair p q
+    → q.endpoint.receiving.opened ≡ true
     → KeepBothOwed p q (effect_of life p q event).here (effect_of life p q event).there event
 unfolding effect_of
 owed-effect life p q (Receive side room) calm e pair opened = record { here = inr (read-owed p room); there = owed-same q.endpoint }
 owed-effect life p q (Acknowledge side) calm e pair opened = record { here = inr (acknowledged-owed p); there = owed-same q.endpoint }
 owed-effect life p q (Timer side which) calm e pair opened = absurd calm
 owed-effect life p q (Emit side) calm e pair opened = record { here = inl refl; there = owed-same q.endpoint }
-owed-effect life p q (Deliver from k) calm e pair opened = record { here = inr (owed-same p.endpoint); there = arrival-owed q p life k e (pair-swapped _ _ pair) opened }
+owed-effect life p q (Deliver from k) calm e pair opened =
+    record { here = inr (owed-same p.endpoint); there = arrival-owed q p life k e (pair-swapped _ _ pair) opened }
 owed-effect life p q (Damage from k place value) calm e pair opened = record {
   here = inr (owed-same p.endpoint);
-  there = subst (λ (x : PartyState). KeepsOwed q.endpoint x.endpoint) (sym (finds-damage q p life k place value calm e (pair-swapped _ _ pair)).same) (owed-same q.endpoint);
+  there =
+      subst (λ (x : PartyState). KeepsOwed q.endpoint x.endpoint) (sym (finds-damage q p life k place value calm e (pair-swapped _ _ pair)).same)
+      (owed-same q.endpoint);
 }
 owed-effect life p q (Connect side) calm e pair opened = absurd calm
 owed-effect life p q (Listens side) calm e pair opened = absurd calm
@@ -102,9 +109,11 @@ record OwedIn (w v : WorldState) (event : EventContent) : Type 0 where
   a : (event ≡ Emit A) ⊎ KeepsOwed w.a.endpoint v.a.endpoint
   b : (event ≡ Emit B) ⊎ KeepsOwed w.b.endpoint v.b.endpoint
 
-owed-from : (w : WorldState) (side : Side) (event : EventContent) → side_of event ≡ side → IsUntimed event → (effect_of w.life (party_of w side) (party_of w (other side)) event).refusal ≡ None → IsSoundPair w.a w.b
+owed-from : (w : WorldState) (side : Side) (event : EventContent) → side_of event ≡ side → IsUntimed event
+    → (effect_of w.life (party_of w side) (party_of w (other side)) event).refusal ≡ None → IsSoundPair w.a w.b
     → w.a.endpoint.receiving.opened ≡ true → w.b.endpoint.receiving.opened ≡ true
-    → OwedIn w (world_from w.life side (effect_of w.life (party_of w side) (party_of w (other side)) event).here (effect_of w.life (party_of w side) (party_of w (other side)) event).there) event
+    → OwedIn w (world_from w.life side (effect_of w.life (party_of w side) (party_of w (other side)) event).here
+    (effect_of w.life (party_of w side) (party_of w (other side)) event).there) event
 owed-from w A event is calm e pair one two =
     let h = owed-effect w.life w.a w.b event calm e pair two in
     record { a = elim h.here [ inl emits ↦ inl (emits ∙ ap Emit is) | inr keeps ↦ inr keeps ]; b = inr h.there }
@@ -114,7 +123,8 @@ owed-from w B event is calm e pair one two =
 
 owed-event : (w : WorldState) (event : EventContent) → IsUntimed event → IsKept w → GoOn w.a w.b → OwedIn w (world_after w event) event
 owed-event w event calm h on =
-    after-either (λ (v : WorldState). OwedIn w v event) (refusal_of w event) w (world_with_effect w event) (record { a = inr (owed-same w.a.endpoint); b = inr (owed-same w.b.endpoint) })
+    after-either (λ (v : WorldState). OwedIn w v event) (refusal_of w event) w (world_with_effect w event)
+    (record { a = inr (owed-same w.a.endpoint); b = inr (owed-same w.b.endpoint) })
     (λ e. owed-from w (side_of event) event refl calm e h.sound.ends on.there.opened on.back.opened)
 
 -- ---- WAITS TO BE SPOKEN TO: it has sent no more than the other has, nothing goes out again, or its SYN alone was sent, and the other
@@ -125,7 +135,8 @@ pub record Waits (w : WorldState) (side : Side) : Type 0 where
   pub range : RangeDone (party_of w side).endpoint.sending ⊎ ((party_of w side).endpoint.sending.una ≡ 0)
   pub syn : (party_of w side).endpoint.owed.syn ≡ false
 
-pub waits-later : (w v : WorldState) (side : Side) → AreStill (party_of w side) (party_of w (other side)) (party_of v side) (party_of v (other side)) → KeepsOwed (party_of w side).endpoint (party_of v side).endpoint → Waits w side → Waits v side
+pub waits-later : (w v : WorldState) (side : Side) → AreStill (party_of w side) (party_of w (other side)) (party_of v side) (party_of v (other side))
+    → KeepsOwed (party_of w side).endpoint (party_of v side).endpoint → Waits w side → Waits v side
 waits-later w v side still keeps h = record {
   at = omega (arith, h.at, keeps.range.nxt, still.next_of_y);
   behind = omega (arith, h.behind, still.una_of_y, still.next_of_x);
@@ -157,18 +168,23 @@ never-syn None t e = absurd (cc)
 
 owing-due : (s : State) → s.owed.ack ≡ true → due_of s ≡ None → ⊥
 unfolding due_of
-owing-due s owed e = never (reset_due s.owed.reset) (syn_due s.owed) (text_due s) (subst (λ (b : Bool). option_or (reset_due s.owed.reset) (option_or (syn_due s.owed) (option_or (text_due s) (if b then Some Acknowledgement else None))) ≡ None) owed e)
+owing-due s owed e =
+    never (reset_due s.owed.reset) (syn_due s.owed) (text_due s)
+    (subst (λ (b : Bool). option_or (reset_due s.owed.reset)
+    (option_or (syn_due s.owed) (option_or (text_due s) (if b then Some Acknowledgement else None))) ≡ None) owed e)
 
 pub idle-no_syn : (s : State) → due_of s ≡ None → s.owed.syn ≡ false
 unfolding due_of
 idle-no_syn s idle =
     elim (cases_Bool s.owed.syn) [
       | inl owed ↦ absurd (never-syn (reset_due s.owed.reset) (option_or (text_due s) (ack_due s.owed))
-          (subst (λ (b : Bool). option_or (reset_due s.owed.reset) (option_or (if b then Some Syn else None) (option_or (text_due s) (ack_due s.owed))) ≡ None) owed idle))
+          (subst (λ (b : Bool). option_or (reset_due s.owed.reset)
+          (option_or (if b then Some Syn else None) (option_or (text_due s) (ack_due s.owed))) ≡ None) owed idle))
       | inr none ↦ none
     ]
 
-useful-standing : (p q : PartyState) (stands : StandsAtNext p.endpoint) → IsFresh (party_after_emission p) q (length p.sent) (start_of p.endpoint.sending stands.due) (segment_of p.endpoint stands.due)
+useful-standing : (p q : PartyState) (stands : StandsAtNext p.endpoint)
+    → IsFresh (party_after_emission p) q (length p.sent) (start_of p.endpoint.sending stands.due) (segment_of p.endpoint stands.due)
     → p.endpoint.sending.nxt ≡ next_position q → q.endpoint.sending.una < next_position p → IsUseful (party_after_emission p) q (length p.sent)
 useful-standing p q stands goes at behind = record {
   start = start_of p.endpoint.sending stands.due;
@@ -178,7 +194,8 @@ useful-standing p q stands goes at behind = record {
 }
 
 pub standing-out : (w : WorldState) (side : Side) (later : List EventContent) → AllByRecursion IsCalm later → IsGoing w
-    → (party_of w side).endpoint.sending.nxt ≡ next_position (party_of w (other side)) → (party_of w (other side)).endpoint.sending.una < next_position (party_of w side)
+    → (party_of w side).endpoint.sending.nxt ≡ next_position (party_of w (other side))
+    → (party_of w (other side)).endpoint.sending.una < next_position (party_of w side)
     → StandsAtNext (party_of w side).endpoint → Comes w (Emit side) later → NoneGaveUp (world_after_all (world_after w (Emit side)) later)
     → left_in (world_after_all (world_after w (Emit side)) later) < left_in w
 standing-out w side later calm h at behind stands comes up =
@@ -197,7 +214,8 @@ first-quiet p q h first =
       | inr quiet ↦ quiet
     ]
 
-waiting-due : (w : WorldState) (side : Side) → IsKept w → (party_of w side).endpoint.owed.reset ≡ None → Waits w side → (due_of (party_of w side).endpoint ≡ None) ⊎ StandsAtNext (party_of w side).endpoint
+waiting-due : (w : WorldState) (side : Side) → IsKept w → (party_of w side).endpoint.owed.reset ≡ None → Waits w side
+    → (due_of (party_of w side).endpoint ≡ None) ⊎ StandsAtNext (party_of w side).endpoint
 waiting-due w side h none waits =
     elim waits.range [
       | inl done ↦ stands-or-none (party_of w side).endpoint none waits.syn done
@@ -206,7 +224,8 @@ waiting-due w side h none waits =
 
 -- at any event: something is brought on in the end, or all that it owes is as it was
 abbrev BringsOrKeeps : WorldState → Side → EventContent → List EventContent → Type 0
-BringsOrKeeps w side event later = Lowers w (world_after_all (world_after w event) later) (KeepsOwed (party_of w side).endpoint (party_of (world_after w event) side).endpoint)
+BringsOrKeeps w side event later =
+    Lowers w (world_after_all (world_after w event) later) (KeepsOwed (party_of w side).endpoint (party_of (world_after w event) side).endpoint)
 
 -- where it emits
 emits : (w : WorldState) (side : Side) (later : List EventContent) (waiting : Option WaitingReset) → (party_of w side).endpoint.owed.reset ≡ waiting
@@ -222,11 +241,13 @@ emits w side later None is calm h waits comes up =
       | inr stands ↦ inl (standing-out w side later calm h waits.at waits.behind stands comes up)
     ]
 
-side-owed : (w v : WorldState) (side : Side) (event : EventContent) → OwedIn w v event → (event ≡ Emit side) ⊎ KeepsOwed (party_of w side).endpoint (party_of v side).endpoint
+side-owed : (w v : WorldState) (side : Side) (event : EventContent) → OwedIn w v event
+    → (event ≡ Emit side) ⊎ KeepsOwed (party_of w side).endpoint (party_of v side).endpoint
 side-owed w v A event h = h.a
 side-owed w v B event h = h.b
 
-goes-on : (w : WorldState) (side : Side) (event : EventContent) (later : List EventContent) → IsUntimed event → AllByRecursion IsCalm later → IsGoing w → Waits w side
+goes-on : (w : WorldState) (side : Side) (event : EventContent) (later : List EventContent) → IsUntimed event → AllByRecursion IsCalm later → IsGoing w
+    → Waits w side
     → Comes w event later → NoneGaveUp (world_after_all (world_after w event) later) → BringsOrKeeps w side event later
 goes-on w side event later untimed calm h waits comes up =
     elim (side-owed w (world_after w event) side event (owed-event w event untimed h.kept h.on)) [

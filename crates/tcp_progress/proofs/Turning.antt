@@ -1,5 +1,6 @@
 -- TURN AFTER TURN: where each turn leaves less, as many turns as something is left, and one more, bring both ways through.
-use Rattle.std.proofs.Common.{◌≡◌, ℕ, zero, suc, ◌+◌, ◌<◌, ◌≤◌, List, [], ◌∷◌, ◌++◌, length, inl, inr, refl, sym, ◌∙◌, ap, subst, arith, length-append, length-drop, length-take}
+use Rattle.std.proofs.Common.{◌≡◌, ℕ, zero, suc, ◌+◌, ◌<◌, ◌≤◌, List, [], ◌∷◌, ◌++◌, length, inl, inr, refl, sym, ◌∙◌, ap, subst, arith, length-append}
+use Rattle.std.proofs.Common.{length-drop, length-take}
 use Rattle.std.specs.Prelude.{false, None, drop}
 use Rattle.std.specs.List.{AllByRecursion}
 use Rattle.std.proofs.lemmas.Bool.{cases_lt}
@@ -9,7 +10,6 @@ use Rattle.tcp_replay.specs.declared.event.Side.{Side}
 use Rattle.tcp_replay.specs.Events.{EventContent, Connect, Listen as Listens, Send, Receive, Close, Abort, Acknowledge, Timer, Emit, Deliver, Damage}
 use Rattle.tcp_replay.specs.World.{WorldState, PartyState, both, other, effect_of, party_after_receive, world_after, world_after_all}
 use Rattle.tcp_replay.specs.Safe.{gave_up, unread_of}
-use Rattle.tcp_replay.proofs.Phases.{gives_up-not_ended}
 use Rattle.tcp_progress.specs.Fair.{GetsThrough, HasTurns, IsCalm, IsTurn, IsUntimed, WhoIsServedGetsThrough, all_room, both_served, emissions, reads, served}
 use Rattle.tcp_progress.specs.Measure.{left_in}
 use Rattle.tcp_progress.specs.Settled.{IsLive, IsThrough}
@@ -74,10 +74,12 @@ pub reads-calm : AllByRecursion IsCalm reads
 reads-calm = (tt, (tt, (tt, (tt, tt))))
 
 pub turn-calm : (w : WorldState) (turn : List EventContent) → IsTurn w turn → AllByRecursion IsCalm turn
-turn-calm w turn t = subst (λ (events : List EventContent). AllByRecursion IsCalm events) (sym t.form) (calm-append reads (turn-tail w turn t) reads-calm (tail-calm w turn t))
+turn-calm w turn t =
+    subst (λ (events : List EventContent). AllByRecursion IsCalm events) (sym t.form) (calm-append reads (turn-tail w turn t) reads-calm (tail-calm w turn t))
 
 -- the world after it
-pub turn-same : (w : WorldState) (turn : List EventContent) (t : IsTurn w turn) → world_after_all w turn ≡ world_after_all (world_after_all w reads) (turn-tail w turn t)
+pub turn-same : (w : WorldState) (turn : List EventContent) (t : IsTurn w turn)
+    → world_after_all w turn ≡ world_after_all (world_after_all w reads) (turn-tail w turn t)
 turn-same w turn t = ap (world_after_all w) t.form ∙ after-append w reads (turn-tail w turn t)
 
 pub turns-calm : (n : ℕ) (w : WorldState) (events : List EventContent) → HasTurns n w events → AllByRecursion IsCalm events
@@ -91,7 +93,9 @@ turns-calm (suc n) w events h =
     (calm-append before (turn ++ after) h.4 (calm-append turn after (turn-calm v turn h.5) (turns-calm n (world_after_all v turn) after h.6)))
 
 -- ---- BOTH USERS READ ALL
-pub reads-are : (w : WorldState) → world_after_all w reads ≡ both w.life (party_after_receive (party_after_receive w.a all_room) 0) (party_after_receive (party_after_receive w.b all_room) 0)
+pub reads-are : (w : WorldState)
+    → world_after_all w reads ≡ both w.life (party_after_receive (party_after_receive w.a all_room) 0)
+    (party_after_receive (party_after_receive w.b all_room) 0)
 unfolding effect_of world_after_all
 reads-are w = refl
 
@@ -137,7 +141,14 @@ pub record IsDone (w : WorldState) : Type 0 where
 pub in-order : (p q : PartyState) → IsSteadyPair p q → IsUp p → length p.delivered + length (unread_of p) ≡ p.endpoint.receiving.ordered
 in-order p q h up =
     let hands = h.pair.there.hands in
-    omega (arith, ap length hands.handed, length-append p.delivered, length-take hands.count q.accepted, hands.whole (up-stays p.endpoint.ending up.kept), h.pair.there.takes.order)
+    omega (
+      arith,
+      ap length hands.handed,
+      length-append p.delivered,
+      length-take hands.count q.accepted,
+      hands.whole (up-stays p.endpoint.ending up.kept),
+      h.pair.there.takes.order,
+    )
 
 -- at x, which has all of y
 read-stays : (x y x' y' : PartyState) → IsSteadyPair x y → IsSteadyPair x' y' → IsComplete x y → IsUp x' → Grows x x' → Grows y y' → HasRead x → HasRead x'
@@ -161,13 +172,16 @@ done-steps w v steps done on =
       none = omega (arith, done.none, steps-left w v steps);
       read = record {
         a = read-stays w.a w.b v.a v.b pair pair' whole on.there steps.there steps.back done.read.a;
-        b = read-stays w.b w.a v.b v.a (steady-back w.b w.a pair) (steady-back v.b v.a pair') (complete-back w.a w.b whole) on.back steps.back steps.there done.read.b;
+        b = read-stays w.b w.a v.b v.a (steady-back w.b w.a pair) (steady-back v.b v.a pair')
+            (complete-back w.a w.b whole) on.back steps.back steps.there done.read.b;
       };
     }
 
 -- and stays so
-pub done-all : (w : WorldState) (events : List EventContent) → AllByRecursion IsCalm events → IsDone w → gave_up (world_after_all w events).a ≡ false → gave_up (world_after_all w events).b ≡ false → IsDone (world_after_all w events)
-done-all w events calm done one two = done-steps w (world_after_all w events) (steps-all w events calm done.kept) done (on-all w events calm done.kept done.on one two)
+pub done-all : (w : WorldState) (events : List EventContent) → AllByRecursion IsCalm events → IsDone w → gave_up (world_after_all w events).a ≡ false
+    → gave_up (world_after_all w events).b ≡ false → IsDone (world_after_all w events)
+done-all w events calm done one two =
+    done-steps w (world_after_all w events) (steps-all w events calm done.kept) done (on-all w events calm done.kept done.on one two)
 
 -- through both ways
 pub done-through : (w : WorldState) → IsDone w → IsThrough w.a w.b × IsThrough w.b w.a
@@ -177,7 +191,8 @@ done-through w done =
     (through w.a w.b pair whole done.read.b, through w.b w.a (steady-back w.b w.a pair) (complete-back w.a w.b whole) done.read.a)
 
 -- a turn where nothing is left
-turn-done : (w : WorldState) (turn : List EventContent) → IsKept w → GoOn w.a w.b → left_in w ≡ 0 → IsTurn w turn → gave_up (world_after_all w turn).a ≡ false → gave_up (world_after_all w turn).b ≡ false → IsDone (world_after_all w turn)
+turn-done : (w : WorldState) (turn : List EventContent) → IsKept w → GoOn w.a w.b → left_in w ≡ 0 → IsTurn w turn → gave_up (world_after_all w turn).a ≡ false
+    → gave_up (world_after_all w turn).b ≡ false → IsDone (world_after_all w turn)
 unfolding world_after_all
 turn-done w turn h on none t one two =
     let v = world_after_all w reads in
@@ -189,12 +204,14 @@ turn-done w turn h on none t one two =
     let one' : gave_up (world_after_all v tail).a ≡ false = ap (λ (u : WorldState). gave_up u.a) (sym same) ∙ one in
     let two' : gave_up (world_after_all v tail).b ≡ false = ap (λ (u : WorldState). gave_up u.b) (sym same) ∙ two in
     let on' = on-all w reads reads-calm h on (later.stays_a one') (later.stays_b two') in
-    subst IsDone (sym same) (done-all v tail calm (record { kept = steps.kept; on = on'; none = omega (arith, none, steps-left w v steps); read = have-read w h on }) one' two')
+    subst IsDone (sym same) (done-all v tail calm
+    (record { kept = steps.kept; on = on'; none = omega (arith, none, steps-left w v steps); read = have-read w h on }) one' two')
 
 -- ---- EACH TURN LEAVES LESS, while something is left
 abbrev pub TurnLowers : Type 0
 TurnLowers =
-    (w : WorldState) (turn : List EventContent) → IsKept w → GoOn w.a w.b → IsTurn w turn → gave_up (world_after_all w turn).a ≡ false → gave_up (world_after_all w turn).b ≡ false
+    (w : WorldState) (turn : List EventContent) → IsKept w → GoOn w.a w.b → IsTurn w turn → gave_up (world_after_all w turn).a ≡ false
+    → gave_up (world_after_all w turn).b ≡ false
     → 0 < left_in w → left_in (world_after_all w turn) < left_in w
 
 -- so turn after turn all is done
@@ -205,13 +222,16 @@ module _ (lowers : TurnLowers) where
       (u : WorldState) (after : List EventContent) → left_in u < left_in w → IsKept u → GoOn u.a u.b → HasTurns n u after
       → gave_up (world_after_all u after).a ≡ false → gave_up (world_after_all u after).b ≡ false → IsDone (world_after_all u after)
 
-  one-turn : (n : ℕ) (w v u : WorldState) (turn after : List EventContent) → Later n w → Steps w v → GoOn v.a v.b → IsTurn v turn → u ≡ world_after_all v turn → Steps v u → GoOn u.a u.b → HasTurns n u after
-      → gave_up (world_after_all u after).a ≡ false → gave_up (world_after_all u after).b ≡ false → gave_up u.a ≡ false → gave_up u.b ≡ false → IsDone (world_after_all u after)
+  one-turn : (n : ℕ) (w v u : WorldState) (turn after : List EventContent) → Later n w → Steps w v → GoOn v.a v.b → IsTurn v turn → u ≡ world_after_all v turn
+      → Steps v u → GoOn u.a u.b → HasTurns n u after
+      → gave_up (world_after_all u after).a ≡ false → gave_up (world_after_all u after).b ≡ false → gave_up u.a ≡ false → gave_up u.b ≡ false
+      → IsDone (world_after_all u after)
   one-turn n w v u turn after next steps on t is steps' on' rest one two one' two' =
       let one'' : gave_up (world_after_all v turn).a ≡ false = subst (λ (x : WorldState). gave_up x.a ≡ false) is one' in
       let two'' : gave_up (world_after_all v turn).b ≡ false = subst (λ (x : WorldState). gave_up x.b ≡ false) is two' in
       elim (cases_lt 0 (left_in v)) [
-        | inr none ↦ done-all u after (turns-calm n u after rest) (subst IsDone (sym is) (turn-done v turn steps.kept on (omega (arith, none)) t one'' two'')) one two
+        | inr none ↦ done-all u after (turns-calm n u after rest)
+            (subst IsDone (sym is) (turn-done v turn steps.kept on (omega (arith, none)) t one'' two'')) one two
         | inl some ↦
             let less : left_in u < left_in v = subst (λ (x : WorldState). left_in x < left_in v) (sym is) (lowers v turn steps.kept on t one'' two'' some) in
             next u after (omega (arith, less, steps-left w v steps)) steps'.kept on' rest one two
@@ -228,7 +248,8 @@ module _ (lowers : TurnLowers) where
       let rest = turns.6 in
       let v = world_after_all w before in
       let u = world_after_all v turn in
-      let same : world_after_all w events ≡ world_after_all u after = ap (world_after_all w) turns.3 ∙ after-append w before (turn ++ after) ∙ after-append v turn after in
+      let same : world_after_all w events ≡ world_after_all u after = ap (world_after_all w) turns.3 ∙ after-append w before (turn ++ after) ∙
+      after-append v turn after in
       let one' : gave_up (world_after_all u after).a ≡ false = ap (λ (x : WorldState). gave_up x.a) (sym same) ∙ one in
       let two' : gave_up (world_after_all u after).b ≡ false = ap (λ (x : WorldState). gave_up x.b) (sym same) ∙ two in
       let steps = steps-all w before calm h in
@@ -240,11 +261,15 @@ module _ (lowers : TurnLowers) where
 
   pub turns-done : (n : ℕ) (w : WorldState) (events : List EventContent) → left_in w ≤ n → IsKept w → GoOn w.a w.b → HasTurns (suc n) w events
       → gave_up (world_after_all w events).a ≡ false → gave_up (world_after_all w events).b ≡ false → IsDone (world_after_all w events)
-  turns-done zero w events most h on turns one two = first-turn zero w events h on turns one two (λ u after less h' on' rest one' two'. absurd (omega (arith, most, less)))
-  turns-done (suc n) w events most h on turns one two = first-turn (suc n) w events h on turns one two (λ u after less h' on' rest one' two'. turns-done n u after (omega (arith, most, less)) h' on' rest one' two')
+  turns-done zero w events most h on turns one two =
+      first-turn zero w events h on turns one two (λ u after less h' on' rest one' two'. absurd (omega (arith, most, less)))
+  turns-done (suc n) w events most h on turns one two =
+      first-turn (suc n) w events h on turns one two
+      (λ u after less h' on' rest one' two'. turns-done n u after (omega (arith, most, less)) h' on' rest one' two')
 
   live-on : (w : WorldState) → IsLive w.a → IsLive w.b → GoOn w.a w.b
-  live-on w a b = record { there = record { opened = a.opened; kept = inl a.goes_on }; back = record { opened = b.opened; kept = inl b.goes_on }; live = λ _. (a, b) }
+  live-on w a b =
+      record { there = record { opened = a.opened; kept = inl a.goes_on }; back = record { opened = b.opened; kept = inl b.goes_on }; live = λ _. (a, b) }
 
   pub gets-through : (w : WorldState) → IsKept w → GetsThrough w
   gets-through w h a b events turns stays =

@@ -1,5 +1,5 @@
 -- WHAT IS SURE TO COME AND BRINGS ON: a segment that is useful stays so until something is brought on, and brings on when it comes.
-use Rattle.std.proofs.Common.{◌≡◌, ℕ, zero, suc, ◌+◌, ◌-◌, ◌<◌, ◌≤◌, List, [], ◌∷◌, ◌++◌, length, inl, inr, sym, ◌∙◌, ap, subst, arith}
+use Rattle.std.proofs.Common.{◌≡◌, ℕ, zero, suc, ◌+◌, ◌<◌, ◌≤◌, List, [], ◌∷◌, ◌++◌, length, inl, inr, sym, ◌∙◌, ap, subst, arith}
 use Rattle.std.specs.Prelude.{true, Some, None, Ok, ◌⊎◌, slice_get}
 use Rattle.std.specs.List.{AllByRecursion}
 use Rattle.tcp_numbers.specs.Position.{number}
@@ -10,7 +10,8 @@ use Rattle.tcp_conn.specs.Judgement.{count_numbers}
 use Rattle.tcp_replay.specs.declared.event.Side.{Side}
 use Rattle.tcp_replay.specs.declared.event.Side.TheVariants.{A, B}
 use Rattle.tcp_replay.specs.Events.{EventContent, Deliver}
-use Rattle.tcp_replay.specs.World.{WorldState, PartyState, SentSegment, delivery_refusal, effect_of, max_life, other, party_after_arrival, party_of, segment_at, stay_or, world_after, world_after_all, world_with_effect}
+use Rattle.tcp_replay.specs.World.{WorldState, PartyState, SentSegment, delivery_refusal, effect_of, max_life, other, party_after_arrival, party_of}
+use Rattle.tcp_replay.specs.World.{segment_at, stay_or, world_after, world_after_all, world_with_effect}
 use Rattle.tcp_replay.specs.Safe.{next_position}
 use Rattle.tcp_progress.specs.Fair.{Delivers, IsCalm, NoneGaveUp}
 use Rattle.tcp_progress.specs.Measure.{left_in, left_of_both}
@@ -29,11 +30,14 @@ sent-still [] ys k g e = absurd (cc)
 sent-still (x ∷ xs) ys zero g e = e
 sent-still (x ∷ xs) ys (suc k) g e = sent-still xs ys k g e
 
-wants-still : (p q p' q' : PartyState) → IsSteadyPair p q → IsSteadyPair p' q' → p.endpoint.receiving.opened ≡ true → AreStill p q p' q' → p'.endpoint.receiving.next ≡ p.endpoint.receiving.next
+wants-still : (p q p' q' : PartyState) → IsSteadyPair p q → IsSteadyPair p' q' → p.endpoint.receiving.opened ≡ true → AreStill p q p' q'
+    → p'.endpoint.receiving.next ≡ p.endpoint.receiving.next
 wants-still p q p' q' h h' opened still =
-    h'.pair.there.takes.next (still.there.opened opened) ∙ ap (λ (c : Config). number c.isn.0 (next_position p')) still.back.config ∙ ap (number q.endpoint.config.isn.0) still.next_of_x ∙ sym (h.pair.there.takes.next opened)
+    h'.pair.there.takes.next (still.there.opened opened) ∙ ap (λ (c : Config). number c.isn.0 (next_position p')) still.back.config ∙ ap
+    (number q.endpoint.config.isn.0) still.next_of_x ∙ sym (h.pair.there.takes.next opened)
 
-pub fresh-still : (p q p' q' : PartyState) (k start : ℕ) (v : Content) → IsSteadyPair p q → IsSteadyPair p' q' → p.endpoint.receiving.opened ≡ true → AreStill p q p' q' → IsFresh p q k start v → IsFresh p' q' k start v
+pub fresh-still : (p q p' q' : PartyState) (k start : ℕ) (v : Content) → IsSteadyPair p q → IsSteadyPair p' q' → p.endpoint.receiving.opened ≡ true
+    → AreStill p q p' q' → IsFresh p q k start v → IsFresh p' q' k start v
 fresh-still p q p' q' k start v h h' opened still f = record {
   g = f.g;
   sent = subst (λ (sent : List SentSegment). slice_get sent k ≡ Some f.g) (sym still.there.sent) (sent-still p.sent still.there.more k f.g f.sent);
@@ -64,9 +68,11 @@ pub record IsUseful (p q : PartyState) (k : ℕ) : Type 0 where
   pub start : ℕ
   pub content : Content
   pub fresh : IsFresh p q k start content
-  pub use_of : ((start ≤ next_position q) × (next_position q < start + count_numbers content)) ⊎ ((start ≡ next_position q) × (q.endpoint.sending.una < next_position p))
+  pub use_of : ((start ≤ next_position q) × (next_position q < start + count_numbers content)) ⊎
+      ((start ≡ next_position q) × (q.endpoint.sending.una < next_position p))
 
-pub useful-still : (p q p' q' : PartyState) (k : ℕ) → IsSteadyPair p q → IsSteadyPair p' q' → p.endpoint.receiving.opened ≡ true → AreStill p q p' q' → IsUseful p q k → IsUseful p' q' k
+pub useful-still : (p q p' q' : PartyState) (k : ℕ) → IsSteadyPair p q → IsSteadyPair p' q' → p.endpoint.receiving.opened ≡ true → AreStill p q p' q'
+    → IsUseful p q k → IsUseful p' q' k
 useful-still p q p' q' k h h' opened still u = record {
   start = u.start;
   content = u.content;
@@ -78,7 +84,8 @@ useful-still p q p' q' k h h' opened still u = record {
 }
 
 -- and brings on when it comes
-pub useful-delivered : (p q : PartyState) (life k : ℕ) → least_life ≤ life → life ≤ max_life → IsSteadyPair p q → p.endpoint.receiving.opened ≡ true → IsOpenTo q → IsUseful p q k
+pub useful-delivered : (p q : PartyState) (life k : ℕ) → least_life ≤ life → life ≤ max_life → IsSteadyPair p q → p.endpoint.receiving.opened ≡ true
+    → IsOpenTo q → IsUseful p q k
     → (delivery_refusal life p q k ≡ None) × (left_of_both p (party_after_arrival q p (segment_at p k)) < left_of_both p q)
 unfolding party_after_arrival
 useful-delivered p q life k least most h opened ready u =
@@ -94,7 +101,8 @@ useful-delivered p q life k least most h opened ready u =
 
 -- ---- A DELIVERY of what is useful leaves less
 pub deliver-left : (w : WorldState) (side : Side) (k : ℕ) → delivery_refusal w.life (party_of w side) (party_of w (other side)) k ≡ None
-    → left_in (world_after w (Deliver side k)) ≡ left_of_both (party_of w side) (party_after_arrival (party_of w (other side)) (party_of w side) (segment_at (party_of w side) k))
+    → left_in (world_after w (Deliver side k)) ≡ left_of_both (party_of w side)
+    (party_after_arrival (party_of w (other side)) (party_of w side) (segment_at (party_of w side) k))
 unfolding effect_of
 deliver-left w A k e = ap (λ r. left_in (stay_or r w (world_with_effect w (Deliver A k)))) e
 deliver-left w B k e = ap (λ r. left_in (stay_or r w (world_with_effect w (Deliver B k)))) e ∙ omega arith
