@@ -38,6 +38,9 @@ pub mod Streams
 pub mod Short
 pub mod SynOut
 pub mod Handshake
+pub mod Shaking
+pub mod Called
+pub mod Opened
 pub mod Leaving
 pub mod NotStuck
 pub mod Emitted

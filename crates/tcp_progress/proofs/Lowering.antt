@@ -124,7 +124,7 @@ from-reads first n m w there back g h up =
     ]
 
 -- ---- A TURN, from its reads on
-turn-served : (w : WorldState) (turn : List EventContent) (t : IsTurn w turn) → IsServed t.first t.count t.then_count (world_after_all w reads) t.there t.back
+pub turn-served : (w : WorldState) (turn : List EventContent) (t : IsTurn w turn) → IsServed t.first t.count t.then_count (world_after_all w reads) t.there t.back
 turn-served w turn t =
     let v = world_after_all w reads in
     let one = served t.first t.count in

@@ -46,7 +46,7 @@ emit-old w B k v h = h
 not-delivered : (side from : Side) (k : ℕ) → Emit side ≡ Deliver from k → ⊥
 not-delivered side from k e = absurd (cc)
 
-past-emissions : (side from : Side) (n k : ℕ) (later : List EventContent) → Delivers from k (emissions side n ++ later) → Delivers from k later
+pub past-emissions : (side from : Side) (n k : ℕ) (later : List EventContent) → Delivers from k (emissions side n ++ later) → Delivers from k later
 past-emissions side from zero k later h = h
 past-emissions side from (suc n) k later (inl now) = absurd (not-delivered side from k now)
 past-emissions side from (suc n) k later (inr more) = past-emissions side from n k later more

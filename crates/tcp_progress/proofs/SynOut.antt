@@ -2,7 +2,7 @@
 use Rattle.std.proofs.Common.{◌≡◌, ℕ, suc, length, refl, sym, ◌∙◌, ap, subst, arith}
 use Rattle.std.proofs.Math.Bool.{or-true}
 use Rattle.std.specs.Prelude.{Bool, true, false, ◌+◌, if◌then◌else◌, Option, Some, None, IfSome, Ok, slice_get}
-use Rattle.tcp_numbers.specs.Position.{position_of}
+use Rattle.tcp_numbers.specs.Position.{number, position_of}
 use Rattle.tcp_wire.specs.Flags.{ack, syn, rst, has}
 use Rattle.tcp_wire.specs.Decoded.{decode_answer}
 use Rattle.tcp_wire.specs.Wire.{Content}
@@ -31,19 +31,20 @@ use Rattle.tcp_progress.proofs.Still.{IsStill, still-then, still-next, still-emi
 use Rattle.tcp_progress.proofs.Ways.{IsInvariant, last-of}
 use Rattle.tcp_progress.proofs.Short.{short-emission, short-flushing, short-timeout}
 
--- the k-th segment of p IS ITS SYN, with the acknowledgement of q's where p has taken that, and says what p wants now
-pub record IsSyn (p q : PartyState) (k : ℕ) (v : Content) : Type 0 where
+-- the k-th segment of p IS ITS SYN, by which p wants the first position after q's; it acknowledges q's SYN where that is told
+pub record IsSyn (p q : PartyState) (k : ℕ) (told : Bool) : Type 0 where
   pub g : SentSegment
+  pub content : Content
   pub sent : slice_get p.sent k ≡ Some g
-  pub read : decode_answer p.endpoint.config.addr.0 q.endpoint.config.addr.0 g.bytes ≡ Ok v
+  pub read : decode_answer p.endpoint.config.addr.0 q.endpoint.config.addr.0 g.bytes ≡ Ok content
   pub starts : g.position ≡ 0
-  pub wanted : g.wanted ≡ next_position p
-  pub no_rst : has rst v.flags ≡ false
-  pub has_syn : has syn v.flags ≡ true
-  pub has_ack : has ack v.flags ≡ p.endpoint.receiving.opened
-  pub acks : p.endpoint.receiving.opened ≡ true → v.ack ≡ p.endpoint.receiving.next
-  pub src : v.src_port ≡ p.endpoint.config.port
-  pub dst : v.dst_port ≡ q.endpoint.config.port
+  pub wanted : g.wanted ≡ 1
+  pub no_rst : has rst content.flags ≡ false
+  pub has_syn : has syn content.flags ≡ true
+  pub has_ack : has ack content.flags ≡ told
+  pub acks : told ≡ true → content.ack ≡ number q.endpoint.config.isn.0 1
+  pub src : content.src_port ≡ p.endpoint.config.port
+  pub dst : content.dst_port ≡ q.endpoint.config.port
 
 -- ---- it is due, and goes out
 syn-due : (s : State) → is_handshake s.phase ≡ true → s.owed.reset ≡ None → due_of (after_retransmit s) ≡ Some Syn
@@ -75,36 +76,38 @@ no-reset : (opened : Bool) → has rst (syn + (if opened then ack else 0)) ≡ f
 no-reset true = refl
 no-reset false = refl
 
-syn-emitted : (p q : PartyState) → IsSteadyPair p q → is_handshake p.endpoint.phase ≡ true → due_of p.endpoint ≡ Some Syn → IsSyn (party_after_emission p) q (length p.sent) (syn_segment p.endpoint)
-syn-emitted p q h shakes due =
+pub syn-emitted : (p q : PartyState) → IsSteadyPair p q → is_handshake p.endpoint.phase ≡ true → next_position p ≡ 1 → due_of p.endpoint ≡ Some Syn
+    → IsSyn (party_after_emission p) q (length p.sent) p.endpoint.receiving.opened
+syn-emitted p q h shakes first due =
     let s = p.endpoint in
     let still = still-emission p in
     let goes : GoesOut p q Syn = subst (λ (o : Option Due). IfSome o (GoesOut p q)) due (due-goes p q h.pair) in
     let bits = syn-bits s.receiving.opened in
     record {
       g = sent_by s (bytes_of s Syn);
+      content = syn_segment s;
       sent = syn-sent p due;
       read = subst (λ (c : Config). decode_answer c.addr.0 q.endpoint.config.addr.0 (bytes_of s Syn) ≡ Ok (syn_segment s)) (sym still.config) (due-decodes p q Syn goes ∙ ap Ok (syn-form s));
       starts = syn-position p q h goes shakes;
-      wanted = wanted-is p q h.pair ∙ sym (still-next p (party_after_emission p) still);
+      wanted = wanted-is p q h.pair ∙ first;
       no_rst = no-reset s.receiving.opened;
       has_syn = bits.0;
-      has_ack = bits.2 ∙ sym still.opened;
-      acks = λ opened. ap (λ (b : Bool). if b then s.receiving.next else 0) (sym still.opened ∙ opened) ∙ ap (λ (r : Receiving). r.next) (sym (emission-receiving p));
+      has_ack = bits.2;
+      acks = λ opened. ap (λ (b : Bool). if b then s.receiving.next else 0) opened ∙ h.pair.there.takes.next opened ∙ ap (number q.endpoint.config.isn.0) first;
       src = ap (λ (c : Config). c.port) (sym still.config);
       dst = h.there.port (handshake-knows s.phase shakes);
     }
 
 -- a waiting reset goes out and is lost, then the timer runs out, and the SYN goes out
-pub short-syn : {K P : WorldState → Type 0} → IsInvariant K → (n life : ℕ) (side : Side) (p q : PartyState) → is_handshake p.endpoint.phase ≡ true → K (world_from life side p q)
-    → ((p' : PartyState) (k : ℕ) (v : Content) → IsStill p p' → IsSyn p' q k v → K (world_from life side p' q) → CanReachUnaided n P (world_from life side p' q))
+pub short-syn : {K P : WorldState → Type 0} → IsInvariant K → (n life : ℕ) (side : Side) (p q : PartyState) → is_handshake p.endpoint.phase ≡ true → next_position p ≡ 1 → K (world_from life side p q)
+    → ((p' : PartyState) (k : ℕ) → IsStill p p' → IsSyn p' q k p.endpoint.receiving.opened → K (world_from life side p' q) → CanReachUnaided n P (world_from life side p' q))
     → CanReachUnaided (suc (suc (suc n))) P (world_from life side p q)
-short-syn i n life side p q shakes h next =
+short-syn i n life side p q shakes first h next =
     short-flushing i (suc (suc n)) life side p q h (λ p1 still1 none h1.
     let p2 = party_after_timer p1 Retransmit in
     let still2 = still-then p p1 p2 still1 (still-retransmit p1) in
     let due = timer-due p1 (ap is_handshake still1.phase ∙ shakes) none in
     short-timeout i (suc n) life side p1 q h1 (λ h2.
-    let out = syn-emitted p2 q (pair-of i life side p2 q h2) (ap is_handshake still2.phase ∙ shakes) due in
+    let out = syn-emitted p2 q (pair-of i life side p2 q h2) (ap is_handshake still2.phase ∙ shakes) (still-next p p2 still2 ∙ first) due in
     short-emission i n life side p2 q h2
-    (next (party_after_emission p2) (length p2.sent) (syn_segment p2.endpoint) (still-then p p2 (party_after_emission p2) still2 (still-emission p2)) out)))
+    (next (party_after_emission p2) (length p2.sent) (still-then p p2 (party_after_emission p2) still2 (still-emission p2)) (subst (IsSyn (party_after_emission p2) q (length p2.sent)) still2.opened out))))

@@ -267,7 +267,7 @@ module _ (lowers : TurnLowers) where
       first-turn (suc n) w events h on turns one two
       (λ u after less h' on' rest one' two'. turns-done n u after (omega (arith, most, less)) h' on' rest one' two')
 
-  live-on : (w : WorldState) → IsLive w.a → IsLive w.b → GoOn w.a w.b
+  pub live-on : (w : WorldState) → IsLive w.a → IsLive w.b → GoOn w.a w.b
   live-on w a b =
       record { there = record { opened = a.opened; kept = inl a.goes_on }; back = record { opened = b.opened; kept = inl b.goes_on }; live = λ _. (a, b) }
 

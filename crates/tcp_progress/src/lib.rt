@@ -15,7 +15,7 @@ mod settled;
 pub use fair::{
     each_burst_ends, turns_can_be_had, what_is_left_never_grows, who_is_served_gets_through,
 };
-pub use opening::a_handshake_can_be_finished;
+pub use opening::{a_handshake_can_be_finished, who_is_served_opens};
 pub use sending::{
     what_is_in_flight_goes_out_again, what_is_unsent_goes_out, who_is_spoken_to_answers,
 };
