@@ -1,5 +1,5 @@
 -- WHO IS SERVED IN THE HANDSHAKE has its SYN due, which goes out; and when that comes, LISTEN becomes SYN-RECEIVED, or both are open.
-use Rattle.std.proofs.Common.{◌≡◌, ℕ, zero, suc, List, [], ◌∷◌, ◌++◌, length, inl, inr, refl, sym, ◌∙◌, ap, subst, arith}
+use Rattle.std.proofs.Common.{◌≡◌, ℕ, zero, suc, List, [], ◌∷◌, ◌++◌, length, inl, inr, refl, sym, ◌∙◌, ap, subst}
 use Rattle.std.proofs.Math.Bool.{or-true}
 use Rattle.std.specs.Prelude.{Bool, true, false, Option, Some, None, Ok, ◌⊎◌, slice_get}
 use Rattle.std.specs.List.{AllByRecursion}
@@ -8,7 +8,7 @@ use Rattle.tcp_wire.specs.Decoded.{decode_answer}
 use Rattle.tcp_halves.specs.declared.config.Config.{Config}
 use Rattle.tcp_halves.specs.declared.due.Due.TheVariants.{Reset, Syn}
 use Rattle.tcp_halves.specs.declared.link.WaitingReset.{WaitingReset}
-use Rattle.tcp_halves.specs.declared.phase.Phase.TheVariants.{Listen, SynSent, SynReceived}
+use Rattle.tcp_halves.specs.declared.phase.Phase.TheVariants.{SynReceived}
 use Rattle.tcp_halves.specs.declared.phase.Timer.TheVariants.{Retransmit}
 use Rattle.tcp_halves.specs.Phase.{is_handshake}
 use Rattle.tcp_conn.specs.State.{State}
@@ -19,7 +19,7 @@ use Rattle.tcp_replay.specs.declared.event.Side.{Side}
 use Rattle.tcp_replay.specs.declared.event.Side.TheVariants.{A, B}
 use Rattle.tcp_replay.specs.Events.{EventContent, Deliver, Emit, Timer}
 use Rattle.tcp_replay.specs.Safe.{next_position}
-use Rattle.tcp_replay.specs.World.{WorldState, PartyState, SentSegment, delivery_refusal, effect_of, other, party_after_arrival, party_after_emission, party_after_timer, party_of, segment_at, stay_or, world_after, world_after_all, world_from, world_with_effect}
+use Rattle.tcp_replay.specs.World.{WorldState, PartyState, SentSegment, delivery_refusal, effect_of, other, party_after_arrival, party_after_emission, party_after_timer, party_of, segment_at, stay_or, world_after, world_after_all, world_with_effect}
 use Rattle.tcp_progress.specs.Fair.{AllCome, Delivers, IsCalm, IsIdle, NoneGaveUp, emissions, served}
 use Rattle.tcp_progress.specs.Settled.{IsLive}
 use Rattle.tcp_progress.proofs.AlwaysSteady.{IsKept, kept-steady}
@@ -27,7 +27,7 @@ use Rattle.tcp_progress.proofs.Calm.{Grows}
 use Rattle.tcp_progress.proofs.CalmWorlds.{Steps, steps-all, steps-event}
 use Rattle.tcp_progress.proofs.Coming.{AreAmong}
 use Rattle.tcp_progress.proofs.Going.{side-pair}
-use Rattle.tcp_progress.proofs.Handshake.{answering, answering-first, listen-takes, opening, syn_sent-takes, unopened-first}
+use Rattle.tcp_progress.proofs.Handshake.{answering, answering-first, listen-takes, syn_sent-takes, unopened-first}
 use Rattle.tcp_progress.proofs.Older.{past-emissions}
 use Rattle.tcp_progress.proofs.Ready.{steady-back}
 use Rattle.tcp_progress.proofs.Serving.{comes-due, none-some}

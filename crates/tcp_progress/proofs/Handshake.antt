@@ -3,7 +3,6 @@
 use Rattle.std.proofs.Common.{◌≡◌, ℕ, ◌≤◌, List, inl, inr, refl, sym, ◌∙◌, ap, subst, arith}
 use Rattle.std.specs.Prelude.{Bool, true, false, None}
 use Rattle.std.proofs.lemmas.Bool.{eq-eqb}
-use Rattle.tcp_numbers.specs.Position.{number}
 use Rattle.tcp_wire.specs.Flags.{ack, syn, rst, has}
 use Rattle.tcp_wire.specs.Wire.{Content}
 use Rattle.tcp_wire.proofs.Lemmas.{position_of_number}

@@ -5,15 +5,11 @@ use Rattle.std.specs.Prelude.{true, false, ◌⊎◌}
 use Rattle.std.proofs.lemmas.Bool.{cases_Bool, false≢true}
 use Rattle.tcp_halves.specs.declared.phase.Ending.{Ending}
 use Rattle.tcp_halves.specs.declared.phase.Ending.TheVariants.{NotEnded, Orderly, Reset, Aborted}
-use Rattle.tcp_halves.specs.declared.phase.Phase.{Phase}
-use Rattle.tcp_halves.specs.declared.phase.Phase.TheVariants.{Closed, Listen, SynSent, SynReceived, Established, FinWait1, FinWait2, CloseWait, Closing, LastAck, TimeWait}
 use Rattle.tcp_halves.specs.Phase.{gives_up}
-use Rattle.tcp_conn.specs.State.{State}
-use Rattle.tcp_replay.specs.Alone.{FitsPhase, Sends}
+use Rattle.tcp_replay.specs.Alone.{Sends}
 use Rattle.tcp_replay.specs.World.{PartyState}
 use Rattle.tcp_replay.proofs.Lists.{one_if, one_if-most}
 use Rattle.tcp_progress.specs.Settled.{HasEndedInOrder}
-use Rattle.tcp_progress.specs.Stage.{Says, SaysByPhase}
 use Rattle.tcp_progress.specs.Steady.{IsSteadyPair}
 use Rattle.tcp_progress.specs.Measure.{left_of_both}
 use Rattle.tcp_progress.proofs.CalmWorlds.{says-over}

@@ -1,27 +1,25 @@
 -- WHO IS SERVED OPENS THE CONNECTION: after a turn the SYN of who calls is taken, after another both are open; and so all gets through.
-use Rattle.std.proofs.Common.{◌≡◌, ℕ, zero, suc, ◌≤◌, List, [], ◌∷◌, ◌++◌, inl, inr, refl, sym, ◌∙◌, ap, subst, arith, append_assoc}
-use Rattle.std.specs.Prelude.{false, ◌⊎◌}
+use Rattle.std.proofs.Common.{◌≡◌, ℕ, zero, suc, ◌≤◌, List, [], ◌∷◌, ◌++◌, inl, inr, sym, ◌∙◌, ap, subst, arith, append_assoc}
+use Rattle.std.specs.Prelude.{◌⊎◌}
 use Rattle.std.specs.List.{AllByRecursion}
-use Rattle.tcp_halves.specs.declared.phase.Phase.TheVariants.{Listen, SynSent, SynReceived}
+use Rattle.tcp_halves.specs.declared.phase.Phase.TheVariants.{SynReceived}
 use Rattle.tcp_replay.specs.declared.event.Side.{Side}
 use Rattle.tcp_replay.specs.declared.event.Side.TheVariants.{A, B}
 use Rattle.tcp_replay.specs.Events.{EventContent}
 use Rattle.tcp_replay.specs.World.{WorldState, other, party_of, world_after_all}
-use Rattle.tcp_progress.specs.Fair.{AllCome, GotThrough, HasTurns, IsCalm, IsTurn, NoneGaveUp, both_served, reads, served}
+use Rattle.tcp_progress.specs.Fair.{GotThrough, HasTurns, IsCalm, IsTurn, NoneGaveUp, reads, served}
 use Rattle.tcp_progress.specs.Handshake.{AreOpen, OpensAndGetsThrough, WhoIsServedOpens}
 use Rattle.tcp_progress.specs.Measure.{left_in}
-use Rattle.tcp_progress.specs.Settled.{AreOpening}
 use Rattle.tcp_progress.proofs.AlwaysSteady.{IsKept}
-use Rattle.tcp_progress.proofs.Behind.{IsServed, after_first, after_both}
-use Rattle.tcp_progress.proofs.Called.{IsTakenOr, serve-answer, serve-call, taken-stays}
-use Rattle.tcp_progress.proofs.CalmWorlds.{Steps, steps-all, steps-left, steps-then}
-use Rattle.tcp_progress.proofs.Coming.{AreAmong, among-left, among-right}
+use Rattle.tcp_progress.proofs.Behind.{IsServed}
+use Rattle.tcp_progress.proofs.Called.{IsTakenOr, serve-answer, serve-call}
+use Rattle.tcp_progress.proofs.CalmWorlds.{steps-all, steps-left, steps-then}
+use Rattle.tcp_progress.proofs.Coming.{AreAmong, among-left}
 use Rattle.tcp_progress.proofs.Ended.{complete}
 use Rattle.tcp_progress.proofs.Everywhere.{in-every-world, steps-streams}
 use Rattle.tcp_progress.proofs.Lowering.{lowers_lem, turn-served}
-use Rattle.tcp_progress.proofs.Measure.{GoOn}
 use Rattle.tcp_progress.proofs.Shaking.{IsShaking, Opens, opens-after, opens-append, received-on, shakes-all, up-before}
-use Rattle.tcp_progress.proofs.Turning.{after-append, all-untimed, calm-append, calm-served, done-through, gets-through, live-on, reads-calm, tail-calm, turn-calm, turn-tail, turns-calm, turns-done}
+use Rattle.tcp_progress.proofs.Turning.{after-append, all-untimed, calm-append, calm-served, done-through, live-on, reads-calm, turn-calm, turns-calm, turns-done}
 use Rattle.tcp_progress.proofs.Waited.{waited}
 
 -- ---- ONE TURN, from its reads on: one side is served, then the other, then all comes

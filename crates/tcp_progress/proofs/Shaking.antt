@@ -1,6 +1,6 @@
 -- OVER CALM EVENTS two ends that are opening the connection go on to do so, or both are open, while no end is reset (RFC 9293, 3.10.7.2 to 3.10.7.4).
 use Rattle.std.proofs.Common.{◌≡◌, ℕ, ◌≤◌, List, [], ◌∷◌, ◌++◌, inl, inr, refl, sym, ◌∙◌, ap, subst, arith, append_assoc}
-use Rattle.std.specs.Prelude.{true, false, Bool, Some, None, ◌⊎◌}
+use Rattle.std.specs.Prelude.{true, false, Bool, None, ◌⊎◌}
 use Rattle.std.specs.List.{AllByRecursion}
 use Rattle.std.proofs.lemmas.Bool.{cases_Bool, false≢true}
 use Rattle.tcp_wire.specs.Flags.{ack, has, rst}
@@ -29,8 +29,7 @@ use Rattle.tcp_replay.proofs.Judgements.{judged}
 use Rattle.tcp_replay.proofs.Steps.{pair-swapped}
 use Rattle.tcp_progress.specs.Fair.{IsCalm, NoneGaveUp}
 use Rattle.tcp_progress.specs.Handshake.{AreOpen}
-use Rattle.tcp_progress.specs.Settled.{AreOpening, IsLive}
-use Rattle.tcp_progress.specs.Steady.{IsSteadyPair}
+use Rattle.tcp_progress.specs.Settled.{IsLive}
 use Rattle.tcp_progress.proofs.AlwaysSteady.{IsKept}
 use Rattle.tcp_progress.proofs.Calm.{IsMoved, moves-same}
 use Rattle.tcp_progress.proofs.CalmWorlds.{OneMoves, after-either, calm-event, calm-bytes, steps-all, steps-event}

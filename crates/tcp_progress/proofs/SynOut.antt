@@ -12,7 +12,6 @@ use Rattle.tcp_halves.specs.declared.due.Due.{Due}
 use Rattle.tcp_halves.specs.declared.due.Due.TheVariants.{Syn}
 use Rattle.tcp_halves.specs.declared.phase.Timer.TheVariants.{Retransmit}
 use Rattle.tcp_halves.specs.Phase.{is_handshake}
-use Rattle.tcp_halves.specs.Receiver.{Receiving}
 use Rattle.tcp_conn.specs.State.{State}
 use Rattle.tcp_conn.specs.Due.{due_of}
 use Rattle.tcp_conn.specs.Emission.{emitted_bytes}
@@ -26,7 +25,7 @@ use Rattle.tcp_replay.proofs.Emissions.{GoesOut, due-decodes, due-goes, seq-in, 
 use Rattle.tcp_replay.proofs.Phases.{handshake-knows, handshake-una}
 use Rattle.tcp_progress.specs.Handshake.{CanReachUnaided}
 use Rattle.tcp_progress.specs.Steady.{IsSteadyPair}
-use Rattle.tcp_progress.proofs.Ready.{emission-receiving, pair-of}
+use Rattle.tcp_progress.proofs.Ready.{pair-of}
 use Rattle.tcp_progress.proofs.Still.{IsStill, still-then, still-next, still-emission, still-retransmit}
 use Rattle.tcp_progress.proofs.Ways.{IsInvariant, last-of}
 use Rattle.tcp_progress.proofs.Short.{short-emission, short-flushing, short-timeout}
