@@ -56,6 +56,7 @@ done-run d limit range most =
     (λ (run : Option (ℕ × ℕ)). resent_run d limit range run ≡ None)
     (λ _. done-text d limit range (first, first + count_leading false (drop first d.queue.marks)) most ahead) (λ _. done-fin d range most)
 
+-- then nothing is sent again
 pub done-none : (d : Sending) (limit : ℕ) (range : Option (Range ℕ)) → IfSome range (λ range. range.end ≤ max range.start d.una)
     → resend_of d limit range ≡ None
 unfolding resend_of
@@ -72,6 +73,7 @@ sends-none : (s : State) → IsRested s → s.owed.ack ≡ false → sends_text 
 unfolding due_of new_text_of
 sends-none s rested owed sends no_text no_turn = rw (rested.reset, rested.syn, sends, rested.none sends, no_text, no_turn, owed) refl
 
+-- in a phase that sends no text
 pub quiet-or-none : (s : State) → s.owed.reset ≡ None → s.owed.syn ≡ false → sends_text s.phase ≡ false → (due_of s ≡ None) ⊎ StandsAtNext s
 quiet-or-none s reset syn quiet =
     elim (cases_Bool s.owed.ack) [
@@ -79,6 +81,7 @@ quiet-or-none s reset syn quiet =
       | inr none ↦ inl (quiet-none s reset syn none quiet)
     ]
 
+-- in any phase
 pub stands-or-none : (s : State) → s.owed.reset ≡ None → s.owed.syn ≡ false → RangeDone s.sending → (due_of s ≡ None) ⊎ StandsAtNext s
 stands-or-none s reset syn done =
     elim (cases_Bool (sends_text s.phase)) [
@@ -110,6 +113,7 @@ pub record KeepsRange (d e : Sending) : Type 0 where
   pub una : d.una ≤ e.una
   pub nxt : e.nxt ≡ d.nxt
 
+-- it keeps itself
 pub range-same : (d : Sending) → KeepsRange d d
 range-same d = record { resend = inl refl; una = omega arith; nxt = refl }
 
@@ -131,6 +135,7 @@ some-done : (range : Option (Range ℕ)) (una una' : ℕ) → una ≤ una' → I
 some-done None una una' more h = tt
 some-done (Some range) una una' more h = omega (arith, more, h)
 
+-- what was done stays so
 pub range-done : (d e : Sending) → KeepsRange d e → RangeDone d → RangeDone e
 range-done d e keeps h =
     elim keeps.resend [
@@ -208,6 +213,7 @@ pub record KeepsOwed (s t : State) : Type 0 where
   pub syn : s.owed.syn ≡ false → t.owed.syn ≡ false
   pub ack : t.ending ≡ NotEnded → s.owed.ack ≡ true → t.owed.ack ≡ true
 
+-- it keeps itself
 pub owed-same : (s : State) → KeepsOwed s s
 owed-same s = record { range = range-same s.sending; syn = λ e. e; ack = λ _ e. e }
 

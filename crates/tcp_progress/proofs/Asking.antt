@@ -50,6 +50,7 @@ first-phase s Closing una took going fits says = absurd (omega (arith, una, fits
 first-phase s LastAck una took going fits says = absurd (omega (arith, una, fits.1.least))
 first-phase s TimeWait una took going fits says = absurd (omega (arith, una, fits.1.least))
 
+-- in a world
 pub syn-alone : (p q : PartyState) → IsSteadyPair p q → IsLive p → p.endpoint.sending.una ≡ 0 → (p.endpoint.phase ≡ SynReceived) × (p.endpoint.sending.nxt ≡ 1)
 syn-alone p q h live una = first-phase p.endpoint p.endpoint.phase una live.opened live.goes_on h.pair.there.alone.progress h.there.stage
 

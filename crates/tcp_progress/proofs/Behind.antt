@@ -27,6 +27,7 @@ pub record IsBehind (p q : PartyState) : Type 0 where
   pub one : next_position q ≡ p.endpoint.sending.nxt
   pub two : next_position p ≡ q.endpoint.sending.nxt
 
+-- the other of the other side is the side itself
 pub twice : (side : Side) → other (other side) ≡ side
 twice A = refl
 twice B = refl
@@ -68,9 +69,11 @@ pending-later m u v asker server rest still old = record {
 abbrev pub after_first : Side → ℕ → WorldState → WorldState
 after_first first n w = world_after_all w (served first n)
 
+-- and after both
 abbrev pub after_both : Side → ℕ → ℕ → WorldState → WorldState
 after_both first n m w = world_after_all (after_first first n w) (served (other first) m)
 
+-- what a turn says of it
 pub record IsServed (first : Side) (n m : ℕ) (w : WorldState) (there back : List EventContent) : Type 0 where
   pub untimed : AllByRecursion IsUntimed there
   pub calm : AllByRecursion IsCalm back

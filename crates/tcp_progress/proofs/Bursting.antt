@@ -41,12 +41,14 @@ pub record IsOut (s : State) : Type 0 where
   pub none : due_of s ≡ None
   pub done : RangeDone s.sending
 
+-- or something of the range goes out, and it goes on
 pub record GoesOn (s : State) : Type 0 where
   pub due : Due
   pub is_due : due_of s ≡ Some due
   pub keeps : KeepsFlight s.sending (after_emission s).sending
   pub next : IsBursting (after_emission s)
 
+-- or it stands at SND.NXT
 abbrev pub Emits : State → Type 0
 Emits s = IsOut s ⊎ (StandsAtNext s ⊎ GoesOn s)
 
@@ -104,6 +106,7 @@ resent-emits s start h r sent =
           }))
     ]
 
+-- one emission of an end that goes through what is sent again
 pub bursting-emits : (s : State) → IsBursting s → Emits s
 bursting-emits s h =
     elim h.form [
@@ -121,6 +124,7 @@ pub still-done : (range : Option (Range ℕ)) (una nxt : ℕ) → nxt ≤ una �
 still-done None una nxt idle h = tt
 still-done (Some range) una nxt idle h = omega (arith, idle, h)
 
+-- after it all that is in flight is gone through
 pub timeout-bursts : (s : State) → MaySend s → IsBounded s.sending → IfSome s.sending.resend (λ range. range.end ≤ s.sending.nxt)
     → IsBursting (after_retransmit s)
 timeout-bursts s may bounded range =

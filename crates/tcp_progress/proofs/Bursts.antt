@@ -21,6 +21,7 @@ same-emission : (s : State) → due_of s ≡ None → after_emission s ≡ s
 unfolding after_emission
 same-emission s e = rw e refl
 
+-- it has sent no more than the other has, which doesn't know that it has all; and it goes through what is sent again
 abbrev pub IsBurstingTo : WorldState → Side → Type 0
 IsBurstingTo w side =
     ((party_of w side).endpoint.sending.nxt ≡ next_position (party_of w (other side)))
@@ -36,6 +37,7 @@ waits-idle w side ready idle =
       ]
     ]
 
+-- a burst of it: something is brought on in the end, or then it waits to be spoken to
 pub burst-waits : (n : ℕ) (w : WorldState) (side : Side) (later : List EventContent) → AllByRecursion IsCalm later → IsGoing w → IsBurstingTo w side
     → IsIdle (world_after_all w (emissions side n)) side → AllCome w (emissions side n) later → NoneGaveUp (world_after_all w (emissions side n ++ later))
     → Lowers w (world_after_all w (emissions side n ++ later)) (Waits (world_after_all w (emissions side n)) side)

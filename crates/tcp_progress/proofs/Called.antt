@@ -19,7 +19,8 @@ use Rattle.tcp_replay.specs.declared.event.Side.{Side}
 use Rattle.tcp_replay.specs.declared.event.Side.TheVariants.{A, B}
 use Rattle.tcp_replay.specs.Events.{EventContent, Deliver, Emit, Timer}
 use Rattle.tcp_replay.specs.Safe.{next_position}
-use Rattle.tcp_replay.specs.World.{WorldState, PartyState, SentSegment, delivery_refusal, effect_of, other, party_after_arrival, party_after_emission, party_after_timer, party_of, segment_at, stay_or, world_after, world_after_all, world_with_effect}
+use Rattle.tcp_replay.specs.World.{WorldState, PartyState, SentSegment, delivery_refusal, effect_of, other, party_after_arrival, party_after_emission}
+use Rattle.tcp_replay.specs.World.{party_after_timer, party_of, segment_at, stay_or, world_after, world_after_all, world_with_effect}
 use Rattle.tcp_progress.specs.Fair.{AllCome, Delivers, IsCalm, IsIdle, NoneGaveUp, emissions, served}
 use Rattle.tcp_progress.specs.Settled.{IsLive}
 use Rattle.tcp_progress.proofs.AlwaysSteady.{IsKept, kept-steady}
@@ -31,7 +32,8 @@ use Rattle.tcp_progress.proofs.Handshake.{answering, answering-first, listen-tak
 use Rattle.tcp_progress.proofs.Older.{past-emissions}
 use Rattle.tcp_progress.proofs.Ready.{steady-back}
 use Rattle.tcp_progress.proofs.Serving.{comes-due, none-some}
-use Rattle.tcp_progress.proofs.Shaking.{Answers, GoesOn, IsShaking, Opens, answerer, both-open, caller, opens-after, opens-append, opens-here, opens-later, received-on, shakes-all, shakes-event, up-before}
+use Rattle.tcp_progress.proofs.Shaking.{Answers, GoesOn, IsShaking, Opens, answerer, both-open, caller, opens-after, opens-append, opens-here, opens-later}
+use Rattle.tcp_progress.proofs.Shaking.{received-on, shakes-all, shakes-event, up-before}
 use Rattle.tcp_progress.proofs.Still.{IsStill, still-emission, still-next, still-retransmit}
 use Rattle.tcp_progress.proofs.SynOut.{IsSyn, syn-emitted}
 use Rattle.tcp_progress.proofs.Turning.{calm-emissions, calm-served}
@@ -56,7 +58,8 @@ syn-later p q p' q' k told gp gq f = record {
   dst = f.dst ∙ ap (λ (c : Config). c.port) (sym gq.config);
 }
 
-side-syn : (w v : WorldState) (side : Side) (k : ℕ) (told : Bool) → Steps w v → IsSyn (party_of w side) (party_of w (other side)) k told → IsSyn (party_of v side) (party_of v (other side)) k told
+side-syn : (w v : WorldState) (side : Side) (k : ℕ) (told : Bool) → Steps w v → IsSyn (party_of w side) (party_of w (other side)) k told
+    → IsSyn (party_of v side) (party_of v (other side)) k told
 side-syn w v A k told steps f = syn-later w.a w.b v.a v.b k told steps.there steps.back f
 side-syn w v B k told steps f = syn-later w.b w.a v.b v.a k told steps.back steps.there f
 
@@ -101,7 +104,8 @@ unfolding party_after_timer after_retransmit
 owes-timer p shakes = rw shakes (or-true p.endpoint.owed.syn)
 
 -- what is known of p is known of a party that is the same but for what it owes
-owes-still : (w : WorldState) (side : Side) (told : Bool) (p' : PartyState) → IsKept w → party_of w side ≡ p' → (p : PartyState) → IsStill p p' → is_handshake p.endpoint.phase ≡ true → next_position p ≡ 1
+owes-still : (w : WorldState) (side : Side) (told : Bool) (p' : PartyState) → IsKept w → party_of w side ≡ p' → (p : PartyState) → IsStill p p'
+    → is_handshake p.endpoint.phase ≡ true → next_position p ≡ 1
     → p.endpoint.receiving.opened ≡ told → p'.endpoint.owed.syn ≡ true → Owes w side told
 owes-still w side told p' kept same p still shakes first opened owed = record {
   kept = kept;
@@ -125,15 +129,19 @@ syn-now n w side later told h none come =
     let k = length p.sent in
     let v = world_after w (Emit side) in
     let due = owed-due p.endpoint none h.owed in
-    let out : IsSyn (party_after_emission p) q k told = subst (IsSyn (party_after_emission p) q k) h.opened (syn-emitted p q (side-pair w side h.kept) h.shakes h.first due) in
-    let at : IsSyn (party_of v side) (party_of v (other side)) k told = subst (λ (x : PartyState). IsSyn (party_of v side) x k told) (sym (emit-peer w side)) (subst (λ (x : PartyState). IsSyn x q k told) (sym (emit-party w side)) out) in
+    let out : IsSyn (party_after_emission p) q k told = subst (IsSyn (party_after_emission p) q k) h.opened
+    (syn-emitted p q (side-pair w side h.kept) h.shakes h.first due) in
+    let at : IsSyn (party_of v side) (party_of v (other side)) k told = subst (λ (x : PartyState). IsSyn (party_of v side) x k told)
+    (sym (emit-peer w side)) (subst (λ (x : PartyState). IsSyn x q k told) (sym (emit-party w side)) out) in
     record {
       place = k;
-      syn = side-syn v (world_after_all v (emissions side n)) side k told (steps-all v (emissions side n) (calm-emissions side n) (steps-event w (Emit side) tt h.kept).kept) at;
+      syn = side-syn v (world_after_all v (emissions side n)) side k told
+          (steps-all v (emissions side n) (calm-emissions side n) (steps-event w (Emit side) tt h.kept).kept) at;
       comes = past-emissions side side n k later (comes-due w side (emissions side n ++ later) Syn due refl come.0);
     }
 
-syn-among : (n : ℕ) (w : WorldState) (side : Side) (later : List EventContent) (told : Bool) (waiting : Option WaitingReset) → (party_of w side).endpoint.owed.reset ≡ waiting → Owes w side told
+syn-among : (n : ℕ) (w : WorldState) (side : Side) (later : List EventContent) (told : Bool) (waiting : Option WaitingReset)
+    → (party_of w side).endpoint.owed.reset ≡ waiting → Owes w side told
     → IsIdle (world_after_all w (emissions side n)) side → AllCome w (emissions side n) later → SynComes (world_after_all w (emissions side n)) side later told
 unfolding world_after_all
 syn-among zero w side later told None e h idle come = absurd (none-some Syn (sym idle ∙ owed-due (party_of w side).endpoint e h.owed))
@@ -143,30 +151,37 @@ syn-among (suc n) w side later told (Some reset) e h idle come =
     let p = party_of w side in
     let v = world_after w (Emit side) in
     let owed = ap (λ (t : State). t.owed.syn) (emission-endpoint p) ∙ (reset-first p.endpoint reset e).1 ∙ h.owed in
-    let h' = owes-still v side told (party_after_emission p) (steps-event w (Emit side) tt h.kept).kept (emit-party w side) p (still-emission p) h.shakes h.first h.opened owed in
+    let h' = owes-still v side told (party_after_emission p) (steps-event w (Emit side) tt h.kept).kept (emit-party w side) p (still-emission p) h.shakes
+    h.first h.opened owed in
     syn-among n v side later told (party_of v side).endpoint.owed.reset refl h' idle come.1
 
 -- WHO IS SERVED has its SYN go out
-syn-served : (n : ℕ) (w : WorldState) (side : Side) (later : List EventContent) (told : Bool) → IsKept w → is_handshake (party_of w side).endpoint.phase ≡ true → next_position (party_of w side) ≡ 1
-    → (party_of w side).endpoint.receiving.opened ≡ told → IsIdle (world_after_all w (served side n)) side → AllCome w (served side n) later → SynComes (world_after_all w (served side n)) side later told
+syn-served : (n : ℕ) (w : WorldState) (side : Side) (later : List EventContent) (told : Bool) → IsKept w
+    → is_handshake (party_of w side).endpoint.phase ≡ true → next_position (party_of w side) ≡ 1
+    → (party_of w side).endpoint.receiving.opened ≡ told → IsIdle (world_after_all w (served side n)) side → AllCome w (served side n) later
+    → SynComes (world_after_all w (served side n)) side later told
 unfolding world_after_all
 syn-served n w side later told kept shakes first opened idle come =
     let p = party_of w side in
     let v = world_after w (Timer side Retransmit) in
-    let h' = owes-still v side told (party_after_timer p Retransmit) (steps-event w (Timer side Retransmit) tt kept).kept (timer-party w side) p (still-retransmit p) shakes first opened (owes-timer p shakes) in
+    let h' = owes-still v side told (party_after_timer p Retransmit) (steps-event w (Timer side Retransmit) tt kept).kept (timer-party w side) p
+    (still-retransmit p) shakes first opened (owes-timer p shakes) in
     syn-among n v side later told (party_of v side).endpoint.owed.reset refl h' idle come.1
 
 -- ---- WHEN IT COMES
 delivered : (w : WorldState) (side : Side) (k : ℕ) → delivery_refusal w.life (party_of w side) (party_of w (other side)) k ≡ None
     → (party_of (world_after w (Deliver side k)) side ≡ party_of w side)
-    × (party_of (world_after w (Deliver side k)) (other side) ≡ party_after_arrival (party_of w (other side)) (party_of w side) (segment_at (party_of w side) k))
+    × (party_of (world_after w (Deliver side k)) (other side) ≡ party_after_arrival (party_of w (other side)) (party_of w side)
+    (segment_at (party_of w side) k))
 unfolding effect_of
 delivered w A k e = (ap (λ r. (stay_or r w (world_with_effect w (Deliver A k))).a) e, ap (λ r. (stay_or r w (world_with_effect w (Deliver A k))).b) e)
 delivered w B k e = (ap (λ r. (stay_or r w (world_with_effect w (Deliver B k))).b) e, ap (λ r. (stay_or r w (world_with_effect w (Deliver B k))).a) e)
 
 -- in LISTEN
-call-now : (w : WorldState) (side : Side) (k : ℕ) → IsShaking w side → Answers (party_of w (other side)).endpoint.phase → IsSyn (party_of w side) (party_of w (other side)) k false
-    → GoesOn (party_of w (other side)).endpoint.phase (party_of (world_after w (Deliver side k)) (other side)).endpoint.phase → (party_of (world_after w (Deliver side k)) (other side)).endpoint.phase ≡ SynReceived
+call-now : (w : WorldState) (side : Side) (k : ℕ) → IsShaking w side → Answers (party_of w (other side)).endpoint.phase
+    → IsSyn (party_of w side) (party_of w (other side)) k false
+    → GoesOn (party_of w (other side)).endpoint.phase (party_of (world_after w (Deliver side k)) (other side)).endpoint.phase
+    → (party_of (world_after w (Deliver side k)) (other side)).endpoint.phase ≡ SynReceived
 call-now w side k h (inr received) f on = received-on _ _ received on
 call-now w side k h (inl listens) f on =
     let taken = listen-takes (party_of w side) (party_of w (other side)) w.life k (kept-steady w h.kept).least (side-pair w side h.kept) listens f in
@@ -174,9 +189,11 @@ call-now w side k h (inl listens) f on =
 
 -- it has been taken in the end, or both are open somewhere
 abbrev pub IsTakenOr : WorldState → List EventContent → Side → Type 0
-IsTakenOr w events side = Opens w events ⊎ (IsShaking (world_after_all w events) side × ((party_of (world_after_all w events) (other side)).endpoint.phase ≡ SynReceived))
+IsTakenOr w events side = Opens w events ⊎ (IsShaking (world_after_all w events) side ×
+    ((party_of (world_after_all w events) (other side)).endpoint.phase ≡ SynReceived))
 
-pub taken-stays : (w : WorldState) (events : List EventContent) (side : Side) → AllByRecursion IsCalm events → IsShaking w side → (party_of w (other side)).endpoint.phase ≡ SynReceived
+pub taken-stays : (w : WorldState) (events : List EventContent) (side : Side) → AllByRecursion IsCalm events → IsShaking w side
+    → (party_of w (other side)).endpoint.phase ≡ SynReceived
     → NoneGaveUp (world_after_all w events) → IsTakenOr w events side
 taken-stays w events side calm h received up =
     elim (shakes-all w events side calm h up) [
@@ -184,12 +201,14 @@ taken-stays w events side calm h received up =
       | inr on ↦ inr (on.0, received-on _ _ received on.1)
     ]
 
-taken-later : (w : WorldState) (event : EventContent) (events : List EventContent) (side : Side) → IsTakenOr (world_after w event) events side → IsTakenOr w (event ∷ events) side
+taken-later : (w : WorldState) (event : EventContent) (events : List EventContent) (side : Side) → IsTakenOr (world_after w event) events side
+    → IsTakenOr w (event ∷ events) side
 unfolding world_after_all
 taken-later w event events side (inl opens) = inl (opens-later w event events opens)
 taken-later w event events side (inr taken) = inr taken
 
-call-comes : (w : WorldState) (side : Side) (k : ℕ) (events : List EventContent) → AllByRecursion IsCalm events → IsShaking w side → IsSyn (party_of w side) (party_of w (other side)) k false
+call-comes : (w : WorldState) (side : Side) (k : ℕ) (events : List EventContent) → AllByRecursion IsCalm events → IsShaking w side
+    → IsSyn (party_of w side) (party_of w (other side)) k false
     → Delivers side k events → NoneGaveUp (world_after_all w events) → IsTakenOr w events side
 unfolding world_after_all
 call-comes w side k [] calm h f comes up = absurd comes
@@ -203,17 +222,20 @@ call-comes w side k (event ∷ events) calm h f comes up =
           (elim comes [
             | inr more ↦ call-comes v side k events calm.1 on.0 (side-syn w v side k false steps f) more up
             | inl now ↦
-                let received = subst (λ (e : EventContent). GoesOn (party_of w (other side)).endpoint.phase (party_of (world_after w e) (other side)).endpoint.phase
+                let received = subst (λ (e : EventContent). GoesOn (party_of w (other side)).endpoint.phase
+                (party_of (world_after w e) (other side)).endpoint.phase
                 → (party_of (world_after w e) (other side)).endpoint.phase ≡ SynReceived) (sym now) (call-now w side k h h.answers f) in
                 taken-stays v events side calm.1 on.0 (received on.1) up
           ])
     ]
 
 -- in SYN-SENT
-answer-open : (w v : WorldState) (side : Side) → party_of v (other side) ≡ party_of w (other side) → IsLive (party_of v side) → IsLive (party_of w (other side)) → Opens v []
+answer-open : (w v : WorldState) (side : Side) → party_of v (other side) ≡ party_of w (other side) → IsLive (party_of v side)
+    → IsLive (party_of w (other side)) → Opens v []
 answer-open w v side same here there = opens-here v [] (both-open v side here (subst IsLive (sym same) there))
 
-answer-now : (w : WorldState) (side : Side) (k : ℕ) → IsShaking w side → (party_of w (other side)).endpoint.phase ≡ SynReceived → IsSyn (party_of w (other side)) (party_of w side) k true
+answer-now : (w : WorldState) (side : Side) (k : ℕ) → IsShaking w side → (party_of w (other side)).endpoint.phase ≡ SynReceived
+    → IsSyn (party_of w (other side)) (party_of w side) k true
     → Opens w (Deliver (other side) k ∷ [])
 answer-now w A k h received f =
     let taken = syn_sent-takes w.b w.a w.life k (kept-steady w h.kept).least (side-pair w B h.kept) h.calls f in
@@ -224,11 +246,13 @@ answer-now w B k h received f =
     let is = delivered w A k taken.0 in
     opens-later w (Deliver A k) [] (answer-open w (world_after w (Deliver A k)) B is.0 (subst IsLive (sym is.1) taken.1) (answerer w B h.kept received))
 
-back-syn : (w v : WorldState) (side : Side) (k : ℕ) → Steps w v → IsSyn (party_of w (other side)) (party_of w side) k true → IsSyn (party_of v (other side)) (party_of v side) k true
+back-syn : (w v : WorldState) (side : Side) (k : ℕ) → Steps w v → IsSyn (party_of w (other side)) (party_of w side) k true
+    → IsSyn (party_of v (other side)) (party_of v side) k true
 back-syn w v A k steps f = syn-later w.b w.a v.b v.a k true steps.back steps.there f
 back-syn w v B k steps f = syn-later w.a w.b v.a v.b k true steps.there steps.back f
 
-answer-comes : (w : WorldState) (side : Side) (k : ℕ) (events : List EventContent) → AllByRecursion IsCalm events → IsShaking w side → (party_of w (other side)).endpoint.phase ≡ SynReceived
+answer-comes : (w : WorldState) (side : Side) (k : ℕ) (events : List EventContent) → AllByRecursion IsCalm events → IsShaking w side
+    → (party_of w (other side)).endpoint.phase ≡ SynReceived
     → IsSyn (party_of w (other side)) (party_of w side) k true → Delivers (other side) k events → NoneGaveUp (world_after_all w events) → Opens w events
 unfolding world_after_all
 answer-comes w side k [] calm h received f comes up = absurd comes
@@ -236,20 +260,24 @@ answer-comes w side k (event ∷ events) calm h received f comes up =
     let v = world_after w event in
     let steps = steps-event w event calm.0 h.kept in
     elim comes [
-      | inl now ↦ subst (λ (e : EventContent). Opens w (e ∷ events)) (sym now) (opens-append w (Deliver (other side) k ∷ []) events (answer-now w side k h received f))
+      | inl now ↦ subst (λ (e : EventContent). Opens w (e ∷ events)) (sym now)
+          (opens-append w (Deliver (other side) k ∷ []) events (answer-now w side k h received f))
       | inr more ↦
           elim (shakes-event w event side calm.0 h (up-before v events calm.1 steps.kept up)) [
             | inl both ↦ opens-later w event events (opens-here v events both)
-            | inr on ↦ opens-later w event events (answer-comes v side k events calm.1 on.0 (received-on _ _ received on.1) (back-syn w v side k steps f) more up)
+            | inr on ↦ opens-later w event events (answer-comes v side k events calm.1 on.0 (received-on _ _ received on.1) (back-syn w v side k steps f)
+                more up)
           ]
     ]
 
-twice-syn : (u : WorldState) (side : Side) (k : ℕ) → IsSyn (party_of u (other side)) (party_of u (other (other side))) k true → IsSyn (party_of u (other side)) (party_of u side) k true
+twice-syn : (u : WorldState) (side : Side) (k : ℕ) → IsSyn (party_of u (other side)) (party_of u (other (other side))) k true
+    → IsSyn (party_of u (other side)) (party_of u side) k true
 twice-syn u A k f = f
 twice-syn u B k f = f
 
 -- ---- ONE SIDE IS SERVED, and what it sends comes: who calls is answered,
-pub serve-call : (n : ℕ) (w : WorldState) (side : Side) (later rest : List EventContent) → AllByRecursion IsCalm rest → IsShaking w side → IsIdle (world_after_all w (served side n)) side
+pub serve-call : (n : ℕ) (w : WorldState) (side : Side) (later rest : List EventContent) → AllByRecursion IsCalm rest → IsShaking w side
+    → IsIdle (world_after_all w (served side n)) side
     → AllCome w (served side n) later → AreAmong later rest → NoneGaveUp (world_after_all (world_after_all w (served side n)) rest)
     → Opens w (served side n ++ rest) ⊎ IsTakenOr (world_after_all w (served side n)) rest side
 serve-call n w side later rest calm h idle come among up =
@@ -266,7 +294,8 @@ serve-call n w side later rest calm h idle come among up =
     ]
 
 -- and who answers is heard
-pub serve-answer : (n : ℕ) (w : WorldState) (side : Side) (later rest : List EventContent) → AllByRecursion IsCalm rest → IsShaking w side → (party_of w (other side)).endpoint.phase ≡ SynReceived
+pub serve-answer : (n : ℕ) (w : WorldState) (side : Side) (later rest : List EventContent) → AllByRecursion IsCalm rest → IsShaking w side
+    → (party_of w (other side)).endpoint.phase ≡ SynReceived
     → IsIdle (world_after_all w (served (other side) n)) (other side) → AllCome w (served (other side) n) later → AreAmong later rest
     → NoneGaveUp (world_after_all (world_after_all w (served (other side) n)) rest) → Opens w (served (other side) n ++ rest)
 serve-answer n w side later rest calm h received idle come among up =
@@ -281,5 +310,6 @@ serve-answer n w side later rest calm h received idle come among up =
       | inl opens ↦ opens-append w (served (other side) n) rest opens
       | inr on ↦
           opens-after w (served (other side) n) rest
-          (answer-comes u side out.place rest calm on.0 (received-on _ _ received on.1) (twice-syn u side out.place out.syn) (among (other side) out.place out.comes) up)
+          (answer-comes u side out.place rest calm on.0 (received-on _ _ received on.1) (twice-syn u side out.place out.syn)
+          (among (other side) out.place out.comes) up)
     ]

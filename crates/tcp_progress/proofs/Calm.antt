@@ -46,9 +46,11 @@ use Rattle.tcp_progress.proofs.Still.{IsStill, still-emission, still-next, still
 abbrev pub EndsPlainly : Ending → Phase → Type 0
 EndsPlainly ending phase = (ending ≡ NotEnded) ⊎ ((ending ≡ Orderly) × (phase ≡ LastAck))
 
+-- or by a reset
 abbrev pub EndsAs : State → State → Type 0
 EndsAs s t = (gives_up t.ending ≡ true) ⊎ EndsPlainly t.ending s.phase
 
+-- only who lives
 abbrev pub MayEnd : State → State → Type 0
 MayEnd s t = (t.ending ≡ s.ending) ⊎ ((s.ending ≡ NotEnded) × EndsAs s t)
 
@@ -66,6 +68,7 @@ pub record Grows (p p' : PartyState) : Type 0 where
   pub handed : length p.delivered ≤ length p'.delivered
   pub ended : p.ended ≡ true → p'.ended ≡ true
 
+-- a party grows from itself
 pub grows-same : (p : PartyState) → Grows p p
 grows-same p =
     record {
@@ -83,6 +86,7 @@ grows-same p =
       ended = λ e. e;
     }
 
+-- and step by step
 pub grows-then : (p p' p'' : PartyState) → Grows p p' → Grows p' p'' → Grows p p''
 grows-then p p' p'' one two = record {
   config = two.config ∙ one.config;
@@ -103,6 +107,7 @@ pub record IsMoved (p p' : PartyState) : Type 0 where
   pub grows : Grows p p'
   pub ending : MayEnd p.endpoint p'.endpoint
 
+-- nothing happens
 pub moves-same : (p : PartyState) → IsMoved p p
 moves-same p = record { grows = grows-same p; ending = inl refl }
 
@@ -126,11 +131,13 @@ moves-still p p' more h sent handed ended = record {
   ending = inl h.ending;
 }
 
+-- its user reads
 pub moves-read : (p : PartyState) (room : ℕ) → IsMoved p (party_after_receive p room)
 unfolding party_after_receive
 moves-read p room =
     moves-still p (party_after_receive p room) [] (still-reading p room) (sym (append-nil p.sent)) (omega (arith, length-append p.delivered)) (λ e. rw e refl)
 
+-- its user has an acknowledgement sent
 pub moves-acknowledged : (p : PartyState) → IsMoved p (party_after_acknowledge p)
 unfolding party_after_acknowledge after_acknowledge
 moves-acknowledged p =
@@ -177,6 +184,7 @@ still-reorder : (p : PartyState) → IsStill p (party_after_timer p timers.Reord
 unfolding party_after_timer after_reorder
 still-reorder p = gaps-still p (marks_end p.endpoint)
 
+-- a timer runs out
 pub moves-timer : (p : PartyState) (side : Side) (which : Which) → IsCalm (Timer side which) → IsMoved p (party_after_timer p which)
 unfolding party_after_timer
 moves-timer p side timers.Retransmit calm =
@@ -185,6 +193,7 @@ moves-timer p side timers.Reorder calm =
     moves-still p (party_after_timer p timers.Reorder) [] (still-reorder p) (sym (append-nil p.sent)) (omega arith) (λ e. e)
 moves-timer p side timers.TimeWait calm = absurd calm
 
+-- it emits
 pub moves-emission : (p : PartyState) → IsMoved p (party_after_emission p)
 unfolding party_after_emission
 moves-emission p =
@@ -259,6 +268,7 @@ Resets PeerRefuses = Unit {0}
 Resets PeerResets = Unit {0}
 Resets other = ⊥
 
+-- an end that lives comes to its end plainly, unless a reset does it
 pub how-ends : (s : State) (src dst : List ℕ) (v : Content) → s.ending ≡ NotEnded
     → Resets (judgement s src dst v) ⊎ EndsPlainly (after_judgement (judgement s src dst v) s src v).ending s.phase
 unfolding after_peer_opens after_peer_accepts
@@ -306,12 +316,15 @@ closed-ending s src dst v shut =
     rw shut (cond_both (is_foreign s src dst v) Foreign (if has rst v.flags then ResetIgnored else Stray) P (λ _. refl)
     (λ _. cond_both (has rst v.flags) ResetIgnored Stray P (λ _. refl) (λ _. refl)))
 
+-- an end that lives hasn't ended in order
 pub not-both : (ending : Ending) → ending ≡ NotEnded → ending ≡ Orderly → ⊥
 not-both ending goes over = absurd (cc)
 
+-- from the other side
 pub on-swapped : (x y : PartyState) → GoOn x y → GoOn y x
 on-swapped x y h = record { there = h.back; back = h.there; live = λ some. let both = h.live (omega (arith, some)) in (both.1, both.0) }
 
+-- who isn't in CLOSED lives
 pub open-goes : (phase : Phase) (ending : Ending) (una nxt : ℕ) (opened finished : Bool) → is_closed phase ≡ false
     → FitsPhase phase ending una nxt opened finished → ending ≡ NotEnded
 open-goes Closed ending una nxt opened finished e h = absurd (cc)

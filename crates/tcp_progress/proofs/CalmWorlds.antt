@@ -69,6 +69,7 @@ calm-from : (w : WorldState) (side : Side) (event : EventContent) → IsCalm eve
 calm-from w A event calm most e pair h = calm-effect w.life w.a w.b event calm most e pair h
 calm-from w B event calm most e pair h = one-swapped _ _ _ _ (calm-effect w.life w.b w.a event calm most e (pair-swapped _ _ pair) (sent-swapped _ _ h))
 
+-- a calm event moves one of them
 pub calm-event : (w : WorldState) (event : EventContent) → IsCalm event → refusal_of w event ≡ None → IsKept w
     → OneMoves w.a w.b (world_with_effect w event).a (world_with_effect w event).b
 calm-event w event calm e h = calm-from w (side_of event) event calm h.sound.life e h.sound.ends h.all.sent
@@ -89,9 +90,11 @@ pub record Steps (w v : WorldState) : Type 0 where
   pub stays_a : gave_up v.a ≡ false → gave_up w.a ≡ false
   pub stays_b : gave_up v.b ≡ false → gave_up w.b ≡ false
 
+-- no event
 pub steps-same : (w : WorldState) → IsKept w → Steps w w
 steps-same w h = record { kept = h; there = grows-same w.a; back = grows-same w.b; stays_a = λ e. e; stays_b = λ e. e }
 
+-- events after events
 pub steps-then : (u v w : WorldState) → Steps u v → Steps v w → Steps u w
 steps-then u v w one two = record {
   kept = two.kept;
@@ -117,6 +120,7 @@ steps-one w v h (inr there) = record {
   stays_b = moves-stays w.b v.b there.1;
 }
 
+-- a calm event has bytes alone
 pub calm-bytes : (event : EventContent) → IsCalm event → HasBytes event
 calm-bytes (Receive side room) calm = tt
 calm-bytes (Acknowledge side) calm = tt
@@ -135,11 +139,13 @@ pub after-either : (P : WorldState → Type 0) (refusal : Option StepError) (w v
 after-either P None w v here there = there refl
 after-either P (Some error) w v here there = here
 
+-- a calm event, refused or not
 pub steps-event : (w : WorldState) (event : EventContent) → IsCalm event → IsKept w → Steps w (world_after w event)
 steps-event w event calm h =
     after-either (Steps w) (refusal_of w event) w (world_with_effect w event) (steps-same w h)
     (λ e. steps-one w (world_with_effect w event) (kept-after w event (calm-bytes event calm) e h) (calm-event w event calm e h))
 
+-- any calm events
 pub steps-all : (w : WorldState) (events : List EventContent) → AllByRecursion IsCalm events → IsKept w → Steps w (world_after_all w events)
 unfolding world_after_all
 steps-all w [] calm h = steps-same w h
@@ -231,6 +237,7 @@ on-one p q p' q' (inr there) before after on one two =
     subst (λ (x : PartyState). GoOn x q') (sym there.0)
     (on-swapped q' p (on-moved q q' p there.1 (steady-back q p before) (steady-back q' p after') (on-swapped p q on) two))
 
+-- they go on over an event
 pub on-event : (w : WorldState) (event : EventContent) → IsCalm event → IsKept w → GoOn w.a w.b → gave_up (world_after w event).a ≡ false
     → gave_up (world_after w event).b ≡ false → GoOn (world_after w event).a (world_after w event).b
 on-event w event calm h on =
@@ -238,6 +245,7 @@ on-event w event calm h on =
     (λ e. on-one w.a w.b _ _ (calm-event w event calm e h) (kept-steady w h).ends
     (kept-steady (world_with_effect w event) (kept-after w event (calm-bytes event calm) e h)).ends on)
 
+-- and over events
 pub on-all : (w : WorldState) (events : List EventContent) → AllByRecursion IsCalm events → IsKept w → GoOn w.a w.b
     → gave_up (world_after_all w events).a ≡ false → gave_up (world_after_all w events).b ≡ false
     → GoOn (world_after_all w events).a (world_after_all w events).b

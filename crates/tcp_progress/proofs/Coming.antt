@@ -12,15 +12,18 @@ use Rattle.tcp_progress.specs.Fair.{AllCome, Comes, Delivers, is_reset}
 abbrev pub AreAmong : List EventContent → List EventContent → Type 0
 AreAmong xs ys = (side : Side) (k : ℕ) → Delivers side k xs → Delivers side k ys
 
+-- what comes first is among all
 pub among-left : (xs ys : List EventContent) → AreAmong xs (xs ++ ys)
 among-left [] ys side k h = absurd h
 among-left (x ∷ xs) ys side k (inl now) = inl now
 among-left (x ∷ xs) ys side k (inr more) = inr (among-left xs ys side k more)
 
+-- what comes behind is among all
 pub among-right : (xs ys : List EventContent) → AreAmong ys (xs ++ ys)
 among-right [] ys side k h = h
 among-right (x ∷ xs) ys side k h = inr (among-right xs ys side k h)
 
+-- also behind the same events
 pub among-behind : (xs ys zs : List EventContent) → AreAmong ys zs → AreAmong (xs ++ ys) (xs ++ zs)
 among-behind [] ys zs among side k h = among side k h
 among-behind (x ∷ xs) ys zs among side k (inl now) = inl now
@@ -36,6 +39,7 @@ comes-among : (w : WorldState) (event : EventContent) (xs ys : List EventContent
 comes-among w (Emit side) xs ys among h = due-among (due_of (party_of w side).endpoint) side (length (party_of w side).sent) xs ys among h
 comes-among w event xs ys among h = h
 
+-- what goes out at some events
 pub come-among : (w : WorldState) (events xs ys : List EventContent) → AreAmong xs ys → AllCome w events xs → AllCome w events ys
 come-among w [] xs ys among h = tt
 come-among w (event ∷ events) xs ys among h =
@@ -47,11 +51,13 @@ come-first w [] ys later h = tt
 come-first w (x ∷ xs) ys later h =
     (subst (λ (events : List EventContent). Comes w x events) (append_assoc xs ys later) h.0, come-first (world_after w x) xs ys later h.1)
 
+-- what goes out after it
 pub come-after : (w : WorldState) (xs ys later : List EventContent) → AllCome w (xs ++ ys) later → AllCome (world_after_all w xs) ys later
 unfolding world_after_all
 come-after w [] ys later h = h
 come-after w (x ∷ xs) ys later h = come-after (world_after w x) xs ys later h.1
 
+-- and both together
 pub come-both : (w : WorldState) (xs ys later : List EventContent) → AllCome w xs (ys ++ later) → AllCome (world_after_all w xs) ys later
     → AllCome w (xs ++ ys) later
 unfolding world_after_all

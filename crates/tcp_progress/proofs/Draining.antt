@@ -224,10 +224,12 @@ burst-within (suc fuel) w side (Some due) is h less =
     (omega (arith, less, emission-less w side due h is)) in
     (suc rest.0, rest.1)
 
+-- with fuel enough
 pub burst-ends : (w : WorldState) (side : Side) → IsKept w → BurstEnds w side
 burst-ends w side h =
     burst-within (suc (due_left (all_of (party_of w side)) (party_of w side).endpoint)) w side (due_of (party_of w side).endpoint) refl h (omega arith)
 
+-- in every world
 pub burst_lem : EachBurstEnds
 burst_lem = in-every-world (λ w. (side : Side) → BurstEnds w side) (λ w h side. burst-ends w side h)
 

@@ -6,6 +6,7 @@ use Rattle.tcp_progress.specs.Settled.{HasStreamsOf}
 use Rattle.tcp_progress.proofs.AlwaysSteady.{IsKept, kept-by_runs}
 use Rattle.tcp_progress.proofs.CalmWorlds.{Steps, steps-all, steps-left}
 
+-- what all of these worlds keep
 pub in-every-world : (Holds : WorldState → Type 0) → ((w : WorldState) → IsKept w → Holds w) → InEveryWorld Holds
 in-every-world Holds holds life a b list least most one two fits =
     let kept = kept-by_runs life a b list least most one two fits in
@@ -20,5 +21,6 @@ never-grows w h events calm =
     let steps = steps-all w events calm h in
     (steps-left w (world_after_all w events) steps, steps-streams w (world_after_all w events) steps)
 
+-- in every world
 pub left_lem : WhatIsLeftNeverGrows
 left_lem = in-every-world NeverGrows never-grows

@@ -52,6 +52,7 @@ una-most x y h = omega (arith, h.pair.there.alone.sends.order, h.pair.there.alon
 next-most : (x y : PartyState) → IsSteadyPair x y → y.endpoint.receiving.opened ≡ true → next_position y ≤ all_of x
 next-most x y h opened = omega (arith, h.there.sent.taken opened, h.pair.there.alone.sends.most)
 
+-- where as much is left in the end
 pub are-still : (x y x' y' : PartyState) → IsSteadyPair x' y' → GoOn x' y' → Grows x x' → Grows y y' → left_of_both x y ≤ left_of_both x' y'
     → AreStill x y x' y'
 are-still x y x' y' h on gx gy some =
@@ -74,6 +75,7 @@ not-more : (n n' all : ℕ) (fin fin' : Bool) → n' ≤ all → (fin ≡ true �
 not-more n n' all true fin' most last same = omega (arith, most, last refl)
 not-more n n' all false fin' most last same = omega (arith, same)
 
+-- of a user who has read all
 pub read-still : (x y x' y' : PartyState) → IsSteadyPair x y → IsSteadyPair x' y' → IsUp x → IsUp x' → AreStill x y x' y' → unread_of x ≡ [] → unread_of x' ≡ []
 read-still x y x' y' h h' up up' still none =
     let r = x.endpoint.receiving in
@@ -87,14 +89,17 @@ pub side-pair : (w : WorldState) (side : Side) → IsKept w → IsSteadyPair (pa
 side-pair w A h = (kept-steady w h).ends
 side-pair w B h = steady-back w.b w.a (kept-steady w h).ends
 
+-- both go on
 pub side-on : (w : WorldState) (side : Side) → GoOn w.a w.b → GoOn (party_of w side) (party_of w (other side))
 side-on w A h = h
 side-on w B h = record { there = h.back; back = h.there; live = λ some. let both = h.live (omega (arith, some)) in (both.1, both.0) }
 
+-- what is left is the same
 pub side-left : (w : WorldState) (side : Side) → left_of_both (party_of w side) (party_of w (other side)) ≡ left_in w
 side-left w A = refl
 side-left w B = omega arith
 
+-- where as much is left
 pub side-still : (w v : WorldState) (side : Side) → Steps w v → GoOn v.a v.b → left_in w ≤ left_in v
     → AreStill (party_of w side) (party_of w (other side)) (party_of v side) (party_of v (other side))
 side-still w v A steps on some = are-still w.a w.b v.a v.b (kept-steady v steps.kept).ends on steps.there steps.back some
@@ -105,6 +110,7 @@ pub record AreRead (w : WorldState) : Type 0 where
   pub a : unread_of w.a ≡ []
   pub b : unread_of w.b ≡ []
 
+-- and both users have still read all
 pub are_read-still : (w v : WorldState) → IsKept w → Steps w v → GoOn w.a w.b → GoOn v.a v.b → left_in w ≤ left_in v → AreRead w → AreRead v
 are_read-still w v h steps on on' some read =
     let still = side-still w v A steps on' some in
@@ -115,6 +121,7 @@ are_read-still w v h steps on on' some read =
       b = read-still w.b w.a v.b v.a (steady-back w.b w.a pair) (steady-back v.b v.a pair') on.back on'.back (still-back w.a w.b v.a v.b still) read.b;
     }
 
+-- one of them
 pub side-read : (w : WorldState) (side : Side) → AreRead w → unread_of (party_of w side) ≡ []
 side-read w A h = h.a
 side-read w B h = h.b
@@ -130,9 +137,11 @@ pub record IsGoing (w : WorldState) : Type 0 where
 abbrev pub IsStillFrom : WorldState → WorldState → Type 0
 IsStillFrom w v = (side : Side) → AreStill (party_of w side) (party_of w (other side)) (party_of v side) (party_of v (other side))
 
+-- then both live
 pub going-live : (w : WorldState) (side : Side) → IsGoing w → IsLive (party_of w side) × IsLive (party_of w (other side))
 going-live w side h = (side-on w side h.on).live (omega (arith, h.some, side-left w side))
 
+-- events, and events after them
 pub steps-both : (w : WorldState) (xs ys : List EventContent) → AllByRecursion IsCalm xs → AllByRecursion IsCalm ys → IsKept w
     → Steps w (world_after_all (world_after_all w xs) ys)
 steps-both w xs ys calm calm' h =
@@ -143,6 +152,7 @@ steps-both w xs ys calm calm' h =
 abbrev pub Lowers : WorldState → WorldState → Type 0 → Type 0
 Lowers w u Q = (left_in u < left_in w) ⊎ Q
 
+-- where nothing else is claimed
 pub lowers-only : (w u : WorldState) → Lowers w u ⊥ → left_in u < left_in w
 lowers-only w u (inl less) = less
 lowers-only w u (inr none) = absurd none
@@ -164,6 +174,7 @@ over w v u Q h steps on' rest next =
           ]
     ]
 
+-- over an event
 pub over-event : (w : WorldState) (event : EventContent) (u : WorldState) (Q : Type 0) → IsCalm event → IsGoing w
     → (IsKept (world_after w event) → Steps (world_after w event) u) → NoneGaveUp u
     → (IsGoing (world_after w event) → IsStillFrom w (world_after w event) → Lowers (world_after w event) u Q) → Lowers w u Q
@@ -173,6 +184,7 @@ over-event w event u Q calm h rest up next =
     let more = rest steps.kept in
     over w v u Q h steps (on-event w event calm h.kept h.on (more.stays_a up.0) (more.stays_b up.1)) more next
 
+-- over events
 pub over-all : (w : WorldState) (events : List EventContent) (u : WorldState) (Q : Type 0) → AllByRecursion IsCalm events → IsGoing w
     → (IsKept (world_after_all w events) → Steps (world_after_all w events) u) → NoneGaveUp u
     → (IsGoing (world_after_all w events) → IsStillFrom w (world_after_all w events) → Lowers (world_after_all w events) u Q) → Lowers w u Q

@@ -275,5 +275,6 @@ have-turns (suc n) w h =
       stays = subst NoneGaveUp (sym (after-append w t.turn rest.events)) rest.stays;
     }
 
+-- in every world
 pub turns_lem : TurnsCanBeHad
 turns_lem = in-every-world (λ w. NoneGaveUp w → (n : ℕ) → CanHaveTurns n w) (λ w h up n. have-turns n w (record { kept = h; up = up }))

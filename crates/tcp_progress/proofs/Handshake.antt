@@ -39,12 +39,14 @@ unopened-listen p q h phase =
     let s = p.endpoint in
     at-listen s.phase s.ending s.sending.una s.sending.nxt s.receiving.opened s.receiving.finished (ap is_listening phase) h.pair.there.alone.progress
 
-pub opening : (p q : PartyState) → IsSteadyPair p q → p.endpoint.phase ≡ SynSent → (p.endpoint.ending ≡ NotEnded) × IsOpening p.endpoint.sending.nxt p.endpoint.receiving.opened
+pub opening : (p q : PartyState) → IsSteadyPair p q → p.endpoint.phase ≡ SynSent
+    → (p.endpoint.ending ≡ NotEnded) × IsOpening p.endpoint.sending.nxt p.endpoint.receiving.opened
 opening p q h phase =
     let s = p.endpoint in
     at-syn_sent s.phase s.ending s.sending.una s.sending.nxt s.receiving.opened s.receiving.finished (ap is_syn_sent phase) h.pair.there.alone.progress
 
-pub answering : (p q : PartyState) → IsSteadyPair p q → p.endpoint.phase ≡ SynReceived → (p.endpoint.ending ≡ NotEnded) × IsAnswering p.endpoint.sending.nxt p.endpoint.receiving.opened p.endpoint.receiving.finished
+pub answering : (p q : PartyState) → IsSteadyPair p q → p.endpoint.phase ≡ SynReceived
+    → (p.endpoint.ending ≡ NotEnded) × IsAnswering p.endpoint.sending.nxt p.endpoint.receiving.opened p.endpoint.receiving.finished
 answering p q h phase =
     let s = p.endpoint in
     at-syn_received s.phase s.ending s.sending.una s.sending.nxt s.receiving.opened s.receiving.finished (ap is_syn_received phase) h.pair.there.alone.progress
@@ -58,13 +60,16 @@ answering-first p q h answers calls =
     omega (arith, h.back.sent.taken (answering p q h answers).1.is_opened, (opening q p (steady-back q p h) calls).1.nxt_is)
 
 -- ---- p's SYN is delivered to q, which has none yet
-syn-goes : (p q : PartyState) (life k : ℕ) (told : Bool) → least_life ≤ life → IsSteadyPair p q → q.endpoint.receiving.opened ≡ false → q.endpoint.sending.nxt ≤ 1 → IsSyn p q k told
+syn-goes : (p q : PartyState) (life k : ℕ) (told : Bool) → least_life ≤ life → IsSteadyPair p q → q.endpoint.receiving.opened ≡ false
+    → q.endpoint.sending.nxt ≤ 1 → IsSyn p q k told
     → delivery_refusal life p q k ≡ None
 syn-goes p q life k told least h unopened few f =
     let first = unopened-first q p (steady-back q p h) unopened in
-    goes p q life k f.g f.sent (unexpired p q life f.g h (omega (arith, first, f.starts, least)) (omega (arith, h.pair.back.alone.sends.order, few, f.wanted, least)))
+    goes p q life k f.g f.sent (unexpired p q life f.g h (omega (arith, first, f.starts, least))
+    (omega (arith, h.pair.back.alone.sends.order, few, f.wanted, least)))
 
-arrives : (p q : PartyState) (k : ℕ) (told : Bool) (j : Judgement) → (f : IsSyn p q k told) → judgement q.endpoint p.endpoint.config.addr.0 q.endpoint.config.addr.0 f.content ≡ j
+arrives : (p q : PartyState) (k : ℕ) (told : Bool) (j : Judgement) → (f : IsSyn p q k told)
+    → judgement q.endpoint p.endpoint.config.addr.0 q.endpoint.config.addr.0 f.content ≡ j
     → party_after_arrival q p (segment_at p k) ≡ record q { endpoint = after_judgement j q.endpoint p.endpoint.config.addr.0 f.content }
 unfolding party_after_arrival
 arrives p q k told j f judged =
@@ -72,10 +77,12 @@ arrives p q k told j f judged =
     let src = p.endpoint.config.addr.0 in
     let dst = s.config.addr.0 in
     ap (λ (t : State). record q { endpoint = t })
-    (ap (λ (g : SentSegment). after_arrival s src dst g.bytes) (is-there p k f.g f.sent) ∙ arrival-ok s src dst f.g.bytes f.content f.read ∙ ap (λ j. after_judgement j s src f.content) judged)
+    (ap (λ (g : SentSegment). after_arrival s src dst g.bytes) (is-there p k f.g f.sent) ∙ arrival-ok s src dst f.g.bytes f.content f.read ∙ ap
+    (λ j. after_judgement j s src f.content) judged)
 
 -- ---- in LISTEN a SYN without acknowledgement opens
-judged-opens : (s : State) (src dst : List ℕ) (v : Content) → is_foreign s src dst v ≡ false → s.phase ≡ Listen → has rst v.flags ≡ false → has ack v.flags ≡ false → has syn v.flags ≡ true
+judged-opens : (s : State) (src dst : List ℕ) (v : Content) → is_foreign s src dst v ≡ false → s.phase ≡ Listen → has rst v.flags ≡ false
+    → has ack v.flags ≡ false → has syn v.flags ≡ true
     → judgement s src dst v ≡ PeerOpens
 unfolding judgement phase_judgement listen_judgement
 judged-opens s src dst v mine phase no_rst no_ack has_syn = rw (mine, phase, no_rst, no_ack, has_syn) refl
@@ -93,12 +100,14 @@ listen-takes p q life k least h phase f =
     let unused = (unopened-listen q p (steady-back q p h) phase).1 in (
       syn-goes p q life k false least h unused.not_opened (omega (arith, unused.nxt_is)) f,
       ap (λ (x : PartyState). x.endpoint.phase)
-          (arrives p q k false PeerOpens f (judged-opens s src s.config.addr.0 f.content (of_peer p q f.content h f.src f.dst) phase f.no_rst f.has_ack f.has_syn))
+          (arrives p q k false PeerOpens f (judged-opens s src s.config.addr.0 f.content (of_peer p q f.content h f.src f.dst) phase f.no_rst f.has_ack
+          f.has_syn))
           ∙ opens-phase q src f.content,
     )
 
 -- ---- in SYN-SENT a SYN with the acknowledgement of the own SYN is accepted
-judged-accepts : (s : State) (src dst : List ℕ) (v : Content) → is_foreign s src dst v ≡ false → s.phase ≡ SynSent → has rst v.flags ≡ false → has ack v.flags ≡ true → has syn v.flags ≡ true → acks_syn s v ≡ true
+judged-accepts : (s : State) (src dst : List ℕ) (v : Content) → is_foreign s src dst v ≡ false → s.phase ≡ SynSent → has rst v.flags ≡ false
+    → has ack v.flags ≡ true → has syn v.flags ≡ true → acks_syn s v ≡ true
     → judgement s src dst v ≡ PeerAccepts
 unfolding judgement phase_judgement syn_sent_judgement
 judged-accepts s src dst v mine phase no_rst has_ack has_syn acks = rw (mine, phase, no_rst, has_ack, has_syn, acks) refl
@@ -108,11 +117,14 @@ acks-own_syn p q k h calls f =
     let s = q.endpoint in
     let alone = h.pair.back.alone in
     let nxt = (opening q p (steady-back q p h) calls).1.nxt_is in
-    let una = handshake-una s.phase s.ending s.sending.una s.sending.nxt s.receiving.opened s.receiving.finished (ap is_handshake calls) alone.sends.order alone.progress in
-    let is : position_near s f.content.ack ≡ 1 = ap (position_near s) (f.acks refl) ∙ position_of_number s.config.isn.0 s.sending.una 1 alone.config.isn (omega arith) (omega (arith, una)) in
+    let una = handshake-una s.phase s.ending s.sending.una s.sending.nxt s.receiving.opened s.receiving.finished (ap is_handshake calls) alone.sends.order
+    alone.progress in
+    let is : position_near s f.content.ack ≡ 1 = ap (position_near s) (f.acks refl) ∙ position_of_number s.config.isn.0 s.sending.una 1 alone.config.isn
+    (omega arith) (omega (arith, una)) in
     eq-eqb (position_near s f.content.ack) s.sending.nxt (is ∙ sym nxt)
 
-accepts-live : (q : PartyState) (src : List ℕ) (v : Content) → q.endpoint.ending ≡ NotEnded → IsLive (record q { endpoint = after_judgement PeerAccepts q.endpoint src v })
+accepts-live : (q : PartyState) (src : List ℕ) (v : Content) → q.endpoint.ending ≡ NotEnded → IsLive
+    (record q { endpoint = after_judgement PeerAccepts q.endpoint src v })
 unfolding after_peer_accepts
 accepts-live q src v going = record { opened = refl; goes_on = going }
 
@@ -123,7 +135,8 @@ syn_sent-takes p q life k least h calls f =
     let s = q.endpoint in
     let src = p.endpoint.config.addr.0 in
     let was = opening q p (steady-back q p h) calls in
-    let judged = judged-accepts s src s.config.addr.0 f.content (of_peer p q f.content h f.src f.dst) calls f.no_rst f.has_ack f.has_syn (acks-own_syn p q k h calls f) in (
+    let judged = judged-accepts s src s.config.addr.0 f.content (of_peer p q f.content h f.src f.dst) calls f.no_rst f.has_ack f.has_syn
+    (acks-own_syn p q k h calls f) in (
       syn-goes p q life k true least h was.1.not_opened (omega (arith, was.1.nxt_is)) f,
       subst IsLive (sym (arrives p q k true PeerAccepts f judged)) (accepts-live q src f.content was.0),
     )
@@ -133,23 +146,28 @@ pub record AreOpened (K : WorldState → Type 0) (w : WorldState) : Type 0 where
   pub stays : K w
   pub both : AreOpen w
 
-are-opened : (K : WorldState → Type 0) (life : ℕ) (side : Side) (p q : PartyState) → K (world_from life side p q) → IsLive p → IsLive q → AreOpened K (world_from life side p q)
+are-opened : (K : WorldState → Type 0) (life : ℕ) (side : Side) (p q : PartyState) → K (world_from life side p q) → IsLive p → IsLive q
+    → AreOpened K (world_from life side p q)
 are-opened K life A p q h one two = record { stays = h; both = record { a = one; b = two } }
 are-opened K life B p q h one two = record { stays = h; both = record { a = two; b = one } }
 
 -- p in SYN-RECEIVED answers q in SYN-SENT
-by-answer : {K : WorldState → Type 0} → IsInvariant K → (life : ℕ) (side : Side) (p q : PartyState) → K (world_from life side p q) → p.endpoint.phase ≡ SynReceived → q.endpoint.phase ≡ SynSent
+by-answer : {K : WorldState → Type 0} → IsInvariant K → (life : ℕ) (side : Side) (p q : PartyState) → K (world_from life side p q)
+    → p.endpoint.phase ≡ SynReceived → q.endpoint.phase ≡ SynSent
     → CanReachUnaided 4 (AreOpened K) (world_from life side p q)
 by-answer {K} i life side p q h answers calls =
     let before = pair-of i life side p q h in
     let mine = answering p q before answers in
     short-syn i 1 life side p q (ap is_handshake answers) (answering-first p q before answers calls) h (λ p' k still f h'.
-    let taken = syn_sent-takes p' q life k (lives life side p' q (i.steady _ h')).0 (pair-of i life side p' q h') calls (subst (IsSyn p' q k) mine.1.is_opened f) in
+    let taken = syn_sent-takes p' q life k (lives life side p' q (i.steady _ h')).0 (pair-of i life side p' q h') calls
+    (subst (IsSyn p' q k) mine.1.is_opened f) in
     short-delivery i 0 life side p' q k taken.0 h' (λ h''.
-    short-here (are-opened K life side p' (party_after_arrival q p' (segment_at p' k)) h'' (still-live p p' still (record { opened = mine.1.is_opened; goes_on = mine.0 })) taken.1)))
+    short-here (are-opened K life side p' (party_after_arrival q p' (segment_at p' k)) h''
+    (still-live p p' still (record { opened = mine.1.is_opened; goes_on = mine.0 })) taken.1)))
 
 -- p in SYN-SENT calls q in LISTEN, which answers
-by-call : {K : WorldState → Type 0} → IsInvariant K → (life : ℕ) (side : Side) (p q : PartyState) → K (world_from life side p q) → p.endpoint.phase ≡ SynSent → q.endpoint.phase ≡ Listen
+by-call : {K : WorldState → Type 0} → IsInvariant K → (life : ℕ) (side : Side) (p q : PartyState) → K (world_from life side p q)
+    → p.endpoint.phase ≡ SynSent → q.endpoint.phase ≡ Listen
     → CanReachUnaided 8 (AreOpened K) (world_from life side p q)
 by-call {K} i life side p q h calls listens =
     let before = pair-of i life side p q h in
@@ -158,13 +176,16 @@ by-call {K} i life side p q h calls listens =
     let taken = listen-takes p' q life k (lives life side p' q (i.steady _ h')).0 (pair-of i life side p' q h') listens (subst (IsSyn p' q k) unopened f) in
     let q' = party_after_arrival q p' (segment_at p' k) in
     short-delivery i 4 life side p' q k taken.0 h' (λ h''.
-    turned-back (CanReachUnaided 4 (AreOpened K)) life side p' q' (by-answer i life (other side) q' p' (turned K life side p' q' h'') taken.1 (still.phase ∙ calls))))
+    turned-back (CanReachUnaided 4 (AreOpened K)) life side p' q' (by-answer i life (other side) q' p' (turned K life side p' q' h'') taken.1
+    (still.phase ∙ calls))))
 
-pub handshake : {K : WorldState → Type 0} → IsInvariant K → (life : ℕ) (side : Side) (p q : PartyState) → K (world_from life side p q) → AreOpening p q → CanReachUnaided 8 (AreOpened K) (world_from life side p q)
+pub handshake : {K : WorldState → Type 0} → IsInvariant K → (life : ℕ) (side : Side) (p q : PartyState) → K (world_from life side p q) → AreOpening p q
+    → CanReachUnaided 8 (AreOpened K) (world_from life side p q)
 handshake {K} i life side p q h opens =
     elim opens.answers [
       | inl listens ↦ by-call i life side p q h opens.calls listens
       | inr answers ↦
-          let way = turned-back (CanReachUnaided 4 (AreOpened K)) life side p q (by-answer i life (other side) q p (turned K life side p q h) answers opens.calls) in
+          let way = turned-back (CanReachUnaided 4 (AreOpened K)) life side p q
+          (by-answer i life (other side) q p (turned K life side p q h) answers opens.calls) in
           record { way = way.way; unaided = way.unaided; most = omega (arith, way.most) }
     ]

@@ -43,7 +43,8 @@ ended-on x y h ended =
       | inl took ↦ took
       | inr never ↦
           let unopened = h.pair.back.takes.unopened never in
-          absurd (let no_fin : one_if y.endpoint.receiving.finished ≡ 0 = ap one_if unopened.2 in omega (arith, unopened.1, no_fin, acked, h.pair.there.between))
+          absurd (let no_fin : one_if y.endpoint.receiving.finished ≡ 0 = ap one_if unopened.2 in omega
+          (arith, unopened.1, no_fin, acked, h.pair.there.between))
     ] in (
       record {
         there = record { opened = had; kept = inr ended.over };

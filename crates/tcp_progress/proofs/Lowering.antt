@@ -144,6 +144,7 @@ turn-served w turn t =
       comes_back = subst (λ (u : WorldState). AllCome u t.there t.back) after t.comes_back;
     }
 
+-- from the reads to the end
 pub lowers_lem : TurnLowers
 lowers_lem w turn h on t one two some =
     let v = world_after_all w reads in

@@ -23,7 +23,11 @@ of-streams w way = record { events = way.events; quiet = way.quiet; goes_on = wa
 
 -- ---- BOTH LIVE
 both-live : (w : WorldState) → IsLive w.a → IsLive w.b → GoOn w.a w.b
-both-live w a b = record { there = record { opened = a.opened; kept = inl a.goes_on }; back = record { opened = b.opened; kept = inl b.goes_on }; live = λ _. (a, b) }
+both-live w a b = record {
+  there = record { opened = a.opened; kept = inl a.goes_on };
+  back = record { opened = b.opened; kept = inl b.goes_on };
+  live = λ _. (a, b);
+}
 
 live-settles : (w : WorldState) → IsKept w → IsLive w.a → IsLive w.b → CanReach IsSettled w
 live-settles w h a b = reach-then (emptied kept-stays w h (both-live w a b)) (λ v e. settled kept-stays v e.stays e.on e.none)
@@ -37,7 +41,16 @@ can-open : (w : WorldState) → IsKept w → CanOpen w
 can-open w h opening =
     let short = opened w h opening in
     let way = short.way in
-    record { way = record { events = way.events; quiet = way.quiet; goes_on = way.goes_on; reached = (way.reached.both, quiet-streams w way.events way.quiet) }; most = short.most; unaided = short.unaided }
+    record {
+      way = record {
+        events = way.events;
+        quiet = way.quiet;
+        goes_on = way.goes_on;
+        reached = (way.reached.both, quiet-streams w way.events way.quiet);
+      };
+      most = short.most;
+      unaided = short.unaided;
+    }
 
 -- ---- ENDED IN ORDER, either
 ended-settles : (w : WorldState) → IsKept w → HasEndedInOrder w.a w.b ⊎ HasEndedInOrder w.b w.a → CanReach IsSettled w

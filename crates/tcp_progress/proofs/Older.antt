@@ -54,6 +54,7 @@ past-emissions side from (suc n) k later (inr more) = past-emissions side from n
 not-timed : (side from : Side) (k : ℕ) → Timer side Retransmit ≡ Deliver from k → ⊥
 not-timed side from k e = absurd (cc)
 
+-- nothing is delivered while a side is served
 pub past-served : (side from : Side) (n k : ℕ) (later : List EventContent) → Delivers from k (served side n ++ later) → Delivers from k later
 past-served side from n k later (inl now) = absurd (not-timed side from k now)
 past-served side from n k later (inr more) = past-emissions side from n k later more

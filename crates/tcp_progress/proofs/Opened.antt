@@ -19,7 +19,8 @@ use Rattle.tcp_progress.proofs.Ended.{complete}
 use Rattle.tcp_progress.proofs.Everywhere.{in-every-world, steps-streams}
 use Rattle.tcp_progress.proofs.Lowering.{lowers_lem, turn-served}
 use Rattle.tcp_progress.proofs.Shaking.{IsShaking, Opens, opens-after, opens-append, received-on, shakes-all, up-before}
-use Rattle.tcp_progress.proofs.Turning.{after-append, all-untimed, calm-append, calm-served, done-through, live-on, reads-calm, turn-calm, turns-calm, turns-done}
+use Rattle.tcp_progress.proofs.Turning.{after-append, all-untimed, calm-append, calm-served, done-through, live-on, reads-calm, turn-calm, turns-calm}
+use Rattle.tcp_progress.proofs.Turning.{turns-done}
 use Rattle.tcp_progress.proofs.Waited.{waited}
 
 -- ---- ONE TURN, from its reads on: one side is served, then the other, then all comes
@@ -29,15 +30,18 @@ all_of_turn first n m there back = served first n ++ (served (other first) m ++ 
 -- what is taken somewhere among more events
 taken-after : (w : WorldState) (xs ys : List EventContent) (side : Side) → IsTakenOr (world_after_all w xs) ys side → IsTakenOr w (xs ++ ys) side
 taken-after w xs ys side (inl opens) = inl (opens-after w xs ys opens)
-taken-after w xs ys side (inr taken) = inr (subst (λ (u : WorldState). IsShaking u side × ((party_of u (other side)).endpoint.phase ≡ SynReceived)) (sym (after-append w xs ys)) taken)
+taken-after w xs ys side (inr taken) = inr (subst (λ (u : WorldState). IsShaking u side × ((party_of u (other side)).endpoint.phase ≡ SynReceived))
+    (sym (after-append w xs ys)) taken)
 
 among-turn : (xs ys zs : List EventContent) → AreAmong (xs ++ ys) (xs ++ (ys ++ zs))
 among-turn xs ys zs = subst (λ (list : List EventContent). AreAmong (xs ++ ys) list) (append_assoc xs ys zs) (among-left (xs ++ ys) zs)
 
-later-calm : (first : Side) (n m : ℕ) (w : WorldState) (there back : List EventContent) → IsServed first n m w there back → AllByRecursion IsCalm (there ++ back)
+later-calm : (first : Side) (n m : ℕ) (w : WorldState) (there back : List EventContent) → IsServed first n m w there back
+    → AllByRecursion IsCalm (there ++ back)
 later-calm first n m w there back g = calm-append there back (all-untimed there g.untimed) g.calm
 
-then-calm : (first : Side) (n m : ℕ) (w : WorldState) (there back : List EventContent) → IsServed first n m w there back → AllByRecursion IsCalm (served (other first) m ++ (there ++ back))
+then-calm : (first : Side) (n m : ℕ) (w : WorldState) (there back : List EventContent) → IsServed first n m w there back
+    → AllByRecursion IsCalm (served (other first) m ++ (there ++ back))
 then-calm first n m w there back g = calm-append (served (other first) m) (there ++ back) (calm-served (other first) m) (later-calm first n m w there back g)
 
 end-is : (first : Side) (n m : ℕ) (w : WorldState) (there back : List EventContent)
@@ -45,12 +49,14 @@ end-is : (first : Side) (n m : ℕ) (w : WorldState) (there back : List EventCon
 end-is first n m w there back = after-append w (served first n) (served (other first) m ++ (there ++ back))
 
 -- who calls is served first
-call-first : (side : Side) (n m : ℕ) (w : WorldState) (there back : List EventContent) → IsServed side n m w there back → IsShaking w side → NoneGaveUp (world_after_all w (all_of_turn side n m there back))
+call-first : (side : Side) (n m : ℕ) (w : WorldState) (there back : List EventContent) → IsServed side n m w there back → IsShaking w side
+    → NoneGaveUp (world_after_all w (all_of_turn side n m there back))
     → IsTakenOr w (all_of_turn side n m there back) side
 call-first side n m w there back g h up =
     let rest = served (other side) m ++ (there ++ back) in
     let up' = subst NoneGaveUp (end-is side n m w there back) up in
-    elim (serve-call n w side (served (other side) m ++ there) rest (then-calm side n m w there back g) h g.out g.comes (among-turn (served (other side) m) there back) up') [
+    elim (serve-call n w side (served (other side) m ++ there) rest (then-calm side n m w there back g) h g.out g.comes
+    (among-turn (served (other side) m) there back) up') [
       | inl opens ↦ inl opens
       | inr taken ↦ taken-after w (served side n) rest side taken
     ]
@@ -68,7 +74,8 @@ call-second first n m w there back g h up =
       | inl opens ↦ inl (opens-append w (served first n) (second ++ rest) opens)
       | inr on ↦
           taken-after w (served first n) (second ++ rest) (other first)
-          (elim (serve-call m u (other first) there rest (later-calm first n m w there back g) on.0 g.then_out g.then_comes (among-left there back) (subst NoneGaveUp (after-append u second rest) up')) [
+          (elim (serve-call m u (other first) there rest (later-calm first n m w there back g) on.0 g.then_out g.then_comes (among-left there back)
+          (subst NoneGaveUp (after-append u second rest) up')) [
             | inl opens ↦ inl opens
             | inr taken ↦ taken-after u second rest (other first) taken
           ])
@@ -76,15 +83,18 @@ call-second first n m w there back g h up =
 
 -- who answers is served first
 answer-first : (side : Side) (n m : ℕ) (w : WorldState) (there back : List EventContent) → IsServed (other side) n m w there back → IsShaking w side
-    → (party_of w (other side)).endpoint.phase ≡ SynReceived → NoneGaveUp (world_after_all w (all_of_turn (other side) n m there back)) → Opens w (all_of_turn (other side) n m there back)
+    → (party_of w (other side)).endpoint.phase ≡ SynReceived → NoneGaveUp (world_after_all w (all_of_turn (other side) n m there back))
+    → Opens w (all_of_turn (other side) n m there back)
 answer-first side n m w there back g h received up =
     let second = served (other (other side)) m in
-    serve-answer n w side (second ++ there) (second ++ (there ++ back)) (then-calm (other side) n m w there back g) h received g.out g.comes (among-turn second there back)
+    serve-answer n w side (second ++ there) (second ++ (there ++ back)) (then-calm (other side) n m w there back g) h received g.out g.comes
+    (among-turn second there back)
     (subst NoneGaveUp (end-is (other side) n m w there back) up)
 
 -- or second
 answer-second : (side : Side) (n m : ℕ) (w : WorldState) (there back : List EventContent) → IsServed side n m w there back → IsShaking w side
-    → (party_of w (other side)).endpoint.phase ≡ SynReceived → NoneGaveUp (world_after_all w (all_of_turn side n m there back)) → Opens w (all_of_turn side n m there back)
+    → (party_of w (other side)).endpoint.phase ≡ SynReceived → NoneGaveUp (world_after_all w (all_of_turn side n m there back))
+    → Opens w (all_of_turn side n m there back)
 answer-second side n m w there back g h received up =
     let u = world_after_all w (served side n) in
     let rest = there ++ back in
@@ -95,7 +105,8 @@ answer-second side n m w there back g h received up =
       | inl opens ↦ opens-append w (served side n) (second ++ rest) opens
       | inr on ↦
           opens-after w (served side n) (second ++ rest)
-          (serve-answer m u side there rest (later-calm side n m w there back g) on.0 (received-on _ _ received on.1) g.then_out g.then_comes (among-left there back)
+          (serve-answer m u side there rest (later-calm side n m w there back g) on.0 (received-on _ _ received on.1) g.then_out g.then_comes
+          (among-left there back)
           (subst NoneGaveUp (after-append u second rest) up'))
     ]
 
@@ -108,7 +119,8 @@ calls-turn B B n m w there back g h up = call-first B n m w there back g h up
 calls-turn B A n m w there back g h up = call-second A n m w there back g h up
 
 answers-turn : (side first : Side) (n m : ℕ) (w : WorldState) (there back : List EventContent) → IsServed first n m w there back → IsShaking w side
-    → (party_of w (other side)).endpoint.phase ≡ SynReceived → NoneGaveUp (world_after_all w (all_of_turn first n m there back)) → Opens w (all_of_turn first n m there back)
+    → (party_of w (other side)).endpoint.phase ≡ SynReceived → NoneGaveUp (world_after_all w (all_of_turn first n m there back))
+    → Opens w (all_of_turn first n m there back)
 answers-turn A A n m w there back g h received up = answer-second A n m w there back g h received up
 answers-turn A B n m w there back g h received up = answer-first A n m w there back g h received up
 answers-turn B B n m w there back g h received up = answer-second B n m w there back g h received up
@@ -116,12 +128,16 @@ answers-turn B A n m w there back g h received up = answer-first B n m w there b
 
 -- ---- A WHOLE TURN
 tail-is : (w : WorldState) (turn : List EventContent) (t : IsTurn w turn) → turn ≡ reads ++ all_of_turn t.first t.count t.then_count t.there t.back
-tail-is w turn t = t.form ∙ ap (λ (list : List EventContent). reads ++ list) (append_assoc (served t.first t.count) (served (other t.first) t.then_count) (t.there ++ t.back))
+tail-is w turn t = t.form ∙ ap (λ (list : List EventContent). reads ++ list)
+    (append_assoc (served t.first t.count) (served (other t.first) t.then_count) (t.there ++ t.back))
 
-tail-all_calm : (w : WorldState) (turn : List EventContent) (t : IsTurn w turn) → AllByRecursion IsCalm (all_of_turn t.first t.count t.then_count t.there t.back)
-tail-all_calm w turn t = calm-append (served t.first t.count) _ (calm-served t.first t.count) (then-calm t.first t.count t.then_count (world_after_all w reads) t.there t.back (turn-served w turn t))
+tail-all_calm : (w : WorldState) (turn : List EventContent) (t : IsTurn w turn)
+    → AllByRecursion IsCalm (all_of_turn t.first t.count t.then_count t.there t.back)
+tail-all_calm w turn t = calm-append (served t.first t.count) _ (calm-served t.first t.count)
+    (then-calm t.first t.count t.then_count (world_after_all w reads) t.there t.back (turn-served w turn t))
 
-turn-calls : (w : WorldState) (turn : List EventContent) (side : Side) → IsTurn w turn → IsShaking w side → NoneGaveUp (world_after_all w turn) → IsTakenOr w turn side
+turn-calls : (w : WorldState) (turn : List EventContent) (side : Side) → IsTurn w turn → IsShaking w side → NoneGaveUp (world_after_all w turn)
+    → IsTakenOr w turn side
 turn-calls w turn side t h up =
     let v = world_after_all w reads in
     let tail = all_of_turn t.first t.count t.then_count t.there t.back in
@@ -133,7 +149,8 @@ turn-calls w turn side t h up =
       | inr on ↦ taken-after w reads tail side (calls-turn side t.first t.count t.then_count v t.there t.back (turn-served w turn t) on.0 up')
     ])
 
-turn-answers : (w : WorldState) (turn : List EventContent) (side : Side) → IsTurn w turn → IsShaking w side → (party_of w (other side)).endpoint.phase ≡ SynReceived
+turn-answers : (w : WorldState) (turn : List EventContent) (side : Side) → IsTurn w turn → IsShaking w side
+    → (party_of w (other side)).endpoint.phase ≡ SynReceived
     → NoneGaveUp (world_after_all w turn) → Opens w turn
 turn-answers w turn side t h received up =
     let v = world_after_all w reads in
@@ -177,10 +194,12 @@ calm-front : (xs ys : List EventContent) → AllByRecursion IsCalm (xs ++ ys) �
 calm-front [] ys calm = (tt, calm)
 calm-front (x ∷ xs) ys calm = let more = calm-front xs ys calm.1 in ((calm.0, more.0), more.1)
 
-opens-before : (n : ℕ) (w : WorldState) (xs ys : List EventContent) → AllByRecursion IsCalm xs → Opens w xs → HasTurns n (world_after_all w xs) ys → OpensBefore n w (xs ++ ys)
+opens-before : (n : ℕ) (w : WorldState) (xs ys : List EventContent) → AllByRecursion IsCalm xs → Opens w xs → HasTurns n (world_after_all w xs) ys
+    → OpensBefore n w (xs ++ ys)
 opens-before n w xs ys calm opens turns =
     let parts = calm-front opens.front opens.rest (subst (λ (list : List EventContent). AllByRecursion IsCalm list) opens.is calm) in
-    let same : world_after_all w xs ≡ world_after_all (world_after_all w opens.front) opens.rest = ap (world_after_all w) opens.is ∙ after-append w opens.front opens.rest in
+    let same : world_after_all w xs ≡ world_after_all (world_after_all w opens.front) opens.rest = ap (world_after_all w) opens.is ∙ after-append w
+    opens.front opens.rest in
     record {
       front = opens.front;
       rest = opens.rest ++ ys;
@@ -242,7 +261,8 @@ first-up n w events f h up =
     let turned = subst NoneGaveUp (after-append w f.before f.turn) end in
     (turned, up-before v f.turn f.calm_turn (steps-all w f.before f.calm_before h).kept turned)
 
-calls-turns : (n : ℕ) (w : WorldState) (side : Side) (events : List EventContent) → IsShaking w side → HasTurns (suc n) w events → NoneGaveUp (world_after_all w events)
+calls-turns : (n : ℕ) (w : WorldState) (side : Side) (events : List EventContent) → IsShaking w side → HasTurns (suc n) w events
+    → NoneGaveUp (world_after_all w events)
     → OpensBefore n w events ⊎ TakenBefore n w side events
 calls-turns n w side events h turns up =
     let f = first-of n w events turns in
@@ -258,7 +278,8 @@ calls-turns n w side events h turns up =
       | inr is ↦ inr (record { front = xs; rest = f.after; is = f.is; calm = calm; shaking = is.0; received = is.1; turns = f.turns })
     ]
 
-answers-turns : (n : ℕ) (w : WorldState) (side : Side) (events : List EventContent) → IsShaking w side → (party_of w (other side)).endpoint.phase ≡ SynReceived → HasTurns (suc n) w events
+answers-turns : (n : ℕ) (w : WorldState) (side : Side) (events : List EventContent) → IsShaking w side
+    → (party_of w (other side)).endpoint.phase ≡ SynReceived → HasTurns (suc n) w events
     → NoneGaveUp (world_after_all w events) → OpensBefore n w events
 answers-turns n w side events h received turns up =
     let f = first-of n w events turns in
@@ -271,14 +292,16 @@ answers-turns n w side events h received turns up =
     subst (OpensBefore n w) (sym f.is) (opens-before n w xs f.after (calm-append f.before f.turn f.calm_before f.calm_turn) opens f.turns)
 
 -- two turns
-two-turns : (n : ℕ) (w : WorldState) (side : Side) (events : List EventContent) → IsShaking w side → HasTurns (suc (suc n)) w events → NoneGaveUp (world_after_all w events)
+two-turns : (n : ℕ) (w : WorldState) (side : Side) (events : List EventContent) → IsShaking w side → HasTurns (suc (suc n)) w events
+    → NoneGaveUp (world_after_all w events)
     → OpensBefore (suc n) w events ⊎ OpensBefore n w events
 two-turns n w side events h turns up =
     elim (calls-turns (suc n) w side events h turns up) [
       | inl opens ↦ inl opens
       | inr t ↦
           let v = world_after_all w t.front in
-          let o = answers-turns n v side t.rest t.shaking t.received t.turns (subst NoneGaveUp (ap (world_after_all w) t.is ∙ after-append w t.front t.rest) up) in
+          let o = answers-turns n v side t.rest t.shaking t.received t.turns
+          (subst NoneGaveUp (ap (world_after_all w) t.is ∙ after-append w t.front t.rest) up) in
           let same = after-append w t.front o.front in
           inr (record {
             front = t.front ++ o.front;
@@ -291,7 +314,8 @@ two-turns n w side events h turns up =
     ]
 
 -- ---- AND SO ALL GETS THROUGH
-opened-through : (k : ℕ) (w : WorldState) (events : List EventContent) → IsKept w → left_in w ≤ k → OpensBefore (suc k) w events → NoneGaveUp (world_after_all w events) → GotThrough w (world_after_all w events)
+opened-through : (k : ℕ) (w : WorldState) (events : List EventContent) → IsKept w → left_in w ≤ k → OpensBefore (suc k) w events
+    → NoneGaveUp (world_after_all w events) → GotThrough w (world_after_all w events)
 opened-through k w events h most o up =
     let v = world_after_all w o.front in
     let end = world_after_all v o.rest in
@@ -299,7 +323,8 @@ opened-through k w events h most o up =
     let steps' = steps-all v o.rest (turns-calm (suc k) v o.rest o.turns) steps.kept in
     let same : world_after_all w events ≡ end = ap (world_after_all w) o.is ∙ after-append w o.front o.rest in
     let up' = subst NoneGaveUp same up in
-    let done = turns-done lowers_lem k v o.rest (omega (arith, most, steps-left w v steps)) steps.kept (live-on lowers_lem v o.both.a o.both.b) o.turns up'.0 up'.1 in
+    let done = turns-done lowers_lem k v o.rest (omega (arith, most, steps-left w v steps)) steps.kept (live-on lowers_lem v o.both.a o.both.b) o.turns
+    up'.0 up'.1 in
     let both = done-through end done in
     subst (GotThrough w) (sym same) (record {
       there = both.0;
@@ -308,7 +333,8 @@ opened-through k w events h most o up =
       settles = waited end done.kept (complete end.a end.b done.on done.none) done.read.a done.read.b;
     })
 
-opens-through : (w : WorldState) (side : Side) (events : List EventContent) → IsShaking w side → HasTurns (suc (suc (suc (left_in w)))) w events → NoneGaveUp (world_after_all w events)
+opens-through : (w : WorldState) (side : Side) (events : List EventContent) → IsShaking w side → HasTurns (suc (suc (suc (left_in w)))) w events
+    → NoneGaveUp (world_after_all w events)
     → GotThrough w (world_after_all w events)
 opens-through w side events h turns up =
     elim (two-turns (suc (left_in w)) w side events h turns up) [

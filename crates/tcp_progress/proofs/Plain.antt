@@ -131,6 +131,7 @@ pub record IsNoReset (p q : PartyState) (k : ℕ) : Type 0 where
   pub read : decode_answer p.endpoint.config.addr.0 q.endpoint.config.addr.0 g.bytes ≡ Ok content
   pub no_rst : has rst content.flags ≡ false
 
+-- it is none later
 pub no_reset-later : (p q p' q' : PartyState) (k : ℕ) → Grows p p' → Grows q q' → IsNoReset p q k → IsNoReset p' q' k
 no_reset-later p q p' q' k gp gq h = record {
   g = h.g;
@@ -152,6 +153,7 @@ due-plain s (dues.Reset reset) e = absurd (false≢true (sym e))
 due-plain s dues.Syn e = syn-plain s.receiving.opened
 due-plain s due e = (plain-bits (pushes s.sending due) (is_fin due)).2
 
+-- what is due is none, unless a reset is
 pub no_reset-emitted : (p q : PartyState) (due : Due) → IsSoundPair p q → due_of p.endpoint ≡ Some due → is_reset due ≡ false
     → IsNoReset (party_after_emission p) q (length p.sent)
 unfolding party_after_emission emitted_bytes after_emission
@@ -187,6 +189,7 @@ IsSafeAt p q (Emit side) = Unit {0}
 IsSafeAt p q (Deliver from k) = IsNoReset p q k
 IsSafeAt p q other = ⊥
 
+-- for the side that the event names
 abbrev pub IsSafe : WorldState → EventContent → Type 0
 IsSafe w event = IsSafeAt (party_of w (side_of event)) (party_of w (other (side_of event))) event
 
@@ -209,6 +212,7 @@ safe-side : (w v : WorldState) (side : Side) (event : EventContent) → Steps w 
 safe-side w v A event steps h = safe-at w.a w.b v.a v.b event steps.there steps.back h
 safe-side w v B event steps h = safe-at w.b w.a v.b v.a event steps.back steps.there h
 
+-- what is safe is safe later
 pub safe-later : (w v : WorldState) (events : List EventContent) → Steps w v → AllByRecursion (IsSafe w) events → AllByRecursion (IsSafe v) events
 safe-later w v [] steps h = tt
 safe-later w v (event ∷ events) steps h = (safe-side w v (side_of event) event steps h.0, safe-later w v events steps h.1)
@@ -261,6 +265,7 @@ all-calm : (w : WorldState) (events : List EventContent) → AllByRecursion (IsS
 all-calm w [] safe = tt
 all-calm w (event ∷ events) safe = (safe-calm _ _ event safe.0, all-calm w events safe.1)
 
+-- over safe events
 pub goes-safely : (w : WorldState) (events : List EventContent) → AllByRecursion (IsSafe w) events → IsFine w → GoesSafely w (world_after_all w events)
 goes-safely w events safe h =
     let steps = steps-all w events (all-calm w events safe) h.kept in

@@ -41,6 +41,7 @@ use Rattle.tcp_progress.proofs.Going.{IsGoing, going-live, lowers-only, over-eve
 abbrev pub cleared : State → State
 cleared s = record s { owed = record s.owed { reset = None } }
 
+-- where none waits
 pub cleared-same : (s : State) → s.owed.reset ≡ None → cleared s ≡ s
 cleared-same s e = ap (λ (r : Option WaitingReset). record s { owed = record s.owed { reset = r } }) (sym e)
 
@@ -60,6 +61,7 @@ covers-uncleared s position None e c = subst (λ (t : State). Covers (after_retr
 covers-uncleared s position (Some reset) e c =
     record { count = suc c.count; covers = subst (λ (t : State). CoversNext (after_emissions c.count t) position) (sym (reset-gone s reset e)) c.covers }
 
+-- such an end may send
 pub may-send-cleared : (p q : PartyState) → IsSteadyPair p q → sends_text p.endpoint.phase ≡ true → MaySend (cleared p.endpoint)
 may-send-cleared p q h sends =
     record { phase = sends; reset = refl; syn = no-syn-owed p q h (sends-no_handshake p.endpoint.phase sends); limit = has-room p q h }
@@ -95,30 +97,36 @@ unfolding after_emission
 idle-stays zero s e = refl
 idle-stays (suc n) s e = let same : after_emission s ≡ s = rw e refl in ap (after_emissions n) same ∙ idle-stays n s e
 
+-- nothing isn't something
 pub none-some : (due : Due) → None ≡ Some due → ⊥
 none-some due e = absurd (cc)
 
+-- an emission, at the side that emits
 pub emit-endpoint : (w : WorldState) (side : Side) → (party_of (world_after w (Emit side)) side).endpoint ≡ after_emission (party_of w side).endpoint
 unfolding effect_of party_after_emission
 emit-endpoint w A = refl
 emit-endpoint w B = refl
 
+-- and at the other
 pub emit-other : (w : WorldState) (side : Side) → party_of (world_after w (Emit side)) (other side) ≡ party_of w (other side)
 unfolding effect_of
 emit-other w A = refl
 emit-other w B = refl
 
+-- the timeout, at its side
 pub timer-endpoint : (w : WorldState) (side : Side)
     → (party_of (world_after w (Timer side Retransmit)) side).endpoint ≡ after_retransmit (party_of w side).endpoint
 unfolding effect_of party_after_timer
 timer-endpoint w A = refl
 timer-endpoint w B = refl
 
+-- and at the other
 pub timer-other : (w : WorldState) (side : Side) → party_of (world_after w (Timer side Retransmit)) (other side) ≡ party_of w (other side)
 unfolding effect_of
 timer-other w A = refl
 timer-other w B = refl
 
+-- what is useful of a party is useful in the world
 pub emit-useful : (w : WorldState) (side : Side) (k : ℕ) → IsUseful (party_after_emission (party_of w side)) (party_of w (other side)) k
     → IsUseful (party_of (world_after w (Emit side)) side) (party_of (world_after w (Emit side)) (other side)) k
 unfolding effect_of
@@ -136,6 +144,7 @@ not-reset s (dues.Fin start) e = refl
 not-reset s (dues.ResentFin start) e = refl
 not-reset s dues.Acknowledgement e = refl
 
+-- and is delivered later
 pub comes-due : (w : WorldState) (side : Side) (later : List EventContent) (due : Due) → due_of (party_of w side).endpoint ≡ Some due → is_reset due ≡ false
     → Comes w (Emit side) later → Delivers side (length (party_of w side).sent) later
 comes-due w side later due e plain h =

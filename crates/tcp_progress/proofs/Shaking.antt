@@ -23,7 +23,8 @@ use Rattle.tcp_replay.specs.Alone.{FitsPhase}
 use Rattle.tcp_replay.specs.Events.{EventContent, side_of, Connect, Listen as Listens, Send, Receive, Close, Abort, Acknowledge, Timer, Emit, Deliver, Damage}
 use Rattle.tcp_replay.specs.Safe.{gave_up}
 use Rattle.tcp_replay.specs.Sound.{IsSoundPair}
-use Rattle.tcp_replay.specs.World.{WorldState, PartyState, delivery_refusal, effect_of, other, party_after_acknowledge, party_after_arrival, party_after_timer, party_of, refusal_of, segment_at, sent_at, world_after, world_after_all, world_from, world_with_effect}
+use Rattle.tcp_replay.specs.World.{WorldState, PartyState, delivery_refusal, effect_of, other, party_after_acknowledge, party_after_arrival}
+use Rattle.tcp_replay.specs.World.{party_after_timer, party_of, refusal_of, segment_at, sent_at, world_after, world_after_all, world_from, world_with_effect}
 use Rattle.tcp_replay.proofs.Deliveries.{arrival-ok, delivered-there, finds-damage, own-decodes, segment-sent}
 use Rattle.tcp_replay.proofs.Judgements.{judged}
 use Rattle.tcp_replay.proofs.Steps.{pair-swapped}
@@ -96,7 +97,8 @@ comes-on s src dst v answers none =
     }) src dst
 
 -- from who has no SYN of it yet
-arrival-on : (p q : PartyState) (life k : ℕ) → delivery_refusal life p q k ≡ None → IsSoundPair p q → p.endpoint.receiving.opened ≡ false → Answers q.endpoint.phase
+arrival-on : (p q : PartyState) (life k : ℕ) → delivery_refusal life p q k ≡ None → IsSoundPair p q → p.endpoint.receiving.opened ≡ false
+    → Answers q.endpoint.phase
     → ComesOn q.endpoint (party_after_arrival q p (segment_at p k)).endpoint
 unfolding party_after_arrival
 arrival-on p q life k e pair unopened answers =
@@ -152,7 +154,8 @@ there-on life p q (Abort side) calm e pair unopened answers = absurd calm
 on-from : (w : WorldState) (side s : Side) (event : EventContent) → IsCalm event → (effect_of w.life (party_of w s) (party_of w (other s)) event).refusal ≡ None
     → IsKept w → (party_of w side).endpoint.receiving.opened ≡ false → Answers (party_of w (other side)).endpoint.phase
     → ComesOn (party_of w (other side)).endpoint
-    (party_of (world_from w.life s (effect_of w.life (party_of w s) (party_of w (other s)) event).here (effect_of w.life (party_of w s) (party_of w (other s)) event).there) (other side)).endpoint
+    (party_of (world_from w.life s (effect_of w.life (party_of w s) (party_of w (other s)) event).here
+    (effect_of w.life (party_of w s) (party_of w (other s)) event).there) (other side)).endpoint
 on-from w A A event calm e h unopened answers = there-on w.life w.a w.b event calm e h.sound.ends unopened answers
 on-from w A B event calm e h unopened answers = inl (inl (here-phase w.life w.b w.a event calm))
 on-from w B B event calm e h unopened answers = there-on w.life w.b w.a event calm e (pair-swapped _ _ h.sound.ends) unopened answers
@@ -169,7 +172,8 @@ side-up w A up = up.0
 side-up w B up = up.1
 
 -- ---- WHO CALLS stays in SYN-SENT until it is open
-caller-phase : (phase : Phase) (ending : Ending) (una nxt : ℕ) (opened finished : Bool) → opened ≡ false → ending ≡ NotEnded → 1 ≤ nxt → FitsPhase phase ending una nxt opened finished → phase ≡ SynSent
+caller-phase : (phase : Phase) (ending : Ending) (una nxt : ℕ) (opened finished : Bool) → opened ≡ false → ending ≡ NotEnded → 1 ≤ nxt
+    → FitsPhase phase ending una nxt opened finished → phase ≡ SynSent
 caller-phase Closed ending una nxt opened finished e goes sent h = absurd (omega (arith, sent, (h goes).nxt_is))
 caller-phase Listen ending una nxt opened finished e goes sent h = absurd (omega (arith, sent, h.1.nxt_is))
 caller-phase SynSent ending una nxt opened finished e goes sent h = refl
@@ -178,7 +182,8 @@ caller-phase other ending una nxt opened finished e goes sent h = absurd (false�
 not-last_ack : (phase : Phase) → phase ≡ SynSent → phase ≡ LastAck → ⊥
 not-last_ack phase one two = absurd (cc)
 
-caller-goes : (p p' : PartyState) → p.endpoint.phase ≡ SynSent → p.endpoint.ending ≡ NotEnded → IsMoved p p' → gave_up p' ≡ false → p'.endpoint.ending ≡ NotEnded
+caller-goes : (p p' : PartyState) → p.endpoint.phase ≡ SynSent → p.endpoint.ending ≡ NotEnded → IsMoved p p' → gave_up p' ≡ false
+    → p'.endpoint.ending ≡ NotEnded
 caller-goes p p' calls going moved up =
     elim moved.ending [
       | inl same ↦ same ∙ going
@@ -199,7 +204,8 @@ pub record IsShaking (w : WorldState) (side : Side) : Type 0 where
   pub calls : (party_of w side).endpoint.phase ≡ SynSent
   pub answers : Answers (party_of w (other side)).endpoint.phase
 
-pub caller : (w : WorldState) (side : Side) → IsShaking w side → ((party_of w side).endpoint.ending ≡ NotEnded) × ((party_of w side).endpoint.receiving.opened ≡ false) × ((party_of w side).endpoint.sending.nxt ≡ 1)
+pub caller : (w : WorldState) (side : Side) → IsShaking w side
+    → ((party_of w side).endpoint.ending ≡ NotEnded) × ((party_of w side).endpoint.receiving.opened ≡ false) × ((party_of w side).endpoint.sending.nxt ≡ 1)
 caller w side h = let is = opening (party_of w side) (party_of w (other side)) (side-pair w side h.kept) h.calls in (is.0, is.1.not_opened, is.1.nxt_is)
 
 pub answerer : (w : WorldState) (side : Side) → IsKept w → (party_of w (other side)).endpoint.phase ≡ SynReceived → IsLive (party_of w (other side))
@@ -241,16 +247,19 @@ shakes-on w v side h kept moved on up =
             | inl opened ↦ inl (opened-both v side kept (record { opened = opened; goes_on = goes }) answers)
             | inr unopened ↦
                 let fits = (side-pair v side kept).pair.there.alone.progress in
-                let calls = caller-phase s.phase s.ending s.sending.una s.sending.nxt s.receiving.opened s.receiving.finished unopened goes (omega (arith, moved.grows.nxt, was.2)) fits in
+                let calls = caller-phase s.phase s.ending s.sending.una s.sending.nxt s.receiving.opened s.receiving.finished unopened goes
+                (omega (arith, moved.grows.nxt, was.2)) fits in
                 inr (record { kept = kept; calls = calls; answers = answers }, on')
           ]
     ]
 
-pub shakes-event : (w : WorldState) (event : EventContent) (side : Side) → IsCalm event → IsShaking w side → NoneGaveUp (world_after w event) → ShakesOn w (world_after w event) side
+pub shakes-event : (w : WorldState) (event : EventContent) (side : Side) → IsCalm event → IsShaking w side → NoneGaveUp (world_after w event)
+    → ShakesOn w (world_after w event) side
 shakes-event w event side calm h =
     after-either (λ (v : WorldState). NoneGaveUp v → ShakesOn w v side) (refusal_of w event) w (world_with_effect w event) (λ up. inr (h, inl refl))
     (λ e up.
-    shakes-on w (world_with_effect w event) side h (kept-after w event (calm-bytes event calm) e h.kept) (side-moved w (world_with_effect w event) side (calm-event w event calm e h.kept))
+    shakes-on w (world_with_effect w event) side h (kept-after w event (calm-bytes event calm) e h.kept)
+    (side-moved w (world_with_effect w event) side (calm-event w event calm e h.kept))
     (on-from w side (side_of event) event calm e h.kept (caller w side h).1 h.answers) up)
 
 -- ---- BOTH ARE OPEN somewhere among some events
@@ -269,7 +278,13 @@ unfolding world_after_all
 opens-later w event events h = record { front = event ∷ h.front; rest = h.rest; is = ap (λ (list : List EventContent). event ∷ list) h.is; both = h.both }
 
 pub opens-append : (w : WorldState) (xs ys : List EventContent) → Opens w xs → Opens w (xs ++ ys)
-opens-append w xs ys h = record { front = h.front; rest = h.rest ++ ys; is = ap (λ (list : List EventContent). list ++ ys) h.is ∙ append_assoc h.front h.rest ys; both = h.both }
+opens-append w xs ys h = record {
+  front = h.front;
+  rest = h.rest ++ ys;
+  is = ap (λ (list : List EventContent). list ++ ys) h.is ∙ append_assoc h.front
+      h.rest ys;
+  both = h.both;
+}
 
 pub opens-after : (w : WorldState) (xs ys : List EventContent) → Opens (world_after_all w xs) ys → Opens w (xs ++ ys)
 opens-after w xs ys h = record {
@@ -283,12 +298,14 @@ opens-after w xs ys h = record {
 abbrev pub OpensOr : WorldState → List EventContent → Side → Type 0
 OpensOr w events side =
     Opens w events
-    ⊎ (IsShaking (world_after_all w events) side × GoesOn (party_of w (other side)).endpoint.phase (party_of (world_after_all w events) (other side)).endpoint.phase)
+    ⊎ (IsShaking (world_after_all w events) side × GoesOn (party_of w (other side)).endpoint.phase
+    (party_of (world_after_all w events) (other side)).endpoint.phase)
 
 pub up-before : (w : WorldState) (events : List EventContent) → AllByRecursion IsCalm events → IsKept w → NoneGaveUp (world_after_all w events) → NoneGaveUp w
 up-before w events calm h up = let steps = steps-all w events calm h in (steps.stays_a up.0, steps.stays_b up.1)
 
-pub shakes-all : (w : WorldState) (events : List EventContent) (side : Side) → AllByRecursion IsCalm events → IsShaking w side → NoneGaveUp (world_after_all w events) → OpensOr w events side
+pub shakes-all : (w : WorldState) (events : List EventContent) (side : Side) → AllByRecursion IsCalm events → IsShaking w side
+    → NoneGaveUp (world_after_all w events) → OpensOr w events side
 unfolding world_after_all
 shakes-all w [] side calm h up = inr (h, inl refl)
 shakes-all w (event ∷ events) side calm h up =

@@ -135,6 +135,7 @@ pub record Waits (w : WorldState) (side : Side) : Type 0 where
   pub range : RangeDone (party_of w side).endpoint.sending ⊎ ((party_of w side).endpoint.sending.una ≡ 0)
   pub syn : (party_of w side).endpoint.owed.syn ≡ false
 
+-- it still waits where both are where they were
 pub waits-later : (w v : WorldState) (side : Side) → AreStill (party_of w side) (party_of w (other side)) (party_of v side) (party_of v (other side))
     → KeepsOwed (party_of w side).endpoint (party_of v side).endpoint → Waits w side → Waits v side
 waits-later w v side still keeps h = record {
@@ -173,6 +174,7 @@ owing-due s owed e =
     (subst (λ (b : Bool). option_or (reset_due s.owed.reset)
     (option_or (syn_due s.owed) (option_or (text_due s) (if b then Some Acknowledgement else None))) ≡ None) owed e)
 
+-- where nothing is due no SYN is owed
 pub idle-no_syn : (s : State) → due_of s ≡ None → s.owed.syn ≡ false
 unfolding due_of
 idle-no_syn s idle =
@@ -193,6 +195,7 @@ useful-standing p q stands goes at behind = record {
   use_of = inr (stands.starts ∙ at, omega (arith, behind, still-next p (party_after_emission p) (still-emission p)));
 }
 
+-- what stands at SND.NXT goes out, and comes
 pub standing-out : (w : WorldState) (side : Side) (later : List EventContent) → AllByRecursion IsCalm later → IsGoing w
     → (party_of w side).endpoint.sending.nxt ≡ next_position (party_of w (other side))
     → (party_of w (other side)).endpoint.sending.una < next_position (party_of w side)
@@ -313,6 +316,7 @@ spoken w B k v h old =
     subst (λ (r : Option StepError). Said (stay_or r w (world_with_effect w (Deliver A k))).b) (sym wakes.0)
     (subst Said (sym wakes.1) (record { range = range-same w.b.endpoint.sending; syn = λ e. e; ack = λ _ _. refl }, refl))
 
+-- the old segment comes among these events, and so does the answer, or behind them
 pub spoken-lowers : (w : WorldState) (side : Side) (k : ℕ) (v : Content) (events back : List EventContent) → AllByRecursion IsUntimed events
     → AllByRecursion IsCalm back → IsGoing w → Waits w side → IsOld (party_of w (other side)) (party_of w (other (other side))) k v
     → Delivers (other side) k events → AllCome w events back → IsIdle (world_after_all w events) side

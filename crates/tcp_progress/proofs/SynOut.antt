@@ -54,7 +54,8 @@ timer-due : (p : PartyState) → is_handshake p.endpoint.phase ≡ true → p.en
 unfolding party_after_timer
 timer-due p shakes none = syn-due p.endpoint shakes none
 
-syn-sent : (p : PartyState) → due_of p.endpoint ≡ Some Syn → slice_get (party_after_emission p).sent (length p.sent) ≡ Some (sent_by p.endpoint (bytes_of p.endpoint Syn))
+syn-sent : (p : PartyState) → due_of p.endpoint ≡ Some Syn
+    → slice_get (party_after_emission p).sent (length p.sent) ≡ Some (sent_by p.endpoint (bytes_of p.endpoint Syn))
 unfolding party_after_emission emitted_bytes
 syn-sent p due = rw due (last-of p.sent (sent_by p.endpoint (bytes_of p.endpoint Syn)))
 
@@ -62,7 +63,8 @@ syn-form : (s : State) → segment_of s Syn ≡ syn_segment s
 unfolding segment_of
 syn-form s = refl
 
-syn-position : (p q : PartyState) → IsSteadyPair p q → GoesOut p q Syn → is_handshake p.endpoint.phase ≡ true → (sent_by p.endpoint (bytes_of p.endpoint Syn)).position ≡ 0
+syn-position : (p q : PartyState) → IsSteadyPair p q → GoesOut p q Syn → is_handshake p.endpoint.phase ≡ true
+    → (sent_by p.endpoint (bytes_of p.endpoint Syn)).position ≡ 0
 unfolding bytes_of segment_of
 syn-position p q h goes shakes =
     let s = p.endpoint in
@@ -86,7 +88,8 @@ syn-emitted p q h shakes first due =
       g = sent_by s (bytes_of s Syn);
       content = syn_segment s;
       sent = syn-sent p due;
-      read = subst (λ (c : Config). decode_answer c.addr.0 q.endpoint.config.addr.0 (bytes_of s Syn) ≡ Ok (syn_segment s)) (sym still.config) (due-decodes p q Syn goes ∙ ap Ok (syn-form s));
+      read = subst (λ (c : Config). decode_answer c.addr.0 q.endpoint.config.addr.0 (bytes_of s Syn) ≡ Ok (syn_segment s)) (sym still.config)
+          (due-decodes p q Syn goes ∙ ap Ok (syn-form s));
       starts = syn-position p q h goes shakes;
       wanted = wanted-is p q h.pair ∙ first;
       no_rst = no-reset s.receiving.opened;
@@ -98,8 +101,10 @@ syn-emitted p q h shakes first due =
     }
 
 -- a waiting reset goes out and is lost, then the timer runs out, and the SYN goes out
-pub short-syn : {K P : WorldState → Type 0} → IsInvariant K → (n life : ℕ) (side : Side) (p q : PartyState) → is_handshake p.endpoint.phase ≡ true → next_position p ≡ 1 → K (world_from life side p q)
-    → ((p' : PartyState) (k : ℕ) → IsStill p p' → IsSyn p' q k p.endpoint.receiving.opened → K (world_from life side p' q) → CanReachUnaided n P (world_from life side p' q))
+pub short-syn : {K P : WorldState → Type 0} → IsInvariant K → (n life : ℕ) (side : Side) (p q : PartyState) → is_handshake p.endpoint.phase ≡ true
+    → next_position p ≡ 1 → K (world_from life side p q)
+    → ((p' : PartyState) (k : ℕ) → IsStill p p' → IsSyn p' q k p.endpoint.receiving.opened → K (world_from life side p' q) → CanReachUnaided n P
+    (world_from life side p' q))
     → CanReachUnaided (suc (suc (suc n))) P (world_from life side p q)
 short-syn i n life side p q shakes first h next =
     short-flushing i (suc (suc n)) life side p q h (λ p1 still1 none h1.
@@ -109,4 +114,5 @@ short-syn i n life side p q shakes first h next =
     short-timeout i (suc n) life side p1 q h1 (λ h2.
     let out = syn-emitted p2 q (pair-of i life side p2 q h2) (ap is_handshake still2.phase ∙ shakes) (still-next p p2 still2 ∙ first) due in
     short-emission i n life side p2 q h2
-    (next (party_after_emission p2) (length p2.sent) (still-then p p2 (party_after_emission p2) still2 (still-emission p2)) (subst (IsSyn (party_after_emission p2) q (length p2.sent)) still2.opened out))))
+    (next (party_after_emission p2) (length p2.sent) (still-then p p2 (party_after_emission p2) still2 (still-emission p2))
+    (subst (IsSyn (party_after_emission p2) q (length p2.sent)) still2.opened out))))

@@ -38,18 +38,22 @@ untimed-calm (Send side text) h = absurd h
 untimed-calm (Close side) h = absurd h
 untimed-calm (Abort side) h = absurd h
 
+-- untimed events are calm
 pub all-untimed : (events : List EventContent) → AllByRecursion IsUntimed events → AllByRecursion IsCalm events
 all-untimed [] h = tt
 all-untimed (event ∷ events) h = (untimed-calm event h.0, all-untimed events h.1)
 
+-- calm events after calm events
 pub calm-append : (xs ys : List EventContent) → AllByRecursion IsCalm xs → AllByRecursion IsCalm ys → AllByRecursion IsCalm (xs ++ ys)
 calm-append [] ys h k = k
 calm-append (x ∷ xs) ys h k = (h.0, calm-append xs ys h.1 k)
 
+-- emissions are calm
 pub calm-emissions : (side : Side) (n : ℕ) → AllByRecursion IsCalm (emissions side n)
 calm-emissions side zero = tt
 calm-emissions side (suc n) = (tt, calm-emissions side n)
 
+-- so is the timeout before them
 pub calm-served : (side : Side) (n : ℕ) → AllByRecursion IsCalm (served side n)
 calm-served side n = (tt, calm-emissions side n)
 
@@ -57,22 +61,27 @@ calm-served side n = (tt, calm-emissions side n)
 abbrev pub turn-tail : (w : WorldState) (turn : List EventContent) → IsTurn w turn → List EventContent
 turn-tail w turn t = both_served t.first t.count t.then_count ++ (t.there ++ t.back)
 
+-- and both sides served
 pub calm-both : (first : Side) (n m : ℕ) → AllByRecursion IsCalm (both_served first n m)
 calm-both first n m = calm-append (served first n) (served (other first) m) (calm-served first n) (calm-served (other first) m)
 
+-- it is calm
 pub tail-calm : (w : WorldState) (turn : List EventContent) (t : IsTurn w turn) → AllByRecursion IsCalm (turn-tail w turn t)
 tail-calm w turn t =
     calm-append (both_served t.first t.count t.then_count) (t.there ++ t.back) (calm-both t.first t.count t.then_count)
     (calm-append t.there t.back (all-untimed t.there t.untimed) t.calm)
 
+-- events after events, in a world
 pub after-append : (w : WorldState) (xs ys : List EventContent) → world_after_all w (xs ++ ys) ≡ world_after_all (world_after_all w xs) ys
 unfolding world_after_all
 after-append w [] ys = refl
 after-append w (x ∷ xs) ys = after-append (world_after w x) xs ys
 
+-- the reads are calm
 pub reads-calm : AllByRecursion IsCalm reads
 reads-calm = (tt, (tt, (tt, (tt, tt))))
 
+-- the whole turn
 pub turn-calm : (w : WorldState) (turn : List EventContent) → IsTurn w turn → AllByRecursion IsCalm turn
 turn-calm w turn t =
     subst (λ (events : List EventContent). AllByRecursion IsCalm events) (sym t.form) (calm-append reads (turn-tail w turn t) reads-calm (tail-calm w turn t))
@@ -82,6 +91,7 @@ pub turn-same : (w : WorldState) (turn : List EventContent) (t : IsTurn w turn)
     → world_after_all w turn ≡ world_after_all (world_after_all w reads) (turn-tail w turn t)
 turn-same w turn t = ap (world_after_all w) t.form ∙ after-append w reads (turn-tail w turn t)
 
+-- and so many turns
 pub turns-calm : (n : ℕ) (w : WorldState) (events : List EventContent) → HasTurns n w events → AllByRecursion IsCalm events
 turns-calm zero w events h = h
 turns-calm (suc n) w events h =
@@ -99,6 +109,7 @@ pub reads-are : (w : WorldState)
 unfolding effect_of world_after_all
 reads-are w = refl
 
+-- a list of no length
 pub empty-length : (xs : List ℕ) → length xs ≤ 0 → xs ≡ []
 empty-length [] h = refl
 empty-length (x ∷ xs) h = absurd (omega (arith, h))
@@ -121,10 +132,12 @@ has-read p q h up =
     let hands = hands-still p q h up in
     read-end (party_after_receive p all_room) (hands-again p all_room hands) (read-most p hands (most-unread p q h))
 
+-- of both users
 pub record HaveRead (w : WorldState) : Type 0 where
   pub a : HasRead w.a
   pub b : HasRead w.b
 
+-- so it is after the reads of a turn
 pub have-read : (w : WorldState) → IsKept w → GoOn w.a w.b → HaveRead (world_after_all w reads)
 have-read w h on =
     let pair = (kept-steady w h).ends in
@@ -259,6 +272,7 @@ module _ (lowers : TurnLowers) where
       let on'' = on-all v turn (turn-calm v turn t) steps.kept on' (last.stays_a one') (last.stays_b two') in
       subst IsDone (sym same) (one-turn n w v u turn after next steps on' t refl steps' on'' rest one' two' (last.stays_a one') (last.stays_b two'))
 
+  -- as many turns as something is left, and one
   pub turns-done : (n : ℕ) (w : WorldState) (events : List EventContent) → left_in w ≤ n → IsKept w → GoOn w.a w.b → HasTurns (suc n) w events
       → gave_up (world_after_all w events).a ≡ false → gave_up (world_after_all w events).b ≡ false → IsDone (world_after_all w events)
   turns-done zero w events most h on turns one two =
@@ -271,6 +285,7 @@ module _ (lowers : TurnLowers) where
   live-on w a b =
       record { there = record { opened = a.opened; kept = inl a.goes_on }; back = record { opened = b.opened; kept = inl b.goes_on }; live = λ _. (a, b) }
 
+  -- so who is served gets through
   pub gets-through : (w : WorldState) → IsKept w → GetsThrough w
   gets-through w h a b events turns stays =
       let v = world_after_all w events in
@@ -284,5 +299,6 @@ module _ (lowers : TurnLowers) where
         settles = waited v done.kept (complete v.a v.b done.on done.none) done.read.a done.read.b;
       }
 
+  -- in every world
   pub served_lem : WhoIsServedGetsThrough
   served_lem = in-every-world GetsThrough gets-through

@@ -36,6 +36,7 @@ wants-still p q p' q' h h' opened still =
     h'.pair.there.takes.next (still.there.opened opened) ∙ ap (λ (c : Config). number c.isn.0 (next_position p')) still.back.config ∙ ap
     (number q.endpoint.config.isn.0) still.next_of_x ∙ sym (h.pair.there.takes.next opened)
 
+-- while both are where they were
 pub fresh-still : (p q p' q' : PartyState) (k start : ℕ) (v : Content) → IsSteadyPair p q → IsSteadyPair p' q' → p.endpoint.receiving.opened ≡ true
     → AreStill p q p' q' → IsFresh p q k start v → IsFresh p' q' k start v
 fresh-still p q p' q' k start v h h' opened still f = record {
@@ -71,6 +72,7 @@ pub record IsUseful (p q : PartyState) (k : ℕ) : Type 0 where
   pub use_of : ((start ≤ next_position q) × (next_position q < start + count_numbers content)) ⊎
       ((start ≡ next_position q) × (q.endpoint.sending.una < next_position p))
 
+-- it stays so while both are where they were
 pub useful-still : (p q p' q' : PartyState) (k : ℕ) → IsSteadyPair p q → IsSteadyPair p' q' → p.endpoint.receiving.opened ≡ true → AreStill p q p' q'
     → IsUseful p q k → IsUseful p' q' k
 useful-still p q p' q' k h h' opened still u = record {

@@ -15,6 +15,7 @@ time_waits-are : (w : WorldState)
 unfolding effect_of world_after_all
 time_waits-are w = refl
 
+-- then the world is settled
 pub waited : (w : WorldState) → IsKept w → IsComplete w.a w.b → HasRead w.a → HasRead w.b → IsSettled (world_after_all w time_waits)
 waited w h whole read-a read-b =
     let a = w.a in

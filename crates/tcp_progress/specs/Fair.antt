@@ -15,7 +15,7 @@ use Rattle.tcp_progress.specs.Measure.{left_in}
 use Rattle.tcp_progress.specs.Everywhere.{InEveryWorld}
 use Rattle.tcp_progress.specs.Settled.{IsLive, IsThrough, IsSettled, HasStreamsOf}
 
--- CALM: what clock, network and users do who only read: nothing is sent, closed or aborted, and TIME-WAIT doesn't run out (RFC 9293,
+-- CALM: what clock and network do, and users who only read: nothing is sent, closed or aborted, and TIME-WAIT doesn't run out (RFC 9293,
 -- 3.10.8). The network delivers what it likes, as often, as late and in what order it likes, and damages it; any other timer runs out
 -- when it likes
 abbrev pub IsCalm : EventContent → Type 0
@@ -45,7 +45,7 @@ abbrev pub emissions : Side → ℕ → List EventContent
 emissions side zero = []
 emissions side (suc n) = Emit side ∷ emissions side n
 
--- ONE SIDE IS SERVED: its retransmission timeout comes (RFC 9293, 3.10.8), and at once it emits
+-- ONE SIDE IS SERVED: its retransmission timeout comes (RFC 9293, 3.8.1 and 3.10.8), and at once, before anything arrives, it emits
 abbrev pub served : Side → ℕ → List EventContent
 served side count = Timer side timers.Retransmit ∷ emissions side count
 
@@ -62,6 +62,7 @@ abbrev pub Delivers : Side → ℕ → List EventContent → Type 0
 Delivers side k [] = ⊥
 Delivers side k (event ∷ events) = (event ≡ Deliver side k) ⊎ Delivers side k events
 
+-- what is due is a reset
 abbrev pub is_reset : Due → Bool
 is_reset (dues.Reset reset) = true
 is_reset other = false
@@ -78,9 +79,8 @@ AllCome w [] later = Unit {0}
 AllCome w (event ∷ events) later = Comes w event (events ++ later) × AllCome (world_after w event) events later
 
 -- ---- A TURN of the loop, there and back: the users read; one side is served, and then the other, each until nothing is due there; then
--- the network brings all that both sent, and the ends answer until nothing is due at either; and what they answered comes. In whatever
--- order all that comes, and whatever else happens meanwhile that is calm: but until both have answered no timer runs out. Resets may be
--- lost
+-- the network brings all that both sent, and both answer until nothing is due at either; and what they answered comes. All this comes in
+-- whatever order, and whatever else is calm happens meanwhile; but until both have answered no timer runs out. Resets may be lost
 pub record IsTurn (w : WorldState) (turn : List EventContent) : Type 0 where
   pub first : Side
   pub count : ℕ
@@ -118,6 +118,7 @@ pub record GotThrough (w v : WorldState) : Type 0 where
   pub streams : HasStreamsOf w v
   pub settles : IsSettled (world_after_all v time_waits)
 
+-- no end was reset, nor has it given up
 abbrev pub NoneGaveUp : WorldState → Type 0
 NoneGaveUp w = (gave_up w.a ≡ false) × (gave_up w.b ≡ false)
 
