@@ -10,7 +10,7 @@ use Rattle.tcp_halves.specs.declared.phase.Phase.{Phase}
 use Rattle.tcp_halves.specs.declared.phase.Phase.TheVariants.{Closed, Listen, SynSent, SynReceived, Established, FinWait1, FinWait2, CloseWait, Closing}
 use Rattle.tcp_halves.specs.declared.phase.Phase.TheVariants.{LastAck, TimeWait}
 use Rattle.tcp_halves.specs.declared.phase.Timer.TheVariants.{Retransmit}
-use Rattle.tcp_halves.specs.Phase.{has_peer, sends_text}
+use Rattle.tcp_halves.specs.Phase.{has_peer, is_handshake, sends_text}
 use Rattle.tcp_conn.specs.State.{State}
 use Rattle.tcp_conn.specs.Due.{due_of}
 use Rattle.tcp_conn.specs.Emission.{after_emission}
@@ -27,7 +27,8 @@ use Rattle.tcp_progress.specs.Settled.{IsLive}
 use Rattle.tcp_progress.specs.Stage.{SaysByPhase}
 use Rattle.tcp_progress.specs.Steady.{IsSteadyPair}
 use Rattle.tcp_progress.proofs.Again.{again_lem}
-use Rattle.tcp_progress.proofs.Back.{emissions-last, old-phase, syn-again, syn-old}
+use Rattle.tcp_progress.proofs.Back.{emissions-last, old-phase, syn-old}
+use Rattle.tcp_progress.proofs.SynOut.{syn-due}
 use Rattle.tcp_progress.proofs.Forward.{in-flight}
 use Rattle.tcp_progress.proofs.Going.{IsGoing, Lowers, going-live, over-event, side-pair, steps-both}
 use Rattle.tcp_progress.proofs.Older.{IsPending, burst-old, pending-now}
@@ -82,7 +83,7 @@ syn-or-reset : (n : ℕ) (waiting : Option WaitingReset) (s : State) (w : WorldS
     → Lowers w (world_after_all (world_after_all w (emissions side n)) later) (IsPending (world_after_all w (emissions side n)) side later)
 unfolding world_after_all
 syn-or-reset n None s w side later e phase same calm h una all idle come up =
-    syn-goes n w side later calm h (ap due_of same ∙ syn-again s phase e) una all idle come up
+    syn-goes n w side later calm h (ap due_of same ∙ syn-due s (ap is_handshake phase) e) una all idle come up
 syn-or-reset zero (Some reset) s w side later e phase same calm h una all idle come up =
     absurd (none-some (Reset reset) (sym idle ∙ ap due_of same ∙ reset-due s reset e))
 syn-or-reset (suc n) (Some reset) s w side later e phase same calm h una all idle come up =
@@ -90,7 +91,7 @@ syn-or-reset (suc n) (Some reset) s w side later e phase same calm h una all idl
     over-event w (Emit side) (world_after_all (world_after_all v (emissions side n)) later) (IsPending (world_after_all v (emissions side n)) side later) tt h
     (steps-both v (emissions side n) later (calm-emissions side n) calm) up
     (λ h' still.
-    syn-goes n v side later calm h' (ap due_of (emit-endpoint w side ∙ ap after_emission same ∙ reset-gone s reset e) ∙ syn-again (cleared s) phase refl)
+    syn-goes n v side later calm h' (ap due_of (emit-endpoint w side ∙ ap after_emission same ∙ reset-gone s reset e) ∙ syn-due (cleared s) (ap is_handshake phase) refl)
     ((still side).una_of_x ∙ una) ((still side).next_of_y ∙ all) idle come.1 up)
 
 -- ---- WHERE THE PHASE SENDS TEXT: after so many emissions one covers SND.UNA, and SND.NXT is still what it was

@@ -15,7 +15,7 @@ use Rattle.tcp_halves.specs.declared.phase.Ending.TheVariants.{NotEnded}
 use Rattle.tcp_halves.specs.declared.phase.Phase.{Phase}
 use Rattle.tcp_halves.specs.declared.phase.Phase.TheVariants.{Closed, Listen, SynSent, SynReceived, Established, FinWait1, FinWait2, CloseWait, Closing, LastAck, TimeWait}
 use Rattle.tcp_halves.specs.declared.phase.Timer.TheVariants.{Retransmit}
-use Rattle.tcp_halves.specs.Phase.{has_peer, sends_text}
+use Rattle.tcp_halves.specs.Phase.{has_peer, is_handshake, sends_text}
 use Rattle.tcp_conn.specs.State.{State, with_ack_owed}
 use Rattle.tcp_conn.specs.Due.{due_of, start_of}
 use Rattle.tcp_conn.specs.Emission.{after_emission, emitted_bytes}
@@ -43,6 +43,7 @@ use Rattle.tcp_progress.proofs.Forward.{acked-all, in-flight, on-after, still-le
 use Rattle.tcp_progress.proofs.Measure.{IsLess, is-less}
 use Rattle.tcp_progress.proofs.Ready.{emission-receiving, lives, may-send, pair-of, turned, turned-back}
 use Rattle.tcp_progress.proofs.Resting.{by-clearing, by-peer_clearing, by-peer_resting, emissions-receiving, timer-unread}
+use Rattle.tcp_progress.proofs.SynOut.{syn-form, syn-position, syn-sent, timer-due}
 use Rattle.tcp_progress.proofs.Still.{IsStill, still-then, still-next, still-live, still-emission, still-emissions, still-retransmit}
 use Rattle.tcp_progress.proofs.Waking.{IsOld, old-wakes}
 use Rattle.tcp_progress.proofs.Ways.{IsInvariant, after-emissions, by-delivery, by-emission, by-emissions, by-timer, last-of, party_after_emissions, reach-here}
@@ -136,18 +137,6 @@ resending-text {K} i life side p q h live none sends least some all next =
     resending-from i life side p q h pair again.1 (covering-goes p p.endpoint.sending.una again.1 again.0) all least next
 
 -- ---- in SYN-RECEIVED: the SYN goes out again
-pub syn-again : (s : State) → s.phase ≡ SynReceived → s.owed.reset ≡ None → due_of (after_retransmit s) ≡ Some Syn
-unfolding due_of after_retransmit
-syn-again s phase none =
-    elim (cases_Bool s.owed.syn) [
-      | inl owed ↦ rw (none, phase, owed) refl
-      | inr free ↦ rw (none, phase, free) refl
-    ]
-
-timer-gives : (p : PartyState) → (party_after_timer p Retransmit).endpoint ≡ after_retransmit p.endpoint
-unfolding party_after_timer
-timer-gives p = refl
-
 syn-says : (s : State) → s.receiving.opened ≡ true → (has rst (syn_segment s).flags ≡ false) × (count_numbers (syn_segment s) ≡ 1)
 syn-says s opened = rw opened (refl, refl)
 
@@ -158,21 +147,6 @@ timer-nxt p quiet = rw quiet refl
 syn-nxt : (p : PartyState) → due_of p.endpoint ≡ Some Syn → 1 ≤ p.endpoint.sending.nxt → (party_after_emission p).endpoint.sending.nxt ≡ p.endpoint.sending.nxt
 unfolding party_after_emission after_emission
 syn-nxt p due least = rw due (omega (arith, least))
-
-syn-sent : (p : PartyState) → due_of p.endpoint ≡ Some Syn → slice_get (party_after_emission p).sent (length p.sent) ≡ Some (sent_by p.endpoint (bytes_of p.endpoint Syn))
-unfolding party_after_emission after_emission emitted_bytes
-syn-sent p due = rw due (last-of p.sent (sent_by p.endpoint (bytes_of p.endpoint Syn)))
-
-syn-form : (s : State) → segment_of s Syn ≡ syn_segment s
-unfolding segment_of
-syn-form s = refl
-
-syn-position : (p q : PartyState) → IsSteadyPair p q → GoesOut p q Syn → p.endpoint.sending.una ≤ 1 → (sent_by p.endpoint (bytes_of p.endpoint Syn)).position ≡ 0
-unfolding bytes_of segment_of
-syn-position p q h goes first =
-    let s = p.endpoint in
-    ap (position_of s.config.isn.0 s.sending.una) (sym (seq-in s.config.addr.0 s.peer.addr.0 (syn_segment s) goes.valid))
-    ∙ position_of_number s.config.isn.0 s.sending.una 0 h.pair.there.alone.config.isn (omega arith) (omega (arith, first))
 
 -- it is old to q, which has it
 pub syn-old : (p q : PartyState) → IsSteadyPair p q → due_of p.endpoint ≡ Some Syn → p.endpoint.receiving.opened ≡ true → has_peer p.endpoint.phase ≡ true → p.endpoint.sending.una ≡ 0 → next_position q ≡ 1
@@ -204,7 +178,7 @@ resending-syn {K} i life side p q h live none phase una one all next =
     let p1 = party_after_timer p Retransmit in
     let p2 = party_after_emission p1 in
     let first = still-retransmit p in
-    let due = ap due_of (timer-gives p) ∙ syn-again p.endpoint phase none in
+    let due = timer-due p (ap is_handshake phase) none in
     let before : p1.endpoint.sending.nxt ≡ p.endpoint.sending.nxt = timer-nxt p (ap sends_text phase) in
     by-timer i life side p q Retransmit h (λ h1.
     by-emission i life side p1 q h1 (λ h2.

@@ -31,7 +31,7 @@ use Rattle.tcp_progress.proofs.Going.{side-pair}
 use Rattle.tcp_progress.proofs.Handshake.{answering, answering-first, listen-takes, syn_sent-takes, unopened-first}
 use Rattle.tcp_progress.proofs.Older.{past-emissions}
 use Rattle.tcp_progress.proofs.Ready.{steady-back}
-use Rattle.tcp_progress.proofs.Serving.{comes-due, none-some}
+use Rattle.tcp_progress.proofs.Serving.{comes-due, emit-other, none-some}
 use Rattle.tcp_progress.proofs.Shaking.{Answers, GoesOn, IsShaking, Opens, answerer, both-open, caller, opens-after, opens-append, opens-here, opens-later}
 use Rattle.tcp_progress.proofs.Shaking.{received-on, shakes-all, shakes-event, up-before}
 use Rattle.tcp_progress.proofs.Still.{IsStill, still-emission, still-next, still-retransmit}
@@ -68,11 +68,6 @@ emit-party : (w : WorldState) (side : Side) → party_of (world_after w (Emit si
 unfolding effect_of
 emit-party w A = refl
 emit-party w B = refl
-
-emit-peer : (w : WorldState) (side : Side) → party_of (world_after w (Emit side)) (other side) ≡ party_of w (other side)
-unfolding effect_of
-emit-peer w A = refl
-emit-peer w B = refl
 
 timer-party : (w : WorldState) (side : Side) → party_of (world_after w (Timer side Retransmit)) side ≡ party_after_timer (party_of w side) Retransmit
 unfolding effect_of
@@ -132,7 +127,7 @@ syn-now n w side later told h none come =
     let out : IsSyn (party_after_emission p) q k told = subst (IsSyn (party_after_emission p) q k) h.opened
     (syn-emitted p q (side-pair w side h.kept) h.shakes h.first due) in
     let at : IsSyn (party_of v side) (party_of v (other side)) k told = subst (λ (x : PartyState). IsSyn (party_of v side) x k told)
-    (sym (emit-peer w side)) (subst (λ (x : PartyState). IsSyn x q k told) (sym (emit-party w side)) out) in
+    (sym (emit-other w side)) (subst (λ (x : PartyState). IsSyn x q k told) (sym (emit-party w side)) out) in
     record {
       place = k;
       syn = side-syn v (world_after_all v (emissions side n)) side k told

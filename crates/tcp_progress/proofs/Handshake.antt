@@ -1,6 +1,6 @@
 -- THE HANDSHAKE GOES THROUGH (RFC 9293, 3.5): the SYN of who is in SYN-SENT is taken in LISTEN, and the SYN of who is in SYN-RECEIVED, with its
 -- acknowledgement, in SYN-SENT.
-use Rattle.std.proofs.Common.{◌≡◌, ℕ, ◌≤◌, List, inl, inr, refl, sym, ◌∙◌, ap, subst, arith}
+use Rattle.std.proofs.Common.{◌≡◌, ℕ, suc, ◌≤◌, List, length, inl, inr, refl, sym, ◌∙◌, ap, subst, arith}
 use Rattle.std.specs.Prelude.{Bool, true, false, None}
 use Rattle.std.proofs.lemmas.Bool.{eq-eqb}
 use Rattle.tcp_wire.specs.Flags.{ack, syn, rst, has}
@@ -8,6 +8,7 @@ use Rattle.tcp_wire.specs.Wire.{Content}
 use Rattle.tcp_wire.proofs.Lemmas.{position_of_number}
 use Rattle.tcp_halves.specs.declared.phase.Ending.TheVariants.{NotEnded}
 use Rattle.tcp_halves.specs.declared.phase.Phase.TheVariants.{Listen, SynSent, SynReceived}
+use Rattle.tcp_halves.specs.declared.phase.Timer.TheVariants.{Retransmit}
 use Rattle.tcp_halves.specs.Phase.{is_handshake, is_listening, is_syn_received, is_syn_sent}
 use Rattle.tcp_conn.specs.declared.judgement.Judgement.{Judgement}
 use Rattle.tcp_conn.specs.declared.judgement.Judgement.TheVariants.{PeerAccepts, PeerOpens}
@@ -17,7 +18,7 @@ use Rattle.tcp_conn.specs.Judgement.{acks_syn, is_foreign, judgement, listen_jud
 use Rattle.tcp_replay.specs.declared.event.Side.{Side}
 use Rattle.tcp_replay.specs.declared.event.Side.TheVariants.{A, B}
 use Rattle.tcp_replay.specs.Alone.{IsAnswering, IsOpening, IsUnused}
-use Rattle.tcp_replay.specs.World.{WorldState, PartyState, SentSegment, delivery_refusal, other, party_after_arrival, segment_at, world_from}
+use Rattle.tcp_replay.specs.World.{PartyState, SentSegment, WorldState, delivery_refusal, other, party_after_arrival, party_after_emission, party_after_timer, segment_at, world_from}
 use Rattle.tcp_replay.specs.Safe.{next_position}
 use Rattle.tcp_replay.proofs.Deliveries.{arrival-ok}
 use Rattle.tcp_replay.proofs.Lists.{one_if}
@@ -27,10 +28,10 @@ use Rattle.tcp_progress.specs.Settled.{AreOpening, IsLive, least_life}
 use Rattle.tcp_progress.specs.Steady.{IsSteadyPair}
 use Rattle.tcp_progress.proofs.Arriving.{goes, is-there, of_peer, unexpired}
 use Rattle.tcp_progress.proofs.Ready.{lives, pair-of, steady-back, turned, turned-back}
-use Rattle.tcp_progress.proofs.Still.{still-live}
-use Rattle.tcp_progress.proofs.SynOut.{IsSyn, short-syn}
+use Rattle.tcp_progress.proofs.Still.{IsStill, still-emission, still-live, still-next, still-retransmit, still-then}
+use Rattle.tcp_progress.proofs.SynOut.{IsSyn, syn-emitted, timer-due}
 use Rattle.tcp_progress.proofs.Ways.{IsInvariant}
-use Rattle.tcp_progress.proofs.Short.{short-delivery, short-here}
+use Rattle.tcp_progress.proofs.Short.{short-delivery, short-emission, short-flushing, short-here, short-timeout}
 
 -- ---- WHAT EACH STATE OF THE HANDSHAKE HAS, on either side
 pub unopened-listen : (p q : PartyState) → IsSteadyPair p q → p.endpoint.phase ≡ Listen
@@ -140,6 +141,23 @@ syn_sent-takes p q life k least h calls f =
       syn-goes p q life k true least h was.1.not_opened (omega (arith, was.1.nxt_is)) f,
       subst IsLive (sym (arrives p q k true PeerAccepts f judged)) (accepts-live q src f.content was.0),
     )
+
+-- ---- A waiting reset goes out and is lost, then the timer runs out, and the SYN goes out
+pub short-syn : {K P : WorldState → Type 0} → IsInvariant K → (n life : ℕ) (side : Side) (p q : PartyState) → is_handshake p.endpoint.phase ≡ true
+    → next_position p ≡ 1 → K (world_from life side p q)
+    → ((p' : PartyState) (k : ℕ) → IsStill p p' → IsSyn p' q k p.endpoint.receiving.opened → K (world_from life side p' q) → CanReachUnaided n P
+    (world_from life side p' q))
+    → CanReachUnaided (suc (suc (suc n))) P (world_from life side p q)
+short-syn i n life side p q shakes first h next =
+    short-flushing i (suc (suc n)) life side p q h (λ p1 still1 none h1.
+    let p2 = party_after_timer p1 Retransmit in
+    let still2 = still-then p p1 p2 still1 (still-retransmit p1) in
+    let due = timer-due p1 (ap is_handshake still1.phase ∙ shakes) none in
+    short-timeout i (suc n) life side p1 q h1 (λ h2.
+    let out = syn-emitted p2 q (pair-of i life side p2 q h2) (ap is_handshake still2.phase ∙ shakes) (still-next p p2 still2 ∙ first) due in
+    short-emission i n life side p2 q h2
+    (next (party_after_emission p2) (length p2.sent) (still-then p p2 (party_after_emission p2) still2 (still-emission p2))
+    (subst (IsSyn (party_after_emission p2) q (length p2.sent)) still2.opened out))))
 
 -- ---- BOTH LIVE
 pub record AreOpened (K : WorldState → Type 0) (w : WorldState) : Type 0 where

@@ -1,5 +1,5 @@
 -- WHERE A TURN LEADS: less is left between two parties, and both go on.
-use Rattle.std.proofs.Common.{◌≡◌, ℕ, ◌<◌, arith}
+use Rattle.std.proofs.Common.{◌≡◌, ℕ, ◌<◌, inl, arith}
 use Rattle.std.specs.Prelude.{true, ◌⊎◌}
 use Rattle.tcp_halves.specs.declared.phase.Ending.TheVariants.{NotEnded, Orderly}
 use Rattle.tcp_replay.specs.declared.event.Side.{Side}
@@ -18,6 +18,14 @@ pub record GoOn (x y : PartyState) : Type 0 where
   pub there : IsUp x
   pub back : IsUp y
   pub live : 0 < left_of_both x y → IsLive x × IsLive y
+
+-- as while both live
+pub both-live : (x y : PartyState) → IsLive x → IsLive y → GoOn x y
+both-live x y one two = record {
+  there = record { opened = one.opened; kept = inl one.goes_on };
+  back = record { opened = two.opened; kept = inl two.goes_on };
+  live = λ _. (one, two);
+}
 
 -- WHERE A TURN LEADS: less is left, and both go on
 pub record IsLess (K : WorldState → Type 0) (n : ℕ) (w : WorldState) : Type 0 where

@@ -7,7 +7,7 @@ use Rattle.tcp_replay.specs.World.{WorldState}
 use Rattle.tcp_progress.specs.Settled.{AreOpening, CanReach, CanSettle, HasEndedInOrder, IsLive, IsNotStuck, IsSettled, NoWorldIsStuck}
 use Rattle.tcp_progress.specs.Handshake.{CanOpen, CanReachUnaided, HandshakesCanBeFinished}
 use Rattle.tcp_progress.proofs.Ways.{reach-then}
-use Rattle.tcp_progress.proofs.Measure.{GoOn, swapped}
+use Rattle.tcp_progress.proofs.Measure.{both-live, swapped}
 use Rattle.tcp_progress.proofs.Ready.{steady-back}
 use Rattle.tcp_progress.proofs.Turns.{emptied}
 use Rattle.tcp_progress.proofs.Ended.{settled}
@@ -22,15 +22,8 @@ of-streams : (w : WorldState) → CanReach IsSettled w → CanSettle w
 of-streams w way = record { events = way.events; quiet = way.quiet; goes_on = way.goes_on; reached = (way.reached, quiet-streams w way.events way.quiet) }
 
 -- ---- BOTH LIVE
-both-live : (w : WorldState) → IsLive w.a → IsLive w.b → GoOn w.a w.b
-both-live w a b = record {
-  there = record { opened = a.opened; kept = inl a.goes_on };
-  back = record { opened = b.opened; kept = inl b.goes_on };
-  live = λ _. (a, b);
-}
-
 live-settles : (w : WorldState) → IsKept w → IsLive w.a → IsLive w.b → CanReach IsSettled w
-live-settles w h a b = reach-then (emptied kept-stays w h (both-live w a b)) (λ v e. settled kept-stays v e.stays e.on e.none)
+live-settles w h a b = reach-then (emptied kept-stays w h (both-live w.a w.b a b)) (λ v e. settled kept-stays v e.stays e.on e.none)
 
 -- ---- OPENING, either way
 opened : (w : WorldState) → IsKept w → AreOpening w.a w.b ⊎ AreOpening w.b w.a → CanReachUnaided 8 (AreOpened IsKept) w

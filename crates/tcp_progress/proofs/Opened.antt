@@ -18,8 +18,9 @@ use Rattle.tcp_progress.proofs.Coming.{AreAmong, among-left}
 use Rattle.tcp_progress.proofs.Ended.{complete}
 use Rattle.tcp_progress.proofs.Everywhere.{in-every-world, steps-streams}
 use Rattle.tcp_progress.proofs.Lowering.{lowers_lem, turn-served}
+use Rattle.tcp_progress.proofs.Measure.{both-live}
 use Rattle.tcp_progress.proofs.Shaking.{IsShaking, Opens, opens-after, opens-append, received-on, shakes-all, up-before}
-use Rattle.tcp_progress.proofs.Turning.{after-append, all-untimed, calm-append, calm-served, done-through, live-on, reads-calm, turn-calm, turns-calm}
+use Rattle.tcp_progress.proofs.Turning.{after-append, all-untimed, calm-append, calm-served, done-through, reads-calm, turn-calm, turns-calm}
 use Rattle.tcp_progress.proofs.Turning.{turns-done}
 use Rattle.tcp_progress.proofs.Waited.{waited}
 
@@ -323,7 +324,7 @@ opened-through k w events h most o up =
     let steps' = steps-all v o.rest (turns-calm (suc k) v o.rest o.turns) steps.kept in
     let same : world_after_all w events ≡ end = ap (world_after_all w) o.is ∙ after-append w o.front o.rest in
     let up' = subst NoneGaveUp same up in
-    let done = turns-done lowers_lem k v o.rest (omega (arith, most, steps-left w v steps)) steps.kept (live-on lowers_lem v o.both.a o.both.b) o.turns
+    let done = turns-done lowers_lem k v o.rest (omega (arith, most, steps-left w v steps)) steps.kept (both-live v.a v.b o.both.a o.both.b) o.turns
     up'.0 up'.1 in
     let both = done-through end done in
     subst (GotThrough w) (sym same) (record {

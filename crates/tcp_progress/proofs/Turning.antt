@@ -18,7 +18,7 @@ use Rattle.tcp_progress.proofs.AlwaysSteady.{IsKept, kept-steady}
 use Rattle.tcp_progress.proofs.Calm.{Grows}
 use Rattle.tcp_progress.proofs.CalmWorlds.{Steps, on-all, steps-all, steps-left}
 use Rattle.tcp_progress.proofs.Ended.{HasRead, IsComplete, all-come, complete, complete-back, hands-still, read-end, through, up-stays}
-use Rattle.tcp_progress.proofs.Measure.{GoOn, IsUp}
+use Rattle.tcp_progress.proofs.Measure.{GoOn, IsUp, both-live}
 use Rattle.tcp_progress.proofs.Ready.{steady-back}
 use Rattle.tcp_progress.proofs.Still.{still-reading}
 use Rattle.tcp_progress.proofs.Everywhere.{in-every-world, steps-streams}
@@ -281,16 +281,12 @@ module _ (lowers : TurnLowers) where
       first-turn (suc n) w events h on turns one two
       (λ u after less h' on' rest one' two'. turns-done n u after (omega (arith, most, less)) h' on' rest one' two')
 
-  pub live-on : (w : WorldState) → IsLive w.a → IsLive w.b → GoOn w.a w.b
-  live-on w a b =
-      record { there = record { opened = a.opened; kept = inl a.goes_on }; back = record { opened = b.opened; kept = inl b.goes_on }; live = λ _. (a, b) }
-
   -- so who is served gets through
   pub gets-through : (w : WorldState) → IsKept w → GetsThrough w
   gets-through w h a b events turns stays =
       let v = world_after_all w events in
       let steps = steps-all w events (turns-calm (suc (left_in w)) w events turns) h in
-      let done = turns-done (left_in w) w events (omega arith) h (live-on w a b) turns stays.0 stays.1 in
+      let done = turns-done (left_in w) w events (omega arith) h (both-live w.a w.b a b) turns stays.0 stays.1 in
       let both = done-through v done in
       record {
         there = both.0;
