@@ -1,12 +1,11 @@
 -- A turn in which an acknowledgement comes through: p's old segment wakes q, which has all of it, and q's acknowledgement, which stands at
 -- RCV.NXT of p, is delivered.
 use Rattle.std.proofs.Common.{◌≡◌, ℕ, zero, suc, ◌+◌, ◌<◌, ◌≤◌, [], length, inl, inr, refl, sym, ◌∙◌, ap, subst, arith}
-use Rattle.std.specs.Prelude.{slice_get, true, false, Option, Some, None, Ok, IfSome, ◌⊎◌}
-use Rattle.std.proofs.lemmas.Bool.{cases_Bool, false≢true}
-use Rattle.tcp_numbers.specs.Position.{number, position_of}
+use Rattle.std.specs.Prelude.{true, false, Option, Some, None, Ok, IfSome, ◌⊎◌}
+use Rattle.std.proofs.lemmas.Bool.{false≢true}
+use Rattle.tcp_numbers.specs.Position.{number}
 use Rattle.tcp_wire.specs.Flags.{rst, syn, has}
 use Rattle.tcp_wire.specs.Wire.{Content}
-use Rattle.tcp_wire.proofs.Lemmas.{position_of_number}
 use Rattle.tcp_wire.specs.Decoded.{decode_answer}
 use Rattle.tcp_halves.specs.declared.config.Config.{Config}
 use Rattle.tcp_halves.specs.declared.due.Due.{Due}
@@ -18,7 +17,7 @@ use Rattle.tcp_halves.specs.declared.phase.Timer.TheVariants.{Retransmit}
 use Rattle.tcp_halves.specs.Phase.{has_peer, is_handshake, sends_text}
 use Rattle.tcp_conn.specs.State.{State, with_ack_owed}
 use Rattle.tcp_conn.specs.Due.{due_of, start_of}
-use Rattle.tcp_conn.specs.Emission.{after_emission, emitted_bytes}
+use Rattle.tcp_conn.specs.Emission.{after_emission}
 use Rattle.tcp_conn.specs.Forms.{segment_of, syn_segment}
 use Rattle.tcp_conn.specs.Judgement.{count_numbers}
 use Rattle.tcp_conn.specs.Timers.{after_retransmit}
@@ -27,7 +26,7 @@ use Rattle.tcp_replay.specs.declared.event.Side.{Side}
 use Rattle.tcp_replay.specs.Alone.{FitsPhase}
 use Rattle.tcp_replay.specs.World.{WorldState, PartyState, world_from, other, sent_by, segment_at, party_after_arrival, party_after_timer, party_after_emission}
 use Rattle.tcp_replay.specs.Safe.{next_position, unread_of}
-use Rattle.tcp_replay.proofs.Emissions.{GoesOut, due-decodes, due-goes, seq-in, wanted-is}
+use Rattle.tcp_replay.proofs.Emissions.{GoesOut, due-decodes, due-goes, wanted-is}
 use Rattle.tcp_replay.proofs.Lists.{one_if, one_if-most}
 use Rattle.tcp_progress.specs.Answered.{StandsAtNext}
 use Rattle.tcp_progress.specs.Measure.{all_of, left_of_both}
@@ -46,7 +45,7 @@ use Rattle.tcp_progress.proofs.Resting.{by-clearing, by-peer_clearing, by-peer_r
 use Rattle.tcp_progress.proofs.SynOut.{syn-form, syn-position, syn-sent, timer-due}
 use Rattle.tcp_progress.proofs.Still.{IsStill, still-then, still-next, still-live, still-emission, still-emissions, still-retransmit}
 use Rattle.tcp_progress.proofs.Waking.{IsOld, old-wakes}
-use Rattle.tcp_progress.proofs.Ways.{IsInvariant, after-emissions, by-delivery, by-emission, by-emissions, by-timer, last-of, party_after_emissions, reach-here}
+use Rattle.tcp_progress.proofs.Ways.{IsInvariant, after-emissions, by-delivery, by-emission, by-emissions, by-timer, party_after_emissions, reach-here}
 
 -- ---- p HAS SENT its old segment: SND.NXT and what is unread are what they were
 pub record HasResent (p p' q : PartyState) : Type 0 where

@@ -109,6 +109,6 @@ unfolding holding config full every_other old_syn is_foreign is_acceptable
 old_syn_unacceptable = record { mine = refl; no_rst = refl; outside = refl; untaken = refl }
 
 -- where B listens and A connects they are opening the connection
-opening_begins : (life : ℕ) (a b : Config) → AreOpening (run_of (new_world_with life a b) (Listen B ∷ Connect A ∷ [])).a (run_of (new_world_with life a b) (Listen B ∷ Connect A ∷ [])).b
+opening_begins : (life : ℕ) (a b : Config) → let w = run_of (new_world_with life a b) (Listen B ∷ Connect A ∷ []) in AreOpening w.a w.b
 unfolding run_of effect_of party_after_connect party_after_listen after_connect after_listen
 opening_begins life a b = record { calls = refl; answers = inl refl }

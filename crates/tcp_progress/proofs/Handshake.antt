@@ -18,7 +18,8 @@ use Rattle.tcp_conn.specs.Judgement.{acks_syn, is_foreign, judgement, listen_jud
 use Rattle.tcp_replay.specs.declared.event.Side.{Side}
 use Rattle.tcp_replay.specs.declared.event.Side.TheVariants.{A, B}
 use Rattle.tcp_replay.specs.Alone.{IsAnswering, IsOpening, IsUnused}
-use Rattle.tcp_replay.specs.World.{PartyState, SentSegment, WorldState, delivery_refusal, other, party_after_arrival, party_after_emission, party_after_timer, segment_at, world_from}
+use Rattle.tcp_replay.specs.World.{PartyState, SentSegment, WorldState, delivery_refusal, other, party_after_arrival, party_after_emission, party_after_timer}
+use Rattle.tcp_replay.specs.World.{segment_at, world_from}
 use Rattle.tcp_replay.specs.Safe.{next_position}
 use Rattle.tcp_replay.proofs.Deliveries.{arrival-ok}
 use Rattle.tcp_replay.proofs.Lists.{one_if}

@@ -23,8 +23,7 @@ use Rattle.tcp_replay.specs.Safe.{next_position}
 use Rattle.tcp_replay.proofs.Emissions.{GoesOut, due-decodes, due-goes, seq-in, syn-bits, wanted-is}
 use Rattle.tcp_replay.proofs.Phases.{handshake-knows, handshake-una}
 use Rattle.tcp_progress.specs.Steady.{IsSteadyPair}
-use Rattle.tcp_progress.proofs.Ready.{emission-receiving}
-use Rattle.tcp_progress.proofs.Still.{IsStill, still-then, still-next, still-emission, still-retransmit}
+use Rattle.tcp_progress.proofs.Still.{still-emission}
 use Rattle.tcp_progress.proofs.Ways.{last-of}
 
 -- the k-th segment of p IS ITS SYN, by which p wants the first position after q's; it acknowledges q's SYN where that is told
@@ -47,7 +46,8 @@ pub syn-due : (s : State) → is_handshake s.phase ≡ true → s.owed.reset ≡
 unfolding due_of after_retransmit
 syn-due s shakes none = rw (none, shakes, or-true s.owed.syn) refl
 
-pub timer-due : (p : PartyState) → is_handshake p.endpoint.phase ≡ true → p.endpoint.owed.reset ≡ None → due_of (party_after_timer p Retransmit).endpoint ≡ Some Syn
+pub timer-due : (p : PartyState) → is_handshake p.endpoint.phase ≡ true → p.endpoint.owed.reset ≡ None
+    → due_of (party_after_timer p Retransmit).endpoint ≡ Some Syn
 unfolding party_after_timer
 timer-due p shakes none = syn-due p.endpoint shakes none
 

@@ -12,7 +12,7 @@ use Rattle.tcp_replay.specs.World.{WorldState, PartyState, both, other, effect_o
 use Rattle.tcp_replay.specs.Safe.{gave_up, unread_of}
 use Rattle.tcp_progress.specs.Fair.{GetsThrough, HasTurns, IsCalm, IsTurn, IsUntimed, WhoIsServedGetsThrough, all_room, both_served, emissions, reads, served}
 use Rattle.tcp_progress.specs.Measure.{left_in}
-use Rattle.tcp_progress.specs.Settled.{IsLive, IsThrough}
+use Rattle.tcp_progress.specs.Settled.{IsThrough}
 use Rattle.tcp_progress.specs.Steady.{IsSteadyPair}
 use Rattle.tcp_progress.proofs.AlwaysSteady.{IsKept, kept-steady}
 use Rattle.tcp_progress.proofs.Calm.{Grows}
