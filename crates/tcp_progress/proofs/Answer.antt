@@ -52,18 +52,18 @@ pub quiet-stands : (s : State) → s.owed.reset ≡ None → s.owed.syn ≡ fals
 unfolding due_of segment_of
 quiet-stands s reset syn owed quiet = standing s Acknowledgement (rw (reset, syn, quiet, owed) refl) refl refl refl
 
-text-stands : (s : State) → IsRested s → sends_text s.phase ≡ true → (new_count s.sending (text_limit s) s.owed.probe == 0) ≡ false → StandsAtNext s
+pub text-stands : (s : State) → IsRested s → sends_text s.phase ≡ true → (new_count s.sending (text_limit s) s.owed.probe == 0) ≡ false → StandsAtNext s
 unfolding due_of new_text_of segment_of
 text-stands s rested sends some =
     standing s (NewText s.sending.nxt (new_count s.sending (text_limit s) s.owed.probe)) (rw (rested.reset, rested.syn, sends, rested.none sends, some) refl) refl refl refl
 
-fin-stands : (s : State) → IsRested s → sends_text s.phase ≡ true → (new_count s.sending (text_limit s) s.owed.probe == 0) ≡ true
+pub fin-stands : (s : State) → IsRested s → sends_text s.phase ≡ true → (new_count s.sending (text_limit s) s.owed.probe == 0) ≡ true
     → (s.closing && (s.sending.nxt == end_of_text s.sending)) ≡ true → StandsAtNext s
 unfolding due_of new_text_of segment_of
 fin-stands s rested sends no_text turn =
     standing s (Fin s.sending.nxt) (rw (rested.reset, rested.syn, sends, rested.none sends, no_text, turn) refl) refl refl refl
 
-ack-stands : (s : State) → IsRested s → s.owed.ack ≡ true → sends_text s.phase ≡ true → (new_count s.sending (text_limit s) s.owed.probe == 0) ≡ true
+pub ack-stands : (s : State) → IsRested s → s.owed.ack ≡ true → sends_text s.phase ≡ true → (new_count s.sending (text_limit s) s.owed.probe == 0) ≡ true
     → (s.closing && (s.sending.nxt == end_of_text s.sending)) ≡ false → StandsAtNext s
 unfolding due_of new_text_of segment_of
 ack-stands s rested owed sends no_text no_turn =

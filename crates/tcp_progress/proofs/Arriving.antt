@@ -12,11 +12,10 @@ use Rattle.tcp_halves.specs.declared.phase.Ending.TheVariants.{NotEnded}
 use Rattle.tcp_halves.specs.declared.phase.Phase.{Phase}
 use Rattle.tcp_halves.specs.declared.phase.Phase.TheVariants.{Closed, Listen, SynSent}
 use Rattle.tcp_halves.specs.Phase.{has_peer}
-use Rattle.tcp_conn.specs.Judgement.{is_foreign}
+use Rattle.tcp_conn.specs.Judgement.{is_for_other, is_foreign, is_from_other}
 use Rattle.tcp_replay.specs.Alone.{FitsPhase}
 use Rattle.tcp_replay.specs.World.{PartyState, SentSegment, delivery_refusal, flags_in, is_expired, is_missing, sent_at}
 use Rattle.tcp_replay.specs.Safe.{next_position}
-use Rattle.tcp_replay.proofs.Phases.{present-knows}
 use Rattle.tcp_replay.proofs.Steps.{pair-swapped}
 use Rattle.tcp_replay.proofs.Emissions.{wanted-is}
 use Rattle.tcp_progress.specs.Settled.{IsLive}
@@ -35,20 +34,25 @@ live-present p q h live =
     let s = p.endpoint in
     present-live s.phase s.ending s.sending.una s.sending.nxt s.receiving.opened s.receiving.finished live.opened live.goes_on h.pair.there.alone.progress
 
--- it is the peer's
-pub of_peer : (p q : PartyState) (v : Content) → IsSteadyPair p q → IsPresent q.endpoint.phase → v.src_port ≡ p.endpoint.config.port → v.dst_port ≡ q.endpoint.config.port
+-- it is the peer's, also where none is known yet
+known-mine : (knows far from_far : Bool) → far ≡ false → (knows ≡ true → from_far ≡ false) → (far || (knows && from_far)) ≡ false
+known-mine true far from_far e near = rw (e, near refl) refl
+known-mine false far from_far e near = rw e refl
+
+pub of_peer : (p q : PartyState) (v : Content) → IsSteadyPair p q → v.src_port ≡ p.endpoint.config.port → v.dst_port ≡ q.endpoint.config.port
     → is_foreign q.endpoint p.endpoint.config.addr.0 q.endpoint.config.addr.0 v ≡ false
 unfolding is_foreign
-of_peer p q v h present src_port dst_port =
+of_peer p q v h src_port dst_port =
     let s = q.endpoint in
     let src = p.endpoint.config.addr.0 in
     let dst = s.config.addr.0 in
-    let knows : has_peer s.phase ≡ true = present-knows s.phase present.shut present.listening in
     let to : bytes_eq dst s.config.addr.0 ≡ true = (bytes_eq-Decides dst dst).1 refl in
-    let from : bytes_eq src s.peer.addr.0 ≡ true = (bytes_eq-Decides src s.peer.addr.0).1 (sym (h.pair.back.speaks.peer knows)) in
     let to_port : (v.dst_port == s.config.port) ≡ true = grind (arith, nat_tests, dst_port) in
+    known-mine (has_peer s.phase) (is_for_other s dst v) (is_from_other s src v) (rw (to, to_port) refl)
+    (λ knows.
+    let from : bytes_eq src s.peer.addr.0 ≡ true = (bytes_eq-Decides src s.peer.addr.0).1 (sym (h.pair.back.speaks.peer knows)) in
     let from_port : (v.src_port == s.peer.port) ≡ true = grind (arith, nat_tests, src_port, h.back.port knows) in
-    rw (to, from, to_port, from_port, knows) refl
+    rw (from, from_port) refl)
 
 -- its lifetime isn't over
 none-late : (reset late acks over : Bool) → late ≡ false → over ≡ false → (not reset && (late || (acks && over))) ≡ false

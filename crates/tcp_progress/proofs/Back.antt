@@ -1,12 +1,11 @@
 -- A turn in which an acknowledgement comes through: p's old segment wakes q, which has all of it, and q's acknowledgement, which stands at
 -- RCV.NXT of p, is delivered.
 use Rattle.std.proofs.Common.{◌≡◌, ℕ, zero, suc, ◌+◌, ◌<◌, ◌≤◌, [], length, inl, inr, refl, sym, ◌∙◌, ap, subst, arith}
-use Rattle.std.specs.Prelude.{slice_get, true, false, Option, Some, None, Ok, IfSome, ◌⊎◌}
-use Rattle.std.proofs.lemmas.Bool.{cases_Bool, false≢true}
-use Rattle.tcp_numbers.specs.Position.{number, position_of}
+use Rattle.std.specs.Prelude.{true, false, Option, Some, None, Ok, IfSome, ◌⊎◌}
+use Rattle.std.proofs.lemmas.Bool.{false≢true}
+use Rattle.tcp_numbers.specs.Position.{number}
 use Rattle.tcp_wire.specs.Flags.{rst, syn, has}
 use Rattle.tcp_wire.specs.Wire.{Content}
-use Rattle.tcp_wire.proofs.Lemmas.{position_of_number}
 use Rattle.tcp_wire.specs.Decoded.{decode_answer}
 use Rattle.tcp_halves.specs.declared.config.Config.{Config}
 use Rattle.tcp_halves.specs.declared.due.Due.{Due}
@@ -15,10 +14,10 @@ use Rattle.tcp_halves.specs.declared.phase.Ending.TheVariants.{NotEnded}
 use Rattle.tcp_halves.specs.declared.phase.Phase.{Phase}
 use Rattle.tcp_halves.specs.declared.phase.Phase.TheVariants.{Closed, Listen, SynSent, SynReceived, Established, FinWait1, FinWait2, CloseWait, Closing, LastAck, TimeWait}
 use Rattle.tcp_halves.specs.declared.phase.Timer.TheVariants.{Retransmit}
-use Rattle.tcp_halves.specs.Phase.{has_peer, sends_text}
+use Rattle.tcp_halves.specs.Phase.{has_peer, is_handshake, sends_text}
 use Rattle.tcp_conn.specs.State.{State, with_ack_owed}
 use Rattle.tcp_conn.specs.Due.{due_of, start_of}
-use Rattle.tcp_conn.specs.Emission.{after_emission, emitted_bytes}
+use Rattle.tcp_conn.specs.Emission.{after_emission}
 use Rattle.tcp_conn.specs.Forms.{segment_of, syn_segment}
 use Rattle.tcp_conn.specs.Judgement.{count_numbers}
 use Rattle.tcp_conn.specs.Timers.{after_retransmit}
@@ -27,9 +26,10 @@ use Rattle.tcp_replay.specs.declared.event.Side.{Side}
 use Rattle.tcp_replay.specs.Alone.{FitsPhase}
 use Rattle.tcp_replay.specs.World.{WorldState, PartyState, world_from, other, sent_by, segment_at, party_after_arrival, party_after_timer, party_after_emission}
 use Rattle.tcp_replay.specs.Safe.{next_position, unread_of}
-use Rattle.tcp_replay.proofs.Emissions.{GoesOut, due-decodes, due-goes, seq-in, wanted-is}
+use Rattle.tcp_replay.proofs.Emissions.{GoesOut, due-decodes, due-goes, wanted-is}
 use Rattle.tcp_replay.proofs.Lists.{one_if, one_if-most}
 use Rattle.tcp_progress.specs.Answered.{StandsAtNext}
+use Rattle.tcp_progress.specs.Measure.{all_of, left_of_both}
 use Rattle.tcp_progress.specs.Resent as resent
 use Rattle.tcp_progress.specs.Resent.{CoversNext, KeepsFlight, after_emissions}
 use Rattle.tcp_progress.specs.Settled.{CanReach, IsLive}
@@ -39,12 +39,13 @@ use Rattle.tcp_progress.proofs.Again.{again_lem}
 use Rattle.tcp_progress.proofs.Emitted.{IsFresh, fresh-emitted}
 use Rattle.tcp_progress.proofs.Delivered.{IsOpenTo, delivered-at}
 use Rattle.tcp_progress.proofs.Forward.{acked-all, in-flight, on-after, still-left, still-left-of_peer}
-use Rattle.tcp_progress.proofs.Measure.{IsLess, all_of, is-less, left_of_both}
+use Rattle.tcp_progress.proofs.Measure.{IsLess, is-less}
 use Rattle.tcp_progress.proofs.Ready.{emission-receiving, lives, may-send, pair-of, turned, turned-back}
 use Rattle.tcp_progress.proofs.Resting.{by-clearing, by-peer_clearing, by-peer_resting, emissions-receiving, timer-unread}
+use Rattle.tcp_progress.proofs.SynOut.{syn-form, syn-position, syn-sent, timer-due}
 use Rattle.tcp_progress.proofs.Still.{IsStill, still-then, still-next, still-live, still-emission, still-emissions, still-retransmit}
 use Rattle.tcp_progress.proofs.Waking.{IsOld, old-wakes}
-use Rattle.tcp_progress.proofs.Ways.{IsInvariant, after-emissions, by-delivery, by-emission, by-emissions, by-timer, last-of, party_after_emissions, reach-here}
+use Rattle.tcp_progress.proofs.Ways.{IsInvariant, after-emissions, by-delivery, by-emission, by-emissions, by-timer, party_after_emissions, reach-here}
 
 -- ---- p HAS SENT its old segment: SND.NXT and what is unread are what they were
 pub record HasResent (p p' q : PartyState) : Type 0 where
@@ -56,16 +57,16 @@ pub record HasResent (p p' q : PartyState) : Type 0 where
   pub old : IsOld p' q place segment
 
 -- ---- where p's phase sends text: what covers SND.UNA goes out again
-emissions-last : (n : ℕ) (s : State) → after_emissions (suc n) s ≡ after_emission (after_emissions n s)
+pub emissions-last : (n : ℕ) (s : State) → after_emissions (suc n) s ≡ after_emission (after_emissions n s)
 emissions-last zero s = refl
 emissions-last (suc n) s = emissions-last n (after_emission s)
 
-emitted-endpoint : (p : PartyState) → (party_after_emission p).endpoint ≡ after_emission p.endpoint
+pub emitted-endpoint : (p : PartyState) → (party_after_emission p).endpoint ≡ after_emission p.endpoint
 unfolding party_after_emission
 emitted-endpoint p = refl
 
 -- a fresh segment that covers SND.UNA is old to q, which has all that was sent
-text-old : (p p' q : PartyState) (k start : ℕ) (v : Content) → IsSteadyPair p q → IsSteadyPair p' q → IsStill p p' → p'.endpoint.sending.nxt ≡ p.endpoint.sending.nxt → IsFresh p' q k start v
+pub text-old : (p p' q : PartyState) (k start : ℕ) (v : Content) → IsSteadyPair p q → IsSteadyPair p' q → IsStill p p' → p'.endpoint.sending.nxt ≡ p.endpoint.sending.nxt → IsFresh p' q k start v
     → start ≤ p.endpoint.sending.una → p.endpoint.sending.una < start + count_numbers v → next_position q ≡ p.endpoint.sending.nxt → 1 ≤ p.endpoint.sending.una → IsOld p' q k v
 text-old p p' q k start v before after still nxt goes begins ends all least =
     let sends = before.pair.there.alone.sends in
@@ -135,14 +136,6 @@ resending-text {K} i life side p q h live none sends least some all next =
     resending-from i life side p q h pair again.1 (covering-goes p p.endpoint.sending.una again.1 again.0) all least next
 
 -- ---- in SYN-RECEIVED: the SYN goes out again
-syn-again : (p : PartyState) → p.endpoint.phase ≡ SynReceived → p.endpoint.owed.reset ≡ None → due_of (party_after_timer p Retransmit).endpoint ≡ Some Syn
-unfolding due_of party_after_timer after_retransmit
-syn-again p phase none =
-    elim (cases_Bool p.endpoint.owed.syn) [
-      | inl owed ↦ rw (none, phase, owed) refl
-      | inr free ↦ rw (none, phase, free) refl
-    ]
-
 syn-says : (s : State) → s.receiving.opened ≡ true → (has rst (syn_segment s).flags ≡ false) × (count_numbers (syn_segment s) ≡ 1)
 syn-says s opened = rw opened (refl, refl)
 
@@ -150,21 +143,32 @@ timer-nxt : (p : PartyState) → sends_text p.endpoint.phase ≡ false → (part
 unfolding party_after_timer after_retransmit
 timer-nxt p quiet = rw quiet refl
 
-syn-out : (p : PartyState) → due_of p.endpoint ≡ Some Syn → 1 ≤ p.endpoint.sending.nxt
-    → ((party_after_emission p).endpoint.sending.nxt ≡ p.endpoint.sending.nxt) × (slice_get (party_after_emission p).sent (length p.sent) ≡ Some (sent_by p.endpoint (bytes_of p.endpoint Syn)))
-unfolding party_after_emission after_emission emitted_bytes
-syn-out p due least = rw due (omega (arith, least), last-of p.sent (sent_by p.endpoint (bytes_of p.endpoint Syn)))
+syn-nxt : (p : PartyState) → due_of p.endpoint ≡ Some Syn → 1 ≤ p.endpoint.sending.nxt → (party_after_emission p).endpoint.sending.nxt ≡ p.endpoint.sending.nxt
+unfolding party_after_emission after_emission
+syn-nxt p due least = rw due (omega (arith, least))
 
-syn-form : (s : State) → segment_of s Syn ≡ syn_segment s
-unfolding segment_of
-syn-form s = refl
-
-syn-position : (p q : PartyState) → IsSteadyPair p q → GoesOut p q Syn → p.endpoint.sending.una ≤ 1 → (sent_by p.endpoint (bytes_of p.endpoint Syn)).position ≡ 0
-unfolding bytes_of segment_of
-syn-position p q h goes first =
+-- it is old to q, which has it
+pub syn-old : (p q : PartyState) → IsSteadyPair p q → due_of p.endpoint ≡ Some Syn → p.endpoint.receiving.opened ≡ true → has_peer p.endpoint.phase ≡ true → p.endpoint.sending.una ≡ 0 → next_position q ≡ 1
+    → IsOld (party_after_emission p) q (length p.sent) (syn_segment p.endpoint)
+syn-old p q pair due opened knows una all =
     let s = p.endpoint in
-    ap (position_of s.config.isn.0 s.sending.una) (sym (seq-in s.config.addr.0 s.peer.addr.0 (syn_segment s) goes.valid))
-    ∙ position_of_number s.config.isn.0 s.sending.una 0 h.pair.there.alone.config.isn (omega arith) (omega (arith, first))
+    let p' = party_after_emission p in
+    let goes : GoesOut p q Syn = subst (λ (o : Option Due). IfSome o (GoesOut p q)) due (due-goes p q pair.pair) in
+    let says = syn-says s opened in
+    let at = syn-position p q pair goes (omega (arith, una)) in
+    record {
+      g = sent_by s (bytes_of s Syn);
+      sent = syn-sent p due;
+      read = subst (λ (c : Config). decode_answer c.addr.0 q.endpoint.config.addr.0 (bytes_of s Syn) ≡ Ok (syn_segment s)) (sym (still-emission p).config) (due-decodes p q Syn goes ∙ ap Ok (syn-form s));
+      no_rst = says.0;
+      src = ap (λ (c : Config). c.port) (sym (still-emission p).config);
+      dst = pair.there.port knows;
+      seq = ap (λ (c : Config). number c.isn.0 0) (sym (still-emission p).config) ∙ ap (number p'.endpoint.config.isn.0) (sym at);
+      some = omega (arith, says.1);
+      ends = omega (arith, at, says.1, all);
+      near = omega (arith, at, all);
+      wanted = omega (arith, wanted-is p q pair.pair, pair.pair.back.between);
+    }
 
 resending-syn : {K P : WorldState → Type 0} → IsInvariant K → (life : ℕ) (side : Side) (p q : PartyState) → K (world_from life side p q) → IsLive p → p.endpoint.owed.reset ≡ None
     → p.endpoint.phase ≡ SynReceived → p.endpoint.sending.una ≡ 0 → p.endpoint.sending.nxt ≡ 1 → next_position q ≡ p.endpoint.sending.nxt
@@ -172,41 +176,22 @@ resending-syn : {K P : WorldState → Type 0} → IsInvariant K → (life : ℕ)
 resending-syn {K} i life side p q h live none phase una one all next =
     let p1 = party_after_timer p Retransmit in
     let p2 = party_after_emission p1 in
-    let s1 = p1.endpoint in
     let first = still-retransmit p in
-    let still : IsStill p p2 = still-then p p1 p2 first (still-emission p1) in
-    let due = syn-again p phase none in
-    let before : s1.sending.nxt ≡ p.endpoint.sending.nxt = timer-nxt p (ap sends_text phase) in
-    let out = syn-out p1 due (omega (arith, before, one)) in
+    let due = timer-due p (ap is_handshake phase) none in
+    let before : p1.endpoint.sending.nxt ≡ p.endpoint.sending.nxt = timer-nxt p (ap sends_text phase) in
     by-timer i life side p q Retransmit h (λ h1.
-    let pair = pair-of i life side p1 q h1 in
-    let goes : GoesOut p1 q Syn = subst (λ (o : Option Due). IfSome o (GoesOut p1 q)) due (due-goes p1 q pair.pair) in
-    let says = syn-says s1 (first.opened ∙ live.opened) in
-    let at = syn-position p1 q pair goes (omega (arith, first.una, una)) in
     by-emission i life side p1 q h1 (λ h2.
     next p2 (record {
-      still = still;
-      nxt = out.0 ∙ before;
+      still = still-then p p1 p2 first (still-emission p1);
+      nxt = syn-nxt p1 due (omega (arith, before, one)) ∙ before;
       unread = ap (λ r. r.inbox.unread) (emission-receiving p1) ∙ timer-unread p;
       place = length p1.sent;
-      segment = syn_segment s1;
-      old = record {
-        g = sent_by s1 (bytes_of s1 Syn);
-        sent = out.1;
-        read = subst (λ (c : Config). decode_answer c.addr.0 q.endpoint.config.addr.0 (bytes_of s1 Syn) ≡ Ok (syn_segment s1)) (sym (still-emission p1).config) (due-decodes p1 q Syn goes ∙ ap Ok (syn-form s1));
-        no_rst = says.0;
-        src = ap (λ (c : Config). c.port) (sym (still-emission p1).config);
-        dst = pair.there.port (ap has_peer (first.phase ∙ phase));
-        seq = ap (λ (c : Config). number c.isn.0 0) (sym (still-emission p1).config) ∙ ap (number p2.endpoint.config.isn.0) (sym at);
-        some = omega (arith, says.1);
-        ends = omega (arith, at, says.1, all, one);
-        near = omega (arith, at, all, one);
-        wanted = omega (arith, wanted-is p1 q pair.pair, pair.pair.back.between);
-      };
+      segment = syn_segment p1.endpoint;
+      old = syn-old p1 q (pair-of i life side p1 q h1) due (first.opened ∙ live.opened) (ap has_peer (first.phase ∙ phase)) (first.una ∙ una) (all ∙ one);
     }) h2))
 
 -- ---- a live end with something unacknowledged is in one of both
-old-phase : (s : State) (phase : Phase) → phase ≡ s.phase → s.sending.una < s.sending.nxt → s.receiving.opened ≡ true → s.ending ≡ NotEnded
+pub old-phase : (s : State) (phase : Phase) → phase ≡ s.phase → s.sending.una < s.sending.nxt → s.receiving.opened ≡ true → s.ending ≡ NotEnded
     → FitsPhase phase s.ending s.sending.una s.sending.nxt s.receiving.opened s.receiving.finished → SaysByPhase phase s
     → ((sends_text phase ≡ true) × (1 ≤ s.sending.una)) ⊎ ((phase ≡ SynReceived) × (s.sending.una ≡ 0) × (s.sending.nxt ≡ 1))
 old-phase s Closed same some took going fits says = absurd (false≢true (sym (fits going).not_opened ∙ took))

@@ -33,6 +33,7 @@ use Rattle.tcp_replay.proofs.Alone.{same-news}
 use Rattle.tcp_replay.proofs.Arrivals.{Comes, Fair, fair-judgement}
 use Rattle.tcp_replay.proofs.Events.{arrival-ok, comes, own-decodes}
 use Rattle.tcp_replay.proofs.Stages.{IsAck, kept-acked_text, kept-news, kept-own_syn, own_syn-near}
+use Rattle.tcp_progress.specs.Measure.{all_of, left_of_both}
 use Rattle.tcp_progress.specs.Progress.{IsPlainAck}
 use Rattle.tcp_progress.specs.Settled.{IsLive, least_life}
 use Rattle.tcp_progress.specs.Stage.{SaysByPhase}
@@ -40,7 +41,7 @@ use Rattle.tcp_progress.specs.Steady.{IsSteadyPair}
 use Rattle.tcp_progress.proofs.Acked.{own_fin-keeps}
 use Rattle.tcp_progress.proofs.Emitted.{IsFresh}
 use Rattle.tcp_progress.proofs.Judged.{IsPresent, judged-acceptable}
-use Rattle.tcp_progress.proofs.Measure.{all_of, left_of_both}
+
 use Rattle.tcp_replay.proofs.Events.{same-content}
 use Rattle.tcp_replay.proofs.Arrivals.{own_syn-nxt}
 use Rattle.tcp_progress.proofs.Arriving.{live-present, of_peer, is-there, unexpired, goes}
@@ -74,9 +75,9 @@ fresh-goes p q life k start v least h opened f = goes p q life k f.g f.sent (fre
 pub open-present : (p q : PartyState) → IsSteadyPair p q → IsOpenTo q → IsPresent q.endpoint.phase
 open-present p q h open_to = live-present q p (steady-back q p h) open_to.live
 
-pub fresh-mine : (p q : PartyState) (k start : ℕ) (v : Content) → IsSteadyPair p q → IsPresent q.endpoint.phase → IsFresh p q k start v
+pub fresh-mine : (p q : PartyState) (k start : ℕ) (v : Content) → IsSteadyPair p q → IsFresh p q k start v
     → is_foreign q.endpoint p.endpoint.config.addr.0 q.endpoint.config.addr.0 v ≡ false
-fresh-mine p q k start v h present f = of_peer p q v h present f.src f.dst
+fresh-mine p q k start v h f = of_peer p q v h f.src f.dst
 
 -- the number that it acknowledges
 pub record Acks (p q : PartyState) (v : Content) : Type 0 where
@@ -144,7 +145,7 @@ judged-at p q k start v h opened open_to f here =
     let seq : v.seq ≡ s.receiving.next = f.seq ∙ ap (number p.endpoint.config.isn.0) here ∙ sym (h.pair.back.takes.next open_to.live.opened) in
     let fits : is_acceptable_segment s v ≡ true =
     ap (λ n. is_acceptable s.receiving.next (window s.receiving.inbox) n (count_numbers v)) seq ∙ right-here s.receiving.next (window s.receiving.inbox) (count_numbers v) h.pair.back.alone.next wide.least wide.most in
-    judged-acceptable s p.endpoint.config.addr.0 s.config.addr.0 v (fresh-mine p q k start v h present f) present (fresh-plain p q k start v h opened f) fits
+    judged-acceptable s p.endpoint.config.addr.0 s.config.addr.0 v (fresh-mine p q k start v h f) present (fresh-plain p q k start v h opened f) fits
 
 -- ---- its acknowledgement is taken
 acked-is : (d : Sending) (a : ℕ) → d.una ≤ a → a ≤ d.nxt → (after_ack d a).una ≡ a
@@ -152,10 +153,10 @@ unfolding after_ack
 acked-is d a low high = cond_both (acks_more d a) (with_acked d a) d (λ (x : Sending). x.una ≡ a) (λ _. refl) (λ e. grind (arith, nat_tests, e, low, high))
 
 -- the own FIN's acknowledgement ends the connection in LAST-ACK alone
-abbrev EndsOrGoesOn : State → State → Type 0
+abbrev pub EndsOrGoesOn : State → State → Type 0
 EndsOrGoesOn s s' = (s'.ending ≡ NotEnded) ⊎ ((s'.ending ≡ Orderly) × (is_fin_acked s.sending ≡ true) × (is_last_ack s.phase ≡ true))
 
-own_fin-ends : (s : State) → s.ending ≡ NotEnded → EndsOrGoesOn s (after_own_fin s)
+pub own_fin-ends : (s : State) → s.ending ≡ NotEnded → EndsOrGoesOn s (after_own_fin s)
 unfolding after_own_fin
 own_fin-ends s e =
     let goes_on : State = record s { phase = phase_after_own_fin s.phase } in
@@ -163,7 +164,7 @@ own_fin-ends s e =
     (λ acked. cond_both (is_last_ack s.phase) (after_orderly_end s) goes_on (EndsOrGoesOn s) (λ last. inr (refl, acked, last)) (λ _. inl e))
     (λ _. inl e)
 
-last-before : (phase : Phase) (closing : Bool) → is_last_ack (phase_after_own_syn phase closing) ≡ true → phase ≡ LastAck
+pub last-before : (phase : Phase) (closing : Bool) → is_last_ack (phase_after_own_syn phase closing) ≡ true → phase ≡ LastAck
 last-before SynReceived true e = absurd (cc)
 last-before SynReceived false e = absurd (cc)
 last-before LastAck closing e = refl
@@ -173,16 +174,16 @@ acked-una : (s : State) (v : Content) (a : ℕ) → position_near s v.ack ≡ a 
 unfolding after_acked_text
 acked-una s v a is low high = ap (λ n. (after_ack s.sending n).una) is ∙ acked-is s.sending a low high
 
-same-ending : (s : State) (v : Content) → (after_news (after_acked_text (after_own_syn s v) v) v).ending ≡ s.ending
+pub same-ending : (s : State) (v : Content) → (after_news (after_acked_text (after_own_syn s v) v) v).ending ≡ s.ending
 unfolding after_news after_acked_text after_own_syn
 same-ending s v = refl
 
-same-phase : (s : State) (v : Content) → is_last_ack (after_news (after_acked_text (after_own_syn s v) v) v).phase ≡ true → is_last_ack (phase_after_own_syn s.phase s.closing) ≡ true
+pub same-phase : (s : State) (v : Content) → is_last_ack (after_news (after_acked_text (after_own_syn s v) v) v).phase ≡ true → is_last_ack (phase_after_own_syn s.phase s.closing) ≡ true
 unfolding after_news after_acked_text after_own_syn
 same-phase s v e = e
 
 -- once the own FIN is acknowledged, all is
-all-acked : (d : Sending) (accepted : List ℕ) (closed gone : Bool) (a : ℕ) → gone ≡ false → Sends d accepted closed gone → d.una ≡ a → is_fin_acked d ≡ true → 2 + length accepted ≤ a
+pub all-acked : (d : Sending) (accepted : List ℕ) (closed gone : Bool) (a : ℕ) → gone ≡ false → Sends d accepted closed gone → d.una ≡ a → is_fin_acked d ≡ true → 2 + length accepted ≤ a
 all-acked d accepted closed gone a kept sends una acked =
     let parts = and_parts (is_fin_sent d) (d.una == d.nxt) acked in
     let same : d.una ≡ d.nxt = eqb-true d.una d.nxt parts.1 in
@@ -225,7 +226,7 @@ ack-taken p q v h open_to acks =
     }
 
 -- ---- after LAST-ACK nothing is left: each had all of the other, and each acknowledged it
-nothing-left : (p q q' : PartyState) → IsSteadyPair p q → q'.accepted ≡ q.accepted → q'.closed ≡ q.closed → q'.endpoint.sending.una ≡ next_position p → next_position q ≤ next_position q'
+pub nothing-left : (p q q' : PartyState) → IsSteadyPair p q → q'.accepted ≡ q.accepted → q'.closed ≡ q.closed → q'.endpoint.sending.una ≡ next_position p → next_position q ≤ next_position q'
     → 2 + length q.accepted ≤ next_position p → q.endpoint.phase ≡ LastAck → left_of_both p q' ≡ 0
 nothing-left p q q' h accepted closed una next all last =
     let r = p.endpoint.receiving in
@@ -262,11 +263,11 @@ taken-keeps p q life k start v least most h opened f judged =
     subst (λ (j : Judgement). Fair q p s v j) judged (fair-judgement q p s s.config.addr.0 v f.g.position f.g.wanted c (kept-same q p back))
 
 -- of the acknowledgement, text and FIN change neither what is sent nor how the connection ends
-record IsTakenAs (s t : State) : Type 0 where
-  una : s.sending.una ≡ t.sending.una
-  ending : s.ending ≡ t.ending
+pub record IsTakenAs (s t : State) : Type 0 where
+  pub una : s.sending.una ≡ t.sending.una
+  pub ending : s.ending ≡ t.ending
 
-taken-as : (s : State) (v : Content) → IsTakenAs (after_taking s v) (after_its_ack s v)
+pub taken-as : (s : State) (v : Content) → IsTakenAs (after_taking s v) (after_its_ack s v)
 unfolding after_taking after_fin after_its_text
 taken-as s v = record { una = refl; ending = refl }
 

@@ -99,7 +99,7 @@ is-next p q k start v h opened open_to f begins ends =
     let within = ends-within p q k start v h open_to f begins ends in
     record {
       phase = phase-takes s.phase s present h.back.stage (unfinished p q h (omega (arith, ends, f.most)));
-      mine = fresh-mine p q k start v h present f;
+      mine = fresh-mine p q k start v h f;
       plain = fresh-plain p q k start v h opened f;
       begins = omega (arith, ints, at, begins);
       ends = omega (arith, ints, at, ends);

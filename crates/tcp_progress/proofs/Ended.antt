@@ -22,42 +22,43 @@ use Rattle.tcp_replay.specs.Alone.{FitsPhase, Sends}
 use Rattle.tcp_replay.specs.World.{WorldState, PartyState, world_from, party_after_receive, party_after_timer}
 use Rattle.tcp_replay.specs.Safe.{next_position, unread_of, count_released, gave_up}
 use Rattle.tcp_replay.proofs.Lists.{one_if}
+use Rattle.tcp_progress.specs.Measure.{all_of, left_of_both, left_in}
 use Rattle.tcp_progress.specs.Settled.{CanReach, IsThrough, IsSettled}
 use Rattle.tcp_progress.specs.Stage.{SaysByPhase}
 use Rattle.tcp_progress.specs.Steady.{IsSteadyPair}
 use Rattle.tcp_progress.proofs.Ways.{IsInvariant, reach-here, by-reading, by-timer}
-use Rattle.tcp_progress.proofs.Measure.{all_of, left_of_both, left_in, IsUp, GoOn}
+use Rattle.tcp_progress.proofs.Measure.{IsUp, GoOn}
 use Rattle.tcp_progress.proofs.Still.{IsStill, still-then, still-next, still-reading}
 use Rattle.tcp_progress.proofs.Ready.{steady-back, pair-of, live-open, drop-all}
 
 -- ---- NOTHING IS LEFT between two ends that are up: each has taken all of the other, and all of it is acknowledged
-record IsAllTaken (x y : PartyState) : Type 0 where
-  up : IsUp x
-  taken : all_of x ≤ next_position y
-  acked : all_of x ≤ x.endpoint.sending.una
+pub record IsAllTaken (x y : PartyState) : Type 0 where
+  pub up : IsUp x
+  pub taken : all_of x ≤ next_position y
+  pub acked : all_of x ≤ x.endpoint.sending.una
 
 -- both ways
-record IsComplete (x y : PartyState) : Type 0 where
-  there : IsAllTaken x y
-  back : IsAllTaken y x
+pub record IsComplete (x y : PartyState) : Type 0 where
+  pub there : IsAllTaken x y
+  pub back : IsAllTaken y x
 
-complete : (x y : PartyState) → GoOn x y → left_of_both x y ≡ 0 → IsComplete x y
+pub complete : (x y : PartyState) → GoOn x y → left_of_both x y ≡ 0 → IsComplete x y
 complete x y on none = record {
   there = record { up = on.there; taken = omega (arith, none); acked = omega (arith, none) };
   back = record { up = on.back; taken = omega (arith, none); acked = omega (arith, none) };
 }
 
-complete-back : (x y : PartyState) → IsComplete x y → IsComplete y x
+pub complete-back : (x y : PartyState) → IsComplete x y → IsComplete y x
 complete-back x y h = record { there = h.back; back = h.there }
 
 -- AS FAR ON as before: what was accepted, taken and acknowledged is the same
-record IsAsFar (p p' : PartyState) : Type 0 where
-  all : all_of p' ≡ all_of p
-  next : next_position p' ≡ next_position p
-  una : p'.endpoint.sending.una ≡ p.endpoint.sending.una
-  up : IsUp p → IsUp p'
+pub record IsAsFar (p p' : PartyState) : Type 0 where
+  pub all : all_of p' ≡ all_of p
+  pub next : next_position p' ≡ next_position p
+  pub una : p'.endpoint.sending.una ≡ p.endpoint.sending.una
+  pub up : IsUp p → IsUp p'
 
-complete-on : (p p' q : PartyState) → IsAsFar p p' → IsComplete p q → IsComplete p' q
+pub complete-on : (p p' q : PartyState) → IsAsFar p p' → IsComplete p q → IsComplete p' q
 complete-on p p' q far h = record {
   there = record { up = far.up h.there.up; taken = omega (arith, far.all, h.there.taken); acked = omega (arith, far.all, far.una, h.there.acked) };
   back = record { up = h.back.up; taken = omega (arith, far.next, h.back.taken); acked = h.back.acked };
@@ -70,12 +71,12 @@ far-still : (p p' : PartyState) → IsStill p p' → IsAsFar p p'
 far-still p p' h = record { all = rw (h.accepted, h.closed) refl; next = still-next p p' h; una = h.una; up = up-still p p' h }
 
 -- ---- THE USER READS ALL, and then once more
-record HasRead (p : PartyState) : Type 0 where
-  all : unread_of p ≡ []
-  ended : p.endpoint.receiving.finished ≡ true → p.ended ≡ true
+pub record HasRead (p : PartyState) : Type 0 where
+  pub all : unread_of p ≡ []
+  pub ended : p.endpoint.receiving.finished ≡ true → p.ended ≡ true
 
 -- an end that lives or has ended in order still hands over what is unread
-hands-still : (p q : PartyState) → IsSteadyPair p q → IsUp p → receive_refusal p.endpoint ≡ None
+pub hands-still : (p q : PartyState) → IsSteadyPair p q → IsUp p → receive_refusal p.endpoint ≡ None
 hands-still p q h up =
     elim up.kept [
       | inl goes ↦ rw (goes, live-open p q h (record { opened = up.opened; goes_on = goes })) refl
@@ -88,7 +89,7 @@ unfolding party_after_receive after_receive after_read
 read-all p hands = rw hands (drop-all (unread_of p))
 
 -- once nothing is unread, the end of the stream is handed over
-read-end : (p : PartyState) → receive_refusal p.endpoint ≡ None → unread_of p ≡ [] → HasRead (party_after_receive p 0)
+pub read-end : (p : PartyState) → receive_refusal p.endpoint ≡ None → unread_of p ≡ [] → HasRead (party_after_receive p 0)
 unfolding party_after_receive after_receive after_read
 read-end p hands none = record {
   all = rw hands none;
@@ -109,9 +110,9 @@ by-reading-out i life side p q whole h next =
     (next p'' (complete-on p p'' q (far-still p p'' (still-then p p' p'' still (still-reading p' 0))) whole) (read-end p' (hands-still p' q (pair-of i life side p' q h') up') none)))
 
 -- ---- WHAT NOTHING LEFT SAYS of the numbers: all came in order, and the FIN where there is one
-record HasAll (n count : ℕ) (closed fin : Bool) : Type 0 where
-  ordered : count ≡ n
-  finished : closed ≡ true → fin ≡ true
+pub record HasAll (n count : ℕ) (closed fin : Bool) : Type 0 where
+  pub ordered : count ≡ n
+  pub finished : closed ≡ true → fin ≡ true
 
 has-all : (n count : ℕ) (closed fin : Bool) → count ≤ n → (fin ≡ true → (closed ≡ true) × (count ≡ n)) → 1 + n + one_if closed ≤ 1 + count + one_if fin → HasAll n count closed fin
 has-all n count closed true order taken all = record { ordered = (taken refl).1; finished = λ _. refl }
@@ -119,11 +120,11 @@ has-all n count true false order taken all = absurd (omega (arith, order, all))
 has-all n count false false order taken all = record { ordered = omega (arith, order, all); finished = λ e. e }
 
 -- y has all of x
-all-come : (x y : PartyState) → IsSteadyPair x y → IsAllTaken x y → HasAll (length x.accepted) y.endpoint.receiving.ordered x.closed y.endpoint.receiving.finished
+pub all-come : (x y : PartyState) → IsSteadyPair x y → IsAllTaken x y → HasAll (length x.accepted) y.endpoint.receiving.ordered x.closed y.endpoint.receiving.finished
 all-come x y h left = has-all (length x.accepted) y.endpoint.receiving.ordered x.closed y.endpoint.receiving.finished h.pair.back.takes.order h.pair.back.takes.fin left.taken
 
 -- who is up hasn't given up
-up-stays : (ending : Ending) → (ending ≡ NotEnded) ⊎ (ending ≡ Orderly) → gives_up ending ≡ false
+pub up-stays : (ending : Ending) → (ending ≡ NotEnded) ⊎ (ending ≡ Orderly) → gives_up ending ≡ false
 up-stays ending (inl goes) = rw goes refl
 up-stays ending (inr over) = rw over refl
 
@@ -144,7 +145,7 @@ closed-acked x y h whole closed =
     fin-acked x.endpoint.sending x.accepted (gave_up x) sends (up-stays x.endpoint.ending whole.up.kept) (omega (arith, whole.acked, ap one_if closed))
 
 -- so what x accepted is through to y
-through : (x y : PartyState) → IsSteadyPair x y → IsComplete x y → HasRead y → IsThrough x y
+pub through : (x y : PartyState) → IsSteadyPair x y → IsComplete x y → HasRead y → IsThrough x y
 through x y h whole read =
     let come = all-come x y h whole.there in
     let hands = h.pair.back.hands in
@@ -182,10 +183,10 @@ over-after s (inl waits) = rw waits refl
 over-after s (inr over) = cond_both (is_time_wait s.phase) (after_orderly_end s) s (λ (t : State). t.ending ≡ Orderly) (λ _. refl) (λ _. over)
 
 -- where both users closed, x has ended in order
-abbrev EndsInOrder : PartyState → PartyState → Type 0
+abbrev pub EndsInOrder : PartyState → PartyState → Type 0
 EndsInOrder x y = x.closed ≡ true → y.closed ≡ true → x.endpoint.ending ≡ Orderly
 
-ends-in-order : (x y : PartyState) → IsSteadyPair x y → IsSteadyPair y x → IsComplete x y → EndsInOrder (party_after_timer x timers.TimeWait) y
+pub ends-in-order : (x y : PartyState) → IsSteadyPair x y → IsSteadyPair y x → IsComplete x y → EndsInOrder (party_after_timer x timers.TimeWait) y
 unfolding party_after_timer
 ends-in-order x y h back whole closed their =
     let s = x.endpoint in
@@ -196,12 +197,12 @@ ends-in-order x y h back whole closed their =
     over-after s (last-phase s s.phase (alone.closing ∙ closed) fin finished whole.there.up.opened (omega (arith, acked)) whole.there.up.kept alone.progress h.there.stage)
 
 -- what a TIME-WAIT timeout leaves as it is
-record IsOver (p p' : PartyState) : Type 0 where
-  far : IsAsFar p p'
-  closed : p'.closed ≡ p.closed
-  read : HasRead p → HasRead p'
+pub record IsOver (p p' : PartyState) : Type 0 where
+  pub far : IsAsFar p p'
+  pub closed : p'.closed ≡ p.closed
+  pub read : HasRead p → HasRead p'
 
-over-still : (p : PartyState) → IsOver p (party_after_timer p timers.TimeWait)
+pub over-still : (p : PartyState) → IsOver p (party_after_timer p timers.TimeWait)
 unfolding party_after_timer after_time_wait
 over-still p =
     let s = p.endpoint in
@@ -220,7 +221,7 @@ by-ending i life side p q whole h next =
     by-timer i life side p q timers.TimeWait h (next (party_after_timer p timers.TimeWait) (over-still p) (ends-in-order p q pair (steady-back q p pair) whole))
 
 -- ---- WHERE NOTHING IS LEFT, both users read all, then TIME-WAIT runs out at both ends
-at-end : (a b : PartyState) → IsSteadyPair a b → IsComplete a b → HasRead a → HasRead b → EndsInOrder a b → EndsInOrder b a → (life : ℕ) → IsSettled (world_from life A a b)
+pub at-end : (a b : PartyState) → IsSteadyPair a b → IsComplete a b → HasRead a → HasRead b → EndsInOrder a b → EndsInOrder b a → (life : ℕ) → IsSettled (world_from life A a b)
 at-end a b pair whole read-a read-b ends-a ends-b life = record {
   there = through a b pair whole read-b;
   back = through b a (steady-back b a pair) (complete-back a b whole) read-a;

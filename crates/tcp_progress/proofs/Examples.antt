@@ -16,7 +16,12 @@ use Rattle.tcp_conn.specs.Judgement.{is_foreign}
 use Rattle.tcp_conn.specs.NewEnd.{new_end}
 use Rattle.tcp_conn.specs.State.{State}
 use Rattle.tcp_halves.specs.Acceptable.{is_acceptable}
+use Rattle.tcp_conn.specs.Calls.{after_connect, after_listen}
+use Rattle.tcp_replay.specs.declared.event.Side.TheVariants.{A, B}
+use Rattle.tcp_replay.specs.Events.{Connect, Listen}
+use Rattle.tcp_replay.specs.World.{effect_of, new_world_with, party_after_connect, party_after_listen, run_of}
 use Rattle.tcp_progress.specs.Progress.{IsNext}
+use Rattle.tcp_progress.specs.Settled.{AreOpening}
 use Rattle.tcp_progress.specs.Resent.{IsInFlight, IsUnsent, MaySend}
 use Rattle.tcp_progress.specs.Answered.{IsUnacceptable, MayAnswer}
 
@@ -102,3 +107,8 @@ old_syn = record { src_port = 1; dst_port = 2; seq = 1000; ack = 0; reserved = 0
 old_syn_unacceptable : IsUnacceptable holding (10 ∷ 0 ∷ 0 ∷ 1 ∷ []) (10 ∷ 0 ∷ 0 ∷ 2 ∷ []) old_syn
 unfolding holding config full every_other old_syn is_foreign is_acceptable
 old_syn_unacceptable = record { mine = refl; no_rst = refl; outside = refl; untaken = refl }
+
+-- where B listens and A connects they are opening the connection
+opening_begins : (life : ℕ) (a b : Config) → let w = run_of (new_world_with life a b) (Listen B ∷ Connect A ∷ []) in AreOpening w.a w.b
+unfolding run_of effect_of party_after_connect party_after_listen after_connect after_listen
+opening_begins life a b = record { calls = refl; answers = inl refl }

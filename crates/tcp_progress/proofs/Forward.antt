@@ -20,6 +20,7 @@ use Rattle.tcp_replay.specs.World.{WorldState, PartyState, world_from, other, se
 use Rattle.tcp_replay.specs.Safe.{next_position}
 use Rattle.tcp_replay.proofs.Lists.{one_if, one_if-most}
 use Rattle.tcp_replay.proofs.Phases.{gives_up-not_ended}
+use Rattle.tcp_progress.specs.Measure.{all_of, left_of_both}
 use Rattle.tcp_progress.specs.Resent.{CoversNext, GoesOut, IsInFlight}
 use Rattle.tcp_progress.specs.Settled.{CanReach, IsLive}
 use Rattle.tcp_progress.specs.Stage.{SaysByPhase}
@@ -27,7 +28,7 @@ use Rattle.tcp_progress.specs.Steady.{IsSteadyPair}
 use Rattle.tcp_progress.proofs.Again.{again_lem}
 use Rattle.tcp_progress.proofs.New.{new_lem}
 use Rattle.tcp_progress.proofs.Ways.{IsInvariant, reach-here, by-emission, by-delivery, by-timer, by-emissions, party_after_emissions, after-emissions}
-use Rattle.tcp_progress.proofs.Measure.{all_of, left_of_both, GoOn, IsLess, is-less}
+use Rattle.tcp_progress.proofs.Measure.{GoOn, IsLess, is-less}
 use Rattle.tcp_progress.proofs.Still.{IsStill, still-then, still-next, still-live, still-emission, still-emissions, still-retransmit}
 use Rattle.tcp_progress.proofs.Ready.{pair-of, by-peer_reading-all, by-flushing, may-send, lives}
 use Rattle.tcp_progress.proofs.Emitted.{fresh-emitted}
@@ -164,7 +165,7 @@ forward-flight {K} i life side p q h alive hears sent =
     (going-out i life side p2 q1 h3 (still-live p1 p2 still2 live) (record { live = still-live q q1 stillq hears; read = read }) again.1 (omega (arith, pair.pair.there.alone.sends.most, some))))))
 
 -- ---- UNSENT: nothing is in flight, and something waits
-unsent-phase : (s : State) (phase : Phase) (all : ℕ) → s.sending.una ≡ s.sending.nxt → s.sending.nxt < all → (is_fin_acked s.sending ≡ true → all ≤ s.sending.nxt) → s.receiving.opened ≡ true → s.ending ≡ NotEnded
+pub unsent-phase : (s : State) (phase : Phase) (all : ℕ) → s.sending.una ≡ s.sending.nxt → s.sending.nxt < all → (is_fin_acked s.sending ≡ true → all ≤ s.sending.nxt) → s.receiving.opened ≡ true → s.ending ≡ NotEnded
     → FitsPhase phase s.ending s.sending.una s.sending.nxt s.receiving.opened s.receiving.finished → SaysByPhase phase s → sends_text phase ≡ true
 unsent-phase s Closed all idle some done took going fits says = absurd (false≢true (sym (fits going).not_opened ∙ took))
 unsent-phase s Listen all idle some done took going fits says = absurd (false≢true (sym fits.1.not_opened ∙ took))
@@ -175,7 +176,7 @@ unsent-phase s TimeWait all idle some done took going fits says = absurd (omega 
 unsent-phase s other all idle some done took going fits says = refl
 
 -- the FIN is the last
-fin-last : (p q : PartyState) → IsSteadyPair p q → IsLive p → is_fin_acked p.endpoint.sending ≡ true → all_of p ≤ p.endpoint.sending.nxt
+pub fin-last : (p q : PartyState) → IsSteadyPair p q → IsLive p → is_fin_acked p.endpoint.sending ≡ true → all_of p ≤ p.endpoint.sending.nxt
 fin-last p q h live e =
     let d = p.endpoint.sending in
     let had = live-sends p q h live in
@@ -184,7 +185,7 @@ fin-last p q h live e =
     omega (arith, past, text-end d p.accepted p.closed had, one_if-most p.closed)
 
 -- text waits, or the FIN
-waits : (p q : PartyState) → IsSteadyPair p q → IsLive p → 1 ≤ p.endpoint.sending.una → p.endpoint.sending.una ≡ p.endpoint.sending.nxt → p.endpoint.sending.nxt < all_of p
+pub waits : (p q : PartyState) → IsSteadyPair p q → IsLive p → 1 ≤ p.endpoint.sending.una → p.endpoint.sending.una ≡ p.endpoint.sending.nxt → p.endpoint.sending.nxt < all_of p
     → (0 < count_unsent p.endpoint.sending) ⊎ ((p.endpoint.closing ≡ true) × (p.endpoint.sending.nxt ≡ end_of_text p.endpoint.sending))
 waits p q h live past idle some =
     let d = p.endpoint.sending in

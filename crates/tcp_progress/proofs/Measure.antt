@@ -1,27 +1,12 @@
--- WHAT IS LEFT between two parties: what was accepted and isn't taken yet, and what isn't acknowledged yet.
-use Rattle.std.proofs.Common.{◌≡◌, ℕ, ◌+◌, ◌-◌, ◌<◌, length, arith}
+-- WHERE A TURN LEADS: less is left between two parties, and both go on.
+use Rattle.std.proofs.Common.{◌≡◌, ℕ, ◌<◌, inl, arith}
 use Rattle.std.specs.Prelude.{true, ◌⊎◌}
 use Rattle.tcp_halves.specs.declared.phase.Ending.TheVariants.{NotEnded, Orderly}
 use Rattle.tcp_replay.specs.declared.event.Side.{Side}
 use Rattle.tcp_replay.specs.declared.event.Side.TheVariants.{A, B}
 use Rattle.tcp_replay.specs.World.{WorldState, PartyState, world_from}
-use Rattle.tcp_replay.specs.Safe.{next_position}
-use Rattle.tcp_replay.proofs.Lists.{one_if}
+use Rattle.tcp_progress.specs.Measure.{left_in, left_of_both}
 use Rattle.tcp_progress.specs.Settled.{IsLive}
-
--- the position after all that x has to send: its SYN, what was accepted, and after a close the FIN
-abbrev pub all_of : PartyState → ℕ
-all_of x = 1 + length x.accepted + one_if x.closed
-
--- from x to y
-abbrev pub left_between : PartyState → PartyState → ℕ
-left_between x y = (all_of x - next_position y) + (all_of x - x.endpoint.sending.una)
-
-abbrev pub left_of_both : PartyState → PartyState → ℕ
-left_of_both x y = left_between x y + left_between y x
-
-abbrev pub left_in : WorldState → ℕ
-left_in w = left_of_both w.a w.b
 
 -- an end whose SYNs were taken, that lives or has ended in order
 pub record IsUp (x : PartyState) : Type 0 where
@@ -34,6 +19,14 @@ pub record GoOn (x y : PartyState) : Type 0 where
   pub back : IsUp y
   pub live : 0 < left_of_both x y → IsLive x × IsLive y
 
+-- as while both live
+pub both-live : (x y : PartyState) → IsLive x → IsLive y → GoOn x y
+both-live x y one two = record {
+  there = record { opened = one.opened; kept = inl one.goes_on };
+  back = record { opened = two.opened; kept = inl two.goes_on };
+  live = λ _. (one, two);
+}
+
 -- WHERE A TURN LEADS: less is left, and both go on
 pub record IsLess (K : WorldState → Type 0) (n : ℕ) (w : WorldState) : Type 0 where
   pub stays : K w
@@ -41,7 +34,7 @@ pub record IsLess (K : WorldState → Type 0) (n : ℕ) (w : WorldState) : Type 
   pub less : left_in w < n
 
 -- from either side
-swapped : (x y : PartyState) → GoOn y x → GoOn x y
+pub swapped : (x y : PartyState) → GoOn y x → GoOn x y
 swapped x y h = record { there = h.back; back = h.there; live = λ some. let both = h.live (omega (arith, some)) in (both.1, both.0) }
 
 pub is-less : (K : WorldState → Type 0) (n life : ℕ) (side : Side) (p q : PartyState) → K (world_from life side p q) → GoOn p q → left_of_both p q < n → IsLess K n (world_from life side p q)

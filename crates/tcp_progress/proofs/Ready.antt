@@ -83,7 +83,7 @@ by-peer_reading-all {K} {P} i life side p q live h next =
     (λ q' still read _ h'. turned (CanReach P) life side p q' (next q' still read (turned-back K life side p q' h'))))
 
 -- A WAITING RESET goes out and is lost
-reset-first : (p : PartyState) (reset : WaitingReset) → p.endpoint.owed.reset ≡ Some reset → (party_after_emission p).endpoint.owed.reset ≡ None
+pub reset-first : (p : PartyState) (reset : WaitingReset) → p.endpoint.owed.reset ≡ Some reset → (party_after_emission p).endpoint.owed.reset ≡ None
 unfolding party_after_emission after_emission due_of
 reset-first p reset e = rw e refl
 
@@ -112,7 +112,7 @@ pub by-flushing : {K P : WorldState → Type 0} → IsInvariant K → (life : �
 by-flushing i life side p q h next = flushing i life side p q (p.endpoint.owed.reset) refl h next
 
 -- it MAY SEND
-sends-no_handshake : (phase : Phase) → sends_text phase ≡ true → is_handshake phase ≡ false
+pub sends-no_handshake : (phase : Phase) → sends_text phase ≡ true → is_handshake phase ≡ false
 sends-no_handshake SynSent e = absurd (cc)
 sends-no_handshake SynReceived e = absurd (cc)
 sends-no_handshake other e = refl

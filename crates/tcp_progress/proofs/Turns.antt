@@ -4,9 +4,10 @@ use Rattle.std.proofs.lemmas.Bool.{cases_lt}
 use Rattle.tcp_replay.specs.declared.event.Side.TheVariants.{A, B}
 use Rattle.tcp_replay.specs.World.{WorldState, PartyState, world_from}
 use Rattle.tcp_replay.specs.Safe.{next_position}
+use Rattle.tcp_progress.specs.Measure.{all_of, left_of_both, left_in}
 use Rattle.tcp_progress.specs.Settled.{CanReach, IsLive}
 use Rattle.tcp_progress.proofs.Ways.{IsInvariant, reach-here, reach-then}
-use Rattle.tcp_progress.proofs.Measure.{all_of, left_of_both, left_in, GoOn, IsLess}
+use Rattle.tcp_progress.proofs.Measure.{GoOn, IsLess}
 use Rattle.tcp_progress.proofs.Ready.{pair-of}
 use Rattle.tcp_progress.proofs.Forward.{forward-flight, forward-unsent}
 use Rattle.tcp_progress.proofs.Back.{back}

@@ -74,7 +74,7 @@ old-untaken p q k v h ready old =
     let wide : 1 ≤ window s.receiving.inbox = omega (arith, h.back.within.size, ap length ready.read, h.pair.back.alone.config.good.0.1.0) in
     let opened : (window s.receiving.inbox == 0) ≡ false = grind (arith, nat_tests, wide) in
     record {
-      mine = of_peer p q v h (live-present q p (steady-back q p h) ready.live) old.src old.dst;
+      mine = of_peer p q v h old.src old.dst;
       no_rst = old.no_rst;
       outside = old-unacceptable s.receiving.next (window s.receiving.inbox) v.seq (count_numbers v) (old-behind p q k v h ready.live.opened old) old.some wide;
       untaken = rw opened refl;

@@ -12,11 +12,11 @@ use Rattle.tcp_progress.specs.Resent.{after_emissions}
 use Rattle.tcp_progress.specs.Settled.{IsQuiet, CanReach}
 use Rattle.tcp_progress.specs.Steady.{IsSteady}
 
-pub reach-here : {P : WorldState → Type 0} {w : WorldState} → P w → CanReach P w
+unfoldable pub reach-here : {P : WorldState → Type 0} {w : WorldState} → P w → CanReach P w
 unfolding stop_of run_of
 reach-here h = record { events = []; quiet = tt; goes_on = refl; reached = h }
 
-pub reach-step : {P : WorldState → Type 0} {w : WorldState} (event : EventContent) → IsQuiet event → refusal_of w event ≡ None → CanReach P (world_with_effect w event) → CanReach P w
+unfoldable pub reach-step : {P : WorldState → Type 0} {w : WorldState} (event : EventContent) → IsQuiet event → refusal_of w event ≡ None → CanReach P (world_with_effect w event) → CanReach P w
 unfolding stop_of run_of
 reach-step {P} {w} event quiet goes way = record {
   events = event ∷ way.events;

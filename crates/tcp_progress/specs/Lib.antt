@@ -5,4 +5,8 @@ pub mod Sent
 pub mod Stage
 pub mod Edge
 pub mod Settled
+pub mod Handshake
 pub mod Steady
+pub mod Everywhere
+pub mod Measure
+pub mod Fair

@@ -1,8 +1,9 @@
 -- NO WORLD IS STUCK (RFC 9293, 3.8): whatever was lost, delayed, repeated, reordered or damaged, there is always a way on.
-use Rattle.std.specs.Prelude.{◌≡◌, ℕ, ◌*◌, ◌≤◌, true, false, List, length, None}
+use Rattle.std.specs.Prelude.{◌≡◌, ℕ, ◌*◌, ◌≤◌, true, false, List, length, None, ◌⊎◌}
 use Rattle.std.specs.List.{AllByRecursion}
 use Rattle.tcp_halves.specs.declared.config.Config.{Config}
 use Rattle.tcp_halves.specs.declared.phase.Ending.TheVariants.{NotEnded, Orderly}
+use Rattle.tcp_halves.specs.declared.phase.Phase.TheVariants.{Listen, SynSent, SynReceived}
 use Rattle.tcp_halves.specs.Sender.{is_fin_acked}
 use Rattle.tcp_sendq.specs.SendQueue.{max_capacity}
 use Rattle.tcp_conn.specs.Config.{IsConfig}
@@ -30,6 +31,20 @@ pub record IsLive (x : PartyState) : Type 0 where
   pub opened : x.endpoint.receiving.opened ≡ true
   pub goes_on : x.endpoint.ending ≡ NotEnded
 
+-- THEY ARE OPENING THE CONNECTION (RFC 9293, 3.5), x towards y: x has sent its SYN and waits for y's, in SYN-SENT (3.10.7.3); y waits for a
+-- SYN, in LISTEN (3.10.7.2), or has taken x's and waits for the acknowledgement of its own, in SYN-RECEIVED (3.10.7.4). In none of these
+-- states has a connection ended
+pub record AreOpening (x y : PartyState) : Type 0 where
+  pub calls : x.endpoint.phase ≡ SynSent
+  pub answers : (y.endpoint.phase ≡ Listen) ⊎ (y.endpoint.phase ≡ SynReceived)
+
+-- ENDED IN ORDER, x before y or both (RFC 9293, 3.6): x has ended in order, and y's FIN is acknowledged to it; y wasn't reset, nor has it given
+-- up. Where TIME-WAIT ran out at x before the acknowledgement of y's FIN came, nobody is left to acknowledge it
+pub record HasEndedInOrder (x y : PartyState) : Type 0 where
+  pub over : x.endpoint.ending ≡ Orderly
+  pub fin_acked : is_fin_acked y.endpoint.sending ≡ true
+  pub stays : gave_up y ≡ false
+
 -- THROUGH, from x to y: y's user was handed all that x accepted, and all of it is acknowledged to x; where x's user closed, y's was handed
 -- the end of the stream, and the FIN is acknowledged to x; and x wasn't reset, nor has it given up
 pub record IsThrough (x y : PartyState) : Type 0 where
@@ -52,9 +67,15 @@ pub record HasStreamsOf (w v : WorldState) : Type 0 where
   pub closed_of_a : v.a.closed ≡ w.a.closed
   pub closed_of_b : v.b.closed ≡ w.b.closed
 
--- NOT STUCK: while both ends live there is a way on
-abbrev pub IsNotStuck : WorldState → Type 0
-IsNotStuck w = IsLive w.a → IsLive w.b → CanReach (λ v. IsSettled v × HasStreamsOf w v) w
+-- THERE IS A WAY ON, to a settled world of the same streams
+abbrev pub CanSettle : WorldState → Type 0
+CanSettle w = CanReach (λ v. IsSettled v × HasStreamsOf w v) w
+
+-- NOT STUCK: there is a way on while both ends live, while they are opening the connection, and once an end has ended in order
+pub record IsNotStuck (w : WorldState) : Type 0 where
+  pub live : IsLive w.a → IsLive w.b → CanSettle w
+  pub opening : AreOpening w.a w.b ⊎ AreOpening w.b w.a → CanSettle w
+  pub ended : HasEndedInOrder w.a w.b ⊎ HasEndedInOrder w.b w.a → CanSettle w
 
 -- the shortest lifetime of segments of which this is said, twice what a queue holds: what is in flight is a SYN or FIN and no more
 -- text than a queue holds, so that nothing of it expires

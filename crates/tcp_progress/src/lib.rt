@@ -1,15 +1,30 @@
-//! No world is stuck (RFC 9293, 3.8): while both ends live, some list of reads, timers, emissions and deliveries hands over and has
-//! acknowledged all that was accepted. Below it laws of one end, of what a segment brings and of what goes out whatever came
-//! before it (RFC 9293, 3.8.1, 3.8.6.1 and 3.10.7.4), and of two ends, of what always holds between them. They do nothing when
-//! they run: each is there for the law that it ensures.
+//! Laws of two ends that go on (RFC 9293, 3.8), whatever was lost, delayed, repeated, reordered or damaged before:
+//!
+//! - `no_world_is_stuck`: while both live, or are opening the connection, some list of reads, timers, emissions and deliveries hands
+//!   over and has acknowledged all that was accepted. `a_handshake_can_be_finished` says how few events open the connection.
+//! - `who_is_served_gets_through`: a caller's plain loop does so in so many turns, whatever the network does meanwhile. Beside it
+//!   `turns_can_be_had`, `each_burst_ends` and `what_is_left_never_grows`; and `who_is_served_opens`, of ends that are opening the
+//!   connection.
+//! - `every_world_is_steady` and `nothing_is_taken_before_it_is_sent`: what always holds between two ends.
+//!
+//! Below them laws of one end: what a segment brings (`what_is_next_is_taken`, `what_is_acknowledged_is_released`), and what goes
+//! out whatever came before it (`what_is_owed_is_told`, `what_is_in_flight_goes_out_again`, `what_is_unsent_goes_out`,
+//! `who_is_spoken_to_answers`; RFC 9293, 3.8.1, 3.8.6.1 and 3.10.7.4). They do nothing when they run: each is there for the law that
+//! it ensures.
 #![tactic(auto)]
 
 ghost use Rattle.tcp_progress.specs.Progress.{AckedIsReleased, OwedIsTold, TakesWhatIsNext};
 
+mod fair;
+mod opening;
 mod sending;
 mod sent;
 mod settled;
 
+pub use fair::{
+    each_burst_ends, turns_can_be_had, what_is_left_never_grows, who_is_served_gets_through,
+};
+pub use opening::{a_handshake_can_be_finished, who_is_served_opens};
 pub use sending::{
     what_is_in_flight_goes_out_again, what_is_unsent_goes_out, who_is_spoken_to_answers,
 };

@@ -16,8 +16,9 @@ pub fn every_world_is_steady()
 /// No world is stuck. However segments were lost, delayed, repeated, reordered or damaged, and whatever the users called: while
 /// both ends live there is a way on. Some finite list of reads, timers, emissions and deliveries, none of which is refused, hands
 /// over every byte that was accepted, has it acknowledged, and hands over the end of the stream where the other user closed, whose
-/// FIN is acknowledged; where both users closed, both ends then have ended in order, and no end was reset meanwhile. Segments live
-/// for 2^21 positions or longer.
+/// FIN is acknowledged; where both users closed, both ends then have ended in order, and no end was reset meanwhile. There is such
+/// a way, too, while one end is in SYN-SENT and the other in LISTEN or SYN-RECEIVED; and once an end has ended in order, where the
+/// FIN of the other, which was neither reset nor aborted, is acknowledged to it. Segments live for 2^21 positions or longer.
 pub fn no_world_is_stuck()
     ensures { NoWorldIsStuck }
 {}

@@ -105,7 +105,7 @@ fn next_timer(generator: &mut Generator) -> Timer {
 }
 
 /// A segment that arrives with a byte changed.
-fn next_damage(generator: &mut Generator, side: Side, k: usize) -> Event {
+pub(crate) fn next_damage(generator: &mut Generator, side: Side, k: usize) -> Event {
     let place = generator.below(24) as usize;
     let value = generator.below(255).saturating_add(1) % 256;
     Event::Damage(side, k, place, value as u8)

@@ -24,6 +24,11 @@ fn failed_of(world: &World, side: Side) -> u32 {
     ])
 }
 
+/// Whether both directions are handed over.
+pub(crate) fn is_handed_over(world: &World) -> bool {
+    failed_of(world, Side::A) == 0 && failed_of(world, Side::B) == 0
+}
+
 fn is_orderly(world: &World, side: Side) -> bool {
     world.endpoint(side).ending() == Ending::Orderly
 }

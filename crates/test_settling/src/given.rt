@@ -20,7 +20,7 @@ const SEGMENTS: usize = 45;
 const PIECES: usize = 33;
 
 /// Adds these events to a list.
-fn add<const N: usize>(
+pub(crate) fn add<const N: usize>(
     alloc: Global,
     events: &mut Vec<Event>,
     more: [Event; N],
@@ -37,7 +37,7 @@ fn half_open(alloc: Global) -> Result<Vec<Event>, AllocError> {
 }
 
 /// The whole handshake: A's segments 0 and 1, B's segment 0.
-fn open(alloc: Global) -> Result<Vec<Event>, AllocError> {
+pub(crate) fn open(alloc: Global) -> Result<Vec<Event>, AllocError> {
     let mut events = half_open(alloc)?;
     let more = [Event::Emit(Side::A), Event::Deliver(Side::A, 1)];
     add(alloc, &mut events, more)?;
@@ -57,7 +57,7 @@ fn fill(alloc: Global, events: &mut Vec<Event>, len: usize) -> Result<(), AllocE
 }
 
 /// B has four bytes and no room for the other six.
-fn told_shut(alloc: Global) -> Result<Vec<Event>, AllocError> {
+pub(crate) fn told_shut(alloc: Global) -> Result<Vec<Event>, AllocError> {
     let mut events = open(alloc)?;
     fill(alloc, &mut events, 10)?;
     Ok(events)
@@ -183,7 +183,7 @@ fn expired(alloc: Global) -> Result<Vec<Event>, AllocError> {
 }
 
 /// Ends with large buffers; or B takes four bytes; or 40, and both tell their windows in steps of 16,384.
-fn shape_of(number: u32) -> Shape {
+pub(crate) fn shape_of(number: u32) -> Shape {
     let (recv_capacity, window_shift) = match number {
         0 | 3 => (4, None),
         1 => (40, Some(14)),

@@ -1,7 +1,9 @@
 //! Worlds that settle: two ends after events of all kinds, made by a fixed generator or by hand, are led by events of
-//! network, clock and reader alone to where each user has all that the other one's end accepted. What is printed is how many
-//! worlds lived, what plain code found not to hold before, which kinds that are hard were among them, and what it found not
-//! to hold when they were settled, which is nothing.
+//! network, clock and reader alone to where each user has all that the other one's end accepted; and then, made anew, by turns of
+//! a caller's loop, whatever the network does between turns and in them. What is printed is how many worlds lived, what plain
+//! code found not to hold before, which kinds that are hard were among them, and what it found not to hold when they were
+//! settled, which is nothing; how many came through by no more turns than there was left, and one, which is all; and what
+//! becomes of worlds under loops that aren't turns.
 #![tactic(auto)]
 
 mod configs;
@@ -12,8 +14,11 @@ mod generator;
 mod given;
 mod kinds;
 mod places;
+mod rows;
 mod segments;
 mod tally;
+mod turns;
+mod walks;
 mod way;
 
 use configs::shape_of;
@@ -22,11 +27,13 @@ use facts::AllAsked;
 use failure::Failure;
 use generator::Generator;
 use given::{ASKED, COUNT, given};
+use rows::Rows;
 use std::alloc::Global;
 use std::io;
 use std::process::ExitCode;
 use tally::Tally;
 use tcp_replay::{Event, World};
+use walks::Walks;
 
 const WORLDS: u32 = 1000;
 
@@ -59,22 +66,36 @@ fn run_events(
     Ok(())
 }
 
-/// The world of this number.
-fn run_world(alloc: Global, number: u32, tally: &mut Tally) -> Result<(), Failure> {
-    let mut generator = Generator::new(u64::from(number));
-    let shape = shape_of(&mut generator);
+/// The world that comes of these numbers, and how long segments live there.
+fn make_world(alloc: Global, generator: &mut Generator) -> Result<(World, u32), Failure> {
+    let shape = shape_of(generator);
     let Some(mut world) = shape.world(alloc) else {
         return Err(Failure);
     };
-    open(&mut generator, &mut world);
-    let habit = habit_of(&mut generator, shape.is_large());
-    run_events(alloc, &mut generator, habit, &mut world)?;
-    tally.take(alloc, &mut world, shape.life)
+    open(generator, &mut world);
+    let habit = habit_of(generator, shape.is_large());
+    run_events(alloc, generator, habit, &mut world)?;
+    Ok((world, shape.life))
 }
 
-fn run_worlds(alloc: Global, tally: &mut Tally) -> Result<(), Failure> {
+/// The world of this number, which is led to its end.
+fn run_world(alloc: Global, number: u32, tally: &mut Tally) -> Result<(), Failure> {
+    let mut generator = Generator::new(u64::from(number));
+    let (mut world, life) = make_world(alloc, &mut generator)?;
+    tally.take(alloc, &mut world, life)
+}
+
+/// The same world under turns.
+fn walk_world(alloc: Global, number: u32, walks: &mut Walks) -> Result<(), Failure> {
+    let mut generator = Generator::new(u64::from(number));
+    let (mut world, _) = make_world(alloc, &mut generator)?;
+    walks.take(alloc, &mut generator, &mut world)
+}
+
+fn run_worlds(alloc: Global, tally: &mut Tally, walks: &mut Walks) -> Result<(), Failure> {
     for number in 0..WORLDS {
         run_world(alloc, number, tally)?;
+        walk_world(alloc, number, walks)?;
     }
     Ok(())
 }
@@ -108,23 +129,40 @@ fn run_all_given(alloc: Global, tally: &mut Tally) -> Result<(), Failure> {
     if asked == ASKED { Ok(()) } else { Err(Failure) }
 }
 
-fn print_tallies(rt: &impl Print, random: &Tally, by_hand: &Tally) -> io::Result<()> {
-    println!(rt; "random:")?;
-    random.print(rt)?;
-    println!(rt; "by hand:")?;
-    by_hand.print(rt)
+/// What is counted of all.
+#[derive(Clone, Copy, Default)]
+struct Tallies {
+    random: Tally,
+    by_hand: Tally,
+    walks: Walks,
+}
+
+impl Tallies {
+    fn run(&mut self, alloc: Global) -> Result<(), Failure> {
+        run_worlds(alloc, &mut self.random, &mut self.walks)?;
+        run_all_given(alloc, &mut self.by_hand)
+    }
+
+    fn print(&self, rt: &impl Print, rows: &Rows) -> io::Result<()> {
+        println!(rt; "random:")?;
+        self.random.print(rt)?;
+        println!(rt; "by hand:")?;
+        self.by_hand.print(rt)?;
+        println!(rt; "random, under turns:")?;
+        self.walks.print(rt)?;
+        rows.print(rt)
+    }
 }
 
 fn main(rt: HostRuntime) -> ExitCode {
-    let mut random = Tally::default();
-    let mut by_hand = Tally::default();
-    if run_worlds(rt.alloc(), &mut random).is_err() {
+    let mut tallies = Tallies::default();
+    if tallies.run(rt.alloc()).is_err() {
         return ExitCode::FAILURE;
     }
-    if run_all_given(rt.alloc(), &mut by_hand).is_err() {
+    let Ok(rows) = Rows::run(rt.alloc()) else {
         return ExitCode::FAILURE;
-    }
-    match print_tallies(&rt, &random, &by_hand) {
+    };
+    match tallies.print(&rt, &rows) {
         Ok(()) => ExitCode::SUCCESS,
         Err(_) => ExitCode::FAILURE,
     }

@@ -1,0 +1,5 @@
+use Rattle.tcp_progress.proofs.Had.{turns_lem}
+use Rattle.tcp_progress.proofs.fair.turns_can_be_had.Goals as goal
+
+pub returns : goal.returns
+returns c = turns_lem

@@ -1,0 +1,5 @@
+use Rattle.tcp_progress.proofs.Everywhere.{left_lem}
+use Rattle.tcp_progress.proofs.fair.what_is_left_never_grows.Goals as goal
+
+pub returns : goal.returns
+returns c = left_lem

@@ -1,0 +1,6 @@
+use Rattle.tcp_progress.proofs.Lowering.{lowers_lem}
+use Rattle.tcp_progress.proofs.Turning.{served_lem}
+use Rattle.tcp_progress.proofs.fair.who_is_served_gets_through.Goals as goal
+
+pub returns : goal.returns
+returns c = served_lem lowers_lem
