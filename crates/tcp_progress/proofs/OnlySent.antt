@@ -1,6 +1,6 @@
 -- NOTHING IS TAKEN BEFORE IT IS SENT, on the definitions: every event keeps it.
-use Rattle.std.proofs.Common.{◌≡◌, ℕ, suc, ◌+◌, ◌-◌, ◌^◌, ◌<◌, ◌≤◌, List, [], ◌∷◌, length, drop, sym, ap, subst, ⊎_elim, arith, length-drop, refl, zero, ◌∙◌}
-use Rattle.std.proofs.Common.{length-take}
+use Rattle.std.proofs.Common.{◌≡◌, ℕ, suc, ◌+◌, ◌-◌, ◌^◌, ◌<◌, ◌≤◌, List, [], ◌∷◌, length, drop, sym, ap, subst, ⊎_elim, arith, length-drop, refl, zero}
+use Rattle.std.proofs.Common.{◌∙◌, length-take}
 use Rattle.std.specs.Prelude.{min, ℤ, true, false, not, ◌==◌, Option, Some, None, slice_get}
 use Rattle.std.proofs.lemmas.Bool.{cases_lt, and_parts, cond_both, eqb-false, not-true, false≢true}
 use Rattle.tcp_wire.specs.Position.{number, offset, position_of}
@@ -12,8 +12,9 @@ use Rattle.tcp_conn.specs.Phase.{takes_text, is_syn_received, gives_up}
 use Rattle.tcp_conn.specs.State.{State, Receiving, Sending}
 use Rattle.tcp_conn.specs.Judgement.{count_numbers, position_near}
 use Rattle.tcp_conn.specs.Receiver.{after_text, is_fin_due, with_fin, with_syn, after_handing, without_bytes}
-use Rattle.tcp_conn.specs.Arrival.{has_fin, takes_fin, after_own_syn, after_acked_text, after_news, after_peer_opens, after_peer_accepts}
+use Rattle.tcp_conn.specs.Arrival.{has_fin, takes_fin, after_own_syn, after_acked_text, after_news, after_peer_opens, after_peer_accepts, after_arrival}
 use Rattle.tcp_replay.specs.World.{PartyState, address_of, SentSegment, WorldState, new_party, new_world_with, refusal_of, world_with_effect}
+use Rattle.tcp_replay.specs.World.{delivery_refusal, max_life, segment_at, sent_at}
 use Rattle.tcp_replay.specs.Truthful.{IsTruthful}
 use Rattle.tcp_replay.specs.Safe.{witness_of}
 use Rattle.tcp_replay.proofs.Lists.{one_if, one_if-false, one_if-most}
@@ -27,7 +28,8 @@ use Rattle.tcp_conn.specs.Endings.{after_giving_up}
 use Rattle.tcp_replay.specs.Sound.{IsSoundPair, IsSound}
 use Rattle.tcp_replay.proofs.Phases.{end-closed, end-listen, end-syn_sent, handshake-una}
 use Rattle.tcp_replay.proofs.Alone.{same-news}
-use Rattle.tcp_replay.proofs.Events.{Arrives, after_segment, AllSaid, Both, PairKept, Speaks, both-swapped, due-position, in-world, said-after, said-back}
+use Rattle.tcp_replay.proofs.Events.{arrival-ok, comes, delivered-there, own-decodes, segment-sent, Arrives, after_segment, AllSaid, Both, PairKept, Speaks}
+use Rattle.tcp_replay.proofs.Events.{both-swapped, due-position, in-world, said-after, said-back}
 use Rattle.tcp_replay.proofs.Calls.{KeptByCalls}
 use Rattle.tcp_replay.proofs.Arrivals.{on-arrival}
 use Rattle.tcp_halves.specs.declared.config.Config.{Config}
@@ -278,6 +280,25 @@ sent-moved p p' q pair moved out reaches h = record {
     emitted = said-back p p' q (EndsBy q.endpoint.sending.nxt) moved.config h.back.emitted;
   };
 }
+
+-- what both keep, and a segment that was emitted is delivered
+abbrev pub KeepBothSent : PartyState → PartyState → Type 0
+KeepBothSent x y = Both KeepsSent x y
+
+pub sent-swapped : (p q : PartyState) → KeepBothSent p q → KeepBothSent q p
+sent-swapped p q h = both-swapped KeepsSent p q h
+
+pub delivered-reaches : (p q : PartyState) (life k : ℕ) → life ≤ max_life → delivery_refusal life q p k ≡ None → IsSoundPair p q → KeepBothSent p q
+    → Reaches p q (after_arrival p.endpoint q.endpoint.config.addr.0 p.endpoint.config.addr.0 (segment_at q k))
+delivered-reaches p q life k most e pair h =
+    let g = sent_at q k in
+    let there = delivered-there life p q k e in
+    let sent = segment-sent q k there.0 in
+    let own = pair.own_back k g sent in
+    let read = own-decodes q p g own in
+    let a : Arrives p q g own.content = record { place = k; sent = sent; read = read; comes = comes p q life g most there.1 pair own } in
+    subst (λ (s : State). Reaches p q s) (sym (arrival-ok p.endpoint q.endpoint.config.addr.0 p.endpoint.config.addr.0 g.bytes own.content read))
+    (reaches-arrive p q g own.content pair a (h.back.emitted k g own.content sent read) h.there.taken)
 
 pub sent-kept : PairKept (λ _ _. Unit {0}) (Both KeepsSent) (λ p q s _. Reaches p q s)
 sent-kept = record {
