@@ -10,7 +10,7 @@ import subprocess
 import sys
 import time
 
-sys.path.insert(0, str(pathlib.Path(__file__).resolve().parent.parent / "usernet"))
+sys.path.insert(0, str(pathlib.Path(__file__).resolve().parent.parent / "apps/usernet"))
 import world
 from world import CLIENTS, GATEWAY, SERVERS
 

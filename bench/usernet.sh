@@ -1,7 +1,7 @@
 #!/usr/bin/env bash
 # usernet beside slirp4netns and pasta in turns within one run: bytes a second each way, processor time a GiB,
 # connections a second, the time to connect and to the first byte, and memory a connection; the median of three turns
-# of each, as a table and, by gnuplot, as docs/usernet.svg. It wants what usernet/test.sh wants, and installs
+# of each, as a table and, by gnuplot, as docs/usernet.svg. It wants what apps/usernet/test.sh wants, and installs
 # slirp4netns, passt and gnuplot-nox by apt-get.
 set -euo pipefail
 cd "$(dirname "$0")"
@@ -11,5 +11,5 @@ for package in slirp4netns passt gnuplot-nox; do
 done
 mkdir -p out
 gcc -std=c11 -O2 -Wall -Wextra -Wpedantic -Werror traffic.c -o out/traffic
-../usernet/build.sh "$library"
+../apps/usernet/build.sh "$library"
 python3 usernet.py ../docs/usernet.svg

@@ -1,5 +1,5 @@
 //! The replay for a page, a WebAssembly module that imports nothing: each exported function works in a block of memory that it
-//! is handed, and writes its text to where its caller says. web/MODULE.md tells how they are called.
+//! is handed, and writes its text to where its caller says. apps/web/MODULE.md tells how they are called.
 //!
 //! ```c
 //! typedef struct { void *at; size_t size; } tcp_web_block;

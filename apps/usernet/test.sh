@@ -1,0 +1,28 @@
+#!/usr/bin/env bash
+# usernet under real clients, in namespaces of its own: apps/usernet/test.sh [LIBRARY] [WORD ..]. The words behind are test.py's:
+# --short, or --only WORD. It wants root, network namespaces and /dev/net/tun, and installs packages by apt-get where this
+# machine lacks them; where one is missing it fails, or, with LEAVE_OUT=1 in the environment, says so and leaves the run out.
+set -euo pipefail
+cd "$(dirname "$0")"
+test=usernet
+. ../../checks/lib.sh
+library=$(realpath -m "${1:-../../crates/tcp_c/out/libtcp_c.a}")
+shift || true
+
+need_network
+need_tun
+install_commands <<'LIST'
+ip iproute2
+curl curl
+git git
+nginx nginx-light
+iperf3 iperf3
+redis-server redis-server
+redis-benchmark redis-tools
+psql postgresql
+sshd openssh-server
+scp openssh-client
+LIST
+[[ -e $library ]] || { echo "usernet: no $library: run 'rt lib' in crates/tcp_c"; exit 1; }
+./build.sh "$library"
+exec python3 test.py "$@"

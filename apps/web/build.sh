@@ -1,0 +1,31 @@
+#!/usr/bin/env bash
+# Builds out/tcp_web.wasm: crates/tcp_web, proved over the crates below it, for WebAssembly with 64-bit memory; and
+# out/tcp.html, the page in one file, with that module in it.
+# The gate takes no crate for another machine: crates.txt has it as a library for this one, so that the gate proves it,
+# and here it is proved once more and built in a folder of its own with copies of the crates that it stands on,
+# apps/web/out/build; or here, with --here, where all of this is such a copy.
+set -euo pipefail
+cd "$(dirname "$0")/../.."
+place=apps/web/out/build
+mkdir -p "$place/crates" apps/web/out
+
+# No program, and no library for C.
+lines='^(tcp_[a-z_]+|kit_io|region_heap):'
+if [[ ${1-} == --here ]]; then
+    [[ ! -e .git ]] || { echo "apps/web/build.sh: with --here it changes crates.txt, and here is no copy"; exit 1; }
+    place=.
+else
+    # Without what a check keeps beside them.
+    libraries=$(sed -nE "s/$lines.*/crates\/\1/p" crates.txt)
+    tar --exclude=out -cf - HANDLES crates/tcp_web $libraries | tar -xf - -C "$place"
+fi
+# 256 MiB of memory, which is there once it is written to, and 1 MiB of it for the stack.
+listed=$(
+    grep -E "$lines" crates.txt
+    sed -n 's/^tcp_web staticlib:/tcp_web wasm64 memory=268435456 stack=1048576:/p' crates.txt
+)
+echo "$listed" >"$place/crates.txt"
+(cd "$place/crates/tcp_web" && rt lib)
+cp "$place/crates/tcp_web/out/tcp_web.wasm" apps/web/out/tcp_web.wasm
+ls -l apps/web/out/tcp_web.wasm
+python3 apps/web/pack.py apps/web/out/tcp_web.wasm apps/web/out/tcp.html

@@ -1,0 +1,82 @@
+/*
+ * demux.h: a port at which many peers are served, each by an end of its own (RFC 9293, 3.3.1 and 3.10.7).
+ *
+ * This is C over tcpcore.h, flow.h and table.h, tested and not proved. It deals each segment to the end of its
+ * addresses and ports, makes an end for each SYN, answers by a reset where there is no end, and keeps the limits that
+ * a flood of SYNs calls for (RFC 4987). All tables are the caller's, and so is the memory of the
+ * ends.
+ *
+ * In every turn of its loop the caller hands what came to demux_arrive, calls demux_turn, and waits for demux_wait
+ * milliseconds at most. `now` is a count of milliseconds that never goes back.
+ *
+ * Where nothing is under way no timer runs: an end whose peer vanished then stays until its user aborts it (keep-alives
+ * are the user's, RFC 9293, 3.8.4). examples/echo.c is a whole program on all companions.
+ */
+#ifndef TCPCORE_DEMUX_H
+#define TCPCORE_DEMUX_H
+
+#include "table.h"
+
+/* What happened so far. */
+struct demux_counters {
+    uint64_t arrived;   /* segments */
+    uint64_t malformed; /* of them none by tcpcore_arrive */
+    uint64_t emitted;   /* segments of ends */
+    uint64_t resent;    /* of them sent again */
+    uint64_t opened;    /* ends made for a SYN */
+    uint64_t accepted;  /* of them with the handshake done */
+    uint64_t recycled;  /* half-open ends that made way for a newer one (RFC 4987, 3.4) */
+    uint64_t full;      /* SYNs that were dropped: no slot */
+    uint64_t strays;    /* resets for no end */
+    uint64_t withheld;  /* strays that weren't answered: too many in this second */
+    uint64_t orderly, reset, aborted; /* how ends ended */
+    uint64_t gave_up;   /* of the aborted those that the timers gave up */
+};
+
+/* What a table is made from. */
+struct demux_config {
+    tcpcore_config end;        /* of each end; its isn is chosen here */
+    void *memory;              /* the blocks of all slots' ends, tcpcore_room(&end) bytes for each slot */
+    size_t length;             /* how many bytes these are */
+    struct timers_rules rules; /* of each end; a syn_ack_limit of some seconds frees half-open ends (RFC 4987, 3.3) */
+    uint32_t delay;            /* how long an acknowledgement may wait, in milliseconds: FLOW_DELAY, or 0 */
+    uint32_t backlog;          /* the most half-open ends, at least 1 (RFC 4987, 3.2) */
+    uint32_t strays;           /* the most resets for no end in a second */
+    uint8_t secret[16];        /* random: of the initial sequence numbers and of the table (RFC 9293, 3.4.1) */
+    /* The user of an end, called once its handshake is done and then whenever something may have changed. It reads and
+       sends by flow_receive and flow_send. */
+    void (*use)(struct table_slot *slot, void *context);
+    /* Takes a segment for `to`, to be put behind an IPv4 header. */
+    void (*send)(const void *segment, size_t length, tcpcore_addr to, void *context);
+    void *context;
+};
+
+struct demux {
+    struct demux_config config;
+    struct demux_counters counters;
+    struct table table;
+    size_t room;               /* the bytes of an end's block */
+    uint64_t second, answered; /* the second in which the last stray came, and resets in it */
+};
+
+/* Sets a table of `count` slots, at least 2; one of them is always free. Refused, with 0, where a number or the memory is
+   too small, or no end has this config's capacities. */
+int demux_init(struct demux *demux, const struct demux_config *config, struct table_slot *slots, uint32_t count);
+
+/*
+ * A TCP segment of `length` bytes has come from `src` to the own address. Out of order, or where it fills a gap, it is
+ * answered at once (RFC 5681, 4.2); else by demux_turn. `src` can be a peer's: ip_read has tested that.
+ */
+void demux_arrive(struct demux *demux, tcpcore_addr src, const void *segment, size_t length, uint64_t now);
+
+/* It is `now`: runs the timers, calls the users, emits what is due, and frees the ends that have ended. */
+void demux_turn(struct demux *demux, uint64_t now);
+
+/* The next deadline is in so many milliseconds: 0 where there is work, -1 where there is no deadline, as poll
+   takes it. */
+int demux_wait(const struct demux *demux, uint64_t now);
+
+/* Frees all ends without a word to their peers. */
+void demux_free(struct demux *demux);
+
+#endif

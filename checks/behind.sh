@@ -1,0 +1,44 @@
+#!/usr/bin/env bash
+# What the gate doesn't look at: the program's exit statuses and its lines on standard error, what it does where memory is refused,
+# whether the documents show what stands in the repository, scripts and C as linters read them, the programs against second ones,
+# the C library under its tests and against this machine's kernel, real clients over usernet, captures, and the replay as a
+# WebAssembly module.
+# checks/behind.sh FOLDER writes how many of these passed into FOLDER/behind. The libraries and the module are built over what the
+# gate has proved, and after it: two builds at once wait for one another.
+set -euo pipefail
+cd "$(dirname "$0")/.."
+folder=$1
+passed=0
+
+# Each within 20 minutes, so that one that waits for ever is seen as such.
+behind() {
+    local start=$SECONDS
+    timeout --kill-after=1m 20m "$@"
+    passed=$((passed + 1))
+    echo "behind: '$*' passed in $((SECONDS - start)) seconds"
+}
+
+# The C library for a machine, as FOLDER/NAME.a; the words are those of rt lib.
+library() {
+    local name=$1
+    shift
+    (cd crates/tcp_c && rt lib "$@" && mv out/libtcp_c.a "$folder/$name.a")
+}
+
+behind checks/program/statuses.sh
+behind checks/program/memory.sh
+behind python3 checks/docs/readme.py
+behind checks/lint.sh
+behind checks/lib_test.sh
+behind checks/differential/test.sh
+library libtcp_c.aarch64 --target aarch64-unknown-linux-gnu
+library libtcp_c
+apps/web/build.sh
+behind c/tcpcore/test.sh "$folder/libtcp_c.a"
+behind c/tcpcore/test.sh --target aarch64 "$folder/libtcp_c.aarch64.a"
+behind c/companions/test.sh "$folder/libtcp_c.a"
+behind checks/live/run.sh
+behind apps/usernet/test.sh "$folder/libtcp_c.a" --short
+behind apps/capture/test.sh
+behind apps/web/test.sh apps/web/out/tcp_web.wasm
+echo "$passed" >"$folder/behind"

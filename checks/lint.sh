@@ -1,0 +1,27 @@
+#!/usr/bin/env bash
+# Reads all scripts by shellcheck, and the C library's layer, its companions and usernet by clang-tidy. It installs both by
+# apt-get where this machine lacks them; where that fails it fails, or, with LEAVE_OUT=1 in the environment, says what it leaves
+# out.
+set -euo pipefail
+cd "$(dirname "$0")/.."
+test=lint
+. checks/lib.sh
+# The C11 functions with bounds that the analyzer asks for aren't in Debian's C library, and the structs of Linux and of a
+# feature test have reserved names.
+checks='-*,clang-analyzer-*,-clang-analyzer-security.insecureAPI.DeprecatedOrUnsafeBufferHandling'
+checks+=',bugprone-*,-bugprone-easily-swappable-parameters,-bugprone-reserved-identifier'
+passed=0
+
+if has shellcheck shellcheck --version; then
+    mapfile -t scripts < <(find . -name '*.sh' -not -path '*/out/*' -not -name lib.sh -not -name common.sh | sort)
+    # Those two are read where they are sourced.
+    shellcheck -a -x -P SCRIPTDIR -S warning -e SC2046,SC2120 .ci/run "${scripts[@]}"
+    passed=$((passed + 1 + ${#scripts[@]}))
+fi
+if has clang-tidy clang-tidy --version; then
+    for source in c/tcpcore/*.c c/companions/*.c apps/usernet/*.c; do
+        clang-tidy --quiet --warnings-as-errors='*' --checks="$checks" "$source" -- -std=c11 -Ic -Ic/tcpcore 2>/dev/null
+        passed=$((passed + 1))
+    done
+fi
+echo "lint: $passed passed, $left_out left out"
