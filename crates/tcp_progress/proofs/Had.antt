@@ -237,7 +237,8 @@ has-turn w h =
     after-append w reads (both ++ events) ∙ after-append v both events ∙ ap (λ (z : WorldState). world_after_all z events)
     (after-append v (served A one.count) (served B two.count)) in
     let later = served B two.count ++ g.there in
-    let first-among : AreAmong from-a later = λ from k h. among-right (served B two.count) g.there from k (g.among from k (among-left from-a from-b from k h)) in
+    let first-among : AreAmong from-a later = λ from k h.
+    among-right (served B two.count) g.there from k (g.among from k (among-left from-a from-b from k h)) in
     let first-comes : AllCome v (served A one.count) later = (tt, burst-comes one.count va A later first-among) in
     record {
       turn = reads ++ (both ++ (g.there ++ g.back));
