@@ -144,7 +144,7 @@ fn syn_unknown(alloc: Global) -> Result<Vec<Event>, AllocError> {
 }
 
 /// Each has the other's byte, neither was told so, and what B has to send again waits.
-fn untold(alloc: Global) -> Result<Vec<Event>, AllocError> {
+pub(crate) fn untold(alloc: Global) -> Result<Vec<Event>, AllocError> {
     let mut events = open(alloc)?;
     let more = [
         Event::Send(Side::A, text(alloc, 1, 1)?),

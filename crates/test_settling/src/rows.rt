@@ -4,7 +4,7 @@ use crate::configs::Shape;
 use crate::events::{late_opening, text};
 use crate::failure::Failure;
 use crate::generator::Generator;
-use crate::given::{add, open, shape_of, told_shut};
+use crate::given::{add, open, shape_of, told_shut, untold};
 use crate::places::left_in;
 use crate::turns::{emit_all, happen, read_both, serve, take_turns};
 use std::alloc::{AllocError, Global};
@@ -49,21 +49,6 @@ fn round_shut(world: &mut World) -> Result<(), Failure> {
         return Err(Failure);
     }
     serve(world, Side::B)
-}
-
-/// Each has the other's byte, and neither was told so.
-fn untold(alloc: Global) -> Result<Vec<Event>, AllocError> {
-    let mut events = open(alloc)?;
-    let more = [
-        Event::Send(Side::A, text(alloc, 1, 1)?),
-        Event::Send(Side::B, text(alloc, 2, 1)?),
-        Event::Emit(Side::A),
-        Event::Emit(Side::B),
-        Event::Deliver(Side::A, 2),
-        Event::Deliver(Side::B, 1),
-    ];
-    add(alloc, &mut events, more)?;
-    Ok(events)
 }
 
 /// The timeout comes before each single emission, and what goes out arrives.
