@@ -10,7 +10,6 @@ use Rattle.tcp_sendq.specs.SendQueue.{Queue, count_leading, first_unmarked, next
 use Rattle.tcp_halves.specs.declared.due.Due.{Due}
 use Rattle.tcp_halves.specs.declared.due.Due.TheVariants.{Reset, Syn, Resend, NewText, Fin, ResentFin, Acknowledgement}
 use Rattle.tcp_halves.specs.declared.link.WaitingReset.{WaitingReset}
-use Rattle.tcp_halves.specs.declared.phase.Timer.TheVariants.{Retransmit}
 use Rattle.tcp_halves.specs.Phase.{sends_text}
 use Rattle.tcp_halves.specs.Sender.{Sending, end_of_text, place_of, position_at}
 use Rattle.tcp_conn.specs.State.{State}
@@ -19,11 +18,11 @@ use Rattle.tcp_conn.specs.Due.{syn_due, text_due, text_limit}
 use Rattle.tcp_conn.specs.Emission.{state_after}
 use Rattle.tcp_replay.specs.declared.event.Side.{Side}
 use Rattle.tcp_replay.specs.declared.event.Side.TheVariants.{A, B}
-use Rattle.tcp_replay.specs.Events.{Emit, Timer}
+use Rattle.tcp_replay.specs.Events.{Emit}
 use Rattle.tcp_replay.specs.World.{WorldState, effect_of, other, party_after_emission, party_of, world_after, world_after_all}
 use Rattle.tcp_replay.proofs.Dues.{option_or-both}
 use Rattle.tcp_replay.proofs.Lists.{one_if}
-use Rattle.tcp_progress.specs.Fair.{BurstEnds, EachBurstEnds, IsIdle, served}
+use Rattle.tcp_progress.specs.Fair.{BurstEnds, EachBurstEnds}
 use Rattle.tcp_progress.specs.Measure.{all_of}
 use Rattle.tcp_progress.proofs.Again.{emission}
 use Rattle.tcp_progress.proofs.AlwaysSteady.{IsKept}
@@ -232,8 +231,3 @@ burst-ends w side h =
 -- in every world
 pub burst_lem : EachBurstEnds
 burst_lem = in-every-world (λ w. (side : Side) → BurstEnds w side) (λ w h side. burst-ends w side h)
-
--- and so where one side is served
-pub served-ends : (w : WorldState) (side : Side) → IsKept w → (count : ℕ) × IsIdle (world_after_all w (served side count)) side
-unfolding world_after_all
-served-ends w side h = burst-ends (world_after w (Timer side Retransmit)) side (steps-event w (Timer side Retransmit) tt h).kept

@@ -11,8 +11,8 @@ use Rattle.tcp_replay.specs.declared.event.Side.{Side}
 use Rattle.tcp_replay.specs.declared.event.Side.TheVariants.{A, B}
 use Rattle.tcp_replay.specs.Events.{EventContent, Emit, Deliver, Timer}
 use Rattle.tcp_replay.specs.World.{WorldState, effect_of, other, party_after_emission, party_of, world_after, world_after_all}
-use Rattle.tcp_progress.specs.Fair.{AllCome, CanHaveTurns, Comes, Delivers, IsCalm, IsIdle, IsTurn, IsUntimed, NoneGaveUp, TurnsCanBeHad, both_served}
-use Rattle.tcp_progress.specs.Fair.{emissions, is_reset, reads, served}
+use Rattle.tcp_progress.specs.Fair.{AllCome, CanHaveTurns, Comes, Delivers, IsIdle, IsTurn, IsUntimed, NoneGaveUp, TurnsCanBeHad, both_served}
+use Rattle.tcp_progress.specs.Fair.{IsCalm, emissions, is_reset, reads, served}
 use Rattle.tcp_progress.proofs.AlwaysSteady.{IsKept}
 use Rattle.tcp_progress.proofs.Behind.{emissions-other}
 use Rattle.tcp_progress.proofs.CalmWorlds.{Steps, steps-all, steps-event}
@@ -20,7 +20,7 @@ use Rattle.tcp_progress.proofs.Coming.{AreAmong, among-left, among-right, come-b
 use Rattle.tcp_progress.proofs.Draining.{burst-ends}
 use Rattle.tcp_progress.proofs.Everywhere.{in-every-world}
 use Rattle.tcp_progress.proofs.Plain.{GoesSafely, IsFine, IsNoReset, IsSafe, goes-safely, no_reset-emitted, no_reset-later, safe-later}
-use Rattle.tcp_progress.proofs.Turning.{after-append, calm-emissions}
+use Rattle.tcp_progress.proofs.Turning.{after-append, all-append, all-untimed, calm-emissions}
 use Rattle.tcp_progress.proofs.Going.{side-pair}
 
 -- ---- WHAT IS BROUGHT of so many emissions of a side: each segment that goes out, but no reset
@@ -87,21 +87,9 @@ deliveries-untimed : (events : List EventContent) → AllByRecursion IsDelivery 
 deliveries-untimed [] h = tt
 deliveries-untimed (event ∷ events) h = (delivery-untimed event h.0, deliveries-untimed events h.1)
 
-delivery-calm : (event : EventContent) → IsDelivery event → IsCalm event
-delivery-calm (Deliver from k) h = tt
-delivery-calm event h = absurd h
-
-deliveries-calm : (events : List EventContent) → AllByRecursion IsDelivery events → AllByRecursion IsCalm events
-deliveries-calm [] h = tt
-deliveries-calm (event ∷ events) h = (delivery-calm event h.0, deliveries-calm events h.1)
-
 untimed-emissions : (side : Side) (n : ℕ) → AllByRecursion IsUntimed (emissions side n)
 untimed-emissions side zero = tt
 untimed-emissions side (suc n) = (tt, untimed-emissions side n)
-
-all-append : (P : EventContent → Type 0) (xs ys : List EventContent) → AllByRecursion P xs → AllByRecursion P ys → AllByRecursion P (xs ++ ys)
-all-append P [] ys h k = k
-all-append P (x ∷ xs) ys h k = (h.0, all-append P xs ys h.1 k)
 
 -- ---- NONE OF THEM IS A RESET
 emit-no_reset : (w : WorldState) (side : Side) (k : ℕ) → IsNoReset (party_after_emission (party_of w side)) (party_of w (other side)) k
@@ -195,7 +183,7 @@ are-answered w sent delivered safe h =
       among = among-left sent emitted;
       untimed = all-append _ sent emitted (deliveries-untimed sent delivered)
           (all-append _ (emissions A one.count) (emissions B two.count) (untimed-emissions A one.count) (untimed-emissions B two.count));
-      calm = deliveries-calm back (all-append _ from-a from-b (all-brought one.count y A) (all-brought two.count ya B));
+      calm = all-untimed back (deliveries-untimed back (all-append _ from-a from-b (all-brought one.count y A) (all-brought two.count ya B)));
       idle_a = holds-at (λ u. IsIdle u A) (world_after_all w (sent ++ emitted)) yb end (ap (λ p. due_of p.endpoint) unmoved ∙ one.idle);
       idle_b = holds-at (λ u. IsIdle u B) (world_after_all w (sent ++ emitted)) yb end two.idle;
       comes = come-both w sent emitted back (deliveries-come w sent (emitted ++ back) delivered)
@@ -237,7 +225,8 @@ has-turn w h =
     after-append w reads (both ++ events) ∙ after-append v both events ∙ ap (λ (z : WorldState). world_after_all z events)
     (after-append v (served A one.count) (served B two.count)) in
     let later = served B two.count ++ g.there in
-    let first-among : AreAmong from-a later = λ from k h. among-right (served B two.count) g.there from k (g.among from k (among-left from-a from-b from k h)) in
+    let first-among : AreAmong from-a later = λ from k h.
+    among-right (served B two.count) g.there from k (g.among from k (among-left from-a from-b from k h)) in
     let first-comes : AllCome v (served A one.count) later = (tt, burst-comes one.count va A later first-among) in
     record {
       turn = reads ++ (both ++ (g.there ++ g.back));

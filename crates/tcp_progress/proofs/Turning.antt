@@ -43,10 +43,15 @@ pub all-untimed : (events : List EventContent) → AllByRecursion IsUntimed even
 all-untimed [] h = tt
 all-untimed (event ∷ events) h = (untimed-calm event h.0, all-untimed events h.1)
 
+-- what holds of each of some events and of each of others holds of both
+pub all-append : (Holds : EventContent → Type 0) (xs ys : List EventContent) → AllByRecursion Holds xs → AllByRecursion Holds ys
+    → AllByRecursion Holds (xs ++ ys)
+all-append Holds [] ys h k = k
+all-append Holds (x ∷ xs) ys h k = (h.0, all-append Holds xs ys h.1 k)
+
 -- calm events after calm events
 pub calm-append : (xs ys : List EventContent) → AllByRecursion IsCalm xs → AllByRecursion IsCalm ys → AllByRecursion IsCalm (xs ++ ys)
-calm-append [] ys h k = k
-calm-append (x ∷ xs) ys h k = (h.0, calm-append xs ys h.1 k)
+calm-append xs ys h k = all-append IsCalm xs ys h k
 
 -- emissions are calm
 pub calm-emissions : (side : Side) (n : ℕ) → AllByRecursion IsCalm (emissions side n)

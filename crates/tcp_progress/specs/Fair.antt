@@ -80,7 +80,8 @@ AllCome w (event ∷ events) later = Comes w event (events ++ later) × AllCome 
 
 -- ---- A TURN of the loop, there and back: the users read; one side is served, and then the other, each until nothing is due there; then
 -- the network brings all that both sent, and both answer until nothing is due at either; and what they answered comes. All this comes in
--- whatever order, and whatever else is calm happens meanwhile; but until both have answered no timer runs out. Resets may be lost
+-- whatever order, and whatever else is calm happens meanwhile; but until both have answered no timer runs out. Resets may be lost. A loop
+-- that serves both and then goes on until nothing is due at either makes turns with nothing on the way back
 pub record IsTurn (w : WorldState) (turn : List EventContent) : Type 0 where
   pub first : Side
   pub count : ℕ
