@@ -187,7 +187,7 @@ abbrev pub IsTakenOr : WorldState → List EventContent → Side → Type 0
 IsTakenOr w events side = Opens w events ⊎ (IsShaking (world_after_all w events) side ×
     ((party_of (world_after_all w events) (other side)).endpoint.phase ≡ SynReceived))
 
-pub taken-stays : (w : WorldState) (events : List EventContent) (side : Side) → AllByRecursion IsCalm events → IsShaking w side
+taken-stays : (w : WorldState) (events : List EventContent) (side : Side) → AllByRecursion IsCalm events → IsShaking w side
     → (party_of w (other side)).endpoint.phase ≡ SynReceived
     → NoneGaveUp (world_after_all w events) → IsTakenOr w events side
 taken-stays w events side calm h received up =

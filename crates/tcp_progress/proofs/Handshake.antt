@@ -41,12 +41,14 @@ unopened-listen p q h phase =
     let s = p.endpoint in
     at-listen s.phase s.ending s.sending.una s.sending.nxt s.receiving.opened s.receiving.finished (ap is_listening phase) h.pair.there.alone.progress
 
+-- in SYN-SENT
 pub opening : (p q : PartyState) → IsSteadyPair p q → p.endpoint.phase ≡ SynSent
     → (p.endpoint.ending ≡ NotEnded) × IsOpening p.endpoint.sending.nxt p.endpoint.receiving.opened
 opening p q h phase =
     let s = p.endpoint in
     at-syn_sent s.phase s.ending s.sending.una s.sending.nxt s.receiving.opened s.receiving.finished (ap is_syn_sent phase) h.pair.there.alone.progress
 
+-- in SYN-RECEIVED
 pub answering : (p q : PartyState) → IsSteadyPair p q → p.endpoint.phase ≡ SynReceived
     → (p.endpoint.ending ≡ NotEnded) × IsAnswering p.endpoint.sending.nxt p.endpoint.receiving.opened p.endpoint.receiving.finished
 answering p q h phase =
@@ -57,6 +59,7 @@ answering p q h phase =
 pub unopened-first : (p q : PartyState) → IsSteadyPair p q → p.endpoint.receiving.opened ≡ false → next_position p ≡ 1
 unopened-first p q h unopened = let none = h.pair.there.takes.unopened unopened in omega (arith, none.1, ap one_if none.2)
 
+-- of an end in SYN-SENT there is the SYN alone
 pub answering-first : (p q : PartyState) → IsSteadyPair p q → p.endpoint.phase ≡ SynReceived → q.endpoint.phase ≡ SynSent → next_position p ≡ 1
 answering-first p q h answers calls =
     omega (arith, h.back.sent.taken (answering p q h answers).1.is_opened, (opening q p (steady-back q p h) calls).1.nxt_is)
@@ -198,6 +201,7 @@ by-call {K} i life side p q h calls listens =
     turned-back (CanReachUnaided 4 (AreOpened K)) life side p' q' (by-answer i life (other side) q' p' (turned K life side p' q' h'') taken.1
     (still.phase ∙ calls))))
 
+-- IN EITHER STATE of who answers
 pub handshake : {K : WorldState → Type 0} → IsInvariant K → (life : ℕ) (side : Side) (p q : PartyState) → K (world_from life side p q) → AreOpening p q
     → CanReachUnaided 8 (AreOpened K) (world_from life side p q)
 handshake {K} i life side p q h opens =

@@ -23,6 +23,7 @@ kept-ending Orderly e = inr refl
 kept-ending Reset e = absurd (cc)
 kept-ending Aborted e = absurd (cc)
 
+-- NOTHING IS LEFT
 pub ended-on : (x y : PartyState) → IsSteadyPair x y → HasEndedInOrder x y → GoOn x y × (left_of_both x y ≡ 0)
 ended-on x y h ended =
     let s = x.endpoint in

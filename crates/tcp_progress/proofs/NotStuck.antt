@@ -59,10 +59,12 @@ not-stuck w h = record {
   ended = λ ended. of-streams w (ended-settles w h ended);
 }
 
+-- ---- IN EVERY WORLD
 pub not_stuck_lem : NoWorldIsStuck
 not_stuck_lem life a b list least most one two fits =
     let kept = kept-by_runs life a b list least most one two fits in
     (not-stuck _ kept.stops, not-stuck _ kept.goes_on)
 
+-- and of the handshake alone
 pub handshake_lem : HandshakesCanBeFinished
 handshake_lem = in-every-world CanOpen can-open

@@ -347,5 +347,6 @@ opens-and : (w : WorldState) → IsKept w → OpensAndGetsThrough w
 opens-and w h (inl opening) events turns up = opens-through w A events (record { kept = h; calls = opening.calls; answers = opening.answers }) turns up
 opens-and w h (inr opening) events turns up = opens-through w B events (record { kept = h; calls = opening.calls; answers = opening.answers }) turns up
 
+-- in every world
 pub opens_lem : WhoIsServedOpens
 opens_lem = in-every-world OpensAndGetsThrough opens-and

@@ -45,18 +45,22 @@ use Rattle.tcp_progress.proofs.Turning.{after-append}
 abbrev pub Answers : Phase → Type 0
 Answers phase = (phase ≡ Listen) ⊎ (phase ≡ SynReceived)
 
+-- from one phase to another
 abbrev pub GoesOn : Phase → Phase → Type 0
 GoesOn phase phase' = (phase' ≡ phase) ⊎ (phase' ≡ SynReceived)
 
+-- who answers goes on to do so
 pub answers-on : (phase phase' : Phase) → Answers phase → GoesOn phase phase' → Answers phase'
 answers-on phase phase' answers (inr received) = inr received
 answers-on phase phase' (inl listens) (inl same) = inl (same ∙ listens)
 answers-on phase phase' (inr received) (inl same) = inr (same ∙ received)
 
+-- and stays in SYN-RECEIVED
 pub received-on : (phase phase' : Phase) → phase ≡ SynReceived → GoesOn phase phase' → phase' ≡ SynReceived
 received-on phase phase' received (inl same) = same ∙ received
 received-on phase phase' received (inr is) = is
 
+-- one after another
 pub on-then : (phase phase' phase'' : Phase) → GoesOn phase phase' → GoesOn phase' phase'' → GoesOn phase phase''
 on-then phase phase' phase'' one (inr received) = inr received
 on-then phase phase' phase'' (inl same) (inl same') = inl (same' ∙ same)
@@ -167,6 +171,7 @@ side-moved w v A (inr there) = subst (λ (x : PartyState). IsMoved w.a x) (sym t
 side-moved w v B (inl here) = subst (λ (x : PartyState). IsMoved w.b x) (sym here.1) (moves-same w.b)
 side-moved w v B (inr there) = there.1
 
+-- no end has given up, on either side
 pub side-up : (w : WorldState) (side : Side) → NoneGaveUp w → gave_up (party_of w side) ≡ false
 side-up w A up = up.0
 side-up w B up = up.1
@@ -204,15 +209,18 @@ pub record IsShaking (w : WorldState) (side : Side) : Type 0 where
   pub calls : (party_of w side).endpoint.phase ≡ SynSent
   pub answers : Answers (party_of w (other side)).endpoint.phase
 
+-- who calls lives, has no SYN yet, and has sent its own alone
 pub caller : (w : WorldState) (side : Side) → IsShaking w side
     → ((party_of w side).endpoint.ending ≡ NotEnded) × ((party_of w side).endpoint.receiving.opened ≡ false) × ((party_of w side).endpoint.sending.nxt ≡ 1)
 caller w side h = let is = opening (party_of w side) (party_of w (other side)) (side-pair w side h.kept) h.calls in (is.0, is.1.not_opened, is.1.nxt_is)
 
+-- who is in SYN-RECEIVED is open
 pub answerer : (w : WorldState) (side : Side) → IsKept w → (party_of w (other side)).endpoint.phase ≡ SynReceived → IsLive (party_of w (other side))
 answerer w side h received =
     let is = answering (party_of w (other side)) (party_of w side) (steady-back (party_of w (other side)) (party_of w side) (side-pair w side h)) received in
     record { opened = is.1.is_opened; goes_on = is.0 }
 
+-- both, from either side
 pub both-open : (w : WorldState) (side : Side) → IsLive (party_of w side) → IsLive (party_of w (other side)) → AreOpen w
 both-open w A one two = record { a = one; b = two }
 both-open w B one two = record { a = two; b = one }
@@ -253,6 +261,7 @@ shakes-on w v side h kept moved on up =
           ]
     ]
 
+-- whatever is calm, refused or not
 pub shakes-event : (w : WorldState) (event : EventContent) (side : Side) → IsCalm event → IsShaking w side → NoneGaveUp (world_after w event)
     → ShakesOn w (world_after w event) side
 shakes-event w event side calm h =
@@ -269,14 +278,17 @@ pub record Opens (w : WorldState) (events : List EventContent) : Type 0 where
   pub is : events ≡ front ++ rest
   pub both : AreOpen (world_after_all w front)
 
+-- at once
 pub opens-here : (w : WorldState) (events : List EventContent) → AreOpen w → Opens w events
 unfolding world_after_all
 opens-here w events both = record { front = []; rest = events; is = refl; both = both }
 
+-- after one event
 pub opens-later : (w : WorldState) (event : EventContent) (events : List EventContent) → Opens (world_after w event) events → Opens w (event ∷ events)
 unfolding world_after_all
 opens-later w event events h = record { front = event ∷ h.front; rest = h.rest; is = ap (λ (list : List EventContent). event ∷ list) h.is; both = h.both }
 
+-- among more of them,
 pub opens-append : (w : WorldState) (xs ys : List EventContent) → Opens w xs → Opens w (xs ++ ys)
 opens-append w xs ys h = record {
   front = h.front;
@@ -286,6 +298,7 @@ opens-append w xs ys h = record {
   both = h.both;
 }
 
+-- or after others
 pub opens-after : (w : WorldState) (xs ys : List EventContent) → Opens (world_after_all w xs) ys → Opens w (xs ++ ys)
 opens-after w xs ys h = record {
   front = xs ++ h.front;
@@ -301,9 +314,11 @@ OpensOr w events side =
     ⊎ (IsShaking (world_after_all w events) side × GoesOn (party_of w (other side)).endpoint.phase
     (party_of (world_after_all w events) (other side)).endpoint.phase)
 
+-- where none has given up in the end, none had before
 pub up-before : (w : WorldState) (events : List EventContent) → AllByRecursion IsCalm events → IsKept w → NoneGaveUp (world_after_all w events) → NoneGaveUp w
 up-before w events calm h up = let steps = steps-all w events calm h in (steps.stays_a up.0, steps.stays_b up.1)
 
+-- over so many events
 pub shakes-all : (w : WorldState) (events : List EventContent) (side : Side) → AllByRecursion IsCalm events → IsShaking w side
     → NoneGaveUp (world_after_all w events) → OpensOr w events side
 unfolding world_after_all

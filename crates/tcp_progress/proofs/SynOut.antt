@@ -46,20 +46,24 @@ pub syn-due : (s : State) → is_handshake s.phase ≡ true → s.owed.reset ≡
 unfolding due_of after_retransmit
 syn-due s shakes none = rw (none, shakes, or-true s.owed.syn) refl
 
+-- of a party
 pub timer-due : (p : PartyState) → is_handshake p.endpoint.phase ≡ true → p.endpoint.owed.reset ≡ None
     → due_of (party_after_timer p Retransmit).endpoint ≡ Some Syn
 unfolding party_after_timer
 timer-due p shakes none = syn-due p.endpoint shakes none
 
+-- it is the last in its list,
 pub syn-sent : (p : PartyState) → due_of p.endpoint ≡ Some Syn
     → slice_get (party_after_emission p).sent (length p.sent) ≡ Some (sent_by p.endpoint (bytes_of p.endpoint Syn))
 unfolding party_after_emission emitted_bytes
 syn-sent p due = rw due (last-of p.sent (sent_by p.endpoint (bytes_of p.endpoint Syn)))
 
+-- of the form of a SYN,
 pub syn-form : (s : State) → segment_of s Syn ≡ syn_segment s
 unfolding segment_of
 syn-form s = refl
 
+-- and stands at the first position
 pub syn-position : (p q : PartyState) → IsSteadyPair p q → GoesOut p q Syn → p.endpoint.sending.una ≤ 1
     → (sent_by p.endpoint (bytes_of p.endpoint Syn)).position ≡ 0
 unfolding bytes_of segment_of
@@ -72,6 +76,7 @@ no-reset : (opened : Bool) → has rst (syn + (if opened then ack else 0)) ≡ f
 no-reset true = refl
 no-reset false = refl
 
+-- WHAT IT SAYS
 pub syn-emitted : (p q : PartyState) → IsSteadyPair p q → is_handshake p.endpoint.phase ≡ true → next_position p ≡ 1 → due_of p.endpoint ≡ Some Syn
     → IsSyn (party_after_emission p) q (length p.sent) p.endpoint.receiving.opened
 syn-emitted p q h shakes first due =
