@@ -21,7 +21,7 @@ use Rattle.tcp_conn.specs.Calls.{after_acknowledge}
 use Rattle.tcp_conn.specs.Timers.{after_gaps, after_reorder, marks_end}
 use Rattle.tcp_conn.specs.Emission.{emitted_bytes}
 use Rattle.tcp_conn.specs.Judgement.{closed_judgement, is_foreign, judgement, phase_judgement}
-use Rattle.tcp_conn.specs.Arrival.{after_acked_text, after_arrival, after_fin, after_its_ack, after_its_text, after_judgement, after_news, after_own_syn}
+use Rattle.tcp_conn.specs.Arrival.{after_acked_text, after_fin, after_its_ack, after_its_text, after_judgement, after_news, after_own_syn}
 use Rattle.tcp_conn.specs.Arrival.{after_peer_accepts, after_peer_opens, after_taking, after_taking_shut}
 use Rattle.tcp_replay.specs.declared.event.Side.{Side}
 use Rattle.tcp_replay.specs.Alone.{FitsPhase, IsAlone}

@@ -41,7 +41,6 @@ use Rattle.tcp_progress.specs.Steady.{IsSteadyPair}
 use Rattle.tcp_progress.proofs.Acked.{own_fin-keeps}
 use Rattle.tcp_progress.proofs.Emitted.{IsFresh}
 use Rattle.tcp_progress.proofs.Judged.{IsPresent, judged-acceptable}
-
 use Rattle.tcp_replay.proofs.Events.{same-content}
 use Rattle.tcp_replay.proofs.Arrivals.{own_syn-nxt}
 use Rattle.tcp_progress.proofs.Arriving.{live-present, of_peer, is-there, unexpired, goes}
