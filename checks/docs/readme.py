@@ -3,7 +3,8 @@
 - a block after a comment that names a file, as `<!-- crates/example_lossy_wire/src/wire.rt -->`, is consecutive lines of that file;
 - a path in backquotes that begins with a folder of the repository is there, and so is each `docs/NAME.md`;
 - no line but of a table or of what a program prints is longer than 120 characters;
-- README.md names the kit by the line that `rt version` prints.
+- README.md names the kit by the line that `rt version` prints;
+- the newest version of CHANGELOG.md is 0.N of the C interface's number N.
 
 python3 checks/docs/readme.py prints how many blocks and paths were looked at; it ends with 1 where one is wrong, and where a comment has no block.
 """
@@ -23,7 +24,7 @@ LONGEST = 120
 
 
 def pages():
-    return [TOP / "README.md", TOP / "CONTRIBUTING.md", *sorted((TOP / "docs").glob("*.md")), *sorted(page for folder in FOLDERS[1:4] for page in (TOP / folder).rglob("*.md"))]
+    return [TOP / "README.md", TOP / "CONTRIBUTING.md", TOP / "CHANGELOG.md", *sorted((TOP / "docs").glob("*.md")), *sorted(page for folder in FOLDERS[1:4] for page in (TOP / folder).rglob("*.md"))]
 
 
 def main():
@@ -46,6 +47,10 @@ def main():
             if not (TOP / path).exists():
                 wrong.append(f"{name}: {path} isn't there")
         wrong += [f"{name}:{number}: {len(line)} characters" for number, line in enumerate(text.split("\n"), 1) if len(line) > LONGEST and not line.startswith(("|", "    "))]
+    newest = re.search(r"^## 0\.(\d+),", (TOP / "CHANGELOG.md").read_text(), re.MULTILINE)
+    interface = re.search(r"#define TCPCORE_VERSION (\d+)", (TOP / "c/tcpcore/tcpcore.h").read_text())
+    if not newest or not interface or newest[1] != interface[1]:
+        wrong.append("CHANGELOG.md: its newest version isn't the C interface's")
     kit = subprocess.run(["rt", "version"], capture_output=True, text=True, check=True).stdout.strip()
     if not kit or f"`{kit}`" not in (TOP / "README.md").read_text():
         wrong.append(f"README.md: the kit is {kit}")
