@@ -29,17 +29,19 @@ MORE_TURNS = 2
 
 
 def opening_calls(rng):
-    """What opens a connection: mostly the handshake, or a part of it; or a SYN comes before the other end listens, and is answered by a reset."""
+    """What opens a connection: mostly the handshake, or a part of it; or a SYN comes before the other end listens, and is answered by a reset.
+    Now and then something of it is lost."""
     x, y = rng.choice(["AB", "BA"])
     calls, rest = [f"listen {y}", f"connect {x}"], [f"emit {x}", f"deliver {x} 0", f"emit {y}", f"deliver {y} 0", f"emit {x}", f"deliver {x} 1"]
-    if rng.random() < 0.6:
+    kind = rng.random()
+    if kind < 0.6:
         return calls + rest
-    if rng.random() < 0.6:
-        return rng.sample(calls, 2) + rest[: rng.randrange(len(rest))]
-    late = [f"connect {x}", f"emit {x}", f"deliver {x} 0", f"emit {y}", f"listen {y}", f"timer {x} retransmit", f"emit {x}", f"deliver {x} 1"]
-    if rng.random() < 0.3:
-        late.remove(f"emit {y}")
-    return late[: rng.randrange(4, 1 + len(late))]
+    if kind < 0.84:
+        steps = rng.sample(calls, 2) + rest[: rng.randrange(len(rest))]
+    else:
+        steps = [f"connect {x}", f"emit {x}", f"deliver {x} 0", f"emit {y}", f"listen {y}", f"timer {x} retransmit", f"emit {x}", f"deliver {x} 1"]
+        steps = steps[: rng.randrange(5, 1 + len(steps))]
+    return [step for step in steps if step.split(" ")[0] in ("listen", "connect") or rng.random() < 0.75]
 
 
 def random_walk(rng, note):
