@@ -26,7 +26,7 @@ class Network:
     def __init__(self, walk, rng, without=None, note=lambda name: None):
         self.walk, self.rng, self.without, self.note = walk, rng, without, note
         self.strength = 0 if without else rng.choice([0, 0.3, 0.8, 2])
-        self.weights = [4 + rng.choice([0, 4])] + [rng.choice([0, 1, 4]) for _ in KINDS[1:]]
+        self.weights = [rng.choice([0, 4, 8]), rng.choice([1, 4])] + [rng.choice([0, 1, 4]) for _ in KINDS[2:]]
         self.choice = rng.choice(["any", "late", "first", "shut", "favourite"])
         self.favourite = {}
         self.first = rng.choice("AB") if without or rng.random() < 0.5 else None

@@ -4,10 +4,11 @@ python3 checks/differential/turns.py [COUNT] [SEED] [--without WORD] [--show K]
 
 Random events come first. While both ends live, or one is in SYN-SENT and the other in LISTEN or SYN-RECEIVED, calm events follow with
 turns in them, one more than there is left, or three more where the connection is being opened. No calm event may leave more than was left
-before it; within that many turns both ways have to be through, and have to stay so; no end may have given up; and where both users closed,
-both ends have to have ended in order once TIME-WAIT has run out at both. No reset is delivered. Then come the rows of loops.py.
+before it; within that many turns both ends have to be open and both ways through, down to the SYN's acknowledgement, and have to stay so; no
+end may have given up; and where both users closed, both ends have to have ended in order once TIME-WAIT has run out at both. No reset is
+delivered. Then come the rows of loops.py.
 
-It tells how many worlds of each kind were met, and fails where a run of 200 or more meets none of a kind. `--without WORD` breaks the turn, by
+It tells how many worlds of each kind were met, and fails where a run of 1000 or more meets none of a kind. `--without WORD` breaks the turn, by
 a word of turn.py's BREAKS, so that it can be seen that worlds fail then. `--show K` writes the script of world K.
 """
 
@@ -21,8 +22,8 @@ from loops import failed_rows
 from turn import BREAKS, Network, take_turn, take_turns
 from walk import Broken, Walk
 
-# How many worlds a run has to have for each kind to be met in it.
-ENOUGH = 200
+# Of so many worlds some have to be of each kind.
+ENOUGH = 1000
 # All turns that the law asks for are taken where these are no more; else these few, once both ways are through.
 FEW_TURNS = 12
 MORE_TURNS = 2
@@ -75,7 +76,7 @@ def random_event(walk, rng, most, longest, has_gaps):
 
 
 def left_alone(walk, rng):
-    """A world in which a connection has ended, or none is opened: nothing that is calm leaves more, resets among it."""
+    """A world in which an end has ended or none is opened: nothing that is calm leaves more there either, resets among it."""
     walk.is_watched = True
     network = Network(walk, rng)
     for _ in range(10):
@@ -150,7 +151,7 @@ class Run:
 
 def main():
     reader = argparse.ArgumentParser()
-    reader.add_argument("count", type=int, nargs="?", default=ENOUGH)
+    reader.add_argument("count", type=int, nargs="?", default=200)
     reader.add_argument("seed", type=int, nargs="?", default=1)
     reader.add_argument("--without", choices=list(BREAKS))
     reader.add_argument("--show", type=int)

@@ -130,7 +130,7 @@ class Walk:
         return [side for side in "AB" if self.end(side).ending in ("reset", "aborted")]
 
     def lacks(self):
-        """What isn't through, in words: none where both ways are."""
+        """What isn't through, in words: none where both ends were opened, and both ways are through."""
         found = []
         for side in "AB":
             end, peer = self.end(side), other(side)
@@ -140,8 +140,10 @@ class Walk:
                 found.append(f"{end.released} of {side}'s {len(self.accepted[side])} bytes are acknowledged")
             if end.closing and not self.world.parties[peer].ended:
                 found.append(f"{peer} wasn't told the end of the stream")
-            if end.closing and self.unacknowledged(side) > 0:
-                found.append(f"{side}'s FIN isn't acknowledged")
+            if self.unacknowledged(side) > 0:
+                found.append(f"{self.unacknowledged(side)} of {side}'s SYN, text and FIN aren't acknowledged")
+            if end.rcv_nxt is None:
+                found.append(f"{side} hasn't taken {peer}'s SYN")
             if side in self.gave_up():
                 found.append(f"{side} gave up")
         return found
