@@ -8,6 +8,9 @@
 /* So many segments are acknowledged at once (RFC 5681, 4.2), and so many duplicates tell of a loss (3.2). */
 enum { ANSWERED = 2, DUPLICATES = 3 };
 
+/* So long, in milliseconds, a peer may delay the acknowledgement of a single segment (RFC 8985, 7.2). */
+enum { DELAYED = 200 };
+
 static uint64_t smaller(uint64_t a, uint64_t b) { return a < b ? a : b; }
 
 void flow_init(struct flow *flow, const tcpcore_config *config, const struct timers_rules *rules, uint32_t delay)
@@ -20,7 +23,7 @@ void flow_init(struct flow *flow, const tcpcore_config *config, const struct tim
     flow->keeps = config->recv_capacity;
     flow->delay = delay;
     flow->window = UINT64_MAX;
-    flow->answer_at = flow->override_at = TIMERS_NEVER;
+    flow->answer_at = flow->override_at = flow->probe_at = TIMERS_NEVER;
 }
 
 void flow_choose(struct flow *flow, uint32_t choices)
@@ -72,8 +75,27 @@ static int is_duplicate(const struct flow *flow, const uint8_t *segment, size_t 
            read32(segment + AT_ACK) == flow->timers.isn + (uint32_t)after->una;
 }
 
-/* Without blocks the third duplicate tells of a loss: the first segment goes out again at once, and what follows it as more is
-   acknowledged (RFC 5681, 3.2; RFC 6582, 3.2). Before that each of two lets a segment more out (RFC 3042). */
+/* Silence is probed after two round trips, and where the peer may delay its acknowledgement of one segment after 200 ms more (RFC
+   8985, 7.2), once for all that comes without progress. */
+static void await(struct flow *flow, uint64_t now)
+{
+    uint64_t flight = flight_of(flow), delayed = flight <= flow->congestion.mss ? DELAYED : 0;
+    int is_due = !flow->is_probed && !flow->is_shut && !flow->has_blocks && flow->timers.samples > 0 && flight > 0;
+    flow->probe_at = is_due ? now + 2 * trip_of(flow) / 1000 + 1 + delayed : TIMERS_NEVER;
+}
+
+/* The first segment goes out again at once, and what follows it as more is acknowledged (RFC 5681, 3.2; RFC 6582, 3.2). */
+static int begin_clocked(struct flow *flow, tcpcore_end *end, uint64_t now)
+{
+    if (tcpcore_timer(end, TCPCORE_TIMER_RETRANSMIT) != TCPCORE_DONE)
+        return 0;
+    congestion_lost(&flow->congestion, CONGESTION_RECOVERY, 0, now);
+    congestion_clocked(&flow->congestion);
+    flow->is_resending = 1;
+    return 1;
+}
+
+/* Without blocks the third duplicate tells of a loss (RFC 5681, 3.2). Before that each of two lets a segment more out (RFC 3042). */
 static void duplicate(struct flow *flow, tcpcore_end *end, uint64_t now)
 {
     if (flow->is_shut || flow->congestion.loss != CONGESTION_OPEN)
@@ -82,12 +104,8 @@ static void duplicate(struct flow *flow, tcpcore_end *end, uint64_t now)
         congestion_duplicate(&flow->congestion);
         return;
     }
-    if (flow->same > DUPLICATES || tcpcore_timer(end, TCPCORE_TIMER_RETRANSMIT) != TCPCORE_DONE)
-        return;
-    congestion_lost(&flow->congestion, CONGESTION_RECOVERY, 0, now);
-    congestion_clocked(&flow->congestion);
-    flow->is_resending = 1;
-    flow->fast++;
+    if (flow->same == DUPLICATES && begin_clocked(flow, end, now))
+        flow->fast++;
 }
 
 /* What an arrival acknowledges, and what it tells of losses. */
@@ -101,8 +119,11 @@ static void acknowledged(struct flow *flow, tcpcore_end *end, const uint8_t *seg
         congestion_agreed(congestion, after->mss);
     congestion_clock(congestion, now, trip_of(flow));
     congestion_acknowledged(congestion, after->released, after->sack ? tells_blocks : is_same && congestion->is_keeping);
+    flow->has_blocks = after->sack;
     if (acked > 0)
-        flow->same = 0;
+        flow->same = flow->is_probed = 0;
+    if (acked > 0 || is_same)
+        await(flow, now);
     if (acked > 0 && congestion->is_clocked)
         congestion_progress(congestion, acked, again);
     if (is_same && !after->sack)
@@ -119,13 +140,19 @@ static void repeated(struct flow *flow, tcpcore_end *end, const uint8_t *segment
     answers_begin(&flow->answers, now);
 }
 
-/* The peer's window as the end has it, which an old segment doesn't change (RFC 9293, 3.10.7.4). What fills no segment and not half
-   of the greatest window waits, where nothing is in flight, for more room, and at most FLOW_OVERRIDE. */
-static void window_is(struct flow *flow, uint64_t window, uint64_t now)
+/* The peer's window as the end has it, which an old segment doesn't change (RFC 9293, 3.10.7.4). */
+static void window_is(struct flow *flow, uint64_t window)
 {
     flow->window = window;
     flow->widest = flow->widest > window ? flow->widest : window;
     flow->is_shut = window == 0;
+}
+
+/* A window that has room for no segment, and not for half of the greatest one, is left alone where nothing is in flight, for
+   FLOW_OVERRIDE at most (RFC 9293, 3.8.6.2.1). */
+static void mind_override(struct flow *flow, uint64_t now)
+{
+    uint64_t window = flow->window;
     if (flight_of(flow) > 0 || window == 0 || window >= full_of(flow) || 2 * window >= flow->widest) {
         flow->override_at = TIMERS_NEVER;
         flow->is_overridden = 0;
@@ -151,9 +178,10 @@ uint32_t flow_arrive(struct flow *flow, tcpcore_end *end, tcpcore_addr src, tcpc
         timers_arrived(&flow->timers, segment, length, now);
     else if (is_answered)
         repeated(flow, end, segment, &before, now);
-    acknowledged(flow, end, segment, length, is_same, &after, now);
     if (after.phase >= TCPCORE_PHASE_ESTABLISHED)
-        window_is(flow, after.snd_wnd, now);
+        window_is(flow, after.snd_wnd);
+    acknowledged(flow, end, segment, length, is_same, &after, now);
+    mind_override(flow, now);
     received(flow, after.next - before.next, is_answered, now);
     return answer;
 }
@@ -232,6 +260,19 @@ static uint32_t keep_alive(struct flow *flow, tcpcore_end *end, uint64_t now)
     return TIMERS_RAN;
 }
 
+/* Silence: the first segment goes out again, long before the timeout, which stays what it is (RFC 8985, 7.3). */
+static uint32_t probe(struct flow *flow, tcpcore_end *end, uint64_t now)
+{
+    if (flow->probe_at > now)
+        return 0;
+    flow->probe_at = TIMERS_NEVER;
+    flow->is_probed = 1;
+    if (flow->congestion.loss == CONGESTION_TIMED_OUT || flow->timers.resent > 0 || !begin_clocked(flow, end, now))
+        return 0;
+    flow->probes++;
+    return TIMERS_RAN;
+}
+
 uint32_t flow_run(struct flow *flow, tcpcore_end *end, uint64_t now)
 {
     uint32_t found = timers_run(&flow->timers, end, now);
@@ -248,7 +289,7 @@ uint32_t flow_run(struct flow *flow, tcpcore_end *end, uint64_t now)
     }
     if (flight_of(flow) == 0 && now - flow->sent_at > flow->timers.rto)
         congestion_idle(&flow->congestion);
-    return found | keep_alive(flow, end, now);
+    return found | probe(flow, end, now) | keep_alive(flow, end, now);
 }
 
 /* Whether an acknowledgement is all that is due. */
@@ -287,8 +328,10 @@ static void sent(struct flow *flow, const tcpcore_end *end, const uint8_t *segme
     } else {
         flow->is_resending = 0;
     }
-    if (text > 0)
+    if (text > 0) {
         flow->sent_at = now;
+        await(flow, now);
+    }
     if (!bits_of(segment, SYN))
         flow->options = (uint32_t)(header_of(segment) - SEGMENT_HEADER);
     if (bits_of(segment, ACK)) {
@@ -349,6 +392,7 @@ int flow_wait(const struct flow *flow, uint64_t now)
 {
     uint64_t paced = flow->is_resending ? congestion_resend_at(&flow->congestion, trip_of(flow)) : TIMERS_NEVER;
     uint64_t at = smaller(smaller(flow->answer_at, paced), smaller(flow->override_at, keep_at(flow)));
+    at = smaller(at, flow->probe_at);
     uint64_t span = at <= now ? 0 : smaller(at - now, INT_MAX);
     int wait = timers_wait(&flow->timers, now);
     return at != TIMERS_NEVER && (wait < 0 || span < (uint64_t)wait) ? (int)span : wait;

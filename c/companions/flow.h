@@ -52,6 +52,8 @@ struct flow {
     struct answers answers; /* what was told, and how many answers were withheld */
     uint64_t resent;        /* segments that were sent again */
     uint64_t fast;          /* how often a loss was found by duplicate acknowledgements */
+    uint64_t probes;        /* and how often silence was probed */
+    uint64_t probe_at;      /* when it is next, or TIMERS_NEVER */
     uint64_t window;        /* SND.WND, UINT64_MAX before ESTABLISHED */
     uint64_t widest;        /* the greatest of these */
     uint64_t override_at;   /* when a part of a segment may fill a silly window, or TIMERS_NEVER */
@@ -62,6 +64,8 @@ struct flow {
     uint32_t options;       /* bytes of options in the last segment behind the handshake, of which its text has so many fewer */
     uint8_t choices;        /* FLOW_CUBIC, FLOW_NAGLE */
     uint8_t is_overridden;  /* it may */
+    uint8_t is_probed;      /* since the last progress a silence was probed: what comes next is the timeout's */
+    uint8_t has_blocks;     /* the peer tells blocks (RFC 2018) */
     uint8_t is_asking;      /* the next segment asks whether the peer is there */
     uint8_t is_shut;        /* the peer's window is, as the end has it: an old segment may tell another */
     uint8_t is_resending;   /* what goes out next may go out again */

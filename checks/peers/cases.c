@@ -317,7 +317,7 @@ static void vanishes(void)
     }
 }
 
-/* Throughput: 2 percent of the segments are lost, 10 ms there and back. */
+/* Throughput: 2 percent of the segments are lost, 10 ms there and back. Proportional to the loss, and not to timeouts of a second. */
 static void bulk(uint64_t size)
 {
     for (int variant = 0; variant < 4; variant++) {
@@ -327,7 +327,7 @@ static void bulk(uint64_t size)
         trial.cubic = variant % 2;
         trial.lost = 20;
         trial.seed = (uint32_t)(1 + variant / 2);
-        trial.limit = 4000000;
+        trial.limit = size / 1000000 * PEER_PACE;
         uint64_t took = run();
         if (took > 0)
             printf("    %s: %llu bytes at 2 percent loss: %llu ms\n", trial.name, (unsigned long long)size, (unsigned long long)took), own_tell(OWN);

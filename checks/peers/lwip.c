@@ -16,6 +16,9 @@
 const char *const PEER_NAME =
     BUILD == SHIPPED ? "lwIP as it ships" : BUILD == BLOCKS ? "lwIP with blocks" : BUILD == TINY ? "lwIP, tiny" : "lwIP, nothing out of order";
 
+/* With four segments in flight most losses are found by silence, and a lost window update by a probe after a second. */
+const uint64_t PEER_PACE = BUILD == TINY ? 25000 : BUILD == BARE ? 5000 : 4000;
+
 /* Its timers have ticks of so many milliseconds; a packet has room for so many bytes, and a write has so many segments. */
 enum { TICK = TCP_TMR_INTERVAL, PACKET = 1700, PIECES = 2 };
 
@@ -23,7 +26,7 @@ static struct netif device;
 static struct tcp_pcb *end;
 static struct pbuf *held; /* what the user hasn't read */
 static uint64_t ticked;
-static int is_begun, is_gone, has_ended, is_early;
+static int is_begun, is_gone, has_ended, is_early, has_given_up;
 static uint32_t isn;
 
 u32_t sys_now(void) { return (u32_t)now; }
@@ -76,6 +79,7 @@ static void gone(void *unused, err_t fault)
     end = NULL;
     /* ERR_CLSD is told where both have closed, and its user only half (tcp_in.c, tcp_input, TF_CLOSED). */
     trial.users[PEER].saw_fault |= fault != ERR_CLSD;
+    has_given_up = fault == ERR_ABRT;
 }
 
 static err_t came(void *unused, struct tcp_pcb *pcb, struct pbuf *text, err_t fault)
@@ -118,7 +122,7 @@ void peer_begin(void)
         pbuf_free(held);
     held = NULL;
     end = NULL;
-    is_gone = has_ended = is_early = 0;
+    is_gone = has_ended = is_early = has_given_up = 0;
     ticked = now;
     wire_begin();
     struct tcp_pcb *pcb = tcp_new();
@@ -199,8 +203,14 @@ uint64_t peer_next(void) { return ticked + TICK; }
 
 int peer_is_over(void) { return is_gone && !held; }
 
-/* tcp_split_unsent_seg sets the flags of the first part anew by TCPH_SET_FLAG, which clears none: the FIN stays on it. */
-const char *peer_fault(void) { return is_early ? "a FIN with the first part of a split segment (tcp_out.c, line 935)" : 0; }
+/* tcp_split_unsent_seg sets the flags of the first part anew by TCPH_SET_FLAG, which clears none: the FIN stays on it. And
+   tcp_slowtmr removes an end in LAST-ACK which has heard nothing for two minutes, whatever it has still to send, without a reset. */
+const char *peer_fault(void)
+{
+    if (is_early)
+        return "a FIN with the first part of a split segment (tcp_out.c, line 935)";
+    return has_given_up ? "gave up in LAST-ACK, without a word, what it had to send (tcp.c, line 1373)" : 0;
+}
 
 void peer_tell(void)
 {

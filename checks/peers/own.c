@@ -128,8 +128,9 @@ void own_tell(int side)
     struct tcpcore_status status = status_of(side);
     const struct flow *flow = &owns[side].flow;
     printf("    phase %u ending %u una %llu in flight %llu queued %llu window %u cwnd %llu, resent %llu, fast %llu, timeouts %u, losses %u, "
-           "withheld %llu\n", status.phase, status.ending, (unsigned long long)status.una, (unsigned long long)status.in_flight,
+           "withheld %llu, probes %llu\n", status.phase, status.ending, (unsigned long long)status.una, (unsigned long long)status.in_flight,
            (unsigned long long)status.queued, status.snd_wnd, (unsigned long long)flow->congestion.cwnd,
            (unsigned long long)flow->resent, (unsigned long long)flow->fast, flow->congestion.timeouts, flow->congestion.losses,
-           (unsigned long long)flow->answers.withheld);
+           (unsigned long long)flow->answers.withheld,
+           (unsigned long long)flow->probes);
 }

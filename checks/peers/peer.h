@@ -86,6 +86,7 @@ void own_tell(int side);
 
 /* The other side. */
 extern const char *const PEER_NAME;
+extern const uint64_t PEER_PACE; /* the milliseconds that 1 MB to it may take where 2 percent are lost, 10 ms there and back */
 void peer_begin(void);
 void peer_arrive(const uint8_t *segment, size_t length);
 void peer_turn(void);

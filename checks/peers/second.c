@@ -2,6 +2,7 @@
 #include "peer.h"
 
 const char *const PEER_NAME = "own";
+const uint64_t PEER_PACE = 4000;
 
 void peer_begin(void) { own_begin(PEER); }
 void peer_arrive(const uint8_t *segment, size_t length) { own_arrive(PEER, segment, length); }
