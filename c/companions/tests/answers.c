@@ -79,6 +79,9 @@ static void both_full_behind_a_hole(int is_limited)
         CHECK(flow_arrive(&b.flow, &b.end, a.addr, b.addr, kept[at], kept_lengths[at], now), TCPCORE_DONE);
     for (int at = 1; at < 60; at++)
         CHECK(deliver(&b, &a, at), TCPCORE_DONE);
+    /* Up to the timeout nothing else is done: silence isn't probed. */
+    a.flow.is_probed = b.flow.is_probed = 1;
+    a.flow.probe_at = b.flow.probe_at = TIMERS_NEVER;
     int count = war(900);
     CHECK(is_limited ? count <= 6 : count > 1000, 1);
     free_both();
