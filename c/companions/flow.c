@@ -50,8 +50,12 @@ static uint64_t trip_of(const struct flow *flow)
 /* The full segments of the connection, less the options in use. */
 static uint64_t full_of(const struct flow *flow) { return flow->congestion.mss - flow->options; }
 
-/* What the segments in flight are of all that was given. */
-static uint64_t flight_of(const struct flow *flow) { return flow->congestion.given - flow->congestion.released; }
+/* What was given and isn't acknowledged; of what went past flow_send nothing is known. */
+static uint64_t flight_of(const struct flow *flow)
+{
+    const struct congestion *congestion = &flow->congestion;
+    return congestion->given > congestion->released ? congestion->given - congestion->released : 0;
+}
 
 /* `moved` bytes of text have come in order. */
 static void received(struct flow *flow, uint64_t moved, int at_once, uint64_t now)
@@ -242,7 +246,7 @@ static uint64_t keep_at(const struct flow *flow)
     int is_silent = phase == TCPCORE_PHASE_ESTABLISHED || phase == TCPCORE_PHASE_FIN_WAIT_2;
     if (flow->keep.idle == 0 || !is_silent || flight_of(flow) > 0)
         return TIMERS_NEVER;
-    return flow->heard_at + flow->keep.idle + (uint64_t)flow->asked * flow->keep.interval;
+    return flow->asked == 0 ? flow->heard_at + flow->keep.idle : flow->asked_at + flow->keep.interval;
 }
 
 /* Asks a silent peer, or gives it up. */
@@ -255,6 +259,7 @@ static uint32_t keep_alive(struct flow *flow, tcpcore_end *end, uint64_t now)
         return TIMERS_RAN | TIMERS_GAVE_UP;
     }
     flow->asked++;
+    flow->asked_at = now;
     flow->is_asking = 1;
     tcpcore_acknowledge(end);
     return TIMERS_RAN;
@@ -304,6 +309,9 @@ static int answers_alone(const tcpcore_end *end)
 static int waits(struct flow *flow, const tcpcore_end *end, uint64_t now)
 {
     int may_wait = !flow->is_owed && now < flow->answer_at;
+    /* All of it was acknowledged meanwhile. */
+    if (flow->is_resending && answers_alone(end))
+        flow->is_resending = 0;
     if (flow->is_resending && !congestion_may_resend(&flow->congestion, now, trip_of(flow)))
         return may_wait;
     return may_wait && flow->unanswered > 0 && answers_alone(end);

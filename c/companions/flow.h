@@ -58,6 +58,7 @@ struct flow {
     uint64_t widest;        /* the greatest of these */
     uint64_t override_at;   /* when a part of a segment may fill a silly window, or TIMERS_NEVER */
     uint64_t heard_at;      /* when a segment came last */
+    uint64_t asked_at;      /* when a silent peer was asked last */
     struct flow_keep keep;
     uint32_t asked;         /* how often a silent peer was asked without an answer */
     uint32_t same;          /* duplicate acknowledgements in a row (RFC 5681, 2) */
