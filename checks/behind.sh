@@ -37,6 +37,7 @@ apps/web/build.sh
 behind c/tcpcore/test.sh "$folder/libtcp_c.a"
 behind c/tcpcore/test.sh --target aarch64 "$folder/libtcp_c.aarch64.a"
 behind c/companions/test.sh "$folder/libtcp_c.a"
+behind checks/peers/segments.sh "$folder/libtcp_c.a"
 behind checks/peers/lwip.sh "$folder/libtcp_c.a"
 behind checks/live/run.sh
 behind apps/usernet/test.sh "$folder/libtcp_c.a" --short

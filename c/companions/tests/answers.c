@@ -216,6 +216,10 @@ static void windows(void)
     fill(&a, &b);
     for (int at = 0; at < MSS - 1; at++) {
         read(&b, 1);
+        /* The end by itself would tell one byte. */
+        uint32_t length;
+        CHECK(tcpcore_pending(&b.end, &length), TCPCORE_DONE);
+        CHECK(length, at == 0 ? SEGMENT_HEADER : 0);
         CHECK(emit(&b), 0);
     }
     CHECK(b.flow.answers.withheld, 1);

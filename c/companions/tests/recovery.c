@@ -216,6 +216,15 @@ static void silly(void)
     CHECK(give(&a, 5 * MSS), 300);
     CHECK(carry(&a, &b), 1);
     free_both();
+    /* An end that is given more than that fills it at once. */
+    open_both(0);
+    tell(300);
+    uint8_t text[5 * MSS] = {0};
+    size_t taken;
+    CHECK(tcpcore_send(&a.end, text, sizeof text, &taken), TCPCORE_DONE);
+    CHECK(emit(&a), 1);
+    CHECK(lengths[0], SEGMENT_HEADER + 300);
+    free_both();
     /* A full segment fits, or half of the greatest window. */
     open_both(0);
     tell(MSS + 300);
