@@ -29,7 +29,7 @@ void flow_init(struct flow *flow, const tcpcore_config *config, const struct tim
 void flow_choose(struct flow *flow, uint32_t choices)
 {
     flow->choices = (uint8_t)(choices & (FLOW_CUBIC | FLOW_NAGLE));
-    congestion_choose(&flow->congestion, choices & FLOW_CUBIC);
+    congestion_choose(&flow->congestion, (choices & FLOW_CUBIC) != 0);
 }
 
 void flow_keep_alive(struct flow *flow, const struct flow_keep *keep) { flow->keep = *keep; }

@@ -311,7 +311,7 @@ static void vanishes(void)
 {
     for (int at = 1; at <= 4; at++) {
         set("vanishes", 1000000, 0);
-        trial.vanishes_at = (uint64_t)(20 * at);
+        trial.vanishes_at = 20 * (uint64_t)at;
         trial.limit = 400000;
         run();
     }
