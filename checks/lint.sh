@@ -1,7 +1,7 @@
 #!/usr/bin/env bash
-# Reads all scripts by shellcheck, and the C library's layer, its companions, their peers' driver and usernet by clang-tidy. It installs both by
-# apt-get where this machine lacks them; where that fails it fails, or, with LEAVE_OUT=1 in the environment, says what it leaves
-# out.
+# Reads all scripts by shellcheck, the C library's layer, its companions, their peers' driver and usernet by clang-tidy, and the
+# library's class for Python by mypy. It installs them by apt-get where this machine lacks them; where that fails it fails, or,
+# with LEAVE_OUT=1 in the environment, says what it leaves out.
 set -euo pipefail
 cd "$(dirname "$0")/.."
 test=lint
@@ -24,5 +24,9 @@ if has clang-tidy clang-tidy --version; then
         clang-tidy --quiet --warnings-as-errors='*' --checks="$checks" "$source" -- -std=c11 -Ic -Ic/tcpcore -Ic/companions 2>/dev/null
         passed=$((passed + 1))
     done
+fi
+if has mypy mypy --version; then
+    mypy --strict --no-error-summary --cache-dir=/dev/null c/tcpcore/tcpcore.py
+    passed=$((passed + 1))
 fi
 echo "lint: $passed passed, $left_out left out"

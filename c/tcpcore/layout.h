@@ -1,6 +1,6 @@
 /*
- * Where each field of the library's structs lies, and how many bytes it takes (crate tcp_c, src/records.rt). tcpcore.c alone
- * includes it.
+ * Where each field of the library's structs lies, and how many bytes it takes (crate tcp_c, src/records.rt), on any machine.
+ * tcpcore.c alone includes it.
  */
 #ifndef TCPCORE_LAYOUT_H
 #define TCPCORE_LAYOUT_H

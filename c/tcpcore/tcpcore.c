@@ -10,12 +10,11 @@
 /* The struct's first two words are the library's handle; the third is the struct's own address while it holds an end. */
 struct handle {
     uint64_t mark;
-    void *at;
+    uint64_t at;
 };
 
 #define OWNER 2
 
-_Static_assert(sizeof(size_t) == 8 && sizeof(void *) == 8, "the words of the library");
 _Static_assert(sizeof(struct handle) == OWNER * sizeof(uint64_t), "the handle is the struct's first words");
 _Static_assert(sizeof(tcpcore_end) == (OWNER + 1) * sizeof(uint64_t), "the handle and the struct's own address");
 
@@ -27,7 +26,8 @@ struct block {
 
 #define UNIT 16
 
-/* The library's own calls (crate tcp_c). */
+/* The library's own calls (crate tcp_c). Its words have 64 bits. */
+_Static_assert(sizeof(size_t) == 8 && sizeof(void *) == 8, "the words of the library");
 uint32_t tcp_c_new(struct handle *, const tcpcore_config *, struct block);
 size_t tcp_c_room(const tcpcore_config *);
 uint32_t tcp_c_free(struct handle *);
@@ -142,33 +142,25 @@ static void put(struct place place, struct object object, const void *bytes, siz
         memcpy(place.at, found, place.size);
 }
 
-/* A slice is never at NULL, even an empty one. */
-static uint8_t *start(void *bytes)
-{
-    static uint8_t nothing;
-    return bytes ? bytes : &nothing;
-}
+/* Where an empty slice, block or place lies: it is never at NULL. No byte is read or written there. */
+#define NOWHERE ((void *)(uintptr_t)UNIT)
 
-static const uint8_t *front(const void *bytes)
-{
-    static const uint8_t nothing;
-    return bytes ? bytes : &nothing;
-}
+static uint8_t *start(void *bytes) { return bytes ? bytes : NOWHERE; }
+
+static const uint8_t *front(const void *bytes) { return bytes ? bytes : NOWHERE; }
 
 /* The whole units of the caller's block. */
 static struct block units_of(void *bytes, size_t length)
 {
-    static _Alignas(UNIT) uint8_t none;
     size_t before = -(uintptr_t)bytes % UNIT;
     if (length < before + UNIT)
-        return (struct block){&none, 0};
+        return (struct block){NOWHERE, 0};
     return (struct block){(uint8_t *)bytes + before, (length - before) / UNIT * UNIT};
 }
 
 uint32_t tcpcore_new(tcpcore_end *end, const tcpcore_config *config, void *block, size_t length)
 {
-    static uint8_t nothing;
-    uint32_t answer = config ? refusal_with(end, block, length, (struct place){&nothing, 0}) : TCPCORE_NULL;
+    uint32_t answer = config ? refusal_with(end, block, length, (struct place){NOWHERE, 0}) : TCPCORE_NULL;
     if (answer != TCPCORE_DONE)
         return answer;
     /* The caller's may lie in the block. */
@@ -256,8 +248,7 @@ uint32_t tcpcore_timer(tcpcore_end *end, uint32_t timer)
 
 uint32_t tcpcore_arrive(tcpcore_end *end, tcpcore_addr src, tcpcore_addr dst, const void *bytes, size_t length)
 {
-    static uint8_t nothing;
-    uint32_t answer = refusal_with(end, bytes, length, (struct place){&nothing, 0});
+    uint32_t answer = refusal_with(end, bytes, length, (struct place){NOWHERE, 0});
     return answer != TCPCORE_DONE ? answer : tcp_c_arrive(handle(end), &src, &dst, front(bytes), length);
 }
 
@@ -384,8 +375,7 @@ uint32_t tcpcore_rest(const tcpcore_end *end, struct tcpcore_rest *rest)
 
 uint32_t tcpcore_rest_arrive(struct tcpcore_rest *rest, tcpcore_addr src, tcpcore_addr dst, const void *bytes, size_t length)
 {
-    static uint8_t nothing;
-    uint32_t answer = refusal_beside(rest_at(rest), bytes, length, (struct place){&nothing, 0});
+    uint32_t answer = refusal_beside(rest_at(rest), bytes, length, (struct place){NOWHERE, 0});
     return answer != TCPCORE_DONE ? answer : tcp_c_rest_arrive(rest, &src, &dst, front(bytes), length);
 }
 

@@ -1,6 +1,9 @@
 /*
  * tcpcore.h: one end of one TCP connection, as a value (RFC 9293; window scale of RFC 7323; selective
- * acknowledgement of RFC 2018). IPv4; x86-64 and aarch64.
+ * acknowledgement of RFC 2018). IPv4.
+ *
+ * It is a library for x86-64 and aarch64; or, for any machine, of 32 bits too and of either order of bytes, one C99 file,
+ * c/portable's tcpcore_portable.c, the same code translated to C.
  *
  * The library's code for x86-64 needs a processor of level v2, and doesn't test for one: 'rt lib --cpu x86-64' builds for
  * any, '--cpu x86-64-v3' for later ones. 'rt lib --target aarch64-unknown-linux-gnu' builds for any aarch64.
@@ -102,6 +105,11 @@
 
 #ifdef __cplusplus
 extern "C" {
+#ifdef __GNUC__
+/* Two structs have the names of calls. */
+#pragma GCC diagnostic push
+#pragma GCC diagnostic ignored "-Wshadow"
+#endif
 #endif
 
 /* The version of this header: it grows with each change of a struct, a call or an answer. */
@@ -185,8 +193,9 @@ enum {
 #define TCPCORE_UNITS(size) (((size_t)(size) + 15) / 16 * 16)
 #define TCPCORE_MEMORY(send, receive) (TCPCORE_UNITS(send) + TCPCORE_UNITS(receive) + 704 + 15)
 
-/* The bytes of stack that a call takes at most. */
+/* The bytes of stack that a call takes at most; and of the portable file, on any machine that it was tried on. */
 #define TCPCORE_STACK 2048
+#define TCPCORE_PORTABLE_STACK 4096
 
 /* The room that tcpcore_emit wants, in bytes: more than the longest segment of an end. */
 #define TCPCORE_EMIT_ROOM 1520
@@ -219,8 +228,9 @@ typedef struct tcpcore_config {
     uint16_t port;          /* the own port */
     uint16_t mss;           /* the own maximum segment size, 64 to 1,460 bytes (RFC 9293, 3.7.1) */
     uint32_t isn;           /* the initial sequence number; choose it as RFC 9293, 3.4.1 says */
-    size_t send_capacity;   /* the most bytes kept for the peer, 1 to 1,048,576 */
-    size_t recv_capacity;   /* the most bytes kept for the user, 1 to 1,048,576: the greatest receive window */
+    unsigned int : 32;      /* unnamed: so that all machines have what follows at the same place */
+    uint64_t send_capacity; /* the most bytes kept for the peer, 1 to 1,048,576 */
+    uint64_t recv_capacity; /* the most bytes kept for the user, 1 to 1,048,576: the greatest receive window */
     uint64_t limit;         /* the most bytes that the own direction carries, 1 to 2^62; past TCPCORE_LIMIT the network has to keep
                                a lifetime of segments (RFC 9293, 3.4) */
     uint8_t window_shift;   /* the shift of the windows that are told, 0 to 14 (RFC 7323, 2.2); not looked at where
@@ -230,6 +240,8 @@ typedef struct tcpcore_config {
                                for 65,535 bytes, 1 for 65,536, 5 for 1,048,576 */
     uint8_t scales;         /* whether windows may be scaled: 0 is no, anything else yes */
     uint8_t sack;           /* whether selective acknowledgement may be used (RFC 2018, 2): 0 is no, anything else yes */
+    unsigned int : 8;
+    unsigned int : 32;
 } tcpcore_config;
 
 /* What tcpcore_status tells. (The tag alone is a type: the name without `struct` is the function.) */
@@ -474,6 +486,9 @@ const char *tcpcore_strerror(uint32_t answer);
 uint32_t tcpcore_version(void);
 
 #ifdef __cplusplus
+#ifdef __GNUC__
+#pragma GCC diagnostic pop
+#endif
 }
 #endif
 

@@ -1,39 +1,156 @@
-"""libtcpcore.so for Python, over ctypes: class End is one end of one TCP connection. tcpcore.h says what each call does."""
+"""libtcpcore.so for Python, over ctypes: class End is one end of one TCP connection. tcpcore.h says what each call does.
+
+Addresses are 4 bytes, a text ("10.0.0.1") or an ipaddress.IPv4Address; text and segments are bytes, or anything that has a
+buffer of bytes (bytearray, memoryview). A number that doesn't fit its field is a ValueError, before any call.
+"""
+
+from __future__ import annotations
 
 import ctypes
+import enum
+import ipaddress
 import os
-from collections import namedtuple
+from typing import Any, Callable, NamedTuple, NoReturn, Optional, Union
 
 VERSION = 4
-DONE, TOO_SHORT, TOO_LONG, BAD_CHECKSUM, BAD_OFFSET, BAD_OPTION, BAD_PADDING = range(7)
-NOT_OPEN, ALREADY_OPEN, CLOSING, ENDED, STREAM_FULL, NOT_CONNECTED = range(11, 17)
-BAD_CAPACITY, NO_MEMORY, BAD_MSS, BAD_SHIFT, BAD_LIMIT = range(21, 26)
-NO_END, IN_USE, ROOM, NO_TIMER, NULL, LENGTH, COPIED, OVERLAP, NO_REST = range(31, 40)
-NOTHING, END_OF_STREAM, NOT_DUE, NO_RULE, DROPPED, NOT_MINE, NOT_AT_REST = range(51, 58)
-PHASES = (
-    "CLOSED LISTEN SYN-SENT SYN-RECEIVED ESTABLISHED FIN-WAIT-1 FIN-WAIT-2 CLOSE-WAIT CLOSING LAST-ACK TIME-WAIT".split()
-)
-ENDINGS = ("not-ended", "orderly", "reset", "aborted")
-RETRANSMIT, REORDER, TIME_WAIT = range(3)
 EMIT_ROOM = 1520
 RESET_ROOM = 20
 REST_ROOM = 20
-
 LIMIT = 2_147_483_632
 
-Status = namedtuple(
-    "Status",
-    "phase ending unread released ordered una next room queued in_flight mss own_shift peer_shift scaling sack "
-    "snd_wnd",
-)
+Address = Union[bytes, bytearray, str, ipaddress.IPv4Address]
+Buffer = Union[bytes, bytearray, memoryview]
 
 
-class Config(namedtuple("Config", "addr port mss isn send_capacity recv_capacity window_shift sack limit", defaults=[LIMIT])):
+class Answer(enum.IntEnum):
+    """What a call answers; its `text` is the library's."""
+
+    DONE, TOO_SHORT, TOO_LONG, BAD_CHECKSUM, BAD_OFFSET, BAD_OPTION, BAD_PADDING = range(7)
+    NOT_OPEN, ALREADY_OPEN, CLOSING, ENDED, STREAM_FULL, NOT_CONNECTED = range(11, 17)
+    BAD_CAPACITY, NO_MEMORY, BAD_MSS, BAD_SHIFT, BAD_LIMIT = range(21, 26)
+    NO_END, IN_USE, ROOM, NO_TIMER, NULL, LENGTH, COPIED, OVERLAP, NO_REST = range(31, 40)
+    NOTHING, END_OF_STREAM, NOT_DUE, NO_RULE, DROPPED, NOT_MINE, NOT_AT_REST = range(51, 58)
+
+    def __str__(self) -> str:
+        return str(int(self))
+
+    def __format__(self, format_spec: str) -> str:
+        return format(int(self), format_spec)
+
+    @property
+    def text(self) -> str:
+        return strerror(self)
+
+
+DONE, TOO_SHORT, TOO_LONG, BAD_CHECKSUM, BAD_OFFSET, BAD_OPTION, BAD_PADDING = list(Answer)[:7]
+NOT_OPEN, ALREADY_OPEN, CLOSING, ENDED, STREAM_FULL, NOT_CONNECTED = list(Answer)[7:13]
+BAD_CAPACITY, NO_MEMORY, BAD_MSS, BAD_SHIFT, BAD_LIMIT = list(Answer)[13:18]
+NO_END, IN_USE, ROOM, NO_TIMER, NULL, LENGTH, COPIED, OVERLAP, NO_REST = list(Answer)[18:27]
+NOTHING, END_OF_STREAM, NOT_DUE, NO_RULE, DROPPED, NOT_MINE, NOT_AT_REST = list(Answer)[27:]
+
+
+class Phase(str, enum.Enum):
+    """The phases (RFC 9293, 3.3.2). Each equals its name as a text."""
+
+    CLOSED = "CLOSED"
+    LISTEN = "LISTEN"
+    SYN_SENT = "SYN-SENT"
+    SYN_RECEIVED = "SYN-RECEIVED"
+    ESTABLISHED = "ESTABLISHED"
+    FIN_WAIT_1 = "FIN-WAIT-1"
+    FIN_WAIT_2 = "FIN-WAIT-2"
+    CLOSE_WAIT = "CLOSE-WAIT"
+    CLOSING = "CLOSING"
+    LAST_ACK = "LAST-ACK"
+    TIME_WAIT = "TIME-WAIT"
+
+    def __str__(self) -> str:
+        return str(self.value)
+
+    def __format__(self, format_spec: str) -> str:
+        return format(str(self.value), format_spec)
+
+
+class Ending(str, enum.Enum):
+    """How the connection ended. Each equals its name as a text."""
+
+    NOT_ENDED = "not-ended"
+    ORDERLY = "orderly"
+    RESET = "reset"
+    ABORTED = "aborted"
+
+    def __str__(self) -> str:
+        return str(self.value)
+
+    def __format__(self, format_spec: str) -> str:
+        return format(str(self.value), format_spec)
+
+
+class Timer(enum.IntEnum):
+    """The timers. Bit 1 << t of `timers()` is timer t's."""
+
+    RETRANSMIT = 0
+    REORDER = 1
+    TIME_WAIT = 2
+
+    def __str__(self) -> str:
+        return str(int(self))
+
+    def __format__(self, format_spec: str) -> str:
+        return format(int(self), format_spec)
+
+
+PHASES, ENDINGS = tuple(Phase), tuple(Ending)
+RETRANSMIT, REORDER, TIME_WAIT = Timer.RETRANSMIT, Timer.REORDER, Timer.TIME_WAIT
+
+
+class Status(NamedTuple):
+    """What an end tells of itself: struct tcpcore_status has each field's meaning."""
+
+    phase: Phase
+    ending: Ending
+    unread: int
+    released: int
+    ordered: int
+    una: int
+    next: int
+    room: int
+    queued: int
+    in_flight: int
+    mss: int
+    own_shift: int
+    peer_shift: int
+    scaling: int
+    sack: int
+    snd_wnd: int
+
+
+class Config(NamedTuple):
     """What an end is made from; `window_shift` is None where windows aren't scaled, and `limit` is the most bytes that it sends."""
+
+    addr: Address
+    port: int
+    mss: int
+    isn: int
+    send_capacity: int
+    recv_capacity: int
+    window_shift: Optional[int]
+    sack: bool
+    limit: int = LIMIT
 
 
 class Refused(Exception):
-    """A call was refused with this answer."""
+    """A call was refused with this answer; nothing changed. Its text is the library's."""
+
+    def __init__(self, answer: int) -> None:
+        super().__init__(answer)
+        self.answer = Answer(answer) if answer in ANSWERS else answer
+
+    def __str__(self) -> str:
+        return strerror(self.answer) if isinstance(self.answer, int) else str(self.answer)
+
+
+ANSWERS = frozenset(map(int, Answer))
 
 
 class EndStruct(ctypes.Structure):
@@ -50,8 +167,8 @@ class ConfigStruct(ctypes.Structure):
         ("port", ctypes.c_uint16),
         ("mss", ctypes.c_uint16),
         ("isn", ctypes.c_uint32),
-        ("send_capacity", ctypes.c_size_t),
-        ("recv_capacity", ctypes.c_size_t),
+        ("send_capacity", ctypes.c_uint64),
+        ("recv_capacity", ctypes.c_uint64),
         ("limit", ctypes.c_uint64),
         ("window_shift", ctypes.c_uint8),
         ("scales", ctypes.c_uint8),
@@ -135,10 +252,35 @@ CALLS = {
     "version": [],
 }
 RESULTS = {"room": SIZE, "strerror": ctypes.c_char_p}
-loaded = {}
+loaded: dict[str, Callable[..., Any]] = {}
 
 
-def load(path):
+def address(addr: Address) -> AddrStruct:
+    """The C struct of an address."""
+    found = ipaddress.IPv4Address(addr).packed if isinstance(addr, (str, ipaddress.IPv4Address)) else bytes(addr)
+    if len(found) != 4:
+        raise ValueError(f"an IPv4 address has 4 bytes, not {len(found)}")
+    return AddrStruct.from_buffer_copy(found)
+
+
+def number(name: str, value: int, bits: int) -> int:
+    """The value, which has to fit a field of so many bits."""
+    if not 0 <= value < 1 << bits:
+        raise ValueError(f"{name} is {value}, and isn't from 0 to {(1 << bits) - 1}")
+    return value
+
+
+def octets(data: Buffer) -> bytes:
+    """The bytes of a buffer of bytes."""
+    if isinstance(data, bytes):
+        return data
+    view = memoryview(data)
+    if view.itemsize != 1:
+        raise TypeError(f"a buffer of bytes is wanted, not of {view.itemsize} bytes each")
+    return bytes(view)
+
+
+def load(path: str) -> dict[str, Callable[..., Any]]:
     """The library's calls by their names, without the prefix."""
     library = ctypes.CDLL(path)
     calls = {}
@@ -151,75 +293,82 @@ def load(path):
     return calls
 
 
-def library():
-    """The calls of the library that LIBTCPCORE names, or of out/libtcpcore.so beside this file. It is loaded once."""
+def library() -> dict[str, Callable[..., Any]]:
+    """The calls of the library that LIBTCPCORE names, else of libtcpcore.so beside this file, else of out/libtcpcore.so. It is
+    loaded once."""
     if not loaded:
         here = os.path.dirname(os.path.realpath(__file__))
-        loaded.update(load(os.environ.get("LIBTCPCORE", f"{here}/out/libtcpcore.so")))
+        beside = f"{here}/libtcpcore.so"
+        loaded.update(load(os.environ.get("LIBTCPCORE", beside if os.path.exists(beside) else f"{here}/out/libtcpcore.so")))
     return loaded
 
 
-def strerror(answer):
+def strerror(answer: int) -> str:
     """The text of an answer."""
-    return library()["strerror"](answer).decode()
+    return bytes(library()["strerror"](answer)).decode()
 
 
-def version():
+def version() -> int:
     """The library's version."""
-    return library()["version"]()
+    return int(library()["version"]())
 
 
-def stray_reset(src, dst, data):
+def stray_reset(src: Address, dst: Address, data: Buffer) -> Optional[bytes]:
     """The reset that answers bytes which came from `src` to `dst`, where no end is, or None; it goes from `dst` to `src`."""
-    source, destination = AddrStruct.from_buffer_copy(src), AddrStruct.from_buffer_copy(dst)
+    source, destination, data = address(src), address(dst), octets(data)
     out, count = ctypes.create_string_buffer(RESET_ROOM), ctypes.c_size_t()
     answer = library()["stray_reset"](source, destination, data, len(data), out, RESET_ROOM, count)
     return ctypes.string_at(out, count.value) if answer == DONE else None
 
 
 class Rest:
-    """What rests in the place of an end in TIME-WAIT: made by `End.rest`, or of the bytes of another."""
+    """What rests in the place of an end in TIME-WAIT: made by `End.rest`, or of the bytes of another. A copy is another that rests."""
 
-    def __init__(self, data):
+    def __init__(self, data: Buffer) -> None:
+        if len(octets(data)) != ctypes.sizeof(RestStruct):
+            raise ValueError(f"what rests has {ctypes.sizeof(RestStruct)} bytes, not {len(octets(data))}")
         self.struct, self.calls = RestStruct.from_buffer_copy(data), library()
         # Bytes that are no rest's are found here.
         self.status()
 
-    def __bytes__(self):
+    def __bytes__(self) -> bytes:
         return bytes(self.struct)
 
-    def ask(self, name, *args):
+    def __reduce__(self) -> tuple[Any, ...]:
+        return Rest, (bytes(self),)
+
+    def ask(self, name: str, *args: Any) -> None:
         """A call that is done or refused."""
         answer = self.calls[f"rest_{name}"](self.struct, *args)
         if answer != DONE:
             raise Refused(answer)
 
-    def arrive(self, src, dst, data):
-        """The answer's number."""
-        source, destination = AddrStruct.from_buffer_copy(src), AddrStruct.from_buffer_copy(dst)
-        return self.calls["rest_arrive"](self.struct, source, destination, data, len(data))
+    def arrive(self, src: Address, dst: Address, data: Buffer) -> Answer:
+        """What became of the segment."""
+        source, destination, data = address(src), address(dst), octets(data)
+        return Answer(self.calls["rest_arrive"](self.struct, source, destination, data, len(data)))
 
-    def timer(self, timer):
+    def timer(self, timer: int) -> bool:
         """Whether the timer's rule was applied."""
-        return self.calls["rest_timer"](self.struct, timer) == DONE
+        return bool(self.calls["rest_timer"](self.struct, number("the timer", timer, 32)) == DONE)
 
-    def emit(self):
+    def emit(self) -> Optional[tuple[bytes, bytes]]:
         """The address and the bytes of a segment, or None."""
         segment, to, count = ctypes.create_string_buffer(REST_ROOM), AddrStruct(), ctypes.c_size_t()
         if self.calls["rest_emit"](self.struct, segment, REST_ROOM, to, count) != DONE:
             return None
         return bytes(to.byte), ctypes.string_at(segment, count.value)
 
-    def pending(self):
+    def pending(self) -> int:
         """The length of the segment that is due, 0 where none is."""
         due = ctypes.c_uint32()
         self.ask("pending", due)
         return due.value
 
-    def abort(self):
+    def abort(self) -> None:
         self.ask("abort")
 
-    def status(self):
+    def status(self) -> tuple[Phase, Ending]:
         """The phase and the ending."""
         phase, ending = ctypes.c_uint32(), ctypes.c_uint32()
         self.ask("status", phase, ending)
@@ -227,66 +376,77 @@ class Rest:
 
 
 class End:
-    """One end. A refusal of a user's call is raised as `Refused`. It is freed behind `with`, or when nothing refers to it."""
+    """One end. A refusal of a user's call is raised as `Refused`. It is freed behind `with`, or when nothing refers to it. It can't
+    be copied. `room` is the most bytes that `receive` hands over at once."""
 
-    def __init__(self, config, room=1 << 16):
+    def __init__(self, config: Config, room: int = 1 << 16) -> None:
+        shift = config.window_shift
+        told = ConfigStruct(
+            addr=address(config.addr),
+            port=number("the port", config.port, 16),
+            mss=number("the MSS", config.mss, 16),
+            isn=number("the initial sequence number", config.isn, 32),
+            send_capacity=number("the send capacity", config.send_capacity, 64),
+            recv_capacity=number("the receive capacity", config.recv_capacity, 64),
+            limit=number("the limit", config.limit, 64),
+            window_shift=number("the window shift", shift or 0, 8),
+            scales=shift is not None,
+            sack=bool(config.sack),
+        )
         self.struct, self.calls = EndStruct(), library()
         self.end = ctypes.pointer(self.struct)
         self.count, self.due, self.to = ctypes.c_size_t(), ctypes.c_uint32(), AddrStruct()
         self.told = StatusStruct()
         self.segment = ctypes.create_string_buffer(EMIT_ROOM)
         self.text, self.room = ctypes.create_string_buffer(room), room
-        shift = config.window_shift
-        told = ConfigStruct(
-            addr=AddrStruct.from_buffer_copy(config.addr),
-            port=config.port,
-            mss=config.mss,
-            isn=config.isn,
-            send_capacity=config.send_capacity,
-            recv_capacity=config.recv_capacity,
-            limit=config.limit,
-            window_shift=shift or 0,
-            scales=shift is not None,
-            sack=config.sack,
-        )
         # All of the end lies in it, as long as this object keeps it.
         size = self.calls["room"](told)
         self.memory = ctypes.create_string_buffer(size)
         self.ask("new", told, self.memory, size)
 
-    def ask(self, name, *args):
+    def ask(self, name: str, *args: Any) -> None:
         """A call that is done or refused."""
         answer = self.calls[name](self.end, *args)
         if answer != DONE:
             raise Refused(answer)
 
-    def free(self):
+    def free(self) -> None:
         self.ask("free")
 
-    def __enter__(self):
+    def __copy__(self) -> NoReturn:
+        raise TypeError("an end can't be copied")
+
+    def __deepcopy__(self, memo: object) -> NoReturn:
+        raise TypeError("an end can't be copied")
+
+    def __reduce__(self) -> NoReturn:
+        raise TypeError("an end can't be stored")
+
+    def __enter__(self) -> End:
         return self
 
-    def __exit__(self, kind, fault, trace):
+    def __exit__(self, *fault: object) -> None:
         # Freed within already: the answer is NO_END.
         self.calls["free"](self.end)
 
-    def __del__(self):
+    def __del__(self) -> None:
         # Without a library, or with a Config that isn't one, there is no struct or no call.
         if "end" in self.__dict__:
             self.calls["free"](self.end)
 
-    def connect(self, addr, port):
-        self.ask("connect", AddrStruct.from_buffer_copy(addr), port)
+    def connect(self, addr: Address, port: int) -> None:
+        self.ask("connect", address(addr), number("the port", port, 16))
 
-    def listen(self):
+    def listen(self) -> None:
         self.ask("listen")
 
-    def send(self, text):
+    def send(self, text: Buffer) -> int:
         """How many bytes were taken."""
+        text = octets(text)
         self.ask("send", text, len(text), self.count)
         return self.count.value
 
-    def receive(self):
+    def receive(self) -> Optional[bytes]:
         """Bytes, b"" at the end of the stream, None where there is nothing yet."""
         answer = self.calls["receive"](self.end, self.text, self.room, self.count)
         if answer in (NOTHING, END_OF_STREAM):
@@ -295,47 +455,47 @@ class End:
             raise Refused(answer)
         return ctypes.string_at(self.text, self.count.value)
 
-    def acknowledge(self):
+    def acknowledge(self) -> None:
         self.ask("acknowledge")
 
-    def close(self):
+    def close(self) -> None:
         self.ask("close")
 
-    def abort(self):
+    def abort(self) -> None:
         self.ask("abort")
 
-    def timer(self, timer):
+    def timer(self, timer: int) -> bool:
         """Whether the timer's rule was applied."""
-        return self.calls["timer"](self.end, timer) == DONE
+        return bool(self.calls["timer"](self.end, number("the timer", timer, 32)) == DONE)
 
-    def arrive(self, src, dst, data):
-        """The answer's number."""
-        source, destination = AddrStruct.from_buffer_copy(src), AddrStruct.from_buffer_copy(dst)
-        return self.calls["arrive"](self.end, source, destination, data, len(data))
+    def arrive(self, src: Address, dst: Address, data: Buffer) -> Answer:
+        """What became of the segment."""
+        source, destination, data = address(src), address(dst), octets(data)
+        return Answer(self.calls["arrive"](self.end, source, destination, data, len(data)))
 
-    def take(self, src, dst, data):
-        """The answer's number, and whether the segment has to be answered at once."""
-        source, destination = AddrStruct.from_buffer_copy(src), AddrStruct.from_buffer_copy(dst)
+    def take(self, src: Address, dst: Address, data: Buffer) -> tuple[Answer, bool]:
+        """What became of the segment, and whether the segment has to be answered at once."""
+        source, destination, data = address(src), address(dst), octets(data)
         answer = self.calls["take"](self.end, source, destination, data, len(data), self.due)
-        return answer, self.due.value == 1
+        return Answer(answer), self.due.value == 1
 
-    def pending(self):
+    def pending(self) -> int:
         """The length of the segment that is due, 0 where none is."""
         self.ask("pending", self.due)
         return self.due.value
 
-    def emit(self):
+    def emit(self) -> Optional[tuple[bytes, bytes]]:
         """The address and the bytes of a segment, or None."""
         if self.calls["emit"](self.end, self.segment, EMIT_ROOM, self.to, self.count) != DONE:
             return None
         return bytes(self.to.byte), ctypes.string_at(self.segment, self.count.value)
 
-    def timers(self):
+    def timers(self) -> int:
         """Bit 1 << t where timer t has to run."""
         self.ask("timers", self.due)
         return self.due.value
 
-    def peer(self):
+    def peer(self) -> Optional[tuple[bytes, int]]:
         """The peer's address and port, or None where it isn't known yet."""
         port = ctypes.c_uint16()
         answer = self.calls["peer"](self.end, self.to, port)
@@ -345,12 +505,12 @@ class End:
             raise Refused(answer)
         return bytes(self.to.byte), port.value
 
-    def status(self):
+    def status(self) -> Status:
         self.ask("status", self.told)
         told = {name: getattr(self.told, name) for name in Status._fields}
         return Status(**told | {"phase": PHASES[told["phase"]], "ending": ENDINGS[told["ending"]]})
 
-    def rest(self):
+    def rest(self) -> Optional[Rest]:
         """What can take this end's place in TIME-WAIT, once nothing is unread, or None before."""
         struct = RestStruct()
         answer = self.calls["rest"](self.end, struct)

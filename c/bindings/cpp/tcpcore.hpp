@@ -1,0 +1,83 @@
+// tcpcore.hpp: tcpcore.h for C++17. An end owns its memory, can be moved, and is freed with its object. What a call refuses is thrown.
+#ifndef TCPCORE_HPP
+#define TCPCORE_HPP
+
+#include "tcpcore.h"
+
+#include <memory>
+#include <optional>
+#include <stdexcept>
+#include <utility>
+
+namespace tcpcore {
+
+// A call was refused; what() is the library's text.
+struct refused : std::runtime_error {
+    std::uint32_t answer;
+    explicit refused(std::uint32_t found) : std::runtime_error(tcpcore_strerror(found)), answer(found) {}
+};
+
+class end {
+    // The C struct stays where it is; the object that holds it may move. One that was moved from can only be assigned or destroyed.
+    struct place {
+        std::unique_ptr<unsigned char[]> block;
+        tcpcore_end raw = TCPCORE_END_INIT;
+        explicit place(std::size_t size) : block(new unsigned char[size]) {}
+        ~place() { tcpcore_free(&raw); }
+    };
+    std::unique_ptr<place> held;
+
+    static void done(std::uint32_t answer) { if (answer != TCPCORE_DONE) throw refused(answer); }
+
+public:
+    explicit end(const tcpcore_config &config) : held(new place(tcpcore_room(&config)))
+    {
+        done(tcpcore_new(&held->raw, &config, held->block.get(), tcpcore_room(&config)));
+    }
+
+    void connect(tcpcore_addr addr, std::uint16_t port) { done(tcpcore_connect(raw(), addr, port)); }
+    void listen() { done(tcpcore_listen(raw())); }
+    void close() { done(tcpcore_close(raw())); }
+    void abort() { done(tcpcore_abort(raw())); }
+    void acknowledge() { done(tcpcore_acknowledge(raw())); }
+
+    // How many bytes were taken.
+    std::size_t send(const void *text, std::size_t length)
+    {
+        std::size_t taken;
+        return done(tcpcore_send(raw(), text, length, &taken)), taken;
+    }
+    // How many bytes were handed over, 0 where there are none yet; nothing at the end of the stream.
+    std::optional<std::size_t> receive(void *out, std::size_t room)
+    {
+        std::size_t count;
+        std::uint32_t answer = tcpcore_receive(raw(), out, room, &count);
+        if (answer == TCPCORE_END_OF_STREAM) return std::nullopt;
+        if (answer != TCPCORE_NOTHING) done(answer);
+        return count;
+    }
+    // The length of the segment that was due, 0 where none was.
+    std::size_t emit(unsigned char (&out)[TCPCORE_EMIT_ROOM], tcpcore_addr &to)
+    {
+        std::size_t length;
+        return tcpcore_emit(raw(), out, sizeof out, &to, &length), length;
+    }
+    // What became of the segment: DONE, DROPPED, NOT_MINE, or why it is none; and whether it has to be answered at once.
+    std::pair<std::uint32_t, bool> arrive(tcpcore_addr src, tcpcore_addr dst, const void *segment, std::size_t length)
+    {
+        std::uint32_t at_once, answer = tcpcore_take(raw(), src, dst, segment, length, &at_once);
+        return {answer, at_once == 1};
+    }
+    bool timer(std::uint32_t timer) { return tcpcore_timer(raw(), timer) == TCPCORE_DONE; }
+    struct tcpcore_status status() const
+    {
+        struct tcpcore_status told;
+        return done(tcpcore_status(raw(), &told)), told;
+    }
+    // For the calls of tcpcore.h that aren't here.
+    tcpcore_end *raw() const { return &held->raw; }
+};
+
+}
+
+#endif

@@ -1,0 +1,3 @@
+module tcpcore
+
+go 1.19

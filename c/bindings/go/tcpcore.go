@@ -1,0 +1,167 @@
+// Package tcpcore is tcpcore.h for Go: one end of one TCP connection, as a value. Struct and block lie in C's memory, so an End may be
+// copied as a pointer; Free gives both back. An end is used by one goroutine at a time.
+package tcpcore
+
+/*
+#cgo CFLAGS: -std=c99 -O2 -I${SRCDIR}/../../tcpcore -I${SRCDIR}/../../portable/out
+#include "tcpcore.h"
+#include <stdlib.h>
+*/
+import "C"
+
+import (
+	"io"
+	"unsafe"
+)
+
+// EmitRoom is the room that Emit wants, in bytes.
+const EmitRoom = C.TCPCORE_EMIT_ROOM
+
+// The timers of Timer.
+const (
+	Retransmit = C.TCPCORE_TIMER_RETRANSMIT
+	Reorder    = C.TCPCORE_TIMER_REORDER
+	TimeWait   = C.TCPCORE_TIMER_TIME_WAIT
+)
+
+// Refused is a call's answer, other than that it was done.
+type Refused uint32
+
+func (answer Refused) Error() string { return C.GoString(C.tcpcore_strerror(C.uint32_t(answer))) }
+
+func done(answer C.uint32_t) error {
+	if answer != C.TCPCORE_DONE {
+		return Refused(answer)
+	}
+	return nil
+}
+
+// Addr is an IPv4 address.
+type Addr [4]byte
+
+func (addr Addr) c() (found C.tcpcore_addr) {
+	*(*Addr)(unsafe.Pointer(&found)) = addr
+	return
+}
+
+// Config is what an end is made from; Shift below 0 says that windows aren't scaled. Limit 0 is the greatest under which no old segment
+// is taken for another.
+type Config struct {
+	Addr                       Addr
+	Port, MSS                  uint16
+	ISN                        uint32
+	SendCapacity, RecvCapacity uint64
+	Shift                      int8
+	Sack                       bool
+	Limit                      uint64
+}
+
+// End is one end.
+type End struct{ raw *C.tcpcore_end }
+
+// New makes an end: CLOSED, empty, nothing due.
+func New(config Config) (*End, error) {
+	c := C.tcpcore_config{addr: config.Addr.c(), port: C.uint16_t(config.Port), mss: C.uint16_t(config.MSS), isn: C.uint32_t(config.ISN),
+		send_capacity: C.uint64_t(config.SendCapacity), recv_capacity: C.uint64_t(config.RecvCapacity), limit: C.uint64_t(config.Limit)}
+	if config.Limit == 0 {
+		c.limit = 2147483632
+	}
+	if config.Shift >= 0 {
+		c.scales, c.window_shift = 1, C.uint8_t(config.Shift)
+	}
+	if config.Sack {
+		c.sack = 1
+	}
+	// The struct, and behind it the block.
+	size := C.size_t(unsafe.Sizeof(C.tcpcore_end{}))
+	room := C.tcpcore_room(&c)
+	raw := (*C.tcpcore_end)(C.calloc(1, size+room))
+	if raw == nil {
+		return nil, Refused(C.TCPCORE_NO_MEMORY)
+	}
+	if answer := C.tcpcore_new(raw, &c, unsafe.Add(unsafe.Pointer(raw), size), room); answer != C.TCPCORE_DONE {
+		C.free(unsafe.Pointer(raw))
+		return nil, Refused(answer)
+	}
+	return &End{raw}, nil
+}
+
+// Free gives the end up, and its memory back. No call may follow.
+func (end *End) Free() {
+	C.tcpcore_free(end.raw)
+	C.free(unsafe.Pointer(end.raw))
+	end.raw = nil
+}
+
+func (end *End) Connect(addr Addr, port uint16) error {
+	return done(C.tcpcore_connect(end.raw, addr.c(), C.uint16_t(port)))
+}
+func (end *End) Listen() error      { return done(C.tcpcore_listen(end.raw)) }
+func (end *End) Close() error       { return done(C.tcpcore_close(end.raw)) }
+func (end *End) Abort() error       { return done(C.tcpcore_abort(end.raw)) }
+func (end *End) Acknowledge() error { return done(C.tcpcore_acknowledge(end.raw)) }
+
+// front is where a slice begins, nil where it is empty.
+func front(bytes []byte) unsafe.Pointer {
+	if len(bytes) == 0 {
+		return nil
+	}
+	return unsafe.Pointer(&bytes[0])
+}
+
+// Send takes the front of the text that fits, and tells its length.
+func (end *End) Send(text []byte) (int, error) {
+	var taken C.size_t
+	err := done(C.tcpcore_send(end.raw, front(text), C.size_t(len(text)), &taken))
+	return int(taken), err
+}
+
+// Receive hands over what came in order; 0 where there is nothing yet, io.EOF at the end of the stream.
+func (end *End) Receive(out []byte) (int, error) {
+	var count C.size_t
+	switch answer := C.tcpcore_receive(end.raw, front(out), C.size_t(len(out)), &count); answer {
+	case C.TCPCORE_NOTHING:
+		return 0, nil
+	case C.TCPCORE_END_OF_STREAM:
+		return 0, io.EOF
+	default:
+		return int(count), done(answer)
+	}
+}
+
+// Emit writes the segment that is due; 0 where none is.
+func (end *End) Emit(room *[EmitRoom]byte) (to Addr, length int) {
+	var count C.size_t
+	C.tcpcore_emit(end.raw, unsafe.Pointer(room), EmitRoom, (*C.tcpcore_addr)(unsafe.Pointer(&to)), &count)
+	return to, int(count)
+}
+
+// Arrive takes a segment: nil where it was taken, else what became of it; and whether it has to be answered at once.
+func (end *End) Arrive(src, dst Addr, segment []byte) (atOnce bool, err error) {
+	var found C.uint32_t
+	err = done(C.tcpcore_take(end.raw, src.c(), dst.c(), front(segment), C.size_t(len(segment)), &found))
+	return found == 1, err
+}
+
+// Timer says that a timer has run out, and tells whether its rule was applied. Timers has bit 1 << t where timer t has to run.
+func (end *End) Timer(timer uint32) bool {
+	return C.tcpcore_timer(end.raw, C.uint32_t(timer)) == C.TCPCORE_DONE
+}
+
+func (end *End) Timers() uint32 {
+	var due C.uint32_t
+	C.tcpcore_timers(end.raw, &due)
+	return uint32(due)
+}
+
+// Status is struct tcpcore_status, by the names of its fields.
+type Status = C.struct_tcpcore_status
+
+func (end *End) Status() (status Status) {
+	C.tcpcore_status(end.raw, &status)
+	return
+}
+
+// Established and Ended tell the phase and whether the connection has ended, of a status.
+func Established(status Status) bool { return status.phase == C.TCPCORE_PHASE_ESTABLISHED }
+func Ended(status Status) bool       { return status.ending != C.TCPCORE_ENDING_NOT_ENDED }

@@ -1,0 +1,91 @@
+//! An end in a block that it borrows.
+use crate::answers::done;
+use crate::{sys, Config, End, Error};
+use core::marker::PhantomData;
+use core::mem::{align_of, size_of, MaybeUninit};
+use core::ops::{Deref, DerefMut};
+use core::ptr::{self, NonNull};
+
+/// What the C struct takes of the block, wherever that begins.
+pub(crate) const STRUCT_ROOM: usize = size_of::<sys::End>() + align_of::<sys::End>() - 1;
+
+/// How many bytes of a block are enough for an end of these capacities, wherever the block begins.
+pub const fn memory(send: usize, receive: usize) -> usize {
+    let units = (send + sys::UNIT - 1) / sys::UNIT + (receive + sys::UNIT - 1) / sys::UNIT;
+    units * sys::UNIT + sys::END_SIZE + sys::UNIT - 1 + STRUCT_ROOM
+}
+
+/// An end in a block that it borrows. It can be moved, and is freed when it is dropped.
+pub struct Placed<'m> {
+    /// The C struct, at the front of the block, where it stays; behind it lies what the library has.
+    raw: NonNull<sys::End>,
+    block: PhantomData<&'m mut [MaybeUninit<u8>]>,
+}
+
+// SAFETY: as of End.
+unsafe impl Send for Placed<'_> {}
+unsafe impl Sync for Placed<'_> {}
+
+impl<'m> Placed<'m> {
+    /// Makes an end: CLOSED, empty, nothing due. All of it lies in the block, of [`memory`] or [`Config::room`] bytes or more,
+    /// whatever they hold.
+    ///
+    /// ```
+    /// use std::mem::MaybeUninit;
+    /// use tcpcore::{memory, Config, Placed};
+    ///
+    /// let mut block = [MaybeUninit::uninit(); memory(1000, 1000)];
+    /// let mut end = Placed::new(&Config::new([10, 0, 0, 1], 80, 1).capacities(1000, 1000), &mut block)?;
+    /// end.listen()?;
+    /// # Ok::<(), tcpcore::Error>(())
+    /// ```
+    ///
+    /// # Errors
+    /// [`Error::BadCapacity`], [`Error::BadMss`], [`Error::BadShift`], [`Error::BadLimit`], [`Error::NoMemory`], the first that
+    /// applies.
+    pub fn new(config: &Config, block: &'m mut [MaybeUninit<u8>]) -> Result<Placed<'m>, Error> {
+        let empty = sys::End { opaque: [0; 3] };
+        let before = block.as_ptr().align_offset(align_of::<sys::End>());
+        if before.checked_add(size_of::<sys::End>()).map_or(true, |front| front > block.len()) {
+            // No room for the struct; the config's own faults come first.
+            let mut other = empty;
+            // SAFETY: a struct with no end in it, and no block.
+            let answer = unsafe { sys::tcpcore_new(&mut other, &config.0, ptr::null_mut(), 0) };
+            return Err(done(answer).err().unwrap_or(Error::NoMemory));
+        }
+        let (front, rest) = block[before..].split_at_mut(size_of::<sys::End>());
+        let raw = NonNull::from(front).cast::<sys::End>();
+        // SAFETY: the struct's place is aligned, and it and the rest are borrowed for as long as the end lives.
+        unsafe {
+            raw.as_ptr().write(empty);
+            done(sys::tcpcore_new(raw.as_ptr(), &config.0, rest.as_mut_ptr().cast(), rest.len()))?;
+        }
+        Ok(Placed { raw, block: PhantomData })
+    }
+
+    fn end(&self) -> *mut End {
+        ptr::slice_from_raw_parts_mut(self.raw.as_ptr().cast::<u8>(), 0) as *mut End
+    }
+}
+
+impl Deref for Placed<'_> {
+    type Target = End;
+    fn deref(&self) -> &End {
+        // SAFETY: the struct lies there, and is borrowed with this.
+        unsafe { &*self.end() }
+    }
+}
+
+impl DerefMut for Placed<'_> {
+    fn deref_mut(&mut self) -> &mut End {
+        // SAFETY: as above.
+        unsafe { &mut *self.end() }
+    }
+}
+
+impl Drop for Placed<'_> {
+    fn drop(&mut self) {
+        // SAFETY: it holds an end, which nobody uses behind this.
+        unsafe { sys::tcpcore_free(self.raw.as_ptr()) };
+    }
+}

@@ -1,0 +1,59 @@
+#!/usr/bin/env bash
+# The Rust crate with Debian's rustc and cargo, without a network: layout, clippy, documents, tests with the portable file (which
+# c/portable/build.sh makes) and with the native library (the first argument, or crates/tcp_c's own), without std, and the example
+# over sockets. It installs what this machine lacks by apt-get; where that fails it fails, or, with LEAVE_OUT=1 in the environment,
+# says what it leaves out. Stops at the first failure.
+set -euo pipefail
+cd "$(dirname "$0")"
+test=rust
+. ../../../checks/lib.sh
+library=$(realpath -m "${1:-../../../crates/tcp_c/out/libtcp_c.a}")
+# Debian's, where others are installed too.
+export PATH=/usr/bin:$PATH CARGO_TARGET_DIR=$PWD/out/target
+unset RUSTUP_TOOLCHAIN RUSTC
+passed=0
+
+# The command passes; the words of its output that are kept are printed.
+passes() {
+    "$@" >out/found 2>&1 || { cat out/found; echo "rust: '$*' failed"; exit 1; }
+    passed=$((passed + 1))
+}
+
+# Tests, of which this many at least have to have run.
+tests() {
+    local least=$1 count
+    shift
+    passes cargo test --offline "$@"
+    count=$(awk '/^test result: ok/ { sum += $4 } END { print sum + 0 }' out/found)
+    ((count >= least)) || { echo "rust: only $count tests ran"; exit 1; }
+    passed=$((passed + count - 1))
+}
+
+mkdir -p out
+install_commands <<'LIST'
+cargo cargo
+rustc rustc
+cargo-clippy rust-clippy
+rustfmt rustfmt
+make make
+LIST
+[[ -e ../../portable/out/tcpcore_portable.c ]] || { echo "rust: no portable file: run c/portable/build.sh"; exit 1; }
+[[ -e $library ]] || { echo "rust: no $library: run 'rt lib' in crates/tcp_c"; exit 1; }
+passes cargo fmt --check
+passes cargo clippy --offline --all-targets -- -D warnings
+RUSTDOCFLAGS="-D warnings" passes cargo doc --offline --no-deps
+tests 14
+tests 14 --features unchecked
+passes cargo build --offline --no-default-features
+make --silent -C ../../tcpcore OUT="$PWD/out/native" LIBRARY="$library"
+export TCPCORE_LIB_DIR=$PWD/out/native
+tests 14 --features native
+passes timeout 120 cargo run --quiet --offline --example udp ../../tcpcore/tcpcore.h
+grep -q ' bytes came as they were sent, in ' out/found
+cat out/found
+# Debian has no Rust for bare metal: that the crate links there is told where rustc has the target.
+if rustc --print sysroot | xargs -I{} test -d {}/lib/rustlib/thumbv7m-none-eabi; then
+    CC=arm-none-eabi-gcc AR=arm-none-eabi-ar CFLAGS="-mcpu=cortex-m3 -mthumb -Os" \
+        passes cargo build --offline --no-default-features --target thumbv7m-none-eabi
+fi
+echo "rust: $passed passed, $left_out left out"

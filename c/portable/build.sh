@@ -1,0 +1,34 @@
+#!/usr/bin/env bash
+# Builds out/tcpcore_portable.c, one C99 file with the library of crates/tcp_c in it, for any machine: 'rt lib' proves the crate and
+# builds it for WebAssembly with 64-bit addresses, in a copy, out/build, since the gate has it for this machine; wasm-opt (binaryen)
+# makes the addresses 32 bits wide, wasm2c (wabt) writes C, and join.py puts that together with the layer of c/tcpcore. It
+# installs both by apt-get where this machine lacks them.
+# With --module FILE it begins with that module: crates/tcp_c as 'rt lib' has built it before.
+set -euo pipefail
+cd "$(dirname "$0")"
+# shellcheck disable=SC2034
+test=portable
+. ../../checks/lib.sh
+top=$(cd ../.. && pwd)
+build=$PWD/out/build
+module=$build/crates/tcp_c/out/tcp_c.wasm
+
+install_commands <<'LIST'
+wasm-opt binaryen
+wasm2c wabt
+LIST
+mkdir -p "$build/crates"
+if [[ ${1-} == --module ]]; then
+    module=$(realpath "$2")
+else
+    # tcp_c, and the crates below it.
+    lines='^(region_heap|tcp_numbers|tcp_wire|tcp_sendq|tcp_reasm|tcp_halves|tcp_conn|tcp_c)( staticlib)?:'
+    mapfile -t folders < <(sed -nE "s/$lines.*/crates\/\1/p" "$top/crates.txt")
+    tar -C "$top" --exclude=out -cf - HANDLES "${folders[@]}" | tar -xf - -C "$build"
+    grep -E "$lines" "$top/crates.txt" | sed 's/^tcp_c staticlib:/tcp_c wasm64:/' >"$build/crates.txt"
+    (cd "$build/crates/tcp_c" && rt lib)
+fi
+cd out
+wasm-opt --enable-memory64 --enable-bulk-memory --enable-mutable-globals -g --memory64-lowering "$module" -o tcp_c.wasm
+wasm2c tcp_c.wasm -n tcp_c -o tcp_c.c
+python3 ../join.py tcp_c.c tcpcore_portable.c

@@ -1,0 +1,355 @@
+/*
+ * The library's calls by the module's: records are carried into the machine's memory and back, buffers are seen through windows.
+ * The struct's first two words are those of this file: where the block begins; and the end's address in the module beside a mark,
+ * without which the struct holds no end.
+ */
+enum {
+    AT_HANDLE = MODULE_STACK,
+    AT_BLOCK = AT_HANDLE + 16,
+    AT_SRC = AT_BLOCK + 16,
+    AT_DST = AT_SRC + 8,
+    AT_FOUND = AT_DST + 8,
+    AT_OTHER = AT_FOUND + 8,
+    AT_RECORD = AT_OTHER + 8,
+    RECORD = 88,
+    FRAME = AT_RECORD + RECORD
+};
+
+/* crates/tcp_c: the mark of a handle that holds an end, and how many bytes of the block it takes from its address on. */
+#define MARK_OF_LIVE UINT64_C(0x744350526174746c)
+#define END_SIZE 704
+#define MARK UINT32_C(0x706f7274)
+
+struct call {
+    Machine machine;
+    u8 frame[FRAME];
+};
+
+/* How many bytes each field of a record has, in turn. */
+static const u8 OF_ADDR[] = {1, 1, 1, 1, 0};
+static const u8 OF_CONFIG[] = {1, 1, 1, 1, 2, 2, 4, 4, 8, 8, 8, 1, 1, 1, 0};
+static const u8 OF_STATUS[] = {4, 4, 8, 8, 8, 8, 8, 8, 8, 8, 4, 1, 1, 1, 1, 4, 0};
+static const u8 OF_REST[] = {4, 1, 1, 1, 1, 1, 1, 1, 1, 2, 2, 4, 4, 4, 1, 1, 1, 1, 4, 4, 2, 1, 1, 2, 2, 0};
+
+/* Carries a record between the program's memory and the module's: their fields lie at the same places. */
+static void carry_record(void *to, const void *from, const u8 *sizes)
+{
+    u8 *out = to;
+    const u8 *in = from;
+    for (; *sizes > 0; out += *sizes, in += *sizes, sizes++)
+        for (unsigned i = 0; i < *sizes; i++)
+            out[i] = in[IS_REVERSED ? *sizes - 1 - i : i];
+}
+
+static void see(struct call *call, int window, const void *data, size_t size)
+{
+    struct window found = {(u8 *)(uintptr_t)data, size < PLACE ? (u32)size : PLACE};
+    call->machine.w2c_memory.read[window] = call->machine.w2c_memory.written[window] = found;
+    if (window == IN_READ)
+        call->machine.w2c_memory.written[window].size = 0;
+}
+
+static u64 length_of(size_t size) { return size < PLACE ? size : PLACE; }
+
+static void begin(struct call *call)
+{
+    memset(&call->machine, 0, sizeof call->machine);
+    call->machine.w2c___stack_pointer = MODULE_STACK;
+    see(call, IN_STACK, call->frame, FRAME);
+    put64(call->frame + AT_HANDLE, 0);
+    put64(call->frame + AT_HANDLE + 8, 0);
+}
+
+/* With the end that is in the handle, if there is one. */
+static void begin_with(struct call *call, const struct handle *handle)
+{
+    begin(call);
+    if (handle->at >> 32 != MARK)
+        return;
+    u32 at = (u32)handle->at;
+    see(call, IN_BLOCK, (const void *)(uintptr_t)handle->mark, (at & PLACE) + END_SIZE);
+    put64(call->frame + AT_HANDLE, MARK_OF_LIVE);
+    put64(call->frame + AT_HANDLE + 8, at);
+}
+
+/* The handle as the call has left it. */
+static void end_with(const struct call *call, struct handle *handle)
+{
+    int is_live = get64(call->frame + AT_HANDLE) == MARK_OF_LIVE;
+    handle->mark = is_live ? (uintptr_t)call->machine.w2c_memory.read[IN_BLOCK].data : 0;
+    handle->at = is_live ? (u64)MARK << 32 | get32(call->frame + AT_HANDLE + 8) : 0;
+}
+
+static void put_addr(struct call *call, u32 at, const tcpcore_addr *addr) { carry_record(call->frame + at, addr, OF_ADDR); }
+
+/* A call of the module, with the end in the handle: `made` is its name and what stands behind the handle. */
+#define WITH_END(handle) \
+    struct call call; \
+    begin_with(&call, handle)
+#define ANSWER(handle, made) \
+    uint32_t answer = made; \
+    end_with(&call, handle); \
+    return answer
+#define M (&call.machine)
+
+static uint32_t tcp_c_new(struct handle *handle, const tcpcore_config *config, struct block block)
+{
+    WITH_END(handle);
+    if (get64(call.frame + AT_HANDLE) != MARK_OF_LIVE)
+        see(&call, IN_BLOCK, block.at, block.size);
+    carry_record(call.frame + AT_RECORD, config, OF_CONFIG);
+    put64(call.frame + AT_BLOCK, WINDOW(IN_BLOCK));
+    put64(call.frame + AT_BLOCK + 8, length_of(block.size) / UNIT * UNIT);
+    ANSWER(handle, w2c_tcp_c_new(M, AT_HANDLE, AT_RECORD, AT_BLOCK));
+}
+
+static size_t tcp_c_room(const tcpcore_config *config)
+{
+    struct call call;
+    begin(&call);
+    carry_record(call.frame + AT_RECORD, config, OF_CONFIG);
+    return (size_t)w2c_tcp_c_room(M, AT_RECORD);
+}
+
+static uint32_t tcp_c_free(struct handle *handle)
+{
+    WITH_END(handle);
+    ANSWER(handle, w2c_tcp_c_free(M, AT_HANDLE));
+}
+
+static uint32_t tcp_c_connect(struct handle *handle, const tcpcore_addr *addr, uint16_t port)
+{
+    WITH_END(handle);
+    put_addr(&call, AT_DST, addr);
+    ANSWER(handle, w2c_tcp_c_connect(M, AT_HANDLE, AT_DST, port));
+}
+
+static uint32_t tcp_c_listen(struct handle *handle)
+{
+    WITH_END(handle);
+    ANSWER(handle, w2c_tcp_c_listen(M, AT_HANDLE));
+}
+
+static uint32_t tcp_c_send(struct handle *handle, const uint8_t *text, size_t length, size_t *taken)
+{
+    WITH_END(handle);
+    see(&call, IN_READ, text, length);
+    put64(call.frame + AT_FOUND, 0);
+    uint32_t answer = w2c_tcp_c_send(M, AT_HANDLE, WINDOW(IN_READ), length_of(length), AT_FOUND);
+    *taken = (size_t)get64(call.frame + AT_FOUND);
+    end_with(&call, handle);
+    return answer;
+}
+
+static uint32_t tcp_c_receive(struct handle *handle, uint8_t *out, size_t room, size_t *count)
+{
+    WITH_END(handle);
+    see(&call, IN_WRITTEN, out, room);
+    put64(call.frame + AT_FOUND, 0);
+    uint32_t answer = w2c_tcp_c_receive(M, AT_HANDLE, WINDOW(IN_WRITTEN), length_of(room), AT_FOUND);
+    *count = (size_t)get64(call.frame + AT_FOUND);
+    end_with(&call, handle);
+    return answer;
+}
+
+static uint32_t tcp_c_acknowledge(struct handle *handle)
+{
+    WITH_END(handle);
+    ANSWER(handle, w2c_tcp_c_acknowledge(M, AT_HANDLE));
+}
+
+static uint32_t tcp_c_close(struct handle *handle)
+{
+    WITH_END(handle);
+    ANSWER(handle, w2c_tcp_c_close(M, AT_HANDLE));
+}
+
+static uint32_t tcp_c_abort(struct handle *handle)
+{
+    WITH_END(handle);
+    ANSWER(handle, w2c_tcp_c_abort(M, AT_HANDLE));
+}
+
+static uint32_t tcp_c_timer(struct handle *handle, uint32_t timer)
+{
+    WITH_END(handle);
+    ANSWER(handle, w2c_tcp_c_timer(M, AT_HANDLE, timer));
+}
+
+/* A segment has come from one address to the other. */
+static void put_segment(struct call *call, const tcpcore_addr *src, const tcpcore_addr *dst, const uint8_t *bytes, size_t length)
+{
+    put_addr(call, AT_SRC, src);
+    put_addr(call, AT_DST, dst);
+    see(call, IN_READ, bytes, length);
+}
+
+static uint32_t tcp_c_arrive(struct handle *handle, const tcpcore_addr *src, const tcpcore_addr *dst, const uint8_t *bytes,
+                             size_t length)
+{
+    WITH_END(handle);
+    put_segment(&call, src, dst, bytes, length);
+    ANSWER(handle, w2c_tcp_c_arrive(M, AT_HANDLE, AT_SRC, AT_DST, WINDOW(IN_READ), length_of(length)));
+}
+
+static uint32_t tcp_c_take(struct handle *handle, const tcpcore_addr *src, const tcpcore_addr *dst, const uint8_t *bytes,
+                           size_t length, uint32_t *at_once)
+{
+    WITH_END(handle);
+    put_segment(&call, src, dst, bytes, length);
+    put32(call.frame + AT_FOUND, 0);
+    uint32_t answer = w2c_tcp_c_take(M, AT_HANDLE, AT_SRC, AT_DST, WINDOW(IN_READ), length_of(length), AT_FOUND);
+    *at_once = get32(call.frame + AT_FOUND);
+    end_with(&call, handle);
+    return answer;
+}
+
+/* What a call tells of a segment that it wrote. */
+static void get_written(const struct call *call, tcpcore_addr *to, size_t *length)
+{
+    carry_record(to, call->frame + AT_DST, OF_ADDR);
+    *length = (size_t)get64(call->frame + AT_FOUND);
+}
+
+static void put_written(struct call *call, const tcpcore_addr *to, uint8_t *out, size_t room)
+{
+    put_addr(call, AT_DST, to);
+    put64(call->frame + AT_FOUND, 0);
+    see(call, IN_WRITTEN, out, room);
+}
+
+static uint32_t tcp_c_emit(struct handle *handle, uint8_t *out, size_t room, tcpcore_addr *to, size_t *length)
+{
+    WITH_END(handle);
+    put_written(&call, to, out, room);
+    uint32_t answer = w2c_tcp_c_emit(M, AT_HANDLE, WINDOW(IN_WRITTEN), length_of(room), AT_DST, AT_FOUND);
+    get_written(&call, to, length);
+    end_with(&call, handle);
+    return answer;
+}
+
+static uint32_t tcp_c_pending(struct handle *handle, uint32_t *due)
+{
+    WITH_END(handle);
+    put32(call.frame + AT_FOUND, 0);
+    uint32_t answer = w2c_tcp_c_pending(M, AT_HANDLE, AT_FOUND);
+    *due = get32(call.frame + AT_FOUND);
+    end_with(&call, handle);
+    return answer;
+}
+
+static uint32_t tcp_c_stray_reset(const tcpcore_addr *src, const tcpcore_addr *dst, const uint8_t *bytes, size_t length,
+                                  uint8_t *out, size_t room, size_t *written)
+{
+    struct call call;
+    begin(&call);
+    put_segment(&call, src, dst, bytes, length);
+    see(&call, IN_WRITTEN, out, room);
+    put64(call.frame + AT_FOUND, 0);
+    uint32_t answer = w2c_tcp_c_stray_reset(M, AT_SRC, AT_DST, WINDOW(IN_READ), length_of(length), WINDOW(IN_WRITTEN),
+                                            length_of(room), AT_FOUND);
+    *written = (size_t)get64(call.frame + AT_FOUND);
+    return answer;
+}
+
+static uint32_t tcp_c_timers(struct handle *handle, uint32_t *due)
+{
+    WITH_END(handle);
+    put32(call.frame + AT_FOUND, 0);
+    uint32_t answer = w2c_tcp_c_timers(M, AT_HANDLE, AT_FOUND);
+    *due = get32(call.frame + AT_FOUND);
+    end_with(&call, handle);
+    return answer;
+}
+
+static uint32_t tcp_c_peer(struct handle *handle, tcpcore_addr *addr, uint16_t *port)
+{
+    WITH_END(handle);
+    put_addr(&call, AT_DST, addr);
+    put16(call.frame + AT_FOUND, 0);
+    uint32_t answer = w2c_tcp_c_peer(M, AT_HANDLE, AT_DST, AT_FOUND);
+    carry_record(addr, call.frame + AT_DST, OF_ADDR);
+    *port = get16(call.frame + AT_FOUND);
+    end_with(&call, handle);
+    return answer;
+}
+
+static uint32_t tcp_c_status(struct handle *handle, struct tcpcore_status *status)
+{
+    WITH_END(handle);
+    carry_record(call.frame + AT_RECORD, status, OF_STATUS);
+    uint32_t answer = w2c_tcp_c_status(M, AT_HANDLE, AT_RECORD);
+    carry_record(status, call.frame + AT_RECORD, OF_STATUS);
+    end_with(&call, handle);
+    return answer;
+}
+
+static uint32_t tcp_c_rest(struct handle *handle, struct tcpcore_rest *rest)
+{
+    WITH_END(handle);
+    carry_record(call.frame + AT_RECORD, rest, OF_REST);
+    uint32_t answer = w2c_tcp_c_rest(M, AT_HANDLE, AT_RECORD);
+    carry_record(rest, call.frame + AT_RECORD, OF_REST);
+    end_with(&call, handle);
+    return answer;
+}
+
+/* A call of the module with what rests in a struct. */
+#define WITH_REST(rest) \
+    struct call call; \
+    begin(&call); \
+    carry_record(call.frame + AT_RECORD, rest, OF_REST)
+#define ANSWER_OF_REST(rest, made) \
+    uint32_t answer = made; \
+    carry_record(rest, call.frame + AT_RECORD, OF_REST); \
+    return answer
+
+static uint32_t tcp_c_rest_arrive(struct tcpcore_rest *rest, const tcpcore_addr *src, const tcpcore_addr *dst, const uint8_t *bytes,
+                                  size_t length)
+{
+    WITH_REST(rest);
+    put_segment(&call, src, dst, bytes, length);
+    ANSWER_OF_REST(rest, w2c_tcp_c_rest_arrive(M, AT_RECORD, AT_SRC, AT_DST, WINDOW(IN_READ), length_of(length)));
+}
+
+static uint32_t tcp_c_rest_timer(struct tcpcore_rest *rest, uint32_t timer)
+{
+    WITH_REST(rest);
+    ANSWER_OF_REST(rest, w2c_tcp_c_rest_timer(M, AT_RECORD, timer));
+}
+
+static uint32_t tcp_c_rest_emit(struct tcpcore_rest *rest, uint8_t *out, size_t room, tcpcore_addr *to, size_t *length)
+{
+    WITH_REST(rest);
+    put_written(&call, to, out, room);
+    uint32_t answer = w2c_tcp_c_rest_emit(M, AT_RECORD, WINDOW(IN_WRITTEN), length_of(room), AT_DST, AT_FOUND);
+    get_written(&call, to, length);
+    carry_record(rest, call.frame + AT_RECORD, OF_REST);
+    return answer;
+}
+
+static uint32_t tcp_c_rest_pending(const struct tcpcore_rest *rest, uint32_t *due)
+{
+    WITH_REST(rest);
+    put32(call.frame + AT_FOUND, 0);
+    uint32_t answer = w2c_tcp_c_rest_pending(M, AT_RECORD, AT_FOUND);
+    *due = get32(call.frame + AT_FOUND);
+    return answer;
+}
+
+static uint32_t tcp_c_rest_abort(struct tcpcore_rest *rest)
+{
+    WITH_REST(rest);
+    ANSWER_OF_REST(rest, w2c_tcp_c_rest_abort(M, AT_RECORD));
+}
+
+static uint32_t tcp_c_rest_status(const struct tcpcore_rest *rest, uint32_t *phase, uint32_t *ending)
+{
+    WITH_REST(rest);
+    put32(call.frame + AT_FOUND, 0);
+    put32(call.frame + AT_OTHER, 0);
+    uint32_t answer = w2c_tcp_c_rest_status(M, AT_RECORD, AT_FOUND, AT_OTHER);
+    *phase = get32(call.frame + AT_FOUND);
+    *ending = get32(call.frame + AT_OTHER);
+    return answer;
+}

@@ -1,0 +1,123 @@
+"""Puts the portable file together: python3 join.py MODULE.c OUT.
+
+MODULE.c is what wasm2c makes of crates/tcp_c, with 32-bit addresses. OUT has the text of c/tcpcore/tcpcore.c and layout.h, the
+memory of memory.c, wasm2c's functions and calls.c. Of wasm2c's file nothing but its functions is kept: what else it is taken to
+have is looked at, and anything unforeseen stops this script. No line of a function is changed but the words of RENAMED.
+"""
+
+import pathlib
+import re
+import sys
+
+HERE = pathlib.Path(__file__).resolve().parent
+LAYER = HERE.parent / "tcpcore"
+RENAMED = [("Z_tcp_c_instance_t*", "Machine *"), ("  FUNC_PROLOGUE;\n", ""), ("  FUNC_EPILOGUE;\n", "")]
+INCLUDES = '#include "layout.h"\n#include "tcpcore.h"\n\n#include <string.h>\n'
+# What wasm2c's functions may name beside each other and themselves: what memory.c has.
+KNOWN = set(re.findall(r"\b(?:LOAD|STORE)\((\w+),", (HERE / "memory.c").read_text())) | {
+    "memory_copy", "memory_fill", "REM_U", "I32_ROTR", "UNREACHABLE", "if", "u8", "u16", "u32", "u64", "s32", "s64"}
+HEAD = """\
+/*
+ * tcpcore_portable.c: tcpcore.h for any machine with a C99 compiler that has uint8_t, uint16_t, uint32_t, uint64_t and uintptr_t.
+ * One file: the layer of the C library, and behind it the proved crates as wasm2c has translated them from WebAssembly. Made by
+ * c/portable/build.sh: change nothing here. Nothing in it is global and variable; it asks the linker for memcpy, memmove and
+ * memset. docs/TRUST.md tells what is proved of it, and what isn't.
+ *
+ * -DTCPCORE_UNCHECKED leaves out the test of each access. -DTCPCORE_STOP()=.. names what a test that fails calls before it stays in
+ * a loop for ever: a trap, a reset. No test is known to fail.
+ */
+"""
+
+
+def stop(why):
+    sys.exit(f"join.py: {why}")
+
+
+def layer():
+    """tcpcore.c and layout.h in one, in C99, with the library's calls for this file's own."""
+    text, layout = (LAYER / "tcpcore.c").read_text(), (LAYER / "layout.h").read_text()
+    native = re.compile(r'^_Static_assert\(sizeof\(size_t\) == 8 && .*\n', re.M)
+    if len(native.findall(text)) != 1 or text.count(INCLUDES) != 1:
+        stop("tcpcore.c isn't as it was")
+    fields = layout[layout.index("#define FIELD") : layout.index("#endif", layout.index("#undef FIELD"))]
+    holds = "/* Where the fields lie, on this machine too. */\n#define HOLDS(condition) extern const char tcpcore_holds[(condition) ? 1 : -1]\n"
+    text = native.sub("", text).replace(INCLUDES, INCLUDES.split("\n", 1)[1] + "\n" + holds + fields)
+    text = re.sub(r'_Static_assert\((.*), (?:#field )?".*"\)(;?)$', r"HOLDS(\1)\2", text, flags=re.M)
+    text, calls = re.subn(r"^((?:uint32_t|size_t) tcp_c_\w+\()", r"static \1", text, flags=re.M)
+    if "_Static_assert" in text or calls != 26:
+        stop(f"the layer has {calls} calls of the library, or an assertion of another form")
+    return text
+
+
+def function_names(text):
+    return re.findall(r"^static (?:u32|u64|void) (w2c_\w+)\(Z_tcp_c_instance_t\*", text, re.M)
+
+
+def functions(text):
+    """wasm2c's functions, and their declarations."""
+    globals_of = re.search(r"^static void init_globals\(Z_tcp_c_instance_t\* instance\) \{\n(.*?)^\}\n", text, re.M | re.S)
+    memories = re.search(r"^static void init_memories\(Z_tcp_c_instance_t\* instance\) \{\n(.*?)^\}\n", text, re.M | re.S)
+    named = re.findall(r"instance->(\w+) = (\w+);\n", globals_of[1])
+    if [name for name, _ in named] != ["w2c___stack_pointer", "w2c_in_call", "w2c___heap_base"] or named[1][1] != "0u":
+        stop(f"the module's globals are {named}")
+    memory = r"  wasm_rt_allocate_memory\(&instance->w2c_memory, \d+, \d+\);\n"
+    if not re.fullmatch(memory + r"(?:  LOAD_DATA\(instance->w2c_memory, \d+u, NULL, 0\);\n)?", memories[1]):
+        stop(f"the module's memory has {memories[1]}")
+    if "CALL_INDIRECT(table" in text[memories.end() :] or "w2c_T" in text[memories.end() :]:
+        stop("the module has a table")
+    declared = text[text.index("static u32 w2c___rattle_enter(") : globals_of.start()]
+    start = text.index("static u32 w2c___rattle_enter(Z_tcp_c_instance_t* instance)")
+    body = text[start : text.index("/* export: ")]
+    names = set(function_names(declared))
+    unknown = set(re.findall(r"\b([A-Za-z_]\w*)\(", body)) - names - KNOWN
+    if unknown or re.search(r"\b(?:f32|f64|memory_init|funcref)\b", body):
+        stop(f"the functions name {sorted(unknown)}")
+    for old, new in RENAMED:
+        declared, body = declared.replace(old, new), body.replace(old, new)
+    # The names of instances of generic functions end in a checksum.
+    shorter = {name: re.sub(r"____[0-9a-f]{16}_$", "", name) for name in names}
+    if len(set(shorter.values())) != len(shorter):
+        stop("two functions have one name")
+    for name, short in shorter.items():
+        declared, body = (re.sub(rf"\b{name}\b", short, it) for it in (declared, body))
+    return declared, body
+
+
+def stack_of(body):
+    """How many bytes of its own stack the module takes at most: the deepest chain of calls, in which none comes twice; and the 16
+    below which it stops."""
+    frames, calls = {}, {}
+    for name, text in re.findall(r"^static (?:u32|u64|void) (w2c_\w+)\(Machine \*[^;{]*\{\n(.*?)^\}\n", body, re.M | re.S):
+        taken = re.findall(r"w2c_j0 = instance->w2c___stack_pointer;\n\s*w2c_j1 = (\d+)ull;\n\s*w2c_j0 -= w2c_j1;\n", text)
+        kept = re.findall(r"w2c_j0 = instance->w2c___stack_pointer;\n\s*(w2c_l\d+) = w2c_j0;\n", text)
+        stores = re.findall(r"w2c_j0 = (w2c_l\d+);\n\s*instance->w2c___stack_pointer = w2c_j0;\n", text)
+        reads, writes = (len(re.findall(rf"instance->w2c___stack_pointer{it}", text)) for it in (";", " ="))
+        # Where nothing is taken, what is put back is what was read.
+        same = len(kept) == 1 and set(stores) == set(kept) and len(stores) == writes and len(re.findall(rf"\b{kept[0]} = w2c", text)) == 1
+        if reads > 1 or len(taken) > 1 or (writes > 0 and not taken and not same):
+            stop(f"{name} takes its stack in another form")
+        frames[name], calls[name] = int(taken[0]) if taken else 0, set(re.findall(r"\b(w2c_\w+)\(instance", text))
+    known = {}
+
+    def depth(name, above=()):
+        if name in above:
+            stop(f"{name} calls itself")
+        if name not in known:
+            known[name] = frames[name] + max((depth(callee, (*above, name)) for callee in calls[name]), default=0)
+        return known[name]
+
+    return 16 + max(depth(name) for name in frames)
+
+
+def main():
+    declared, body = functions(pathlib.Path(sys.argv[1]).read_text())
+    stack = (stack_of(body) + 15) // 16 * 16
+    own = f"\n/* The module's own stack: what its deepest chain of calls takes. */\nenum {{ MODULE_STACK = {stack} }};\n\n"
+    module = "/* THE MODULE: crates/tcp_c and those below it, function by function, as wasm2c has written them. */\n"
+    parts = [HEAD, layer(), (HERE / "memory.c").read_text(), own, module, declared, body, (HERE / "calls.c").read_text()]
+    text = "".join(parts)
+    pathlib.Path(sys.argv[2]).write_text(text)
+    print(f"{sys.argv[2]}: {len(text.splitlines())} lines, {declared.count(';')} functions, {stack} bytes of the module's stack")
+
+
+main()

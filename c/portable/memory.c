@@ -1,0 +1,146 @@
+/*
+ * THE MACHINE that the functions below run on: wasm2c's, with a memory of four windows in the place of one block. Nothing of it is
+ * global: it stands on C's stack for the time of a call. An address of the module is a window's number, in its two highest bits,
+ * and a place there:
+ *   0  what stands on C's stack: the module's own stack, and the records that a call is made with;
+ *   1  the end's block;
+ *   2  a buffer that is read: text to send, a segment that has come;
+ *   3  a buffer that is written: room for text or for a segment.
+ * Each access tests that it lies in its window, and a store that it isn't in window 2. With TCPCORE_UNCHECKED none does: then
+ * nothing but the proof and the translators keep the code within its memory.
+ */
+typedef uint8_t u8;
+typedef uint16_t u16;
+typedef uint32_t u32;
+typedef uint64_t u64;
+typedef int32_t s32;
+typedef int64_t s64;
+
+enum { WINDOWS = 4, IN_STACK = 0, IN_BLOCK = 1, IN_READ = 2, IN_WRITTEN = 3 };
+
+#define WINDOW(number) ((u32)(number) << 30)
+#define PLACE UINT32_C(0x3fffffff)
+
+struct window {
+    u8 *data;
+    u32 size;
+};
+
+typedef struct {
+    struct window read[WINDOWS], written[WINDOWS];
+} Memory;
+
+typedef struct {
+    u64 w2c___stack_pointer;
+    u32 w2c_in_call;
+    Memory w2c_memory;
+} Machine;
+
+/* What a test that fails does: it never comes back. */
+#ifndef TCPCORE_STOP
+#define TCPCORE_STOP() ((void)0)
+#endif
+static void stop(void)
+{
+    TCPCORE_STOP();
+    for (;;) {
+    }
+}
+
+/* Where `size` bytes at an address lie: at most PLACE of them. */
+static inline u8 *place(const struct window *windows, u32 address, u32 size)
+{
+    const struct window *window = windows + (address >> 30);
+    u32 at = address & PLACE;
+#ifdef TCPCORE_UNCHECKED
+    (void)size;
+#else
+    if (at + size > window->size)
+        stop();
+#endif
+    return window->data + at;
+}
+
+/* The module's memory is little-endian on any machine, and at any alignment. */
+#if defined(__BYTE_ORDER__) && defined(__ORDER_LITTLE_ENDIAN__) && __BYTE_ORDER__ == __ORDER_LITTLE_ENDIAN__
+#define GET(T) \
+    T value; \
+    memcpy(&value, from, sizeof value); \
+    return value
+#define PUT(T) memcpy(to, &value, sizeof(T))
+#define IS_REVERSED 0
+#else
+#define GET(T) \
+    u64 value = 0; \
+    for (unsigned i = sizeof(T); i-- > 0;) \
+        value = value << 8 | from[i]; \
+    return (T)value
+#define PUT(T) \
+    for (unsigned i = 0; i < sizeof(T); i++) \
+        to[i] = (u8)((u64)value >> 8 * i)
+#define IS_REVERSED 1
+#endif
+
+static inline u8 get8(const u8 *from) { return *from; }
+static inline u16 get16(const u8 *from) { GET(u16); }
+static inline u32 get32(const u8 *from) { GET(u32); }
+static inline u64 get64(const u8 *from) { GET(u64); }
+static inline void put8(u8 *to, u8 value) { *to = value; }
+static inline void put16(u8 *to, u16 value) { PUT(u16); }
+static inline void put32(u8 *to, u32 value) { PUT(u32); }
+static inline void put64(u8 *to, u64 value) { PUT(u64); }
+
+#define LOAD(name, R, bits) \
+    static inline R name(const Memory *memory, u64 address) \
+    { \
+        return get##bits(place(memory->read, (u32)address, bits / 8)); \
+    }
+#define STORE(name, V, bits) \
+    static inline void name(const Memory *memory, u64 address, V value) \
+    { \
+        put##bits(place(memory->written, (u32)address, bits / 8), (u##bits)value); \
+    }
+LOAD(i32_load, u32, 32)
+LOAD(i32_load16_u, u32, 16)
+LOAD(i32_load8_u, u32, 8)
+LOAD(i64_load, u64, 64)
+LOAD(i64_load32_u, u64, 32)
+LOAD(i64_load16_u, u64, 16)
+LOAD(i64_load8_u, u64, 8)
+STORE(i32_store, u32, 32)
+STORE(i32_store16, u32, 16)
+STORE(i32_store8, u32, 8)
+STORE(i64_store, u64, 64)
+STORE(i64_store32, u64, 32)
+STORE(i64_store16, u64, 16)
+STORE(i64_store8, u64, 8)
+
+static inline void memory_copy(const Memory *to, const Memory *from, u32 destination, u32 source, u32 count)
+{
+    if (count > PLACE)
+        stop();
+    u8 *at = place(to->written, destination, count);
+    const u8 *there = place(from->read, source, count);
+    if (count > 0)
+        memmove(at, there, count);
+}
+
+static inline void memory_fill(const Memory *memory, u32 destination, u32 value, u32 count)
+{
+    if (count > PLACE)
+        stop();
+    u8 *at = place(memory->written, destination, count);
+    if (count > 0)
+        memset(at, (int)(value & 255), count);
+}
+
+static inline u32 remainder_of(u32 value, u32 by)
+{
+    if (by == 0)
+        stop();
+    return value % by;
+}
+
+#define UNREACHABLE stop()
+#define REM_U(x, y) remainder_of(x, y)
+#define I32_ROTR(x, y) ((x) >> ((y) & 31) | (x) << ((32 - (y)) & 31))

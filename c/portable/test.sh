@@ -1,0 +1,196 @@
+#!/usr/bin/env bash
+# The portable file (out/tcpcore_portable.c, which build.sh makes) under the tests of c/tcpcore, on this machine and on others under
+# qemu; and against the native library (the first argument, or crates/tcp_c's own): over random calls of the whole interface every
+# answer, told value and emitted byte is the same. Writes MACHINES.md, the table of sizes. With --short before it: one compiler, two
+# machines, and no table.
+# It installs compilers and qemu by apt-get where this machine lacks them; where that fails it fails, or, with LEAVE_OUT=1 in the
+# environment, says what it leaves out. Stops at the first failure.
+set -euo pipefail
+cd "$(dirname "$0")"
+test=portable
+. ../../checks/lib.sh
+short='' calls=1000000
+if [[ ${1-} == --short ]]; then
+    short=1 calls=200000
+    shift
+fi
+native=$(realpath -m "${1:-../../crates/tcp_c/out/libtcp_c.a}")
+layer=$(realpath ../tcpcore)
+file=out/tcpcore_portable.c
+clean="-Wall -Wextra -Wpedantic -Wcast-qual -Wshadow -Wstrict-prototypes -Wno-unused-parameter -Werror"
+tests="examples/two_ends tests/misuse tests/misuse_rest tests/room tests/fields tests/answers tests/cautions tests/rest tests/stack"
+passed=0 rows=''
+
+pass() { passed=$((passed + 1)); }
+
+fail() {
+    echo "portable: $*"
+    exit 1
+}
+
+# The names that an object defines for others, and those that it wants: the compiler's own helpers begin with two underscores.
+names() { nm "$@" | awk '$2 ~ /[A-TV-Z]/ && NF == 3 { print $3 }' | sort; }
+wants() { nm "$1" -u | awk '$NF !~ /^__|^_GLOBAL_OFFSET_TABLE_$/ { print $NF }' | sort; }
+
+# out/NAME.o of the file, by a compiler and its words; nothing in it is global and variable.
+object() {
+    local name=$1
+    shift
+    "$@" -std=c99 $clean -I"$layer" -c "$file" -o "out/$name.o"
+    [[ -z $(size -A "out/$name.o" | awk '/^[.]s?(data|bss)/ && !/^[.]data[.]rel[.]ro/ && $2 > 0') ]] || fail "$name has global state"
+    [[ -z $(wants "out/$name.o" | grep -vxE 'memcpy|memmove|memset') ]] || fail "$name wants $(wants "out/$name.o")"
+    pass
+}
+
+# The tests of c/tcpcore over out/NAME.o print what they have to; the words are those of the compiler, `run` is what runs them. The
+# greatest depth of the stack goes to `stack`.
+tests_over() {
+    local name=$1 source test
+    shift
+    for source in $tests; do
+        test=${source#*/}
+        # A dynamic linker takes stack of its own.
+        "$@" -std=c11 -DBOUND=TCPCORE_PORTABLE_STACK -I"$layer" "$layer/$source.c" "out/$name.o" -static -o "out/$test.$name"
+        timeout 300 $run "out/$test.$name" >out/found 2>out/errors || fail "$test of $name: $(cat out/found out/errors)"
+        sed '/^[0-9]*$/d' out/found | cmp - "$layer/tests/expected/$test" || fail "$test of $name"
+        [[ $test != stack ]] || stack=$(cat out/found out/errors | grep -x '[0-9]*')
+        pass
+    done
+}
+
+# Random calls over out/NAME.o print what they do over the native library.
+calls_over() {
+    local name=$1
+    shift
+    "$@" -std=c11 -I"$layer" tests/calls.c "out/$name.o" $linked -o "out/calls.$name"
+    timeout 900 $run "out/calls.$name" "$calls" | sed 's/\r$//' | cmp - out/calls.native || fail "$name answers otherwise than the native library"
+    pass
+}
+
+size_of() { "$1" "out/$2.o" | awk 'NR == 2 { print $1 }'; }
+
+# A machine: its name, the prefix of its tools, what runs its programs, and the words of its compiler.
+machine() {
+    local name=$1 tools=$2
+    run=$3
+    shift 3
+    object "$name" "$tools-gcc" -Os "$@"
+    tests_over "$name" "$tools-gcc" -O1 "$@" $linked
+    calls_over "$name" "$tools-gcc" -O2 "$@"
+    object "$name.unchecked" "$tools-gcc" -Os -DTCPCORE_UNCHECKED "$@"
+    calls_over "$name.unchecked" "$tools-gcc" -O2 "$@"
+    rows+="| $name | $(size_of "$tools-size" "$name") | $(size_of "$tools-size" "$name.unchecked") | $stack | all |"$'\n'
+    echo "portable: $name: the same as the native library, $stack bytes of stack"
+}
+
+# One that is compiled alone.
+compiled() {
+    local name=$1 tools=$2
+    shift 2
+    object "$name" "$tools-gcc" -Os "$@"
+    object "$name.unchecked" "$tools-gcc" -Os -DTCPCORE_UNCHECKED "$@"
+    rows+="| $name | $(size_of "$tools-size" "$name") | $(size_of "$tools-size" "$name.unchecked") | | compiled |"$'\n'
+}
+
+# Instructions for a segment of 1,460 bytes and its answer, both ends together.
+instructions() {
+    gcc -std=c11 -O2 -I"$layer" tests/speed.c "$@" -o out/speed
+    valgrind --tool=callgrind --callgrind-out-file=/dev/null out/speed 4 2>&1 |
+        awk '/Collected/ { sum = $4 } /^[0-9]+$/ { count = $1 } END { print int(sum / count) }'
+}
+
+# Each test of an access stops what chance has made of an end; without them bytes are touched that aren't the end's, or it crashes.
+stops() {
+    local words
+    for words in "" -DTCPCORE_UNCHECKED; do
+        gcc -std=c99 -O2 $words -include tests/stopped.h '-DTCPCORE_STOP()=stopped()' -I"$layer" -c "$file" -o out/stops.o
+        gcc -std=gnu11 -Wall -Wextra -Werror -O1 -I"$layer" tests/stops.c out/stops.o -o "out/stops$words"
+    done
+    out/stops || fail "an access wasn't stopped"
+    if bash -c 'ulimit -c 0; out/stops-DTCPCORE_UNCHECKED' >out/found 2>&1; then fail "nothing is found where no access is tested"; fi
+    pass
+}
+
+[[ -e $file ]] || fail "no $file: run c/portable/build.sh"
+[[ -e $native ]] || fail "no $native: run 'rt lib' in crates/tcp_c"
+run='' linked=''
+gcc -std=c11 -O2 -I"$layer" tests/calls.c "$layer/tcpcore.c" "$native" -o out/calls.native.program
+out/calls.native.program "$calls" >out/calls.native
+(($(grep -c : out/calls.native) >= 25)) || fail "the random calls met fewer than 25 answers"
+
+for compiler in gcc clang; do
+    [[ -z $short || $compiler == gcc ]] || continue
+    has "$compiler" "$compiler" --version || continue
+    for words in -O0 -O2 "-O2 -DTCPCORE_UNCHECKED"; do
+        [[ -z $short || $words == -O2 ]] || continue
+        object "here.$compiler" $compiler $words
+        tests_over "here.$compiler" $compiler -O1
+        calls_over "here.$compiler" $compiler -O2
+    done
+    wanted=$(grep -o '^[a-z].* \**tcpcore_[a-z_]*(' "$layer/tcpcore.h" | grep -o 'tcpcore_[a-z_]*' | sort)
+    [[ $(names "out/here.$compiler.o") == "$wanted" ]] || fail "the names aren't the header's"
+    pass
+done
+sanitizers="-g -O1 -fsanitize=address,undefined -fno-sanitize-recover=all"
+gcc -std=c99 $sanitizers -I"$layer" -c "$file" -o out/sanitized.o
+calls_over sanitized gcc $sanitizers
+stops
+
+# A machine of Debian's, once its compiler and its C library are there.
+of_linux() {
+    local name=$1 tools=$2 package=$3 runner=$4
+    if has "gcc-$tools" "$tools-gcc" --version && has "$package" test -e "/usr/$tools/include/stdio.h"; then
+        machine "$name" "$tools" "$runner"
+    fi
+}
+
+machines() {
+    linked=-static
+    has qemu-user-static qemu-s390x-static --version || return 0
+    of_linux s390x s390x-linux-gnu libc6-dev-s390x-cross qemu-s390x-static
+    of_linux armhf arm-linux-gnueabihf libc6-dev-armhf-cross qemu-arm-static
+    [[ -z $short ]] || return 0
+    of_linux i686 i686-linux-gnu libc6-dev-i386-cross qemu-i386-static
+    of_linux riscv64 riscv64-linux-gnu libc6-dev-riscv64-cross qemu-riscv64-static
+}
+machines
+
+# Bare metal: qemu's board mps2-an385, 4 MB for code and 16 MB of memory, with picolibc.
+bare() {
+    has gcc-arm-none-eabi arm-none-eabi-gcc --version || return 0
+    compiled cortex-m0 arm-none-eabi -mcpu=cortex-m0 -mthumb
+    compiled cortex-m4 arm-none-eabi -mcpu=cortex-m4 -mthumb
+    { has picolibc-arm-none-eabi arm-none-eabi-gcc --specs=picolibc.specs -E -x c /dev/null &&
+        has qemu-system-arm qemu-system-arm --version; } || return 0
+    linked="--specs=picolibc.specs --crt0=hosted --oslib=semihost -Wl,--defsym=__flash=0 -Wl,--defsym=__flash_size=4M"
+    linked+=" -Wl,--defsym=__ram=0x21000000 -Wl,--defsym=__ram_size=16M -Wl,--defsym=__stack_size=64K"
+    machine cortex-m3 arm-none-eabi ./tests/board.sh -mcpu=cortex-m3 -mthumb
+}
+[[ -n $short ]] || bare
+
+if [[ -z $short ]]; then
+    run='' linked=''
+    object here gcc -Os
+    object here.unchecked gcc -Os -DTCPCORE_UNCHECKED
+    tests_over here gcc -O1
+    rows="| x86-64 | $(size_of size here) | $(size_of size here.unchecked) | $stack | all |"$'\n'$rows
+    object fast gcc -O2
+    object fast.unchecked gcc -O2 -DTCPCORE_UNCHECKED
+    has valgrind valgrind --version && cat >MACHINES.md <<TABLE
+# The portable file by machine
+
+Written by \`c/portable/test.sh\`: bytes of code and constants (gcc, -Os), the deepest call's stack in bytes, painted and looked at
+(\`c/tcpcore/tests/stack.c\`), and what was run: *all* are the tests of \`c/tcpcore\`, and $calls random calls with every answer, told
+value and emitted byte as the native library's.
+
+| Machine | checked | unchecked | stack | run |
+|---|---|---|---|---|
+$rows
+An end takes the memory that it takes with the native library (\`TCPCORE_MEMORY\`) and the 24 bytes of its struct; nothing is static.
+
+Instructions on x86-64 for a segment of 1,460 bytes with its answer, both ends together, at -O2: native
+$(instructions "$layer/tcpcore.c" "$native"), checked $(instructions out/fast.o), unchecked $(instructions out/fast.unchecked.o).
+Most are those of the checksum and of copies byte by byte, which the native library does by the processor's vectors.
+TABLE
+fi
+echo "portable: $passed passed, $left_out left out"

@@ -1,0 +1,331 @@
+/*
+ * Random calls of the whole interface, from a number that chooses them: calls COUNT [FIRST]. It prints a sum over every answer, every
+ * value that was told and every byte that was emitted or handed over, line by line, and at last how often each answer came. The native
+ * library and the portable file have to print the same, on any machine.
+ */
+#include "tcpcore.h"
+
+#include <stdio.h>
+#include <stdlib.h>
+#include <string.h>
+
+enum { KEPT = 24, LONGEST = 65600, BLOCK = TCPCORE_MEMORY(70000, 70000), ANSWERS = 64, TEXT = 80000 };
+
+/* A segment as it went out, or as the test made it. */
+struct kept {
+    tcpcore_addr to;
+    size_t length;
+    unsigned char bytes[LONGEST];
+};
+
+struct side {
+    tcpcore_end end;
+    tcpcore_addr addr;
+    uint16_t port;
+    struct tcpcore_rest rest;
+    int is_resting;
+    unsigned long emitted;
+    struct kept kept[KEPT];
+    unsigned char block[BLOCK + 32];
+};
+
+static struct side sides[2];
+static unsigned char text[TEXT], room[TEXT];
+static uint64_t chosen, sum = UINT64_C(14695981039346656037);
+static unsigned long long answers[ANSWERS];
+
+static uint32_t next(uint32_t below)
+{
+    chosen ^= chosen >> 12, chosen ^= chosen << 25, chosen ^= chosen >> 27;
+    return (uint32_t)((chosen * UINT64_C(2685821657736338717)) >> 32) % below;
+}
+
+static void mix_bytes(const void *bytes, size_t length)
+{
+    const unsigned char *at = bytes;
+    for (size_t i = 0; i < length; i++)
+        sum = (sum ^ at[i]) * UINT64_C(1099511628211);
+}
+
+static void mix(uint64_t value)
+{
+    for (int i = 0; i < 8; i++, value >>= 8)
+        sum = (sum ^ (value & 255)) * UINT64_C(1099511628211);
+}
+
+static uint32_t told(uint32_t answer)
+{
+    answers[answer < ANSWERS ? answer : 0]++;
+    mix(answer);
+    return answer;
+}
+
+static void put16(unsigned char *at, uint32_t value)
+{
+    at[0] = (unsigned char)(value >> 8);
+    at[1] = (unsigned char)value;
+}
+
+/* Sets the checksum of a segment (RFC 9293, 3.1). */
+static void sign(struct kept *kept, tcpcore_addr src)
+{
+    uint32_t total = 6 + (uint32_t)kept->length;
+    if (kept->length < 20)
+        return;
+    put16(kept->bytes + 16, 0);
+    for (int i = 0; i < 4; i++)
+        total += (uint32_t)(src.byte[i] + kept->to.byte[i]) << (i % 2 ? 0 : 8);
+    for (size_t i = 0; i < kept->length; i++)
+        total += (uint32_t)kept->bytes[i] << (i % 2 ? 0 : 8);
+    total = (total & 0xffff) + (total >> 16);
+    total = (total & 0xffff) + (total >> 16);
+    put16(kept->bytes + 16, ~total);
+}
+
+static size_t some_capacity(void)
+{
+    static const uint32_t BOUNDS[] = {2, 20, 2000, 70000};
+    return 1 + next(BOUNDS[next(4)]);
+}
+
+static tcpcore_config some_config(struct side *side)
+{
+    static const uint32_t ISNS[] = {0, 77, UINT32_MAX, UINT32_MAX - 900, UINT32_C(1) << 31};
+    tcpcore_config config;
+    memset(&config, 0, sizeof config);
+    config.addr = side->addr;
+    config.port = side->port;
+    config.mss = (uint16_t)(next(40) ? 64 + next(1397) : next(65536));
+    config.isn = ISNS[next(5)];
+    config.send_capacity = next(60) ? some_capacity() : next(2) ? 0 : UINT64_C(1) << 32;
+    config.recv_capacity = next(60) ? some_capacity() : 1048577;
+    config.limit = next(60) ? next(3) ? TCPCORE_LIMIT : 1 + next(100000) : 0;
+    config.window_shift = (uint8_t)(next(60) ? next(15) : 15);
+    config.scales = (uint8_t)(next(3) ? next(256) : 0);
+    config.sack = (uint8_t)next(3);
+    return config;
+}
+
+static void make(struct side *side)
+{
+    tcpcore_config config = some_config(side);
+    size_t wanted = tcpcore_room(&config), length = next(20) ? sizeof side->block - 16 : next(900);
+    mix(wanted);
+    side->is_resting = 0;
+    told(tcpcore_new(&side->end, &config, side->block + next(16), length));
+}
+
+static void emit(struct side *side, int rests)
+{
+    struct kept *kept = &side->kept[side->emitted % KEPT];
+    size_t given = next(50) ? TCPCORE_EMIT_ROOM : next(TCPCORE_EMIT_ROOM), length;
+    uint32_t answer = rests ? tcpcore_rest_emit(&side->rest, kept->bytes, given, &kept->to, &length)
+                            : tcpcore_emit(&side->end, kept->bytes, given, &kept->to, &length);
+    if (told(answer) == TCPCORE_DONE) {
+        kept->length = length;
+        side->emitted++;
+    }
+    mix(length);
+    mix_bytes(kept->to.byte, 4);
+    mix_bytes(kept->bytes, length);
+}
+
+/* Changes a segment on its way. (Each number is drawn in a statement of its own: their order is the same with any compiler.) */
+static void harm(struct kept *kept, tcpcore_addr src)
+{
+    uint32_t change = next(255) + 1, place = next(12) + 4, bit = next(8);
+    switch (next(5)) {
+    case 0:
+        if (kept->length > 0)
+            kept->bytes[next((uint32_t)kept->length)] ^= (unsigned char)change;
+        break;
+    case 1:
+        kept->length = next((uint32_t)kept->length + 1);
+        break;
+    case 2: { /* more text, up to the longest segment and a little more */
+        size_t longer = kept->length + next(next(3) ? 3000 : LONGEST + 2000);
+        for (longer = longer < LONGEST ? longer : LONGEST; kept->length < longer; kept->length++)
+            kept->bytes[kept->length] = (unsigned char)next(256);
+        sign(kept, src);
+        break;
+    }
+    case 3: /* other fields of the header, well summed */
+        if (kept->length >= 20) {
+            kept->bytes[place] ^= (unsigned char)(1u << bit);
+            sign(kept, src);
+        }
+        break;
+    default: /* nothing but chance */
+        kept->length = next(100);
+        for (size_t i = 0; i < kept->length; i++)
+            kept->bytes[i] = (unsigned char)next(256);
+        if (next(2) && kept->length >= 20) {
+            put16(kept->bytes, sides[0].port), put16(kept->bytes + 2, sides[1].port);
+            kept->bytes[12] = 5 << 4;
+            sign(kept, src);
+        }
+    }
+}
+
+static void arrive(struct side *from, struct side *to)
+{
+    static struct kept kept;
+    uint32_t back = next(next(3) ? 3 : KEPT), at_once = 0;
+    if (from->emitted <= back)
+        return;
+    struct kept *sent = &from->kept[(from->emitted - 1 - back) % KEPT];
+    kept.to = sent->to;
+    kept.length = sent->length;
+    memcpy(kept.bytes, sent->bytes, sent->length);
+    if (next(12) == 0)
+        harm(&kept, from->addr);
+    if (to->is_resting)
+        told(tcpcore_rest_arrive(&to->rest, from->addr, kept.to, kept.bytes, kept.length));
+    else if (next(2))
+        told(tcpcore_arrive(&to->end, from->addr, kept.to, kept.bytes, kept.length));
+    else
+        told(tcpcore_take(&to->end, from->addr, kept.to, kept.bytes, kept.length, &at_once));
+    mix(at_once);
+    if (next(8) == 0) {
+        size_t written = 0;
+        if (told(tcpcore_stray_reset(from->addr, kept.to, kept.bytes, kept.length, room, next(9) ? 20 : next(20), &written)) == 0)
+            mix_bytes(room, written);
+        mix(written);
+    }
+}
+
+static void tell(struct side *side)
+{
+    struct tcpcore_status status;
+    tcpcore_addr addr;
+    uint16_t port;
+    uint32_t due, phase, ending;
+    told(tcpcore_status(&side->end, &status));
+    mix(status.phase), mix(status.ending), mix(status.unread), mix(status.released), mix(status.ordered), mix(status.una);
+    mix(status.next), mix(status.room), mix(status.queued), mix(status.in_flight), mix(status.mss), mix(status.own_shift);
+    mix(status.peer_shift), mix(status.scaling), mix(status.sack), mix(status.snd_wnd);
+    for (size_t i = 0; i < sizeof status.reserved / sizeof *status.reserved; i++)
+        mix(status.reserved[i]);
+    told(tcpcore_pending(&side->end, &due)), mix(due);
+    told(tcpcore_timers(&side->end, &due)), mix(due);
+    told(tcpcore_peer(&side->end, &addr, &port)), mix_bytes(addr.byte, 4), mix(port);
+    told(tcpcore_rest_pending(&side->rest, &due)), mix(due);
+    told(tcpcore_rest_status(&side->rest, &phase, &ending)), mix(phase), mix(ending);
+}
+
+static void tell_rest(const struct tcpcore_rest *rest)
+{
+    mix(rest->mark), mix_bytes(rest->addr.byte, 4), mix_bytes(rest->peer_addr.byte, 4), mix(rest->port), mix(rest->peer_port);
+    mix(rest->seq), mix(rest->next), mix(rest->window), mix_bytes(rest->reset_addr.byte, 4), mix(rest->reset_seq);
+    mix(rest->reset_ack), mix(rest->reset_port), mix(rest->shift), mix(rest->ack), mix(rest->reset), mix(rest->ending);
+}
+
+static void send(struct side *side)
+{
+    size_t taken, length = next(next(2) ? 300 : TEXT);
+    told(tcpcore_send(&side->end, text + next((uint32_t)(TEXT - length)), length, &taken));
+    mix(taken);
+}
+
+static void receive(struct side *side)
+{
+    size_t count;
+    told(tcpcore_receive(&side->end, room, next(next(2) ? 300 : TEXT), &count));
+    mix(count);
+    mix_bytes(room, count);
+}
+
+/* Another end in the place of one that is CLOSED, mostly open at once. */
+static void anew(struct side *side, struct side *other)
+{
+    told(tcpcore_free(&side->end));
+    make(side);
+    if (next(8))
+        told(next(2) ? tcpcore_listen(&side->end) : tcpcore_connect(&side->end, other->addr, other->port));
+}
+
+/* A user's call that comes seldom. */
+static void seldom(struct side *side, struct side *other)
+{
+    struct tcpcore_status status;
+    uint32_t phase = tcpcore_status(&side->end, &status) == TCPCORE_DONE ? status.phase : 0;
+    if (phase == TCPCORE_PHASE_CLOSED && !side->is_resting && next(4)) {
+        anew(side, other);
+        return;
+    }
+    switch (next(12)) {
+    case 0: case 1:
+        if (next(4) == 0)
+            told(tcpcore_close(&side->end));
+        break;
+    case 3:
+        if (next(4) == 0)
+            told(tcpcore_abort(&side->end)), told(tcpcore_rest_abort(&side->rest));
+        break;
+    case 2: case 4: case 5:
+        told(tcpcore_connect(&side->end, other->addr, next(30) ? other->port : 9));
+        break;
+    case 6: case 7:
+        told(tcpcore_listen(&side->end));
+        break;
+    case 8: case 9:
+        if (side->is_resting || next(40) == 0)
+            anew(side, other);
+        else
+            make(side);
+        break;
+    case 10:
+        told(tcpcore_rest_timer(&side->rest, next(4)));
+        tell_rest(&side->rest);
+        break;
+    default:
+        if (!side->is_resting && told(tcpcore_rest(&side->end, &side->rest)) == TCPCORE_DONE)
+            side->is_resting = (int)next(2);
+        tell_rest(&side->rest);
+    }
+}
+
+static void step(void)
+{
+    struct side *side = &sides[next(2)], *other = side == sides ? sides + 1 : sides;
+    uint32_t kind = next(100);
+    if (kind < 20)
+        send(side);
+    else if (kind < 35)
+        receive(side);
+    else if (kind < 60)
+        emit(side, side->is_resting);
+    else if (kind < 88)
+        arrive(other, side);
+    else if (kind < 93)
+        told(tcpcore_timer(&side->end, next(4)));
+    else if (kind < 94)
+        told(tcpcore_acknowledge(&side->end));
+    else if (kind < 97)
+        tell(side);
+    else
+        seldom(side, other);
+}
+
+int main(int argc, char **argv)
+{
+    unsigned long count = argc > 1 ? strtoul(argv[1], NULL, 10) : 100000, every = count < 20 ? 1 : count / 20;
+    chosen = UINT64_C(88172645463325252) + (argc > 2 ? strtoul(argv[2], NULL, 10) : 0);
+    for (size_t i = 0; i < TEXT; i++)
+        text[i] = (unsigned char)next(256);
+    for (int i = 0; i < 2; i++) {
+        sides[i].addr = (tcpcore_addr){{10, 0, 0, (uint8_t)(i + 1)}};
+        sides[i].port = (uint16_t)(i + 7);
+        sides[i].end = (tcpcore_end)TCPCORE_END_INIT;
+        make(&sides[i]);
+    }
+    for (unsigned long at = 1; at <= count; at++) {
+        step();
+        if (at % every == 0)
+            printf("%lu %08lx%08lx\n", at, (unsigned long)(sum >> 32), (unsigned long)(sum & 0xffffffff));
+    }
+    for (int i = 0; i < ANSWERS; i++)
+        if (answers[i] > 0)
+            printf("%d: %s: %llu\n", i, tcpcore_strerror((uint32_t)i), answers[i]);
+    return 0;
+}

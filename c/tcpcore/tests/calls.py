@@ -1,0 +1,119 @@
+"""What tcpcore.py adds to the calls: ranges, buffers of any kind, texts, enums, and ends that aren't copied. python3 calls.py"""
+
+import array
+import copy
+import ipaddress
+import os
+import pickle
+import sys
+
+sys.path.insert(0, os.path.dirname(os.path.dirname(os.path.realpath(__file__))))
+import tcpcore  # noqa: E402
+from tcpcore import Answer, Config, End, Ending, Phase, Refused, Rest, Timer  # noqa: E402
+
+A, B = "10.0.0.1", bytes([10, 0, 0, 2])
+GOOD = Config(A, 1, 1460, 7, 1000, 1000, None, True)
+checks = 0
+
+
+def check(found, wanted):
+    global checks
+    checks += 1
+    if found != wanted:
+        sys.exit(f"calls.py: check {checks}: {found!r}, not {wanted!r}")
+
+
+def raised(kind, call, *args):
+    """The text of the fault of this kind that the call raises."""
+    try:
+        call(*args)
+    except kind as fault:
+        return str(fault)
+    return "nothing"
+
+
+def ranges():
+    for field, value in (("port", 70000), ("port", -1), ("mss", 1 << 16), ("isn", 1 << 32), ("send_capacity", -1), ("window_shift", 256), ("limit", 1 << 64)):
+        check(" isn't from 0 to " in raised(ValueError, End, GOOD._replace(**{field: value})), True)
+    check(raised(ValueError, End, GOOD._replace(addr=b"123")), "an IPv4 address has 4 bytes, not 3")
+    check("10.0.0" in raised(ValueError, End, GOOD._replace(addr="10.0.0")), True)
+    end = End(GOOD)
+    check(raised(ValueError, end.connect, B, 65536), "the port is 65536, and isn't from 0 to 65535")
+    check(raised(ValueError, end.timer, -1), "the timer is -1, and isn't from 0 to 4294967295")
+    check(end.status().phase, Phase.CLOSED)
+
+
+def refusals():
+    check(raised(Refused, End, GOOD._replace(mss=1)), "the maximum segment size isn't from 64 to 1,460 bytes")
+    check(raised(Refused, End(GOOD).send, b"x"), "not open yet")
+    try:
+        End(GOOD).close()
+    except Refused as refused:
+        check((refused.answer, refused.args), (Answer.NOT_OPEN, (11,)))
+        check((refused.answer.name, refused.answer.text), ("NOT_OPEN", "not open yet"))
+
+
+def copies():
+    end = End(GOOD)
+    for call in (copy.copy, copy.deepcopy, pickle.dumps):
+        check(raised(TypeError, call, end)[:13], "an end can't ")
+    end.listen()
+    end.free()
+    check(raised(Refused, end.free), "no end is in the struct")
+
+
+def opened(kind):
+    """Two ends that are open: each segment arrives as a buffer of this kind."""
+    a, b = End(GOOD), End(GOOD._replace(addr=ipaddress.IPv4Address(B), port=2))
+    b.listen()
+    a.connect(B, 2)
+    for source, target, addr in ((a, b, A), (b, a, B), (a, b, A)):
+        to, segment = source.emit()
+        check(target.arrive(addr, to, kind(segment)), Answer.DONE)
+    return a, b
+
+
+def buffers():
+    for kind in (bytes, bytearray, memoryview, lambda data: memoryview(bytearray(data)), lambda data: array.array("B", data)):
+        a, b = opened(kind)
+        check(a.send(kind(b"hello")), 5)
+        to, segment = a.emit()
+        check(b.take(A, to, kind(segment)), (Answer.DONE, False))
+        check(b.receive(), b"hello")
+        check(b.receive(), None)
+        check(tcpcore.stray_reset(A, B, kind(segment))[13], 4)
+    check(a.send(memoryview(b"a-b-c-")[::2]), 3)
+    check(raised(TypeError, a.send, "text") != "nothing", True)
+    check(raised(TypeError, a.send, array.array("H", [1])), "a buffer of bytes is wanted, not of 2 bytes each")
+    check(a.arrive(B, A, b"x").text, "a segment of fewer than 20 bytes")
+
+
+def enums():
+    a, b = opened(bytes)
+    status = a.status()
+    check((status.phase is Phase.ESTABLISHED, status.phase == "ESTABLISHED", f"{status.phase}"), (True, True, "ESTABLISHED"))
+    check((status.ending is Ending.NOT_ENDED, f"{status.ending}"), (True, "not-ended"))
+    check((Timer.REORDER, f"{Timer.TIME_WAIT}", a.timer(Timer.RETRANSMIT)), (1, "2", False))
+    a.close()
+    b.arrive(A, *a.emit())
+    a.arrive(B, *b.emit())
+    b.close()
+    fin = b.emit()
+    a.arrive(B, *fin)
+    rest = a.rest()
+    check(rest.status(), (Phase.TIME_WAIT, Ending.NOT_ENDED))
+    for other in (copy.copy(rest), pickle.loads(pickle.dumps(rest)), Rest(bytearray(bytes(rest)))):
+        check(bytes(other), bytes(rest))
+        check((other.arrive(B, *fin), len(other.emit()[1])), (Answer.DROPPED, 20))
+    check(raised(ValueError, Rest, b"short"), "what rests has 48 bytes, not 5")
+    check(raised(Refused, Rest, bytes(48)), "no rest is in the struct")
+
+
+def main():
+    for test in (ranges, refusals, copies, buffers, enums):
+        test()
+    print(f"calls.py: {checks} checks")
+
+
+if __name__ == "__main__":
+    main()
