@@ -40,7 +40,8 @@ content-is e = cc
 
 module _ (isn : ℕ) (accepted : List ℕ) (closed : Bool) (small : isn < 2 ^ 32) (short : 2 + length accepted < 2 ^ 31) where
   -- ONE SEGMENT
-  keeps-rules : (k : Known) (v : Content) → IsKnown isn accepted k → form_finding v ≡ None → ack_finding k.heard v ≡ None → (has rst v.flags ≡ false → IsOfUser isn accepted closed v)
+  keeps-rules : (k : Known) (v : Content) → IsKnown isn accepted k → form_finding v ≡ None → ack_finding k.heard v ≡ None
+      → (has rst v.flags ≡ false → IsOfUser isn accepted closed v)
       → finding_of k v ≡ None
   keeps-rules k v h form right user = rw (form, keeps-positions isn accepted closed small short k v h user) right
 

@@ -112,7 +112,8 @@ in-turn : (Q : ℕ → Type 0) (a b c : Receiving) → Finishes (λ _. ⊥) a b 
 in-turn Q a b c f g = record {
   stays = λ e. let first = f.stays e in let next = g.stays first.0 in (next.0, omega (arith, first.1, next.1));
   comes = λ e. ⊎_elim
-      (λ (had : b.finished ≡ true). ⊎_elim (λ (before : a.finished ≡ true). inl before) (λ (never : (n : ℕ) × ⊥ × (n < 2 ^ 32) × (b.next ≡ number n 1)). absurd never.1) (f.comes had))
+      (λ (had : b.finished ≡ true). ⊎_elim (λ (before : a.finished ≡ true). inl before)
+      (λ (never : (n : ℕ) × ⊥ × (n < 2 ^ 32) × (b.next ≡ number n 1)). absurd never.1) (f.comes had))
       (λ (new : (n : ℕ) × Q n × (n < 2 ^ 32) × (c.next ≡ number n 1)). inr new) (g.comes e);
 }
 

@@ -24,7 +24,8 @@ number-on irs from j = omega arith
 pub all-came : (spans : List (Seq × ℕ)) (from count : ℕ) → ((j : ℕ) → j < count → has_come spans (number from j) ≡ true) → all_came spans from count ≡ true
 unfolding all_came
 all-came spans from zero h = refl
-all-came spans from (suc n) h = both (has_come spans (number from n)) (all_came spans from n) (h n (omega arith)) (all-came spans from n (λ j less. h j (omega arith)))
+all-came spans from (suc n) h =
+    both (has_come spans (number from n)) (all_came spans from n) (h n (omega arith)) (all-came spans from n (λ j less. h j (omega arith)))
 
 pub one-missing : (spans : List (Seq × ℕ)) (from count j : ℕ) → j < count → has_come spans (number from j) ≡ false → all_came spans from count ≡ false
 unfolding all_came

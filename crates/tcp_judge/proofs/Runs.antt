@@ -1,13 +1,13 @@
 -- ONE END after every list of events, against what a judge heard of it: each segment that it emits is of form, and acknowledges what
 -- came.
-use Rattle.std.proofs.Common.{◌≡◌, ℕ, ◌+◌, List, [], ◌∷◌, ◌++◌, refl, sym, ◌∙◌, ap, subst, ⊎_elim, arith, append-nil, ◌<◌, ◌≤◌, ◌^◌, ◌-◌, length}
+use Rattle.std.proofs.Common.{◌≡◌, ℕ, ◌+◌, List, [], ◌∷◌, ◌++◌, refl, sym, ◌∙◌, ap, subst, ⊎_elim, arith, ◌<◌, ◌≤◌, ◌^◌, ◌-◌, length}
 use Rattle.std.specs.Prelude.{zero, suc, Bool, true, false, if◌then◌else◌, Option, Some, None, IfSome, option_map, slice_get, Result, Ok}
-use Rattle.std.specs.Prelude.{Err, is_some, ◌||◌}
+use Rattle.std.specs.Prelude.{Err, is_some}
 use Rattle.std.specs.List.{AllByRecursion}
 use Rattle.std.proofs.lemmas.Bool.{false≢true}
 use Rattle.tcp_wire.specs.Checksum.{AreBytes}
 use Rattle.tcp_wire.specs.Decoded.{decode_answer}
-use Rattle.tcp_wire.specs.Flags.{syn, rst, ack, has}
+use Rattle.tcp_wire.specs.Flags.{rst, ack, has}
 use Rattle.tcp_wire.specs.Position.{number}
 use Rattle.tcp_wire.specs.Wire.{Content}
 use Rattle.tcp_wire.specs.declared.fault.DecodeError.{DecodeError}
@@ -19,29 +19,22 @@ use Rattle.tcp_conn.specs.Config.{IsConfig}
 use Rattle.tcp_conn.specs.Phase.{gives_up}
 use Rattle.tcp_conn.specs.State.{State}
 use Rattle.tcp_conn.specs.Arrival.{after_reading, after_arrival}
-use Rattle.tcp_conn.specs.Judgement.{is_foreign}
 use Rattle.tcp_conn.specs.Due.{due_of}
 use Rattle.tcp_conn.specs.Forms.{segment_of}
 use Rattle.tcp_conn.specs.Writing.{bytes_of, destination_of}
 use Rattle.tcp_replay.specs.Alone.{IsAlone}
 use Rattle.tcp_replay.specs.OneEnd.{count_come}
 use Rattle.tcp_replay.specs.Solo.{SoloState, solo_start, end_after, bytes_put_out, segment_due, after_solo}
-use Rattle.tcp_replay.specs.SoloEvents.{SoloContent, HasRanges, Connect, Listen, Send, Receive, Close, Abort, Acknowledge, Timer, Emit, Arrive}
-use Rattle.tcp_replay.specs.World.{PartyState, party_after_abort, party_after_acknowledge, party_after_close, party_after_connect}
-use Rattle.tcp_replay.specs.World.{party_after_listen, party_after_receive, party_after_send, party_after_timer}
+use Rattle.tcp_replay.specs.SoloEvents.{SoloContent, HasRanges, Emit, Arrive}
 use Rattle.tcp_replay.proofs.Lists.{by_test, one_if}
 use Rattle.tcp_replay.proofs.Alone.{alone-new}
-use Rattle.tcp_replay.proofs.AloneCalls.{alone-judgement, IsAloneIn, alone-calls}
+use Rattle.tcp_replay.proofs.AloneCalls.{IsAloneIn}
 use Rattle.tcp_replay.proofs.AloneEmissions.{GoesOutAlone, due-alone}
 use Rattle.tcp_replay.proofs.Emissions.{syn-opened, reset-bit}
-use Rattle.tcp_replay.proofs.Judgements.{IsTaken}
-use Rattle.tcp_replay.proofs.Feeds.{AllText, ByNumber, text-of, text-at, IsFed, fed-new, fed-more, fed-any}
-use Rattle.tcp_replay.proofs.AloneFeeds.{Feeds, feeds-same, feeds-judgement, feeds-calls}
-use Rattle.tcp_replay.proofs.Calls.{or-false, KeptByCalls, on-abort, on-acknowledge, on-close, on-connect, on-emission, on-listen, on-receive, on-send}
-use Rattle.tcp_replay.proofs.Calls.{on-timer, with_end}
-use Rattle.tcp_halves.specs.declared.link.Peer.{Peer}
-use Rattle.std.specs.Prelude.{not, ◌&&◌, nat_lt, unwrap_or}
-use Rattle.std.proofs.lemmas.Bool.{cond_both, and_parts, le-ltb, lt-ltb, cases_lt}
+use Rattle.tcp_replay.proofs.Feeds.{AllText, ByNumber, text-of, text-at, IsFed, fed-new, fed-more}
+use Rattle.tcp_replay.proofs.AloneFeeds.{Feeds, feeds-calls}
+use Rattle.std.specs.Prelude.{not, nat_lt}
+use Rattle.std.proofs.lemmas.Bool.{cond_both, and_parts, lt-ltb, cases_lt}
 use Rattle.tcp_numbers.specs.declared.seq.Seq.{Seq}
 use Rattle.tcp_wire.specs.Flags.{fin}
 use Rattle.tcp_wire.specs.Wire.{IsValid, encoded_bytes}
@@ -50,112 +43,18 @@ use Rattle.tcp_halves.specs.declared.phase.Phase.{Phase}
 use Rattle.tcp_halves.specs.declared.phase.Phase.TheVariants.{Closed}
 use Rattle.tcp_conn.specs.Phase.{is_closed, has_peer}
 use Rattle.tcp_conn.specs.State.{Receiving}
-use Rattle.tcp_conn.specs.Blocks.{blocks_to_report, sack_options}
-use Rattle.tcp_conn.specs.Due.{is_fin}
-use Rattle.tcp_conn.specs.Forms.{shift_offered, is_sack_offered, scale_options, permission_options, syn_segment, plain_segment, reset_segment, pushes}
 use Rattle.tcp_conn.specs.Judgement.{count_numbers}
 use Rattle.tcp_replay.proofs.SoloRuns.{party_in, next_irs, seq_read, IsSynRead, BringsSyn}
-use Rattle.tcp_replay.proofs.Emissions.{syn-bits, plain-bits}
 use Rattle.tcp_replay.proofs.Phases.{handshake-knows, not-closed-ended, gives_up-not_ended}
 use Rattle.tcp_judge.specs.Heard.{Heard, nothing_heard, covers, has_come, goes_on, is_of_came, tells, tells_beyond, told_after, after_went, syns_of, after_came}
 use Rattle.tcp_judge.specs.Log.{PassageContent, went_from, log_of, log_alone}
-use Rattle.tcp_judge.specs.Rules.{any_syn_option, any_great_shift, has_stray_option, lacks_ack, form_finding, ack_finding}
+use Rattle.tcp_judge.specs.Rules.{ack_finding}
 use Rattle.tcp_judge.specs.Law.{heard_read, heard_went, AllSaidRight}
 use Rattle.tcp_judge.proofs.Numbers.{come-more, come-last, HasSyn, syn-more, syn-last, begins-at, positions-came}
 use Rattle.tcp_judge.proofs.Streams.{none-found, unless}
 use Rattle.tcp_judge.proofs.Finishes.{Finishes, nothing-new, finishes-calls, finishes-judgement}
-
--- ARRIVALS, by what the bytes are read as
-read-arrival : (s : State) (src dst bytes : List ℕ) (r : Result Content DecodeError) → decode_answer src dst bytes ≡ r
-    → after_arrival s src dst bytes ≡ after_reading s src dst r
-unfolding after_arrival
-read-arrival s src dst bytes r e = ap (after_reading s src dst) e
-
--- WHAT IT KEEPS OF ITS OWN
-alone-reading : (s : State) (accepted : List ℕ) (closed : Bool) (src dst bytes : List ℕ) (r : Result Content DecodeError) → AreBytes bytes
-    → decode_answer src dst bytes ≡ r → IsAlone s accepted closed
-    → IsAlone (after_reading s src dst r) accepted closed
-alone-reading s accepted closed src dst bytes (Ok v) fits e h = alone-judgement s accepted closed src dst v (decoded_valid src dst v bytes fits e) h
-alone-reading s accepted closed src dst bytes (Err fault) fits e h = h
-
-alone-arrived : (s : State) (accepted : List ℕ) (closed : Bool) (src dst bytes : List ℕ) → AreBytes bytes → IsAlone s accepted closed
-    → IsAlone (after_arrival s src dst bytes) accepted closed
-alone-arrived s accepted closed src dst bytes fits h =
-    subst (λ (x : State). IsAlone x accepted closed) (sym (read-arrival s src dst bytes (decode_answer src dst bytes) refl))
-    (alone-reading s accepted closed src dst bytes (decode_answer src dst bytes) fits refl h)
-
--- some peer
-abbrev peer_of : State → Peer
-peer_of s = record { addr = s.config.addr; port = s.config.port }
-
--- ANY EVENT at one end: what its calls, timers and emissions keep, and an arrival
-module _ (x : SoloState) (P : PartyState → Type 0) (alone : IsAloneIn (party_in x)) where
-  module _ (calls : (peer : Peer) → peer.port < 2 ^ 16 → KeptByCalls peer (party_in x) P) where
-    -- nothing is added
-    nothing-added : (p : PartyState) → P p
-        → P (record p { accepted = p.accepted ++ []; delivered = p.delivered ++ []; closed = p.closed || false; ended = p.ended || false })
-    nothing-added p h = rw (append-nil p.accepted, append-nil p.delivered, or-false p.closed, or-false p.ended) h
-
-    own-calls : KeptByCalls (peer_of x.endpoint) (party_in x) P
-    own-calls = calls (peer_of x.endpoint) alone.config.port
-
-    solo-step : (e : SoloContent) → HasRanges e
-        → ((src dst bytes : List ℕ) → e ≡ Arrive src dst bytes → P (with_end (party_in x) (after_arrival x.endpoint src dst bytes)))
-        → P (party_in (after_solo x e))
-    unfolding party_after_connect party_after_listen party_after_send party_after_receive party_after_close party_after_abort party_after_acknowledge party_after_timer
-    solo-step (Connect addr port) fits arrives = nothing-added _ (on-connect _ (party_in x) P (calls _ fits))
-    solo-step Listen fits arrives = nothing-added _ (on-listen _ (party_in x) P own-calls)
-    solo-step (Send text) fits arrives = rw (append-nil x.delivered, or-false x.closed, or-false x.ended) (on-send _ (party_in x) P own-calls text fits)
-    solo-step (Receive room) fits arrives = rw (append-nil x.accepted, or-false x.closed) (on-receive _ (party_in x) P own-calls room)
-    solo-step Close fits arrives = rw (append-nil x.accepted, append-nil x.delivered, or-false x.ended) (on-close _ (party_in x) P own-calls)
-    solo-step Abort fits arrives = nothing-added _ (on-abort _ (party_in x) P own-calls)
-    solo-step Acknowledge fits arrives = nothing-added _ (on-acknowledge _ (party_in x) P own-calls)
-    solo-step (Timer which) fits arrives = nothing-added _ (on-timer _ (party_in x) P own-calls which)
-    solo-step Emit fits arrives = nothing-added _ (on-emission _ (party_in x) P own-calls alone)
-    solo-step (Arrive src dst bytes) fits arrives = nothing-added _ (arrives src dst bytes refl)
-
-alone-step : (x : SoloState) (e : SoloContent) → HasRanges e → IsAloneIn (party_in x) → IsAloneIn (party_in (after_solo x e))
-alone-step x e fits h =
-    solo-step x IsAloneIn h (λ peer port. alone-calls peer (party_in x) port h) e fits
-    (λ src dst bytes is. alone-arrived x.endpoint x.accepted x.closed src dst bytes (subst HasRanges is fits) h)
-
-fed-irs : (P : ℕ → ℕ → Type 0) (s : State) (irs n k : ℕ) (delivered : List ℕ) → IsFed P s.receiving irs k delivered (gives_up s.ending)
-    → IsFed P s.receiving (if s.receiving.opened then irs else n) k delivered (gives_up s.ending)
-fed-irs P s irs n k delivered h =
-    by_test s.receiving.opened (λ b. IsFed P s.receiving (if b then irs else n) k delivered (gives_up s.ending)) (λ _. h)
-    (λ shut. fed-any P s.receiving irs n k delivered (gives_up s.ending) shut h)
-
-feeds-reading : (P : ℕ → ℕ → Type 0) (s : State) (irs k : ℕ) (delivered accepted : List ℕ) (closed : Bool) (src dst bytes : List ℕ)
-    (r : Result Content DecodeError) → AreBytes bytes → decode_answer src dst bytes ≡ r
-    → IsAlone s accepted closed
-    → ((v : Content) → decode_answer src dst bytes ≡ Ok v → is_foreign s src dst v ≡ false → IsTaken s v → AllText (ByNumber P v.seq) 0 v.text)
-    → IsFed P s.receiving irs k delivered (gives_up s.ending)
-    → Feeds P (IsSynRead r) s (after_reading s src dst r) (if s.receiving.opened then irs else seq_read r) k delivered
-feeds-reading P s irs k delivered accepted closed src dst bytes (Ok v) fits e a came h =
-    feeds-judgement P s (if s.receiving.opened then irs else v.seq) k delivered accepted closed src dst v (decoded_valid src dst v bytes fits e).seq a
-    (λ shut. ap (λ (b : Bool). if b then irs else v.seq) shut) (came v e) (fed-irs P s irs v.seq k delivered h)
-feeds-reading P s irs k delivered accepted closed src dst bytes (Err fault) fits e a came h =
-    feeds-same P ⊥ s (if s.receiving.opened then irs else 0) k delivered (fed-irs P s irs 0 k delivered h)
-
-feeds-arrived : (P : ℕ → ℕ → Type 0) (s : State) (irs k : ℕ) (delivered accepted : List ℕ) (closed : Bool) (src dst bytes : List ℕ) → AreBytes bytes
-    → IsAlone s accepted closed
-    → ((v : Content) → decode_answer src dst bytes ≡ Ok v → is_foreign s src dst v ≡ false → IsTaken s v → AllText (ByNumber P v.seq) 0 v.text)
-    → IsFed P s.receiving irs k delivered (gives_up s.ending)
-    → Feeds P (IsSynRead (decode_answer src dst bytes)) s (after_arrival s src dst bytes)
-    (if s.receiving.opened then irs else seq_read (decode_answer src dst bytes)) k delivered
-feeds-arrived P s irs k delivered accepted closed src dst bytes fits a came h =
-    let r = decode_answer src dst bytes in
-    subst (λ (s' : State). Feeds P (IsSynRead r) s s' (if s.receiving.opened then irs else seq_read r) k delivered) (sym (read-arrival s src dst bytes r refl))
-    (feeds-reading P s irs k delivered accepted closed src dst bytes r fits refl a came h)
-
-fed-next : (P : ℕ → ℕ → Type 0) (s : State) (irs k : ℕ) (delivered : List ℕ) (e : SoloContent) → IsFed P s.receiving irs k delivered (gives_up s.ending)
-    → IsFed P s.receiving (next_irs s irs e) k delivered (gives_up s.ending)
-fed-next P s irs k delivered (Arrive src dst bytes) h = fed-irs P s irs (seq_read (decode_answer src dst bytes)) k delivered h
-fed-next P s irs k delivered other h = h
-
-irs-same : (s : State) (irs : ℕ) (e : SoloContent) → s.receiving.opened ≡ true → next_irs s irs e ≡ irs
-irs-same s irs (Arrive src dst bytes) opened = ap (λ (b : Bool). if b then irs else seq_read (decode_answer src dst bytes)) opened
-irs-same s irs other opened = refl
+use Rattle.tcp_judge.proofs.Events.{read-arrival, solo-step, alone-step, feeds-arrived, fed-next, irs-same}
+use Rattle.tcp_judge.proofs.Forms.{due-form}
 
 is-below : (a b : ℕ) → a < b → nat_lt a b ≡ true
 is-below a b h = lt-ltb a b h
@@ -255,7 +154,8 @@ finishes-reading : (h : Heard) (s : State) (accepted : List ℕ) (closed : Bool)
     → Finishes (λ f. has_come (heard_read h r).spans f ≡ true) s.receiving (after_reading s src dst r).receiving
 finishes-reading h s accepted closed src dst bytes (Ok v) fits e a =
     let valid = decoded_valid src dst v bytes fits e in
-    finishes-judgement (λ f. has_come (after_came h v).spans f ≡ true) s src dst v accepted closed a (λ _ told. fin-heard h v valid.seq (short-text v valid) told)
+    finishes-judgement (λ f. has_come (after_came h v).spans f ≡ true) s src dst v accepted closed a
+    (λ _ told. fin-heard h v valid.seq (short-text v valid) told)
 finishes-reading h s accepted closed src dst bytes (Err fault) fits e a = nothing-new _ s.receiving s.receiving refl
 
 finishes-by : (x : SoloState) (e : SoloContent) (h : Heard) → HasRanges e → IsAloneIn (party_in x)
@@ -364,63 +264,6 @@ address-step x e h irs k fits alone hears =
     (fed-more (CameBy h.spans) (CameBy (heard_past h e).spans) x.endpoint.receiving irs k x.delivered (gives_up x.endpoint.ending)
     (λ n byte. spans-more h e n) hears.fed)).config
 
--- FORM
-form-none : (v : Content) → has_stray_option v ≡ false → any_great_shift v.options ≡ false → lacks_ack v ≡ false → form_finding v ≡ None
-form-none v a b c = rw (a, b, c) refl
-
-reset-lacks : (told : Bool) → (not (has ack (rst + (if told then ack else 0))) && not (has syn (rst + (if told then ack else 0)))
-    && not (has rst (rst + (if told then ack else 0)))) ≡ false
-reset-lacks true = refl
-reset-lacks false = refl
-
-reset-stray : (told : Bool) → (not (has syn (rst + (if told then ack else 0))) && false) ≡ false
-reset-stray true = refl
-reset-stray false = refl
-
-syn-shift : (shift : Option ℕ) (offered : Bool) → IfSome shift (λ n. n ≤ 14) → any_great_shift (scale_options shift ++ permission_options offered) ≡ false
-syn-shift None true h = refl
-syn-shift None false h = refl
-syn-shift (Some n) true h = rw (le-ltb 14 n h) refl
-syn-shift (Some n) false h = rw (le-ltb 14 n h) refl
-
-config-shift : (shift : Option ℕ) → unwrap_or shift 0 ≤ 14 → IfSome shift (λ n. n ≤ 14)
-config-shift None h = tt
-config-shift (Some n) h = h
-
-offered-shift : (s : State) → IfSome s.config.window_shift (λ n. n ≤ 14) → IfSome (shift_offered s) (λ n. n ≤ 14)
-offered-shift s h =
-    cond_both (s.receiving.opened && not s.link.scaling) None s.config.window_shift (λ (o : Option ℕ). IfSome o (λ n. n ≤ 14)) (λ _. tt) (λ _. h)
-
-sack-no_syn : (blocks : List (ℕ × ℕ)) → (any_syn_option (sack_options blocks) ≡ false) × (any_great_shift (sack_options blocks) ≡ false)
-sack-no_syn [] = (refl, refl)
-sack-no_syn (block ∷ blocks) = (refl, refl)
-
-plain-form : (s : State) (due : Due) → form_finding (plain_segment s due) ≡ None
-plain-form s due =
-    let bits = plain-bits (pushes s.sending due) (is_fin due) in
-    let none = sack-no_syn (blocks_to_report s) in
-    form-none (plain_segment s due)
-    (unless (not (has syn (plain_segment s due).flags)) (any_syn_option (sack_options (blocks_to_report s))) (λ _. none.0)) none.1
-    (rw bits.3 refl)
-
-syn-lacks : (opened : Bool) → (not (has ack (syn + (if opened then ack else 0))) && not (has syn (syn + (if opened then ack else 0)))
-    && not (has rst (syn + (if opened then ack else 0)))) ≡ false
-syn-lacks true = refl
-syn-lacks false = refl
-
-syn-form : (s : State) → IfSome s.config.window_shift (λ n. n ≤ 14) → form_finding (syn_segment s) ≡ None
-syn-form s h =
-    let bits = syn-bits s.receiving.opened in
-    form-none (syn_segment s) (rw bits.0 refl) (syn-shift (shift_offered s) (is_sack_offered s) (offered-shift s h))
-    (syn-lacks s.receiving.opened)
-
-due-form : (s : State) (accepted : List ℕ) (closed : Bool) (due : Due) → GoesOutAlone s accepted closed due → IsAlone s accepted closed
-    → form_finding (segment_of s due) ≡ None
-unfolding segment_of
-due-form s accepted closed (Reset reset) out a = form-none (reset_segment s reset) (reset-stray (is_some reset.ack)) refl (reset-lacks (is_some reset.ack))
-due-form s accepted closed Syn out a = syn-form s (config-shift s.config.window_shift a.config.good.2)
-due-form s accepted closed other out a = plain-form s other
-
 -- ACKNOWLEDGEMENTS
 peer-present : (phase : Phase) → has_peer phase ≡ true → is_closed phase ≡ false
 peer-present Closed e = absurd (cc)
@@ -442,7 +285,11 @@ unfolding segment_of
 due-tells s accepted closed (Reset reset) out a plain told = absurd (false≢true (sym plain ∙ reset-bit (is_some reset.ack)))
 due-tells s accepted closed Syn out a plain told =
     let opened = syn-opened s told in
-    record { opened = opened; next = ap (λ (b : Bool). if b then s.receiving.next else 0) opened; gone = not-gone s accepted closed (handshake-knows s.phase out.kind) a }
+    record {
+      opened = opened;
+      next = ap (λ (b : Bool). if b then s.receiving.next else 0) opened;
+      gone = not-gone s accepted closed (handshake-knows s.phase out.kind) a;
+    }
 due-tells s accepted closed other out a plain told =
     record { opened = out.kind.opened; next = refl; gone = not-gone s accepted closed out.kind.knows a }
 
@@ -478,7 +325,8 @@ told-right x h irs k v None hears t before =
 told-right x h irs k v (Some a) hears t before =
     let to = 1 + k + one_if x.endpoint.receiving.finished in
     let reach : goes_on h.spans (number irs before.position) (number irs to) ≡ true =
-    positions-came h.spans irs before.position to before.most (λ p from below. wanted-came x h irs k p hears t.gone (omega (arith, before.least, from)) below) in
+    positions-came h.spans irs before.position to before.most
+    (λ p from below. wanted-came x h irs k p hears t.gone (omega (arith, before.least, from)) below) in
     subst (λ (n : ℕ). goes_on h.spans n v.ack ≡ true) (sym before.number_is)
     (subst (λ (n : ℕ). goes_on h.spans (number irs before.position) n ≡ true) (sym (t.next ∙ hears.fed.next t.opened)) reach)
 
@@ -523,7 +371,8 @@ said-due src x h irs k log (Some due) at out a hears further =
     let v = segment_of s due in
     let to = (destination_of s due).addr.0 in
     let bytes = encoded_bytes s.config.addr.0 to v in
-    let read : decode_answer src to bytes ≡ Ok v = subst (λ (src : List ℕ). decode_answer src to bytes ≡ Ok v) at (decoded_encoded s.config.addr.0 to v out.valid) in
+    let read : decode_answer src to bytes ≡ Ok v =
+    subst (λ (src : List ℕ). decode_answer src to bytes ≡ Ok v) at (decoded_encoded s.config.addr.0 to v out.valid) in
     let told = tells-right h x irs k v hears (due-tells s x.accepted x.closed due out a) in (
       (v, read, due-form s x.accepted x.closed due out a, told.right),
       subst (λ (r : Result Content DecodeError). AllSaidRight (heard_went h r) log) (sym read) (further (after_went h v) told.after),

@@ -1,5 +1,6 @@
 -- THE RULES OF POSITIONS against the user's stream: what went is its beginning, and no segment that is the user's breaks one.
-use Rattle.std.proofs.Common.{◌≡◌, ℕ, zero, suc, ◌+◌, ◌-◌, ◌^◌, ◌<◌, ◌≤◌, List, [], ◌∷◌, ◌++◌, length, take, drop, refl, sym, ◌∙◌, ap, subst, arith, length-take, ⊎_elim, inl, inr, eq-eqb}
+use Rattle.std.proofs.Common.{◌≡◌, ℕ, zero, suc, ◌+◌, ◌-◌, ◌^◌, ◌<◌, ◌≤◌, List, [], ◌∷◌, ◌++◌, length, take, drop, refl}
+use Rattle.std.proofs.Common.{sym, ◌∙◌, ap, subst, arith, length-take, ⊎_elim, inl, inr, eq-eqb}
 use Rattle.std.specs.Prelude.{◌⊎◌, Bool, true, false, not, ◌&&◌, ◌||◌, ◌==◌, nat_lt, nat_le, if◌then◌else◌, Option, Some, None, IfSome, bytes_eq}
 use Rattle.std.proofs.lemmas.Bool.{false≢true, ltb-true, eqb-true, eqb-false, and_parts, le-ltb, cond_both, leb-true}
 use Rattle.std.proofs.lemmas.List.{drop-drop}
@@ -125,7 +126,8 @@ module _ (isn : ℕ) (accepted : List ℕ) (closed : Bool) (small : isn < 2 ^ 32
   syn-number : (v : Content) → (has rst v.flags ≡ false → IsOfUser isn accepted closed v) → is_syn v ≡ true → v.seq ≡ isn
   syn-number v user e =
       let parts = and_parts (has syn v.flags) (not (has rst v.flags)) e in
-      let plain : has rst v.flags ≡ false = by_test (has rst v.flags) (λ b. (not b ≡ true) → b ≡ false) (λ _ never. absurd (false≢true never)) (λ _ _. refl) parts.1 in
+      let plain : has rst v.flags ≡ false =
+      by_test (has rst v.flags) (λ b. (not b ≡ true) → b ≡ false) (λ _ never. absurd (false≢true never)) (λ _ _. refl) parts.1 in
       let h = user plain in
       let first : h.position ≡ 0 = eqb-true h.position 0 (sym h.has_syn ∙ parts.0) in
       let whole : number isn 0 ≡ isn = omega arith in
@@ -151,7 +153,8 @@ module _ (isn : ℕ) (accepted : List ℕ) (closed : Bool) (small : isn < 2 ^ 32
       let own = user plain in
       let p = own.position in
       let near : position_of isn (length sent) (number isn p) ≡ p =
-      position_of_number isn (length sent) p small (omega (arith, own.within, by_test closed (λ b. (if b then 1 else 0) ≤ 1) (λ _. omega arith) (λ _. omega arith))) (omega arith) in
+      position_of_number isn (length sent) p small
+      (omega (arith, own.within, by_test closed (λ b. (if b then 1 else 0) ≤ 1) (λ _. omega arith) (λ _. omega arith))) (omega arith) in
       let place : position_of n.0 (length sent) v.seq ≡ p = ap (λ i. position_of i (length sent) v.seq) h ∙ ap (position_of isn (length sent)) own.seq ∙ near in
       inr (subst (λ (i : ℕ). IsAt accepted (i + more) v) (sym place) (at-user isn accepted closed v own)))
 
@@ -178,7 +181,8 @@ module _ (isn : ℕ) (accepted : List ℕ) (closed : Bool) (small : isn < 2 ^ 32
       → IsAt accepted place v → fin_by known behind (place + length v.text) v ≡ None
   keeps-fin_by None behind place v h inside at =
       let end = place + length v.text in
-      none-found (has fin v.flags && nat_lt end behind) _ (unless (has fin v.flags) (nat_lt end behind) (λ told. le-ltb end behind (omega (arith, at.has_fin told))))
+      none-found (has fin v.flags && nat_lt end behind) _ (unless (has fin v.flags) (nat_lt end behind)
+      (λ told. le-ltb end behind (omega (arith, at.has_fin told))))
   keeps-fin_by (Some f) behind place v h inside at =
       let end = place + length v.text in
       let text : not (length v.text == 0) && nat_lt f end ≡ false =
