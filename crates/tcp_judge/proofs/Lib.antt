@@ -2,6 +2,7 @@ pub mod Places
 pub mod Numbers
 pub mod Events
 pub mod Finishes
+pub mod Links
 pub mod Streams
 pub mod Forms
 pub mod Runs

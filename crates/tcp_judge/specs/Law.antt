@@ -10,7 +10,7 @@ use Rattle.tcp_replay.specs.Solo.{run_alone}
 use Rattle.tcp_replay.specs.SoloEvents.{SoloContent, HasRanges}
 use Rattle.tcp_judge.specs.Log.{PassageContent, Came, Went, log_alone}
 use Rattle.tcp_judge.specs.Heard.{Heard, nothing_heard, after_went, after_came}
-use Rattle.tcp_judge.specs.Rules.{form_finding, ack_finding}
+use Rattle.tcp_judge.specs.Rules.{form_finding, heard_finding}
 use Rattle.tcp_judge.specs.Judgement.{IsClean}
 
 -- what was heard after bytes that came, and after bytes that went
@@ -22,16 +22,16 @@ abbrev pub heard_went : Heard → Result Content DecodeError → Heard
 heard_went h (Ok v) = after_went h v
 heard_went h (Err fault) = h
 
--- a segment that went can be read, and breaks no rule of form or of acknowledgements
+-- a segment that went can be read, and breaks no rule of form, and none against what came
 abbrev pub IsSaidRight : Heard → List ℕ → List ℕ → List ℕ → Type 0
-IsSaidRight h src dst bytes = (v : Content) × (decode_answer src dst bytes ≡ Ok v) × (form_finding v ≡ None) × (ack_finding h v ≡ None)
+IsSaidRight h src dst bytes = (v : Content) × (decode_answer src dst bytes ≡ Ok v) × (form_finding v ≡ None) × (heard_finding h v ≡ None)
 
 abbrev pub AllSaidRight : Heard → List PassageContent → Type 0
 AllSaidRight h [] = Unit {0}
 AllSaidRight h (Came src dst bytes ∷ log) = AllSaidRight (heard_read h (decode_answer src dst bytes)) log
 AllSaidRight h (Went src dst bytes ∷ log) = IsSaidRight h src dst bytes × AllSaidRight (heard_went h (decode_answer src dst bytes)) log
 
--- OF FORM AND OF ACKNOWLEDGEMENTS, however long the two streams grow
+-- OF FORM AND AGAINST WHAT CAME, however long the two streams grow
 abbrev pub NoFormOrAcknowledgementIsAccused : Type 0
 NoFormOrAcknowledgementIsAccused =
     (c : Config) (list : List SoloContent) → IsConfig c → AllByRecursion HasRanges list → AllSaidRight nothing_heard (log_alone c list)
