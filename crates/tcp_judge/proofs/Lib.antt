@@ -6,4 +6,5 @@ pub mod Links
 pub mod Streams
 pub mod Forms
 pub mod Runs
+pub mod Limits
 pub mod Correct

@@ -81,10 +81,10 @@ neither : (a b : Bool) → a ≡ false → b ≡ false → a || b ≡ false
 neither a b e f = ap (λ x. x || b) e ∙ f
 
 -- WHAT A JUDGE HEARD: a byte came where its number did
-abbrev CameBy : List (Seq × ℕ) → ℕ → ℕ → Type 0
+abbrev pub CameBy : List (Seq × ℕ) → ℕ → ℕ → Type 0
 CameBy spans n byte = has_come spans n ≡ true
 
-abbrev heard_past : Heard → SoloContent → Heard
+abbrev pub heard_past : Heard → SoloContent → Heard
 heard_past h (Arrive src dst bytes) = heard_read h (decode_answer src dst bytes)
 heard_past h other = h
 
@@ -239,8 +239,14 @@ pub record Hears (h : Heard) (x : SoloState) (irs k : ℕ) : Type 0 where
   pub told : IfSome h.told (λ a. IsTold x.endpoint.receiving irs k a.0)
   pub offered : Offered h.scaling h.sack x.endpoint.link
 
-hears-new : (c : Config) → Hears nothing_heard (solo_start c) 0 0
-hears-new c = record { fed = fed-new (CameBy []) c.recv_capacity 0; syn = λ never. absurd (cc); fin = λ never. absurd (cc); told = tt; offered = record { scaling_is = λ e. e; sack_is = λ e. e } }
+pub hears-new : (c : Config) → Hears nothing_heard (solo_start c) 0 0
+hears-new c = record {
+  fed = fed-new (CameBy []) c.recv_capacity 0;
+  syn = λ never. absurd (cc);
+  fin = λ never. absurd (cc);
+  told = tt;
+  offered = record { scaling_is = λ e. e; sack_is = λ e. e };
+}
 
 one_if-more : (a b : Bool) → (a ≡ true → b ≡ true) → one_if a ≤ one_if b
 one_if-more true b h = let same : one_if b ≡ 1 = ap one_if (h refl) in omega (arith, same)
@@ -278,7 +284,7 @@ back-one f irs p small e = omega arith
 has-opened : (s : State) (accepted : List ℕ) (closed : Bool) → IsAlone s accepted closed → s.receiving.finished ≡ true → s.receiving.opened ≡ true
 has-opened s accepted closed a e = by_test s.receiving.opened (λ b. b ≡ true) (λ _. refl) (λ shut. absurd (false≢true (sym (a.unopened shut) ∙ e)))
 
-hears-step : (x : SoloState) (e : SoloContent) (h : Heard) (irs k : ℕ) → HasRanges e → IsAloneIn (party_in x) → Hears h x irs k
+pub hears-step : (x : SoloState) (e : SoloContent) (h : Heard) (irs k : ℕ) → HasRanges e → IsAloneIn (party_in x) → Hears h x irs k
     → Hears (heard_past h e) (after_solo x e) (next_irs x.endpoint irs e) (k + count_come x.endpoint e)
 hears-step x e h irs k fits alone hears =
     let s = x.endpoint in
@@ -317,7 +323,7 @@ hears-step x e h irs k fits alone hears =
     }
 
 -- ITS ADDRESS stays
-address-step : (x : SoloState) (e : SoloContent) (h : Heard) (irs k : ℕ) → HasRanges e → IsAloneIn (party_in x) → Hears h x irs k
+pub address-step : (x : SoloState) (e : SoloContent) (h : Heard) (irs k : ℕ) → HasRanges e → IsAloneIn (party_in x) → Hears h x irs k
     → (end_after x.endpoint e).config ≡ x.endpoint.config
 address-step x e h irs k fits alone hears =
     (feeds-by x e irs k h fits alone

@@ -1,11 +1,11 @@
 -- NO CORRECT END IS ACCUSED: over every list of events, whoever the peer is and whatever bytes arrive.
-use Rattle.std.specs.Prelude.{◌≡◌, ℕ, ◌+◌, ◌^◌, ◌<◌, List, [], ◌∷◌, length, None, Result, Ok, Err}
+use Rattle.std.specs.Prelude.{◌≡◌, ℕ, ◌+◌, ◌^◌, ◌<◌, ◌≤◌, List, [], ◌∷◌, length, None, Result, Ok, Err}
 use Rattle.std.specs.List.{AllByRecursion}
 use Rattle.tcp_wire.specs.Wire.{Content}
 use Rattle.tcp_wire.specs.Decoded.{decode_answer}
 use Rattle.tcp_wire.specs.declared.fault.DecodeError.{DecodeError}
 use Rattle.tcp_halves.specs.declared.config.Config.{Config}
-use Rattle.tcp_conn.specs.Config.{IsConfig}
+use Rattle.tcp_conn.specs.Config.{IsConfig, default_limit}
 use Rattle.tcp_replay.specs.Solo.{run_alone}
 use Rattle.tcp_replay.specs.SoloEvents.{SoloContent, HasRanges}
 use Rattle.tcp_judge.specs.Log.{PassageContent, Came, Went, log_alone}
@@ -36,8 +36,13 @@ abbrev pub NoFormOrAcknowledgementIsAccused : Type 0
 NoFormOrAcknowledgementIsAccused =
     (c : Config) (list : List SoloContent) → IsConfig c → AllByRecursion HasRanges list → AllSaidRight nothing_heard (log_alone c list)
 
--- OF EACH RULE, where the positions of the stream and of its FIN lie below 2^31
-abbrev pub NoCorrectEndIsAccused : Type 0
-NoCorrectEndIsAccused =
+-- OF EACH RULE, where no two positions of the stream lie 2^31 apart: its user sent so much less,
+abbrev pub NoShortStreamIsAccused : Type 0
+NoShortStreamIsAccused =
     (c : Config) (list : List SoloContent) → IsConfig c → AllByRecursion HasRanges list → 2 + length (run_alone c list).accepted < 2 ^ 31
     → IsClean (log_alone c list)
+
+-- as with any limit up to the default one
+abbrev pub NoCorrectEndIsAccused : Type 0
+NoCorrectEndIsAccused =
+    (c : Config) (list : List SoloContent) → IsConfig c → c.limit ≤ default_limit → AllByRecursion HasRanges list → IsClean (log_alone c list)
