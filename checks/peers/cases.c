@@ -235,6 +235,24 @@ static void faults(int seeds)
                     }
 }
 
+/* Long paths and small segments, where a millisecond is worth less than a segment, or less than a byte of one. */
+static void paths(void)
+{
+    static const uint32_t DELAYS[] = {50, 150, 900}, MSS[] = {64, 536, 1460};
+    for (int delay = 0; delay < 3; delay++)
+        for (int mss = 0; mss < 3; mss++)
+            for (int variant = 0; variant < 8; variant++) {
+                set("long paths", variant & 1 ? 30000 : 100, variant & 1 ? 100 : 30000);
+                trial.delay = DELAYS[delay];
+                trial.mss = MSS[mss];
+                trial.opens = variant >> 1 & 1;
+                trial.lost = variant & 4 ? 20 : 0;
+                trial.drops[trial.opens] = variant & 4 ? 1 : 0;
+                trial.limit = 400000;
+                run();
+            }
+}
+
 /* The numbers of each side pass 0 at each of some places. */
 static void wraps(void)
 {
@@ -344,6 +362,7 @@ int main(int words, char **word)
     drops();
     openings();
     faults(is_long ? 8 : 2);
+    paths();
     wraps();
     slow();
     shut();
