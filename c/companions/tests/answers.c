@@ -84,6 +84,13 @@ static void both_full_behind_a_hole(int is_limited)
     a.flow.probe_at = b.flow.probe_at = TIMERS_NEVER;
     int count = war(900);
     CHECK(is_limited ? count <= 6 : count > 1000, 1);
+    CHECK(a.flow.resent + b.flow.resent, 0);
+    /* Then the timeout sends again what was lost, and that is all. */
+    count = war(20000);
+    CHECK(is_limited ? count <= 10 : count > 100, 1);
+    CHECK(a.flow.resent + b.flow.resent, 2);
+    CHECK(a.flow.congestion.released, KEEPS);
+    CHECK(b.flow.congestion.released, KEEPS);
     free_both();
 }
 
