@@ -1,7 +1,7 @@
 #!/usr/bin/env bash
-# Reads all scripts by shellcheck, and the C library's layer, its companions, their peers' driver and usernet by clang-tidy. It installs both by
-# apt-get where this machine lacks them; where that fails it fails, or, with LEAVE_OUT=1 in the environment, says what it leaves
-# out.
+# Reads all scripts by shellcheck, and the C library's layer, its companions, their peers' driver and usernet by clang-tidy. It
+# installs both by apt-get where this machine lacks them; where that fails it fails, or, with LEAVE_OUT=1 in the environment, says
+# what it leaves out.
 set -euo pipefail
 cd "$(dirname "$0")/.."
 test=lint

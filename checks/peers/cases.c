@@ -226,6 +226,8 @@ static void faults(int seeds)
                         trial.mss = MSS[mss];
                         trial.sack = seed % 2;
                         trial.opens = (seed + way + mss) % 2;
+                        trial.cubic = (seed + kind) % 2;
+                        trial.nagle = (seed + kind + mss) % 2;
                         trial.seed = (uint32_t)(seed * 1000 + rate * 100 + kind * 10 + way);
                         trial.lost = kind == 0 || kind == 4 ? RATES[rate] : 0;
                         trial.doubled = kind == 1 || kind == 4 ? RATES[rate] : 0;
@@ -254,6 +256,20 @@ static void paths(void)
                 trial.limit = 400000;
                 run();
             }
+}
+
+/* Windows that are scaled, where the peer scales, too. */
+static void scaled(void)
+{
+    for (int variant = 0; variant < 8; variant++) {
+        set("scaled windows", 400000, 400000);
+        trial.sends = trial.keeps = 1 << 20;
+        trial.shift = 5;
+        trial.opens = variant & 1;
+        trial.sack = variant >> 1 & 1;
+        trial.lost = variant & 4 ? 10 : 0;
+        run();
+    }
 }
 
 /* The numbers of each side pass 0 at each of some places. */
@@ -381,6 +397,7 @@ int main(int words, char **word)
     openings();
     faults(is_long ? 8 : 2);
     paths();
+    scaled();
     wraps();
     slow();
     pieces();
