@@ -1,7 +1,7 @@
 #!/usr/bin/env bash
-# Reads all scripts by shellcheck, the C library's layer, its companions and usernet by clang-tidy, and the library's class for
-# Python by mypy. It installs them by apt-get where this machine lacks them; where that fails it fails, or, with LEAVE_OUT=1 in the
-# environment, says what it leaves out.
+# Reads all scripts by shellcheck, the C library's layer, its companions, their peers' driver and usernet by clang-tidy, and the
+# library's class for Python by mypy. It installs them by apt-get where this machine lacks them; where that fails it fails, or,
+# with LEAVE_OUT=1 in the environment, says what it leaves out.
 set -euo pipefail
 cd "$(dirname "$0")/.."
 test=lint
@@ -19,8 +19,9 @@ if has shellcheck shellcheck --version; then
     passed=$((passed + 1 + ${#scripts[@]}))
 fi
 if has clang-tidy clang-tidy --version; then
-    for source in c/tcpcore/*.c c/companions/*.c apps/usernet/*.c; do
-        clang-tidy --quiet --warnings-as-errors='*' --checks="$checks" "$source" -- -std=c11 -Ic -Ic/tcpcore 2>/dev/null
+    # lwip.c is read with lwIP's headers, by its compiler.
+    for source in c/tcpcore/*.c c/companions/*.c checks/peers/{cases,wire,own,second,segments}.c apps/usernet/*.c; do
+        clang-tidy --quiet --warnings-as-errors='*' --checks="$checks" "$source" -- -std=c11 -Ic -Ic/tcpcore -Ic/companions 2>/dev/null
         passed=$((passed + 1))
     done
 fi

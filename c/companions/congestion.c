@@ -1,8 +1,9 @@
 /* The congestion window (see congestion.h). C alone, tested and not proved. */
 #include "congestion.h"
 
-/* In segments: the initial window (RFC 6928, 2), and the least that a window is halved to (RFC 5681, 3.1). */
-enum { INITIAL = 10, LEAST = 2 };
+/* In segments: the initial window (RFC 6928, 2), the least that a window is halved to (RFC 5681, 3.1), and what the first two
+   duplicates are worth (RFC 3042). */
+enum { INITIAL = 10, LEAST = 2, LIMITED = 2 };
 
 /* No more milliseconds than these are counted at once. */
 enum { LONGEST = 1 << 20 };
@@ -22,6 +23,18 @@ void congestion_agreed(struct congestion *congestion, uint32_t mss)
     congestion->mss = mss;
 }
 
+void congestion_choose(struct congestion *congestion, int is_cubic)
+{
+    congestion->is_cubic = is_cubic != 0;
+    congestion->cubic = (struct cubic){0};
+}
+
+void congestion_clock(struct congestion *congestion, uint64_t now, uint64_t trip)
+{
+    congestion->now = now;
+    congestion->trip = trip / 1000;
+}
+
 static uint64_t flight_of(const struct congestion *congestion) { return congestion->given - congestion->released; }
 
 /* For each segment that has left the network another one may go out once a loss was found (RFC 5681, 3.2), and before
@@ -29,18 +42,22 @@ static uint64_t flight_of(const struct congestion *congestion) { return congesti
 uint64_t congestion_room(const struct congestion *congestion)
 {
     uint64_t left = congestion->loss == CONGESTION_RECOVERY ? congestion->left : congestion->left / 2;
-    uint64_t window = congestion->cwnd + left, flight = flight_of(congestion);
+    uint64_t window = congestion->cwnd + left + congestion->limited, flight = flight_of(congestion);
     return window > flight ? window - flight : 0;
 }
 
 /* The window grows where the user fills it (RFC 7661, 4.3): by what was acknowledged in slow start, at most two
-   segments (RFC 3465, 2.2), and by a segment each window behind it (RFC 5681, 3.1). */
+   segments (RFC 3465, 2.2), and behind it by a segment each window (RFC 5681, 3.1), or as CUBIC says. */
 static void grow(struct congestion *congestion, uint64_t acked, uint64_t flight)
 {
     if (2 * flight < congestion->cwnd)
         return;
     if (congestion->cwnd < congestion->ssthresh) {
         congestion->cwnd += smaller(acked, 2 * congestion->mss);
+        return;
+    }
+    if (congestion->is_cubic) {
+        congestion->cwnd = cubic_grown(&congestion->cubic, congestion->mss, congestion->cwnd, acked, congestion->now, congestion->trip);
         return;
     }
     congestion->grown += acked;
@@ -58,26 +75,38 @@ void congestion_acknowledged(struct congestion *congestion, uint64_t released, i
         congestion->left = smaller(congestion->left + congestion->mss, flight);
     congestion->left -= smaller(congestion->left, acked);
     congestion->again -= smaller(congestion->again, acked);
+    if (acked > 0)
+        congestion->limited = 0;
     if (acked > 0 && congestion->loss != CONGESTION_RECOVERY)
         grow(congestion, acked, flight);
     if (congestion->loss != CONGESTION_OPEN && released >= congestion->recover) {
         congestion->loss = CONGESTION_OPEN;
         congestion->left = congestion->again = 0;
+        congestion->is_clocked = 0;
     }
+}
+
+/* A loss was found with so much in flight: what half of it is to Reno. */
+static void shrink(struct congestion *congestion, uint64_t flight)
+{
+    if (congestion->is_cubic)
+        cubic_lost(&congestion->cubic, congestion->cwnd);
+    congestion->ssthresh = greater(congestion->is_cubic ? cubic_less(flight) : flight / 2, LEAST * congestion->mss);
 }
 
 void congestion_lost(struct congestion *congestion, uint32_t loss, uint32_t count, uint64_t now)
 {
     uint64_t flight = smaller(flight_of(congestion), congestion->cwnd);
     uint32_t timed_out = loss == CONGESTION_TIMED_OUT;
-    congestion->again = 0;
+    congestion->again = congestion->limited = 0;
+    congestion->is_clocked = 0;
     congestion->credit = (int64_t)congestion->mss;
     congestion->counted = now;
     /* One halving for all that was given before it (RFC 6582, 3.2). */
     if (!timed_out && congestion->loss != CONGESTION_OPEN)
         return;
     if (flight > 0 && count <= 1)
-        congestion->ssthresh = greater(flight / 2, LEAST * congestion->mss);
+        shrink(congestion, flight);
     congestion->cwnd = timed_out ? congestion->mss : congestion->ssthresh;
     congestion->left = timed_out ? 0 : congestion->left;
     congestion->loss = loss;
@@ -86,15 +115,35 @@ void congestion_lost(struct congestion *congestion, uint32_t loss, uint32_t coun
     congestion->timeouts += timed_out;
 }
 
+void congestion_duplicate(struct congestion *congestion)
+{
+    if (congestion->loss == CONGESTION_OPEN)
+        congestion->limited = smaller(congestion->limited + congestion->mss, LIMITED * congestion->mss);
+}
+
+void congestion_clocked(struct congestion *congestion)
+{
+    congestion->is_clocked = 1;
+    congestion->allowed = 1;
+}
+
+void congestion_progress(struct congestion *congestion, uint64_t acked, uint64_t again)
+{
+    congestion->is_keeping = acked > again;
+    congestion->allowed = congestion->is_keeping ? 1 : congestion->allowed + 1 + acked / congestion->mss;
+}
+
 void congestion_idle(struct congestion *congestion)
 {
     congestion->cwnd = smaller(congestion->cwnd, INITIAL * congestion->mss);
+    cubic_paused(&congestion->cubic);
 }
 
 void congestion_resent(struct congestion *congestion, uint64_t bytes)
 {
     congestion->again += bytes;
     congestion->credit -= (int64_t)bytes;
+    congestion->allowed -= congestion->allowed > 0;
 }
 
 /* A round trip of which nothing is known is no shorter than a millisecond. */
@@ -113,6 +162,8 @@ static int64_t credit_at(const struct congestion *congestion, uint64_t now, uint
 /* Time counts as spent once it was worth a byte that may go out: a fraction of one isn't lost, however often it is asked. */
 int congestion_may_resend(struct congestion *congestion, uint64_t now, uint64_t trip)
 {
+    if (congestion->is_clocked)
+        return congestion->allowed > 0;
     int64_t credit = credit_at(congestion, now, trip);
     if (credit <= 0)
         return 0;
@@ -123,6 +174,8 @@ int congestion_may_resend(struct congestion *congestion, uint64_t now, uint64_t 
 
 uint64_t congestion_resend_at(const struct congestion *congestion, uint64_t trip)
 {
+    if (congestion->is_clocked)
+        return congestion->allowed > 0 ? congestion->counted : UINT64_MAX;
     uint64_t lacks = congestion->credit > 0 ? 0 : (uint64_t)(1 - congestion->credit), each = 1000 * congestion->cwnd;
     if (congestion->again >= congestion->cwnd)
         return UINT64_MAX;

@@ -1,12 +1,14 @@
 /*
- * congestion.h: the congestion window of one end (RFC 5681, with the initial window of RFC 6928), and the pace of what
- * goes out again. flow.h stands on it.
+ * congestion.h: the congestion window of one end (RFC 5681, with the initial window of RFC 6928; RFC 9438 where that is
+ * chosen), and the pace of what goes out again. flow.h stands on it.
  *
  * This is C alone, tested and not proved: it knows no end, and counts bytes of the own direction. What an end is given
  * to send is limited, and not what it emits, since each segment that it emits carries an acknowledgement.
  */
 #ifndef TCPCORE_CONGESTION_H
 #define TCPCORE_CONGESTION_H
+
+#include "cubic.h"
 
 #include <stdint.h>
 
@@ -30,6 +32,13 @@ struct congestion {
     uint64_t again;     /* sent again, and not yet acknowledged */
     int64_t credit;     /* what may go out again now */
     uint64_t counted;   /* when that was counted */
+    uint64_t limited;   /* what may be given for the first two duplicates (RFC 3042) */
+    uint64_t allowed;   /* where is_clocked: so many segments may go out again */
+    uint64_t now, trip; /* the time and the round trip, in milliseconds, as told last */
+    struct cubic cubic; /* what RFC 9438 remembers, where is_cubic */
+    uint32_t is_cubic;  /* the window grows and shrinks by RFC 9438 */
+    uint32_t is_clocked; /* what goes out again is paced by acknowledgements, not by time */
+    uint32_t is_keeping; /* where no block tells it: the peer was seen to keep what comes out of order */
     uint32_t loss;      /* CONGESTION_OPEN .. CONGESTION_TIMED_OUT */
     uint32_t losses;    /* how often the window was halved */
     uint32_t timeouts;  /* how often it went down to one segment */
@@ -40,6 +49,12 @@ void congestion_init(struct congestion *congestion, uint32_t mss);
 
 /* A full segment has `mss` bytes, as both SYNs say. Where nothing was given yet the window is ten of these. */
 void congestion_agreed(struct congestion *congestion, uint32_t mss);
+
+/* From now on the window is CUBIC's (RFC 9438), or Reno's (RFC 5681). */
+void congestion_choose(struct congestion *congestion, int is_cubic);
+
+/* It is `now`, in milliseconds, and the round trip takes `trip` microseconds: for CUBIC, before what follows. */
+void congestion_clock(struct congestion *congestion, uint64_t now, uint64_t trip);
 
 /* The bytes that may be given now. */
 uint64_t congestion_room(const struct congestion *congestion);
@@ -55,6 +70,24 @@ void congestion_acknowledged(struct congestion *congestion, uint64_t released, i
  * (CONGESTION_TIMED_OUT), for the `count`-th time without progress.
  */
 void congestion_lost(struct congestion *congestion, uint32_t loss, uint32_t count, uint64_t now);
+
+/*
+ * One of the first two duplicate acknowledgements without a block has come: a segment more may be given, which makes the peer send
+ * the third one (RFC 3042).
+ */
+void congestion_duplicate(struct congestion *congestion);
+
+/*
+ * What was just found lost was told by duplicate acknowledgements (RFC 5681, 3.2): behind congestion_lost. One segment may go out
+ * again, and further ones as congestion_progress says.
+ */
+void congestion_clocked(struct congestion *congestion);
+
+/*
+ * Where is_clocked `acked` bytes are acknowledged; `again` had gone out again before (RFC 6582, 3.2). More than these: the peer had
+ * kept what is behind them, and lacks what comes next: one segment. No more: it may lack all: two for each that was acknowledged.
+ */
+void congestion_progress(struct congestion *congestion, uint64_t acked, uint64_t again);
 
 /* Nothing was sent for so long that nothing is known of the path (RFC 5681, 4.1). */
 void congestion_idle(struct congestion *congestion);

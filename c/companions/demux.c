@@ -25,12 +25,13 @@ static void emit(struct demux *demux, struct table_slot *slot, uint64_t now)
     uint8_t segment[TCPCORE_EMIT_ROOM];
     tcpcore_addr to;
     size_t length;
-    uint64_t resent = slot->flow.resent;
+    uint64_t resent = slot->flow.resent, withheld = slot->flow.answers.withheld;
     while (flow_emit(&slot->flow, &slot->end, segment, sizeof segment, &to, &length, now) == TCPCORE_DONE) {
         demux->config.send(segment, length, to, demux->config.context);
         demux->counters.emitted++;
     }
     demux->counters.resent += slot->flow.resent - resent;
+    demux->counters.unsaid += slot->flow.answers.withheld - withheld;
 }
 
 /* Answers a segment for which there is no end (RFC 9293, 3.10.7.1); at the own port an end would listen, and answers
@@ -92,6 +93,8 @@ static void open_end(struct demux *demux, tcpcore_addr src, const uint8_t *bytes
         return;
     }
     flow_init(&slot->flow, &config, &demux->config.rules, demux->config.delay);
+    flow_choose(&slot->flow, demux->config.choices);
+    flow_keep_alive(&slot->flow, &demux->config.keep);
     table_add(&demux->table, src, port, now);
     demux->counters.opened++;
     keep_limits(demux, slot);

@@ -9,8 +9,8 @@
  * In every turn of its loop the caller hands what came to demux_arrive, calls demux_turn, and waits for demux_wait
  * milliseconds at most. `now` is a count of milliseconds that never goes back.
  *
- * Where nothing is under way no timer runs: an end whose peer vanished then stays until its user aborts it (keep-alives
- * are the user's, RFC 9293, 3.8.4). examples/echo.c is a whole program on all companions.
+ * Where nothing is under way no timer runs: an end whose peer vanished then stays until its user aborts it, or `keep` asks
+ * (RFC 9293, 3.8.4). examples/echo.c is a whole program on all companions.
  */
 #ifndef TCPCORE_DEMUX_H
 #define TCPCORE_DEMUX_H
@@ -29,6 +29,7 @@ struct demux_counters {
     uint64_t full;      /* SYNs that were dropped: no slot */
     uint64_t strays;    /* resets for no end */
     uint64_t withheld;  /* strays that weren't answered: too many in this second */
+    uint64_t unsaid;    /* answers of ends that weren't sent: they'd say what was just said (answers.h) */
     uint64_t orderly, reset, aborted; /* how ends ended */
     uint64_t gave_up;   /* of the aborted those that the timers gave up */
 };
@@ -40,6 +41,8 @@ struct demux_config {
     size_t length;             /* how many bytes these are */
     struct timers_rules rules; /* of each end; a syn_ack_limit of some seconds frees half-open ends (RFC 4987, 3.3) */
     uint32_t delay;            /* how long an acknowledgement may wait, in milliseconds: FLOW_DELAY, or 0 */
+    uint32_t choices;          /* bits of FLOW_CUBIC and FLOW_NAGLE */
+    struct flow_keep keep;     /* when silent peers are asked; all zero: never */
     uint32_t backlog;          /* the most half-open ends, at least 1 (RFC 4987, 3.2) */
     uint32_t strays;           /* the most resets for no end in a second */
     uint8_t secret[16];        /* random: of the initial sequence numbers and of the table (RFC 9293, 3.4.1) */

@@ -1,8 +1,9 @@
 /*
- * flow.h: one end with its times and its flow: congestion control, what goes out again paced, acknowledgements delayed
- * (RFC 9293, 3.8.6.3; RFC 5681, 4.2), and the window told in steps that are worth a segment (RFC 9293, 3.8.6.2).
+ * flow.h: one end with its times and its flow: congestion control, what goes out again paced, a loss found by duplicate
+ * acknowledgements where the peer tells no blocks (RFC 5681, 3.2; RFC 6582), acknowledgements delayed (RFC 9293, 3.8.6.3; RFC
+ * 5681, 4.2) and limited (RFC 5961, 7), and no silly windows (RFC 9293, 3.8.6.2): none is told, and none is filled.
  *
- * This is C over tcpcore.h, timers.h and congestion.h, tested and not proved. tcpcore_take, tcpcore_send,
+ * This is C over tcpcore.h, timers.h, congestion.h and answers.h, tested and not proved. tcpcore_take, tcpcore_send,
  * tcpcore_receive and tcpcore_emit are called through it, and so is timers_run; all other calls are made as they are.
  *
  * The caller has the clock: `now` is a count of milliseconds that never goes back. In each turn of its loop it
@@ -14,11 +15,30 @@
 #ifndef TCPCORE_FLOW_H
 #define TCPCORE_FLOW_H
 
+#include "answers.h"
 #include "congestion.h"
 #include "timers.h"
 
 /* How long an acknowledgement waits for a second segment, in milliseconds; below 500 (RFC 9293, 3.8.6.3). */
 #define FLOW_DELAY 40
+
+/* What to send waits for no longer, in milliseconds, where a part of a segment has room in the window, and nothing is in flight
+   (RFC 9293, 3.8.6.2.1: 0.1 to 1 s). */
+#define FLOW_OVERRIDE 500
+
+/* What may be chosen, as bits. */
+enum {
+    FLOW_CUBIC = 1, /* congestion control by CUBIC (RFC 9438), not by Reno (RFC 5681) */
+    FLOW_NAGLE = 2  /* text that doesn't fill a segment waits while any is unacknowledged (RFC 9293, 3.7.4) */
+};
+
+/* When a peer of which nothing was heard is asked whether it is there (RFC 9293, 3.8.4). All zero: never, as the standard wants it
+   where nobody asks for it. */
+struct flow_keep {
+    uint32_t idle;     /* after so many milliseconds: 2 hours or more */
+    uint32_t interval; /* and again after each so many, above 0: 75 s by custom */
+    uint32_t most;     /* and with so many unanswered the end is aborted, above 0: 9 by custom */
+};
 
 /* The flow of one end. Its fields are read and not written by the caller. */
 struct flow {
@@ -29,9 +49,25 @@ struct flow {
     uint64_t sent_at;       /* when text was last emitted */
     uint64_t unanswered;    /* bytes that came in order since the last acknowledgement went out */
     uint64_t answer_at;     /* when they have to be acknowledged, or TIMERS_NEVER */
-    uint64_t edge;          /* the right edge of the window that was told, as a position of the peer's direction */
+    struct answers answers; /* what was told, and how many answers were withheld */
     uint64_t resent;        /* segments that were sent again */
+    uint64_t fast;          /* how often a loss was found by duplicate acknowledgements */
+    uint64_t probes;        /* and how often silence was probed */
+    uint64_t probe_at;      /* when it is next, or TIMERS_NEVER */
+    uint64_t window;        /* SND.WND, UINT64_MAX before ESTABLISHED */
+    uint64_t widest;        /* the greatest of these */
+    uint64_t override_at;   /* when a part of a segment may fill a silly window, or TIMERS_NEVER */
+    uint64_t heard_at;      /* when a segment came last */
+    uint64_t asked_at;      /* when a silent peer was asked last */
+    struct flow_keep keep;
+    uint32_t asked;         /* how often a silent peer was asked without an answer */
+    uint32_t same;          /* duplicate acknowledgements in a row (RFC 5681, 2) */
     uint32_t options;       /* bytes of options in the last segment behind the handshake, of which its text has so many fewer */
+    uint8_t choices;        /* FLOW_CUBIC, FLOW_NAGLE */
+    uint8_t is_overridden;  /* it may */
+    uint8_t is_probed;      /* since the last progress a silence was probed: what comes next is the timeout's */
+    uint8_t has_blocks;     /* the peer tells blocks (RFC 2018) */
+    uint8_t is_asking;      /* the next segment asks whether the peer is there */
     uint8_t is_shut;        /* the peer's window is, as the end has it: an old segment may tell another */
     uint8_t is_resending;   /* what goes out next may go out again */
     uint8_t is_owed;        /* an acknowledgement may not wait */
@@ -41,16 +77,32 @@ struct flow {
 /* Sets the flow of an end that was just made from this config. With a `delay` of 0 no acknowledgement waits. */
 void flow_init(struct flow *flow, const tcpcore_config *config, const struct timers_rules *rules, uint32_t delay);
 
+/* Chooses these bits, before anything is sent. None was chosen before. */
+void flow_choose(struct flow *flow, uint32_t choices);
+
 /*
- * tcpcore_take, and its answer. Sets is_urgent where that tells to answer at once.
+ * Asks a silent peer in ESTABLISHED and FIN-WAIT-2, where nothing is in flight: what goes out is the end's acknowledgement with
+ * SEG.SEQ one less, which no peer takes and each answers (RFC 9293, 3.8.4). It is the one segment that isn't the end's own.
+ */
+void flow_keep_alive(struct flow *flow, const struct flow_keep *keep);
+
+/*
+ * tcpcore_take, and its answer. Of duplicate acknowledgements the third one without blocks tells of a loss: the end is told to send
+ * again. So it is by a SYN that comes again in SYN-RECEIVED, as the SYN,ACK was lost: it goes out in place of an acknowledgement,
+ * at most once in ANSWERS_QUIET milliseconds. Sets is_urgent where that tells to answer at once.
  */
 uint32_t flow_arrive(struct flow *flow, tcpcore_end *end, tcpcore_addr src, tcpcore_addr dst, const void *bytes,
                      size_t length, uint64_t now);
 
-/* Of a text of `length` bytes those that flow_send takes now: all, or full segments (RFC 9293, 3.8.6.2.1). */
+/*
+ * Of a text of `length` bytes those that flow_send takes now (RFC 9293, 3.8.6.2.1): all that has room in both windows, or full
+ * segments. Where nothing is in flight also what has room in half of the greatest window, a byte where the window is shut, which
+ * probes it, and once FLOW_OVERRIDE has passed what there is. With FLOW_NAGLE nothing but full segments while anything is in
+ * flight.
+ */
 size_t flow_room(const struct flow *flow, size_t length);
 
-/* tcpcore_send of flow_room bytes. Offer the rest after the next arrival. */
+/* tcpcore_send of flow_room bytes. Offer the rest after the next arrival, and once flow_wait has passed. */
 uint32_t flow_send(struct flow *flow, tcpcore_end *end, const void *text, size_t length, size_t *taken);
 
 /*
@@ -62,7 +114,8 @@ uint32_t flow_receive(struct flow *flow, tcpcore_end *end, void *out, size_t roo
 /* It is `now`: timers_run, and its answer. */
 uint32_t flow_run(struct flow *flow, tcpcore_end *end, uint64_t now);
 
-/* tcpcore_emit. It is NOT_DUE, too, where an acknowledgement may wait, or what goes out again has to. */
+/* tcpcore_emit. It is NOT_DUE, too, where an acknowledgement may wait or is withheld, or what goes out again has to wait. What is
+   withheld was written to `out` all the same. */
 uint32_t flow_emit(struct flow *flow, tcpcore_end *end, void *out, size_t room, tcpcore_addr *to, size_t *length,
                    uint64_t now);
 

@@ -17,7 +17,7 @@ void timers_init(struct timers *timers, const struct timers_rules *rules)
     memset(timers, 0, sizeof *timers);
     timers->rules = *rules;
     timers->rto = rules->first_rto;
-    timers->timed_at = TIMERS_NEVER;
+    timers->timed_at = timers->left_at = TIMERS_NEVER;
     for (int timer = 0; timer < 3; timer++)
         timers->deadline[timer] = TIMERS_NEVER;
 }
@@ -114,13 +114,25 @@ static void progress(struct timers *timers, uint64_t una, uint64_t now)
     begin_anew(timers, now);
 }
 
+/* An end in FIN-WAIT-2 has a limit where the rules say so, from when it came there, and anew with all that comes. */
+static void limit_fin_wait_2(struct timers *timers, const struct tcpcore_status *status, uint64_t now)
+{
+    int is_moved = status->phase != timers->phase || status->next != timers->next;
+    if (status->phase != TCPCORE_PHASE_FIN_WAIT_2 || timers->rules.fin_wait_2 == 0)
+        timers->left_at = TIMERS_NEVER;
+    else if (is_moved)
+        timers->left_at = now + timers->rules.fin_wait_2;
+}
+
 /* Starts and stops the timers as the end says. */
 static void follow(struct timers *timers, tcpcore_end *end, uint64_t now)
 {
     struct tcpcore_status status;
     uint32_t due = 0;
     if (tcpcore_status(end, &status) == TCPCORE_DONE && tcpcore_timers(end, &due) == TCPCORE_DONE) {
+        limit_fin_wait_2(timers, &status, now);
         timers->phase = status.phase;
+        timers->next = status.next;
         if (status.una != timers->una)
             progress(timers, status.una, now);
     }
@@ -168,6 +180,10 @@ uint32_t timers_run(struct timers *timers, tcpcore_end *end, uint64_t now)
 {
     uint32_t found = 0;
     follow(timers, end, now);
+    if (timers->left_at <= now) {
+        tcpcore_abort(end);
+        found = TIMERS_RAN | TIMERS_GAVE_UP;
+    }
     for (uint32_t timer = 0; timer < 3; timer++) {
         if (timers->deadline[timer] > now)
             continue;
@@ -184,7 +200,7 @@ uint32_t timers_run(struct timers *timers, tcpcore_end *end, uint64_t now)
 
 int timers_wait(const struct timers *timers, uint64_t now)
 {
-    uint64_t first = TIMERS_NEVER;
+    uint64_t first = timers->left_at;
     for (int timer = 0; timer < 3; timer++)
         if (timers->deadline[timer] < first)
             first = timers->deadline[timer];

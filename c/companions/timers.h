@@ -29,9 +29,11 @@ struct timers_rules {
                                (RFC 9293, 3.8.3) */
     uint32_t syn_limit;     /* the same for a SYN: at least 3 minutes (RFC 9293, 3.8.3) */
     uint32_t syn_ack_limit; /* the same for a SYN,ACK; a listener that is flooded takes less (RFC 4987, 3.3) */
+    uint32_t fin_wait_2;    /* so long without a byte of the peer's an end stays in FIN-WAIT-2; 0: for ever, as the standard has it.
+                               Where the user reads no more, Linux takes 60 s */
 };
 
-/* The values that stand in the comments above; 60 s as the greatest timeout. */
+/* The values that stand in the comments above; 60 s as the greatest timeout, and no limit in FIN-WAIT-2. */
 extern const struct timers_rules TIMERS_RULES;
 
 /* What timers_run found, as bits. */
@@ -59,6 +61,8 @@ struct timers {
     uint32_t timed;         /* the number after the segment that is being timed */
     uint64_t timed_at;      /* when it was emitted, or TIMERS_NEVER: none is */
     uint32_t has_isn;       /* whether a SYN was emitted */
+    uint64_t next;          /* RCV.NXT as tcpcore_status told it last */
+    uint64_t left_at;       /* when an end in FIN-WAIT-2 is given up, or TIMERS_NEVER */
 };
 
 /* Sets the timers of an end that was just made: none runs. */

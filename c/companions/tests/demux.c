@@ -324,8 +324,51 @@ static void refuses(void)
     CHECK(demux_init(&demux, &config, slots, 2), 0);
 }
 
+/* RFC 5961, 4.2 and 7: SYNs for an accepted end are answered twice in a second, and a SYN that comes again before by the SYN,ACK
+   (RFC 9293, 3.8.1), which an acknowledgement alone doesn't replace. A silent peer is asked, and given up. */
+static void limits(void)
+{
+    begin();
+    plain(50, 100, 0, SYN);
+    demux_turn(&demux, now);
+    uint32_t isn = get(sent[count - 1].bytes + 4, 4);
+    for (int at = 0; at < 3; at++) {
+        plain(50, 100, 0, SYN);
+        CHECK(count, 2);
+        last(PORT, 50, isn, 101, SYN | ACK);
+    }
+    plain(50, 101, isn + 1, ACK);
+    demux_turn(&demux, now);
+    count = 0;
+    now += 500;
+    for (int at = 0; at < 1000; at++, now++) {
+        plain(50, 100, 0, SYN);
+        demux_turn(&demux, now);
+    }
+    CHECK(count, 2);
+    last(PORT, 50, isn + 1, 101, ACK);
+    CHECK(demux.counters.unsaid, 1 + 998);
+    CHECK(demux_wait(&demux, now), -1);
+    finish();
+    begin();
+    demux.config.keep = (struct flow_keep){.idle = 7200000, .interval = 75000, .most = 9};
+    isn = open_from(50);
+    count = 0;
+    for (uint64_t began = now; demux_wait(&demux, now) >= 0; demux_turn(&demux, now)) {
+        CHECK(now - began <= 7875000, 1);
+        now += (uint64_t)demux_wait(&demux, now);
+        if (count > 0 && count < 10)
+            last(PORT, 50, isn, 101, ACK);
+    }
+    CHECK(count, 10);
+    last(PORT, 50, isn + 1, 0, RST);
+    CHECK(demux.counters.gave_up, 1);
+    finish();
+}
+
 int main(void)
 {
+    limits();
     secret();
     strays();
     serves();

@@ -1,92 +1,5 @@
 /* The test of flow.c: two ends over a wire in memory with a clock of its own, and numbers worked out from the RFCs. */
-#include "../flow.h"
-#include "tests/check.h"
-
-#include <string.h>
-
-enum { MSS = 1000, SENDS = 100000, KEEPS = 60000 };
-
-/* One end with its flow. */
-struct side {
-    tcpcore_end end;
-    struct flow flow;
-    tcpcore_addr addr;
-    uint8_t block[TCPCORE_MEMORY(SENDS, KEEPS)];
-};
-
-static struct side a, b;
-static uint64_t now;
-static uint8_t segments[64][TCPCORE_EMIT_ROOM];
-static size_t lengths[64];
-
-static void make(struct side *side, uint8_t last, uint16_t mss, uint32_t delay)
-{
-    tcpcore_config config = {.addr = {{10, 0, 0, last}}, .port = last, .mss = mss, .isn = UINT32_MAX - 3000,
-                             .send_capacity = SENDS, .recv_capacity = KEEPS, .limit = TCPCORE_LIMIT, .sack = 1};
-    memset(side, 0, sizeof *side);
-    side->addr = config.addr;
-    CHECK(tcpcore_new(&side->end, &config, side->block, sizeof side->block), TCPCORE_DONE);
-    flow_init(&side->flow, &config, &TIMERS_RULES, delay);
-}
-
-/* Puts all that is due into `segments`; how many there are. */
-static int emit(struct side *from)
-{
-    tcpcore_addr to;
-    int count = 0;
-    flow_run(&from->flow, &from->end, now);
-    while (flow_emit(&from->flow, &from->end, segments[count], TCPCORE_EMIT_ROOM, &to, lengths + count, now) ==
-           TCPCORE_DONE)
-        count++;
-    flow_run(&from->flow, &from->end, now);
-    return count;
-}
-
-static uint32_t deliver(struct side *from, struct side *to, int at)
-{
-    uint32_t answer = flow_arrive(&to->flow, &to->end, from->addr, to->addr, segments[at], lengths[at], now);
-    flow_run(&to->flow, &to->end, now);
-    return answer;
-}
-
-static int carry(struct side *from, struct side *to)
-{
-    int count = emit(from);
-    for (int at = 0; at < count; at++)
-        CHECK(deliver(from, to, at), TCPCORE_DONE);
-    return count;
-}
-
-/* A handshake with a round trip of 10 ms. */
-static void open_with(uint16_t mss, uint32_t delay)
-{
-    now = 5000;
-    make(&a, 1, MSS, delay);
-    make(&b, 2, mss, delay);
-    CHECK(tcpcore_listen(&b.end), TCPCORE_DONE);
-    CHECK(tcpcore_connect(&a.end, b.addr, 2), TCPCORE_DONE);
-    CHECK(carry(&a, &b), 1);
-    now += 10;
-    CHECK(carry(&b, &a), 1);
-    CHECK(carry(&a, &b), 1);
-    CHECK(emit(&b), 0);
-}
-
-static void open_both(uint32_t delay) { open_with(MSS, delay); }
-
-static void free_both(void)
-{
-    CHECK(tcpcore_free(&a.end), TCPCORE_DONE);
-    CHECK(tcpcore_free(&b.end), TCPCORE_DONE);
-}
-
-static size_t give(struct side *side, size_t length)
-{
-    static const char TEXT[100000];
-    size_t taken;
-    CHECK(flow_send(&side->flow, &side->end, TEXT, length, &taken), TCPCORE_DONE);
-    return taken;
-}
+#include "sides.h"
 
 /* RFC 9293, 3.8.6.3; RFC 5681, 4.2: the second full segment, or 40 ms, or at once. */
 static void delayed(void)
@@ -181,7 +94,8 @@ static void given(void)
     CHECK(flow_room(&a.flow, 400), 400);
     CHECK(flow_room(&a.flow, 5000), 0);
     a.flow.congestion.cwnd = 200 * MSS;
-    CHECK(flow_room(&a.flow, 200000), 88 * MSS);
+    /* B has told 50,000 bytes: what goes past them waits for more (RFC 9293, 3.8.6.2.1). */
+    CHECK(flow_room(&a.flow, 200000), 38 * MSS);
     a.flow.congestion.cwnd = 12 * MSS;
     /* After a pause of more than the timeout ten segments again. */
     CHECK(carry(&a, &b), 12);
@@ -248,7 +162,7 @@ static void shut(void)
     }
     CHECK(a.flow.is_shut, 1);
     uint64_t cwnd = a.flow.congestion.cwnd;
-    CHECK(give(&a, MSS), MSS);
+    CHECK(give(&a, MSS), 1);
     CHECK(emit(&a), 0);
     now += (uint64_t)flow_wait(&a.flow, now);
     CHECK(emit(&a), 1);
@@ -256,14 +170,6 @@ static void shut(void)
     CHECK(a.flow.congestion.cwnd, cwnd);
     CHECK(a.flow.congestion.timeouts, 0);
     free_both();
-}
-
-static void read(struct side *side, size_t room)
-{
-    uint8_t out[60 * MSS];
-    size_t count;
-    CHECK(flow_receive(&side->flow, &side->end, out, room, &count), TCPCORE_DONE);
-    CHECK(count, room);
 }
 
 /* An old segment tells a shut window late, behind a newer one that told an open one: the end doesn't go by it (RFC 9293,

@@ -365,6 +365,34 @@ static void time_wait(void)
     free_both();
 }
 
+/* The peer has acknowledged the FIN and vanishes: an end in FIN-WAIT-2 stays there for ever, or up to the limit of the rules, anew
+   with what the peer sends (the standard has none: RFC 9293, 3.6). */
+static void fin_wait_2(void)
+{
+    struct timers_rules rules = TIMERS_RULES;
+    for (uint32_t limit = 0; limit <= 60000; limit += 60000) {
+        rules.fin_wait_2 = limit;
+        make_both(&rules, 65535);
+        open_both(10);
+        CHECK(tcpcore_close(&a.end), TCPCORE_DONE);
+        CHECK(carry(&a, &b, ALL), 1);
+        CHECK(carry(&b, &a, ALL), 1);
+        CHECK(a.timers.phase, TCPCORE_PHASE_FIN_WAIT_2);
+        CHECK(timers_wait(&a.timers, now), limit == 0 ? -1 : 60000);
+        now += 59000;
+        send_text(&b, 10);
+        CHECK(carry(&b, &a, ALL), 1);
+        CHECK(carry(&a, &b, ALL), 1);
+        CHECK(timers_wait(&a.timers, now), limit == 0 ? -1 : 60000);
+        now += 60000;
+        run(&a);
+        CHECK(a.timers.phase, limit == 0 ? TCPCORE_PHASE_FIN_WAIT_2 : TCPCORE_PHASE_CLOSED);
+        CHECK(a.found & TIMERS_GAVE_UP, limit == 0 ? 0 : TIMERS_GAVE_UP);
+        CHECK(carry(&a, &b, ALL), limit > 0);
+        free_both();
+    }
+}
+
 int main(void)
 {
     round_trips();
@@ -378,6 +406,7 @@ int main(void)
     shut_window();
     reordering();
     time_wait();
+    fin_wait_2();
     printf("timers: %d checks\n", checks);
     return 0;
 }

@@ -8,7 +8,7 @@ use Rattle.tcp_replay.specs.declared.event.Side.TheVariants.{A, B}
 use Rattle.tcp_replay.specs.Events.{EventContent}
 use Rattle.tcp_replay.specs.World.{WorldState, other, party_of, world_after_all}
 use Rattle.tcp_progress.specs.Fair.{GotThrough, HasTurns, IsCalm, IsTurn, NoneGaveUp, reads, served}
-use Rattle.tcp_progress.specs.Handshake.{AreOpen, OpensAndGetsThrough, WhoIsServedOpens}
+use Rattle.tcp_progress.specs.Handshake.{AreOpen, HaveSyns, OpensAndGetsThrough, WhoIsServedOpens}
 use Rattle.tcp_progress.specs.Measure.{left_in}
 use Rattle.tcp_progress.proofs.AlwaysSteady.{IsKept}
 use Rattle.tcp_progress.proofs.Behind.{IsServed}
@@ -316,7 +316,7 @@ two-turns n w side events h turns up =
 
 -- ---- AND SO ALL GETS THROUGH
 opened-through : (k : ℕ) (w : WorldState) (events : List EventContent) → IsKept w → left_in w ≤ k → OpensBefore (suc k) w events
-    → NoneGaveUp (world_after_all w events) → GotThrough w (world_after_all w events)
+    → NoneGaveUp (world_after_all w events) → HaveSyns (world_after_all w events) × GotThrough w (world_after_all w events)
 opened-through k w events h most o up =
     let v = world_after_all w o.front in
     let end = world_after_all v o.rest in
@@ -327,16 +327,18 @@ opened-through k w events h most o up =
     let done = turns-done lowers_lem k v o.rest (omega (arith, most, steps-left w v steps)) steps.kept (both-live v.a v.b o.both.a o.both.b) o.turns
     up'.0 up'.1 in
     let both = done-through end done in
-    subst (GotThrough w) (sym same) (record {
+    let syns : HaveSyns end = record { a = steps'.there.opened o.both.a.opened; b = steps'.back.opened o.both.b.opened } in
+    let through : GotThrough w end = record {
       there = both.0;
       back = both.1;
       streams = steps-streams w end (steps-then w v end steps steps');
       settles = waited end done.kept (complete end.a end.b done.on done.none) done.read.a done.read.b;
-    })
+    } in
+    subst (λ (u : WorldState). HaveSyns u × GotThrough w u) (sym same) (syns, through)
 
 opens-through : (w : WorldState) (side : Side) (events : List EventContent) → IsShaking w side → HasTurns (suc (suc (suc (left_in w)))) w events
     → NoneGaveUp (world_after_all w events)
-    → GotThrough w (world_after_all w events)
+    → HaveSyns (world_after_all w events) × GotThrough w (world_after_all w events)
 opens-through w side events h turns up =
     elim (two-turns (suc (left_in w)) w side events h turns up) [
       | inl more ↦ opened-through (suc (left_in w)) w events h.kept (omega arith) more up

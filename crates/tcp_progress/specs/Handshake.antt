@@ -1,5 +1,5 @@
 -- A HANDSHAKE CAN BE FINISHED (RFC 9293, 3.5): whatever was lost, delayed, repeated, reordered or damaged before both ends were open.
-use Rattle.std.specs.Prelude.{ℕ, suc, ◌≤◌, ◌⊎◌, List, length}
+use Rattle.std.specs.Prelude.{◌≡◌, ℕ, suc, true, ◌≤◌, ◌⊎◌, List, length}
 use Rattle.std.specs.List.{AllByRecursion}
 use Rattle.tcp_halves.specs.declared.phase.Timer.TheVariants.{Retransmit}
 use Rattle.tcp_replay.specs.Events.{EventContent, Timer, Emit, Deliver}
@@ -13,6 +13,11 @@ use Rattle.tcp_progress.specs.Measure.{left_in}
 pub record AreOpen (w : WorldState) : Type 0 where
   pub a : IsLive w.a
   pub b : IsLive w.b
+
+-- each end has the other's SYN, ended or not
+pub record HaveSyns (w : WorldState) : Type 0 where
+  pub a : w.a.endpoint.receiving.opened ≡ true
+  pub b : w.b.endpoint.receiving.opened ≡ true
 
 -- UNAIDED: retransmission timeouts, emissions and deliveries. No user calls anything
 abbrev pub IsUnaided : EventContent → Type 0
@@ -35,12 +40,12 @@ CanOpen w = AreOpening w.a w.b ⊎ AreOpening w.b w.a → CanReachUnaided 8 (λ 
 abbrev pub HandshakesCanBeFinished : Type 0
 HandshakesCanBeFinished = InEveryWorld CanOpen
 
--- WHO IS SERVED WHILE THE CONNECTION IS OPENED gets through: of the turns that are among calm events two open it, at most, and as many as
--- something is left, and one more, hand over all, unless an end is reset
+-- WHO IS SERVED WHILE THE CONNECTION IS OPENED gets through: of the turns that are among calm events two open it, at most, so that each
+-- end has the other's SYN, and as many as something is left, and one more, hand over all, unless an end is reset
 abbrev pub OpensAndGetsThrough : WorldState → Type 0
 OpensAndGetsThrough w =
     AreOpening w.a w.b ⊎ AreOpening w.b w.a → (events : List EventContent) → HasTurns (suc (suc (suc (left_in w)))) w events
-    → NoneGaveUp (world_after_all w events) → GotThrough w (world_after_all w events)
+    → NoneGaveUp (world_after_all w events) → HaveSyns (world_after_all w events) × GotThrough w (world_after_all w events)
 
 abbrev pub WhoIsServedOpens : Type 0
 WhoIsServedOpens = InEveryWorld OpensAndGetsThrough

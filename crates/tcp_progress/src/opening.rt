@@ -12,9 +12,10 @@ pub fn a_handshake_can_be_finished()
 
 /// Whoever is served while the connection is opened gets through, too: from whatever world two ends were brought to, with one in
 /// SYN-SENT and the other in LISTEN or SYN-RECEIVED, a list of calm events in which there are as many turns of a caller's loop as
-/// something is left, and three more, hands over all that was accepted, both ways, and has it acknowledged, unless an end is reset;
-/// and once TIME-WAIT runs out at both ends, both have ended in order where both users closed. At most two of the turns open the
-/// connection. What is calm, and what a turn is, `who_is_served_gets_through` says. Segments live for 2^21 positions or longer.
+/// something is left, and three more, opens it, so that each end has the other's SYN, hands over all that was accepted, both ways,
+/// and has it acknowledged, unless an end is reset; and once TIME-WAIT runs out at both ends, both have ended in order where both
+/// users closed. At most two of the turns open the connection. What is calm, and what a turn is, `who_is_served_gets_through`
+/// says. Segments live for 2^21 positions or longer.
 pub fn who_is_served_opens()
     ensures { WhoIsServedOpens }
 {}

@@ -1,0 +1,155 @@
+-- A LOG whose segments are each of form and the user's is clean.
+use Rattle.std.proofs.Common.{◌≡◌, ℕ, suc, ◌+◌, ◌^◌, ◌<◌, List, [], ◌∷◌, ◌++◌, length, refl, sym, ◌∙◌, ap, subst, append-nil, append_assoc}
+use Rattle.std.specs.Prelude.{Bool, false, Option, Some, None, option_to_list, Result, Ok, Err, slice_get}
+use Rattle.std.specs.List.{AllByRecursion}
+use Rattle.tcp_wire.specs.Decoded.{decode_answer}
+use Rattle.tcp_wire.specs.Flags.{rst, has}
+use Rattle.tcp_wire.specs.Wire.{Content}
+use Rattle.tcp_wire.specs.declared.fault.DecodeError.{DecodeError}
+use Rattle.tcp_halves.specs.declared.config.Config.{Config}
+use Rattle.tcp_conn.specs.Config.{IsConfig}
+use Rattle.tcp_replay.specs.Solo.{SoloState, solo_start, solo_run, run_alone, after_solo, segment_due}
+use Rattle.tcp_replay.specs.SoloEvents.{SoloContent, HasRanges, Emit, Arrive}
+use Rattle.tcp_replay.specs.Truthful.{IsOfUser}
+use Rattle.tcp_replay.proofs.SoloRuns.{one_end_is_true_lem}
+use Rattle.tcp_judge.specs.Known.{Known, nothing_known}
+use Rattle.tcp_judge.specs.Log.{PassageContent, Came, Went, went_from, log_of, log_alone}
+use Rattle.tcp_judge.specs.Judgement.{finding_read, known_read, known_came, first_finding, placed_or, IsClean}
+use Rattle.tcp_judge.specs.Rules.{form_finding, ack_finding, finding_of}
+use Rattle.tcp_judge.specs.Law.{heard_read, heard_went, IsSaidRight, AllSaidRight}
+use Rattle.tcp_judge.proofs.Runs.{said-right}
+use Rattle.tcp_judge.proofs.Streams.{IsKnown, keeps-positions, known-kept}
+
+-- what holds of each segment that went
+abbrev AllWent : (List ℕ → List ℕ → List ℕ → Type 0) → List PassageContent → Type 0
+AllWent P [] = Unit {0}
+AllWent P (Came src dst bytes ∷ log) = AllWent P log
+AllWent P (Went src dst bytes ∷ log) = P src dst bytes × AllWent P log
+
+-- it can be read, and is the user's
+abbrev IsUsers : ℕ → List ℕ → Bool → List ℕ → List ℕ → List ℕ → Type 0
+IsUsers isn accepted closed src dst bytes =
+    (v : Content) × (decode_answer src dst bytes ≡ Ok v) × (has rst v.flags ≡ false → IsOfUser isn accepted closed v)
+
+-- bytes say one thing
+abbrev read_as : Content → Result Content DecodeError
+read_as v = Ok v
+
+content-is : {v w : Content} → read_as v ≡ read_as w → v ≡ w
+content-is e = cc
+
+module _ (isn : ℕ) (accepted : List ℕ) (closed : Bool) (small : isn < 2 ^ 32) (short : 2 + length accepted < 2 ^ 31) where
+  -- ONE SEGMENT
+  keeps-rules : (k : Known) (v : Content) → IsKnown isn accepted k → form_finding v ≡ None → ack_finding k.heard v ≡ None
+      → (has rst v.flags ≡ false → IsOfUser isn accepted closed v)
+      → finding_of k v ≡ None
+  keeps-rules k v h form right user = rw (form, keeps-positions isn accepted closed small short k v h user) right
+
+  record IsPast (k : Known) (r : Result Content DecodeError) : Type 0 where
+    finding : finding_read k r ≡ None
+    known : IsKnown isn accepted (known_read k r)
+
+  past-segment : (k : Known) (src dst bytes : List ℕ) → IsKnown isn accepted k → IsSaidRight k.heard src dst bytes → IsUsers isn accepted closed src dst bytes
+      → IsPast k (decode_answer src dst bytes)
+  past-segment k src dst bytes h formed users =
+      let v = users.0 in
+      let same : formed.0 ≡ v = content-is (sym formed.1 ∙ users.1) in
+      let form : form_finding v ≡ None = ap form_finding (sym same) ∙ formed.2 in
+      let right : ack_finding k.heard v ≡ None = ap (ack_finding k.heard) (sym same) ∙ formed.3 in
+      subst (IsPast k) (sym users.1)
+      (record { finding = keeps-rules k v h form right users.2; known = known-kept isn accepted closed small short k v h users.2 })
+
+  -- what came leaves what is known of the stream
+  came-known : (k : Known) (r : Result Content DecodeError) → IsKnown isn accepted k → IsKnown isn accepted (known_came k r)
+  came-known k (Ok v) h = record { initial = h.initial; front = h.front; fin = h.fin }
+  came-known k (Err fault) h = h
+
+  came-heard : (k : Known) (r : Result Content DecodeError) (log : List PassageContent) → AllSaidRight (heard_read k.heard r) log
+      → AllSaidRight (known_came k r).heard log
+  came-heard k (Ok v) log h = h
+  came-heard k (Err fault) log h = h
+
+  went-heard : (k : Known) (r : Result Content DecodeError) (log : List PassageContent) → AllSaidRight (heard_went k.heard r) log
+      → AllSaidRight (known_read k r).heard log
+  went-heard k (Ok v) log h = h
+  went-heard k (Err fault) log h = h
+
+  -- ALL SEGMENTS
+  clean-log : (log : List PassageContent) (k : Known) (place : ℕ) → IsKnown isn accepted k → AllSaidRight k.heard log
+      → AllWent (IsUsers isn accepted closed) log → first_finding k place log ≡ None
+  clean-log [] k place h said users = refl
+  clean-log (Came src dst bytes ∷ log) k place h said users =
+      let r = decode_answer src dst bytes in
+      clean-log log (known_came k r) (suc place) (came-known k r h) (came-heard k r log said) users
+  clean-log (Went src dst bytes ∷ log) k place h said users =
+      let r = decode_answer src dst bytes in
+      let past = past-segment k src dst bytes h said.0 users.0 in
+      ap (λ f. placed_or place f (first_finding (known_read k r) (suc place) log)) past.finding
+      ∙ clean-log log (known_read k r) (suc place) past.known (went-heard k r log said.1) users.1
+
+-- WHAT WENT is what was emitted
+abbrev segments_of : List PassageContent → List (List ℕ × List ℕ)
+segments_of [] = []
+segments_of (Came src dst bytes ∷ log) = segments_of log
+segments_of (Went src dst bytes ∷ log) = (dst, bytes) ∷ segments_of log
+
+due-log : (src : List ℕ) (sent : List (List ℕ × List ℕ)) (due : Option (List ℕ × List ℕ)) (log : List PassageContent)
+    → (sent ++ option_to_list due) ++ segments_of log ≡ sent ++ segments_of (went_from src due ++ log)
+due-log src sent None log = ap (λ (s : List (List ℕ × List ℕ)). s ++ segments_of log) (append-nil sent)
+due-log src sent (Some segment) log = append_assoc sent (segment ∷ []) (segments_of log)
+
+emitted-log : (src : List ℕ) (x : SoloState) (list : List SoloContent)
+    → (solo_run x list).emitted ≡ x.emitted ++ segments_of (log_of src x.endpoint list)
+unfolding solo_run log_of
+emitted-log src x [] = sym (append-nil x.emitted)
+emitted-log src x (Emit ∷ list) =
+    emitted-log src (after_solo x Emit) list ∙ due-log src x.emitted (segment_due x.endpoint) (log_of src (after_solo x Emit).endpoint list)
+emitted-log src x (Arrive from to bytes ∷ list) =
+    emitted-log src (after_solo x (Arrive from to bytes)) list
+    ∙ ap (λ (sent : List (List ℕ × List ℕ)). sent ++ segments_of (log_of src (after_solo x (Arrive from to bytes)).endpoint list)) (append-nil x.emitted)
+emitted-log src x (other ∷ list) =
+    emitted-log src (after_solo x other) list
+    ∙ ap (λ (sent : List (List ℕ × List ℕ)). sent ++ segments_of (log_of src (after_solo x other).endpoint list)) (append-nil x.emitted)
+
+-- what holds of each member holds of each that went, where all went from one address
+abbrev FromAddress : List ℕ → List PassageContent → Type 0
+FromAddress src log = AllWent (λ from dst bytes. from ≡ src) log
+
+from-due : (src : List ℕ) (due : Option (List ℕ × List ℕ)) (log : List PassageContent) → FromAddress src log → FromAddress src (went_from src due ++ log)
+from-due src None log h = h
+from-due src (Some segment) log h = (refl, h)
+
+from-log : (src : List ℕ) (x : SoloState) (list : List SoloContent) → FromAddress src (log_of src x.endpoint list)
+unfolding log_of
+from-log src x [] = tt
+from-log src x (Emit ∷ list) = from-due src (segment_due x.endpoint) _ (from-log src (after_solo x Emit) list)
+from-log src x (other ∷ list) = from-log src (after_solo x other) list
+
+went-all : (P : List ℕ → List ℕ → Type 0) (src : List ℕ) (log : List PassageContent) → FromAddress src log
+    → ((k : ℕ) (to bytes : List ℕ) → slice_get (segments_of log) k ≡ Some (to, bytes) → P to bytes)
+    → AllWent (λ from to bytes. (from ≡ src) × P to bytes) log
+went-all P src [] from h = tt
+went-all P src (Came a b bytes ∷ log) from h = went-all P src log from h
+went-all P src (Went a b bytes ∷ log) from h = ((from.0, h 0 b bytes refl), went-all P src log from.1 (λ k to text is. h (suc k) to text is))
+
+went-same : (P P' : List ℕ → List ℕ → List ℕ → Type 0) (log : List PassageContent) → ((a b bytes : List ℕ) → P a b bytes → P' a b bytes)
+    → AllWent P log → AllWent P' log
+went-same P P' [] h all = tt
+went-same P P' (Came a b bytes ∷ log) h all = went-same P P' log h all
+went-same P P' (Went a b bytes ∷ log) h all = (h a b bytes all.0, went-same P P' log h all.1)
+
+-- THE LAW
+pub clean : (c : Config) (list : List SoloContent) → IsConfig c → AllByRecursion HasRanges list → 2 + length (run_alone c list).accepted < 2 ^ 31
+    → IsClean (log_alone c list)
+clean c list is fits short =
+    let x = run_alone c list in
+    let log = log_alone c list in
+    let src = c.addr.0 in
+    let P : List ℕ → List ℕ → Type 0 = λ to bytes. IsUsers c.isn.0 x.accepted x.closed src to bytes in
+    let all : x.emitted ≡ segments_of log = emitted-log src (solo_start c) list in
+    let members = went-all P src log (from-log src (solo_start c) list)
+    (λ k to bytes at. (one_end_is_true_lem c list is fits).sends k to bytes (ap (λ (sent : List (List ℕ × List ℕ)). slice_get sent k) all ∙ at)) in
+    let users : AllWent (IsUsers c.isn.0 x.accepted x.closed) log =
+    went-same (λ from to bytes. (from ≡ src) × P to bytes) (IsUsers c.isn.0 x.accepted x.closed) log
+    (λ a b bytes h. subst (λ (from : List ℕ). IsUsers c.isn.0 x.accepted x.closed from b bytes) (sym h.0) h.1) members in
+    clean-log c.isn.0 x.accepted x.closed is.isn short log nothing_known 0 (record { initial = tt; front = refl; fin = tt }) (said-right c list is fits) users

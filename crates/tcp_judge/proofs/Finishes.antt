@@ -1,0 +1,178 @@
+-- THE PEER'S FIN, at one end by itself: it is taken from a segment that came, and nothing comes in order behind it.
+use Rattle.std.proofs.Common.{◌≡◌, ℕ, ◌^◌, ◌<◌, ◌≤◌, List, length, refl, sym, ◌∙◌, ap, subst, inl, inr, arith, length-drop, ⊎_elim}
+use Rattle.std.specs.Prelude.{◌⊎◌, Bool, true, false, not, ◌==◌, if◌then◌else◌}
+use Rattle.std.proofs.lemmas.Bool.{cond_both, and_parts, false≢true, eqb-true}
+use Rattle.tcp_wire.specs.Flags.{fin, has}
+use Rattle.tcp_wire.specs.Position.{number}
+use Rattle.tcp_wire.specs.Wire.{Content}
+use Rattle.tcp_conn.specs.declared.judgement.Judgement.{Judgement}
+use Rattle.tcp_conn.specs.declared.judgement.Judgement.TheVariants.{Foreign}
+use Rattle.tcp_halves.specs.declared.link.Peer.{Peer}
+use Rattle.tcp_conn.specs.Phase.{is_last_ack, takes_text, phase_after_own_fin}
+use Rattle.tcp_reasm.specs.Reassembly.{after_read}
+use Rattle.tcp_conn.specs.State.{State, Receiving}
+use Rattle.tcp_conn.specs.Sender.{is_fin_acked}
+use Rattle.tcp_conn.specs.Receiver.{with_syn, after_text, is_fin_due, with_fin}
+use Rattle.tcp_conn.specs.Endings.{after_orderly_end}
+use Rattle.tcp_conn.specs.Judgement.{is_foreign, phase_judgement, judgement}
+use Rattle.tcp_conn.specs.Arrival.{after_peer_opens, after_peer_accepts, after_own_syn, after_acked_text, after_news, after_own_fin, after_its_ack}
+use Rattle.tcp_conn.specs.Arrival.{takes_text_of, after_its_text, has_fin, takes_fin, after_fin, after_taking, after_taking_shut, after_judgement}
+use Rattle.tcp_replay.specs.Alone.{IsAlone}
+use Rattle.tcp_replay.specs.World.{PartyState}
+use Rattle.tcp_replay.proofs.Lists.{by_test}
+use Rattle.tcp_replay.proofs.Phases.{end-takes_text}
+use Rattle.tcp_replay.proofs.Judgements.{IsPresent, IsTaken, in-phase}
+use Rattle.tcp_replay.proofs.Alone.{alone-its_ack, alone-its_text}
+use Rattle.tcp_replay.proofs.Calls.{KeptByCalls}
+
+-- FROM ONE HALF THAT RECEIVES TO ANOTHER, where Q holds of the number of a FIN that is taken
+pub record Finishes (Q : ℕ → Type 0) (r r' : Receiving) : Type 0 where
+  pub stays : r.finished ≡ true → (r'.finished ≡ true) × (length r'.inbox.unread ≤ length r.inbox.unread)
+  pub comes : r'.finished ≡ true → (r.finished ≡ true) ⊎ ((f : ℕ) × Q f × (f < 2 ^ 32) × (r'.next ≡ number f 1))
+
+module _ (Q : ℕ → Type 0) (r : Receiving) where
+  -- no FIN is taken, and no text
+  no-fin : (r' : Receiving) → r'.finished ≡ r.finished → length r'.inbox.unread ≤ length r.inbox.unread → Finishes Q r r'
+  no-fin r' same fewer = record { stays = λ e. (same ∙ e, fewer); comes = λ e. inl (sym same ∙ e) }
+
+  pub nothing-new : (r' : Receiving) → r' ≡ r → Finishes Q r r'
+  nothing-new r' same = no-fin r' (ap (λ (x : Receiving). x.finished) same) (omega (arith, ap (λ (x : Receiving). length x.inbox.unread) same))
+
+  -- text is taken before the FIN alone
+  before-fin : (r' : Receiving) → r.finished ≡ false → r'.finished ≡ r.finished → Finishes Q r r'
+  before-fin r' goes_on same = record { stays = λ e. absurd (false≢true (sym goes_on ∙ e)); comes = λ e. inl (sym same ∙ e) }
+
+  takes-fin : (r' : Receiving) (f : ℕ) → r.finished ≡ false → Q f → f < 2 ^ 32 → r'.next ≡ number f 1 → Finishes Q r r'
+  takes-fin r' f goes_on is small next = record { stays = λ e. absurd (false≢true (sym goes_on ∙ e)); comes = λ e. inr (f, is, small, next) }
+
+-- ALL CALLS, timers and emissions
+pub finishes-calls : (Q : ℕ → Type 0) (peer : Peer) (p : PartyState) → KeptByCalls peer p (λ p'. Finishes Q p.endpoint.receiving p'.endpoint.receiving)
+unfolding after_read
+finishes-calls Q peer p =
+    let r = p.endpoint.receiving in
+    let same : Finishes Q r r = nothing-new Q r r refl in
+    record {
+      same = same;
+      connects = λ _. same;
+      listens = λ _. same;
+      sends = λ _ _ _. same;
+      reads = λ room _. no-fin Q r _ refl (omega (arith, length-drop room r.inbox.unread));
+      withdraws = no-fin Q r _ refl (omega arith);
+      closes = λ _ _. same;
+      aborts = no-fin Q r _ refl (omega arith);
+      acknowledges = same;
+      resends = λ _. same;
+      probes = same;
+      fills = λ _ _ _. same;
+      ends = λ _. same;
+      emits = λ _ _ _. same;
+    }
+
+-- AN ACKNOWLEDGEMENT leaves what was received as it was
+own_fin-receiving : (s : State) → (after_own_fin s).receiving ≡ s.receiving
+unfolding after_own_fin
+own_fin-receiving s =
+    cond_both (is_fin_acked s.sending) (if is_last_ack s.phase then after_orderly_end s else record s { phase = phase_after_own_fin s.phase }) s
+    (λ (x : State). x.receiving ≡ s.receiving)
+    (λ _. cond_both (is_last_ack s.phase) (after_orderly_end s) (record s { phase = phase_after_own_fin s.phase }) (λ (x : State). x.receiving ≡ s.receiving)
+    (λ _. refl) (λ _. refl))
+    (λ _. refl)
+
+its_ack-receiving : (s : State) (v : Content) → (after_its_ack s v).receiving ≡ s.receiving
+unfolding after_its_ack after_news after_acked_text after_own_syn
+its_ack-receiving s v = own_fin-receiving (after_news (after_acked_text (after_own_syn s v) v) v)
+
+-- TEXT AND FIN
+text-finishes : (Q : ℕ → Type 0) (x : State) (v : Content) (accepted : List ℕ) (closed : Bool) → IsAlone x accepted closed
+    → Finishes Q x.receiving (after_its_text x v).receiving
+unfolding after_its_text after_text
+text-finishes Q x v accepted closed a =
+    let r = x.receiving in
+    by_test (takes_text_of x v) (λ b. Finishes Q r (if b then after_text r v.seq v.text else r))
+    (λ e. before-fin Q r (after_text r v.seq v.text)
+    (end-takes_text x (and_parts (takes_text x.phase) (not (length v.text == 0)) e).0 a.progress).1.goes_on refl)
+    (λ _. nothing-new Q r r refl)
+
+fin-finishes : (Q : ℕ → Type 0) (y : State) (v : Content) (accepted : List ℕ) (closed : Bool) → IsAlone y accepted closed
+    → (has fin v.flags ≡ true → Q (number v.seq (length v.text))) → Finishes Q y.receiving (after_fin y v).receiving
+unfolding after_fin
+fin-finishes Q y v accepted closed a came =
+    let r = y.receiving in
+    let f = number v.seq (length v.text) in
+    by_test (takes_fin y v) (λ b. Finishes Q r (if b then with_fin r else r))
+    (λ e.
+    let parts = and_parts (has_fin y v) (is_fin_due r f) e in
+    let has = and_parts (takes_text y.phase) (has fin v.flags) parts.0 in
+    let due : f ≡ r.next = eqb-true f r.next (and_parts (f == r.next) _ parts.1).0 in
+    takes-fin Q r (with_fin r) f (end-takes_text y has.0 a.progress).1.goes_on (came has.1) (omega arith) (ap (λ n. number n 1) (sym due)))
+    (λ _. nothing-new Q r r refl)
+
+-- one after the other: where the FIN is taken nothing was before, and what comes before it is no FIN
+in-turn : (Q : ℕ → Type 0) (a b c : Receiving) → Finishes (λ _. ⊥) a b → Finishes Q b c → Finishes Q a c
+in-turn Q a b c f g = record {
+  stays = λ e. let first = f.stays e in let next = g.stays first.0 in (next.0, omega (arith, first.1, next.1));
+  comes = λ e. ⊎_elim
+      (λ (had : b.finished ≡ true). ⊎_elim (λ (before : a.finished ≡ true). inl before)
+      (λ (never : (n : ℕ) × ⊥ × (n < 2 ^ 32) × (b.next ≡ number n 1)). absurd never.1) (f.comes had))
+      (λ (new : (n : ℕ) × Q n × (n < 2 ^ 32) × (c.next ≡ number n 1)). inr new) (g.comes e);
+}
+
+taking-finishes : (Q : ℕ → Type 0) (s : State) (v : Content) (accepted : List ℕ) (closed : Bool) → IsPresent s → IsAlone s accepted closed
+    → (has fin v.flags ≡ true → Q (number v.seq (length v.text))) → Finishes Q s.receiving (after_taking s v).receiving
+unfolding after_taking
+taking-finishes Q s v accepted closed present a came =
+    let x = after_its_ack s v in
+    let ax = alone-its_ack s accepted closed v present a in
+    let y = after_its_text x v in
+    let first : Finishes (λ _. ⊥) s.receiving x.receiving = nothing-new (λ _. ⊥) s.receiving x.receiving (its_ack-receiving s v) in
+    let next = text-finishes (λ _. ⊥) x v accepted closed ax in
+    let last = fin-finishes Q y v accepted closed (alone-its_text x accepted closed v ax) came in
+    in-turn Q s.receiving y.receiving (after_fin y v).receiving (in-turn (λ _. ⊥) s.receiving x.receiving y.receiving first next) last
+
+shut-receiving : (s : State) (v : Content) → (after_taking_shut s v).receiving ≡ s.receiving
+unfolding after_taking_shut
+shut-receiving s v = its_ack-receiving s v
+
+opens-finished : (s : State) (src : List ℕ) (v : Content) → (after_peer_opens s src v).receiving ≡ with_syn s.receiving v.seq
+unfolding after_peer_opens
+opens-finished s src v = refl
+
+accepts-finished : (s : State) (v : Content) → (after_peer_accepts s v).receiving ≡ with_syn s.receiving v.seq
+unfolding after_peer_accepts
+accepts-finished s v = refl
+
+syn-finishes : (Q : ℕ → Type 0) (r r' : Receiving) (seq : ℕ) → r' ≡ with_syn r seq → Finishes Q r r'
+syn-finishes Q r r' seq e = subst (Finishes Q r) (sym e) (no-fin Q r (with_syn r seq) refl (omega arith))
+
+-- A SEGMENT ARRIVES
+pub finishes-judgement : (Q : ℕ → Type 0) (s : State) (src dst : List ℕ) (v : Content) (accepted : List ℕ) (closed : Bool) → IsAlone s accepted closed
+    → (IsTaken s v → has fin v.flags ≡ true → Q (number v.seq (length v.text)))
+    → Finishes Q s.receiving (after_judgement (judgement s src dst v) s src v).receiving
+unfolding judgement
+finishes-judgement Q s src dst v accepted closed a came =
+    let r = s.receiving in
+    let J : Judgement → Type 0 = λ j. Finishes Q r (after_judgement j s src v).receiving in
+    let same : Finishes Q r r = nothing-new Q r r refl in
+    let kept = λ (r' : Receiving). nothing-new Q r r' in
+    cond_both (is_foreign s src dst v) Foreign (phase_judgement s v) J (λ _. same)
+    (λ mine. in-phase s v J (record {
+      foreign = same;
+      reset_ignored = same;
+      stray = kept _ refl;
+      ack_of_listen = kept _ refl;
+      no_syn = same;
+      peer_opens = λ listening is. syn-finishes Q r _ v.seq (opens-finished s src v);
+      ack_of_no_syn = kept _ refl;
+      peer_refuses = no-fin Q r _ refl (omega arith);
+      peer_accepts = λ sent is. syn-finishes Q r _ v.seq (accepts-finished s v);
+      unacceptable = λ present. kept _ refl;
+      peer_resets = no-fin Q r _ refl (omega arith);
+      reset_elsewhere = λ present. kept _ refl;
+      syn_in_window = λ present. kept _ refl;
+      no_ack = same;
+      acks_unsent = λ present. kept _ refl;
+      handshake_refused = kept _ refl;
+      handshake_refused_shut = λ present. kept _ refl;
+      taken = λ present is. taking-finishes Q s v accepted closed present a (came is);
+      taken_shut = λ present told. kept _ (shut-receiving s v);
+    }))

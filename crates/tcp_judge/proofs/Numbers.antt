@@ -1,0 +1,86 @@
+-- NUMBERS THAT CAME, so many from one on.
+use Rattle.std.proofs.Common.{◌≡◌, ℕ, zero, suc, ◌+◌, ◌<◌, ◌≤◌, List, [], ◌∷◌, ◌++◌, refl, sym, ◌-◌, ◌∙◌, ap, subst, arith, ⊎_elim, inl, inr}
+use Rattle.std.specs.Prelude.{◌⊎◌, Bool, true, false, ◌&&◌, ◌||◌}
+use Rattle.std.proofs.lemmas.Bool.{cases_lt, false≢true}
+use Rattle.tcp_numbers.specs.declared.seq.Seq.{Seq}
+use Rattle.tcp_wire.specs.Position.{number, distance}
+use Rattle.tcp_judge.specs.Heard.{covers, has_come, all_came, goes_on, begins}
+
+both : (a b : Bool) → a ≡ true → b ≡ true → a && b ≡ true
+both true b e f = f
+both false b e f = e
+
+not-both : (a b : Bool) → (a ≡ false) ⊎ (b ≡ false) → a && b ≡ false
+not-both true b (inl e) = absurd (false≢true (sym e))
+not-both true b (inr e) = e
+not-both false b h = refl
+
+distance-most : (irs from to : ℕ) → from ≤ to → distance (number irs from) (number irs to) ≤ to - from
+distance-most irs from to order = omega arith
+
+number-on : (irs from j : ℕ) → number (number irs from) j ≡ number irs (from + j)
+number-on irs from j = omega arith
+
+pub all-came : (spans : List (Seq × ℕ)) (from count : ℕ) → ((j : ℕ) → j < count → has_come spans (number from j) ≡ true) → all_came spans from count ≡ true
+unfolding all_came
+all-came spans from zero h = refl
+all-came spans from (suc n) h =
+    both (has_come spans (number from n)) (all_came spans from n) (h n (omega arith)) (all-came spans from n (λ j less. h j (omega arith)))
+
+pub one-missing : (spans : List (Seq × ℕ)) (from count j : ℕ) → j < count → has_come spans (number from j) ≡ false → all_came spans from count ≡ false
+unfolding all_came
+one-missing spans from zero j less h = absurd (omega arith)
+one-missing spans from (suc n) j less h =
+    ⊎_elim
+    (λ (before : j < n). not-both (has_come spans (number from n)) (all_came spans from n) (inr (one-missing spans from n j before h)))
+    (λ (last : n ≤ j).
+    let same : j ≡ n = omega arith in
+    not-both (has_come spans (number from n)) (all_came spans from n) (inl (subst (λ (i : ℕ). has_come spans (number from i) ≡ false) same h)))
+    (cases_lt j n)
+
+-- what came, came still when more did
+or-more : (a b b' : Bool) → (b ≡ true → b' ≡ true) → a || b ≡ true → a || b' ≡ true
+or-more true b b' f e = refl
+or-more false b b' f e = f e
+
+or-second : (a b : Bool) → b ≡ true → a || b ≡ true
+or-second true b e = refl
+or-second false b e = e
+
+pub come-more : (spans more : List (Seq × ℕ)) (n : ℕ) → has_come spans n ≡ true → has_come (spans ++ more) n ≡ true
+come-more [] more n e = absurd (false≢true e)
+come-more (span ∷ spans) more n e = or-more (covers n span) (has_come spans n) (has_come (spans ++ more) n) (come-more spans more n) e
+
+pub come-last : (spans : List (Seq × ℕ)) (span : Seq × ℕ) (n : ℕ) → covers n span ≡ true → has_come (spans ++ span ∷ []) n ≡ true
+come-last [] span n e = ap (λ b. b || false) e
+come-last (first ∷ spans) span n e = or-second (covers n first) (has_come (spans ++ span ∷ []) n) (come-last spans span n e)
+
+-- a SYN with this number came
+abbrev pub HasSyn : List Seq → ℕ → Type 0
+HasSyn [] n = ⊥
+HasSyn (first ∷ syns) n = (first.0 ≡ n) ⊎ HasSyn syns n
+
+pub syn-more : (syns more : List Seq) (n : ℕ) → HasSyn syns n → HasSyn (syns ++ more) n
+syn-more [] more n h = absurd h
+syn-more (first ∷ syns) more n (inl e) = inl e
+syn-more (first ∷ syns) more n (inr h) = inr (syn-more syns more n h)
+
+pub syn-last : (syns : List Seq) (seq : Seq) → HasSyn (syns ++ seq ∷ []) seq.0
+syn-last [] seq = inl refl
+syn-last (first ∷ syns) seq = inr (syn-last syns seq)
+
+pub begins-at : (spans : List (Seq × ℕ)) (syns : List Seq) (irs told : ℕ) → HasSyn syns irs → goes_on spans (number irs 1) told ≡ true
+    → begins spans syns told ≡ true
+begins-at spans [] irs told h e = absurd h
+begins-at spans (first ∷ syns) irs told (inl same) e =
+    ap (λ b. b || begins spans syns told) (ap (λ n. goes_on spans (number n 1) told) same ∙ e)
+begins-at spans (first ∷ syns) irs told (inr h) e =
+    or-second (goes_on spans (number first.0 1) told) (begins spans syns told) (begins-at spans syns irs told h e)
+
+-- the numbers of the positions from one up to another
+pub positions-came : (spans : List (Seq × ℕ)) (irs from to : ℕ) → from ≤ to
+    → ((p : ℕ) → from ≤ p → p < to → has_come spans (number irs p) ≡ true) → goes_on spans (number irs from) (number irs to) ≡ true
+positions-came spans irs from to order h =
+    let count : distance (number irs from) (number irs to) ≤ to - from = distance-most irs from to order in
+    all-came spans (number irs from) (distance (number irs from) (number irs to))
+    (λ j less. subst (λ (n : ℕ). has_come spans n ≡ true) (sym (number-on irs from j)) (h (from + j) (omega arith) (omega (arith, count, less))))

@@ -1,0 +1,243 @@
+-- THE RULES OF POSITIONS against the user's stream: what went is its beginning, and no segment that is the user's breaks one.
+use Rattle.std.proofs.Common.{◌≡◌, ℕ, zero, suc, ◌+◌, ◌-◌, ◌^◌, ◌<◌, ◌≤◌, List, [], ◌∷◌, ◌++◌, length, take, drop, refl}
+use Rattle.std.proofs.Common.{sym, ◌∙◌, ap, subst, arith, length-take, ⊎_elim, inl, inr, eq-eqb}
+use Rattle.std.specs.Prelude.{◌⊎◌, Bool, true, false, not, ◌&&◌, ◌||◌, ◌==◌, nat_lt, nat_le, if◌then◌else◌, Option, Some, None, IfSome, bytes_eq}
+use Rattle.std.proofs.lemmas.Bool.{false≢true, ltb-true, eqb-true, eqb-false, and_parts, le-ltb, cond_both, leb-true}
+use Rattle.std.proofs.lemmas.List.{drop-drop}
+use Rattle.std.proofs.Math.Seq.{take-add, take-length}
+use Rattle.tcp_numbers.specs.declared.seq.Seq.{Seq}
+use Rattle.tcp_wire.specs.Flags.{fin, syn, rst, has}
+use Rattle.tcp_wire.specs.Position.{number, position_of}
+use Rattle.tcp_wire.specs.Wire.{Content}
+use Rattle.tcp_wire.proofs.Lemmas.{position_of_number}
+use Rattle.tcp_replay.specs.Truthful.{IsOfUser}
+use Rattle.tcp_replay.proofs.Lists.{by_test}
+use Rattle.tcp_judge.specs.Known.{Known, is_syn, initial_after, place_by, place_of, sent_after, fin_after, known_after}
+use Rattle.tcp_judge.specs.Rules.{count_both, agrees, changes_bytes, finding_if, initial_by, fin_by, fin_finding, position_finding}
+use Rattle.tcp_judge.specs.declared.finding.Finding.{Finding}
+
+-- TESTS
+and-false : (b : Bool) → b && false ≡ false
+and-false true = refl
+and-false false = refl
+
+pub unless : (a b : Bool) → (a ≡ true → b ≡ false) → a && b ≡ false
+unless true b h = h refl
+unless false b h = refl
+
+not-none : (n : ℕ) → not (n == 0) ≡ true → 0 < n
+not-none zero e = absurd (false≢true e)
+not-none (suc n) e = omega arith
+
+pub none-found : (b : Bool) (f : Finding) → b ≡ false → finding_if b f ≡ None
+none-found true f e = absurd (false≢true (sym e))
+none-found false f e = refl
+
+-- BEGINNINGS: equal bytes are found equal
+same-found : (xs : List ℕ) → bytes_eq xs xs ≡ true
+same-found [] = refl
+same-found (x ∷ xs) = rw (eq-eqb x x refl) (same-found xs)
+
+front-front : (n m : ℕ) (xs : List ℕ) → n ≤ length (take m xs) → take n (take m xs) ≡ take n xs
+front-front zero m xs h = refl
+front-front (suc n) zero xs h = absurd (omega (arith, length-take 0 xs))
+front-front (suc n) (suc m) [] h = refl
+front-front (suc n) (suc m) (x ∷ xs) h = ap (λ ys. x ∷ ys) (front-front n m xs (omega arith))
+
+-- two beginnings of one text agree
+fronts-agree : (m n : ℕ) (xs : List ℕ) → agrees (take m xs) (take n xs) ≡ true
+fronts-agree m n xs =
+    let count = count_both (take m xs) (take n xs) in
+    let same : take count (take m xs) ≡ take count (take n xs) = front-front count m xs (omega arith) ∙ sym (front-front count n xs (omega arith)) in
+    subst (λ (ys : List ℕ). bytes_eq (take count (take m xs)) ys ≡ true) same (same-found (take count (take m xs)))
+
+-- what a beginning has from a place on
+no-front : (n : ℕ) → [] ≡ take {A = ℕ} n []
+no-front zero = refl
+no-front (suc n) = refl
+
+front-drop : (k m : ℕ) (xs : List ℕ) → drop k (take m xs) ≡ take (m - k) (drop k xs)
+front-drop zero m xs = let whole : m ≡ m - 0 = omega arith in ap (λ (n : ℕ). take n xs) whole
+front-drop (suc k) zero xs = let none : 0 ≡ 0 - suc k = omega arith in ap (λ (n : ℕ). take n (drop (suc k) xs)) none
+front-drop (suc k) (suc m) [] = no-front (suc m - suc k)
+front-drop (suc k) (suc m) (x ∷ xs) =
+    let same : m - k ≡ suc m - suc k = omega arith in
+    front-drop k m xs ∙ ap (λ (n : ℕ). take n (drop k xs)) same
+
+own-length : (k : ℕ) (one xs : List ℕ) → one ≡ take k xs → one ≡ take (length one) xs
+own-length k one xs e =
+    let own : take (length (take k xs)) (take k xs) ≡ take (length (take k xs)) xs = front-front (length (take k xs)) k xs (omega arith) in
+    e ∙ sym (take-length (take k xs)) ∙ own ∙ ap (λ (ys : List ℕ). take (length ys) xs) (sym e)
+
+-- a beginning goes on by what a text from a place within it has beyond its end
+front-goes_on : (s place m : ℕ) (sent text xs : List ℕ) → 1 ≤ place → place ≤ 1 + s → sent ≡ take s xs → text ≡ take m (drop (place - 1) xs)
+    → sent ++ drop (1 + s - place) text ≡ take (s + (m - (1 + s - place))) xs
+front-goes_on s place m sent text xs least most e f =
+    let d = 1 + s - place in
+    let place_is : place - 1 + d ≡ s = omega arith in
+    let more : drop d text ≡ take (m - d) (drop s xs) =
+    ap (drop d) f ∙ front-drop d m (drop (place - 1) xs) ∙ ap (take (m - d)) (drop-drop d (place - 1) xs ∙ ap (λ n. drop n xs) place_is) in
+    ap (λ (ys : List ℕ). ys ++ drop d text) e ∙ ap (λ (ys : List ℕ). take s xs ++ ys) more ∙ sym (take-add s (m - d) xs)
+
+-- WHERE A SEGMENT STANDS in the user's stream
+record IsAt (accepted : List ℕ) (place : ℕ) (v : Content) : Type 0 where
+  least : 1 ≤ place
+  text : v.text ≡ take (length v.text) (drop (place - 1) accepted)
+  ends : 0 < length v.text → place + length v.text ≤ 1 + length accepted
+  has_fin : has fin v.flags ≡ true → place + length v.text ≡ 1 + length accepted
+
+text-own : (text xs : List ℕ) → (0 < length text → text ≡ take (length text) xs) → text ≡ take (length text) xs
+text-own [] xs h = refl
+text-own (b ∷ text) xs h = h (omega arith)
+
+at-user : (isn : ℕ) (accepted : List ℕ) (closed : Bool) (v : Content) (h : IsOfUser isn accepted closed v)
+    → IsAt accepted (h.position + (if has syn v.flags then 1 else 0)) v
+at-user isn accepted closed v h =
+    let p = h.position in
+    by_test (has syn v.flags) (λ b. IsAt accepted (p + (if b then 1 else 0)) v)
+    (λ e.
+    let first : p ≡ 0 = eqb-true p 0 (sym h.has_syn ∙ e) in
+    let bare = h.bare first in
+    record {
+      least = omega arith;
+      text = text-own v.text (drop (p + 1 - 1) accepted) (λ some. absurd (omega (arith, ap length bare.0)));
+      ends = λ some. absurd (omega (arith, ap length bare.0));
+      has_fin = λ told. absurd (false≢true (sym bare.1 ∙ told));
+    })
+    (λ e.
+    let later : p ≡ 0 → ⊥ = eqb-false p 0 (sym h.has_syn ∙ e) in
+    let least : 1 ≤ p = omega arith in
+    let same : p + 0 - 1 ≡ p - 1 = omega arith in
+    record {
+      least = omega arith;
+      text = text-own v.text (drop (p + 0 - 1) accepted) (λ some. h.text some ∙ ap (λ n. take (length v.text) (drop n accepted)) (sym same));
+      ends = λ some. omega (arith, h.fits some);
+      has_fin = λ told. omega (arith, (h.has_fin told).1);
+    })
+
+-- WHAT IS KNOWN is of the user's stream
+pub record IsKnown (isn : ℕ) (accepted : List ℕ) (k : Known) : Type 0 where
+  pub initial : IfSome k.initial (λ n. n.0 ≡ isn)
+  pub front : k.sent ≡ take (length k.sent) accepted
+  pub fin : IfSome k.fin (λ place. place ≡ 1 + length accepted)
+
+module _ (isn : ℕ) (accepted : List ℕ) (closed : Bool) (small : isn < 2 ^ 32) (short : 2 + length accepted < 2 ^ 31) where
+  -- a SYN has the initial number
+  syn-number : (v : Content) → (has rst v.flags ≡ false → IsOfUser isn accepted closed v) → is_syn v ≡ true → v.seq ≡ isn
+  syn-number v user e =
+      let parts = and_parts (has syn v.flags) (not (has rst v.flags)) e in
+      let plain : has rst v.flags ≡ false =
+      by_test (has rst v.flags) (λ b. (not b ≡ true) → b ≡ false) (λ _ never. absurd (false≢true never)) (λ _ _. refl) parts.1 in
+      let h = user plain in
+      let first : h.position ≡ 0 = eqb-true h.position 0 (sym h.has_syn ∙ parts.0) in
+      let whole : number isn 0 ≡ isn = omega arith in
+      h.seq ∙ ap (number isn) first ∙ whole
+
+  initial-kept : (known : Option Seq) (v : Content) → IfSome known (λ n. n.0 ≡ isn) → (has rst v.flags ≡ false → IsOfUser isn accepted closed v)
+      → IfSome (initial_after known v) (λ n. n.0 ≡ isn)
+  initial-kept None v h user =
+      by_test (is_syn v) (λ b. IfSome (if b then Some (record { 0 = v.seq }) else None) (λ (n : Seq). n.0 ≡ isn)) (syn-number v user) (λ _. tt)
+  initial-kept (Some n) v h user = h
+
+  -- a place is unknown or right
+  placed : (known : Option Seq) (sent : List ℕ) (v : Content) → IfSome known (λ n. n.0 ≡ isn) → length sent ≤ length accepted
+      → (has rst v.flags ≡ false → IsOfUser isn accepted closed v)
+      → (place_by known sent v ≡ 0) ⊎ IsAt accepted (place_by known sent v) v
+  placed None sent v h inside user = inl refl
+  placed (Some n) sent v h inside user =
+      let more : ℕ = if has syn v.flags then 1 else 0 in
+      by_test (has rst v.flags)
+      (λ b. ((if b then 0 else position_of n.0 (length sent) v.seq + more) ≡ 0) ⊎ IsAt accepted (if b then 0 else position_of n.0 (length sent) v.seq + more) v)
+      (λ _. inl refl)
+      (λ plain.
+      let own = user plain in
+      let p = own.position in
+      let near : position_of isn (length sent) (number isn p) ≡ p =
+      position_of_number isn (length sent) p small
+      (omega (arith, own.within, by_test closed (λ b. (if b then 1 else 0) ≤ 1) (λ _. omega arith) (λ _. omega arith))) (omega arith) in
+      let place : position_of n.0 (length sent) v.seq ≡ p = ap (λ i. position_of i (length sent) v.seq) h ∙ ap (position_of isn (length sent)) own.seq ∙ near in
+      inr (subst (λ (i : ℕ). IsAt accepted (i + more) v) (sym place) (at-user isn accepted closed v own)))
+
+  -- THE RULES
+  keeps-initial : (known : Option Seq) (v : Content) → IfSome known (λ n. n.0 ≡ isn) → (has rst v.flags ≡ false → IsOfUser isn accepted closed v)
+      → initial_by known v ≡ None
+  keeps-initial None v h user = refl
+  keeps-initial (Some first) v h user =
+      none-found (is_syn v && not (v.seq == first.0)) _
+      (unless (is_syn v) (not (v.seq == first.0)) (λ e. ap not (eq-eqb v.seq first.0 (syn-number v user e ∙ sym h))))
+
+  keeps-bytes : (sent : List ℕ) (place : ℕ) (v : Content) → sent ≡ take (length sent) accepted → (place ≡ 0) ⊎ IsAt accepted place v
+      → changes_bytes sent place v.text ≡ false
+  keeps-bytes sent place v front (inl none) = rw none refl
+  keeps-bytes sent place v front (inr at) =
+      let j = place - 1 in
+      let known : drop j sent ≡ take (length sent - j) (drop j accepted) = ap (drop j) front ∙ front-drop j (length sent) accepted in
+      let same : agrees (drop j sent) v.text ≡ true =
+      ap (λ (ys : List ℕ). agrees ys v.text) known ∙ ap (λ (ys : List ℕ). agrees (take (length sent - j) (drop j accepted)) ys) at.text
+      ∙ fronts-agree (length sent - j) (length v.text) (drop j accepted) in
+      unless (nat_lt 0 place) (not (agrees (drop j sent) v.text)) (λ _. ap not same)
+
+  keeps-fin_by : (known : Option ℕ) (behind place : ℕ) (v : Content) → IfSome known (λ f. f ≡ 1 + length accepted) → behind ≤ 1 + length accepted
+      → IsAt accepted place v → fin_by known behind (place + length v.text) v ≡ None
+  keeps-fin_by None behind place v h inside at =
+      let end = place + length v.text in
+      none-found (has fin v.flags && nat_lt end behind) _ (unless (has fin v.flags) (nat_lt end behind)
+      (λ told. le-ltb end behind (omega (arith, at.has_fin told))))
+  keeps-fin_by (Some f) behind place v h inside at =
+      let end = place + length v.text in
+      let text : not (length v.text == 0) && nat_lt f end ≡ false =
+      unless (not (length v.text == 0)) (nat_lt f end) (λ some. le-ltb f end (omega (arith, at.ends (not-none (length v.text) some), h))) in
+      let last : has fin v.flags && not (end == f) ≡ false =
+      unless (has fin v.flags) (not (end == f)) (λ told. ap not (eq-eqb end f (at.has_fin told ∙ sym h))) in
+      none-found _ _ (ap (λ (b : Bool). b || (has fin v.flags && not (end == f))) text ∙ last)
+
+  keeps-fin : (k : Known) (place : ℕ) (v : Content) → IsKnown isn accepted k → length k.sent ≤ length accepted → (place ≡ 0) ⊎ IsAt accepted place v
+      → fin_finding k place v ≡ None
+  keeps-fin k place v h inside (inl none) = rw none refl
+  keeps-fin k place v h inside (inr at) =
+      by_test (nat_lt 0 place) (λ b. (if b then fin_by k.fin (1 + length k.sent) (place + length v.text) v else None) ≡ None)
+      (λ _. keeps-fin_by k.fin (1 + length k.sent) place v h.fin (omega arith) at) (λ _. refl)
+
+  inside-stream : (k : Known) → IsKnown isn accepted k → length k.sent ≤ length accepted
+  inside-stream k h = omega (arith, ap length h.front, length-take (length k.sent) accepted)
+
+  pub keeps-positions : (k : Known) (v : Content) → IsKnown isn accepted k → (has rst v.flags ≡ false → IsOfUser isn accepted closed v)
+      → position_finding k (place_of k v) v ≡ None
+  keeps-positions k v h user =
+      let inside = inside-stream k h in
+      let at = placed (initial_after k.initial v) k.sent v (initial-kept k.initial v h.initial user) inside user in
+      let place = place_of k v in
+      rw (keeps-initial k.initial v h.initial user, keeps-bytes k.sent place v h.front at) (keeps-fin k place v h inside at)
+
+  -- WHAT IS KNOWN AFTER IT
+  sent-kept : (sent : List ℕ) (place : ℕ) (v : Content) → sent ≡ take (length sent) accepted → (place ≡ 0) ⊎ IsAt accepted place v
+      → sent_after sent place v.text ≡ take (length (sent_after sent place v.text)) accepted
+  sent-kept sent place v front at =
+      cond_both (nat_lt 0 place && nat_le place (1 + length sent)) (sent ++ drop (1 + length sent - place) v.text) sent
+      (λ (ys : List ℕ). ys ≡ take (length ys) accepted)
+      (λ e.
+      let parts = and_parts (nat_lt 0 place) (nat_le place (1 + length sent)) e in
+      let some : 0 < place = ltb-true 0 place parts.0 in
+      let fits : place ≤ 1 + length sent = leb-true place (1 + length sent) parts.1 in
+      ⊎_elim (λ (none : place ≡ 0). absurd (omega arith))
+      (λ (there : IsAt accepted place v).
+      own-length (length sent + (length v.text - (1 + length sent - place))) (sent ++ drop (1 + length sent - place) v.text) accepted
+      (front-goes_on (length sent) place (length v.text) sent v.text accepted there.least fits front there.text)) at)
+      (λ _. front)
+
+  fin-kept : (known : Option ℕ) (place : ℕ) (v : Content) → IfSome known (λ f. f ≡ 1 + length accepted) → (place ≡ 0) ⊎ IsAt accepted place v
+      → IfSome (fin_after known place v) (λ f. f ≡ 1 + length accepted)
+  fin-kept known place v h at =
+      by_test (nat_lt 0 place && has fin v.flags) (λ b. IfSome (if b then Some (place + length v.text) else known) (λ f. f ≡ 1 + length accepted))
+      (λ e.
+      let parts = and_parts (nat_lt 0 place) (has fin v.flags) e in
+      let some : 0 < place = ltb-true 0 place parts.0 in
+      ⊎_elim (λ (none : place ≡ 0). absurd (omega arith)) (λ (there : IsAt accepted place v). there.has_fin parts.1) at)
+      (λ _. h)
+
+  pub known-kept : (k : Known) (v : Content) → IsKnown isn accepted k → (has rst v.flags ≡ false → IsOfUser isn accepted closed v)
+      → IsKnown isn accepted (known_after k v)
+  known-kept k v h user =
+      let initial = initial-kept k.initial v h.initial user in
+      let at = placed (initial_after k.initial v) k.sent v initial (inside-stream k h) user in
+      record { initial = initial; front = sent-kept k.sent (place_of k v) v h.front at; fin = fin-kept k.fin (place_of k v) v h.fin at }

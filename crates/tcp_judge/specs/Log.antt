@@ -1,0 +1,36 @@
+-- A LOG OF ONE END: what came to it and what went from it, in its order; and the log of an end of ours, event by event.
+use Rattle.std.specs.Prelude.{ℕ, List, [], ◌∷◌, ◌++◌, Option, Some, None}
+use Rattle.tcp_halves.specs.declared.config.Config.{Config}
+use Rattle.tcp_conn.specs.State.{State}
+use Rattle.tcp_conn.specs.NewEnd.{new_end}
+use Rattle.tcp_replay.specs.Solo.{end_after, segment_due}
+use Rattle.tcp_replay.specs.SoloEvents.{SoloContent, Emit, Arrive}
+use Rattle.tcp_judge.specs.declared.passage.Passage.{Passage}
+use Rattle.tcp_judge.specs.declared.passage.Passage.TheVariants as code
+
+-- a segment that came or went: the source and the destination of its bytes, and these
+pub data PassageContent : Type 0 where
+  Came : List ℕ → List ℕ → List ℕ → PassageContent
+  Went : List ℕ → List ℕ → List ℕ → PassageContent
+
+abbrev pub passage_content : Passage → PassageContent
+passage_content (code.Came src dst bytes) = Came src.0 dst.0 bytes.items
+passage_content (code.Went src dst bytes) = Went src.0 dst.0 bytes.items
+
+-- what an event adds to the log of an end with this address: the bytes that arrive, or the segment that is due and emitted
+abbrev pub went_from : List ℕ → Option (List ℕ × List ℕ) → List PassageContent
+went_from src None = []
+went_from src (Some segment) = Went src segment.0 segment.1 ∷ []
+
+abbrev pub passages_of : List ℕ → State → SoloContent → List PassageContent
+passages_of src s Emit = went_from src (segment_due s)
+passages_of src s (Arrive from to bytes) = Came from to bytes ∷ []
+passages_of src s other = []
+
+unfoldable pub log_of : List ℕ → State → List SoloContent → List PassageContent
+log_of src s [] = []
+log_of src s (event ∷ events) = passages_of src s event ++ log_of src (end_after s event) events
+
+-- THE LOG of one end from its Config on
+abbrev pub log_alone : Config → List SoloContent → List PassageContent
+log_alone c list = log_of c.addr.0 (new_end c) list

@@ -1,0 +1,23 @@
+use tcp_wire::{DecodeError, Seq};
+
+/// The rule that a segment breaks, and the numbers that show it.
+#[derive(Clone, Copy, Debug, PartialEq, Eq)]
+pub enum Finding {
+    /// The bytes are no segment (RFC 9293, 3.1).
+    Unreadable(DecodeError),
+    /// An option that stands in SYNs alone stands in another segment (RFC 9293, 3.2; RFC 7323, 2.2; RFC 2018, 2).
+    SynOption,
+    /// A shift above 14 (RFC 7323, 2.3).
+    GreatShift,
+    /// ACK is missing in a segment that is neither a SYN nor a reset (RFC 9293, 3.1).
+    NoAck,
+    /// A SYN has another number than the first one, which stands first here (RFC 9293, 3.4).
+    OtherInitial(Seq, Seq),
+    /// The text of the segment with this number has another byte at a position that went before (RFC 9293, 3.4).
+    OtherByte(Seq),
+    /// Text or FIN beyond the FIN: the position of the FIN, and that where the text or the other FIN ends (RFC 9293, 3.4 and
+    /// 3.6).
+    BeyondFin(u64, u64),
+    /// This acknowledgement covers what didn't come, or falls (RFC 9293, 3.4 and 3.10.7.4).
+    AckBeyond(Seq),
+}

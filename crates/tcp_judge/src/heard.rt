@@ -1,0 +1,87 @@
+//! The rule of acknowledgements: what came, as numbers.
+ghost use Rattle.std.specs.Prelude.{◌≡◌, ◌≤◌, length};
+ghost use Rattle.tcp_wire.specs.View.{content};
+ghost use Rattle.tcp_wire.specs.Wire.{max_text_len};
+ghost use Rattle.tcp_conn.specs.Judgement.{count_numbers};
+ghost use Rattle.tcp_judge.specs.Heard.{covers, has_come, all_came, goes_on, begins, is_of_came, tells};
+
+use tcp_wire::{Segment, Seq};
+
+/// How many numbers SYN, text and FIN take.
+pub(crate) fn count_numbers(segment: &Segment<'_>) -> u32
+    requires { length segment.now.text.now ≤ max_text_len }
+    ensures { result ≡ count_numbers (content segment.now) }
+{
+    let flags = segment.header.flags;
+    let mut count = segment.text.len() as u32;
+    if flags.is_syn() {
+        count += 1;
+    }
+    if flags.is_fin() {
+        count += 1;
+    }
+    count
+}
+
+pub(crate) fn tells(segment: &Segment<'_>) -> bool
+    ensures { result ≡ tells (content segment.now) }
+{
+    segment.header.flags.is_ack() && !segment.header.flags.is_rst()
+}
+
+fn covers(number: Seq, span: (Seq, u32)) -> bool
+    ensures { result ≡ covers number.0 span }
+{
+    number.minus(span.0) < span.1
+}
+
+/// Whether the number is one of those that a segment took.
+fn has_come(spans: &[(Seq, u32)], number: Seq) -> bool
+    ensures { result ≡ has_come spans.now number.0 }
+{
+    for span in spans {
+        if covers(number, *span) {
+            return true;
+        }
+    }
+    false
+}
+
+/// Whether so many numbers from this one on came.
+fn all_came(spans: &[(Seq, u32)], from: Seq, count: u32) -> bool
+    ensures { result ≡ all_came spans.now from.0 count }
+{
+    for i in 0..count {
+        if !has_come(spans, from.plus(i)) {
+            return false;
+        }
+    }
+    true
+}
+
+fn goes_on(spans: &[(Seq, u32)], from: Seq, told: Seq) -> bool
+    ensures { result ≡ goes_on spans.now from.0 told.0 }
+{
+    all_came(spans, from, told.minus(from))
+}
+
+fn begins(spans: &[(Seq, u32)], syns: &[Seq], told: Seq) -> bool
+    ensures { result ≡ begins spans.now syns.now told.0 }
+{
+    for first in syns {
+        if goes_on(spans, first.plus(1), told) {
+            return true;
+        }
+    }
+    false
+}
+
+/// Whether an acknowledgement goes on over what came from the last one that was told, or from a SYN that came.
+pub(crate) fn is_of_came(last: Option<Seq>, spans: &[(Seq, u32)], syns: &[Seq], told: Seq) -> bool
+    ensures { result ≡ is_of_came last spans.now syns.now told.0 }
+{
+    match last {
+        Some(last) => goes_on(spans, last, told),
+        None => begins(spans, syns, told),
+    }
+}
