@@ -1,8 +1,8 @@
 #!/usr/bin/env bash
 # What the gate doesn't look at: the program's exit statuses and its lines on standard error, what it does where memory is refused,
 # whether the documents show what stands in the repository, scripts and C as linters read them, the programs against second ones,
-# the C library under its tests, against lwIP and against this machine's kernel, real clients over usernet, captures, and the replay as a
-# WebAssembly module.
+# the C library under its tests, against lwIP and against this machine's kernel, the portable file on two other machines, what stands on
+# it for Rust, C++, Go and Python, real clients over usernet, captures, and the replay as a WebAssembly module.
 # checks/behind.sh FOLDER writes how many of these passed into FOLDER/behind. The libraries and the module are built over what the
 # gate has proved, and after it: two builds at once wait for one another.
 set -euo pipefail
@@ -39,6 +39,11 @@ behind c/tcpcore/test.sh --target aarch64 "$folder/libtcp_c.aarch64.a"
 behind c/companions/test.sh "$folder/libtcp_c.a"
 behind checks/peers/segments.sh "$folder/libtcp_c.a"
 behind checks/peers/lwip.sh "$folder/libtcp_c.a"
+c/portable/build.sh
+behind c/portable/test.sh --short "$folder/libtcp_c.a"
+behind c/bindings/rust/test.sh "$folder/libtcp_c.a"
+behind c/bindings/test.sh
+behind c/dist/test.sh
 behind checks/live/run.sh
 behind apps/usernet/test.sh "$folder/libtcp_c.a" --short
 behind apps/capture/test.sh

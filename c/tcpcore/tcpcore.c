@@ -184,7 +184,7 @@ uint32_t tcpcore_free(tcpcore_end *end)
         return answer;
     answer = tcp_c_free(handle(end));
     if (answer == TCPCORE_DONE)
-        *end = (tcpcore_end)TCPCORE_END_INIT;
+        memset(end, 0, sizeof *end);
     return answer;
 }
 

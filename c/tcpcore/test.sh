@@ -92,7 +92,7 @@ check_with() {
     "$compiler" $warnings -O2 -shared -fPIC tcpcore.c "$library" -Wl,--exclude-libs,ALL -Wl,-z,defs \
         -o "$shared"
     same "exported names" "$(exports -D "$shared")" "$(printf 'tcpcore_%s\n' $calls strerror version | sort)"
-    for source in examples/two_ends tests/fields tests/answers tests/lifetime tests/calls; do
+    for source in examples/two_ends examples/lossy_link tests/fields tests/answers tests/lifetime tests/calls; do
         prints "${source#*/}" env LIBTCPCORE="$shared" python3 "$source.py"
     done
     if has "$package" "$compiler" $sanitizers -I. tests/misuse.c tcpcore.c "$library" -o out/sanitized; then

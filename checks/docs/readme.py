@@ -24,7 +24,7 @@ LONGEST = 120
 
 
 def pages():
-    return [TOP / "README.md", TOP / "CONTRIBUTING.md", TOP / "CHANGELOG.md", *sorted((TOP / "docs").glob("*.md")), *sorted(page for folder in FOLDERS[1:4] for page in (TOP / folder).rglob("*.md"))]
+    return [TOP / "README.md", TOP / "CONTRIBUTING.md", TOP / "CHANGELOG.md", *sorted((TOP / "docs").glob("*.md")), *sorted(page for folder in FOLDERS[1:4] for page in (TOP / folder).rglob("*.md") if not BUILT.search(str(page.relative_to(TOP))))]
 
 
 def main():

@@ -41,6 +41,11 @@ prints ./static
 cc two_ends.c $(pkg-config --cflags --libs tcpcore) -o dynamic
 same "what the program needs" "$(objdump -p dynamic | awk '$1 == "NEEDED" { print $2 }' | grep tcpcore)" "$shared"
 prints env LD_LIBRARY_PATH="$there/usr/lib" ./dynamic
+# Moved elsewhere it is found by where its .pc file lies.
+mv usr moved
+cc two_ends.c $(PKG_CONFIG_PATH=$there/moved/lib/pkgconfig pkg-config --define-prefix --cflags --libs tcpcore) -o relocated
+prints env LD_LIBRARY_PATH="$there/moved/lib" ./relocated
+mv moved usr
 make --silent -C "$OLDPWD" uninstall OUT="$there/out" PREFIX="$there/usr" LIBRARY="$library"
 same "left behind" "$(find usr -type f -o -type l)" ""
 echo "install: $passed passed"
