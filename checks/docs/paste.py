@@ -1,12 +1,13 @@
 """Pastes the commands of README.md, CONTRIBUTING.md, docs/ and the pages of folders into a shell, as a reader would.
 
-A block of commands is fenced by ```sh. The commands of a page go into one shell, in order, at the top of a copy of the tree:
-- each has to end with status 0, or with N where `<!-- status N -->` stands over its block, and to leave the shell in the folder in which it began;
+A block of commands is fenced by ```sh, a block of output is indented. The commands of a page go into one shell, in order, at the top
+of a copy of the tree:
+- each has to end with status 0, or with N where `<!-- status N -->` is over its block, and to leave the shell in its folder;
 - a block of output that follows it within the section has to be consecutive lines of what it printed. A block after a comment that
   names a source isn't output;
 - one that proves, takes long, installs or wants more than the kit (LONG) isn't run: its words are looked at, and the folders, scripts
   and files that it names have to be there. Its output is what the comment over the block names (readme.py).
-In a line of text a command that changes folder stands in parentheses.
+In a line of text a command that changes folder is in parentheses.
 
 python3 checks/docs/paste.py [--look] prints each failure, and at last how many were pasted, only looked at, and failed; it ends with
 1 where one failed, and where no command was met. With --look it runs none.
@@ -44,6 +45,9 @@ SOURCE = re.compile(r"^<!-- (\S+) -->$")
 STATUS = re.compile(r"^<!-- status (\d+) -->$")
 OUTPUTS = ("/stdout", "/expected/")
 INLINE = re.compile(r"`(cd [^`]+)`")
+FENCES = ("sh", "text", "mermaid")
+# What a block begins with that should be one of commands.
+COMMAND = re.compile(r"(\$ |\(?cd |rt |make |cc |python3 |(\.ci|checks|apps|bench|c)/\S+( |$))")
 
 
 class Shell:
@@ -54,7 +58,9 @@ class Shell:
         self.process = subprocess.Popen(["bash", "--norc"], cwd=folder, stdin=subprocess.PIPE, stdout=subprocess.PIPE, stderr=self.errors, text=True)
 
     def paste(self, command):
-        """What a command prints, its status, and the folder after it."""
+        """What a command prints, its status, and the folder after it: none where it has ended the shell."""
+        if self.process.poll() is not None:
+            return "", 1, None
         self.process.stdin.write(f'{{ {command}\n}} </dev/null\nprintf "\\n{MARK} %d %s\\n" "$?" "$PWD"\n')
         self.process.stdin.flush()
         lines = []
@@ -89,14 +95,14 @@ def blocks(text):
             yield "section", start, [], 0
         elif fence := FENCE.match(line):
             end = lines.index("```", number)
-            kind = "commands" if fence[1] == "sh" else "other"
+            kind = "commands" if fence[1] == "sh" else "other" if fence[1] in FENCES else "wrong"
             yield kind, start, lines[number:end], status
             number, source, status = end + 1, None, 0
         elif line.startswith("    ") and start > 1 and not lines[start - 2]:
-            while number < len(lines) and (lines[number].startswith("    ") or (not lines[number] and lines[number + 1:] and lines[number + 1].startswith("    "))):
+            while number < len(lines) and lines[number].startswith("    "):
                 number += 1
             kind = "output" if not source or any(part in source for part in OUTPUTS) else "other"
-            yield kind, start, [row[4:] for row in lines[start - 1:number]], 0
+            yield "wrong" if COMMAND.match(line.strip()) else kind, start, [row[4:] for row in lines[start - 1:number]], 0
             source = None
 
 
@@ -177,6 +183,8 @@ class Paste:
                     printed = self.command(where, command, shell, status)
             elif kind == "output" and printed is not None and not is_within(lines, printed):
                 self.failures.append(f"{where}: that isn't what the command before prints")
+            elif kind == "wrong":
+                self.failures.append(f"{where}: commands are fenced by ```sh, and anything else by ```text or indented")
             if kind != "commands":
                 printed = None
         shell.end()

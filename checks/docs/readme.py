@@ -28,7 +28,8 @@ LONGEST = 120
 
 
 def pages():
-    return [TOP / "README.md", TOP / "CONTRIBUTING.md", TOP / "CHANGELOG.md", *sorted((TOP / "docs").glob("*.md")), *sorted(page for folder in FOLDERS[1:4] for page in (TOP / folder).rglob("*.md"))]
+    of_folders = sorted(page for folder in FOLDERS[1:4] for page in (TOP / folder).rglob("*.md"))
+    return [TOP / "README.md", TOP / "CONTRIBUTING.md", TOP / "CHANGELOG.md", *sorted((TOP / "docs").glob("*.md")), *of_folders]
 
 
 def phrases():
@@ -83,7 +84,11 @@ def main():
             paths += 1
             if not (TOP / path).exists():
                 wrong.append(f"{name}: {path} isn't there")
-        wrong += [f"{name}:{number}: {len(line)} characters" for number, line in enumerate(text.split("\n"), 1) if len(line) > LONGEST and not line.startswith(("|", "    "))]
+        wrong += [
+            f"{name}:{number}: {len(line)} characters"
+            for number, line in enumerate(text.split("\n"), 1)
+            if len(line) > LONGEST and not line.startswith(("|", "    "))
+        ]
     newest = re.search(r"^## 0\.(\d+),", (TOP / "CHANGELOG.md").read_text(), re.MULTILINE)
     interface = re.search(r"#define TCPCORE_VERSION (\d+)", (TOP / "c/tcpcore/tcpcore.h").read_text())
     if not newest or not interface or newest[1] != interface[1]:
