@@ -1,9 +1,8 @@
 #!/usr/bin/env bash
-# What the gate doesn't look at: the program's exit statuses and its lines on standard error, what it does where memory is refused,
-# whether the documents show what is in the repository and their commands can be pasted, scripts and C as linters read them, the
-# programs against second ones,
-# the C library under its tests and against this machine's kernel, real clients over usernet, captures, and the replay as a
-# WebAssembly module.
+# What the gate doesn't look at: the program's exit statuses and its lines on standard error, what it does where memory is
+# refused, whether the documents show what is in the repository and their commands can be pasted, scripts and C as linters read
+# them, the programs against second ones, the C library under its tests and against this machine's kernel, real clients over
+# usernet, captures, and the replay as a WebAssembly module.
 # checks/behind.sh FOLDER writes how many of these passed into FOLDER/behind. The libraries and the module are built over what the
 # gate has proved, and after it: two builds at once wait for one another.
 set -euo pipefail

@@ -219,4 +219,5 @@ def main():
     sys.exit(bool(paste.failures) or not paste.pasted + paste.looked_at)
 
 
-main()
+if __name__ == "__main__":
+    main()
