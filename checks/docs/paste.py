@@ -7,7 +7,7 @@ of a copy of the tree:
   names a source isn't output;
 - one that proves, takes long, installs or wants more than the kit (LONG) isn't run: its words are looked at, and the folders, scripts
   and files that it names have to be there. Its output is what the comment over the block names (readme.py).
-In a line of text a command that changes folder is in parentheses.
+A command in a line of text is only looked at, too; where it changes folder it is in parentheses.
 
 python3 checks/docs/paste.py [--look] prints each failure, and at last how many were pasted, only looked at, and failed; it ends with
 1 where one failed, and where no command was met. With --look it runs none.
@@ -44,7 +44,8 @@ FENCE = re.compile(r"^```(\w*)$")
 SOURCE = re.compile(r"^<!-- (\S+) -->$")
 STATUS = re.compile(r"^<!-- status (\d+) -->$")
 OUTPUTS = ("/stdout", "/expected/")
-INLINE = re.compile(r"`(cd [^`]+)`")
+# A command in a line of text.
+INLINE = re.compile(r"`((?:\(?cd |python3 |make -C |(?:\.ci|checks|apps|bench|c)/[\w/-]+\.sh\b|\.ci/run)[^`]*)`")
 FENCES = ("sh", "text", "mermaid")
 # What a block begins with that should be one of commands.
 COMMAND = re.compile(r"(\$ |\(?cd |rt |make |cc |python3 |(\.ci|checks|apps|bench|c)/\S+( |$))")
@@ -146,7 +147,7 @@ def missing(command):
     if checked.returncode:
         return checked.stderr.strip()
     if command.startswith("cd "):
-        return "it changes the folder of who pastes it"
+        return "it changes the folder of the shell"
     for folder, words in simple_commands(command):
         if not folder.is_dir():
             return f"no folder {folder.relative_to(TOP)}"
@@ -188,14 +189,19 @@ class Paste:
             if kind != "commands":
                 printed = None
         shell.end()
-        self.failures += [f"{name}: `{command}` changes the folder of who pastes it" for command in INLINE.findall(text)]
+        for command in INLINE.finditer(text):
+            line = text.count("\n", 0, command.start()) + 1
+            self.look_at(f"{name}:{line}", re.sub(r"\s+", " ", command[1]))
+
+    def look_at(self, where, command):
+        self.looked_at += 1
+        if lacks := missing(command):
+            self.failures.append(f"{where}: {command}: {lacks}")
 
     def command(self, where, command, shell, wanted):
         """What a command prints, or None where it wasn't run."""
         if self.look or is_long(command):
-            self.looked_at += 1
-            if lacks := missing(command):
-                self.failures.append(f"{where}: {command}: {lacks}")
+            self.look_at(where, command)
             return None
         printed, status, after = shell.paste(command)
         self.pasted += 1
