@@ -4,8 +4,8 @@
  * and probes of all styles, options that today's stacks send, and what blind attackers and scanners send. What is wanted is RFC
  * 9293's, 3.10.7, or is said beside the row. Prints each row that failed, and as its last line `N cases, M failed`.
  */
-#include "segment.h"
 #include "tcpcore.h"
+#include "tests/made.h"
 
 #include <stdio.h>
 #include <stdlib.h>
@@ -39,12 +39,6 @@ static uint8_t block[TCPCORE_MEMORY(KEEPS, KEEPS)], out[TCPCORE_EMIT_ROOM];
 static size_t out_length;
 static const tcpcore_addr OWN = {{10, 0, 0, 1}}, PEER = {{10, 0, 0, 2}};
 
-static void write32(uint8_t *at, uint32_t value)
-{
-    write16(at, (uint16_t)(value >> 16));
-    write16(at + 2, (uint16_t)value);
-}
-
 static uint8_t digit(char of) { return (uint8_t)(of <= '9' ? of - '0' : of - 'a' + 10); }
 
 /* Writes a segment of the peer's; its length. Spaces in the options are passed over. */
@@ -66,11 +60,7 @@ static size_t make(uint8_t *bytes, uint32_t seq, uint32_t ack, unsigned bits, co
     write16(bytes + AT_WINDOW, 64240);
     memset(bytes + length, 'x', text);
     length += text;
-    uint32_t total = 0x0a00 + 1 + 0x0a00 + 2 + 6 + (uint32_t)length;
-    for (size_t at = 0; at < length; at += 2)
-        total += at + 1 < length ? read16(bytes + at) : (uint32_t)bytes[at] << 8;
-    total = total % 65536 + total / 65536;
-    write16(bytes + AT_CHECKSUM, (uint16_t)~(total % 65536 + total / 65536));
+    write_checksum(bytes, length, 1 + 2);
     return length;
 }
 

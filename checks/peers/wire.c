@@ -1,6 +1,6 @@
 /* The wire between two sides (see peer.h): delays, losses, repeats, reordering, damage, and numbers that are shifted. */
 #include "peer.h"
-#include "segment.h"
+#include "tests/made.h"
 
 #include <stdio.h>
 #include <stdlib.h>
@@ -31,23 +31,6 @@ static int chance(uint32_t of_1000)
     return of_1000 > 0 && (state >> 12) % 1000 < of_1000;
 }
 
-static void write32(uint8_t *at, uint32_t value)
-{
-    write16(at, (uint16_t)(value >> 16));
-    write16(at + 2, (uint16_t)value);
-}
-
-/* The checksum over segment and pseudo-header: the addresses are 10.0.0.1 and 10.0.0.2 (RFC 9293, 3.1). */
-static void sum(uint8_t *bytes, size_t length)
-{
-    uint32_t total = 0x0a00 + 1 + 0x0a00 + 2 + 6 + (uint32_t)length;
-    write16(bytes + AT_CHECKSUM, 0);
-    for (size_t at = 0; at < length; at += 2)
-        total += at + 1 < length ? read16(bytes + at) : (uint32_t)bytes[at] << 8;
-    total = total % 65536 + total / 65536;
-    write16(bytes + AT_CHECKSUM, (uint16_t)~(total % 65536 + total / 65536));
-}
-
 /* The edges of blocks that our end tells are the peer's numbers. */
 static void move_blocks(uint8_t *bytes, uint32_t by)
 {
@@ -71,7 +54,7 @@ static void move(int side, uint8_t *bytes, size_t length)
         write32(bytes + AT_ACK, read32(bytes + AT_ACK) - trial.moves);
     if (side == OWN)
         move_blocks(bytes, trial.moves);
-    sum(bytes, length);
+    write_checksum(bytes, length, 1 + 2);
 }
 
 static void put(int side, const uint8_t *bytes, size_t length, uint64_t at)

@@ -1,7 +1,7 @@
 /* The test of answers.c and of what flow.c makes of it: wars of two ends that fall silent, floods from outside of the window, and
    what still goes out at once. Where a fault is cured the test shows it without the cure, too. */
 #include "sides.h"
-#include "../segment.h"
+#include "made.h"
 
 /* The numbers of A as B has them: what comes next, and what A acknowledged. */
 static uint32_t next_of_a(void) { return UINT32_MAX - 3000 + (uint32_t)b.flow.timers.next; }
@@ -97,18 +97,12 @@ static void both_full_behind_a_hole(int is_limited)
 static uint32_t hand(uint32_t seq, uint32_t ack, unsigned bits, size_t length)
 {
     uint8_t bytes[SEGMENT_HEADER + 10] = {0, 1, 0, 2};
-    write16(bytes + AT_SEQ, (uint16_t)(seq >> 16));
-    write16(bytes + AT_SEQ + 2, (uint16_t)seq);
-    write16(bytes + AT_ACK, (uint16_t)(ack >> 16));
-    write16(bytes + AT_ACK + 2, (uint16_t)ack);
+    write32(bytes + AT_SEQ, seq);
+    write32(bytes + AT_ACK, ack);
     bytes[AT_OFFSET] = 0x50;
     bytes[AT_BITS] = (uint8_t)bits;
     write16(bytes + AT_WINDOW, 50000);
-    uint32_t total = 0x0a00 + 1 + 0x0a00 + 2 + 6 + SEGMENT_HEADER + (uint32_t)length;
-    for (size_t at = 0; at < SEGMENT_HEADER + length; at += 2)
-        total += read16(bytes + at);
-    total = total % 65536 + total / 65536;
-    write16(bytes + AT_CHECKSUM, (uint16_t)~(total % 65536 + total / 65536));
+    write_checksum(bytes, SEGMENT_HEADER + length, 1 + 2);
     return flow_arrive(&b.flow, &b.end, a.addr, b.addr, bytes, SEGMENT_HEADER + length, now);
 }
 

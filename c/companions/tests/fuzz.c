@@ -6,7 +6,7 @@
  * made up each user reads what the other sent. Built with sanitizers by ../test.sh.
  */
 #include "../demux.h"
-#include "../segment.h"
+#include "made.h"
 #include "tests/check.h"
 
 #include <string.h>
@@ -136,24 +136,6 @@ static void turn(int at)
     }
 }
 
-static void sum(uint8_t *bytes, size_t length, tcpcore_addr src, tcpcore_addr dst)
-{
-    uint32_t total = 6 + (uint32_t)length;
-    write16(bytes + AT_CHECKSUM, 0);
-    for (int at = 0; at < 4; at += 2)
-        total += (uint32_t)read16(src.byte + at) + read16(dst.byte + at);
-    for (size_t at = 0; at < length; at += 2)
-        total += at + 1 < length ? read16(bytes + at) : (uint32_t)bytes[at] << 8;
-    total = total % 65536 + total / 65536;
-    write16(bytes + AT_CHECKSUM, (uint16_t)~(total % 65536 + total / 65536));
-}
-
-static void write32(uint8_t *at, uint32_t value)
-{
-    write16(at, (uint16_t)(value >> 16));
-    write16(at + 2, (uint16_t)value);
-}
-
 /* A number at one of the places that count, or a little beside. */
 static uint32_t near(uint32_t first, uint32_t second)
 {
@@ -204,7 +186,7 @@ static void arrive(int to)
     if (is_forged && draw(8) == 0)
         bytes[draw((uint32_t)length)] ^= (uint8_t)draw(256);
     if (is_forged)
-        sum(bytes, length, addr_of(1 - to), addr_of(to));
+        write_checksum(bytes, length, 1 + 2);
     flow_arrive(&side->flow, &side->end, addr_of(1 - to), addr_of(to), bytes, length, now);
     if (side->flow.is_urgent && draw(2))
         emit(to);
@@ -319,10 +301,10 @@ static uint64_t server(void)
     CHECK(demux_init(&demux, &config, slots, SLOTS), 1);
     for (uint64_t step = 0; step < steps; step++) {
         uint8_t bytes[TCPCORE_EMIT_ROOM];
-        tcpcore_addr peer = addr_of(1 + (int)draw(3));
+        int peer = 1 + (int)draw(3);
         size_t length = forge(bytes, (uint16_t)(100 + draw(3)), draw(10) ? 7 : 8, near(last_ack, 1000), near(last_seq + 1, 1000));
-        sum(bytes, length, peer, addr_of(0));
-        demux_arrive(&demux, peer, bytes, draw(20) ? length : draw(30), now);
+        write_checksum(bytes, length, 1 + 1 + (uint32_t)peer);
+        demux_arrive(&demux, addr_of(peer), bytes, draw(20) ? length : draw(30), now);
         if (draw(2))
             demux_turn(&demux, now);
         if (draw(4) == 0)
