@@ -198,16 +198,16 @@ if [[ -z $short ]]; then
     cat >MACHINES.md <<TABLE
 # The portable file by machine
 
-Written by \`c/portable/test.sh\`: bytes of code and constants (gcc, -Os), the deepest call's stack in bytes, painted and looked
-at (\`c/tcpcore/tests/stack.c\`), and what was run: *all* are the tests of \`c/tcpcore\`, and random calls ($calls of them) with every
-answer, told value and emitted byte as the native library's.
+Written by \`c/portable/test.sh\`: bytes of code and constants (gcc, -Os), the deepest call's stack in bytes, painted and
+looked at (\`c/tcpcore/tests/stack.c\`), and what was run: *all* are the tests of \`c/tcpcore\`, and random calls ($calls
+of them) with every answer, told value and emitted byte as the native library's.
 
 | Machine | checked | unchecked | stack | run |
 |---|---|---|---|---|
 $(for name in x86-64 i686 armhf riscv64 s390x cortex-m0 cortex-m3 cortex-m4; do cat "out/rows/$name" 2>/dev/null || true; done)
 
-An end takes the memory that it takes with the native library (\`TCPCORE_MEMORY\`) and the 24 bytes of its struct; nothing is
-static.
+An end takes the memory that it takes with the native library (\`TCPCORE_MEMORY\`) and the 24 bytes of its struct; nothing
+is static.
 
 Instructions on x86-64 for a segment of 1,460 bytes with its answer, both ends together, at -O2:
 $(cat out/speed.txt 2>/dev/null || echo "not measured").
