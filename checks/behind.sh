@@ -1,8 +1,9 @@
 #!/usr/bin/env bash
 # What the gate doesn't look at: the program's exit statuses and its lines on standard error, what it does where memory is refused,
-# whether the documents show what stands in the repository, scripts and C as linters read them, the programs against second ones,
-# the C library under its tests, against lwIP and against this machine's kernel, the portable file on two other machines, what stands on
-# it for Rust, C++, Go and Python, real clients over usernet, captures, and the replay as a WebAssembly module.
+# whether the documents show what is in the repository and their commands can be pasted, scripts and C as linters read them, the
+# programs against second ones, the C library under its tests, against lwIP and against this machine's kernel, the portable file on
+# two other machines, what stands on it for Rust, C++, Go and Python, real clients over usernet, captures, and the replay as a
+# WebAssembly module.
 # checks/behind.sh FOLDER writes how many of these passed into FOLDER/behind. The libraries and the module are built over what the
 # gate has proved, and after it: two builds at once wait for one another.
 set -euo pipefail
@@ -28,6 +29,7 @@ library() {
 behind checks/program/statuses.sh
 behind checks/program/memory.sh
 behind python3 checks/docs/readme.py
+behind python3 checks/docs/paste.py
 behind checks/lint.sh
 behind checks/lib_test.sh
 behind checks/differential/test.sh

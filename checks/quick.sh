@@ -53,6 +53,7 @@ wait
 if (($# == 0)); then
     quick statuses checks/program/statuses.sh
     quick documents python3 checks/docs/readme.py
+    quick commands python3 checks/docs/paste.py --look
     quick lint checks/lint.sh
     quick lib checks/lib_test.sh
     quick captures apps/capture/test.sh

@@ -79,13 +79,20 @@ static int is_duplicate(const struct flow *flow, const uint8_t *segment, size_t 
            read32(segment + AT_ACK) == flow->timers.isn + (uint32_t)after->una;
 }
 
-/* Silence is probed after two round trips, and where the peer may delay its acknowledgement of one segment after 200 ms more (RFC
-   8985, 7.2), once for all that comes without progress. */
+/* The milliseconds after which silence is probed (RFC 8985, 7.2): two round trips, or more where these vary, and where the peer may
+   wait for a second full segment 200 ms more. */
+static uint64_t patience(const struct flow *flow)
+{
+    uint64_t trip = flow->timers.srtt, spread = 4 * (uint64_t)flow->timers.rttvar;
+    uint64_t delayed = flight_of(flow) < 2 * flow->congestion.mss ? DELAYED : 0;
+    return (trip + (trip > spread ? trip : spread)) / 1000 + 1 + delayed;
+}
+
+/* Silence is probed once for all that comes without progress. */
 static void await(struct flow *flow, uint64_t now)
 {
-    uint64_t flight = flight_of(flow), delayed = flight <= flow->congestion.mss ? DELAYED : 0;
-    int is_due = !flow->is_probed && !flow->is_shut && !flow->has_blocks && flow->timers.samples > 0 && flight > 0;
-    flow->probe_at = is_due ? now + 2 * trip_of(flow) / 1000 + 1 + delayed : TIMERS_NEVER;
+    int is_due = !flow->is_probed && !flow->is_shut && !flow->has_blocks && flow->timers.samples > 0 && flight_of(flow) > 0;
+    flow->probe_at = is_due ? now + patience(flow) : TIMERS_NEVER;
 }
 
 /* The first segment goes out again at once, and what follows it as more is acknowledged (RFC 5681, 3.2; RFC 6582, 3.2). */

@@ -1,7 +1,8 @@
 /*
  * flow.h: one end with its times and its flow: congestion control, what goes out again paced, a loss found by duplicate
- * acknowledgements where the peer tells no blocks (RFC 5681, 3.2; RFC 6582), acknowledgements delayed (RFC 9293, 3.8.6.3; RFC
- * 5681, 4.2) and limited (RFC 5961, 7), and no silly windows (RFC 9293, 3.8.6.2): none is told, and none is filled.
+ * acknowledgements, and by silence, where the peer tells no blocks (RFC 5681, 3.2; RFC 6582; RFC 8985, 7), acknowledgements
+ * delayed (RFC 9293, 3.8.6.3; RFC 5681, 4.2) and limited (RFC 5961, 7), and no silly windows (RFC 9293, 3.8.6.2): none is
+ * told, and none is filled.
  *
  * This is C over tcpcore.h, timers.h, congestion.h and answers.h, tested and not proved. tcpcore_take, tcpcore_send,
  * tcpcore_receive and tcpcore_emit are called through it, and so is timers_run; all other calls are made as they are.
@@ -96,9 +97,9 @@ uint32_t flow_arrive(struct flow *flow, tcpcore_end *end, tcpcore_addr src, tcpc
 
 /*
  * Of a text of `length` bytes those that flow_send takes now (RFC 9293, 3.8.6.2.1): all that has room in both windows, or full
- * segments. Where nothing is in flight also what has room in half of the greatest window, a byte where the window is shut, which
- * probes it, and once FLOW_OVERRIDE has passed what there is. With FLOW_NAGLE nothing but full segments while anything is in
- * flight.
+ * segments. Where nothing is in flight also what fills a room of half of the greatest window or more, a byte where the window is
+ * shut, which probes it, and once FLOW_OVERRIDE has passed what has room. With FLOW_NAGLE nothing but full segments while anything
+ * is in flight.
  */
 size_t flow_room(const struct flow *flow, size_t length);
 

@@ -1,6 +1,8 @@
 """Checks that README.md, CONTRIBUTING.md, docs/ and the pages of folders show what stands in the repository:
 
 - a block after a comment that names a file, as `<!-- crates/example_lossy_wire/src/wire.rt -->`, is consecutive lines of that file;
+- a table after a comment `<!-- SCRIPT beside REPORT -->` has in each row an event of the script and the line of the report for it;
+- no line has a phrase of words.txt beside this file;
 - a path in backquotes that begins with a folder of the repository is there, and so is each `docs/NAME.md`;
 - no line but of a table or of what a program prints is longer than 120 characters;
 - README.md names the kit by the line that `rt version` prints;
@@ -19,12 +21,44 @@ COMMENT = re.compile(r"^<!-- (\S+) -->$", re.MULTILINE)
 BLOCK = re.compile(r"^<!-- (\S+) -->\n\n((?:(?:    .*)?\n)+)", re.MULTILINE)
 FOLDERS = ("crates", "c", "apps", "checks", "bench", "docs")
 PATH = re.compile(r"`?\b((?:" + "|".join(FOLDERS) + r")/[\w./-]*[\w/])")
+BESIDE = re.compile(r"^<!-- (\S+) beside (\S+) -->\n\n((?:\|.*\n)+)", re.MULTILINE)
+CELLS = re.compile(r"^\| `([^`]*)` \| `((\d+) [^`]*)` \|")
 BUILT = re.compile(r"(^|/)out(/|$)")
 LONGEST = 120
 
 
 def pages():
-    return [TOP / "README.md", TOP / "CONTRIBUTING.md", TOP / "CHANGELOG.md", *sorted((TOP / "docs").glob("*.md")), *sorted(page for folder in FOLDERS[1:4] for page in (TOP / folder).rglob("*.md") if not BUILT.search(str(page.relative_to(TOP))))]
+    of_folders = sorted(page for folder in FOLDERS[1:4] for page in (TOP / folder).rglob("*.md") if not BUILT.search(str(page.relative_to(TOP))))
+    return [TOP / "README.md", TOP / "CONTRIBUTING.md", TOP / "CHANGELOG.md", *sorted((TOP / "docs").glob("*.md")), *of_folders]
+
+
+def phrases():
+    """What words.txt has: a phrase a line, and after ` : ` what is written instead. A line that begins with # is none."""
+    lines = (pathlib.Path(__file__).with_name("words.txt")).read_text().split("\n")
+    return [line.split(" : ", 1) for line in lines if line and not line.startswith("#")]
+
+
+def words_met(name, text):
+    """The lines in which a phrase of words.txt is met, also across the end of a line. What a program prints is left out."""
+    whole = " ".join("" if line.startswith("    ") else line for line in text.split("\n")).lower()
+    text, found = re.sub(r"^    .*", "", text, flags=re.MULTILINE), []
+    for phrase, instead in phrases():
+        for place in re.finditer(r"\b" + re.escape(phrase).replace(r"\ ", r" +") + r"\b", whole):
+            number = text.count("\n", 0, place.start()) + 1
+            found.append(f"{name}:{number}: '{phrase}': {instead}")
+    return found
+
+
+def rows_wrong(name, script, report, table):
+    """The rows of a table that aren't an event of the script and its line of the report."""
+    events = [line for line in (TOP / script).read_text().split("\n") if line and not line.startswith(("#", "config", "tcpkit"))]
+    outcomes, rows = (TOP / report).read_text().split("\n"), table.rstrip("\n").split("\n")[2:]
+    cells = [CELLS.match(row) for row in rows]
+    return [
+        f"{name}: '{row}' isn't an event of {script} and its line of {report}"
+        for row, cell in zip(rows, cells)
+        if not cell or cell[2] not in outcomes or int(cell[3]) > len(events) or events[int(cell[3]) - 1] != cell[1]
+    ]
 
 
 def main():
@@ -38,7 +72,11 @@ def main():
             there = TOP / file
             if not any(lines) or not there.is_file() or "\n" + "\n".join(lines) + "\n" not in "\n" + there.read_text():
                 wrong.append(f"{name}: what it shows of {file} isn't there")
-        if len(COMMENT.findall(text)) != len(found):
+        for script, report, table in BESIDE.findall(text):
+            blocks += 1
+            wrong += rows_wrong(name, script, report, table)
+        wrong += words_met(name, text)
+        if len(COMMENT.findall(text)) != len(found) or len(re.findall(r"^<!-- \S+ beside", text, re.MULTILINE)) != len(BESIDE.findall(text)):
             wrong.append(f"{name}: a comment that names a file has no block")
         for path in set(PATH.findall(text)):
             if BUILT.search(path) or "NAME" in path or path.endswith("_"):
@@ -46,7 +84,11 @@ def main():
             paths += 1
             if not (TOP / path).exists():
                 wrong.append(f"{name}: {path} isn't there")
-        wrong += [f"{name}:{number}: {len(line)} characters" for number, line in enumerate(text.split("\n"), 1) if len(line) > LONGEST and not line.startswith(("|", "    "))]
+        wrong += [
+            f"{name}:{number}: {len(line)} characters"
+            for number, line in enumerate(text.split("\n"), 1)
+            if len(line) > LONGEST and not line.startswith(("|", "    "))
+        ]
     newest = re.search(r"^## 0\.(\d+),", (TOP / "CHANGELOG.md").read_text(), re.MULTILINE)
     interface = re.search(r"#define TCPCORE_VERSION (\d+)", (TOP / "c/tcpcore/tcpcore.h").read_text())
     if not newest or not interface or newest[1] != interface[1]:
@@ -60,4 +102,5 @@ def main():
     sys.exit(bool(wrong) or not blocks)
 
 
-main()
+if __name__ == "__main__":
+    main()

@@ -36,7 +36,8 @@ size_t user_wants(int side, size_t there)
 size_t user_text(int side, uint8_t *text, size_t room)
 {
     const struct user *user = &trial.users[side];
-    uint64_t left = user->has_closed || user->has_aborted ? 0 : user->size - user->sent;
+    uint64_t there = user->piece > 0 && user->came < user->size ? user->came : user->size;
+    uint64_t left = user->has_closed || user->has_aborted ? 0 : there - user->sent;
     size_t length = left < room ? (size_t)left : room;
     for (size_t at = 0; at < length; at++)
         text[at] = byte_at(side, user->sent + at);
@@ -69,7 +70,7 @@ static uint64_t smaller(uint64_t a, uint64_t b) { return a < b ? a : b; }
 static uint64_t next_time(void)
 {
     uint64_t at = smaller(smaller(wire_next(), own_next(OWN)), peer_next());
-    int is_slow = trial.users[OWN].speed > 0 || trial.users[PEER].speed > 0;
+    int is_slow = trial.users[OWN].speed > 0 || trial.users[PEER].speed > 0 || trial.users[OWN].piece > 0 || trial.users[PEER].piece > 0;
     at = is_slow ? smaller(at, now + 1) : at;
     for (int side = OWN; side <= PEER; side++)
         if (now - began < trial.users[side].pause)
@@ -79,8 +80,10 @@ static uint64_t next_time(void)
 
 static void step(void)
 {
-    for (int side = OWN; side <= PEER; side++)
+    for (int side = OWN; side <= PEER; side++) {
         trial.users[side].left = trial.users[side].speed;
+        trial.users[side].came += trial.users[side].piece;
+    }
     for (int round = 0; round < 100 && (wire_carry() > 0 || round == 0); round++) {
         own_turn(OWN);
         peer_turn();
@@ -100,7 +103,7 @@ static const char *fault_of(void)
         if (user->saw_end && user->read < trial.users[1 - side].size && !aborts)
             return "an end of stream before its end";
     }
-    if (trial.segments > 0 && in_pause > trial.segments)
+    if ((trial.segments > 0 && in_pause > trial.segments) || (trial.most > 0 && wire_count(OWN) > trial.most))
         return "too many segments";
     if (trial.vanishes_at > 0)
         return own_fault(OWN) ? 0 : "not given up";
@@ -223,6 +226,8 @@ static void faults(int seeds)
                         trial.mss = MSS[mss];
                         trial.sack = seed % 2;
                         trial.opens = (seed + way + mss) % 2;
+                        trial.cubic = (seed + kind) % 2;
+                        trial.nagle = (seed + kind + mss) % 2;
                         trial.seed = (uint32_t)(seed * 1000 + rate * 100 + kind * 10 + way);
                         trial.lost = kind == 0 || kind == 4 ? RATES[rate] : 0;
                         trial.doubled = kind == 1 || kind == 4 ? RATES[rate] : 0;
@@ -233,6 +238,38 @@ static void faults(int seeds)
                         trial.limit = 4000000;
                         run();
                     }
+}
+
+/* Long paths and small segments, where a millisecond is worth less than a segment, or less than a byte of one. */
+static void paths(void)
+{
+    static const uint32_t DELAYS[] = {50, 150, 900}, MSS[] = {64, 536, 1460};
+    for (int delay = 0; delay < 3; delay++)
+        for (int mss = 0; mss < 3; mss++)
+            for (int variant = 0; variant < 8; variant++) {
+                set("long paths", variant & 1 ? 30000 : 100, variant & 1 ? 100 : 30000);
+                trial.delay = DELAYS[delay];
+                trial.mss = MSS[mss];
+                trial.opens = variant >> 1 & 1;
+                trial.lost = variant & 4 ? 20 : 0;
+                trial.drops[trial.opens] = variant & 4 ? 1 : 0;
+                trial.limit = 400000;
+                run();
+            }
+}
+
+/* Windows that are scaled, where the peer scales, too. */
+static void scaled(void)
+{
+    for (int variant = 0; variant < 8; variant++) {
+        set("scaled windows", 400000, 400000);
+        trial.sends = trial.keeps = 1 << 20;
+        trial.shift = 5;
+        trial.opens = variant & 1;
+        trial.sack = variant >> 1 & 1;
+        trial.lost = variant & 4 ? 10 : 0;
+        run();
+    }
 }
 
 /* The numbers of each side pass 0 at each of some places. */
@@ -271,6 +308,21 @@ static void slow(void)
                 trial.limit = 2000000;
                 run();
             }
+}
+
+/* Users that have a little more to send in each millisecond, with Nagle's rule and without, to a peer that delays its
+   acknowledgements: with it no more than a third of the segments go out. */
+static void pieces(void)
+{
+    for (int variant = 0; variant < 8; variant++) {
+        set("pieces", 20000, variant & 4 ? 20000 : 0);
+        trial.users[OWN].piece = 40;
+        trial.users[PEER].piece = variant & 4 ? 40 : 0;
+        trial.nagle = variant & 1;
+        trial.opens = variant >> 1 & 1;
+        trial.most = variant & 1 ? 170 : 0;
+        run();
+    }
 }
 
 /* Users that read nothing for a while: both windows are shut, both ends probe, and each finds the other's acknowledgements
@@ -344,8 +396,11 @@ int main(int words, char **word)
     drops();
     openings();
     faults(is_long ? 8 : 2);
+    paths();
+    scaled();
     wraps();
     slow();
+    pieces();
     shut();
     aborts();
     vanishes();

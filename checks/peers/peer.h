@@ -19,10 +19,10 @@ struct user {
     uint64_t size;    /* it sends so many bytes */
     uint32_t speed;   /* and reads so many in a millisecond; 0: all that is there */
     uint64_t pause;   /* but nothing for so many milliseconds at first */
-    uint32_t piece;   /* and hands over so many at once; 0: as many as are taken */
+    uint32_t piece;   /* and has so many more to send in each millisecond; 0: all at once */
     int closes;
     uint64_t aborts_at;
-    uint64_t sent, read;
+    uint64_t sent, read, came; /* bytes it sent, and read, and had to send by then */
     uint32_t left;    /* of what it reads in this millisecond */
     int has_closed, saw_end, saw_fault, is_wrong, has_aborted;
 };
@@ -43,6 +43,7 @@ struct trial {
     uint64_t vanishes_at; /* nothing arrives from then on, or 0 */
     uint64_t limit;       /* in milliseconds */
     uint64_t segments;    /* no more than these while a user pauses, or 0 */
+    uint64_t most;        /* no more than these of our end in all, or 0 */
     uint32_t r2;          /* how long our end is patient, in milliseconds; 0: the standard's least */
 };
 

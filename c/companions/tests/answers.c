@@ -48,12 +48,11 @@ static void both_shut(int is_limited)
         unlimited();
     CHECK(give(&a, MSS), 1);
     CHECK(give(&b, MSS), 1);
-    int count = war(60000);
     /* Probes after 1, 3, 7, 15, 31 s: each of the two is answered, and for each answer there is one. */
     if (is_limited)
-        CHECK(count <= 60, 1);
+        CHECK(war(60000), 25);
     else
-        CHECK(count > 50000, 1);
+        CHECK(war(6000) / 1000, 10);
     free_both();
 }
 
@@ -84,6 +83,13 @@ static void both_full_behind_a_hole(int is_limited)
     a.flow.probe_at = b.flow.probe_at = TIMERS_NEVER;
     int count = war(900);
     CHECK(is_limited ? count <= 6 : count > 1000, 1);
+    CHECK(a.flow.resent + b.flow.resent, 0);
+    /* Then the timeout sends again what was lost, and that is all. */
+    count = war(20000);
+    CHECK(is_limited ? count <= 10 : count > 100, 1);
+    CHECK(a.flow.resent + b.flow.resent, 2);
+    CHECK(a.flow.congestion.released, KEEPS);
+    CHECK(b.flow.congestion.released, KEEPS);
     free_both();
 }
 

@@ -6,10 +6,10 @@ ghost use Rattle.std.specs.Prelude.{◌≡◌, ◌++◌, codes, IfOk, string_byt
 ghost use Rattle.tcp_wire.specs.View.{content};
 ghost use Rattle.kit_text.specs.Segments.{fields_text};
 
+use kit_text::{push_fields, read_bytes};
 use std::alloc::{AllocError, Global};
 use std::io;
 use std::process::ExitCode;
-use kit_text::{push_fields, read_bytes};
 use tcp_wire::{Addr, Segment, decode};
 
 const CLIENT: Addr = Addr([10, 0, 0, 1]);

@@ -15,7 +15,7 @@ use Rattle.tcp_replay.proofs.SoloRuns.{one_end_is_true_lem}
 use Rattle.tcp_judge.specs.Known.{Known, nothing_known}
 use Rattle.tcp_judge.specs.Log.{PassageContent, Came, Went, went_from, log_of, log_alone}
 use Rattle.tcp_judge.specs.Judgement.{finding_read, known_read, known_came, first_finding, placed_or, IsClean}
-use Rattle.tcp_judge.specs.Rules.{form_finding, ack_finding, finding_of}
+use Rattle.tcp_judge.specs.Rules.{form_finding, heard_finding, finding_of}
 use Rattle.tcp_judge.specs.Law.{heard_read, heard_went, IsSaidRight, AllSaidRight}
 use Rattle.tcp_judge.proofs.Runs.{said-right}
 use Rattle.tcp_judge.proofs.Streams.{IsKnown, keeps-positions, known-kept}
@@ -40,7 +40,7 @@ content-is e = cc
 
 module _ (isn : ℕ) (accepted : List ℕ) (closed : Bool) (small : isn < 2 ^ 32) (short : 2 + length accepted < 2 ^ 31) where
   -- ONE SEGMENT
-  keeps-rules : (k : Known) (v : Content) → IsKnown isn accepted k → form_finding v ≡ None → ack_finding k.heard v ≡ None
+  keeps-rules : (k : Known) (v : Content) → IsKnown isn accepted k → form_finding v ≡ None → heard_finding k.heard v ≡ None
       → (has rst v.flags ≡ false → IsOfUser isn accepted closed v)
       → finding_of k v ≡ None
   keeps-rules k v h form right user = rw (form, keeps-positions isn accepted closed small short k v h user) right
@@ -55,7 +55,7 @@ module _ (isn : ℕ) (accepted : List ℕ) (closed : Bool) (small : isn < 2 ^ 32
       let v = users.0 in
       let same : formed.0 ≡ v = content-is (sym formed.1 ∙ users.1) in
       let form : form_finding v ≡ None = ap form_finding (sym same) ∙ formed.2 in
-      let right : ack_finding k.heard v ≡ None = ap (ack_finding k.heard) (sym same) ∙ formed.3 in
+      let right : heard_finding k.heard v ≡ None = ap (heard_finding k.heard) (sym same) ∙ formed.3 in
       subst (IsPast k) (sym users.1)
       (record { finding = keeps-rules k v h form right users.2; known = known-kept isn accepted closed small short k v h users.2 })
 

@@ -2,7 +2,9 @@ pub mod Places
 pub mod Numbers
 pub mod Events
 pub mod Finishes
+pub mod Links
 pub mod Streams
 pub mod Forms
 pub mod Runs
+pub mod Limits
 pub mod Correct

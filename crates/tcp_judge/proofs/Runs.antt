@@ -52,6 +52,17 @@ use Rattle.tcp_judge.specs.Rules.{ack_finding}
 use Rattle.tcp_judge.specs.Law.{heard_read, heard_went, AllSaidRight}
 use Rattle.tcp_judge.proofs.Numbers.{come-more, come-last, HasSyn, syn-more, syn-last, begins-at, positions-came}
 use Rattle.tcp_judge.proofs.Streams.{none-found, unless}
+use Rattle.std.specs.Prelude.{◌&&◌, ◌||◌}
+use Rattle.std.proofs.Common.{inl}
+use Rattle.tcp_judge.proofs.Links.{Links, links-calls, links-judgement, Offered, offered-link}
+use Rattle.tcp_judge.specs.Heard.{any_scale, any_permission, answers_more, oversteps}
+use Rattle.tcp_halves.specs.declared.link.Link.{Link}
+use Rattle.tcp_halves.specs.Options.{link_of}
+use Rattle.tcp_conn.specs.Forms.{shift_offered, is_sack_offered, scale_options, permission_options, syn_segment, plain_segment, pushes}
+use Rattle.tcp_conn.specs.Due.{is_fin}
+use Rattle.tcp_replay.proofs.Emissions.{syn-bits, plain-bits}
+use Rattle.std.proofs.lemmas.Bool.{or_right}
+use Rattle.tcp_wire.specs.Flags.{syn}
 use Rattle.tcp_judge.proofs.Finishes.{Finishes, nothing-new, finishes-calls, finishes-judgement}
 use Rattle.tcp_judge.proofs.Events.{read-arrival, solo-step, alone-step, feeds-arrived, fed-next, irs-same}
 use Rattle.tcp_judge.proofs.Forms.{due-form}
@@ -66,11 +77,14 @@ not-true-is false e = refl
 short-text : (v : Content) → IsValid v → length v.text < 2 ^ 32
 short-text v valid = omega (arith, valid.most)
 
+neither : (a b : Bool) → a ≡ false → b ≡ false → a || b ≡ false
+neither a b e f = ap (λ x. x || b) e ∙ f
+
 -- WHAT A JUDGE HEARD: a byte came where its number did
-abbrev CameBy : List (Seq × ℕ) → ℕ → ℕ → Type 0
+abbrev pub CameBy : List (Seq × ℕ) → ℕ → ℕ → Type 0
 CameBy spans n byte = has_come spans n ≡ true
 
-abbrev heard_past : Heard → SoloContent → Heard
+abbrev pub heard_past : Heard → SoloContent → Heard
 heard_past h (Arrive src dst bytes) = heard_read h (decode_answer src dst bytes)
 heard_past h other = h
 
@@ -167,6 +181,48 @@ finishes-by x e h fits alone =
     (subst (λ (s : State). P (Arrive src dst bytes) s) (sym (read-arrival x.endpoint src dst bytes (decode_answer src dst bytes) refl))
     (finishes-reading h x.endpoint x.accepted x.closed src dst bytes (decode_answer src dst bytes) (subst HasRanges is fits) refl alone)))
 
+-- offers
+offered-more : (scaling sack more more' : Bool) (link : Link) → Offered scaling sack link → Offered (scaling || more) (sack || more') link
+offered-more scaling sack more more' link h = record {
+  scaling_is = λ e. ap (λ b. b || more) (h.scaling_is e);
+  sack_is = λ e. ap (λ b. b || more') (h.sack_is e);
+}
+
+read-offers : (h : Heard) (r : Result Content DecodeError) (link : Link) → Offered h.scaling h.sack link
+    → Offered (heard_read h r).scaling (heard_read h r).sack link
+read-offers h (Ok v) link is = offered-more h.scaling h.sack _ _ link is
+read-offers h (Err fault) link is = is
+
+offers-more : (h : Heard) (e : SoloContent) (link : Link) → Offered h.scaling h.sack link
+    → Offered (heard_past h e).scaling (heard_past h e).sack link
+offers-more h (Arrive src dst bytes) link is = read-offers h (decode_answer src dst bytes) link is
+offers-more h other link is = is
+
+offered-new : (h : Heard) (v : Content) (link : Link) → has syn v.flags ≡ true → Offered (any_scale v.options) (any_permission v.options) link
+    → Offered (after_came h v).scaling (after_came h v).sack link
+offered-new h v link is offered = record {
+  scaling_is = λ e. or_right h.scaling (has syn v.flags && any_scale v.options)
+      (ap (λ b. b && any_scale v.options) is ∙ offered.scaling_is e);
+  sack_is = λ e. or_right h.sack (has syn v.flags && any_permission v.options)
+      (ap (λ b. b && any_permission v.options) is ∙ offered.sack_is e);
+}
+
+links-reading : (h : Heard) (s : State) (src dst bytes : List ℕ) (r : Result Content DecodeError)
+    → Links (Offered (heard_read h r).scaling (heard_read h r).sack) s (after_reading s src dst r)
+links-reading h s src dst bytes (Ok v) =
+    links-judgement (Offered (after_came h v).scaling (after_came h v).sack) s src dst v
+    (λ is. offered-new h v (link_of s.config v.options) is (offered-link s.config v.options))
+links-reading h s src dst bytes (Err fault) = inl refl
+
+links-by : (x : SoloState) (e : SoloContent) (h : Heard) → HasRanges e → IsAloneIn (party_in x)
+    → Links (Offered (heard_past h e).scaling (heard_past h e).sack) x.endpoint (end_after x.endpoint e)
+links-by x e h fits alone =
+    let P = λ (e : SoloContent) (s : State). Links (Offered (heard_past h e).scaling (heard_past h e).sack) x.endpoint s in
+    solo-step x (λ p. P e p.endpoint) alone (λ peer _. links-calls _ peer (party_in x)) e fits
+    (λ src dst bytes is. subst (λ e. P e (after_arrival x.endpoint src dst bytes)) (sym is)
+    (subst (λ (s : State). P (Arrive src dst bytes) s) (sym (read-arrival x.endpoint src dst bytes (decode_answer src dst bytes) refl))
+    (links-reading h x.endpoint src dst bytes (decode_answer src dst bytes))))
+
 -- WHAT WAS TOLD is the number of a position up to the next one that is wanted
 pub record IsTold (r : Receiving) (irs k a : ℕ) : Type 0 where
   pub opened : r.opened ≡ true
@@ -181,9 +237,16 @@ pub record Hears (h : Heard) (x : SoloState) (irs k : ℕ) : Type 0 where
   pub syn : x.endpoint.receiving.opened ≡ true → HasSyn h.syns irs
   pub fin : x.endpoint.receiving.finished ≡ true → has_come h.spans (number irs (1 + k)) ≡ true
   pub told : IfSome h.told (λ a. IsTold x.endpoint.receiving irs k a.0)
+  pub offered : Offered h.scaling h.sack x.endpoint.link
 
-hears-new : (c : Config) → Hears nothing_heard (solo_start c) 0 0
-hears-new c = record { fed = fed-new (CameBy []) c.recv_capacity 0; syn = λ never. absurd (cc); fin = λ never. absurd (cc); told = tt }
+pub hears-new : (c : Config) → Hears nothing_heard (solo_start c) 0 0
+hears-new c = record {
+  fed = fed-new (CameBy []) c.recv_capacity 0;
+  syn = λ never. absurd (cc);
+  fin = λ never. absurd (cc);
+  told = tt;
+  offered = record { scaling_is = λ e. e; sack_is = λ e. e };
+}
 
 one_if-more : (a b : Bool) → (a ≡ true → b ≡ true) → one_if a ≤ one_if b
 one_if-more true b h = let same : one_if b ≡ 1 = ap one_if (h refl) in omega (arith, same)
@@ -221,7 +284,7 @@ back-one f irs p small e = omega arith
 has-opened : (s : State) (accepted : List ℕ) (closed : Bool) → IsAlone s accepted closed → s.receiving.finished ≡ true → s.receiving.opened ≡ true
 has-opened s accepted closed a e = by_test s.receiving.opened (λ b. b ≡ true) (λ _. refl) (λ shut. absurd (false≢true (sym (a.unopened shut) ∙ e)))
 
-hears-step : (x : SoloState) (e : SoloContent) (h : Heard) (irs k : ℕ) → HasRanges e → IsAloneIn (party_in x) → Hears h x irs k
+pub hears-step : (x : SoloState) (e : SoloContent) (h : Heard) (irs k : ℕ) → HasRanges e → IsAloneIn (party_in x) → Hears h x irs k
     → Hears (heard_past h e) (after_solo x e) (next_irs x.endpoint irs e) (k + count_come x.endpoint e)
 hears-step x e h irs k fits alone hears =
     let s = x.endpoint in
@@ -254,10 +317,13 @@ hears-step x e h irs k fits alone hears =
       told = subst (λ (told : Option Seq). IfSome told (λ a. IsTold s'.receiving irs' k' a.0)) (sym (told-same h e))
           (told-kept h.told s.receiving s'.receiving irs irs' k k' (λ opened. (feeds.stays opened, irs-same s irs e opened)) (omega arith)
           (λ had. (finishes.stays had).0) hears.told);
+      offered = ⊎_elim
+          (λ (same : s'.link ≡ s.link). subst (Offered h'.scaling h'.sack) (sym same) (offers-more h e s.link hears.offered))
+          (λ (new : Offered h'.scaling h'.sack s'.link). new) (links-by x e h fits alone);
     }
 
 -- ITS ADDRESS stays
-address-step : (x : SoloState) (e : SoloContent) (h : Heard) (irs k : ℕ) → HasRanges e → IsAloneIn (party_in x) → Hears h x irs k
+pub address-step : (x : SoloState) (e : SoloContent) (h : Heard) (irs k : ℕ) → HasRanges e → IsAloneIn (party_in x) → Hears h x irs k
     → (end_after x.endpoint e).config ≡ x.endpoint.config
 address-step x e h irs k fits alone hears =
     (feeds-by x e irs k h fits alone
@@ -336,7 +402,7 @@ record Told (h : Heard) (x : SoloState) (irs k : ℕ) (v : Content) : Type 0 whe
 
 with-told : (h : Heard) (x : SoloState) (irs k : ℕ) (told : Option Seq) → Hears h x irs k → IfSome told (λ a. IsTold x.endpoint.receiving irs k a.0)
     → Hears (record h { told = told }) x irs k
-with-told h x irs k told hears is = record { fed = hears.fed; syn = hears.syn; fin = hears.fin; told = is }
+with-told h x irs k told hears is = record { fed = hears.fed; syn = hears.syn; fin = hears.fin; told = is; offered = hears.offered }
 
 tells-right : (h : Heard) (x : SoloState) (irs k : ℕ) (v : Content) → Hears h x irs k
     → (has rst v.flags ≡ false → has ack v.flags ≡ true → Tells x.endpoint v) → Told h x irs k v
@@ -359,6 +425,48 @@ tells-right h x irs k v hears tell =
           (λ _. hears.told));
     }
 
+-- A SYN that answers has what was offered
+syn-scale : (shift : Option ℕ) (offered : Bool) → (any_scale (scale_options shift ++ permission_options offered) ≡ is_some shift)
+    × (any_permission (scale_options shift ++ permission_options offered) ≡ offered)
+syn-scale None true = (refl, refl)
+syn-scale None false = (refl, refl)
+syn-scale (Some n) true = (refl, refl)
+syn-scale (Some n) false = (refl, refl)
+
+scale-in_use : (opened scaling : Bool) (shift : Option ℕ) → opened ≡ true → is_some (if opened && not scaling then None else shift) ≡ true → scaling ≡ true
+scale-in_use opened true shift e is = refl
+scale-in_use opened false shift e is =
+    absurd (false≢true (ap (λ (b : Bool). is_some (if b && true then None else shift)) (sym e) ∙ is))
+
+syn-answers : (s : State) (h : Heard) → Offered h.scaling h.sack s.link → oversteps h (syn_segment s) ≡ false
+syn-answers s h offered =
+    let bits = syn-bits s.receiving.opened in
+    let options = syn-scale (shift_offered s) (is_sack_offered s) in
+    unless (has syn (syn_segment s).flags && has ack (syn_segment s).flags) (answers_more h (syn_segment s).options)
+    (λ e.
+    let opened : s.receiving.opened ≡ true = syn-opened s (and_parts (has syn (syn_segment s).flags) (has ack (syn_segment s).flags) e).1 in
+    neither (any_scale (syn_segment s).options && not h.scaling) (any_permission (syn_segment s).options && not h.sack)
+    (unless (any_scale (syn_segment s).options) (not h.scaling)
+    (λ has_scale. ap not (offered.scaling_is (scale-in_use s.receiving.opened s.link.scaling s.config.window_shift opened (sym options.0 ∙ has_scale)))))
+    (unless (any_permission (syn_segment s).options) (not h.sack)
+    (λ permits. ap not (offered.sack_is (ap (λ (b : Bool). if b then s.link.sack else s.config.sack) (sym opened) ∙ (sym options.1 ∙ permits))))))
+
+plain-answers : (s : State) (h : Heard) (due : Due) → oversteps h (plain_segment s due) ≡ false
+plain-answers s h due =
+    let bits = plain-bits (pushes s.sending due) (is_fin due) in
+    ap (λ (b : Bool). (b && has ack (plain_segment s due).flags) && answers_more h (plain_segment s due).options) bits.0
+
+reset-answers : (told : Bool) (more : Bool)
+    → ((has syn (rst + (if told then ack else 0)) && has ack (rst + (if told then ack else 0))) && more) ≡ false
+reset-answers true more = refl
+reset-answers false more = refl
+
+due-answers : (s : State) (h : Heard) (due : Due) → Offered h.scaling h.sack s.link → oversteps h (segment_of s due) ≡ false
+unfolding segment_of
+due-answers s h (Reset reset) offered = reset-answers (is_some reset.ack) (answers_more h [])
+due-answers s h Syn offered = syn-answers s h offered
+due-answers s h other offered = plain-answers s h other
+
 -- WHAT GOES OUT, and all after it
 said-due : (src : List ℕ) (x : SoloState) (h : Heard) (irs k : ℕ) (log : List PassageContent) (due : Option Due) → x.endpoint.config.addr.0 ≡ src
     → IfSome due (GoesOutAlone x.endpoint x.accepted x.closed) → IsAloneIn (party_in x) → Hears h x irs k
@@ -374,7 +482,7 @@ said-due src x h irs k log (Some due) at out a hears further =
     let read : decode_answer src to bytes ≡ Ok v =
     subst (λ (src : List ℕ). decode_answer src to bytes ≡ Ok v) at (decoded_encoded s.config.addr.0 to v out.valid) in
     let told = tells-right h x irs k v hears (due-tells s x.accepted x.closed due out a) in (
-      (v, read, due-form s x.accepted x.closed due out a, told.right),
+      (v, read, due-form s x.accepted x.closed due out a, rw told.right (none-found (oversteps h v) _ (due-answers s h due hears.offered))),
       subst (λ (r : Result Content DecodeError). AllSaidRight (heard_went h r) log) (sym read) (further (after_went h v) told.after),
     )
 

@@ -2,6 +2,7 @@
 use Rattle.std.specs.Prelude.{ℕ, zero, suc, Bool, true, false, ◌&&◌, ◌||◌, not, nat_lt, if◌then◌else◌, List, [], ◌∷◌, ◌++◌, Option, Some, None}
 use Rattle.tcp_numbers.specs.declared.seq.Seq.{Seq}
 use Rattle.tcp_wire.specs.Flags.{syn, rst, ack, has}
+use Rattle.tcp_wire.specs.Options.{OptionContent, WindowScale, SackPermitted}
 use Rattle.tcp_wire.specs.Position.{number, distance}
 use Rattle.tcp_wire.specs.Wire.{Content}
 use Rattle.tcp_conn.specs.Judgement.{count_numbers}
@@ -13,9 +14,36 @@ pub record Heard : Type 0 where
   pub syns : List Seq
   -- the acknowledgement that went last
   pub told : Option Seq
+  -- whether a SYN that came offered a window scale, and one permitted selective acknowledgement
+  pub scaling : Bool
+  pub sack : Bool
 
 abbrev pub nothing_heard : Heard
-nothing_heard = record { spans = []; syns = []; told = None }
+nothing_heard = record { spans = []; syns = []; told = None; scaling = false; sack = false }
+
+-- OFFERS of a SYN
+abbrev pub is_scale : OptionContent → Bool
+is_scale (WindowScale shift) = true
+is_scale other = false
+
+abbrev pub any_scale : List OptionContent → Bool
+any_scale [] = false
+any_scale (option ∷ options) = is_scale option || any_scale options
+
+abbrev pub is_permission : OptionContent → Bool
+is_permission SackPermitted = true
+is_permission other = false
+
+abbrev pub any_permission : List OptionContent → Bool
+any_permission [] = false
+any_permission (option ∷ options) = is_permission option || any_permission options
+
+-- a SYN that acknowledges one has the window scale and SACK-permitted only where a SYN that came had them (RFC 7323, 2.2; RFC 2018, 2)
+abbrev pub answers_more : Heard → List OptionContent → Bool
+answers_more h options = (any_scale options && not h.scaling) || (any_permission options && not h.sack)
+
+abbrev pub oversteps : Heard → Content → Bool
+oversteps h v = (has syn v.flags && has ack v.flags) && answers_more h v.options
 
 -- A NUMBER CAME where it is one of those that a segment took
 abbrev pub covers : ℕ → Seq × ℕ → Bool
@@ -62,4 +90,10 @@ abbrev pub syns_of : Content → List Seq
 syns_of v = if has syn v.flags then record { 0 = v.seq } ∷ [] else []
 
 abbrev pub after_came : Heard → Content → Heard
-after_came h v = record { spans = h.spans ++ (record { 0 = v.seq }, count_numbers v) ∷ []; syns = h.syns ++ syns_of v; told = h.told }
+after_came h v = record {
+  spans = h.spans ++ (record { 0 = v.seq }, count_numbers v) ∷ [];
+  syns = h.syns ++ syns_of v;
+  told = h.told;
+  scaling = h.scaling || (has syn v.flags && any_scale v.options);
+  sack = h.sack || (has syn v.flags && any_permission v.options);
+}

@@ -1,16 +1,16 @@
 -- NO CORRECT END IS ACCUSED: over every list of events, whoever the peer is and whatever bytes arrive.
-use Rattle.std.specs.Prelude.{◌≡◌, ℕ, ◌+◌, ◌^◌, ◌<◌, List, [], ◌∷◌, length, None, Result, Ok, Err}
+use Rattle.std.specs.Prelude.{◌≡◌, ℕ, ◌+◌, ◌^◌, ◌<◌, ◌≤◌, List, [], ◌∷◌, length, None, Result, Ok, Err}
 use Rattle.std.specs.List.{AllByRecursion}
 use Rattle.tcp_wire.specs.Wire.{Content}
 use Rattle.tcp_wire.specs.Decoded.{decode_answer}
 use Rattle.tcp_wire.specs.declared.fault.DecodeError.{DecodeError}
 use Rattle.tcp_halves.specs.declared.config.Config.{Config}
-use Rattle.tcp_conn.specs.Config.{IsConfig}
+use Rattle.tcp_conn.specs.Config.{IsConfig, default_limit}
 use Rattle.tcp_replay.specs.Solo.{run_alone}
 use Rattle.tcp_replay.specs.SoloEvents.{SoloContent, HasRanges}
 use Rattle.tcp_judge.specs.Log.{PassageContent, Came, Went, log_alone}
 use Rattle.tcp_judge.specs.Heard.{Heard, nothing_heard, after_went, after_came}
-use Rattle.tcp_judge.specs.Rules.{form_finding, ack_finding}
+use Rattle.tcp_judge.specs.Rules.{form_finding, heard_finding}
 use Rattle.tcp_judge.specs.Judgement.{IsClean}
 
 -- what was heard after bytes that came, and after bytes that went
@@ -22,22 +22,27 @@ abbrev pub heard_went : Heard → Result Content DecodeError → Heard
 heard_went h (Ok v) = after_went h v
 heard_went h (Err fault) = h
 
--- a segment that went can be read, and breaks no rule of form or of acknowledgements
+-- a segment that went can be read, and breaks no rule of form, and none against what came
 abbrev pub IsSaidRight : Heard → List ℕ → List ℕ → List ℕ → Type 0
-IsSaidRight h src dst bytes = (v : Content) × (decode_answer src dst bytes ≡ Ok v) × (form_finding v ≡ None) × (ack_finding h v ≡ None)
+IsSaidRight h src dst bytes = (v : Content) × (decode_answer src dst bytes ≡ Ok v) × (form_finding v ≡ None) × (heard_finding h v ≡ None)
 
 abbrev pub AllSaidRight : Heard → List PassageContent → Type 0
 AllSaidRight h [] = Unit {0}
 AllSaidRight h (Came src dst bytes ∷ log) = AllSaidRight (heard_read h (decode_answer src dst bytes)) log
 AllSaidRight h (Went src dst bytes ∷ log) = IsSaidRight h src dst bytes × AllSaidRight (heard_went h (decode_answer src dst bytes)) log
 
--- OF FORM AND OF ACKNOWLEDGEMENTS, however long the two streams grow
+-- OF FORM AND AGAINST WHAT CAME, however long the two streams grow
 abbrev pub NoFormOrAcknowledgementIsAccused : Type 0
 NoFormOrAcknowledgementIsAccused =
     (c : Config) (list : List SoloContent) → IsConfig c → AllByRecursion HasRanges list → AllSaidRight nothing_heard (log_alone c list)
 
--- OF EACH RULE, where the positions of the stream and of its FIN lie below 2^31
-abbrev pub NoCorrectEndIsAccused : Type 0
-NoCorrectEndIsAccused =
+-- OF EACH RULE, where no two positions of the stream lie 2^31 apart: its user sent so much less,
+abbrev pub NoShortStreamIsAccused : Type 0
+NoShortStreamIsAccused =
     (c : Config) (list : List SoloContent) → IsConfig c → AllByRecursion HasRanges list → 2 + length (run_alone c list).accepted < 2 ^ 31
     → IsClean (log_alone c list)
+
+-- as with any limit up to the default one
+abbrev pub NoCorrectEndIsAccused : Type 0
+NoCorrectEndIsAccused =
+    (c : Config) (list : List SoloContent) → IsConfig c → c.limit ≤ default_limit → AllByRecursion HasRanges list → IsClean (log_alone c list)

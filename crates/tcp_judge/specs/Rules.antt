@@ -6,10 +6,10 @@ use Rattle.tcp_numbers.specs.declared.seq.Seq.{Seq}
 use Rattle.tcp_wire.specs.Flags.{fin, syn, rst, ack, has}
 use Rattle.tcp_wire.specs.Options.{OptionContent, Mss, WindowScale, SackPermitted}
 use Rattle.tcp_wire.specs.Wire.{Content}
-use Rattle.tcp_judge.specs.Heard.{Heard, tells_beyond}
+use Rattle.tcp_judge.specs.Heard.{Heard, tells_beyond, oversteps}
 use Rattle.tcp_judge.specs.Known.{Known, is_syn, place_of}
 use Rattle.tcp_judge.specs.declared.finding.Finding.{Finding}
-use Rattle.tcp_judge.specs.declared.finding.Finding.TheVariants.{SynOption, GreatShift, NoAck, OtherInitial, OtherByte, BeyondFin, AckBeyond}
+use Rattle.tcp_judge.specs.declared.finding.Finding.TheVariants.{SynOption, GreatShift, NoAck, OtherInitial, OtherByte, BeyondFin, AckBeyond, Unoffered}
 
 abbrev pub finding_if : Bool → Finding → Option Finding
 finding_if broken finding = if broken then Some finding else None
@@ -80,5 +80,13 @@ position_finding k place v =
 abbrev pub ack_finding : Heard → Content → Option Finding
 ack_finding h v = finding_if (tells_beyond h v) (AckBeyond (record { 0 = v.ack }))
 
+-- what a SYN answers with (RFC 7323, 2.2; RFC 2018, 2)
+abbrev pub answer_finding : Heard → Content → Option Finding
+answer_finding h v = finding_if (oversteps h v) Unoffered
+
+-- against what came
+abbrev pub heard_finding : Heard → Content → Option Finding
+heard_finding h v = option_or (ack_finding h v) (answer_finding h v)
+
 abbrev pub finding_of : Known → Content → Option Finding
-finding_of k v = option_or (form_finding v) (option_or (position_finding k (place_of k v) v) (ack_finding k.heard v))
+finding_of k v = option_or (form_finding v) (option_or (position_finding k (place_of k v) v) (heard_finding k.heard v))

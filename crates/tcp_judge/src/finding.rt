@@ -20,4 +20,6 @@ pub enum Finding {
     BeyondFin(u64, u64),
     /// This acknowledgement covers what didn't come, or falls (RFC 9293, 3.4 and 3.10.7.4).
     AckBeyond(Seq),
+    /// A SYN that acknowledges another has the window scale or SACK-permitted, and no SYN that came had it (RFC 7323, 2.2; RFC 2018, 2).
+    Unoffered,
 }

@@ -1,11 +1,12 @@
 //! The rule of acknowledgements: what came, as numbers.
-ghost use Rattle.std.specs.Prelude.{◌≡◌, ◌≤◌, length};
-ghost use Rattle.tcp_wire.specs.View.{content};
+ghost use Rattle.std.specs.Prelude.{◌≡◌, ◌≤◌, ◌&&◌, ◌||◌, not, length, map};
+ghost use Rattle.tcp_wire.specs.Flags.{syn, ack, has};
+ghost use Rattle.tcp_wire.specs.View.{content, option_content};
 ghost use Rattle.tcp_wire.specs.Wire.{max_text_len};
 ghost use Rattle.tcp_conn.specs.Judgement.{count_numbers};
-ghost use Rattle.tcp_judge.specs.Heard.{covers, has_come, all_came, goes_on, begins, is_of_came, tells};
+ghost use Rattle.tcp_judge.specs.Heard.{is_scale, any_scale, is_permission, any_permission, covers, has_come, all_came, goes_on, begins, is_of_came, tells};
 
-use tcp_wire::{Segment, Seq};
+use tcp_wire::{Segment, Seq, TcpOption};
 
 /// How many numbers SYN, text and FIN take.
 pub(crate) fn count_numbers(segment: &Segment<'_>) -> u32
@@ -27,6 +28,71 @@ pub(crate) fn tells(segment: &Segment<'_>) -> bool
     ensures { result ≡ tells (content segment.now) }
 {
     segment.header.flags.is_ack() && !segment.header.flags.is_rst()
+}
+
+fn is_scale(option: &TcpOption<'_>) -> bool
+    ensures { result ≡ is_scale (option_content option.now) }
+{
+    match option {
+        TcpOption::WindowScale(_) => true,
+        _ => false,
+    }
+}
+
+/// Whether a window scale is among the options.
+fn any_scale(options: &[TcpOption<'_>]) -> bool
+    ensures { result ≡ any_scale (map option_content options.now) }
+{
+    for option in options {
+        if is_scale(option) {
+            return true;
+        }
+    }
+    false
+}
+
+fn is_permission(option: &TcpOption<'_>) -> bool
+    ensures { result ≡ is_permission (option_content option.now) }
+{
+    match option {
+        TcpOption::SackPermitted => true,
+        _ => false,
+    }
+}
+
+/// Whether selective acknowledgement is permitted by one of the options.
+fn any_permission(options: &[TcpOption<'_>]) -> bool
+    ensures { result ≡ any_permission (map option_content options.now) }
+{
+    for option in options {
+        if is_permission(option) {
+            return true;
+        }
+    }
+    false
+}
+
+/// Whether it is a SYN with a window scale.
+pub(crate) fn offers_scale(segment: &Segment<'_>) -> bool
+    ensures { result ≡ (has syn (content segment.now).flags && any_scale (content segment.now).options) }
+{
+    segment.header.flags.is_syn() && any_scale(segment.options.as_slice())
+}
+
+/// Whether it is a SYN that permits selective acknowledgement.
+pub(crate) fn offers_sack(segment: &Segment<'_>) -> bool
+    ensures { result ≡ (has syn (content segment.now).flags && any_permission (content segment.now).options) }
+{
+    segment.header.flags.is_syn() && any_permission(segment.options.as_slice())
+}
+
+/// Whether a SYN that acknowledges another has more than was offered.
+pub(crate) fn oversteps(scaling: bool, sack: bool, segment: &Segment<'_>) -> bool
+    ensures { result ≡ ((has syn (content segment.now).flags && has ack (content segment.now).flags) && ((any_scale (content segment.now).options && not scaling) || (any_permission (content segment.now).options && not sack))) }
+{
+    let options = segment.options.as_slice();
+    let is_answer = segment.header.flags.is_syn() && segment.header.flags.is_ack();
+    is_answer && ((any_scale(options) && !scaling) || (any_permission(options) && !sack))
 }
 
 fn covers(number: Seq, span: (Seq, u32)) -> bool

@@ -11,7 +11,7 @@ ghost use Rattle.tcp_judge.specs.Log.{passage_content};
 
 use crate::finding::Finding;
 use crate::form::form_finding;
-use crate::heard::{count_numbers, is_of_came, tells};
+use crate::heard::{count_numbers, is_of_came, offers_sack, offers_scale, oversteps, tells};
 use crate::passage::Passage;
 use std::alloc::{AllocError, Global};
 use std::marker::Model;
@@ -32,6 +32,10 @@ pub struct Judge {
     syns: Vec<Seq>,
     /// The acknowledgement that went last.
     told: Option<Seq>,
+    /// Whether a SYN that came offered a window scale.
+    scaling: bool,
+    /// Whether a SYN that came permitted selective acknowledgement.
+    sack: bool,
 }
 
 impl Model for Judge {
@@ -39,7 +43,7 @@ impl Model for Judge {
 
     ghost Value = { Known };
 
-    ghost view = { λ j. record { initial = j.initial; sent = j.sent.items; fin = j.fin; heard = record { spans = j.spans.items; syns = j.syns.items; told = j.told } } };
+    ghost view = { λ j. record { initial = j.initial; sent = j.sent.items; fin = j.fin; heard = record { spans = j.spans.items; syns = j.syns.items; told = j.told; scaling = j.scaling; sack = j.sack } } };
 }
 
 /// Whether the two are the same as far as both go.
@@ -117,6 +121,8 @@ impl Judge {
             spans: Vec::new(alloc),
             syns: Vec::new(alloc),
             told: None,
+            scaling: false,
+            sack: false,
         }
     }
 
@@ -193,6 +199,9 @@ impl Judge {
         if self.tells_beyond(segment) {
             return Some(Finding::AckBeyond(segment.header.ack));
         }
+        if oversteps(self.scaling, self.sack, segment) {
+            return Some(Finding::Unoffered);
+        }
         None
     }
 
@@ -261,6 +270,8 @@ impl Judge {
         if segment.header.flags.is_syn() {
             self.syns.push_reserved(segment.header.seq);
         }
+        self.scaling = self.scaling || offers_scale(&segment);
+        self.sack = self.sack || offers_sack(&segment);
         Ok(())
     }
 

@@ -3,8 +3,8 @@
 //!
 //! - [`Judge`] takes what came and went in the order of the end, and answers a [`Finding`] for a segment that breaks a rule.
 //! - [`judge_log`] goes through a whole log of [`Passage`]s, and answers the first.
-//! - [`no_correct_end_is_accused`] and [`no_acknowledgement_is_accused`] are the theorems, over every list of events of an end of
-//!   `tcp_conn`.
+//! - [`no_correct_end_is_accused`], [`no_short_stream_is_accused`] and [`no_acknowledgement_is_accused`] are the theorems, over every
+//!   list of events of an end of `tcp_conn`.
 //!
 //! Left out: blocks and windows, and when anything happens.
 #![tactic(auto)]
@@ -18,7 +18,9 @@ mod judging;
 mod passage;
 
 pub use finding::Finding;
-pub use headline::{no_acknowledgement_is_accused, no_correct_end_is_accused};
+pub use headline::{
+    no_acknowledgement_is_accused, no_correct_end_is_accused, no_short_stream_is_accused,
+};
 pub use judge::Judge;
 pub use judging::judge_log;
 pub use passage::Passage;

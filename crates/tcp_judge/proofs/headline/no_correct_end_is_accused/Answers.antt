@@ -1,6 +1,7 @@
 use Rattle.tcp_judge.proofs.Correct.{clean}
+use Rattle.tcp_judge.proofs.Limits.{positions-short}
 use Rattle.tcp_judge.proofs.headline.no_correct_end_is_accused.Goals as goal
 
--- what it says is right, and is its user's
+-- a limit keeps the stream short
 pub returns : goal.returns
-returns c = clean
+returns c config list is short fits = clean config list is fits (positions-short config list is fits short)

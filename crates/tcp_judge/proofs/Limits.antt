@@ -1,0 +1,77 @@
+-- WHAT A USER SENT stays within the limit of its Config, after every list of events.
+use Rattle.std.proofs.Common.{◌≡◌, ℕ, ◌+◌, ◌-◌, ◌^◌, ◌<◌, ◌≤◌, List, [], ◌∷◌, ◌++◌, length, take, refl, sym, ◌∙◌}
+use Rattle.std.proofs.Common.{ap, subst, arith, length-append, length-take, length-drop}
+use Rattle.std.specs.Prelude.{Bool, false}
+use Rattle.std.specs.List.{AllByRecursion}
+use Rattle.tcp_halves.specs.declared.config.Config.{Config}
+use Rattle.tcp_halves.specs.declared.link.Peer.{Peer}
+use Rattle.tcp_conn.specs.Config.{IsConfig, default_limit}
+use Rattle.tcp_conn.specs.Phase.{gives_up}
+use Rattle.tcp_conn.specs.State.{Sending}
+use Rattle.tcp_conn.specs.Sender.{count_sendable}
+use Rattle.tcp_replay.specs.Alone.{Sends}
+use Rattle.tcp_replay.specs.Solo.{SoloState, solo_start, solo_run, run_alone, after_solo, end_after}
+use Rattle.tcp_replay.specs.SoloEvents.{SoloContent, HasRanges}
+use Rattle.tcp_replay.specs.World.{PartyState}
+use Rattle.tcp_replay.proofs.Alone.{alone-new}
+use Rattle.tcp_replay.proofs.AloneCalls.{IsAloneIn, send-open}
+use Rattle.tcp_replay.proofs.Calls.{KeptByCalls}
+use Rattle.tcp_replay.proofs.Phases.{gives_up-not_ended}
+use Rattle.tcp_replay.proofs.SoloRuns.{party_in}
+use Rattle.tcp_judge.specs.Heard.{Heard, nothing_heard}
+use Rattle.tcp_judge.proofs.Events.{solo-step, alone-step}
+use Rattle.tcp_judge.proofs.Runs.{heard_past, Hears, hears-new, hears-step, address-step}
+
+-- a `send` takes no more than the limit leaves
+sent-within : (d : Sending) (accepted text : List ℕ) (closed : Bool) (limit : ℕ) → Sends d accepted closed false → length accepted ≤ limit
+    → length (accepted ++ take (count_sendable d limit text) text) ≤ limit
+sent-within d accepted text closed limit h inside =
+    let n = count_sendable d limit text in
+    let queued : length d.queue.bytes ≡ length accepted - d.released = ap length (h.queue refl) ∙ length-drop d.released accepted in
+    omega (arith, length-append accepted (take n text), length-take n text, queued, h.released)
+
+limit-calls : (peer : Peer) (p : PartyState) → IsAloneIn p → length p.accepted ≤ p.endpoint.config.limit
+    → KeptByCalls peer p (λ p'. length p'.accepted ≤ p.endpoint.config.limit)
+limit-calls peer p a h =
+    let s = p.endpoint in
+    record {
+      same = h;
+      connects = λ _. h;
+      listens = λ _. h;
+      sends = λ text bytes e.
+          let none : gives_up s.ending ≡ false = gives_up-not_ended s.ending (send-open s text e).0 in
+          sent-within s.sending p.accepted text p.closed s.config.limit (rw none at a.sends) h;
+      reads = λ _ _. h;
+      withdraws = h;
+      closes = λ _ _. h;
+      aborts = h;
+      acknowledges = h;
+      resends = λ _. h;
+      probes = h;
+      fills = λ _ _ _. h;
+      ends = λ _. h;
+      emits = λ _ _ _. h;
+    }
+
+limit-step : (x : SoloState) (e : SoloContent) → HasRanges e → IsAloneIn (party_in x) → length x.accepted ≤ x.endpoint.config.limit
+    → length (after_solo x e).accepted ≤ x.endpoint.config.limit
+limit-step x e fits a h =
+    solo-step x (λ p. length p.accepted ≤ x.endpoint.config.limit) a (λ peer _. limit-calls peer (party_in x) a h) e fits (λ src dst bytes is. h)
+
+limit-run : (x : SoloState) (list : List SoloContent) (h : Heard) (irs k : ℕ) → AllByRecursion HasRanges list → IsAloneIn (party_in x) → Hears h x irs k
+    → length x.accepted ≤ x.endpoint.config.limit → length (solo_run x list).accepted ≤ x.endpoint.config.limit
+unfolding solo_run
+limit-run x [] h irs k fits a hears inside = inside
+limit-run x (e ∷ list) h irs k fits a hears inside =
+    let same = address-step x e h irs k fits.0 a hears in
+    let next : length (after_solo x e).accepted ≤ (end_after x.endpoint e).config.limit =
+    subst (λ (c : Config). length (after_solo x e).accepted ≤ c.limit) (sym same) (limit-step x e fits.0 a inside) in
+    subst (λ (c : Config). length (solo_run (after_solo x e) list).accepted ≤ c.limit) same
+    (limit-run (after_solo x e) list (heard_past h e) _ _ fits.1 (alone-step x e fits.0 a) (hears-step x e h irs k fits.0 a hears) next)
+
+-- with a limit of at most the default each position lies below 2^31
+pub positions-short : (c : Config) (list : List SoloContent) → IsConfig c → AllByRecursion HasRanges list → c.limit ≤ default_limit
+    → 2 + length (run_alone c list).accepted < 2 ^ 31
+positions-short c list is fits short =
+    let inside = limit-run (solo_start c) list nothing_heard 0 0 fits (alone-new c is) (hears-new c) (omega arith) in
+    omega (arith, inside, short)
