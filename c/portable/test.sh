@@ -2,24 +2,24 @@
 # The portable file (out/tcpcore_portable.c, which build.sh makes) under the tests of c/tcpcore, on this machine and on others under
 # qemu; and against the native library (the first argument, or crates/tcp_c's own): over random calls of the whole interface every
 # answer, told value and emitted byte is the same. Writes MACHINES.md, the table of sizes. With --short before it: one compiler, two
-# machines, and no table.
+# machines, and no table; with --only NAME that machine alone, and the others' lines of the table as they were.
 # It installs compilers and qemu by apt-get where this machine lacks them; where that fails it fails, or, with LEAVE_OUT=1 in the
 # environment, says what it leaves out. Stops at the first failure.
 set -euo pipefail
 cd "$(dirname "$0")"
 test=portable
 . ../../checks/lib.sh
-short='' calls=1000000
-if [[ ${1-} == --short ]]; then
-    short=1 calls=200000
-    shift
-fi
+short='' only='' calls=1000000
+case ${1-} in
+    --short) short=1 calls=200000 && shift ;;
+    --only) only=$2 && shift 2 ;;
+esac
 native=$(realpath -m "${1:-../../crates/tcp_c/out/libtcp_c.a}")
 layer=$(realpath ../tcpcore)
 file=out/tcpcore_portable.c
 clean="-Wall -Wextra -Wpedantic -Wcast-qual -Wshadow -Wstrict-prototypes -Wno-unused-parameter -Werror"
 tests="examples/two_ends tests/misuse tests/misuse_rest tests/room tests/fields tests/answers tests/cautions tests/rest tests/stack"
-passed=0 rows=''
+passed=0
 
 pass() { passed=$((passed + 1)); }
 
@@ -62,34 +62,42 @@ tests_over() {
 calls_over() {
     local name=$1
     shift
-    "$@" -std=c11 -I"$layer" tests/calls.c "out/$name.o" $linked -o "out/calls.$name"
-    timeout 900 $run "out/calls.$name" "$calls" | sed 's/\r$//' | cmp - out/calls.native || fail "$name answers otherwise than the native library"
+    "$@" -std=c11 -DCOUNT="$calls" -I"$layer" tests/calls.c "out/$name.o" $linked -o "out/calls.$name"
+    timeout 900 $run "out/calls.$name" | sed 's/\r$//' | cmp - out/calls.native || fail "$name answers otherwise than the native library"
     pass
 }
 
 size_of() { "$1" "out/$2.o" | awk 'NR == 2 { print $1 }'; }
 
+# Whether this machine is to be looked at.
+is_wanted() { [[ -z $only || $only == "$1" ]]; }
+
+# Its line of the table: name, tools' prefix for `size`, what was run.
+row() { echo "| $1 | $(size_of "$2" "$1") | $(size_of "$2" "$1.unchecked") | $stack | $3 |" >"out/rows/$1"; }
+
 # A machine: its name, the prefix of its tools, what runs its programs, and the words of its compiler.
 machine() {
     local name=$1 tools=$2
     run=$3
+    is_wanted "$name" || return 0
     shift 3
     object "$name" "$tools-gcc" -Os "$@"
     tests_over "$name" "$tools-gcc" -O1 "$@" $linked
     calls_over "$name" "$tools-gcc" -O2 "$@"
     object "$name.unchecked" "$tools-gcc" -Os -DTCPCORE_UNCHECKED "$@"
     calls_over "$name.unchecked" "$tools-gcc" -O2 "$@"
-    rows+="| $name | $(size_of "$tools-size" "$name") | $(size_of "$tools-size" "$name.unchecked") | $stack | all |"$'\n'
+    row "$name" "$tools-size" all
     echo "portable: $name: the same as the native library, $stack bytes of stack"
 }
 
 # One that is compiled alone.
 compiled() {
     local name=$1 tools=$2
+    is_wanted "$name" || return 0
     shift 2
     object "$name" "$tools-gcc" -Os "$@"
     object "$name.unchecked" "$tools-gcc" -Os -DTCPCORE_UNCHECKED "$@"
-    rows+="| $name | $(size_of "$tools-size" "$name") | $(size_of "$tools-size" "$name.unchecked") | | compiled |"$'\n'
+    stack='' && row "$name" "$tools-size" compiled
 }
 
 # Instructions for a segment of 1,460 bytes and its answer, both ends together.
@@ -114,27 +122,44 @@ stops() {
 [[ -e $file ]] || fail "no $file: run c/portable/build.sh"
 [[ -e $native ]] || fail "no $native: run 'rt lib' in crates/tcp_c"
 run='' linked=''
-gcc -std=c11 -O2 -I"$layer" tests/calls.c "$layer/tcpcore.c" "$native" -o out/calls.native.program
-out/calls.native.program "$calls" >out/calls.native
+gcc -std=c11 -O2 -DCOUNT="$calls" -I"$layer" tests/calls.c "$layer/tcpcore.c" "$native" -o out/calls.native.program
+out/calls.native.program >out/calls.native
 (($(grep -c : out/calls.native) >= 25)) || fail "the random calls met fewer than 25 answers"
 
-for compiler in gcc clang; do
-    [[ -z $short || $compiler == gcc ]] || continue
-    has "$compiler" "$compiler" --version || continue
-    for words in -O0 -O2 "-O2 -DTCPCORE_UNCHECKED"; do
-        [[ -z $short || $words == -O2 ]] || continue
-        object "here.$compiler" $compiler $words
-        tests_over "here.$compiler" $compiler -O1
-        calls_over "here.$compiler" $compiler -O2
+here() {
+    local compiler words wanted sanitizers
+    for compiler in gcc clang; do
+        [[ -z $short || $compiler == gcc ]] || continue
+        has "$compiler" "$compiler" --version || continue
+        for words in -O0 -O2 "-O2 -DTCPCORE_UNCHECKED"; do
+            [[ -z $short || $words == -O2 ]] || continue
+            object "here.$compiler" $compiler $words
+            tests_over "here.$compiler" $compiler -O1
+            calls_over "here.$compiler" $compiler -O2
+        done
+        wanted=$(grep -o '^[a-z].* \**tcpcore_[a-z_]*(' "$layer/tcpcore.h" | grep -o 'tcpcore_[a-z_]*' | sort)
+        [[ $(names "out/here.$compiler.o") == "$wanted" ]] || fail "the names aren't the header's"
+        pass
     done
-    wanted=$(grep -o '^[a-z].* \**tcpcore_[a-z_]*(' "$layer/tcpcore.h" | grep -o 'tcpcore_[a-z_]*' | sort)
-    [[ $(names "out/here.$compiler.o") == "$wanted" ]] || fail "the names aren't the header's"
-    pass
-done
-sanitizers="-g -O1 -fsanitize=address,undefined -fno-sanitize-recover=all"
-gcc -std=c99 $sanitizers -I"$layer" -c "$file" -o out/sanitized.o
-calls_over sanitized gcc $sanitizers
-stops
+    sanitizers="-g -O1 -fsanitize=address,undefined -fno-sanitize-recover=all"
+    gcc -std=c99 $sanitizers -I"$layer" -c "$file" -o out/sanitized.o
+    calls_over sanitized gcc $sanitizers
+    stops
+    [[ -z $short ]] || return 0
+    object x86-64 gcc -Os
+    object x86-64.unchecked gcc -Os -DTCPCORE_UNCHECKED
+    tests_over x86-64 gcc -O1
+    row x86-64 size all
+    object fast gcc -O2
+    object fast.unchecked gcc -O2 -DTCPCORE_UNCHECKED
+    if has valgrind valgrind --version; then
+        echo "native $(instructions "$layer/tcpcore.c" "$native"), checked $(instructions out/fast.o)," \
+            "unchecked $(instructions out/fast.unchecked.o)" >out/speed.txt
+    fi
+}
+[[ -n $only ]] || rm -rf out/rows
+mkdir -p out/rows
+! is_wanted x86-64 || here
 
 # A machine of Debian's, once its compiler and its C library are there.
 of_linux() {
@@ -168,28 +193,24 @@ bare() {
 }
 [[ -n $short ]] || bare
 
+# The table, of the machines that were looked at.
 if [[ -z $short ]]; then
-    run='' linked=''
-    object here gcc -Os
-    object here.unchecked gcc -Os -DTCPCORE_UNCHECKED
-    tests_over here gcc -O1
-    rows="| x86-64 | $(size_of size here) | $(size_of size here.unchecked) | $stack | all |"$'\n'$rows
-    object fast gcc -O2
-    object fast.unchecked gcc -O2 -DTCPCORE_UNCHECKED
-    has valgrind valgrind --version && cat >MACHINES.md <<TABLE
+    cat >MACHINES.md <<TABLE
 # The portable file by machine
 
-Written by \`c/portable/test.sh\`: bytes of code and constants (gcc, -Os), the deepest call's stack in bytes, painted and looked at
-(\`c/tcpcore/tests/stack.c\`), and what was run: *all* are the tests of \`c/tcpcore\`, and $calls random calls with every answer, told
-value and emitted byte as the native library's.
+Written by \`c/portable/test.sh\`: bytes of code and constants (gcc, -Os), the deepest call's stack in bytes, painted and
+looked at (\`c/tcpcore/tests/stack.c\`), and what was run: *all* are the tests of \`c/tcpcore\`, and random calls ($calls
+of them) with every answer, told value and emitted byte as the native library's.
 
 | Machine | checked | unchecked | stack | run |
 |---|---|---|---|---|
-$rows
-An end takes the memory that it takes with the native library (\`TCPCORE_MEMORY\`) and the 24 bytes of its struct; nothing is static.
+$(for name in x86-64 i686 armhf riscv64 s390x cortex-m0 cortex-m3 cortex-m4; do cat "out/rows/$name" 2>/dev/null || true; done)
 
-Instructions on x86-64 for a segment of 1,460 bytes with its answer, both ends together, at -O2: native
-$(instructions "$layer/tcpcore.c" "$native"), checked $(instructions out/fast.o), unchecked $(instructions out/fast.unchecked.o).
+An end takes the memory that it takes with the native library (\`TCPCORE_MEMORY\`) and the 24 bytes of its struct; nothing
+is static.
+
+Instructions on x86-64 for a segment of 1,460 bytes with its answer, both ends together, at -O2:
+$(cat out/speed.txt 2>/dev/null || echo "not measured").
 Most are those of the checksum and of copies byte by byte, which the native library does by the processor's vectors.
 TABLE
 fi

@@ -1,13 +1,19 @@
 /*
- * Random calls of the whole interface, from a number that chooses them: calls COUNT [FIRST]. It prints a sum over every answer, every
+ * Random calls of the whole interface, COUNT of them, from a number FIRST that chooses them (bare metal has no words). It prints a sum over every answer, every
  * value that was told and every byte that was emitted or handed over, line by line, and at last how often each answer came. The native
  * library and the portable file have to print the same, on any machine.
  */
 #include "tcpcore.h"
 
 #include <stdio.h>
-#include <stdlib.h>
 #include <string.h>
+
+#ifndef COUNT
+#define COUNT 100000
+#endif
+#ifndef FIRST
+#define FIRST 0
+#endif
 
 enum { KEPT = 24, LONGEST = 65600, BLOCK = TCPCORE_MEMORY(70000, 70000), ANSWERS = 64, TEXT = 80000 };
 
@@ -307,10 +313,10 @@ static void step(void)
         seldom(side, other);
 }
 
-int main(int argc, char **argv)
+int main(void)
 {
-    unsigned long count = argc > 1 ? strtoul(argv[1], NULL, 10) : 100000, every = count < 20 ? 1 : count / 20;
-    chosen = UINT64_C(88172645463325252) + (argc > 2 ? strtoul(argv[2], NULL, 10) : 0);
+    unsigned long count = COUNT, every = count < 20 ? 1 : count / 20;
+    chosen = UINT64_C(88172645463325252) + FIRST;
     for (size_t i = 0; i < TEXT; i++)
         text[i] = (unsigned char)next(256);
     for (int i = 0; i < 2; i++) {
