@@ -1,6 +1,8 @@
 -- NUMBERS THAT CAME, so many from one on.
 use Rattle.std.proofs.Common.{◌≡◌, ℕ, zero, suc, ◌+◌, ◌<◌, ◌≤◌, List, [], ◌∷◌, ◌++◌, refl, sym, ◌-◌, ◌∙◌, ap, subst, arith, ⊎_elim, inl, inr}
 use Rattle.std.specs.Prelude.{◌⊎◌, Bool, true, false, ◌&&◌, ◌||◌}
+use Rattle.std.proofs.Common.{length, take, get_or}
+use Rattle.std.proofs.Math.Seq.{take-suc}
 use Rattle.std.proofs.lemmas.Bool.{cases_lt, false≢true}
 use Rattle.tcp_numbers.specs.declared.seq.Seq.{Seq}
 use Rattle.tcp_wire.specs.Position.{number, distance}
@@ -54,6 +56,30 @@ come-more (span ∷ spans) more n e = or-more (covers n span) (has_come spans n)
 pub come-last : (spans : List (Seq × ℕ)) (span : Seq × ℕ) (n : ℕ) → covers n span ≡ true → has_come (spans ++ span ∷ []) n ≡ true
 come-last [] span n e = ap (λ b. b || false) e
 come-last (first ∷ spans) span n e = or-second (covers n first) (has_come (spans ++ span ∷ []) n) (come-last spans span n e)
+
+-- FROM THE LAST SEGMENT ON: what it didn't take is looked for in those before it
+come-without : (spans : List (Seq × ℕ)) (span : Seq × ℕ) (n : ℕ) → covers n span ≡ false → has_come (spans ++ span ∷ []) n ≡ has_come spans n
+come-without [] span n e = ap (λ b. b || false) e
+come-without (first ∷ spans) span n e = ap (λ b. covers n first || b) (come-without spans span n e)
+
+one-more : (spans : List (Seq × ℕ)) (i j : ℕ) (d : Seq × ℕ) → j + 1 + i ≡ length spans → take (length spans - i) spans ≡ take j spans ++ get_or spans j d ∷ []
+one-more spans i j d at =
+    let here : length spans - i ≡ suc j = omega arith in
+    ap (λ k. take k spans) here ∙ take-suc spans j d (omega arith)
+
+pub come-before : (spans : List (Seq × ℕ)) (i n : ℕ) (d : Seq × ℕ) → i < length spans → covers n (get_or spans (length spans - 1 - i) d) ≡ false
+    → has_come (take (length spans - i) spans) n ≡ has_come (take (length spans - (i + 1)) spans) n
+come-before spans i n d inside misses =
+    let j = length spans - 1 - i in
+    let next : j ≡ length spans - (i + 1) = omega arith in
+    ap (λ (xs : List (Seq × ℕ)). has_come xs n) (one-more spans i j d (omega arith))
+    ∙ come-without (take j spans) (get_or spans j d) n misses ∙ ap (λ k. has_come (take k spans) n) next
+
+pub come-here : (spans : List (Seq × ℕ)) (i n : ℕ) (d : Seq × ℕ) → i < length spans → covers n (get_or spans (length spans - 1 - i) d) ≡ true
+    → has_come (take (length spans - i) spans) n ≡ true
+come-here spans i n d inside hit =
+    let j = length spans - 1 - i in
+    ap (λ (xs : List (Seq × ℕ)). has_come xs n) (one-more spans i j d (omega arith)) ∙ come-last (take j spans) (get_or spans j d) n hit
 
 -- a SYN with this number came
 abbrev pub HasSyn : List Seq → ℕ → Type 0

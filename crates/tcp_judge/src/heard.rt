@@ -105,8 +105,10 @@ fn covers(number: Seq, span: (Seq, u32)) -> bool
 fn has_come(spans: &[(Seq, u32)], number: Seq) -> bool
     ensures { result ≡ has_come spans.now number.0 }
 {
-    for span in spans {
-        if covers(number, *span) {
+    // What is asked for came lately, mostly.
+    for i in 0..spans.len() {
+        let span = spans[spans.len() - 1 - i];
+        if covers(number, span) {
             return true;
         }
     }
