@@ -151,7 +151,7 @@ static uint64_t run(void)
         now = next_time();
     }
     const char *fault = fault_of();
-    if (fault && peer_fault()) {
+    if (fault && peer_fault() && !own_fault(OWN)) {
         printf("case %d: %s: the peer's own: %s\n", count, trial.name, peer_fault());
         return 0;
     }

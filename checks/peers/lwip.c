@@ -79,7 +79,7 @@ static void gone(void *unused, err_t fault)
     end = NULL;
     /* ERR_CLSD is told where both have closed, and its user only half (tcp_in.c, tcp_input, TF_CLOSED). */
     trial.users[PEER].saw_fault |= fault != ERR_CLSD;
-    has_given_up = fault == ERR_ABRT;
+    has_given_up = fault == ERR_ABRT && has_ended && trial.users[PEER].has_closed;
 }
 
 static err_t came(void *unused, struct tcp_pcb *pcb, struct pbuf *text, err_t fault)
