@@ -6,7 +6,7 @@ import { fileURLToPath } from "node:url";
 import { calls, WELL, REFUSED, FAULT, NO_SEGMENT } from "./module.mjs";
 
 const here = path.dirname(fileURLToPath(import.meta.url));
-const at = (...parts) => path.join(here, "..", ...parts);
+const at = (...parts) => path.join(here, "..", "..", ...parts);
 const module = new WebAssembly.Module(fs.readFileSync(process.argv[2] ?? at("apps/web/out/tcp_web.wasm")));
 let passed = 0, failed = 0;
 
