@@ -13,7 +13,7 @@ use Rattle.tcp_progress.specs.Settled.{least_life}
 use Rattle.tcp_progress.specs.Steady.{EveryWorldIsSteady, IsSteady, IsSteadyEnd}
 use Rattle.tcp_progress.proofs.OnlySent.{new-sent, takes-only_sent, KeepsSent, sent-kept}
 use Rattle.tcp_progress.proofs.ToldWindows.{new-told, tells-within, KeepsTold, told-kept}
-use Rattle.tcp_progress.proofs.Edges.{new-edges, within-reach, KeepsEdges, edges-kept}
+use Rattle.tcp_progress.proofs.EdgesKept.{new-edges, within-reach, KeepsEdges, edges-kept}
 use Rattle.tcp_progress.proofs.Stages.{new-stages, stages-say, KeepsStages, stages-kept}
 use Rattle.tcp_progress.proofs.Ways.{IsInvariant}
 use Rattle.tcp_replay.proofs.Events.{Both, both-swapped, in-world}

@@ -14,6 +14,7 @@ pub mod OnlySent
 pub mod Shifts
 pub mod ToldWindows
 pub mod Edges
+pub mod EdgesKept
 pub mod Table
 pub mod Stages
 mod Examples
