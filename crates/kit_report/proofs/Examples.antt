@@ -5,11 +5,11 @@ use Rattle.std.specs.Prelude.{true, codes, decimal}
 use Rattle.tcp_wire.specs.Position.{position_of, offset}
 use Rattle.tcp_wire.specs.Wire.{encoded_bytes}
 use Rattle.tcp_wire.specs.Decoded.{decode_answer, layout_of, options_in, option_at, padding_at}
-use Rattle.tcp_conn.specs.Acceptable.{is_acceptable}
-use Rattle.tcp_conn.specs.Options.{link_of}
-use Rattle.tcp_conn.specs.Sender.{after_ack, after_window_update}
+use Rattle.tcp_halves.specs.Acceptable.{is_acceptable}
+use Rattle.tcp_halves.specs.Options.{link_of}
+use Rattle.tcp_halves.specs.Sender.{after_ack, after_window_update}
 use Rattle.tcp_conn.specs.Blocks.{after_block}
-use Rattle.tcp_conn.specs.Receiver.{after_text}
+use Rattle.tcp_halves.specs.Receiver.{after_text}
 use Rattle.tcp_conn.specs.Calls.{after_connect, after_listen, after_send, after_receive, after_close}
 use Rattle.tcp_conn.specs.Timers.{after_time_wait}
 use Rattle.tcp_conn.specs.Judgement.{is_foreign, closed_judgement, listen_judgement, syn_sent_judgement, ack_judgement, unacceptable_judgement, acceptable_judgement, present_judgement, phase_judgement, judgement}

@@ -2,11 +2,11 @@
 use Rattle.std.specs.Prelude.{ℕ, List, ◌++◌, codes, decimal, Result, Ok, Err}
 use Rattle.tcp_wire.specs.declared.fault.DecodeError.{DecodeError}
 use Rattle.tcp_wire.specs.Wire.{Content}
-use Rattle.tcp_halves.specs.declared.outcome.CallError.{CallError}
-use Rattle.tcp_halves.specs.declared.outcome.Received.{Received}
-use Rattle.tcp_halves.specs.declared.outcome.Received.TheVariants.{Bytes, Nothing, EndOfStream}
-use Rattle.tcp_halves.specs.declared.outcome.Arrival.{Arrival}
-use Rattle.tcp_halves.specs.declared.outcome.Arrival.TheVariants.{Malformed, NotMine, Dropped, Processed}
+use Rattle.tcp_conn.specs.declared.outcome.CallError.{CallError}
+use Rattle.tcp_conn.specs.declared.outcome.Received.{Received}
+use Rattle.tcp_conn.specs.declared.outcome.Received.TheVariants.{Bytes, Nothing, EndOfStream}
+use Rattle.tcp_conn.specs.declared.outcome.Arrival.{Arrival}
+use Rattle.tcp_conn.specs.declared.outcome.Arrival.TheVariants.{Malformed, NotMine, Dropped, Processed}
 use Rattle.tcp_conn.specs.Outcome.{call_error_number}
 use Rattle.kit_text.specs.Texts.{bytes_text}
 use Rattle.kit_text.specs.Segments.{summary_text, fault_text}

@@ -3,11 +3,11 @@
 use Rattle.std.proofs.Common.{◌≡◌, ℕ, [], ◌∷◌, ◌++◌, List, refl}
 use Rattle.std.specs.Prelude.{codes, Ok, Err, None, Some, true, false}
 use Rattle.tcp_halves.specs.declared.config.Config.{Config}
-use Rattle.tcp_halves.specs.declared.phase.Timer.TheVariants.{Retransmit}
+use Rattle.tcp_conn.specs.declared.phase.Timer.TheVariants.{Retransmit}
 use Rattle.tcp_replay.specs.declared.event.Side.TheVariants.{A, B}
 use Rattle.tcp_replay.specs.Events.{Listen, Connect, Receive, Timer, Emit, Deliver}
 use Rattle.kit_text.specs.Lines.{numbered_from}
-use Rattle.tcp_conn.specs.Config.{default_limit}
+use Rattle.tcp_halves.specs.Config.{default_limit}
 use Rattle.kit_script.specs.Settings.{default_a, default_b}
 use Rattle.kit_script.specs.Statements.{statement_of}
 use Rattle.tcp_replay.specs.World.{max_life}

@@ -1,7 +1,7 @@
 -- The words of a script: kinds of events, sides and timers.
 use Rattle.std.specs.Prelude.{ℕ, if◌then◌else◌, List, bytes_eq, codes, Option, Some, None}
-use Rattle.tcp_halves.specs.declared.phase.Timer.{Timer}
-use Rattle.tcp_halves.specs.declared.phase.Timer.TheVariants.{Retransmit, Reorder, TimeWait}
+use Rattle.tcp_conn.specs.declared.phase.Timer.{Timer}
+use Rattle.tcp_conn.specs.declared.phase.Timer.TheVariants.{Retransmit, Reorder, TimeWait}
 use Rattle.tcp_conn.specs.Names.{timer_name}
 use Rattle.tcp_replay.specs.declared.event.Side.{Side}
 use Rattle.tcp_replay.specs.declared.event.Side.TheVariants.{A, B}

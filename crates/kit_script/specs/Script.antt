@@ -1,7 +1,7 @@
 -- The whole script, or its first bad line: a function from its text, by its version.
 use Rattle.std.specs.Prelude.{◌≡◌, ℕ, ◌==◌, ◌≤◌, ◌^◌, true, false, Bool, if◌then◌else◌, List, [], ◌∷◌, ◌++◌, length, drop, map, bytes_eq, codes, Option, Some, None, Result, Ok, Err}
 use Rattle.std.specs.Option.{option_and_then, option_map_or}
-use Rattle.tcp_conn.specs.Config.{default_limit, stream_limit}
+use Rattle.tcp_halves.specs.Config.{default_limit, stream_limit}
 use Rattle.tcp_halves.specs.declared.config.Config.{Config}
 use Rattle.tcp_replay.specs.World.{max_life}
 use Rattle.tcp_replay.specs.declared.event.Side.{Side}

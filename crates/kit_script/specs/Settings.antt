@@ -1,7 +1,7 @@
 -- What the two ends are made from: where no line says otherwise, and by lines `config SIDE KEY VALUE`.
 use Rattle.std.specs.Prelude.{ℕ, Bool, true, false, if◌then◌else◌, List, [], ◌∷◌, bytes_eq, codes, Option, Some, None, option_map}
 use Rattle.tcp_halves.specs.declared.config.Config.{Config}
-use Rattle.tcp_conn.specs.Config.{default_limit}
+use Rattle.tcp_halves.specs.Config.{default_limit}
 use Rattle.kit_text.specs.Words.{number_of}
 use Rattle.kit_script.specs.declared.settings.Setting.{Setting}
 use Rattle.kit_script.specs.declared.settings.Setting.TheVariants.{Isn, Mss, SendCapacity, RecvCapacity, WindowShift, Sack}

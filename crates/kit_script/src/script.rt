@@ -1,6 +1,6 @@
 //! The whole script.
 ghost use Rattle.std.specs.Prelude.{◌≡◌, Some, IfOk};
-ghost use Rattle.tcp_conn.specs.Config.{stream_limit};
+ghost use Rattle.tcp_halves.specs.Config.{stream_limit};
 ghost use Rattle.tcp_replay.specs.Events.{event_content};
 ghost use Rattle.kit_script.specs.Settings.{default_config};
 ghost use Rattle.kit_script.specs.Version2.{line_content, HasLineLife};

@@ -2,11 +2,11 @@
 -- segment, 11 to 16 a call, 21 to 24 a config.
 use Rattle.std.specs.Prelude.{ℕ, Option, Some, None, Result, Ok, Err}
 use Rattle.tcp_wire.specs.Refusals.{decode_error_number}
-use Rattle.tcp_halves.specs.declared.outcome.CallError.{CallError}
-use Rattle.tcp_halves.specs.declared.outcome.Received.{Received}
-use Rattle.tcp_halves.specs.declared.outcome.Received.TheVariants.{Bytes, Nothing, EndOfStream}
-use Rattle.tcp_halves.specs.declared.outcome.Arrival.{Arrival}
-use Rattle.tcp_halves.specs.declared.outcome.Arrival.TheVariants.{Malformed, NotMine, Dropped, Processed}
+use Rattle.tcp_conn.specs.declared.outcome.CallError.{CallError}
+use Rattle.tcp_conn.specs.declared.outcome.Received.{Received}
+use Rattle.tcp_conn.specs.declared.outcome.Received.TheVariants.{Bytes, Nothing, EndOfStream}
+use Rattle.tcp_conn.specs.declared.outcome.Arrival.{Arrival}
+use Rattle.tcp_conn.specs.declared.outcome.Arrival.TheVariants.{Malformed, NotMine, Dropped, Processed}
 use Rattle.tcp_conn.specs.Outcome.{call_error_number}
 use Rattle.tcp_conn.specs.State.{State}
 

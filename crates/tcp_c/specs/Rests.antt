@@ -1,8 +1,8 @@
 -- What rests in the place of an end in TIME-WAIT (RFC 9293, 3.3.2), as a record that C keeps.
 use Rattle.std.specs.Prelude.{ℕ, is_some, not, ◌==◌, if◌then◌else◌, Option, Some, None, option_map, unwrap_or}
 use Rattle.tcp_halves.specs.declared.link.WaitingReset.{WaitingReset}
-use Rattle.tcp_halves.specs.declared.phase.Ending.{Ending}
-use Rattle.tcp_halves.specs.declared.phase.Ending.TheVariants as endings
+use Rattle.tcp_conn.specs.declared.phase.Ending.{Ending}
+use Rattle.tcp_conn.specs.declared.phase.Ending.TheVariants as endings
 use Rattle.tcp_conn.specs.declared.rest_fields.RestFields.{RestFields}
 use Rattle.tcp_conn.specs.Rest.{Resting, as_state, can_be_kept, can_rest, kept_of, resting}
 use Rattle.tcp_conn.specs.State.{State}

@@ -1,15 +1,15 @@
 -- What is said of an end: its phase (RFC 9293, 3.3.2, in that order) and its ending by number, its counts and its positions.
 use Rattle.std.specs.Prelude.{ℕ, Bool, false, if◌then◌else◌, List, length, Option, Some, None, unwrap_or, is_some}
-use Rattle.tcp_halves.specs.declared.phase.Phase.{Phase}
-use Rattle.tcp_halves.specs.declared.phase.Phase.TheVariants as phases
-use Rattle.tcp_halves.specs.declared.phase.Ending.{Ending}
-use Rattle.tcp_halves.specs.declared.phase.Ending.TheVariants as endings
-use Rattle.tcp_halves.specs.declared.link.Negotiated.{Negotiated}
+use Rattle.tcp_conn.specs.declared.phase.Phase.{Phase}
+use Rattle.tcp_conn.specs.declared.phase.Phase.TheVariants as phases
+use Rattle.tcp_conn.specs.declared.phase.Ending.{Ending}
+use Rattle.tcp_conn.specs.declared.phase.Ending.TheVariants as endings
+use Rattle.tcp_conn.specs.declared.status.Negotiated.{Negotiated}
 use Rattle.tcp_halves.specs.declared.link.Peer.{Peer}
-use Rattle.tcp_halves.specs.declared.outcome.CallError.TheVariants.{NotConnected}
+use Rattle.tcp_conn.specs.declared.outcome.CallError.TheVariants.{NotConnected}
 use Rattle.tcp_conn.specs.Emission.{pending_length}
 use Rattle.tcp_conn.specs.Outcome.{call_error_number}
-use Rattle.tcp_conn.specs.Receiver.{next_wanted}
+use Rattle.tcp_halves.specs.Receiver.{next_wanted}
 use Rattle.tcp_conn.specs.State.{State}
 use Rattle.tcp_conn.specs.Status.{negotiated_of, peer_of, room_of, queued_of, in_flight_of}
 use Rattle.tcp_c.specs.Answers.{done}

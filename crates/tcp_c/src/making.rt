@@ -1,7 +1,7 @@
 //! An end is made, and let go.
 ghost use Rattle.std.specs.Prelude.{◌≡◌, ◌≢◌, ◌↔◌, ◌⊎◌, IsSome, IsNone, Some, None, Ok, Err, IfOk};
 ghost use Rattle.tcp_conn.specs.NewEnd.{new_end};
-ghost use Rattle.tcp_conn.specs.Config.{config_error_number, HasBadCapacity, HasBadMss, HasBadShift, HasBadLimit, IsGoodConfig};
+ghost use Rattle.tcp_halves.specs.Config.{config_error_number, HasBadCapacity, HasBadMss, HasBadShift, HasBadLimit, IsGoodConfig};
 ghost use Rattle.tcp_c.specs.Answers.{done, in_use, answer_of};
 ghost use Rattle.tcp_c.specs.Configs.{config_of};
 

@@ -1,6 +1,6 @@
 //! How much memory an end takes.
 ghost use Rattle.std.specs.Prelude.{◌≡◌, ◌↔◌, IsTrue};
-ghost use Rattle.tcp_conn.specs.Config.{IsCapacity, HasGoodCapacities, HasBadCapacity};
+ghost use Rattle.tcp_halves.specs.Config.{IsCapacity, HasGoodCapacities, HasBadCapacity};
 ghost use Rattle.tcp_c.specs.Configs.{config_of, room_of};
 
 use crate::records::CConfig;

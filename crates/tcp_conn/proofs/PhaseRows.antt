@@ -1,11 +1,11 @@
 -- The table of the states of a connection, row by row: each computes.
 use Rattle.std.proofs.Common.{◌≡◌, refl}
 use Rattle.std.specs.Prelude.{Bool, true, false}
-use Rattle.tcp_halves.specs.declared.phase.Phase.{Phase}
-use Rattle.tcp_halves.specs.declared.phase.Phase.TheVariants as phases
-use Rattle.tcp_halves.specs.declared.phase.Timer.{Timer}
-use Rattle.tcp_halves.specs.declared.phase.Timer.TheVariants as timers
-use Rattle.tcp_halves.specs.declared.outcome.CallError.TheVariants.{NotOpen, Closing}
+use Rattle.tcp_conn.specs.declared.phase.Phase.{Phase}
+use Rattle.tcp_conn.specs.declared.phase.Phase.TheVariants as phases
+use Rattle.tcp_conn.specs.declared.phase.Timer.{Timer}
+use Rattle.tcp_conn.specs.declared.phase.Timer.TheVariants as timers
+use Rattle.tcp_conn.specs.declared.outcome.CallError.TheVariants.{NotOpen, Closing}
 use Rattle.tcp_conn.specs.State.{State}
 use Rattle.tcp_conn.specs.Calls.{after_close, after_abort}
 use Rattle.tcp_conn.specs.Timers.{timer_answer, after_timer, after_retransmit, after_reorder, after_time_wait}

@@ -7,12 +7,12 @@ use Rattle.tcp_wire.specs.Wire.{Content}
 use Rattle.tcp_wire.specs.declared.fault.DecodeError.{DecodeError}
 use Rattle.tcp_conn.specs.declared.judgement.Judgement.{Judgement}
 use Rattle.tcp_conn.specs.declared.judgement.Judgement.TheVariants as judgements
-use Rattle.tcp_halves.specs.declared.outcome.Arrival.{Arrival}
-use Rattle.tcp_halves.specs.declared.outcome.Arrival.TheVariants.{Malformed}
-use Rattle.tcp_halves.specs.declared.phase.Ending.{Ending}
-use Rattle.tcp_halves.specs.declared.phase.Ending.TheVariants as endings
-use Rattle.tcp_halves.specs.declared.phase.Phase.TheVariants as phases
-use Rattle.tcp_conn.specs.Acceptable.{is_acceptable}
+use Rattle.tcp_conn.specs.declared.outcome.Arrival.{Arrival}
+use Rattle.tcp_conn.specs.declared.outcome.Arrival.TheVariants.{Malformed}
+use Rattle.tcp_conn.specs.declared.phase.Ending.{Ending}
+use Rattle.tcp_conn.specs.declared.phase.Ending.TheVariants as endings
+use Rattle.tcp_conn.specs.declared.phase.Phase.TheVariants as phases
+use Rattle.tcp_halves.specs.Acceptable.{is_acceptable}
 use Rattle.tcp_conn.specs.Arrival.{after_judgement, after_reading, answer_to_reading, first_reset, reset_of_stray}
 use Rattle.tcp_conn.specs.Judgement.{ack_judgement, acceptable_judgement, answer_of, closed_judgement, count_numbers, is_foreign, judgement, listen_judgement, phase_judgement, present_judgement, syn_sent_judgement, unacceptable_judgement}
 use Rattle.tcp_conn.specs.Phase.{has_peer, is_closed, is_listening, is_syn_sent}

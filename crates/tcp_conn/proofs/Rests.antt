@@ -5,14 +5,14 @@ use Rattle.std.proofs.lemmas.Bool.Decides.{nat_tests}
 use Rattle.tcp_numbers.specs.Position.{number, distance, is_before, near, natural_of, position_of}
 use Rattle.tcp_numbers.proofs.Positions.{position_of_later}
 use Rattle.tcp_wire.specs.Wire.{Content}
-use Rattle.tcp_halves.specs.declared.phase.Ending.TheVariants.{NotEnded}
-use Rattle.tcp_halves.specs.declared.phase.Phase.TheVariants as phases
+use Rattle.tcp_conn.specs.declared.phase.Ending.TheVariants.{NotEnded}
+use Rattle.tcp_conn.specs.declared.phase.Phase.TheVariants as phases
 use Rattle.tcp_conn.specs.Arrival.{after_acked_text, after_fin, after_its_ack, after_its_text, after_news, after_own_fin, after_own_syn, after_taking, after_taking_shut, blocks_used, is_current, with_ack_owed_unless_closed, with_news}
 use Rattle.tcp_halves.specs.Marks.{after_block, after_blocks, marks_text}
 use Rattle.tcp_conn.specs.Judgement.{position_near}
 use Rattle.tcp_conn.specs.Phase.{is_closed}
 use Rattle.tcp_conn.specs.Rest.{Resting, as_state, phase_at_rest, resting}
-use Rattle.tcp_conn.specs.Sender.{acks_unsent, after_ack, after_window_update, is_fin_acked, is_newer, with_acked}
+use Rattle.tcp_halves.specs.Sender.{acks_unsent, after_ack, after_window_update, is_fin_acked, is_newer, with_acked}
 use Rattle.tcp_halves.specs.Sender.{Sending}
 use Rattle.tcp_conn.specs.State.{State}
 use Rattle.tcp_conn.specs.Windows.{window_from}

@@ -8,7 +8,7 @@ use Rattle.tcp_wire.specs.declared.fault.DecodeError.{DecodeError}
 use Rattle.tcp_halves.specs.declared.due.Due.{Due}
 use Rattle.tcp_conn.specs.declared.judgement.Judgement.{Judgement}
 use Rattle.tcp_conn.specs.declared.judgement.Judgement.TheVariants.{Foreign, ResetIgnored, Stray, AckOfListen, OpensNothing, PeerOpens, AckOfNoSyn, PeerRefuses, PeerAccepts, Unacceptable, PeerResets, ResetElsewhere, SynInWindow, NoAck, AcksUnsent, HandshakeRefused, HandshakeRefusedShut, Taken, TakenShut}
-use Rattle.tcp_halves.specs.declared.link.Owed.{Owed}
+use Rattle.tcp_conn.specs.declared.owed.Owed.{Owed}
 use Rattle.tcp_halves.specs.declared.link.WaitingReset.{WaitingReset}
 use Rattle.tcp_conn.specs.Arrival.{after_arrival, after_judgement, after_peer_accepts, after_peer_opens, after_reading, first_reset}
 use Rattle.tcp_conn.specs.AtOnce.{UrgentIsDue, answers_at_once, breaks_order, is_urgent, is_urgent_reading}

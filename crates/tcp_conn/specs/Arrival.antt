@@ -9,13 +9,13 @@ use Rattle.tcp_conn.specs.declared.judgement.Judgement.{Judgement}
 use Rattle.tcp_conn.specs.declared.judgement.Judgement.TheVariants.{Foreign, ResetIgnored, Stray, AckOfListen, OpensNothing, PeerOpens, AckOfNoSyn, PeerRefuses, PeerAccepts, Unacceptable, PeerResets, ResetElsewhere, SynInWindow, NoAck, AcksUnsent, HandshakeRefused, HandshakeRefusedShut, Taken, TakenShut}
 use Rattle.tcp_halves.specs.declared.link.Peer.{Peer}
 use Rattle.tcp_halves.specs.declared.link.WaitingReset.{WaitingReset}
-use Rattle.tcp_halves.specs.declared.outcome.Arrival.{Arrival}
-use Rattle.tcp_halves.specs.declared.outcome.Arrival.TheVariants.{Malformed}
-use Rattle.tcp_halves.specs.declared.phase.Ending.TheVariants as endings
-use Rattle.tcp_halves.specs.declared.phase.Phase.{Phase}
-use Rattle.tcp_halves.specs.declared.phase.Phase.TheVariants as phases
-use Rattle.tcp_halves.specs.declared.phase.Phase.TheVariants.{SynReceived, Established, FinWait1}
-use Rattle.tcp_halves.specs.Phase.{is_closed, phase_after_fin, is_syn_received, is_last_ack, takes_text, phase_after_own_fin}
+use Rattle.tcp_conn.specs.declared.outcome.Arrival.{Arrival}
+use Rattle.tcp_conn.specs.declared.outcome.Arrival.TheVariants.{Malformed}
+use Rattle.tcp_conn.specs.declared.phase.Ending.TheVariants as endings
+use Rattle.tcp_conn.specs.declared.phase.Phase.{Phase}
+use Rattle.tcp_conn.specs.declared.phase.Phase.TheVariants as phases
+use Rattle.tcp_conn.specs.declared.phase.Phase.TheVariants.{SynReceived, Established, FinWait1}
+use Rattle.tcp_conn.specs.Phase.{is_closed, phase_after_fin, is_syn_received, is_last_ack, takes_text, phase_after_own_fin}
 use Rattle.tcp_halves.specs.Options.{link_of}
 use Rattle.tcp_conn.specs.State.{with_ack_owed, State, Sending}
 use Rattle.tcp_conn.specs.Windows.{window_from}

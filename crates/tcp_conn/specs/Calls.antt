@@ -5,15 +5,15 @@ use Rattle.tcp_wire.specs.Position.{number}
 use Rattle.tcp_reasm.specs.Reassembly.{after_read}
 use Rattle.tcp_halves.specs.declared.link.Peer.{Peer}
 use Rattle.tcp_halves.specs.declared.link.WaitingReset.{WaitingReset}
-use Rattle.tcp_halves.specs.declared.outcome.CallError.{CallError}
-use Rattle.tcp_halves.specs.declared.outcome.CallError.TheVariants.{NotOpen, AlreadyOpen, Closing, Ended, StreamFull, NotConnected}
-use Rattle.tcp_halves.specs.declared.outcome.Received.{Received}
-use Rattle.tcp_halves.specs.declared.outcome.Received.TheVariants.{Bytes, Nothing, EndOfStream}
-use Rattle.tcp_halves.specs.declared.phase.Ending.TheVariants.{Aborted}
-use Rattle.tcp_halves.specs.declared.phase.Phase.{Phase}
-use Rattle.tcp_halves.specs.declared.phase.Phase.TheVariants as phases
-use Rattle.tcp_halves.specs.declared.phase.Phase.TheVariants.{Listen, SynSent, Established, FinWait1, CloseWait, LastAck}
-use Rattle.tcp_halves.specs.Phase.{is_listening, is_ended, is_closed, resets_on_abort, takes_text, gives_up}
+use Rattle.tcp_conn.specs.declared.outcome.CallError.{CallError}
+use Rattle.tcp_conn.specs.declared.outcome.CallError.TheVariants.{NotOpen, AlreadyOpen, Closing, Ended, StreamFull, NotConnected}
+use Rattle.tcp_conn.specs.declared.outcome.Received.{Received}
+use Rattle.tcp_conn.specs.declared.outcome.Received.TheVariants.{Bytes, Nothing, EndOfStream}
+use Rattle.tcp_conn.specs.declared.phase.Ending.TheVariants.{Aborted}
+use Rattle.tcp_conn.specs.declared.phase.Phase.{Phase}
+use Rattle.tcp_conn.specs.declared.phase.Phase.TheVariants as phases
+use Rattle.tcp_conn.specs.declared.phase.Phase.TheVariants.{Listen, SynSent, Established, FinWait1, CloseWait, LastAck}
+use Rattle.tcp_conn.specs.Phase.{is_listening, is_ended, is_closed, resets_on_abort, takes_text, gives_up}
 use Rattle.tcp_conn.specs.State.{State, accepted_count}
 use Rattle.tcp_conn.specs.Windows.{advertised_window}
 use Rattle.tcp_halves.specs.Sender.{with_syn_sent, count_sendable, with_text}

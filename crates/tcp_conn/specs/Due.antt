@@ -4,9 +4,9 @@ use Rattle.std.specs.Prelude.{ℕ, ◌-◌, if◌then◌else◌, Option, Some, N
 use Rattle.std.specs.Option.{option_or}
 use Rattle.tcp_halves.specs.declared.due.Due.{Due}
 use Rattle.tcp_halves.specs.declared.due.Due.TheVariants.{Reset, Syn, Acknowledgement}
-use Rattle.tcp_halves.specs.declared.link.Owed.{Owed}
+use Rattle.tcp_conn.specs.declared.owed.Owed.{Owed}
 use Rattle.tcp_halves.specs.declared.link.WaitingReset.{WaitingReset}
-use Rattle.tcp_halves.specs.Phase.{sends_text}
+use Rattle.tcp_conn.specs.Phase.{sends_text}
 use Rattle.tcp_conn.specs.State.{State}
 use Rattle.tcp_conn.specs.Blocks.{sack_length, blocks_to_report}
 pub use Rattle.tcp_halves.specs.Due.{is_fin, start_of, count_of, end_of, resend_start, resent_text, resent_fin, resent_run, usable_window, count_allowed, new_count, fin_of, sending_due, Lies}

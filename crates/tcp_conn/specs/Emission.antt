@@ -3,7 +3,7 @@ use Rattle.std.specs.Prelude.{ℕ, Bool, false, not, ◌&&◌, List, Option, Som
 use Rattle.tcp_wire.specs.Wire.{wire_length}
 use Rattle.tcp_halves.specs.declared.due.Due.{Due}
 use Rattle.tcp_halves.specs.declared.due.Due.TheVariants.{Reset, Syn, NewText}
-use Rattle.tcp_halves.specs.declared.link.Owed.{Owed}
+use Rattle.tcp_conn.specs.declared.owed.Owed.{Owed}
 use Rattle.tcp_conn.specs.State.{State}
 use Rattle.tcp_conn.specs.Due.{due_of}
 pub use Rattle.tcp_halves.specs.Due.{range_after, resend_after, sending_after}

@@ -1,9 +1,9 @@
 -- How a connection ends (RFC 9293, 3.10.4, 3.10.5 and 3.10.7): any end clears all that is owed but a waiting reset.
-use Rattle.tcp_halves.specs.declared.phase.Ending.{Ending}
-use Rattle.tcp_halves.specs.declared.phase.Ending.TheVariants.{Orderly}
-use Rattle.tcp_halves.specs.declared.phase.Phase.TheVariants as phases
-use Rattle.tcp_halves.specs.declared.phase.Phase.TheVariants.{Closed}
-use Rattle.tcp_halves.specs.Link.{only_reset_owed}
+use Rattle.tcp_conn.specs.declared.phase.Ending.{Ending}
+use Rattle.tcp_conn.specs.declared.phase.Ending.TheVariants.{Orderly}
+use Rattle.tcp_conn.specs.declared.phase.Phase.TheVariants as phases
+use Rattle.tcp_conn.specs.declared.phase.Phase.TheVariants.{Closed}
+use Rattle.tcp_conn.specs.Owed.{only_reset_owed}
 use Rattle.tcp_conn.specs.State.{State}
 use Rattle.tcp_halves.specs.Sender.{without_resend, without_text}
 use Rattle.tcp_halves.specs.Receiver.{without_bytes}

@@ -7,10 +7,10 @@ use Rattle.tcp_wire.specs.Wire.{Content}
 use Rattle.tcp_reasm.specs.Reassembly.{window}
 use Rattle.tcp_conn.specs.declared.judgement.Judgement.{Judgement}
 use Rattle.tcp_conn.specs.declared.judgement.Judgement.TheVariants.{Foreign, ResetIgnored, Stray, AckOfListen, OpensNothing, PeerOpens, AckOfNoSyn, PeerRefuses, PeerAccepts, Unacceptable, PeerResets, ResetElsewhere, SynInWindow, NoAck, AcksUnsent, HandshakeRefused, HandshakeRefusedShut, Taken, TakenShut}
-use Rattle.tcp_halves.specs.declared.outcome.Arrival.{Arrival}
-use Rattle.tcp_halves.specs.declared.outcome.Arrival.TheVariants.{NotMine, Dropped, Processed}
+use Rattle.tcp_conn.specs.declared.outcome.Arrival.{Arrival}
+use Rattle.tcp_conn.specs.declared.outcome.Arrival.TheVariants.{NotMine, Dropped, Processed}
 use Rattle.tcp_halves.specs.Acceptable.{is_acceptable}
-use Rattle.tcp_halves.specs.Phase.{is_listening, is_syn_received, is_closed, is_syn_sent, has_peer}
+use Rattle.tcp_conn.specs.Phase.{is_listening, is_syn_received, is_closed, is_syn_sent, has_peer}
 use Rattle.tcp_conn.specs.State.{State}
 use Rattle.tcp_halves.specs.Sender.{acks_unsent}
 

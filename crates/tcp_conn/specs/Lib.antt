@@ -1,13 +1,7 @@
-pub use Rattle.tcp_halves.specs.Phase
-pub use Rattle.tcp_halves.specs.Config
-pub use Rattle.tcp_halves.specs.Options
-pub use Rattle.tcp_halves.specs.Link
-pub use Rattle.tcp_halves.specs.Outcome
-pub use Rattle.tcp_halves.specs.Names
-pub use Rattle.tcp_halves.specs.Sender
-pub use Rattle.tcp_halves.specs.Receiver
-pub use Rattle.tcp_halves.specs.Acceptable
-pub use Rattle.tcp_halves.specs.Marks
+pub mod Phase
+pub mod Outcome
+pub mod Names
+pub mod Owed
 pub mod State
 pub mod Endpoint
 pub mod Windows

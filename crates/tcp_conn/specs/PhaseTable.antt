@@ -1,14 +1,14 @@
 -- What `close`, `abort` and the timers do in each state of a connection, as a table (RFC 9293, 3.3.2, 3.10.4, 3.10.5 and
 -- 3.10.8). It follows from the definitions of Calls and Timers.
 use Rattle.std.specs.Prelude.{◌≡◌, Bool, true, false, Some, Result, Ok, Err}
-use Rattle.tcp_halves.specs.declared.phase.Phase.{Phase}
-use Rattle.tcp_halves.specs.declared.phase.Phase.TheVariants as phases
-use Rattle.tcp_halves.specs.declared.phase.Ending.TheVariants.{NotEnded, Aborted}
-use Rattle.tcp_halves.specs.declared.phase.Timer.{Timer}
-use Rattle.tcp_halves.specs.declared.phase.Timer.TheVariants as timers
-use Rattle.tcp_halves.specs.declared.outcome.CallError.{CallError}
-use Rattle.tcp_halves.specs.declared.outcome.CallError.TheVariants.{NotOpen, Closing, Ended}
-use Rattle.tcp_halves.specs.Phase.{is_ended}
+use Rattle.tcp_conn.specs.declared.phase.Phase.{Phase}
+use Rattle.tcp_conn.specs.declared.phase.Phase.TheVariants as phases
+use Rattle.tcp_conn.specs.declared.phase.Ending.TheVariants.{NotEnded, Aborted}
+use Rattle.tcp_conn.specs.declared.phase.Timer.{Timer}
+use Rattle.tcp_conn.specs.declared.phase.Timer.TheVariants as timers
+use Rattle.tcp_conn.specs.declared.outcome.CallError.{CallError}
+use Rattle.tcp_conn.specs.declared.outcome.CallError.TheVariants.{NotOpen, Closing, Ended}
+use Rattle.tcp_conn.specs.Phase.{is_ended}
 use Rattle.tcp_conn.specs.State.{State}
 use Rattle.tcp_conn.specs.Calls.{close_answer, after_close, abort_answer, after_abort, own_reset}
 use Rattle.tcp_conn.specs.Timers.{timer_answer, after_timer}

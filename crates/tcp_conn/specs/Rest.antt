@@ -6,22 +6,23 @@ use Rattle.tcp_numbers.specs.declared.addr.Addr.{Addr}
 use Rattle.tcp_reasm.specs.Reassembly.{max_capacity, window}
 use Rattle.tcp_halves.specs.declared.link.Peer.{Peer}
 use Rattle.tcp_halves.specs.declared.link.WaitingReset.{WaitingReset}
-use Rattle.tcp_halves.specs.declared.outcome.Arrival.{Arrival}
-use Rattle.tcp_halves.specs.declared.outcome.CallError.{CallError}
-use Rattle.tcp_halves.specs.declared.phase.Ending.{Ending}
-use Rattle.tcp_halves.specs.declared.phase.Ending.TheVariants.{NotEnded}
-use Rattle.tcp_halves.specs.declared.phase.Phase.{Phase}
-use Rattle.tcp_halves.specs.declared.phase.Phase.TheVariants.{Closed, TimeWait}
-use Rattle.tcp_halves.specs.declared.phase.Timer.{Timer}
+use Rattle.tcp_conn.specs.declared.outcome.Arrival.{Arrival}
+use Rattle.tcp_conn.specs.declared.outcome.CallError.{CallError}
+use Rattle.tcp_conn.specs.declared.phase.Ending.{Ending}
+use Rattle.tcp_conn.specs.declared.phase.Ending.TheVariants.{NotEnded}
+use Rattle.tcp_conn.specs.declared.phase.Phase.{Phase}
+use Rattle.tcp_conn.specs.declared.phase.Phase.TheVariants.{Closed, TimeWait}
+use Rattle.tcp_conn.specs.declared.phase.Timer.{Timer}
 use Rattle.tcp_conn.specs.Arrival.{arrival_answer, after_arrival}
 use Rattle.tcp_conn.specs.AtOnce.{has_gap}
 use Rattle.tcp_conn.specs.Calls.{abort_answer, after_abort}
-use Rattle.tcp_conn.specs.Config.{default_config, max_shift}
+use Rattle.tcp_halves.specs.Config.{default_config, max_shift}
 use Rattle.tcp_conn.specs.Emission.{after_emission, buffer_after, destination, pending_length}
-use Rattle.tcp_conn.specs.Link.{new_link, nothing_owed}
+use Rattle.tcp_halves.specs.Link.{new_link}
+use Rattle.tcp_conn.specs.Owed.{nothing_owed}
 use Rattle.tcp_conn.specs.Phase.{is_ended, is_time_wait}
-use Rattle.tcp_conn.specs.Receiver.{new_receiving}
-use Rattle.tcp_conn.specs.Sender.{new_sending}
+use Rattle.tcp_halves.specs.Receiver.{new_receiving}
+use Rattle.tcp_halves.specs.Sender.{new_sending}
 use Rattle.tcp_conn.specs.State.{State}
 use Rattle.tcp_conn.specs.Timers.{timer_answer, after_timer}
 use Rattle.tcp_conn.specs.Windows.{own_shift}

@@ -3,10 +3,10 @@
 use Rattle.std.specs.Prelude.{Bool, true}
 use Rattle.tcp_halves.specs.declared.config.Config.{Config}
 use Rattle.tcp_halves.specs.declared.link.Link.{Link}
-use Rattle.tcp_halves.specs.declared.link.Owed.{Owed}
+use Rattle.tcp_conn.specs.declared.owed.Owed.{Owed}
 use Rattle.tcp_halves.specs.declared.link.Peer.{Peer}
-use Rattle.tcp_halves.specs.declared.phase.Ending.{Ending}
-use Rattle.tcp_halves.specs.declared.phase.Phase.{Phase}
+use Rattle.tcp_conn.specs.declared.phase.Ending.{Ending}
+use Rattle.tcp_conn.specs.declared.phase.Phase.{Phase}
 pub use Rattle.tcp_halves.specs.Sender.{Sending, accepted_count, place_of, position_at, end_of_text, KeepsWithin}
 pub use Rattle.tcp_halves.specs.Receiver.{Receiving, HoldsWithin}
 

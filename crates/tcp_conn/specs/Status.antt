@@ -2,7 +2,7 @@
 -- its peer.
 use Rattle.std.specs.Prelude.{ℕ, ◌-◌, if◌then◌else◌, length, min, nat_lt, Option, Some, None}
 use Rattle.tcp_sendq.specs.SendQueue.{room}
-use Rattle.tcp_halves.specs.declared.link.Negotiated.{Negotiated}
+use Rattle.tcp_conn.specs.declared.status.Negotiated.{Negotiated}
 use Rattle.tcp_halves.specs.declared.link.Peer.{Peer}
 use Rattle.tcp_conn.specs.Due.{mss_in_use}
 use Rattle.tcp_halves.specs.Sender.{count_below}

@@ -1,9 +1,9 @@
 -- The timers (RFC 9293, 3.10.8): whether a timer's rule applies, and the end after it.
 use Rattle.std.specs.Prelude.{ℕ, Bool, ◌||◌, if◌then◌else◌, ◌&&◌, Option, Some, None, is_some}
 use Rattle.tcp_sendq.specs.SendQueue.{last_mark_end}
-use Rattle.tcp_halves.specs.declared.phase.Timer.{Timer}
-use Rattle.tcp_halves.specs.declared.phase.Timer.TheVariants as timers
-use Rattle.tcp_halves.specs.Phase.{is_time_wait, is_handshake, sends_text}
+use Rattle.tcp_conn.specs.declared.phase.Timer.{Timer}
+use Rattle.tcp_conn.specs.declared.phase.Timer.TheVariants as timers
+use Rattle.tcp_conn.specs.Phase.{is_time_wait, is_handshake, sends_text}
 use Rattle.tcp_conn.specs.State.{Sending, State}
 use Rattle.tcp_halves.specs.Sender.{is_probe_needed, with_gaps_resent, with_all_resent, is_in_flight}
 use Rattle.tcp_conn.specs.Endings.{after_orderly_end}

@@ -9,9 +9,11 @@ ghost use Rattle.tcp_conn.specs.State.{IsWithin};
 
 use crate::endpoint::Endpoint;
 use crate::judgement::{Judgement, count_numbers};
+use crate::outcome::{Arrival, Taken};
+use crate::phase::{Ending, Phase};
 use crate::phases::{is_closed, is_syn_received, phase_after_fin, takes_text};
 use std::alloc::Allocator;
-use tcp_halves::{Arrival, Ending, Peer, Phase, Taken, WaitingReset, link_of};
+use tcp_halves::{Peer, WaitingReset, link_of};
 use tcp_wire::{Addr, RawSegment, Seq};
 
 /// A reset at the number that a segment acknowledges (RFC 9293, 3.10.7.1).

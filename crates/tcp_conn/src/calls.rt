@@ -3,9 +3,11 @@ ghost use Rattle.tcp_conn.specs.Calls.{abort_answer, after_abort, after_acknowle
 ghost use Rattle.tcp_conn.specs.State.{IsWithin};
 
 use crate::endpoint::Endpoint;
+use crate::outcome::{CallError, Received};
+use crate::phase::{Ending, Phase};
 use crate::phases::{gives_up, is_closed, is_ended, is_listening, resets_on_abort, takes_text};
 use std::alloc::Allocator;
-use tcp_halves::{CallError, Ending, Peer, Phase, Received, WaitingReset};
+use tcp_halves::{Peer, WaitingReset};
 use tcp_wire::Addr;
 
 impl<A: Allocator> Endpoint<A> {

@@ -1,10 +1,11 @@
 ghost use Rattle.std.specs.Prelude.{◌≡◌};
-ghost use Rattle.tcp_halves.specs.Link.{only_reset_owed};
+ghost use Rattle.tcp_conn.specs.Owed.{only_reset_owed};
 ghost use Rattle.tcp_conn.specs.Endings.{after_giving_up, after_orderly_end};
 
 use crate::endpoint::Endpoint;
+use crate::owed::Owed;
+use crate::phase::{Ending, Phase};
 use std::alloc::Allocator;
-use tcp_halves::{Ending, Owed, Phase};
 
 /// Nothing is owed but a waiting reset.
 fn keep_only_reset(owed: &mut Owed)

@@ -2,9 +2,11 @@ ghost use Rattle.std.specs.Prelude.{◌≡◌, ◌≤◌, ◌+◌, length};
 ghost use Rattle.tcp_halves.specs.Config.{stream_limit};
 ghost use Rattle.tcp_halves.specs.Receiver.{next_wanted};
 
+use crate::owed::Owed;
+use crate::phase::{Ending, Phase};
 use std::alloc::{Allocator, Global};
 use std::marker::Model;
-use tcp_halves::{Config, Ending, Link, Owed, Peer, Phase, Receiver, Sender};
+use tcp_halves::{Config, Link, Peer, Receiver, Sender};
 
 /// One end of a TCP connection (RFC 9293, 3.3). After it was made no call of it takes memory.
 #[derive(Debug, Drop)]

@@ -6,9 +6,10 @@ ghost use Rattle.tcp_wire.specs.Wire.{max_text_len};
 ghost use Rattle.tcp_conn.specs.Judgement.{acceptable_judgement, ack_judgement, acks_syn, answer_of, closed_judgement, count_numbers, is_foreign, judgement, listen_judgement, phase_judgement, position_near, present_judgement, syn_sent_judgement, unacceptable_judgement};
 
 use crate::endpoint::Endpoint;
+use crate::outcome::Arrival;
+use crate::phase::Phase;
 use crate::phases::{has_peer, is_syn_received};
 use std::alloc::Allocator;
-use tcp_halves::{Arrival, Phase};
 use tcp_wire::{Addr, RawSegment, Seq};
 
 /// Which rule applies to a segment that arrives (RFC 9293, 3.10.7): one case for each, also where two do the same.

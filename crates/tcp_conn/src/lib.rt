@@ -22,7 +22,11 @@ mod fault;
 mod forms;
 mod judgement;
 pub mod laws;
+mod names;
 mod new_end;
+mod outcome;
+mod owed;
+mod phase;
 mod phases;
 mod rest;
 mod rest_fields;
@@ -34,11 +38,13 @@ mod writing;
 
 pub use emission::EMIT_ROOM;
 pub use endpoint::Endpoint;
+pub use outcome::{Arrival, CallError, Received, Taken};
+pub use phase::{Ending, Phase, Timer};
 pub use rest::{REST_LEN, Rest};
 pub use rest_fields::RestFields;
+pub use status::Negotiated;
 pub use stray::{RESET_LEN, stray_reset};
 pub use tcp_halves::{
-    Arrival, CallError, Config, ConfigError, DEFAULT_LIMIT, Ending, MAX_LIMIT, MAX_MSS, MAX_SHIFT,
-    MIN_MSS, Negotiated, Peer, Phase, Received, Taken, Timer, WaitingReset,
+    Config, ConfigError, DEFAULT_LIMIT, MAX_LIMIT, MAX_MSS, MAX_SHIFT, MIN_MSS, Peer, WaitingReset,
 };
 pub use tcp_sendq::MAX_CAPACITY;

@@ -7,10 +7,10 @@ ghost use Rattle.tcp_conn.specs.NewEnd.{new_end};
 
 use crate::endpoint::Endpoint;
 use crate::fault::fault_of;
+use crate::owed::Owed;
+use crate::phase::{Ending, Phase};
 use std::alloc::{Allocator, Global};
-use tcp_halves::{
-    Config, ConfigError, DEFAULT_MSS, Ending, Link, Owed, Peer, Phase, Receiver, Sender,
-};
+use tcp_halves::{Config, ConfigError, DEFAULT_MSS, Link, Peer, Receiver, Sender};
 use tcp_wire::Addr;
 
 impl Endpoint {

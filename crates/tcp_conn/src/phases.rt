@@ -1,8 +1,8 @@
 //! What the states of a connection have in common (RFC 9293, 3.3.2), and how it ended.
 ghost use Rattle.std.specs.Prelude.{◌≡◌};
-ghost use Rattle.tcp_halves.specs.Phase.{gives_up, has_peer, is_closed, is_ended, is_handshake, is_listening, is_syn_received, is_time_wait, phase_after_fin, resets_on_abort, sends_text, takes_text};
+ghost use Rattle.tcp_conn.specs.Phase.{gives_up, has_peer, is_closed, is_ended, is_handshake, is_listening, is_syn_received, is_time_wait, phase_after_fin, resets_on_abort, sends_text, takes_text};
 
-use tcp_halves::{Ending, Phase};
+use crate::phase::{Ending, Phase};
 
 /// Whether there is no connection.
 pub(crate) fn is_closed(phase: Phase) -> bool

@@ -4,14 +4,14 @@ ghost use Rattle.std.specs.Prelude.{◌≡◌, ◌≤◌, if◌then◌else◌, l
 ghost use Rattle.tcp_wire.specs.View.{content_of, raw_content};
 ghost use Rattle.tcp_wire.specs.Wire.{IsValid};
 ghost use Rattle.tcp_halves.specs.declared.due.Due.TheVariants.{Acknowledgement};
-ghost use Rattle.tcp_halves.specs.declared.phase.Ending.TheVariants.{NotEnded};
+ghost use Rattle.tcp_conn.specs.declared.phase.Ending.TheVariants.{NotEnded};
 ghost use Rattle.tcp_conn.specs.Arrival.{after_arrival, after_judgement, arrival_answer};
 ghost use Rattle.tcp_conn.specs.Calls.{abort_answer, after_abort};
 ghost use Rattle.tcp_conn.specs.Emission.{after_emission, buffer_after, destination, pending_length};
 ghost use Rattle.tcp_conn.specs.Forms.{plain_segment};
 ghost use Rattle.tcp_conn.specs.Judgement.{acceptable_judgement, answer_of, closed_judgement, is_foreign, position_near, present_judgement, unacceptable_judgement};
 ghost use Rattle.tcp_conn.specs.Rest.{as_state, can_rest, phase_at_rest, resting};
-ghost use Rattle.tcp_conn.specs.Sender.{acks_unsent};
+ghost use Rattle.tcp_halves.specs.Sender.{acks_unsent};
 ghost use Rattle.tcp_conn.specs.Timers.{after_timer, timer_answer};
 ghost use Rattle.tcp_conn.specs.Windows.{window_field};
 
@@ -19,11 +19,13 @@ use crate::arrival::reset_of_stray;
 use crate::endpoint::Endpoint;
 use crate::forms::reset_from;
 use crate::judgement::count_numbers;
+use crate::outcome::{Arrival, CallError};
+use crate::phase::{Ending, Phase, Timer};
 use crate::phases::{is_ended, is_time_wait};
 use crate::windows::MAX_WINDOW;
 use std::alloc::Allocator;
 use std::marker::Model;
-use tcp_halves::{Arrival, CallError, Ending, Peer, Phase, Timer, WaitingReset, is_acceptable};
+use tcp_halves::{Peer, WaitingReset, is_acceptable};
 use tcp_wire::{Addr, Flags, Header, RawSegment, Seq, write_around};
 
 /// The bytes of each segment that a [`Rest`] emits.
@@ -54,7 +56,7 @@ pub struct Rest {
 impl Model for Rest {
     ghost use Rattle.std.specs.Prelude.{◌<◌, ◌≤◌, ◌^◌};
     ghost use Rattle.tcp_reasm.specs.Reassembly.{max_capacity};
-    ghost use Rattle.tcp_conn.specs.Config.{max_shift};
+    ghost use Rattle.tcp_halves.specs.Config.{max_shift};
     ghost use Rattle.tcp_conn.specs.Rest.{Resting};
 
     ghost Value = { Resting };

@@ -2,8 +2,9 @@
 ghost use Rattle.std.specs.Prelude.{◌≡◌, if◌then◌else◌, Some, None, IsTrue};
 ghost use Rattle.tcp_conn.specs.Rest.{can_be_kept, kept_of};
 
+use crate::phase::Ending;
 use crate::rest::Rest;
-use tcp_halves::{Ending, MAX_SHIFT, Peer, WaitingReset};
+use tcp_halves::{MAX_SHIFT, Peer, WaitingReset};
 use tcp_sendq::MAX_CAPACITY;
 use tcp_wire::{Addr, Seq};
 

@@ -6,7 +6,23 @@ ghost use Rattle.tcp_conn.specs.Status.{in_flight_of, negotiated_of, peer_of, qu
 
 use crate::endpoint::Endpoint;
 use std::alloc::Allocator;
-use tcp_halves::{Negotiated, Peer};
+use tcp_halves::Peer;
+
+/// What the two SYNs agreed on, as it is in use (RFC 9293, 3.7.1; RFC 7323, 2.2 and 2.3; RFC 2018, 2).
+#[derive(Clone, Copy, Debug, PartialEq, Eq, Hash)]
+pub struct Negotiated {
+    /// The most text bytes of a segment that this end emits, the smaller of both maximum segment sizes: 64 to 1,460. Options take
+    /// of it.
+    pub mss: u16,
+    /// Whether windows are scaled.
+    pub scaling: bool,
+    /// The shift of the windows that this end advertises, at most 14; 0 without scaling.
+    pub own_shift: u8,
+    /// The shift of the windows that the peer advertises, at most 14; 0 without scaling.
+    pub peer_shift: u8,
+    /// Whether selective acknowledgement is in use.
+    pub sack: bool,
+}
 
 impl<A: Allocator> Endpoint<A> {
     /// The peer's address and port: from `connect` on, or from the SYN on that came in LISTEN, and past an end too. `None`

@@ -1,12 +1,12 @@
 ghost use Rattle.std.specs.Prelude.{◌≡◌};
 ghost use Rattle.tcp_conn.specs.State.{IsWithin};
 ghost use Rattle.tcp_conn.specs.Timers.{after_reorder, after_retransmit, after_time_wait, after_timer, needs_probe, sends_again, timer_answer};
-ghost use Rattle.tcp_halves.specs.declared.phase.Timer.TheVariants.{Reorder, Retransmit, TimeWait};
+ghost use Rattle.tcp_conn.specs.declared.phase.Timer.TheVariants.{Reorder, Retransmit, TimeWait};
 
 use crate::endpoint::Endpoint;
+use crate::phase::Timer;
 use crate::phases::{is_handshake, is_time_wait, sends_text};
 use std::alloc::Allocator;
-use tcp_halves::Timer;
 
 impl<A: Allocator> Endpoint<A> {
     /// A timer has run out (RFC 9293, 3.10.8): whether its rule applies. Where it doesn't, nothing changes.

@@ -1,9 +1,6 @@
-pub mod Phase
 pub mod Config
 pub mod Options
 pub mod Link
-pub mod Outcome
-pub mod Names
 pub mod Sender
 pub mod Receiver
 pub mod Acceptable

@@ -2,10 +2,9 @@
 //!
 //! - [`Sender`]: SND.UNA, SND.NXT, SND.WND, the queue, and what has to be sent again; [`Due`] says what goes out next.
 //! - [`Receiver`]: RCV.NXT, what came, and the peer's FIN.
-//! - [`Config`] is what an end is made from, [`Link`] what both SYNs agreed on, [`Owed`] what has to be answered; [`Phase`],
-//!   [`Ending`], [`Timer`], [`Arrival`], [`CallError`] and [`Received`] name states and answers.
+//! - [`Config`] is what an end is made from, [`Link`] what both SYNs agreed on, [`Peer`] the other end.
 //!
-//! The end itself, with its calls, arrivals and emissions, stands in `tcp_conn`.
+//! The end itself, with its phases, calls, arrivals and emissions, is in `tcp_conn`.
 #![tactic(auto)]
 
 mod acceptable;
@@ -13,19 +12,14 @@ mod config;
 mod due;
 mod link;
 mod marks;
-mod names;
 mod options;
-mod outcome;
-mod phase;
 mod receiver;
 mod sender;
 
 pub use acceptable::is_acceptable;
 pub use config::{Config, ConfigError, DEFAULT_LIMIT, MAX_LIMIT, MAX_MSS, MAX_SHIFT, MIN_MSS};
 pub use due::Due;
-pub use link::{Link, Negotiated, Owed, Peer, WaitingReset};
+pub use link::{Link, Peer, WaitingReset};
 pub use options::{DEFAULT_MSS, link_of};
-pub use outcome::{Arrival, CallError, Received, Taken};
-pub use phase::{Ending, Phase, Timer};
 pub use receiver::Receiver;
 pub use sender::Sender;

@@ -22,22 +22,6 @@ pub struct Link {
     pub sack: bool,
 }
 
-/// What the two SYNs agreed on, as it is in use (RFC 9293, 3.7.1; RFC 7323, 2.2 and 2.3; RFC 2018, 2).
-#[derive(Clone, Copy, Debug, PartialEq, Eq, Hash)]
-pub struct Negotiated {
-    /// The most text bytes of a segment that this end emits, the smaller of both maximum segment sizes: 64 to 1,460. Options take
-    /// of it.
-    pub mss: u16,
-    /// Whether windows are scaled.
-    pub scaling: bool,
-    /// The shift of the windows that this end advertises, at most 14; 0 without scaling.
-    pub own_shift: u8,
-    /// The shift of the windows that the peer advertises, at most 14; 0 without scaling.
-    pub peer_shift: u8,
-    /// Whether selective acknowledgement is in use.
-    pub sack: bool,
-}
-
 /// A reset that waits to be emitted (RFC 9293, 3.10.7.1): whom it goes to, its number, and what it acknowledges,
 /// if anything.
 #[derive(Clone, Copy, Debug, PartialEq, Eq)]
@@ -48,17 +32,4 @@ pub struct WaitingReset {
     pub seq: Seq,
     /// What it acknowledges, if anything.
     pub ack: Option<Seq>,
-}
-
-/// What one end owes to the wire.
-#[derive(Clone, Copy, Debug, PartialEq, Eq)]
-pub struct Owed {
-    /// A SYN, or in SYN-RECEIVED a SYN with its acknowledgement.
-    pub syn: bool,
-    /// An acknowledgement.
-    pub ack: bool,
-    /// One byte of new text past a shut window may go out (RFC 9293, 3.8.6.1).
-    pub probe: bool,
-    /// A reset. At most one waits.
-    pub reset: Option<WaitingReset>,
 }

@@ -7,7 +7,7 @@ use Rattle.tcp_wire.specs.Flags.{rst, has}
 use Rattle.tcp_wire.specs.Wire.{Content}
 use Rattle.tcp_wire.specs.declared.fault.DecodeError.{DecodeError}
 use Rattle.tcp_halves.specs.declared.config.Config.{Config}
-use Rattle.tcp_conn.specs.Config.{IsConfig}
+use Rattle.tcp_halves.specs.Config.{IsConfig}
 use Rattle.tcp_replay.specs.Solo.{SoloState, solo_start, solo_run, run_alone, after_solo, segment_due}
 use Rattle.tcp_replay.specs.SoloEvents.{SoloContent, HasRanges, Emit, Arrive}
 use Rattle.tcp_replay.specs.Truthful.{IsOfUser}

@@ -11,8 +11,8 @@ use Rattle.tcp_halves.specs.declared.link.Peer.{Peer}
 use Rattle.tcp_conn.specs.Phase.{is_last_ack, takes_text, phase_after_own_fin}
 use Rattle.tcp_reasm.specs.Reassembly.{after_read}
 use Rattle.tcp_conn.specs.State.{State, Receiving}
-use Rattle.tcp_conn.specs.Sender.{is_fin_acked}
-use Rattle.tcp_conn.specs.Receiver.{with_syn, after_text, is_fin_due, with_fin}
+use Rattle.tcp_halves.specs.Sender.{is_fin_acked}
+use Rattle.tcp_halves.specs.Receiver.{with_syn, after_text, is_fin_due, with_fin}
 use Rattle.tcp_conn.specs.Endings.{after_orderly_end}
 use Rattle.tcp_conn.specs.Judgement.{is_foreign, phase_judgement, judgement}
 use Rattle.tcp_conn.specs.Arrival.{after_peer_opens, after_peer_accepts, after_own_syn, after_acked_text, after_news, after_own_fin, after_its_ack}

@@ -5,10 +5,10 @@ use Rattle.std.specs.Prelude.{Bool, false}
 use Rattle.std.specs.List.{AllByRecursion}
 use Rattle.tcp_halves.specs.declared.config.Config.{Config}
 use Rattle.tcp_halves.specs.declared.link.Peer.{Peer}
-use Rattle.tcp_conn.specs.Config.{IsConfig, default_limit}
+use Rattle.tcp_halves.specs.Config.{IsConfig, default_limit}
 use Rattle.tcp_conn.specs.Phase.{gives_up}
 use Rattle.tcp_conn.specs.State.{Sending}
-use Rattle.tcp_conn.specs.Sender.{count_sendable}
+use Rattle.tcp_halves.specs.Sender.{count_sendable}
 use Rattle.tcp_replay.specs.Alone.{Sends}
 use Rattle.tcp_replay.specs.Solo.{SoloState, solo_start, solo_run, run_alone, after_solo, end_after}
 use Rattle.tcp_replay.specs.SoloEvents.{SoloContent, HasRanges}

@@ -13,7 +13,7 @@ use Rattle.tcp_halves.specs.declared.link.Link.{Link}
 use Rattle.tcp_halves.specs.declared.link.Peer.{Peer}
 use Rattle.tcp_conn.specs.Phase.{is_last_ack, phase_after_own_fin}
 use Rattle.tcp_conn.specs.State.{State}
-use Rattle.tcp_conn.specs.Sender.{is_fin_acked}
+use Rattle.tcp_halves.specs.Sender.{is_fin_acked}
 use Rattle.tcp_conn.specs.Endings.{after_orderly_end}
 use Rattle.tcp_conn.specs.Judgement.{is_foreign, phase_judgement, judgement}
 use Rattle.tcp_conn.specs.Arrival.{after_peer_opens, after_peer_accepts, after_own_syn, after_acked_text, after_news, after_own_fin, after_its_ack}

@@ -15,7 +15,7 @@ use Rattle.tcp_wire.proofs.RoundTrip.{decoded_encoded, decoded_valid}
 use Rattle.tcp_halves.specs.declared.config.Config.{Config}
 use Rattle.tcp_halves.specs.declared.due.Due.{Due}
 use Rattle.tcp_halves.specs.declared.due.Due.TheVariants.{Reset, Syn}
-use Rattle.tcp_conn.specs.Config.{IsConfig}
+use Rattle.tcp_halves.specs.Config.{IsConfig}
 use Rattle.tcp_conn.specs.Phase.{gives_up}
 use Rattle.tcp_conn.specs.State.{State}
 use Rattle.tcp_conn.specs.Arrival.{after_reading, after_arrival}
@@ -39,8 +39,8 @@ use Rattle.tcp_numbers.specs.declared.seq.Seq.{Seq}
 use Rattle.tcp_wire.specs.Flags.{fin}
 use Rattle.tcp_wire.specs.Wire.{IsValid, encoded_bytes}
 use Rattle.tcp_wire.specs.Position.{distance}
-use Rattle.tcp_halves.specs.declared.phase.Phase.{Phase}
-use Rattle.tcp_halves.specs.declared.phase.Phase.TheVariants.{Closed}
+use Rattle.tcp_conn.specs.declared.phase.Phase.{Phase}
+use Rattle.tcp_conn.specs.declared.phase.Phase.TheVariants.{Closed}
 use Rattle.tcp_conn.specs.Phase.{is_closed, has_peer}
 use Rattle.tcp_conn.specs.State.{Receiving}
 use Rattle.tcp_conn.specs.Judgement.{count_numbers}

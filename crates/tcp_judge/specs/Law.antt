@@ -5,7 +5,7 @@ use Rattle.tcp_wire.specs.Wire.{Content}
 use Rattle.tcp_wire.specs.Decoded.{decode_answer}
 use Rattle.tcp_wire.specs.declared.fault.DecodeError.{DecodeError}
 use Rattle.tcp_halves.specs.declared.config.Config.{Config}
-use Rattle.tcp_conn.specs.Config.{IsConfig, default_limit}
+use Rattle.tcp_halves.specs.Config.{IsConfig, default_limit}
 use Rattle.tcp_replay.specs.Solo.{run_alone}
 use Rattle.tcp_replay.specs.SoloEvents.{SoloContent, HasRanges}
 use Rattle.tcp_judge.specs.Log.{PassageContent, Came, Went, log_alone}

@@ -6,9 +6,9 @@ use Rattle.std.proofs.lemmas.Bool.Decides.{nat_tests}
 use Rattle.tcp_wire.specs.Wire.{Content}
 use Rattle.tcp_numbers.specs.Position.{position_of}
 use Rattle.tcp_sendq.specs.SendQueue as queues
-use Rattle.tcp_halves.specs.declared.phase.Phase.{Phase}
-use Rattle.tcp_halves.specs.declared.phase.Phase.TheVariants.{Closing, Closed, Listen, SynSent, SynReceived, Established, FinWait1, FinWait2, CloseWait, LastAck, TimeWait}
-use Rattle.tcp_halves.specs.Phase.{is_last_ack, is_syn_received, phase_after_own_fin}
+use Rattle.tcp_conn.specs.declared.phase.Phase.{Phase}
+use Rattle.tcp_conn.specs.declared.phase.Phase.TheVariants.{Closing, Closed, Listen, SynSent, SynReceived, Established, FinWait1, FinWait2, CloseWait, LastAck, TimeWait}
+use Rattle.tcp_conn.specs.Phase.{is_last_ack, is_syn_received, phase_after_own_fin}
 use Rattle.tcp_halves.specs.Sender.{Sending, acks_more, after_ack, after_window_update, is_fin_acked, is_newer, with_acked, with_window}
 use Rattle.tcp_halves.specs.Marks.{after_block, after_blocks, marks_text, with_marks}
 use Rattle.tcp_conn.specs.Arrival.{after_acked_text, after_arrival, after_fin, after_its_ack, after_its_text, after_news, after_own_fin, after_own_syn, after_taking, after_taking_shut, arrival_answer, blocks_used, is_current, with_news}

@@ -8,10 +8,10 @@ use Rattle.std.proofs.lemmas.List.{drop-replicate, length-replicate}
 use Rattle.tcp_sendq.specs.SendQueue.{Queue, count_leading, next_unmarked, without_marks}
 use Rattle.tcp_halves.specs.declared.due.Due.{Due}
 use Rattle.tcp_halves.specs.declared.due.Due.TheVariants.{Resend, ResentFin}
-use Rattle.tcp_halves.specs.declared.link.Owed.{Owed}
-use Rattle.tcp_halves.specs.declared.phase.Phase.{Phase}
-use Rattle.tcp_halves.specs.declared.phase.Phase.TheVariants.{Closing, Closed, Listen, SynSent, SynReceived, Established, FinWait1, FinWait2, CloseWait, LastAck, TimeWait}
-use Rattle.tcp_halves.specs.Phase.{is_handshake, sends_text}
+use Rattle.tcp_conn.specs.declared.owed.Owed.{Owed}
+use Rattle.tcp_conn.specs.declared.phase.Phase.{Phase}
+use Rattle.tcp_conn.specs.declared.phase.Phase.TheVariants.{Closing, Closed, Listen, SynSent, SynReceived, Established, FinWait1, FinWait2, CloseWait, LastAck, TimeWait}
+use Rattle.tcp_conn.specs.Phase.{is_handshake, sends_text}
 use Rattle.tcp_halves.specs.Sender.{with_all_resent, Sending, end_of_text, place_of, position_at}
 use Rattle.tcp_conn.specs.State.{State}
 use Rattle.tcp_conn.specs.Forms.{segment_of}

@@ -6,9 +6,9 @@ use Rattle.tcp_wire.specs.Decoded.{decode_answer}
 use Rattle.tcp_wire.specs.Wire.{Content}
 use Rattle.tcp_halves.specs.declared.due.Due.{Due}
 use Rattle.tcp_halves.specs.declared.due.Due.TheVariants.{Acknowledgement, Fin, NewText}
-use Rattle.tcp_halves.specs.declared.outcome.Arrival.TheVariants.{Dropped}
+use Rattle.tcp_conn.specs.declared.outcome.Arrival.TheVariants.{Dropped}
 use Rattle.tcp_halves.specs.Due.{is_fin, pushes, start_of}
-use Rattle.tcp_halves.specs.Phase.{sends_text}
+use Rattle.tcp_conn.specs.Phase.{sends_text}
 use Rattle.tcp_halves.specs.Sender.{end_of_text}
 use Rattle.tcp_conn.specs.declared.judgement.Judgement.TheVariants.{Unacceptable}
 use Rattle.tcp_conn.specs.Arrival.{after_arrival, arrival_answer}

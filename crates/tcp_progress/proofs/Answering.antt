@@ -9,9 +9,9 @@ use Rattle.tcp_wire.specs.Wire.{Content}
 use Rattle.tcp_sendq.specs.SendQueue.{count_leading, first_unmarked, next_unmarked}
 use Rattle.tcp_halves.specs.declared.due.Due.{Due}
 use Rattle.tcp_halves.specs.declared.due.Due.TheVariants.{ResentFin}
-use Rattle.tcp_halves.specs.declared.phase.Ending.TheVariants.{NotEnded}
+use Rattle.tcp_conn.specs.declared.phase.Ending.TheVariants.{NotEnded}
 use Rattle.tcp_halves.specs.Marks.{after_block, after_blocks, marks_text, with_marks}
-use Rattle.tcp_halves.specs.Phase.{is_last_ack, is_syn_received, phase_after_own_fin, sends_text}
+use Rattle.tcp_conn.specs.Phase.{is_last_ack, is_syn_received, phase_after_own_fin, sends_text}
 use Rattle.tcp_halves.specs.Sender.{Sending, acks_more, after_ack, after_window_update, end_of_text, is_fin_acked, is_newer, place_of, position_at}
 use Rattle.tcp_halves.specs.Sender.{with_acked, with_syn_acked, with_window}
 use Rattle.tcp_conn.specs.declared.judgement.Judgement.{Judgement}

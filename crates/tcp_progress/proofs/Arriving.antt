@@ -7,11 +7,11 @@ use Rattle.std.proofs.lemmas.Option.{slice_get_within}
 use Rattle.std.proofs.lemmas.Slice.Eq.{bytes_eq-Decides}
 use Rattle.tcp_wire.specs.Flags.{ack, has, rst}
 use Rattle.tcp_wire.specs.Wire.{Content}
-use Rattle.tcp_halves.specs.declared.phase.Ending.{Ending}
-use Rattle.tcp_halves.specs.declared.phase.Ending.TheVariants.{NotEnded}
-use Rattle.tcp_halves.specs.declared.phase.Phase.{Phase}
-use Rattle.tcp_halves.specs.declared.phase.Phase.TheVariants.{Closed, Listen, SynSent}
-use Rattle.tcp_halves.specs.Phase.{has_peer}
+use Rattle.tcp_conn.specs.declared.phase.Ending.{Ending}
+use Rattle.tcp_conn.specs.declared.phase.Ending.TheVariants.{NotEnded}
+use Rattle.tcp_conn.specs.declared.phase.Phase.{Phase}
+use Rattle.tcp_conn.specs.declared.phase.Phase.TheVariants.{Closed, Listen, SynSent}
+use Rattle.tcp_conn.specs.Phase.{has_peer}
 use Rattle.tcp_conn.specs.Judgement.{is_for_other, is_foreign, is_from_other}
 use Rattle.tcp_replay.specs.Alone.{FitsPhase}
 use Rattle.tcp_replay.specs.World.{PartyState, SentSegment, delivery_refusal, flags_in, is_expired, is_missing, sent_at}

@@ -5,12 +5,12 @@ use Rattle.std.specs.List.{AllByRecursion}
 use Rattle.std.proofs.lemmas.Bool.{false≢true}
 use Rattle.tcp_halves.specs.declared.due.Due.TheVariants.{Reset, Syn}
 use Rattle.tcp_halves.specs.declared.link.WaitingReset.{WaitingReset}
-use Rattle.tcp_halves.specs.declared.phase.Ending.TheVariants.{NotEnded}
-use Rattle.tcp_halves.specs.declared.phase.Phase.{Phase}
-use Rattle.tcp_halves.specs.declared.phase.Phase.TheVariants.{Closed, Listen, SynSent, SynReceived, Established, FinWait1, FinWait2, CloseWait, Closing}
-use Rattle.tcp_halves.specs.declared.phase.Phase.TheVariants.{LastAck, TimeWait}
-use Rattle.tcp_halves.specs.declared.phase.Timer.TheVariants.{Retransmit}
-use Rattle.tcp_halves.specs.Phase.{has_peer, is_handshake, sends_text}
+use Rattle.tcp_conn.specs.declared.phase.Ending.TheVariants.{NotEnded}
+use Rattle.tcp_conn.specs.declared.phase.Phase.{Phase}
+use Rattle.tcp_conn.specs.declared.phase.Phase.TheVariants.{Closed, Listen, SynSent, SynReceived, Established, FinWait1, FinWait2, CloseWait, Closing}
+use Rattle.tcp_conn.specs.declared.phase.Phase.TheVariants.{LastAck, TimeWait}
+use Rattle.tcp_conn.specs.declared.phase.Timer.TheVariants.{Retransmit}
+use Rattle.tcp_conn.specs.Phase.{has_peer, is_handshake, sends_text}
 use Rattle.tcp_conn.specs.State.{State}
 use Rattle.tcp_conn.specs.Due.{due_of}
 use Rattle.tcp_conn.specs.Emission.{after_emission}

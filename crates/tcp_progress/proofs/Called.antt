@@ -8,9 +8,9 @@ use Rattle.tcp_wire.specs.Decoded.{decode_answer}
 use Rattle.tcp_halves.specs.declared.config.Config.{Config}
 use Rattle.tcp_halves.specs.declared.due.Due.TheVariants.{Reset, Syn}
 use Rattle.tcp_halves.specs.declared.link.WaitingReset.{WaitingReset}
-use Rattle.tcp_halves.specs.declared.phase.Phase.TheVariants.{SynReceived}
-use Rattle.tcp_halves.specs.declared.phase.Timer.TheVariants.{Retransmit}
-use Rattle.tcp_halves.specs.Phase.{is_handshake}
+use Rattle.tcp_conn.specs.declared.phase.Phase.TheVariants.{SynReceived}
+use Rattle.tcp_conn.specs.declared.phase.Timer.TheVariants.{Retransmit}
+use Rattle.tcp_conn.specs.Phase.{is_handshake}
 use Rattle.tcp_conn.specs.State.{State}
 use Rattle.tcp_conn.specs.Due.{due_of}
 use Rattle.tcp_conn.specs.Emission.{after_emission}

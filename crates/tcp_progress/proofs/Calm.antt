@@ -5,14 +5,14 @@ use Rattle.std.specs.Prelude.{Bool, true, false, Option, Some, None, ◌⊎◌, 
 use Rattle.std.proofs.lemmas.Bool.{cases_Bool, cond_both}
 use Rattle.tcp_wire.specs.Flags.{has, rst}
 use Rattle.tcp_wire.specs.Wire.{Content}
-use Rattle.tcp_halves.specs.declared.phase.Ending.{Ending}
-use Rattle.tcp_halves.specs.declared.phase.Ending.TheVariants.{NotEnded, Orderly}
-use Rattle.tcp_halves.specs.declared.phase.Phase.{Phase}
-use Rattle.tcp_halves.specs.declared.phase.Phase.TheVariants.{Closed, Listen, SynSent, SynReceived, Established, FinWait1, FinWait2, CloseWait, Closing}
-use Rattle.tcp_halves.specs.declared.phase.Phase.TheVariants.{LastAck, TimeWait}
-use Rattle.tcp_halves.specs.declared.phase.Timer.{Timer as Which}
-use Rattle.tcp_halves.specs.declared.phase.Timer.TheVariants as timers
-use Rattle.tcp_halves.specs.Phase.{gives_up, is_closed}
+use Rattle.tcp_conn.specs.declared.phase.Ending.{Ending}
+use Rattle.tcp_conn.specs.declared.phase.Ending.TheVariants.{NotEnded, Orderly}
+use Rattle.tcp_conn.specs.declared.phase.Phase.{Phase}
+use Rattle.tcp_conn.specs.declared.phase.Phase.TheVariants.{Closed, Listen, SynSent, SynReceived, Established, FinWait1, FinWait2, CloseWait, Closing}
+use Rattle.tcp_conn.specs.declared.phase.Phase.TheVariants.{LastAck, TimeWait}
+use Rattle.tcp_conn.specs.declared.phase.Timer.{Timer as Which}
+use Rattle.tcp_conn.specs.declared.phase.Timer.TheVariants as timers
+use Rattle.tcp_conn.specs.Phase.{gives_up, is_closed}
 use Rattle.tcp_halves.specs.Sender.{Sending}
 use Rattle.tcp_conn.specs.State.{State}
 use Rattle.tcp_conn.specs.declared.judgement.Judgement.{Judgement}

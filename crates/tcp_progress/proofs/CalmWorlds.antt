@@ -3,11 +3,11 @@ use Rattle.std.proofs.Common.{◌≡◌, ℕ, ◌+◌, ◌<◌, ◌≤◌, List,
 use Rattle.std.specs.List.{AllByRecursion}
 use Rattle.std.specs.Prelude.{true, false, Option, Some, None, ◌⊎◌}
 use Rattle.std.proofs.lemmas.Bool.{false≢true}
-use Rattle.tcp_halves.specs.declared.phase.Ending.TheVariants.{NotEnded, Orderly}
-use Rattle.tcp_halves.specs.declared.phase.Phase.{Phase}
-use Rattle.tcp_halves.specs.declared.phase.Phase.TheVariants.{Closed, Listen, SynSent, SynReceived, Established, FinWait1, FinWait2, CloseWait, Closing}
-use Rattle.tcp_halves.specs.declared.phase.Phase.TheVariants.{LastAck, TimeWait}
-use Rattle.tcp_halves.specs.Phase.{gives_up}
+use Rattle.tcp_conn.specs.declared.phase.Ending.TheVariants.{NotEnded, Orderly}
+use Rattle.tcp_conn.specs.declared.phase.Phase.{Phase}
+use Rattle.tcp_conn.specs.declared.phase.Phase.TheVariants.{Closed, Listen, SynSent, SynReceived, Established, FinWait1, FinWait2, CloseWait, Closing}
+use Rattle.tcp_conn.specs.declared.phase.Phase.TheVariants.{LastAck, TimeWait}
+use Rattle.tcp_conn.specs.Phase.{gives_up}
 use Rattle.tcp_conn.specs.State.{State}
 use Rattle.tcp_replay.specs.declared.event.Side.{Side}
 use Rattle.tcp_replay.specs.declared.event.Side.TheVariants.{A, B}

@@ -11,10 +11,10 @@ use Rattle.tcp_wire.specs.Wire.{Content}
 use Rattle.tcp_wire.proofs.Lemmas.{position_of_number}
 use Rattle.tcp_reasm.specs.Reassembly.{window}
 use Rattle.tcp_halves.specs.Acceptable.{is_acceptable}
-use Rattle.tcp_halves.specs.declared.phase.Ending.TheVariants.{NotEnded, Orderly}
-use Rattle.tcp_halves.specs.declared.phase.Phase.{Phase}
-use Rattle.tcp_halves.specs.declared.phase.Phase.TheVariants.{SynReceived, LastAck}
-use Rattle.tcp_halves.specs.Phase.{gives_up, is_last_ack, phase_after_own_fin}
+use Rattle.tcp_conn.specs.declared.phase.Ending.TheVariants.{NotEnded, Orderly}
+use Rattle.tcp_conn.specs.declared.phase.Phase.{Phase}
+use Rattle.tcp_conn.specs.declared.phase.Phase.TheVariants.{SynReceived, LastAck}
+use Rattle.tcp_conn.specs.Phase.{gives_up, is_last_ack, phase_after_own_fin}
 use Rattle.tcp_halves.specs.Sender.{Sending, acks_more, after_ack, end_of_text, is_fin_acked, is_fin_sent, with_acked}
 use Rattle.tcp_conn.specs.declared.judgement.Judgement.{Judgement}
 use Rattle.tcp_conn.specs.declared.judgement.Judgement.TheVariants.{Taken}

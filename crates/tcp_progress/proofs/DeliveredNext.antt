@@ -9,9 +9,9 @@ use Rattle.tcp_wire.specs.Flags.{fin, has}
 use Rattle.tcp_wire.specs.Decoded.{decode_answer}
 use Rattle.tcp_wire.specs.Wire.{Content}
 use Rattle.tcp_reasm.specs.Reassembly.{window}
-use Rattle.tcp_halves.specs.declared.phase.Phase.{Phase}
-use Rattle.tcp_halves.specs.declared.phase.Phase.TheVariants.{Closed, Listen, SynSent, SynReceived, Established, FinWait1, FinWait2, CloseWait, Closing, LastAck, TimeWait}
-use Rattle.tcp_halves.specs.Phase.{takes_text}
+use Rattle.tcp_conn.specs.declared.phase.Phase.{Phase}
+use Rattle.tcp_conn.specs.declared.phase.Phase.TheVariants.{Closed, Listen, SynSent, SynReceived, Established, FinWait1, FinWait2, CloseWait, Closing, LastAck, TimeWait}
+use Rattle.tcp_conn.specs.Phase.{takes_text}
 use Rattle.tcp_halves.specs.Receiver.{Receiving, max_ordered}
 use Rattle.tcp_conn.specs.Arrival.{after_arrival, phase_after_own_syn}
 use Rattle.tcp_conn.specs.Judgement.{count_numbers}

@@ -10,7 +10,7 @@ use Rattle.tcp_sendq.specs.SendQueue.{Queue, count_leading, first_unmarked, next
 use Rattle.tcp_halves.specs.declared.due.Due.{Due}
 use Rattle.tcp_halves.specs.declared.due.Due.TheVariants.{Reset, Syn, Resend, NewText, Fin, ResentFin, Acknowledgement}
 use Rattle.tcp_halves.specs.declared.link.WaitingReset.{WaitingReset}
-use Rattle.tcp_halves.specs.Phase.{sends_text}
+use Rattle.tcp_conn.specs.Phase.{sends_text}
 use Rattle.tcp_halves.specs.Sender.{Sending, end_of_text, place_of, position_at}
 use Rattle.tcp_conn.specs.State.{State}
 use Rattle.tcp_conn.specs.Due.{ack_due, due_of, fin_of, new_count, new_text_of, reset_due, resend_of, resend_start, resent_fin, resent_run, resent_text}

@@ -9,9 +9,9 @@ use Rattle.tcp_sendq.specs.SendQueue.{IsMarked, after_release, next_unmarked, en
 use Rattle.tcp_sendq.proofs.Places.{end_of_marks-marked, IsMarked-without_marks, IsMarked-after_release, IsMarked-after_offer}
 use Rattle.tcp_halves.specs.declared.due.Due.{Due}
 use Rattle.tcp_halves.specs.declared.due.Due.TheVariants.{Resend, NewText, Fin, ResentFin}
-use Rattle.tcp_halves.specs.declared.link.Owed.{Owed}
+use Rattle.tcp_conn.specs.declared.owed.Owed.{Owed}
 use Rattle.tcp_conn.specs.State.{Sending, place_of, position_at, end_of_text, State}
-use Rattle.tcp_conn.specs.Sender.{count_unsent, with_syn_sent, with_text, with_all_resent, without_resend, without_text, is_probe_needed, count_sendable}
+use Rattle.tcp_halves.specs.Sender.{count_unsent, with_syn_sent, with_text, with_all_resent, without_resend, without_text, is_probe_needed, count_sendable}
 use Rattle.tcp_conn.specs.Due.{resend_start, resent_text, resent_fin, resent_run, resend_of, usable_window, count_allowed, new_count, new_text_of, fin_of}
 use Rattle.tcp_conn.specs.Due.{sending_due, reset_due, syn_due, ack_due, text_limit, text_due, due_of}
 use Rattle.tcp_conn.specs.Emission.{range_after, sending_after, owed_after}
@@ -19,7 +19,7 @@ use Rattle.tcp_conn.specs.Timers.{after_gaps, needs_probe}
 use Rattle.tcp_replay.proofs.Halves.{range-more}
 use Rattle.tcp_replay.proofs.AloneEmissions.{option_or-both, end-is, range_after-ends, going-on}
 use Rattle.tcp_halves.specs.declared.link.WaitingReset.{WaitingReset}
-use Rattle.tcp_halves.specs.declared.phase.Ending.TheVariants.{Aborted}
+use Rattle.tcp_conn.specs.declared.phase.Ending.TheVariants.{Aborted}
 use Rattle.tcp_conn.specs.Phase.{sends_text, gives_up}
 use Rattle.tcp_conn.specs.Endings.{after_giving_up}
 use Rattle.tcp_conn.specs.Calls.{send_refusal}

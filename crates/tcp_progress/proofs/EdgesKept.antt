@@ -5,7 +5,7 @@ use Rattle.std.proofs.lemmas.Bool.{cond_both, ltb-true, and_parts, leb-true}
 use Rattle.tcp_sendq.specs.SendQueue.{IsMarked, marks_with, can_mark, after_mark}
 use Rattle.tcp_sendq.proofs.Places.{IsMarked-after_release, marks_with-only}
 use Rattle.tcp_conn.specs.State.{Sending, place_of, position_at, State}
-use Rattle.tcp_conn.specs.Sender.{count_below, acks_more, with_acked, after_ack, is_newer, with_window, after_window_update, with_syn_acked}
+use Rattle.tcp_halves.specs.Sender.{count_below, acks_more, with_acked, after_ack, is_newer, with_window, after_window_update, with_syn_acked}
 use Rattle.tcp_conn.specs.Phase.{gives_up, is_syn_received}
 use Rattle.tcp_replay.specs.World.{PartyState, SentSegment, new_party}
 use Rattle.tcp_replay.specs.Alone.{Sends}
@@ -26,7 +26,7 @@ use Rattle.tcp_replay.proofs.Arrivals.{on-arrival}
 use Rattle.tcp_progress.proofs.Covering.{flags}
 use Rattle.tcp_replay.proofs.Steps.{kept-same, Moved}
 use Rattle.tcp_halves.specs.declared.config.Config.{Config}
-use Rattle.tcp_conn.specs.Config.{IsConfig}
+use Rattle.tcp_halves.specs.Config.{IsConfig}
 use Rattle.tcp_progress.proofs.Edges.{Edge, Edged, EdgedWith, edge-calls, edge-given_up, edge-more, edge-orderly, edge-syn_sent}
 
 module _ (count next capacity : ℕ) where

@@ -4,12 +4,12 @@ use Rattle.std.proofs.Math.Bool.{or-true, and-false}
 use Rattle.std.specs.Prelude.{true, false, Bool, None, min, ◌⊎◌}
 use Rattle.std.proofs.lemmas.Bool.{cond_both, false≢true, lt-ltb, eq-eqb}
 use Rattle.std.proofs.lemmas.List.{take_all}
-use Rattle.tcp_halves.specs.declared.phase.Ending.{Ending}
-use Rattle.tcp_halves.specs.declared.phase.Ending.TheVariants.{NotEnded, Orderly}
-use Rattle.tcp_halves.specs.declared.phase.Phase.{Phase}
-use Rattle.tcp_halves.specs.declared.phase.Phase.TheVariants.{Closed, Listen, SynSent, SynReceived, Established, FinWait1, FinWait2, CloseWait, Closing, LastAck, TimeWait}
-use Rattle.tcp_halves.specs.declared.phase.Timer.TheVariants as timers
-use Rattle.tcp_halves.specs.Phase.{is_time_wait, is_closed, gives_up}
+use Rattle.tcp_conn.specs.declared.phase.Ending.{Ending}
+use Rattle.tcp_conn.specs.declared.phase.Ending.TheVariants.{NotEnded, Orderly}
+use Rattle.tcp_conn.specs.declared.phase.Phase.{Phase}
+use Rattle.tcp_conn.specs.declared.phase.Phase.TheVariants.{Closed, Listen, SynSent, SynReceived, Established, FinWait1, FinWait2, CloseWait, Closing, LastAck, TimeWait}
+use Rattle.tcp_conn.specs.declared.phase.Timer.TheVariants as timers
+use Rattle.tcp_conn.specs.Phase.{is_time_wait, is_closed, gives_up}
 use Rattle.tcp_halves.specs.Sender.{Sending, end_of_text, is_fin_acked}
 use Rattle.tcp_reasm.specs.Reassembly.{after_read}
 use Rattle.tcp_conn.specs.State.{State}

@@ -8,7 +8,7 @@ use Rattle.tcp_wire.specs.Wire.{Content}
 use Rattle.tcp_reasm.specs.declared.placed.Placed.TheVariants.{Advanced, NotKept}
 use Rattle.tcp_reasm.specs.Reassembly.{Cell, Inbox, place_answer, runs}
 use Rattle.tcp_halves.specs.declared.config.Config.{Config}
-use Rattle.tcp_halves.specs.declared.phase.Phase.TheVariants.{Established}
+use Rattle.tcp_conn.specs.declared.phase.Phase.TheVariants.{Established}
 use Rattle.tcp_halves.specs.Config.{default_limit}
 use Rattle.tcp_halves.specs.Sender.{new_sending}
 use Rattle.tcp_conn.specs.Endpoint.{AlwaysHolds}

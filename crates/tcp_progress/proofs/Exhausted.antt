@@ -6,7 +6,7 @@ use Rattle.std.proofs.lemmas.Bool.{cases_Bool, cases_lt}
 use Rattle.std.proofs.lemmas.Bool.Decides.{nat_tests}
 use Rattle.tcp_sendq.specs.SendQueue.{next_unmarked}
 use Rattle.tcp_halves.specs.declared.due.Due.TheVariants.{Resend, ResentFin}
-use Rattle.tcp_halves.specs.Phase.{sends_text}
+use Rattle.tcp_conn.specs.Phase.{sends_text}
 use Rattle.tcp_halves.specs.Sender.{Sending, end_of_text, place_of, position_at}
 use Rattle.tcp_conn.specs.State.{State}
 use Rattle.tcp_conn.specs.Due.{resend_of, resend_start, resent_run, text_limit}

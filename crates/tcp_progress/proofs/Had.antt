@@ -5,7 +5,7 @@ use Rattle.std.specs.Prelude.{false, if◌then◌else◌, Option, Some, None, If
 use Rattle.std.specs.List.{AllByRecursion}
 use Rattle.std.proofs.lemmas.Bool.{cond_both}
 use Rattle.tcp_halves.specs.declared.due.Due.{Due}
-use Rattle.tcp_halves.specs.declared.phase.Timer.TheVariants.{Retransmit}
+use Rattle.tcp_conn.specs.declared.phase.Timer.TheVariants.{Retransmit}
 use Rattle.tcp_conn.specs.Due.{due_of}
 use Rattle.tcp_replay.specs.declared.event.Side.{Side}
 use Rattle.tcp_replay.specs.declared.event.Side.TheVariants.{A, B}

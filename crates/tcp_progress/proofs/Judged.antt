@@ -6,9 +6,9 @@ use Rattle.std.proofs.lemmas.Bool.Decides.{nat_tests}
 use Rattle.std.proofs.lemmas.Int.{ints}
 use Rattle.tcp_wire.specs.Wire.{Content}
 use Rattle.tcp_reasm.specs.Reassembly.{window}
-use Rattle.tcp_halves.specs.declared.phase.Phase.{Phase}
-use Rattle.tcp_halves.specs.declared.phase.Phase.TheVariants.{Closing, Closed, Listen, SynSent, SynReceived, Established, FinWait1, FinWait2, CloseWait, LastAck, TimeWait}
-use Rattle.tcp_halves.specs.Phase.{is_closed, is_listening, is_syn_received, is_syn_sent, takes_text}
+use Rattle.tcp_conn.specs.declared.phase.Phase.{Phase}
+use Rattle.tcp_conn.specs.declared.phase.Phase.TheVariants.{Closing, Closed, Listen, SynSent, SynReceived, Established, FinWait1, FinWait2, CloseWait, LastAck, TimeWait}
+use Rattle.tcp_conn.specs.Phase.{is_closed, is_listening, is_syn_received, is_syn_sent, takes_text}
 use Rattle.tcp_conn.specs.declared.judgement.Judgement.{Judgement}
 use Rattle.tcp_conn.specs.declared.judgement.Judgement.TheVariants.{HandshakeRefused, HandshakeRefusedShut, Taken, TakenShut}
 use Rattle.tcp_conn.specs.Arrival.{phase_after_own_syn}

@@ -3,9 +3,9 @@
 use Rattle.std.proofs.Common.{◌≡◌, inl, inr, refl, sym, ◌∙◌, ap, arith}
 use Rattle.std.specs.Prelude.{true, false, ◌⊎◌}
 use Rattle.std.proofs.lemmas.Bool.{cases_Bool, false≢true}
-use Rattle.tcp_halves.specs.declared.phase.Ending.{Ending}
-use Rattle.tcp_halves.specs.declared.phase.Ending.TheVariants.{NotEnded, Orderly, Reset, Aborted}
-use Rattle.tcp_halves.specs.Phase.{gives_up}
+use Rattle.tcp_conn.specs.declared.phase.Ending.{Ending}
+use Rattle.tcp_conn.specs.declared.phase.Ending.TheVariants.{NotEnded, Orderly, Reset, Aborted}
+use Rattle.tcp_conn.specs.Phase.{gives_up}
 use Rattle.tcp_replay.specs.Alone.{Sends}
 use Rattle.tcp_replay.specs.World.{PartyState}
 use Rattle.tcp_replay.proofs.Lists.{one_if, one_if-most}

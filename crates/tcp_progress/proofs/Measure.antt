@@ -1,7 +1,7 @@
 -- WHERE A TURN LEADS: less is left between two parties, and both go on.
 use Rattle.std.proofs.Common.{◌≡◌, ℕ, ◌<◌, inl, arith}
 use Rattle.std.specs.Prelude.{true, ◌⊎◌}
-use Rattle.tcp_halves.specs.declared.phase.Ending.TheVariants.{NotEnded, Orderly}
+use Rattle.tcp_conn.specs.declared.phase.Ending.TheVariants.{NotEnded, Orderly}
 use Rattle.tcp_replay.specs.declared.event.Side.{Side}
 use Rattle.tcp_replay.specs.declared.event.Side.TheVariants.{A, B}
 use Rattle.tcp_replay.specs.World.{WorldState, PartyState, world_from}

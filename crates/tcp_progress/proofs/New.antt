@@ -7,7 +7,7 @@ use Rattle.std.proofs.lemmas.Bool.Decides.{nat_tests}
 use Rattle.tcp_sendq.specs.SendQueue.{count_leading, first_unmarked, next_unmarked}
 use Rattle.tcp_halves.specs.declared.due.Due.{Due}
 use Rattle.tcp_halves.specs.declared.due.Due.TheVariants.{Fin, NewText, ResentFin}
-use Rattle.tcp_halves.specs.Phase.{sends_text}
+use Rattle.tcp_conn.specs.Phase.{sends_text}
 use Rattle.tcp_halves.specs.Sender.{Sending, count_unsent, end_of_text, is_probe_needed, place_of, position_at}
 use Rattle.tcp_conn.specs.State.{State}
 use Rattle.tcp_conn.specs.Forms.{segment_of}

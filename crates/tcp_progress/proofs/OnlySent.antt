@@ -11,7 +11,7 @@ use Rattle.tcp_reasm.specs.Reassembly.{piece, window, after_place, after_read, C
 use Rattle.tcp_conn.specs.Phase.{takes_text, is_syn_received, gives_up}
 use Rattle.tcp_conn.specs.State.{State, Receiving, Sending}
 use Rattle.tcp_conn.specs.Judgement.{count_numbers, position_near}
-use Rattle.tcp_conn.specs.Receiver.{after_text, is_fin_due, with_fin, with_syn, after_handing, without_bytes}
+use Rattle.tcp_halves.specs.Receiver.{after_text, is_fin_due, with_fin, with_syn, after_handing, without_bytes}
 use Rattle.tcp_conn.specs.Arrival.{has_fin, takes_fin, after_own_syn, after_acked_text, after_news, after_peer_opens, after_peer_accepts, after_arrival}
 use Rattle.tcp_replay.specs.World.{PartyState, address_of, SentSegment, WorldState, new_party, new_world_with, refusal_of, world_with_effect}
 use Rattle.tcp_replay.specs.World.{delivery_refusal, max_life, segment_at, sent_at}
@@ -21,9 +21,9 @@ use Rattle.tcp_replay.proofs.Lists.{one_if, one_if-false, one_if-most}
 use Rattle.tcp_replay.proofs.Feeds.{AllText, AllHeld, Brings, brings-place, held-moved, held-same, held-none, held-more}
 use Rattle.tcp_replay.proofs.Steps.{Kept, kept-same, Moved, next_of}
 use Rattle.tcp_replay.proofs.Stages.{IsAhead, IsYoung, text_advance, text-advances, placed, fin-in_turn}
-use Rattle.tcp_halves.specs.declared.phase.Ending.TheVariants.{Aborted}
+use Rattle.tcp_conn.specs.declared.phase.Ending.TheVariants.{Aborted}
 use Rattle.tcp_conn.specs.Windows.{window_from}
-use Rattle.tcp_conn.specs.Sender.{with_syn_acked, with_window, acks_more, with_acked, after_ack}
+use Rattle.tcp_halves.specs.Sender.{with_syn_acked, with_window, acks_more, with_acked, after_ack}
 use Rattle.tcp_conn.specs.Endings.{after_giving_up}
 use Rattle.tcp_replay.specs.Sound.{IsSoundPair, IsSound}
 use Rattle.tcp_replay.proofs.Phases.{end-closed, end-listen, end-syn_sent, handshake-una}

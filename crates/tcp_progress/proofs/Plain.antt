@@ -9,9 +9,9 @@ use Rattle.tcp_wire.specs.Wire.{Content}
 use Rattle.tcp_halves.specs.declared.config.Config.{Config}
 use Rattle.tcp_halves.specs.declared.due.Due.{Due}
 use Rattle.tcp_halves.specs.declared.due.Due.TheVariants as dues
-use Rattle.tcp_halves.specs.declared.phase.Timer.TheVariants as timers
+use Rattle.tcp_conn.specs.declared.phase.Timer.TheVariants as timers
 use Rattle.tcp_halves.specs.Due.{is_fin}
-use Rattle.tcp_halves.specs.Phase.{gives_up, is_closed, is_listening, is_syn_received, is_syn_sent}
+use Rattle.tcp_conn.specs.Phase.{gives_up, is_closed, is_listening, is_syn_received, is_syn_sent}
 use Rattle.tcp_halves.specs.Sender.{acks_unsent}
 use Rattle.tcp_conn.specs.State.{State}
 use Rattle.tcp_conn.specs.Arrival.{after_arrival, after_judgement}

@@ -4,11 +4,11 @@ use Rattle.std.specs.Prelude.{true, false, Bool, Option, Some, None, drop}
 use Rattle.std.proofs.lemmas.Bool.{false≢true, cases_Bool}
 use Rattle.tcp_halves.specs.declared.due.Due.{Due}
 use Rattle.tcp_halves.specs.declared.link.WaitingReset.{WaitingReset}
-use Rattle.tcp_halves.specs.declared.phase.Ending.{Ending}
-use Rattle.tcp_halves.specs.declared.phase.Ending.TheVariants.{NotEnded}
-use Rattle.tcp_halves.specs.declared.phase.Phase.{Phase}
-use Rattle.tcp_halves.specs.declared.phase.Phase.TheVariants.{Closed, SynSent, SynReceived}
-use Rattle.tcp_halves.specs.Phase.{is_closed, is_handshake, sends_text}
+use Rattle.tcp_conn.specs.declared.phase.Ending.{Ending}
+use Rattle.tcp_conn.specs.declared.phase.Ending.TheVariants.{NotEnded}
+use Rattle.tcp_conn.specs.declared.phase.Phase.{Phase}
+use Rattle.tcp_conn.specs.declared.phase.Phase.TheVariants.{Closed, SynSent, SynReceived}
+use Rattle.tcp_conn.specs.Phase.{is_closed, is_handshake, sends_text}
 use Rattle.tcp_reasm.specs.Reassembly.{after_read}
 use Rattle.tcp_conn.specs.State.{State}
 use Rattle.tcp_conn.specs.Calls.{after_receive}

@@ -5,12 +5,12 @@ use Rattle.std.specs.List.{AllByRecursion}
 use Rattle.std.proofs.lemmas.Bool.{cases_Bool, false≢true}
 use Rattle.tcp_wire.specs.Flags.{ack, has, rst}
 use Rattle.tcp_wire.specs.Wire.{Content}
-use Rattle.tcp_halves.specs.declared.phase.Ending.{Ending}
-use Rattle.tcp_halves.specs.declared.phase.Ending.TheVariants.{NotEnded}
-use Rattle.tcp_halves.specs.declared.phase.Phase.{Phase}
-use Rattle.tcp_halves.specs.declared.phase.Phase.TheVariants.{Closed, Listen, SynSent, SynReceived, LastAck}
-use Rattle.tcp_halves.specs.declared.phase.Timer.TheVariants as timers
-use Rattle.tcp_halves.specs.Phase.{gives_up, is_syn_sent}
+use Rattle.tcp_conn.specs.declared.phase.Ending.{Ending}
+use Rattle.tcp_conn.specs.declared.phase.Ending.TheVariants.{NotEnded}
+use Rattle.tcp_conn.specs.declared.phase.Phase.{Phase}
+use Rattle.tcp_conn.specs.declared.phase.Phase.TheVariants.{Closed, Listen, SynSent, SynReceived, LastAck}
+use Rattle.tcp_conn.specs.declared.phase.Timer.TheVariants as timers
+use Rattle.tcp_conn.specs.Phase.{gives_up, is_syn_sent}
 use Rattle.tcp_conn.specs.State.{State}
 use Rattle.tcp_conn.specs.declared.judgement.Judgement.{Judgement}
 use Rattle.tcp_conn.specs.Arrival.{after_judgement, after_peer_opens}

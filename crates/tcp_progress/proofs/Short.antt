@@ -2,7 +2,7 @@
 use Rattle.std.proofs.Common.{◌≡◌, ℕ, suc, refl, arith}
 use Rattle.std.specs.Prelude.{Option, Some, None}
 use Rattle.tcp_halves.specs.declared.link.WaitingReset.{WaitingReset}
-use Rattle.tcp_halves.specs.declared.phase.Timer.TheVariants.{Retransmit}
+use Rattle.tcp_conn.specs.declared.phase.Timer.TheVariants.{Retransmit}
 use Rattle.tcp_replay.specs.declared.event.Side.{Side}
 use Rattle.tcp_replay.specs.declared.event.Side.TheVariants.{A, B}
 use Rattle.tcp_replay.specs.Events.{EventContent, Timer, Emit, Deliver}

@@ -12,8 +12,8 @@ use Rattle.tcp_halves.specs.declared.config.Config.{Config}
 use Rattle.tcp_halves.specs.declared.due.Due.{Due}
 use Rattle.tcp_halves.specs.declared.due.Due.TheVariants.{Acknowledgement, Syn}
 use Rattle.tcp_halves.specs.declared.link.WaitingReset.{WaitingReset}
-use Rattle.tcp_halves.specs.declared.outcome.CallError.{CallError}
-use Rattle.tcp_halves.specs.Phase.{sends_text}
+use Rattle.tcp_conn.specs.declared.outcome.CallError.{CallError}
+use Rattle.tcp_conn.specs.Phase.{sends_text}
 use Rattle.tcp_conn.specs.State.{State}
 use Rattle.tcp_conn.specs.Arrival.{after_arrival, after_judgement}
 use Rattle.tcp_conn.specs.Calls.{after_acknowledge, after_receive, receive_refusal, state_unless, with_bytes_received}

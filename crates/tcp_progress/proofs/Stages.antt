@@ -2,12 +2,12 @@
 use Rattle.std.proofs.Common.{◌≡◌, ℕ, ◌+◌, ◌<◌, List, length, refl, sym, ◌∙◌, ap, arith, ◌≤◌}
 use Rattle.std.specs.Prelude.{true, false, None, Bool, nat_lt, nat_le, not, ◌==◌, Ok}
 use Rattle.std.proofs.lemmas.Bool.{false≢true, cond_both, and_parts, ltb-true}
-use Rattle.tcp_halves.specs.declared.outcome.CallError.TheVariants.{NotOpen, Ended}
-use Rattle.tcp_halves.specs.declared.phase.Ending.{Ending}
-use Rattle.tcp_halves.specs.declared.phase.Ending.TheVariants.{NotEnded, Orderly, Aborted, Reset}
-use Rattle.tcp_halves.specs.declared.phase.Phase.{Phase}
-use Rattle.tcp_halves.specs.declared.phase.Phase.TheVariants.{Listen, SynSent, LastAck, Closed, SynReceived, Established, FinWait1, FinWait2, CloseWait}
-use Rattle.tcp_halves.specs.declared.phase.Phase.TheVariants.{Closing, TimeWait}
+use Rattle.tcp_conn.specs.declared.outcome.CallError.TheVariants.{NotOpen, Ended}
+use Rattle.tcp_conn.specs.declared.phase.Ending.{Ending}
+use Rattle.tcp_conn.specs.declared.phase.Ending.TheVariants.{NotEnded, Orderly, Aborted, Reset}
+use Rattle.tcp_conn.specs.declared.phase.Phase.{Phase}
+use Rattle.tcp_conn.specs.declared.phase.Phase.TheVariants.{Listen, SynSent, LastAck, Closed, SynReceived, Established, FinWait1, FinWait2, CloseWait}
+use Rattle.tcp_conn.specs.declared.phase.Phase.TheVariants.{Closing, TimeWait}
 use Rattle.tcp_conn.specs.Phase.{has_peer, is_closed, is_listening, is_syn_sent, is_ended, gives_up, is_last_ack, is_syn_received, takes_text}
 use Rattle.tcp_conn.specs.Phase.{phase_after_own_fin, phase_after_fin}
 use Rattle.tcp_conn.specs.State.{State, Sending}
@@ -29,8 +29,8 @@ use Rattle.tcp_wire.specs.Position.{number}
 use Rattle.tcp_wire.specs.Flags.{fin, rst, has}
 use Rattle.tcp_wire.specs.Wire.{Content}
 use Rattle.tcp_conn.specs.Windows.{window_from}
-use Rattle.tcp_conn.specs.Sender.{acks_more, with_acked, after_ack, with_syn_acked, with_window, is_fin_acked}
-use Rattle.tcp_conn.specs.Receiver.{after_text, is_fin_due, with_fin}
+use Rattle.tcp_halves.specs.Sender.{acks_more, with_acked, after_ack, with_syn_acked, with_window, is_fin_acked}
+use Rattle.tcp_halves.specs.Receiver.{after_text, is_fin_due, with_fin}
 use Rattle.tcp_conn.specs.Judgement.{position_near}
 use Rattle.tcp_conn.specs.Arrival.{after_own_syn, after_acked_text, after_news, after_its_ack, takes_text_of, has_fin, takes_fin, after_peer_opens}
 use Rattle.tcp_conn.specs.Arrival.{after_peer_accepts}
@@ -44,12 +44,12 @@ use Rattle.tcp_wire.specs.Decoded.{decode_answer}
 use Rattle.tcp_halves.specs.declared.config.Config.{Config}
 use Rattle.tcp_halves.specs.declared.due.Due.{Due}
 use Rattle.tcp_halves.specs.declared.due.Due.TheVariants.{Reset}
-use Rattle.tcp_conn.specs.Config.{IsConfig}
+use Rattle.tcp_halves.specs.Config.{IsConfig}
 use Rattle.tcp_conn.specs.Forms.{segment_of}
 use Rattle.tcp_replay.proofs.Emissions.{wanted-is}
 use Rattle.tcp_progress.specs.Stage.{SaysByPhase, KnowsPort, ReleasesAll}
 use Rattle.tcp_progress.proofs.OnlySent.{KeepsSent}
-use Rattle.tcp_halves.specs.declared.outcome.CallError.TheVariants as errors
+use Rattle.tcp_conn.specs.declared.outcome.CallError.TheVariants as errors
 
 -- Party p's end may be in this state, its peer q being where it is; `end` is the position after p's FIN.
 pub record MayBe (p q : PartyState) (phase : Phase) (ending : Ending) (closing finished : Bool) (port una next end : ℕ) : Type 0 where

@@ -2,13 +2,13 @@
 use Rattle.std.proofs.Common.{◌≡◌, ℕ, ◌+◌, ◌<◌, ◌≤◌, List, length, refl, ap, arith}
 use Rattle.std.specs.Prelude.{Bool, true, false, ◌==◌, nat_lt}
 use Rattle.std.proofs.lemmas.Bool.{and_parts, eqb-true, ltb-true, lt-ltb, eq-eqb}
-use Rattle.tcp_halves.specs.declared.phase.Phase.{Phase}
-use Rattle.tcp_halves.specs.declared.phase.Phase.TheVariants.{Closed, Listen, SynSent, SynReceived, Established, FinWait1, FinWait2, CloseWait, Closing, LastAck, TimeWait}
-use Rattle.tcp_halves.specs.declared.phase.Ending.{Ending}
-use Rattle.tcp_halves.specs.declared.phase.Ending.TheVariants.{NotEnded, Orderly}
+use Rattle.tcp_conn.specs.declared.phase.Phase.{Phase}
+use Rattle.tcp_conn.specs.declared.phase.Phase.TheVariants.{Closed, Listen, SynSent, SynReceived, Established, FinWait1, FinWait2, CloseWait, Closing, LastAck, TimeWait}
+use Rattle.tcp_conn.specs.declared.phase.Ending.{Ending}
+use Rattle.tcp_conn.specs.declared.phase.Ending.TheVariants.{NotEnded, Orderly}
 use Rattle.tcp_conn.specs.Phase.{is_closed, is_listening, is_syn_sent, is_syn_received, is_last_ack, is_time_wait, takes_text, phase_after_own_fin, phase_after_fin}
 use Rattle.tcp_conn.specs.State.{Sending, end_of_text}
-use Rattle.tcp_conn.specs.Sender.{is_fin_sent, is_fin_acked}
+use Rattle.tcp_halves.specs.Sender.{is_fin_sent, is_fin_acked}
 use Rattle.tcp_conn.specs.Calls.{phase_after_close}
 use Rattle.tcp_conn.specs.Arrival.{phase_after_own_syn}
 use Rattle.tcp_replay.specs.Alone.{Sends}

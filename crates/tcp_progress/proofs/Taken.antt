@@ -8,9 +8,9 @@ use Rattle.tcp_numbers.specs.Flags.{fin, has, syn}
 use Rattle.tcp_numbers.specs.Position.{number, offset}
 use Rattle.tcp_wire.specs.Wire.{Content}
 use Rattle.tcp_reasm.specs.Reassembly.{window}
-use Rattle.tcp_halves.specs.declared.phase.Phase.{Phase}
-use Rattle.tcp_halves.specs.declared.phase.Phase.TheVariants.{Closing, Closed, Listen, SynSent, SynReceived, Established, FinWait1, FinWait2, CloseWait, LastAck, TimeWait}
-use Rattle.tcp_halves.specs.Phase.{is_last_ack, phase_after_own_fin, takes_text}
+use Rattle.tcp_conn.specs.declared.phase.Phase.{Phase}
+use Rattle.tcp_conn.specs.declared.phase.Phase.TheVariants.{Closing, Closed, Listen, SynSent, SynReceived, Established, FinWait1, FinWait2, CloseWait, LastAck, TimeWait}
+use Rattle.tcp_conn.specs.Phase.{is_last_ack, phase_after_own_fin, takes_text}
 use Rattle.tcp_halves.specs.Receiver.{Receiving, max_ordered, after_text, is_fin_due}
 use Rattle.tcp_halves.specs.Sender.{is_fin_acked}
 use Rattle.tcp_conn.specs.Arrival.{after_acked_text, after_arrival, after_fin, after_its_ack, after_its_text, after_news, after_own_fin, after_own_syn, after_taking, arrival_answer, phase_after_own_syn}

@@ -9,7 +9,7 @@ use Rattle.tcp_sendq.specs.SendQueue.{next_unmarked}
 use Rattle.tcp_halves.specs.declared.due.Due.{Due}
 use Rattle.tcp_halves.specs.declared.due.Due.TheVariants.{Reset, Syn, Resend, NewText, Fin, ResentFin, Acknowledgement}
 use Rattle.tcp_halves.specs.Due.{fin_of, new_count, new_text_of, pushes, resend_of, resend_start, resent_fin, resent_run}
-use Rattle.tcp_halves.specs.Phase.{sends_text}
+use Rattle.tcp_conn.specs.Phase.{sends_text}
 use Rattle.tcp_halves.specs.Sender.{Sending, end_of_text, place_of, position_at}
 use Rattle.tcp_conn.specs.Due.{due_of, text_due, text_limit}
 use Rattle.tcp_conn.specs.Forms.{segment_of}

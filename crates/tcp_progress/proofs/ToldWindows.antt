@@ -8,7 +8,7 @@ use Rattle.tcp_reasm.specs.Reassembly.{Cell, Inbox, Run, piece, window, bytes_in
 use Rattle.tcp_reasm.specs.Reassembly.{with_overlay, overlay_of, after_place}
 use Rattle.tcp_halves.specs.declared.config.Config.{Config}
 use Rattle.tcp_halves.specs.declared.link.Link.{Link}
-use Rattle.tcp_halves.specs.declared.phase.Ending.TheVariants.{Aborted}
+use Rattle.tcp_conn.specs.declared.phase.Ending.TheVariants.{Aborted}
 use Rattle.tcp_halves.specs.Config.{min_mss, HasGoodShift}
 use Rattle.tcp_halves.specs.Options.{link_of}
 use Rattle.tcp_halves.specs.Receiver.{Receiving, HoldsWithin, after_text, after_handing, with_fin, without_bytes}
@@ -26,7 +26,7 @@ use Rattle.tcp_replay.proofs.Arrivals.{on-arrival}
 use Rattle.tcp_replay.proofs.Steps.{kept-same, Moved}
 use Rattle.tcp_halves.specs.declared.due.Due.{Due}
 use Rattle.tcp_halves.specs.declared.due.Due.TheVariants.{Reset, Syn}
-use Rattle.tcp_conn.specs.Config.{IsConfig}
+use Rattle.tcp_halves.specs.Config.{IsConfig}
 use Rattle.tcp_conn.specs.Windows.{own_shift, window_field}
 use Rattle.tcp_conn.specs.Forms.{pushes, syn_segment, plain_segment, segment_of}
 use Rattle.tcp_conn.specs.Due.{is_fin}

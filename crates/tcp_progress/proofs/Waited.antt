@@ -1,7 +1,7 @@
 -- WHERE NOTHING IS LEFT and both users have read all, TIME-WAIT runs out at both ends (RFC 9293, 3.10.8): then they have ended in order
 -- where both users closed.
 use Rattle.std.proofs.Common.{◌≡◌, refl, sym, ◌∙◌, subst}
-use Rattle.tcp_halves.specs.declared.phase.Timer.TheVariants as timers
+use Rattle.tcp_conn.specs.declared.phase.Timer.TheVariants as timers
 use Rattle.tcp_replay.specs.World.{WorldState, both, effect_of, party_after_timer, world_after_all}
 use Rattle.tcp_replay.proofs.Worlds.{kept-after_all}
 use Rattle.tcp_progress.specs.Fair.{time_waits}

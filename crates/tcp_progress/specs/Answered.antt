@@ -5,8 +5,8 @@ use Rattle.tcp_numbers.specs.Position.{number}
 use Rattle.tcp_numbers.specs.Flags.{ack, has, rst, syn}
 use Rattle.tcp_wire.specs.Decoded.{decode_answer}
 use Rattle.tcp_wire.specs.Wire.{Content, encoded_bytes}
-use Rattle.tcp_halves.specs.declared.outcome.Arrival.TheVariants.{Dropped}
-use Rattle.tcp_halves.specs.declared.phase.Timer.TheVariants.{Retransmit}
+use Rattle.tcp_conn.specs.declared.outcome.Arrival.TheVariants.{Dropped}
+use Rattle.tcp_conn.specs.declared.phase.Timer.TheVariants.{Retransmit}
 use Rattle.tcp_conn.specs.State.{State}
 use Rattle.tcp_conn.specs.Arrival.{after_arrival, arrival_answer}
 use Rattle.tcp_halves.specs.declared.due.Due.{Due}

@@ -1,7 +1,7 @@
 -- A HANDSHAKE CAN BE FINISHED (RFC 9293, 3.5): whatever was lost, delayed, repeated, reordered or damaged before both ends were open.
 use Rattle.std.specs.Prelude.{◌≡◌, ℕ, suc, true, ◌≤◌, ◌⊎◌, List, length}
 use Rattle.std.specs.List.{AllByRecursion}
-use Rattle.tcp_halves.specs.declared.phase.Timer.TheVariants.{Retransmit}
+use Rattle.tcp_conn.specs.declared.phase.Timer.TheVariants.{Retransmit}
 use Rattle.tcp_replay.specs.Events.{EventContent, Timer, Emit, Deliver}
 use Rattle.tcp_replay.specs.World.{WorldState, world_after_all}
 use Rattle.tcp_progress.specs.Settled.{AreOpening, CanReach, HasStreamsOf, IsLive}

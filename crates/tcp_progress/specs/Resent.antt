@@ -4,8 +4,8 @@ use Rattle.std.specs.Prelude.{◌≡◌, ℕ, zero, suc, ◌+◌, ◌<◌, ◌�
 use Rattle.tcp_numbers.specs.Position.{number}
 use Rattle.tcp_numbers.specs.Flags.{ack, has, rst, syn}
 use Rattle.tcp_wire.specs.Wire.{Content, encoded_bytes}
-use Rattle.tcp_halves.specs.declared.phase.Timer.TheVariants.{Retransmit}
-use Rattle.tcp_halves.specs.Phase.{sends_text}
+use Rattle.tcp_conn.specs.declared.phase.Timer.TheVariants.{Retransmit}
+use Rattle.tcp_conn.specs.Phase.{sends_text}
 use Rattle.tcp_halves.specs.Sender.{Sending, count_unsent, end_of_text, place_of}
 use Rattle.tcp_conn.specs.State.{State}
 use Rattle.tcp_halves.specs.declared.due.Due.{Due}

@@ -2,11 +2,11 @@
 use Rattle.std.specs.Prelude.{◌≡◌, ℕ, ◌*◌, ◌≤◌, true, false, List, length, None, ◌⊎◌}
 use Rattle.std.specs.List.{AllByRecursion}
 use Rattle.tcp_halves.specs.declared.config.Config.{Config}
-use Rattle.tcp_halves.specs.declared.phase.Ending.TheVariants.{NotEnded, Orderly}
-use Rattle.tcp_halves.specs.declared.phase.Phase.TheVariants.{Listen, SynSent, SynReceived}
+use Rattle.tcp_conn.specs.declared.phase.Ending.TheVariants.{NotEnded, Orderly}
+use Rattle.tcp_conn.specs.declared.phase.Phase.TheVariants.{Listen, SynSent, SynReceived}
 use Rattle.tcp_halves.specs.Sender.{is_fin_acked}
 use Rattle.tcp_sendq.specs.SendQueue.{max_capacity}
-use Rattle.tcp_conn.specs.Config.{IsConfig}
+use Rattle.tcp_halves.specs.Config.{IsConfig}
 use Rattle.tcp_replay.specs.Events.{EventContent, HasBytes, Receive, Timer, Emit, Deliver}
 use Rattle.tcp_replay.specs.World.{WorldState, PartyState, max_life, new_world_with, stop_of, run_of, world_after_all}
 use Rattle.tcp_replay.specs.Safe.{count_released, gave_up}

@@ -1,10 +1,10 @@
 -- WHAT EACH STATE OF A CONNECTION SAYS (RFC 9293, 3.3.2) of both FINs, and who the peer is: what holds between two ends after every
 -- list of events.
 use Rattle.std.specs.Prelude.{◌≡◌, Bool, true, false}
-use Rattle.tcp_halves.specs.declared.phase.Ending.TheVariants.{Orderly}
-use Rattle.tcp_halves.specs.declared.phase.Phase.{Phase}
-use Rattle.tcp_halves.specs.declared.phase.Phase.TheVariants.{Closed, SynReceived, Established, FinWait1, FinWait2, CloseWait, Closing, LastAck, TimeWait}
-use Rattle.tcp_halves.specs.Phase.{has_peer}
+use Rattle.tcp_conn.specs.declared.phase.Ending.TheVariants.{Orderly}
+use Rattle.tcp_conn.specs.declared.phase.Phase.{Phase}
+use Rattle.tcp_conn.specs.declared.phase.Phase.TheVariants.{Closed, SynReceived, Established, FinWait1, FinWait2, CloseWait, Closing, LastAck, TimeWait}
+use Rattle.tcp_conn.specs.Phase.{has_peer}
 use Rattle.tcp_halves.specs.Sender.{is_fin_acked}
 use Rattle.tcp_conn.specs.State.{State}
 use Rattle.tcp_replay.specs.World.{PartyState}

@@ -4,7 +4,7 @@ use Rattle.tcp_halves.specs.Config.{min_mss}
 use Rattle.tcp_halves.specs.Receiver.{HoldsWithin}
 use Rattle.std.specs.List.{AllByRecursion}
 use Rattle.tcp_halves.specs.declared.config.Config.{Config}
-use Rattle.tcp_conn.specs.Config.{IsConfig}
+use Rattle.tcp_halves.specs.Config.{IsConfig}
 use Rattle.tcp_replay.specs.Events.{EventContent, HasBytes}
 use Rattle.tcp_replay.specs.World.{WorldState, PartyState, max_life, new_world_with, run_of, world_after_all}
 use Rattle.tcp_replay.specs.Sound.{IsSoundPair}

@@ -3,10 +3,10 @@ use Rattle.std.proofs.Common.{◌≡◌, ℕ, List, [], refl, sym, ◌∙◌, �
 use Rattle.std.specs.Prelude.{Bool, true, false, ◌||◌, Option, Some, None, IfSome, max, not, ◌&&◌, nat_lt, nat_le, ◌==◌, if◌then◌else◌}
 use Rattle.std.proofs.lemmas.Bool.{or_cases, false≢true, cond_both, ltb-true, leb-true, and_parts, not-true}
 use Rattle.tcp_halves.specs.declared.config.Config.{Config}
-use Rattle.tcp_conn.specs.Config.{IsConfig}
+use Rattle.tcp_halves.specs.Config.{IsConfig}
 use Rattle.tcp_halves.specs.declared.link.WaitingReset.{WaitingReset}
-use Rattle.tcp_halves.specs.declared.phase.Ending.{Ending}
-use Rattle.tcp_halves.specs.declared.phase.Ending.TheVariants.{NotEnded}
+use Rattle.tcp_conn.specs.declared.phase.Ending.{Ending}
+use Rattle.tcp_conn.specs.declared.phase.Ending.TheVariants.{NotEnded}
 use Rattle.tcp_conn.specs.Phase.{has_peer, gives_up, is_closed, is_syn_received, is_last_ack, takes_text, phase_after_own_fin, phase_after_fin, is_handshake}
 use Rattle.tcp_conn.specs.State.{State, Sending, with_ack_owed, place_of}
 use Rattle.tcp_conn.specs.NewEnd.{new_end}
@@ -18,17 +18,17 @@ use Rattle.tcp_replay.proofs.Halves.{sends-given_up, sends-syn_acked, sends-acke
 use Rattle.tcp_replay.proofs.Phases.{gives_up-not_ended, is_synchronized, end-syn_received, end-synchronized, end-takes_text, synchronized-knows}
 use Rattle.tcp_replay.proofs.Phases.{takes_text-synchronized, present-knows, own_syn-synchronized, fits-own_syn, knows-own_syn, fits-acked, fits-own_fin}
 use Rattle.tcp_replay.proofs.Phases.{knows-own_fin, handshake-own_fin, synchronized-own_fin, fits-fin, knows-fin, handshake-fin}
-use Rattle.tcp_conn.specs.Sender.{without_resend, acks_more, with_acked, after_ack, with_syn_acked, is_newer, with_window, after_window_update, count_below}
-use Rattle.tcp_conn.specs.Sender.{is_fin_acked}
+use Rattle.tcp_halves.specs.Sender.{without_resend, acks_more, with_acked, after_ack, with_syn_acked, is_newer, with_window, after_window_update, count_below}
+use Rattle.tcp_halves.specs.Sender.{is_fin_acked}
 use Rattle.tcp_wire.specs.Position.{number, position_of}
 use Rattle.tcp_wire.specs.Flags.{fin, has}
 use Rattle.tcp_wire.specs.Wire.{Content}
 use Rattle.tcp_sendq.specs.SendQueue.{marks_with, can_mark, after_mark}
 use Rattle.tcp_sendq.proofs.Kept.{length-marks_with}
-use Rattle.tcp_halves.specs.declared.phase.Phase.TheVariants.{Established, FinWait1}
+use Rattle.tcp_conn.specs.declared.phase.Phase.TheVariants.{Established, FinWait1}
 use Rattle.tcp_conn.specs.Windows.{window_from}
 use Rattle.tcp_conn.specs.Blocks.{is_of_flight, marks_text, with_marks, after_block, after_blocks}
-use Rattle.tcp_conn.specs.Receiver.{after_text, is_fin_due, with_fin}
+use Rattle.tcp_halves.specs.Receiver.{after_text, is_fin_due, with_fin}
 use Rattle.tcp_conn.specs.Judgement.{position_near}
 use Rattle.tcp_replay.proofs.Lists.{by_test}
 use Rattle.tcp_replay.proofs.Judgements.{IsPresent}

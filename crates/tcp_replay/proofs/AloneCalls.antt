@@ -7,7 +7,7 @@ use Rattle.tcp_wire.specs.Flags.{ack, has}
 use Rattle.tcp_wire.specs.Wire.{Content, IsValid}
 use Rattle.tcp_numbers.specs.declared.seq.Seq.{Seq}
 use Rattle.tcp_conn.specs.declared.judgement.Judgement.{Judgement}
-use Rattle.tcp_halves.specs.declared.phase.Ending.TheVariants.{Reset, NotEnded, Aborted}
+use Rattle.tcp_conn.specs.declared.phase.Ending.TheVariants.{Reset, NotEnded, Aborted}
 use Rattle.tcp_conn.specs.Phase.{is_listening, is_syn_sent, gives_up, has_peer, is_closed, is_handshake, takes_text, sends_text, resets_on_abort, is_ended}
 use Rattle.tcp_conn.specs.State.{State, with_ack_owed, Sending}
 use Rattle.tcp_conn.specs.Judgement.{count_numbers, judgement}
@@ -28,9 +28,9 @@ use Rattle.tcp_sendq.proofs.Places.{end_of_marks-le}
 use Rattle.tcp_reasm.specs.Reassembly.{after_read}
 use Rattle.tcp_halves.specs.declared.link.Peer.{Peer}
 use Rattle.tcp_halves.specs.declared.link.WaitingReset.{WaitingReset}
-use Rattle.tcp_halves.specs.declared.outcome.CallError.TheVariants.{NotOpen, Closing, Ended, StreamFull, NotConnected}
-use Rattle.tcp_halves.specs.declared.phase.Phase.TheVariants.{Listen}
-use Rattle.tcp_conn.specs.Sender.{count_sendable, with_text, with_all_resent, with_gaps_resent}
+use Rattle.tcp_conn.specs.declared.outcome.CallError.TheVariants.{NotOpen, Closing, Ended, StreamFull, NotConnected}
+use Rattle.tcp_conn.specs.declared.phase.Phase.TheVariants.{Listen}
+use Rattle.tcp_halves.specs.Sender.{count_sendable, with_text, with_all_resent, with_gaps_resent}
 use Rattle.tcp_conn.specs.Calls.{refusal_if, open_refusal, with_connection, is_full, send_refusal, receive_refusal, opens_window, with_bytes_received}
 use Rattle.tcp_conn.specs.Calls.{phase_after_close, own_reset, reset_after_abort}
 use Rattle.tcp_conn.specs.Windows.{advertised_window}

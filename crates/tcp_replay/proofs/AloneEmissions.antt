@@ -9,7 +9,7 @@ use Rattle.tcp_halves.specs.declared.due.Due.{Due}
 use Rattle.tcp_halves.specs.declared.due.Due.TheVariants.{Reset, Syn, Resend, NewText, Fin, ResentFin, Acknowledgement}
 use Rattle.tcp_conn.specs.Phase.{sends_text, gives_up, has_peer, is_handshake}
 use Rattle.tcp_conn.specs.State.{State, Sending, place_of, position_at, end_of_text}
-use Rattle.tcp_conn.specs.Sender.{count_unsent}
+use Rattle.tcp_halves.specs.Sender.{count_unsent}
 use Rattle.tcp_conn.specs.Due.{resend_start, resent_text, resent_fin, resent_run, resend_of, new_count, new_text_of, fin_of, text_limit, text_due, is_fin}
 use Rattle.tcp_conn.specs.Due.{start_of, count_of, end_of, reset_due, syn_due, ack_due, due_of}
 use Rattle.tcp_replay.specs.Alone.{Sends, FitsPhase, IsWritable, IsAlone}

@@ -9,12 +9,12 @@ use Rattle.tcp_wire.specs.Wire.{Content}
 use Rattle.tcp_conn.specs.declared.judgement.Judgement.{Judgement}
 use Rattle.tcp_conn.specs.declared.judgement.Judgement.TheVariants.{Foreign}
 use Rattle.tcp_halves.specs.declared.link.Peer.{Peer}
-use Rattle.tcp_halves.specs.declared.phase.Ending.TheVariants.{Reset}
+use Rattle.tcp_conn.specs.declared.phase.Ending.TheVariants.{Reset}
 use Rattle.tcp_conn.specs.Phase.{is_last_ack, takes_text, gives_up, phase_after_own_fin}
 use Rattle.tcp_reasm.specs.Reassembly.{after_read}
 use Rattle.tcp_conn.specs.State.{State, Receiving}
-use Rattle.tcp_conn.specs.Sender.{is_fin_acked}
-use Rattle.tcp_conn.specs.Receiver.{with_syn, after_text, is_fin_due, with_fin}
+use Rattle.tcp_halves.specs.Sender.{is_fin_acked}
+use Rattle.tcp_halves.specs.Receiver.{with_syn, after_text, is_fin_due, with_fin}
 use Rattle.tcp_conn.specs.Endings.{after_orderly_end, after_giving_up}
 use Rattle.tcp_conn.specs.Calls.{with_bytes_received}
 use Rattle.tcp_conn.specs.Judgement.{is_foreign, phase_judgement, judgement}

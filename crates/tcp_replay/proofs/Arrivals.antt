@@ -7,7 +7,7 @@ use Rattle.tcp_wire.specs.Flags.{syn, rst, ack, has}
 use Rattle.tcp_wire.specs.Wire.{Content, IsValid}
 use Rattle.tcp_conn.specs.declared.judgement.Judgement.{Judgement}
 use Rattle.tcp_conn.specs.declared.judgement.Judgement.TheVariants.{HandshakeRefusedShut, Taken, TakenShut}
-use Rattle.tcp_halves.specs.declared.phase.Ending.TheVariants.{Reset}
+use Rattle.tcp_conn.specs.declared.phase.Ending.TheVariants.{Reset}
 use Rattle.tcp_conn.specs.Phase.{is_listening, is_syn_sent, is_closed, is_last_ack, phase_after_fin, phase_after_own_fin, gives_up, is_syn_received}
 use Rattle.tcp_conn.specs.State.{State, with_ack_owed, Sending}
 use Rattle.tcp_conn.specs.Judgement.{judgement, position_near}
@@ -24,11 +24,11 @@ use Rattle.tcp_replay.proofs.AloneCalls.{writable-at_ack, writable-stray, alone-
 use Rattle.tcp_replay.proofs.Judgements.{IsPresent, IsAckOnly, judged, IsSyn}
 use Rattle.tcp_replay.proofs.Stages.{IsAhead, IsYoung, IsAck, kept-taking, kept-taking_shut, Synced, acked_text-behind, kept-acked_text, kept-its_ack}
 use Rattle.tcp_replay.proofs.Stages.{kept-its_text, kept-news, kept-own_syn, own_syn-near, young-later}
-use Rattle.tcp_halves.specs.declared.link.Owed.{Owed}
+use Rattle.tcp_conn.specs.declared.owed.Owed.{Owed}
 use Rattle.tcp_halves.specs.declared.link.WaitingReset.{WaitingReset}
-use Rattle.tcp_conn.specs.Sender.{is_fin_acked, acks_more, after_ack, with_acked, with_syn_acked, with_window}
+use Rattle.tcp_halves.specs.Sender.{is_fin_acked, acks_more, after_ack, with_acked, with_syn_acked, with_window}
 use Rattle.tcp_conn.specs.Endings.{after_giving_up, after_orderly_end}
-use Rattle.tcp_conn.specs.Receiver.{after_text, with_fin}
+use Rattle.tcp_halves.specs.Receiver.{after_text, with_fin}
 use Rattle.tcp_replay.proofs.Lists.{by_test}
 use Rattle.tcp_replay.proofs.Alone.{same-news}
 use Rattle.tcp_conn.specs.Windows.{window_from}

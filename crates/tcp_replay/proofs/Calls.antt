@@ -1,21 +1,21 @@
 -- THE CALLS, TIMERS AND EMISSIONS OF A PARTY, gone through once: what each has to keep, where it isn't refused.
 use Rattle.std.proofs.Common.{◌≡◌, refl, List, append-nil, length, take, ℕ, ◌++◌}
-use Rattle.tcp_halves.specs.declared.phase.Timer.{Timer}
-use Rattle.tcp_halves.specs.declared.phase.Timer.TheVariants.{Retransmit, Reorder, TimeWait}
-use Rattle.tcp_halves.specs.declared.phase.Ending.TheVariants.{Aborted, NotEnded}
-use Rattle.tcp_halves.specs.declared.outcome.CallError.TheVariants.{AlreadyOpen, Ended}
+use Rattle.tcp_conn.specs.declared.phase.Timer.{Timer}
+use Rattle.tcp_conn.specs.declared.phase.Timer.TheVariants.{Retransmit, Reorder, TimeWait}
+use Rattle.tcp_conn.specs.declared.phase.Ending.TheVariants.{Aborted, NotEnded}
+use Rattle.tcp_conn.specs.declared.outcome.CallError.TheVariants.{AlreadyOpen, Ended}
 use Rattle.tcp_wire.specs.Checksum.{AreBytes}
 use Rattle.std.specs.Prelude.{Bool, IfSome, None, Ok, Option, Some, false, is_ok, min, not, true, ◌||◌}
-use Rattle.tcp_halves.specs.declared.outcome.CallError.{CallError}
+use Rattle.tcp_conn.specs.declared.outcome.CallError.{CallError}
 use Rattle.tcp_halves.specs.declared.due.Due.{Due}
 use Rattle.tcp_replay.proofs.AloneEmissions.{GoesOutAlone, due-alone}
 use Rattle.tcp_replay.specs.Alone.{IsAlone}
-use Rattle.tcp_halves.specs.declared.phase.Phase.TheVariants.{Listen}
-use Rattle.tcp_halves.specs.declared.link.Owed.{Owed}
+use Rattle.tcp_conn.specs.declared.phase.Phase.TheVariants.{Listen}
+use Rattle.tcp_conn.specs.declared.owed.Owed.{Owed}
 use Rattle.tcp_replay.specs.World.{PartyState, front_taken, is_end_of_stream, party_after_abort, party_after_acknowledge, party_after_close}
 use Rattle.tcp_replay.specs.World.{party_after_connect, party_after_listen, party_after_receive, party_after_send, party_after_timer}
 use Rattle.tcp_halves.specs.declared.link.Peer.{Peer}
-use Rattle.tcp_halves.specs.declared.outcome.Received.{Received}
+use Rattle.tcp_conn.specs.declared.outcome.Received.{Received}
 use Rattle.tcp_conn.specs.State.{Sending, State}
 use Rattle.tcp_conn.specs.Calls.{after_abort, after_acknowledge, after_close, after_closing, after_connect, after_listen, after_receive, after_send}
 use Rattle.tcp_conn.specs.Calls.{answer_unless, bytes_unless, close_refusal, is_unanswered, open_refusal, opening_refusal, receive_refusal, received_value}
@@ -24,13 +24,13 @@ use Rattle.tcp_conn.specs.Emission.{after_due, after_emission, state_after}
 use Rattle.tcp_conn.specs.Timers.{after_gaps, after_reorder, after_retransmit, after_time_wait, needs_probe, sends_again}
 use Rattle.tcp_conn.specs.Endings.{after_giving_up, after_orderly_end}
 use Rattle.std.proofs.lemmas.Bool.{cond_both, not-false, or_right}
-use Rattle.tcp_conn.specs.Sender.{count_sendable, with_all_resent, with_gaps_resent, with_text}
+use Rattle.tcp_halves.specs.Sender.{count_sendable, with_all_resent, with_gaps_resent, with_text}
 use Rattle.tcp_conn.specs.Due.{due_of}
 use Rattle.tcp_conn.specs.Phase.{is_closed, is_ended, is_handshake, is_time_wait, takes_text}
 use Rattle.tcp_sendq.specs.SendQueue.{last_mark_end}
 use Rattle.tcp_replay.proofs.Phases.{not_ended}
 use Rattle.std.specs.Option.{option_or}
-use Rattle.tcp_halves.specs.Phase.{sends_text}
+use Rattle.tcp_conn.specs.Phase.{sends_text}
 
 -- REFUSALS: a call that is refused changes nothing
 pub unless-kept : (P : State → Type 0) (o : Option CallError) (s s' : State) → P s → (o ≡ None → P s') → P (state_unless o s s')

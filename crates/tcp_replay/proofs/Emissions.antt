@@ -17,7 +17,7 @@ use Rattle.tcp_conn.specs.Forms.{syn_segment, text_of, pushes, plain_segment, se
 use Rattle.tcp_conn.specs.Writing.{destination_of, bytes_of}
 use Rattle.tcp_conn.specs.Emission.{owed_after, state_after}
 use Rattle.tcp_conn.specs.Phase.{is_handshake}
-use Rattle.tcp_conn.specs.Receiver.{next_wanted}
+use Rattle.tcp_halves.specs.Receiver.{next_wanted}
 use Rattle.tcp_replay.specs.World.{PartyState, seq_in, sent_by}
 use Rattle.tcp_replay.specs.Truthful.{IsOfUser, IsTruthful, IsTrueAck, StandsAt}
 use Rattle.tcp_replay.specs.Safe.{witness_of, next_position}

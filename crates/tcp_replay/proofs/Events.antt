@@ -10,11 +10,11 @@ use Rattle.tcp_wire.specs.Checksum.{DiffersInOnePlace}
 use Rattle.tcp_wire.specs.Wire.{Content, IsWire}
 use Rattle.tcp_wire.specs.Decoded.{decode_answer}
 use Rattle.tcp_wire.specs.Flags.{rst, ack, has}
-use Rattle.tcp_conn.specs.Receiver.{next_wanted}
+use Rattle.tcp_halves.specs.Receiver.{next_wanted}
 use Rattle.tcp_wire.specs.declared.fault.DecodeError.{DecodeError}
 use Rattle.tcp_wire.specs.declared.fault.DecodeError.TheVariants.{BadChecksum}
 use Rattle.tcp_wire.proofs.Lemmas.{decoded_encoded, IsWire_encoded, decoded_damaged, differs_set}
-use Rattle.tcp_halves.specs.declared.outcome.Arrival.TheVariants.{Malformed}
+use Rattle.tcp_conn.specs.declared.outcome.Arrival.TheVariants.{Malformed}
 use Rattle.tcp_conn.specs.State.{State}
 use Rattle.tcp_conn.specs.Judgement.{judgement}
 use Rattle.tcp_conn.specs.Arrival.{after_judgement, after_reading, after_arrival, answer_to_reading, arrival_answer}

@@ -7,14 +7,14 @@ use Rattle.tcp_wire.specs.Decoded.{decode_answer, layout_of, options_in, option_
 use Rattle.tcp_sendq.specs.SendQueue.{next_unmarked, without_marks, after_mark, can_mark}
 use Rattle.tcp_reasm.specs.Reassembly.{after_place, place_answer, with_ranks, after_read, blocks, runs_newest_first}
 use Rattle.tcp_halves.specs.declared.config.Config.{Config}
-use Rattle.tcp_halves.specs.declared.phase.Ending.TheVariants.{Orderly}
-use Rattle.tcp_halves.specs.declared.phase.Timer.TheVariants.{TimeWait}
-use Rattle.tcp_conn.specs.Config.{default_limit}
-use Rattle.tcp_conn.specs.Acceptable.{is_acceptable}
-use Rattle.tcp_conn.specs.Options.{link_of}
-use Rattle.tcp_conn.specs.Sender.{after_ack, after_window_update}
+use Rattle.tcp_conn.specs.declared.phase.Ending.TheVariants.{Orderly}
+use Rattle.tcp_conn.specs.declared.phase.Timer.TheVariants.{TimeWait}
+use Rattle.tcp_halves.specs.Config.{default_limit}
+use Rattle.tcp_halves.specs.Acceptable.{is_acceptable}
+use Rattle.tcp_halves.specs.Options.{link_of}
+use Rattle.tcp_halves.specs.Sender.{after_ack, after_window_update}
 use Rattle.tcp_conn.specs.Blocks.{after_block}
-use Rattle.tcp_conn.specs.Receiver.{after_text}
+use Rattle.tcp_halves.specs.Receiver.{after_text}
 use Rattle.tcp_conn.specs.Calls.{after_connect, after_listen, after_send, after_receive, after_close}
 use Rattle.tcp_conn.specs.Timers.{after_time_wait}
 use Rattle.tcp_conn.specs.Judgement.{is_foreign, closed_judgement, listen_judgement, syn_sent_judgement, ack_judgement, unacceptable_judgement}

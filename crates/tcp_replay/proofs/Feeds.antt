@@ -12,7 +12,7 @@ use Rattle.tcp_reasm.specs.Reassembly.{Cell, Inbox, Run, piece, window, overlay,
 use Rattle.tcp_reasm.specs.Reassembly.{with_overlay, greatest_stamp, answer_for, after_place, place_answer, after_read}
 use Rattle.tcp_reasm.proofs.Agreement.{advance_of-answer_for}
 use Rattle.tcp_conn.specs.State.{Receiving}
-use Rattle.tcp_conn.specs.Receiver.{new_receiving, with_syn, after_text, with_fin, after_handing, without_bytes}
+use Rattle.tcp_halves.specs.Receiver.{new_receiving, with_syn, after_text, with_fin, after_handing, without_bytes}
 use Rattle.tcp_replay.proofs.Lists.{by_test, one_if, one_if-false, number-further}
 
 -- what holds of each byte of a text whose first is at this place, and of each byte that is held from this place on

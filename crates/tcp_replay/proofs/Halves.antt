@@ -12,9 +12,9 @@ use Rattle.tcp_reasm.specs.Agreement.{Advances}
 use Rattle.tcp_reasm.proofs.Agreement.{after_read-agrees, without_held-agrees, empty_inbox-agrees}
 use Rattle.std.specs.declared.ops.Range.{Range}
 use Rattle.tcp_conn.specs.State.{Sending, Receiving}
-use Rattle.tcp_conn.specs.Receiver.{max_ordered, with_inbox, with_fin, with_syn, after_handing, without_bytes}
-use Rattle.tcp_conn.specs.Config.{stream_limit}
-use Rattle.tcp_conn.specs.Sender.{count_sendable, with_text, with_syn_sent, with_acked, count_below, without_text}
+use Rattle.tcp_halves.specs.Receiver.{max_ordered, with_inbox, with_fin, with_syn, after_handing, without_bytes}
+use Rattle.tcp_halves.specs.Config.{stream_limit}
+use Rattle.tcp_halves.specs.Sender.{count_sendable, with_text, with_syn_sent, with_acked, count_below, without_text}
 use Rattle.tcp_replay.specs.Alone.{Sends}
 use Rattle.tcp_replay.specs.Sound.{Takes, HandsOver}
 use Rattle.tcp_replay.proofs.Lists.{one_if, one_if-false, AreBytes-append, AreBytes-take, Agrees-more, take-none, take-further, front-is, nothing-follows}

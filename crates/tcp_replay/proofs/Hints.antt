@@ -6,14 +6,14 @@ use Rattle.tcp_wire.specs.Position.{offset, number}
 use Rattle.tcp_wire.specs.Wire.{Content}
 use Rattle.tcp_reasm.specs.Reassembly.{after_place, blocks, Cell, Run, runs, insertion_by_stamp, runs_newest_first, max_blocks}
 use Rattle.tcp_reasm.proofs.Placing.{after_place-keeps}
-use Rattle.tcp_halves.specs.declared.phase.Ending.{Ending}
-use Rattle.tcp_halves.specs.declared.phase.Ending.TheVariants.{Reset, Aborted}
+use Rattle.tcp_conn.specs.declared.phase.Ending.{Ending}
+use Rattle.tcp_conn.specs.declared.phase.Ending.TheVariants.{Reset, Aborted}
 use Rattle.tcp_conn.specs.Phase.{is_syn_received, takes_text, gives_up}
 use Rattle.tcp_conn.specs.State.{State, Sending, Receiving}
 use Rattle.tcp_conn.specs.Windows.{window_from}
 use Rattle.tcp_conn.specs.Blocks.{reported_blocks, after_blocks, block_numbers, blocks_to_report, sack_options}
-use Rattle.tcp_conn.specs.Sender.{with_syn_acked, with_window, after_window_update, with_all_resent}
-use Rattle.tcp_conn.specs.Receiver.{after_text, with_fin, after_handing, next_wanted}
+use Rattle.tcp_halves.specs.Sender.{with_syn_acked, with_window, after_window_update, with_all_resent}
+use Rattle.tcp_halves.specs.Receiver.{after_text, with_fin, after_handing, next_wanted}
 use Rattle.tcp_conn.specs.Endings.{after_giving_up}
 use Rattle.tcp_conn.specs.Judgement.{position_near}
 use Rattle.tcp_conn.specs.Arrival.{after_own_syn, after_acked_text, blocks_used, is_current, after_news, takes_text_of, takes_fin, after_peer_opens}

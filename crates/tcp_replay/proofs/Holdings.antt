@@ -8,8 +8,8 @@ use Rattle.tcp_reasm.specs.Reassembly.{Cell, Inbox, after_read}
 use Rattle.tcp_reasm.specs.Agreement.{Agrees, Advances}
 use Rattle.tcp_reasm.specs.Laws.{byte_of, byte_at, KeepsBytes}
 use Rattle.tcp_conn.specs.State.{Receiving, Sending, place_of, position_at}
-use Rattle.tcp_conn.specs.Receiver.{max_ordered, with_inbox, with_fin, after_handing}
-use Rattle.tcp_conn.specs.Config.{stream_limit}
+use Rattle.tcp_halves.specs.Receiver.{max_ordered, with_inbox, with_fin, after_handing}
+use Rattle.tcp_halves.specs.Config.{stream_limit}
 use Rattle.tcp_replay.proofs.Lists.{one_if, one_if-false, one_if-most}
 use Rattle.tcp_replay.proofs.Steps.{next_of}
 use Rattle.std.proofs.lemmas.Option.{slice_get_within}
@@ -17,7 +17,7 @@ use Rattle.tcp_wire.specs.Position.{position_of}
 use Rattle.tcp_wire.proofs.Lemmas.{position_of_number}
 use Rattle.tcp_sendq.specs.SendQueue.{Queue, IsMarked, marks_with, can_mark, after_mark, without_marks, max_capacity}
 use Rattle.tcp_sendq.proofs.Places.{marks_with-only, IsMarked-without_marks, IsMarked-after_release, IsMarked-after_offer}
-use Rattle.tcp_conn.specs.Sender.{with_text, count_below, acks_more, with_acked, after_ack, is_newer, with_window, after_window_update, without_text}
+use Rattle.tcp_halves.specs.Sender.{with_text, count_below, acks_more, with_acked, after_ack, is_newer, with_window, after_window_update, without_text}
 use Rattle.tcp_conn.specs.Blocks.{is_of_flight, marks_text, with_marks, after_block, after_blocks}
 use Rattle.tcp_replay.specs.Truthful.{Witness, HasPosition}
 use Rattle.tcp_replay.specs.Sound.{IsBlockBehind, AreBlocksBehind}

@@ -11,7 +11,7 @@ use Rattle.tcp_conn.specs.declared.judgement.Judgement.TheVariants.{PeerRefuses,
 use Rattle.tcp_conn.specs.declared.judgement.Judgement.TheVariants.{AcksUnsent, HandshakeRefused, HandshakeRefusedShut, Taken, TakenShut}
 use Rattle.tcp_conn.specs.Phase.{is_closed, is_listening, is_syn_sent, is_syn_received}
 use Rattle.tcp_conn.specs.State.{State}
-use Rattle.tcp_conn.specs.Sender.{acks_unsent}
+use Rattle.tcp_halves.specs.Sender.{acks_unsent}
 use Rattle.tcp_conn.specs.Judgement.{position_near, is_foreign, closed_judgement, listen_judgement, acks_syn, syn_sent_judgement, is_acceptable_segment}
 use Rattle.tcp_conn.specs.Judgement.{ack_judgement, is_allowed_shut, unacceptable_judgement, acceptable_judgement, present_judgement, phase_judgement}
 use Rattle.tcp_conn.specs.Judgement.{judgement}

@@ -10,11 +10,11 @@ use Rattle.tcp_reasm.specs.Reassembly.{Inbox, after_read}
 use Rattle.tcp_halves.specs.declared.config.Config.{Config}
 use Rattle.tcp_halves.specs.declared.config.ConfigError.{ConfigError}
 use Rattle.tcp_halves.specs.declared.config.ConfigError.TheVariants as faults
-use Rattle.tcp_conn.specs.Config.{HasBadCapacity, HasBadMss, HasBadShift, HasBadLimit, IsGoodConfig}
+use Rattle.tcp_halves.specs.Config.{HasBadCapacity, HasBadMss, HasBadShift, HasBadLimit, IsGoodConfig}
 use Rattle.tcp_halves.specs.declared.due.Due.{Due}
-use Rattle.tcp_halves.specs.declared.outcome.CallError.{CallError}
-use Rattle.tcp_halves.specs.declared.outcome.Received.{Received}
-use Rattle.tcp_halves.specs.declared.outcome.Received.TheVariants.{Bytes, Nothing, EndOfStream}
+use Rattle.tcp_conn.specs.declared.outcome.CallError.{CallError}
+use Rattle.tcp_conn.specs.declared.outcome.Received.{Received}
+use Rattle.tcp_conn.specs.declared.outcome.Received.TheVariants.{Bytes, Nothing, EndOfStream}
 use Rattle.tcp_conn.specs.Phase.{takes_text}
 use Rattle.tcp_conn.specs.State.{State}
 use Rattle.tcp_conn.specs.Calls.{answer_unless, bytes_unless, state_unless, receive_refusal, received_value, receive_answer, received_bytes}

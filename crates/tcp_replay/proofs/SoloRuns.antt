@@ -14,13 +14,13 @@ use Rattle.tcp_wire.proofs.RoundTrip.{decoded_encoded, decoded_valid}
 use Rattle.tcp_halves.specs.declared.config.Config.{Config}
 use Rattle.tcp_halves.specs.declared.due.Due.{Due}
 use Rattle.tcp_halves.specs.declared.due.Due.TheVariants.{Reset, Syn}
-use Rattle.tcp_halves.specs.declared.outcome.CallError.{CallError}
-use Rattle.tcp_conn.specs.Config.{IsConfig}
+use Rattle.tcp_conn.specs.declared.outcome.CallError.{CallError}
+use Rattle.tcp_halves.specs.Config.{IsConfig}
 use Rattle.tcp_conn.specs.Phase.{gives_up}
 use Rattle.tcp_conn.specs.State.{State}
 use Rattle.tcp_conn.specs.NewEnd.{new_end}
 use Rattle.tcp_conn.specs.Calls.{send_refusal, answer_unless}
-use Rattle.tcp_conn.specs.Sender.{count_sendable}
+use Rattle.tcp_halves.specs.Sender.{count_sendable}
 use Rattle.tcp_conn.specs.Arrival.{after_reading, after_arrival}
 use Rattle.tcp_conn.specs.Judgement.{is_foreign, is_acceptable_segment}
 use Rattle.tcp_conn.specs.Due.{due_of}

@@ -10,14 +10,14 @@ use Rattle.tcp_wire.proofs.Lemmas.{position_of_number, offset_of_later, offset_o
 use Rattle.tcp_reasm.specs.Reassembly.{window, after_place, place_answer}
 use Rattle.tcp_reasm.specs.Agreement.{LiesAt, advance_of, Advances}
 use Rattle.tcp_reasm.proofs.Agreement.{after_place-agrees}
-use Rattle.tcp_halves.specs.declared.phase.Ending.TheVariants.{NotEnded}
+use Rattle.tcp_conn.specs.declared.phase.Ending.TheVariants.{NotEnded}
 use Rattle.tcp_conn.specs.Phase.{has_peer, is_closed, is_syn_received, is_last_ack, takes_text, gives_up, phase_after_own_fin, phase_after_fin}
 use Rattle.tcp_conn.specs.State.{State, Sending}
 use Rattle.tcp_conn.specs.Windows.{window_from}
-use Rattle.tcp_conn.specs.Config.{stream_limit}
+use Rattle.tcp_halves.specs.Config.{stream_limit}
 use Rattle.tcp_sendq.specs.SendQueue.{max_capacity}
-use Rattle.tcp_conn.specs.Sender.{acks_more, with_acked, after_ack, with_syn_acked, with_window, is_fin_acked}
-use Rattle.tcp_conn.specs.Receiver.{after_text, is_fin_due, with_fin}
+use Rattle.tcp_halves.specs.Sender.{acks_more, with_acked, after_ack, with_syn_acked, with_window, is_fin_acked}
+use Rattle.tcp_halves.specs.Receiver.{after_text, is_fin_due, with_fin}
 use Rattle.tcp_conn.specs.Endings.{after_orderly_end}
 use Rattle.tcp_conn.specs.Judgement.{position_near}
 use Rattle.tcp_conn.specs.Arrival.{after_own_syn, after_acked_text, after_news, after_own_fin, after_its_ack, takes_text_of, after_its_text, has_fin}

@@ -14,8 +14,8 @@ use Rattle.tcp_halves.specs.declared.config.Config.{Config}
 use Rattle.tcp_conn.specs.State.{State, Sending, Receiving, with_ack_owed}
 use Rattle.tcp_replay.proofs.Halves.{takes-more, hands-more, takes-given_up, hands-given_up}
 use Rattle.tcp_halves.specs.declared.link.WaitingReset.{WaitingReset}
-use Rattle.tcp_halves.specs.declared.phase.Ending.{Ending}
-use Rattle.tcp_halves.specs.declared.phase.Ending.TheVariants.{NotEnded}
+use Rattle.tcp_conn.specs.declared.phase.Ending.{Ending}
+use Rattle.tcp_conn.specs.declared.phase.Ending.TheVariants.{NotEnded}
 use Rattle.tcp_conn.specs.Phase.{has_peer, gives_up}
 use Rattle.tcp_conn.specs.Endings.{after_orderly_end, after_giving_up}
 use Rattle.tcp_conn.specs.Arrival.{with_reset}

@@ -5,12 +5,12 @@ use Rattle.std.proofs.lemmas.Bool.{cond_both, eqb-true, false≢true}
 use Rattle.std.proofs.lemmas.List.{nil_from_length}
 use Rattle.tcp_wire.specs.Checksum.{AreBytes}
 use Rattle.tcp_halves.specs.declared.link.WaitingReset.{WaitingReset}
-use Rattle.tcp_halves.specs.declared.outcome.Received.{Received}
-use Rattle.tcp_halves.specs.declared.outcome.Received.TheVariants.{Bytes, Nothing, EndOfStream}
-use Rattle.tcp_halves.specs.declared.phase.Ending.TheVariants.{Aborted}
+use Rattle.tcp_conn.specs.declared.outcome.Received.{Received}
+use Rattle.tcp_conn.specs.declared.outcome.Received.TheVariants.{Bytes, Nothing, EndOfStream}
+use Rattle.tcp_conn.specs.declared.phase.Ending.TheVariants.{Aborted}
 use Rattle.tcp_conn.specs.Phase.{resets_on_abort, gives_up, has_peer}
 use Rattle.tcp_conn.specs.State.{State}
-use Rattle.tcp_conn.specs.Sender.{count_sendable, with_text}
+use Rattle.tcp_halves.specs.Sender.{count_sendable, with_text}
 use Rattle.tcp_conn.specs.Endings.{after_giving_up}
 use Rattle.tcp_conn.specs.Calls.{send_refusal, receive_refusal, received_value, with_bytes_received, phase_after_close, own_reset, reset_after_abort}
 use Rattle.tcp_replay.specs.World.{PartyState, address_of, is_end_of_stream}

@@ -7,8 +7,8 @@ use Rattle.std.specs.List.{AllByRecursion}
 use Rattle.tcp_wire.specs.declared.fault.DecodeError.TheVariants.{BadChecksum}
 use Rattle.tcp_reasm.proofs.Agreement.{empty_inbox-agrees}
 use Rattle.tcp_halves.specs.declared.config.Config.{Config}
-use Rattle.tcp_halves.specs.declared.outcome.Arrival.TheVariants.{Malformed}
-use Rattle.tcp_conn.specs.Config.{IsConfig, default_limit}
+use Rattle.tcp_conn.specs.declared.outcome.Arrival.TheVariants.{Malformed}
+use Rattle.tcp_halves.specs.Config.{IsConfig, default_limit}
 use Rattle.tcp_replay.specs.declared.event.Side.{Side}
 use Rattle.tcp_replay.specs.declared.event.Side.TheVariants.{A, B}
 use Rattle.tcp_replay.specs.declared.outcome.StepError.{StepError}
@@ -35,7 +35,7 @@ use Rattle.tcp_replay.proofs.Runs.{not-refused}
 use Rattle.std.proofs.lemmas.Bool.{cond_both, and_parts, or_cases, leb-true}
 use Rattle.tcp_wire.specs.Flags.{rst, ack, has}
 use Rattle.tcp_conn.specs.State.{State}
-use Rattle.tcp_conn.specs.Receiver.{next_wanted}
+use Rattle.tcp_halves.specs.Receiver.{next_wanted}
 use Rattle.tcp_replay.specs.declared.outcome.StepError.TheVariants.{NoSuchSegment, NoChange, PlaceOutside, Expired, NoMemory}
 use Rattle.tcp_replay.specs.declared.outcome.Outcome.TheVariants as outcomes
 

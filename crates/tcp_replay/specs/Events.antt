@@ -1,7 +1,7 @@
 -- What can happen to two ends, as numbers and lists: an event of the code says one of these (RFC 9293, 3.10).
 use Rattle.std.specs.Prelude.{ℕ, ◌<◌, List}
 use Rattle.tcp_wire.specs.Checksum.{AreBytes}
-use Rattle.tcp_halves.specs.declared.phase.Timer.{Timer as Which}
+use Rattle.tcp_conn.specs.declared.phase.Timer.{Timer as Which}
 use Rattle.tcp_replay.specs.declared.event.Side.{Side}
 use Rattle.tcp_replay.specs.declared.event.Event.{Event}
 use Rattle.tcp_replay.specs.declared.event.Event.TheVariants as code

@@ -7,7 +7,7 @@ use Rattle.tcp_wire.specs.Flags.{syn, rst, ack, has}
 use Rattle.tcp_wire.specs.Position.{number}
 use Rattle.tcp_wire.specs.Wire.{Content}
 use Rattle.tcp_halves.specs.declared.config.Config.{Config}
-use Rattle.tcp_conn.specs.Config.{IsConfig}
+use Rattle.tcp_halves.specs.Config.{IsConfig}
 use Rattle.tcp_conn.specs.State.{State}
 use Rattle.tcp_conn.specs.NewEnd.{new_end}
 use Rattle.tcp_conn.specs.Judgement.{is_foreign, is_acceptable_segment}

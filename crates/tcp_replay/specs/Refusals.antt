@@ -1,7 +1,7 @@
 -- The numbers under which refusals are reported, and their texts.
 use Rattle.std.specs.Prelude.{ℕ, List, ◌++◌, codes}
 use Rattle.std.specs.Fmt.{decimal}
-use Rattle.tcp_conn.specs.Config.{config_error_text}
+use Rattle.tcp_halves.specs.Config.{config_error_text}
 use Rattle.tcp_replay.specs.declared.event.Side.TheVariants.{A, B}
 use Rattle.tcp_replay.specs.declared.outcome.WorldError.{WorldError}
 use Rattle.tcp_replay.specs.declared.outcome.WorldError.TheVariants.{Config}

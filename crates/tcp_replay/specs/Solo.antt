@@ -3,7 +3,7 @@
 use Rattle.std.specs.Prelude.{ℕ, Bool, false, ◌||◌, is_ok, List, [], ◌∷◌, ◌++◌, length, map, Vec, Option, None, Ok, option_to_list, option_map, ◌≡◌, ◌<◌}
 use Rattle.tcp_numbers.specs.declared.addr.Addr.{Addr}
 use Rattle.tcp_halves.specs.declared.config.Config.{Config}
-use Rattle.tcp_conn.specs.Config.{IsGoodConfig}
+use Rattle.tcp_halves.specs.Config.{IsGoodConfig}
 use Rattle.tcp_conn.specs.State.{State}
 use Rattle.tcp_conn.specs.NewEnd.{new_end}
 use Rattle.tcp_conn.specs.Calls.{opening_answer, after_connect, after_listen, send_answer, after_send, receive_answer, after_receive, received_bytes, close_answer, after_close, abort_answer, after_abort, after_acknowledge}

@@ -1,7 +1,7 @@
 -- What can happen to one end, as numbers and lists: a SoloEvent of the code says one of these (RFC 9293, 3.10).
 use Rattle.std.specs.Prelude.{ℕ, ◌<◌, ◌^◌, List}
 use Rattle.tcp_wire.specs.Checksum.{AreBytes}
-use Rattle.tcp_halves.specs.declared.phase.Timer.{Timer as Which}
+use Rattle.tcp_conn.specs.declared.phase.Timer.{Timer as Which}
 use Rattle.tcp_replay.specs.declared.solo_event.SoloEvent.{SoloEvent}
 use Rattle.tcp_replay.specs.declared.solo_event.SoloEvent.TheVariants as code
 

@@ -7,14 +7,14 @@ use Rattle.tcp_halves.specs.declared.config.Config.{Config}
 use Rattle.tcp_halves.specs.declared.config.ConfigError.{ConfigError}
 use Rattle.tcp_halves.specs.declared.config.ConfigError.TheVariants as faults
 use Rattle.tcp_halves.specs.declared.link.Peer.{Peer}
-use Rattle.tcp_halves.specs.declared.outcome.CallError.{CallError}
-use Rattle.tcp_halves.specs.declared.outcome.Received.{Received}
-use Rattle.tcp_halves.specs.declared.outcome.Received.TheVariants.{Bytes, EndOfStream}
-use Rattle.tcp_halves.specs.declared.phase.Timer.{Timer as Which}
+use Rattle.tcp_conn.specs.declared.outcome.CallError.{CallError}
+use Rattle.tcp_conn.specs.declared.outcome.Received.{Received}
+use Rattle.tcp_conn.specs.declared.outcome.Received.TheVariants.{Bytes, EndOfStream}
+use Rattle.tcp_conn.specs.declared.phase.Timer.{Timer as Which}
 use Rattle.tcp_conn.specs.State.{State}
-use Rattle.tcp_conn.specs.Config.{default_limit, HasBadCapacity, HasBadMss, HasBadShift, HasBadLimit, IsGoodConfig}
+use Rattle.tcp_halves.specs.Config.{default_limit, HasBadCapacity, HasBadMss, HasBadShift, HasBadLimit, IsGoodConfig}
 use Rattle.tcp_conn.specs.NewEnd.{new_end}
-use Rattle.tcp_conn.specs.Receiver.{next_wanted}
+use Rattle.tcp_halves.specs.Receiver.{next_wanted}
 use Rattle.tcp_conn.specs.Calls.{opening_answer, after_connect, after_listen, send_answer, after_send, receive_answer, after_receive, received_bytes, close_answer, after_close, abort_answer, after_abort, after_acknowledge}
 use Rattle.tcp_conn.specs.Timers.{timer_answer, after_timer}
 use Rattle.tcp_conn.specs.Emission.{emitted_bytes, after_emission}

@@ -1,7 +1,7 @@
 ghost use Rattle.std.specs.Prelude.{false, ◌≡◌, ◌<◌, ◌++◌, ◌||◌, ◌∷◌, [], ◌↔◌, length, map, option_to_list, option_map, Ok, Err, IfOk, IfErr, OnOk, OnErr};
 ghost use Rattle.tcp_wire.specs.Checksum.{AreBytes};
 ghost use Rattle.tcp_conn.specs.Arrival.{after_arrival, arrival_answer};
-ghost use Rattle.tcp_conn.specs.Config.{HasBadCapacity, HasBadMss, HasBadShift, HasBadLimit, IsGoodConfig, IsConfig};
+ghost use Rattle.tcp_halves.specs.Config.{HasBadCapacity, HasBadMss, HasBadShift, HasBadLimit, IsGoodConfig, IsConfig};
 ghost use Rattle.tcp_conn.specs.Calls.{receive_answer, received_bytes, after_receive};
 ghost use Rattle.tcp_conn.specs.Emission.{after_emission};
 ghost use Rattle.tcp_conn.specs.NewEnd.{new_end};

@@ -1,6 +1,6 @@
 ghost use Rattle.std.specs.Prelude.{◌≡◌, ◌≢◌, ◌↔◌, ◌≤◌, true, length, None, Some, OnOk, OnErr, IfOk, IfErr, IfSome, IfNone, map, option_map, slice_get};
 ghost use Rattle.std.specs.List.{AllByRecursion};
-ghost use Rattle.tcp_conn.specs.Config.{IsConfig};
+ghost use Rattle.tcp_halves.specs.Config.{IsConfig};
 ghost use Rattle.tcp_replay.specs.Events.{event_content, HasBytes, IsDamage};
 ghost use Rattle.tcp_replay.specs.World.{WorldState, KeepsAllSegments, max_life, new_world, new_world_with, both, party_of, effect_of, world_with_effect, refusal_of, outcome_of, grows_for, step_answer, world_after, run_of, stop_of, StopsForMemory, HasGoodConfigs, NamesFault};
 ghost use Rattle.tcp_replay.specs.Safe.{IsSafe, HintsAreTrue};

@@ -1,6 +1,6 @@
 -- What the module answers: a text, or the line of a fault.
 use Rattle.std.specs.Prelude.{◌≡◌, ◌⊎◌, ℕ, List, [], ◌∷◌, ◌++◌, length, codes, decimal, Option, Some, None, Ok, if◌then◌else◌, ◌==◌, true, false}
-use Rattle.tcp_conn.specs.Config.{config_error_number}
+use Rattle.tcp_halves.specs.Config.{config_error_number}
 use Rattle.tcp_replay.specs.declared.event.Side.{Side}
 use Rattle.tcp_replay.specs.declared.event.Side.TheVariants.{A, B}
 use Rattle.tcp_replay.specs.Names.{side_name}

@@ -1,6 +1,6 @@
 -- What is printed of a line.
 use Rattle.std.specs.Prelude.{ℕ, List, [], ◌∷◌, ◌++◌, length, codes, decimal, Result, Ok, Err}
-use Rattle.tcp_halves.specs.declared.outcome.CallError.{CallError}
+use Rattle.tcp_conn.specs.declared.outcome.CallError.{CallError}
 use Rattle.tcp_conn.specs.Outcome.{call_error_number}
 use Rattle.tcp_conn.specs.State.{State}
 use Rattle.tcp_conn.specs.Names.{phase_name, ending_name}

@@ -1,6 +1,6 @@
 use Rattle.std.specs.Prelude.{map, take}
 use Rattle.std.specs.List.{AllByRecursion}
-use Rattle.tcp_conn.specs.Config.{IsConfig}
+use Rattle.tcp_halves.specs.Config.{IsConfig}
 use Rattle.tcp_replay.specs.Solo.{IsLogOf, run_alone}
 use Rattle.tcp_replay.specs.SoloEvents.{solo_content, HasRanges}
 use Rattle.tcp_replay.proofs.solo_log.solo_in.Given as goal

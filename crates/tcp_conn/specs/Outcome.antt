@@ -1,8 +1,8 @@
 -- The numbers under which refused calls (RFC 9293, 3.10.1 to 3.10.5) are reported, and their texts.
 use Rattle.std.specs.Prelude.{ℕ, List, codes}
-use Rattle.tcp_halves.specs.declared.outcome.CallError.{CallError}
-use Rattle.tcp_halves.specs.declared.outcome.CallError.TheVariants as calls
-use Rattle.tcp_halves.specs.declared.outcome.CallError.TheVariants.{NotOpen, AlreadyOpen, Ended, StreamFull, NotConnected}
+use Rattle.tcp_conn.specs.declared.outcome.CallError.{CallError}
+use Rattle.tcp_conn.specs.declared.outcome.CallError.TheVariants as calls
+use Rattle.tcp_conn.specs.declared.outcome.CallError.TheVariants.{NotOpen, AlreadyOpen, Ended, StreamFull, NotConnected}
 
 abbrev pub call_error_number : CallError → ℕ
 call_error_number calls.NotOpen = 11

@@ -1,5 +1,5 @@
 ghost use Rattle.std.specs.Prelude.{◌≡◌, Some};
-ghost use Rattle.tcp_halves.specs.Outcome.{call_error_number, call_error_text};
+ghost use Rattle.tcp_conn.specs.Outcome.{call_error_number, call_error_text};
 
 use crate::Ending;
 use std::error::Error;

@@ -4,7 +4,7 @@ use std::fmt;
 
 impl Phase {
     ghost use Rattle.std.specs.Prelude.{◌≡◌};
-    ghost use Rattle.tcp_halves.specs.Names.{phase_name};
+    ghost use Rattle.tcp_conn.specs.Names.{phase_name};
 
     /// The state as RFC 9293, 3.3.2 writes it, such as `SYN-SENT`. It is displayed so.
     #[must_use]
@@ -29,7 +29,7 @@ impl Phase {
 
 impl fmt::Display for Phase {
     ghost use Rattle.std.specs.Prelude.{Some};
-    ghost use Rattle.tcp_halves.specs.Names.{phase_name};
+    ghost use Rattle.tcp_conn.specs.Names.{phase_name};
 
     ghost output = { λ p. Some (phase_name p) };
 
@@ -40,7 +40,7 @@ impl fmt::Display for Phase {
 
 impl Ending {
     ghost use Rattle.std.specs.Prelude.{◌≡◌};
-    ghost use Rattle.tcp_halves.specs.Names.{ending_name};
+    ghost use Rattle.tcp_conn.specs.Names.{ending_name};
 
     /// `not-ended`, `orderly`, `reset` or `aborted`. It is displayed so.
     #[must_use]
@@ -58,7 +58,7 @@ impl Ending {
 
 impl fmt::Display for Ending {
     ghost use Rattle.std.specs.Prelude.{Some};
-    ghost use Rattle.tcp_halves.specs.Names.{ending_name};
+    ghost use Rattle.tcp_conn.specs.Names.{ending_name};
 
     ghost output = { λ e. Some (ending_name e) };
 
@@ -69,7 +69,7 @@ impl fmt::Display for Ending {
 
 impl Timer {
     ghost use Rattle.std.specs.Prelude.{◌≡◌};
-    ghost use Rattle.tcp_halves.specs.Names.{timer_name};
+    ghost use Rattle.tcp_conn.specs.Names.{timer_name};
 
     /// All timers, in the order in which `Endpoint::timers` answers for them.
     pub const ALL: [Timer; 3] = [Timer::Retransmit, Timer::Reorder, Timer::TimeWait];
@@ -89,7 +89,7 @@ impl Timer {
 
 impl fmt::Display for Timer {
     ghost use Rattle.std.specs.Prelude.{Some};
-    ghost use Rattle.tcp_halves.specs.Names.{timer_name};
+    ghost use Rattle.tcp_conn.specs.Names.{timer_name};
 
     ghost output = { λ t. Some (timer_name t) };
 

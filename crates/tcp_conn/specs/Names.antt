@@ -1,11 +1,11 @@
 -- The names of states, endings and timers.
 use Rattle.std.specs.Prelude.{ℕ, List, codes}
-use Rattle.tcp_halves.specs.declared.phase.Phase.{Phase}
-use Rattle.tcp_halves.specs.declared.phase.Phase.TheVariants as phases
-use Rattle.tcp_halves.specs.declared.phase.Ending.{Ending}
-use Rattle.tcp_halves.specs.declared.phase.Ending.TheVariants as endings
-use Rattle.tcp_halves.specs.declared.phase.Timer.{Timer}
-use Rattle.tcp_halves.specs.declared.phase.Timer.TheVariants as timers
+use Rattle.tcp_conn.specs.declared.phase.Phase.{Phase}
+use Rattle.tcp_conn.specs.declared.phase.Phase.TheVariants as phases
+use Rattle.tcp_conn.specs.declared.phase.Ending.{Ending}
+use Rattle.tcp_conn.specs.declared.phase.Ending.TheVariants as endings
+use Rattle.tcp_conn.specs.declared.phase.Timer.{Timer}
+use Rattle.tcp_conn.specs.declared.phase.Timer.TheVariants as timers
 
 -- as RFC 9293, 3.3.2 writes them
 abbrev pub phase_name : Phase → List ℕ

@@ -1,0 +1,15 @@
+-- Who the other end is, and what an end owes to the wire (RFC 9293, 3.3.1 and 3.8.6).
+use Rattle.std.specs.Prelude.{false, [], ◌∷◌, None}
+use Rattle.tcp_conn.specs.declared.owed.Owed.{Owed}
+use Rattle.tcp_halves.specs.declared.link.Peer.{Peer}
+
+-- before any peer is known
+abbrev pub no_peer : Peer
+no_peer = record { addr = record { 0 = 0 ∷ 0 ∷ 0 ∷ 0 ∷ [] }; port = 0 }
+
+abbrev pub nothing_owed : Owed
+nothing_owed = record { syn = false; ack = false; probe = false; reset = None }
+
+-- once the connection has ended nothing is owed but a waiting reset
+abbrev pub only_reset_owed : Owed → Owed
+only_reset_owed o = record o { syn = false; ack = false; probe = false }
