@@ -57,7 +57,7 @@ installed() {
     bare make "$@"
     bare make check "$@"
     [[ $(grep -c passed "$there/told") == 8 ]]
-    rm -rf "$there/usr" "$there/moved"
+    rm -rf "${there:?}/usr" "$there/moved"
     bare make install PREFIX="$there/usr" "$@"
     mv "$there/usr" "$there/moved"
     cp examples/two_ends.c "$there"

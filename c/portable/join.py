@@ -2,12 +2,15 @@
 
 MODULE.c is what wasm2c makes of crates/tcp_c, with 32-bit addresses. OUT has the text of c/tcpcore/tcpcore.c and layout.h, the
 memory of memory.c, wasm2c's functions and calls.c. Of wasm2c's file nothing but its functions is kept: what else it is taken to
-have is looked at, and anything unforeseen stops this script. No line of a function is changed but the words of RENAMED.
+have is looked at, and anything unforeseen stops this script. No line of a function is changed but the words of RENAMED, and what
+quicker.py has made quicker.
 """
 
 import pathlib
 import re
 import sys
+
+import quicker
 
 HERE = pathlib.Path(__file__).resolve().parent
 LAYER = HERE.parent / "tcpcore"
@@ -114,12 +117,16 @@ def stack_of(body):
 def main():
     declared, body = functions(pathlib.Path(sys.argv[1]).read_text())
     stack = (stack_of(body) + 15) // 16 * 16
+    body, loops, pieces = quicker.quicker(body)
+    if loops < 10 or pieces < 5:
+        stop(f"{loops} loops and {pieces} pieces of code could be made quicker: wasm2c or the compiler writes them in other forms")
     own = f"\n/* The module's own stack: what its deepest chain of calls takes. */\nenum {{ MODULE_STACK = {stack} }};\n\n"
     module = "/* THE MODULE: crates/tcp_c and those below it, function by function, as wasm2c has written them. */\n"
     parts = [HEAD, layer(), (HERE / "memory.c").read_text(), own, module, declared, body, (HERE / "calls.c").read_text()]
     text = "".join(parts)
     pathlib.Path(sys.argv[2]).write_text(text)
-    print(f"{sys.argv[2]}: {len(text.splitlines())} lines, {declared.count(';')} functions, {stack} bytes of the module's stack")
+    print(f"{sys.argv[2]}: {len(text.splitlines())} lines, {declared.count(';')} functions, {stack} bytes of the module's stack,"
+          f" {loops} loops and {pieces} pieces made quicker")
 
 
 main()

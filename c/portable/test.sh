@@ -211,7 +211,7 @@ is static.
 
 Instructions on x86-64 for a segment of 1,460 bytes with its answer, both ends together, at -O2:
 $(cat out/speed.txt 2>/dev/null || echo "not measured").
-Most are those of the checksum and of copies byte by byte, which the native library does by the processor's vectors.
+Most are those of the checksum, which the native library sums by the processor's vectors.
 TABLE
 fi
 echo "portable: $passed passed, $left_out left out"
