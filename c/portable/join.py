@@ -6,6 +6,7 @@ have is looked at, and anything unforeseen stops this script. No line of a funct
 quicker.py has made quicker.
 """
 
+import collections
 import pathlib
 import re
 import sys
@@ -14,7 +15,8 @@ import quicker
 
 HERE = pathlib.Path(__file__).resolve().parent
 LAYER = HERE.parent / "tcpcore"
-RENAMED = [("Z_tcp_c_instance_t*", "Machine *"), ("  FUNC_PROLOGUE;\n", ""), ("  FUNC_EPILOGUE;\n", "")]
+# Z_NAME_instance_t, of the module's name, is renamed, too.
+RENAMED = [("  FUNC_PROLOGUE;\n", ""), ("  FUNC_EPILOGUE;\n", "")]
 INCLUDES = '#include "layout.h"\n#include "tcpcore.h"\n\n#include <string.h>\n'
 # What wasm2c's functions may name beside each other and themselves: what memory.c has.
 KNOWN = set(re.findall(r"\b(?:LOAD|STORE)\((\w+),", (HERE / "memory.c").read_text())) | {
@@ -54,35 +56,39 @@ def layer():
     return text
 
 
-def function_names(text):
-    return re.findall(r"^static (?:u32|u64|void) (w2c_\w+)\(Z_tcp_c_instance_t\*", text, re.M)
+def made_of(text, instance, what):
+    """What wasm2c's function that makes a module's globals or memories does."""
+    return re.search(rf"^static void init_{what}\({instance} instance\) \{{\n(.*?)^\}}\n", text, re.M | re.S)
 
 
-def functions(text):
-    """wasm2c's functions, and their declarations."""
-    globals_of = re.search(r"^static void init_globals\(Z_tcp_c_instance_t\* instance\) \{\n(.*?)^\}\n", text, re.M | re.S)
-    memories = re.search(r"^static void init_memories\(Z_tcp_c_instance_t\* instance\) \{\n(.*?)^\}\n", text, re.M | re.S)
+def functions(text, module, has_data=False):
+    """wasm2c's functions of a module, and their declarations. Where it may have data that is in memory from the start, that is left
+    to the caller."""
+    instance = f"Z_{module}_instance_t\\*"
+    globals_of, memories = (made_of(text, instance, what) for what in ("globals", "memories"))
     named = re.findall(r"instance->(\w+) = (\w+);\n", globals_of[1])
     if [name for name, _ in named] != ["w2c___stack_pointer", "w2c_in_call", "w2c___heap_base"] or named[1][1] != "0u":
         stop(f"the module's globals are {named}")
     memory = r"  wasm_rt_allocate_memory\(&instance->w2c_memory, \d+, \d+\);\n"
-    if not re.fullmatch(memory + r"(?:  LOAD_DATA\(instance->w2c_memory, \d+u, NULL, 0\);\n)?", memories[1]):
+    data = r"\w+, \d+" if has_data else "NULL, 0"
+    if not re.fullmatch(memory + rf"(?:  LOAD_DATA\(instance->w2c_memory, \d+u, {data}\);\n)?", memories[1]):
         stop(f"the module's memory has {memories[1]}")
     if "CALL_INDIRECT(table" in text[memories.end() :] or "w2c_T" in text[memories.end() :]:
         stop("the module has a table")
     declared = text[text.index("static u32 w2c___rattle_enter(") : globals_of.start()]
-    start = text.index("static u32 w2c___rattle_enter(Z_tcp_c_instance_t* instance)")
+    start = re.search(rf"^static u32 w2c___rattle_enter\({instance} instance\)", text, re.M).start()
     body = text[start : text.index("/* export: ")]
-    names = set(function_names(declared))
+    names = set(re.findall(rf"^static (?:u32|u64|void) (w2c_\w+)\({instance}", declared, re.M))
     unknown = set(re.findall(r"\b([A-Za-z_]\w*)\(", body)) - names - KNOWN
-    if unknown or re.search(r"\b(?:f32|f64|memory_init|funcref)\b", body):
+    # REM_U of memory.c is of 32 bits.
+    if unknown or re.search(r"\b(?:f32|f64|memory_init|funcref|REM_U\(w2c_j)\b", body):
         stop(f"the functions name {sorted(unknown)}")
-    for old, new in RENAMED:
+    for old, new in [(f"Z_{module}_instance_t*", "Machine *"), *RENAMED]:
         declared, body = declared.replace(old, new), body.replace(old, new)
-    # The names of instances of generic functions end in a checksum.
+    # The names of instances of generic functions end in a checksum: it goes where another isn't named so.
     shorter = {name: re.sub(r"____[0-9a-f]{16}_$", "", name) for name in names}
-    if len(set(shorter.values())) != len(shorter):
-        stop("two functions have one name")
+    shared = {short for short, count in collections.Counter(shorter.values()).items() if count > 1}
+    shorter = {name: name if short in shared else short for name, short in shorter.items()}
     for name, short in shorter.items():
         declared, body = (re.sub(rf"\b{name}\b", short, it) for it in (declared, body))
     return declared, body
@@ -115,7 +121,7 @@ def stack_of(body):
 
 
 def main():
-    declared, body = functions(pathlib.Path(sys.argv[1]).read_text())
+    declared, body = functions(pathlib.Path(sys.argv[1]).read_text(), "tcp_c")
     stack = (stack_of(body) + 15) // 16 * 16
     body, loops, pieces = quicker.quicker(body)
     if loops < 10 or pieces < 5:
@@ -129,4 +135,5 @@ def main():
           f" {loops} loops and {pieces} pieces made quicker")
 
 
-main()
+if __name__ == "__main__":
+    main()

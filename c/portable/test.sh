@@ -183,13 +183,13 @@ machines
 # Bare metal: qemu's board mps2-an385, 4 MB for code and 16 MB of memory, with picolibc.
 bare() {
     has gcc-arm-none-eabi arm-none-eabi-gcc --version || return 0
-    compiled cortex-m0 arm-none-eabi -mcpu=cortex-m0 -mthumb
-    compiled cortex-m4 arm-none-eabi -mcpu=cortex-m4 -mthumb
-    { has picolibc-arm-none-eabi arm-none-eabi-gcc --specs=picolibc.specs -E -x c /dev/null &&
-        has qemu-system-arm qemu-system-arm --version; } || return 0
-    linked="--specs=picolibc.specs --crt0=hosted --oslib=semihost -Wl,--defsym=__flash=0 -Wl,--defsym=__flash_size=4M"
+    has picolibc-arm-none-eabi arm-none-eabi-gcc --specs=picolibc.specs -E -x c /dev/null || return 0
+    compiled cortex-m0 arm-none-eabi --specs=picolibc.specs -mcpu=cortex-m0 -mthumb
+    compiled cortex-m4 arm-none-eabi --specs=picolibc.specs -mcpu=cortex-m4 -mthumb
+    has qemu-system-arm qemu-system-arm --version || return 0
+    linked="--crt0=hosted --oslib=semihost -Wl,--defsym=__flash=0 -Wl,--defsym=__flash_size=4M"
     linked+=" -Wl,--defsym=__ram=0x21000000 -Wl,--defsym=__ram_size=16M -Wl,--defsym=__stack_size=64K"
-    machine cortex-m3 arm-none-eabi ./tests/board.sh -mcpu=cortex-m3 -mthumb
+    machine cortex-m3 arm-none-eabi ./tests/board.sh --specs=picolibc.specs -mcpu=cortex-m3 -mthumb
 }
 [[ -n $short ]] || bare
 
