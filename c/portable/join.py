@@ -18,6 +18,18 @@ LAYER = HERE.parent / "tcpcore"
 # Z_NAME_instance_t, of the module's name, is renamed, too.
 RENAMED = [("  FUNC_PROLOGUE;\n", ""), ("  FUNC_EPILOGUE;\n", "")]
 INCLUDES = '#include "layout.h"\n#include "tcpcore.h"\n\n#include <string.h>\n'
+INCLUDES_HERE = """\
+#include "tcpcore.h"
+
+#if defined(__STDC_HOSTED__) && __STDC_HOSTED__ == 0
+/* No C library: the program has these three. */
+void *memcpy(void *, const void *, size_t);
+void *memmove(void *, const void *, size_t);
+void *memset(void *, int, size_t);
+#else
+#include <string.h>
+#endif
+"""
 # What wasm2c's functions may name beside each other and themselves: what memory.c has.
 KNOWN = set(re.findall(r"\b(?:LOAD|STORE)\((\w+),", (HERE / "memory.c").read_text())) | {
     "memory_copy", "memory_fill", "REM_U", "I32_ROTR", "UNREACHABLE", "if", "u8", "u16", "u32", "u64", "s32", "s64"}
@@ -46,7 +58,7 @@ def layer():
         stop("tcpcore.c isn't as it was")
     fields = layout[layout.index("#define FIELD") : layout.index("#endif", layout.index("#undef FIELD"))]
     holds = "/* Where the fields lie, on this machine too. */\n#define HOLDS(condition) extern const char tcpcore_holds[(condition) ? 1 : -1]\n"
-    text = native.sub("", text).replace(INCLUDES, INCLUDES.split("\n", 1)[1] + "\n" + holds + fields)
+    text = native.sub("", text).replace(INCLUDES, INCLUDES_HERE + "\n" + holds + fields)
     text = re.sub(r'_Static_assert\((.*), (?:#field )?".*"\)(;?)$', r"HOLDS(\1)\2", text, flags=re.M)
     text, calls = re.subn(r"^((?:uint32_t|size_t) tcp_c_\w+\()", r"static \1", text, flags=re.M)
     # All calls of the header but strerror and version are the library's.

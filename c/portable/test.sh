@@ -141,6 +141,8 @@ here() {
         [[ $(names "out/here.$compiler.o") == "$wanted" ]] || fail "the names aren't the header's"
         pass
     done
+    # With the compiler's own headers alone, as where there is no C library.
+    object freestanding gcc -O2 -ffreestanding -nostdinc -isystem "$(gcc -print-file-name=include)"
     sanitizers="-g -O1 -fsanitize=address,undefined -fno-sanitize-recover=all"
     gcc -std=c99 $sanitizers -I"$layer" -c "$file" -o out/sanitized.o
     calls_over sanitized gcc $sanitizers
