@@ -2,8 +2,8 @@
 # What the gate doesn't look at: the program's exit statuses and its lines on standard error, what it does where memory is refused,
 # whether the documents show what is in the repository and their commands can be pasted, scripts and C as linters read them, the
 # programs against second ones, the C library under its tests, against lwIP and against this machine's kernel, the portable file on
-# two other machines, what stands on it for Rust, C++, Go and Python, the tarball in a place without the kit, real clients over
-# usernet, captures, and the replay as a WebAssembly module.
+# two other machines, what stands on it for Rust, C++, Go and Python, the program as one C file, the tarball in a place without the
+# kit, real clients over usernet, captures, and the replay as a WebAssembly module.
 # checks/behind.sh FOLDER writes how many of these passed into FOLDER/behind. The libraries and the module are built over what the
 # gate has proved, and after it: two builds at once wait for one another.
 set -euo pipefail
@@ -38,6 +38,8 @@ c/portable/build.sh
 behind c/portable/test.sh --short "$library"
 behind c/bindings/rust/test.sh "$library"
 behind c/bindings/test.sh
+apps/tcpkit/build.sh
+behind apps/tcpkit/test.sh
 behind c/dist/test.sh
 behind checks/live/run.sh
 behind apps/usernet/test.sh "$library" --short

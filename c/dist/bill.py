@@ -29,17 +29,16 @@ def identity(name):
     return re.sub(r"[^A-Za-z0-9.-]+", "-", name.removeprefix("./")).strip("-") + "-" + hashlib.sha1(name.encode()).hexdigest()[:8]
 
 
-def below(crates, name):
-    """The libraries that a crate stands on, of this repository and the kit's."""
+def libraries(crates):
+    """The kit's libraries that tcp_c and tcp_web stand on, whose code is in the machine code and the C files."""
     lines = re.findall(r"^([a-z_]+)(?: staticlib)?: *(.*)$", crates, re.M)
     stands_on = {crate: words.split() for crate, words in lines}
-    found, left = set(), [name]
+    found, left = {"std"}, ["tcp_c", "tcp_web"]
     while left:
-        crate = left.pop()
-        new = [it for it in stands_on.get(crate, []) if it not in found]
+        new = [it for it in stands_on.get(left.pop(), []) if it not in found]
         found.update(new)
         left += new
-    return sorted(found), sorted({"std", *(it for it in found if it not in stands_on)})
+    return sorted(it for it in found if it not in stands_on)
 
 
 def package(name, version, **more):
@@ -76,12 +75,11 @@ def main():
     for file, data in listed:
         out += file_lines(file, data)
         relations.append((own, "CONTAINS", f"SPDXRef-File-{identity(file)}"))
-    # Beside this repository's crates the code of prebuilt/ and of tcpcore_portable.c has these of the kit's libraries in it.
-    for library in below(crates, "tcp_c")[1]:
-        out += package(f"kit/{library}", made["kit"], PackageComment="<text>a library of the Rattle kit, in the machine code and the C file</text>")
+    for library in libraries(crates):
+        out += package(f"kit/{library}", made["kit"], PackageComment="<text>a library of the Rattle kit, in the machine code and the C files</text>")
         relations.append((own, "STATIC_LINK", f"SPDXRef-Package-{identity(f'kit/{library}')}"))
     for tool in ("kit", "wasm-opt", "wasm2c"):
-        out += package(tool, made[tool], PackageComment="<text>what the machine code or the C file was made with</text>")
+        out += package(tool, made[tool], PackageComment="<text>what the machine code or the C files were made with</text>")
         relations.append((f"SPDXRef-Package-{identity(tool)}", "BUILD_TOOL_OF", own))
     out += ["", *(f"Relationship: {one} {how} {other}" for one, how, other in relations)]
     print("\n".join(out))

@@ -1,14 +1,15 @@
 #!/usr/bin/env bash
-# Makes out/tcpcore-0.N.tar.gz, for who has no kit: the portable file (which c/portable/build.sh has made) and the machine code of
-# out/prebuilt (which prebuilt.sh has made), with header, layer, companions, bindings, examples, tests, pages, manual pages, what a
-# Debian package wants, checksums and a bill of materials, and a Makefile that wants a C compiler alone. Made twice from the same
-# files it is the same byte for byte.
+# Makes out/tcpcore-0.N.tar.gz, for who has no kit: the portable file (which c/portable/build.sh has made), the machine code of
+# out/prebuilt (prebuilt.sh) and the program as one C file (apps/tcpkit/build.sh), with header, layer, companions, bindings, examples,
+# tests, pages, manual pages, what a Debian package wants, checksums and a bill of materials, and a Makefile that wants a C compiler
+# alone. Made twice from the same files it is the same byte for byte.
 set -euo pipefail
 cd "$(dirname "$0")"
 top=$(cd ../.. && pwd)
 core=$top/c/tcpcore
 file=$top/c/portable/out/tcpcore_portable.c
 [[ -e $file ]] || { echo "dist: no portable file: run c/portable/build.sh"; exit 1; }
+[[ -e $top/apps/tcpkit/out/tcpkit.c ]] || { echo "dist: no program: run apps/tcpkit/build.sh"; exit 1; }
 ls out/prebuilt/*/libtcp_c.a >/dev/null || { echo "dist: no machine code: run c/dist/prebuilt.sh"; exit 1; }
 version=0.$(sed -n 's/^#define TCPCORE_VERSION //p' "$core/tcpcore.h")
 name=tcpcore-$version
@@ -19,12 +20,18 @@ library() {
     cp Makefile README.md "$file" "$core/"{tcpcore.c,tcpcore.h,layout.h,tcpcore.map} "$place"
     cp -r "$core/examples" "$core/tests" "$place"
     cp "$top"/c/companions/*.[ch] "$place/companions"
-    cp "$top/docs/"{EMBEDDING,RULES,TRUST}.md "$top/CHANGELOG.md" "$place/docs"
+    cp "$top/docs/"{EMBEDDING,FORMATS,INSTALL,RULES,TRUST}.md "$top/CHANGELOG.md" "$place/docs"
     python3 man.py "$core/tcpcore.h" "$(date -u -d "@$when" +%F)" >"$place/man/tcpcore.3"
     for machine in out/prebuilt/*/; do
         mkdir "$place/prebuilt/$(basename "$machine")"
         cp "$machine"/{libtcp_c.a,PROOF} "$place/prebuilt/$(basename "$machine")"
     done
+}
+
+program() {
+    cp "$top/apps/tcpkit/out/tcpkit.c" "$top/crates/tcpkit/data/"{first-run.script,segments.list} "$place/tcpkit"
+    cp "$top/crates/tcpkit/stdout" "$place/tcpkit/first-run.report"
+    sed "s/@DATE@/$(date -u -d "@$when" +%F)/; s/@VERSION@/$version/" "$top/apps/tcpkit/tcpkit.1" >"$place/man/tcpkit.1"
 }
 
 bindings() {
@@ -57,7 +64,7 @@ debian() {
 licenses() {
     local kit library
     kit=$(dirname "$(rt doc)")/rattle
-    python3 -c 'import sys, bill; print(*bill.below(open(sys.argv[1]).read(), "tcp_c")[1])' "$top/crates.txt" | tr ' ' '\n' |
+    python3 -c 'import sys, bill; print(*bill.libraries(open(sys.argv[1]).read()), sep="\n")' "$top/crates.txt" |
         while read -r library; do
             for text in "$kit/$library"/LICENSE*; do
                 [[ ! -e $text ]] || install -D -m 644 "$text" "$place/licenses/$library/$(basename "$text")"
@@ -66,15 +73,16 @@ licenses() {
 }
 
 made() {
-    echo "commit $(git -C "$top" rev-parse HEAD)$(git -C "$top" diff --quiet HEAD -- c crates docs || echo ', with changes that are not committed')"
+    echo "commit $(git -C "$top" rev-parse HEAD)$(git -C "$top" diff --quiet HEAD -- apps c crates docs || echo ', with changes that are not committed')"
     echo "kit $(rt version)"
     wasm-opt --version | sed 's/ version / /'
     echo "wasm2c $(wasm2c --version)"
 }
 
 rm -rf "$place"
-mkdir -p "$place"/{companions,rust,python/tcpcore,cpp,docs,man,prebuilt}
+mkdir -p "$place"/{companions,rust,python/tcpcore,cpp,docs,man,prebuilt,tcpkit}
 library
+program
 bindings
 debian
 licenses

@@ -1,8 +1,8 @@
 #!/usr/bin/env bash
 # The tarball: made twice it is the same; and in a folder of its own, where the kit and this repository can't be read, it is built, tested
 # and installed, of the portable file and of each machine's code; an example is built on what is installed and moved elsewhere; the
-# bill of materials and the manual pages are read; the Debian package is built and looked at; and the Rust crate and Python's class are
-# tested. It installs what this machine lacks by apt-get; where that fails it fails, or, with LEAVE_OUT=1 in the environment, says what
+# program is built and makes its first run; the bill of materials and the manual pages are read; the Debian packages are built and
+# looked at; and the Rust crate and Python's class are tested. It installs what this machine lacks by apt-get; where that fails it fails, or, with LEAVE_OUT=1 in the environment, says what
 # it leaves out. Stops at the first failure.
 set -euo pipefail
 cd "$(dirname "$0")"
@@ -113,6 +113,8 @@ package() {
     for file in one/*.deb; do cmp "$file" "other/${file#one/}"; done
     bare lintian --fail-on error --allow-root one/*.changes
     for file in one/lib*[0-9v]_*.deb; do dpkg-deb -x "$file" root; done
+    dpkg-deb -x one/tcpkit_*.deb root
+    root/usr/bin/tcpkit replay root/usr/share/doc/tcpkit/examples/first-run.script | cmp - "$place/tcpkit/first-run.report"
     lib=$(dirname root/usr/lib/*/libtcpcore.so)
     cc -I root/usr/include two_ends.c -L "$lib" -ltcpcore -o packaged
     LD_LIBRARY_PATH=$lib ./packaged | cmp - "$place/tests/expected/two_ends"
@@ -124,6 +126,7 @@ cd "$place"
 bare sha256sum --check --quiet SHA256SUMS
 if $hide env -i PATH=/usr/bin:/bin sh -c "command -v rt || ls $kit/* $top/*" >/dev/null 2>&1; then fail "the kit or the repository can be read"; fi
 installed
+bare make -C "$place" check-tcpkit
 prebuilt
 manual
 package
