@@ -15,16 +15,23 @@ has debootstrap debootstrap --version || exit 0
 if (($# > 0)); then root=$1; else root=$(mktemp -d); trap 'rm -rf "$root"' EXIT; fi
 [[ -e $root/usr/bin/cargo ]] || debootstrap --variant=minbase --include=gcc,libc6-dev,make,cargo bookworm "$root" >/dev/null
 
+# Words in that system, with its own processes and without a network.
+inside() {
+    # shellcheck disable=SC2016
+    unshare --mount --pid --net --fork sh -c 'mount -t proc none "$1/proc" && exec chroot "$@"' inside "$root" \
+        env -i PATH=/usr/bin:/bin HOME=/root "$@"
+}
+
 # Commands in the place, each a line of the input.
 there() {
     local name=$1 start=$SECONDS
-    chroot "$root" env -i PATH=/usr/bin:/bin HOME=/root sh -exc "$(cat)" >"$root/told" 2>&1 || { cat "$root/told"; echo "elsewhere: $name failed"; exit 1; }
+    inside sh -exc "$(cat)" >"$root/told" 2>&1 || { cat "$root/told"; echo "elsewhere: $name failed"; exit 1; }
     passed=$((passed + 1))
     echo "elsewhere: $name in $((SECONDS - start)) seconds"
 }
 
 rm -rf "${root:?}/root/$place" && cp "$tarball" "$root/root"
-if chroot "$root" sh -c 'command -v rt || ls /opt/rattle' >/dev/null 2>&1; then echo "elsewhere: the kit is there"; exit 1; fi
+if inside sh -c 'command -v rt || ls /opt/rattle' >/dev/null 2>&1; then echo "elsewhere: the kit is there"; exit 1; fi
 there "an end in a C program" <<END
 cd /root && tar -xzf $place.tar.gz && cd $place
 cc -I. examples/two_ends.c tcpcore_portable.c -o two_ends
