@@ -2,8 +2,8 @@
 # What the gate doesn't look at: the program's exit statuses and its lines on standard error, what it does where memory is refused,
 # whether the documents show what is in the repository and their commands can be pasted, scripts and C as linters read them, the
 # programs against second ones, the C library under its tests, against lwIP and against this machine's kernel, the portable file on
-# two other machines, what stands on it for Rust, C++, Go and Python, real clients over usernet, captures, and the replay as a
-# WebAssembly module.
+# two other machines, what stands on it for Rust, C++, Go and Python, the program as one C file, the tarball in a place without the
+# kit, real clients over usernet, captures, and the replay as a WebAssembly module.
 # checks/behind.sh FOLDER writes how many of these passed into FOLDER/behind. The libraries and the module are built over what the
 # gate has proved, and after it: two builds at once wait for one another.
 set -euo pipefail
@@ -19,13 +19,6 @@ behind() {
     echo "behind: '$*' passed in $((SECONDS - start)) seconds"
 }
 
-# The C library for a machine, as FOLDER/NAME.a; the words are those of rt lib.
-library() {
-    local name=$1
-    shift
-    (cd crates/tcp_c && rt lib "$@" && mv out/libtcp_c.a "$folder/$name.a")
-}
-
 behind checks/program/statuses.sh
 behind checks/program/memory.sh
 behind python3 checks/docs/readme.py
@@ -33,21 +26,23 @@ behind python3 checks/docs/paste.py
 behind checks/lint.sh
 behind checks/lib_test.sh
 behind checks/differential/test.sh
-library libtcp_c.aarch64 --target aarch64-unknown-linux-gnu
-library libtcp_c
+c/dist/prebuilt.sh
+library=$PWD/c/dist/out/prebuilt/x86-64-v2/libtcp_c.a
 apps/web/build.sh
-behind c/tcpcore/test.sh "$folder/libtcp_c.a"
-behind c/tcpcore/test.sh --target aarch64 "$folder/libtcp_c.aarch64.a"
-behind c/companions/test.sh "$folder/libtcp_c.a"
-behind checks/peers/segments.sh "$folder/libtcp_c.a"
-behind checks/peers/lwip.sh "$folder/libtcp_c.a"
+behind c/tcpcore/test.sh "$library"
+behind c/tcpcore/test.sh --target aarch64 "$PWD/c/dist/out/prebuilt/aarch64/libtcp_c.a"
+behind c/companions/test.sh "$library"
+behind checks/peers/segments.sh "$library"
+behind checks/peers/lwip.sh "$library"
 c/portable/build.sh
-behind c/portable/test.sh --short "$folder/libtcp_c.a"
-behind c/bindings/rust/test.sh "$folder/libtcp_c.a"
+behind c/portable/test.sh --short "$library"
+behind c/bindings/rust/test.sh "$library"
 behind c/bindings/test.sh
+apps/tcpkit/build.sh
+behind apps/tcpkit/test.sh
 behind c/dist/test.sh
 behind checks/live/run.sh
-behind apps/usernet/test.sh "$folder/libtcp_c.a" --short
+behind apps/usernet/test.sh "$library" --short
 behind apps/capture/test.sh
 behind apps/web/test.sh apps/web/out/tcp_web.wasm
 echo "$passed" >"$folder/behind"

@@ -1,37 +1,95 @@
 #!/usr/bin/env bash
-# Makes out/tcpcore-0.N.tar.gz, for who has no kit: the portable file (which c/portable/build.sh has made), with its header, companions,
-# bindings, examples, tests and pages, and a Makefile that wants a C compiler alone. Made twice from the same files it is the same
-# byte for byte.
+# Makes out/tcpcore-0.N.tar.gz, for who has no kit: the portable file (which c/portable/build.sh has made), the machine code of
+# out/prebuilt (prebuilt.sh) and the program as one C file (apps/tcpkit/build.sh), with header, layer, companions, bindings, examples,
+# tests, pages, manual pages, what a Debian package wants, checksums and a bill of materials, and a Makefile that wants a C compiler
+# alone. Made twice from the same files it is the same byte for byte.
 set -euo pipefail
 cd "$(dirname "$0")"
 top=$(cd ../.. && pwd)
+core=$top/c/tcpcore
 file=$top/c/portable/out/tcpcore_portable.c
 [[ -e $file ]] || { echo "dist: no portable file: run c/portable/build.sh"; exit 1; }
-name=tcpcore-0.$(sed -n 's/^#define TCPCORE_VERSION //p' "$top/c/tcpcore/tcpcore.h")
+[[ -e $top/apps/tcpkit/out/tcpkit.c ]] || { echo "dist: no program: run apps/tcpkit/build.sh"; exit 1; }
+ls out/prebuilt/*/libtcp_c.a >/dev/null || { echo "dist: no machine code: run c/dist/prebuilt.sh"; exit 1; }
+version=0.$(sed -n 's/^#define TCPCORE_VERSION //p' "$core/tcpcore.h")
+name=tcpcore-$version
 place=out/$name
-rm -rf "$place"
-mkdir -p "$place"/{companions,rust,python/tcpcore,cpp,docs}
-cp Makefile README.md "$file" "$top/c/tcpcore/tcpcore.h" "$place"
-cp -r "$top/c/tcpcore/examples" "$top/c/tcpcore/tests" "$place"
-cp "$top"/c/companions/*.[ch] "$place/companions"
-(cd "$top/c/bindings/rust" && cp -r Cargo.toml Cargo.lock README.md build.rs rustfmt.toml src tests examples "$top/c/dist/$place/rust")
-for folder in rust python; do
-    mkdir "$place/$folder/csrc"
-    cp "$file" "$top/c/tcpcore/tcpcore.h" "$place/$folder/csrc"
-done
-cp "$top/c/bindings/python/"{pyproject.toml,setup.py} "$place/python"
-cp "$top/c/tcpcore/tcpcore.py" "$place/python/tcpcore/__init__.py"
-touch "$place/python/tcpcore/py.typed"
-cp "$top/c/bindings/cpp/"{tcpcore.hpp,test.cpp} "$place/cpp"
-cp "$top/docs/"{EMBEDDING,RULES,TRUST}.md "$top/CHANGELOG.md" "$place/docs"
-find "$place" \( -name __pycache__ -o -name depth.py -o -name install.sh \) -prune -exec rm -rf {} +
-{
-    echo "commit $(git -C "$top" rev-parse HEAD)$(git -C "$top" diff --quiet HEAD -- c crates docs || echo ', with changes that are not committed')"
-    echo "kit $(rt version)"
-    wasm-opt --version
-    echo "wasm2c $(wasm2c --version)"
-} >"$place/MADE"
-(cd "$place" && find . -type f ! -name SHA256SUMS -print0 | LC_ALL=C sort -z | xargs -0 sha256sum >SHA256SUMS)
 when=$(git -C "$top" log -1 --format=%ct)
+
+library() {
+    cp Makefile README.md "$file" "$core/"{tcpcore.c,tcpcore.h,layout.h,tcpcore.map} "$place"
+    cp -r "$core/examples" "$core/tests" "$place"
+    cp "$top"/c/companions/*.[ch] "$place/companions"
+    cp "$top/docs/"{EMBEDDING,FORMATS,INSTALL,RULES,TRUST}.md "$top/CHANGELOG.md" "$place/docs"
+    python3 man.py "$core/tcpcore.h" "$(date -u -d "@$when" +%F)" >"$place/man/tcpcore.3"
+    for machine in out/prebuilt/*/; do
+        mkdir "$place/prebuilt/$(basename "$machine")"
+        cp "$machine"/{libtcp_c.a,PROOF} "$place/prebuilt/$(basename "$machine")"
+    done
+}
+
+program() {
+    cp "$top/apps/tcpkit/out/tcpkit.c" "$top/crates/tcpkit/data/"{first-run.script,segments.list} "$place/tcpkit"
+    cp "$top/crates/tcpkit/stdout" "$place/tcpkit/first-run.report"
+    sed "s/@DATE@/$(date -u -d "@$when" +%F)/; s/@VERSION@/$version/" "$top/apps/tcpkit/tcpkit.1" >"$place/man/tcpkit.1"
+}
+
+bindings() {
+    (cd "$top/c/bindings/rust" && cp -r Cargo.toml Cargo.lock README.md build.rs rustfmt.toml src tests examples "$top/c/dist/$place/rust")
+    for folder in rust python; do
+        mkdir "$place/$folder/csrc"
+        cp "$file" "$core/tcpcore.h" "$place/$folder/csrc"
+    done
+    cp "$top/c/bindings/python/"{pyproject.toml,setup.py} "$place/python"
+    cp "$core/tcpcore.py" "$place/python/tcpcore/__init__.py"
+    touch "$place/python/tcpcore/py.typed"
+    cp "$top/c/bindings/cpp/"{tcpcore.hpp,test.cpp} "$place/cpp"
+}
+
+# The version, the soname's number and the date in the files of Debian's package, and the symbols by the map's nodes.
+debian() {
+    local abi kind
+    abi=$(sed -n 's/^TCPCORE_\([0-9]*\) {$/\1/p' "$core/tcpcore.map" | head -n 1)
+    cp -r debian "$place"
+    for kind in install docs; do mv "$place/debian/libtcpcore@ABI@.$kind" "$place/debian/libtcpcore$abi.$kind"; done
+    find "$place/debian" -type f -exec sed -i "s/@VERSION@/$version/g; s/@ABI@/$abi/g; s/@DATE@/$(date -u -R -d "@$when")/" {} +
+    {
+        echo "libtcpcore.so.$abi libtcpcore$abi #MINVER#"
+        awk '/^TCPCORE_[0-9]+ \{$/ { node = $1; print " " node "@" node " 0." substr(node, 9) }
+             /^ *tcpcore_[a-z_]*;$/ { sub(";", "", $1); print " " $1 "@" node " 0." substr(node, 9) }' "$core/tcpcore.map"
+    } >"$place/debian/libtcpcore$abi.symbols"
+}
+
+# The texts that came with the kit's libraries whose code is in the portable file and the machine code.
+licenses() {
+    local kit library
+    kit=$(dirname "$(rt doc)")/rattle
+    python3 -c 'import sys, bill; print(*bill.libraries(open(sys.argv[1]).read()), sep="\n")' "$top/crates.txt" |
+        while read -r library; do
+            for text in "$kit/$library"/LICENSE*; do
+                [[ ! -e $text ]] || install -D -m 644 "$text" "$place/licenses/$library/$(basename "$text")"
+            done
+        done
+}
+
+made() {
+    echo "commit $(git -C "$top" rev-parse HEAD)$(git -C "$top" diff --quiet HEAD -- apps c crates docs || echo ', with changes that are not committed')"
+    echo "kit $(rt version)"
+    wasm-opt --version | sed 's/ version / /'
+    echo "wasm2c $(wasm2c --version)"
+}
+
+rm -rf "$place"
+mkdir -p "$place"/{companions,rust,python/tcpcore,cpp,docs,man,prebuilt,tcpkit}
+library
+program
+bindings
+debian
+licenses
+find "$place" \( -name __pycache__ -o -name depth.py -o -name install.sh \) -prune -exec rm -rf {} +
+made >"$place/MADE"
+python3 bill.py "$place" "$top/crates.txt" "$when" >out/bill
+mv out/bill "$place/tcpcore.spdx"
+(cd "$place" && find . -type f ! -name SHA256SUMS -print0 | LC_ALL=C sort -z | xargs -0 sha256sum >SHA256SUMS)
 tar -C out --sort=name --owner=0 --group=0 --numeric-owner --mode=u=rwX,go=rX --mtime="@$when" -cf - "$name" | gzip -n9 >"out/$name.tar.gz"
 ls -l "out/$name.tar.gz"

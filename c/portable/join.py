@@ -2,17 +2,34 @@
 
 MODULE.c is what wasm2c makes of crates/tcp_c, with 32-bit addresses. OUT has the text of c/tcpcore/tcpcore.c and layout.h, the
 memory of memory.c, wasm2c's functions and calls.c. Of wasm2c's file nothing but its functions is kept: what else it is taken to
-have is looked at, and anything unforeseen stops this script. No line of a function is changed but the words of RENAMED.
+have is looked at, and anything unforeseen stops this script. No line of a function is changed but the words of RENAMED, and what
+quicker.py has made quicker.
 """
 
+import collections
 import pathlib
 import re
 import sys
 
+import quicker
+
 HERE = pathlib.Path(__file__).resolve().parent
 LAYER = HERE.parent / "tcpcore"
-RENAMED = [("Z_tcp_c_instance_t*", "Machine *"), ("  FUNC_PROLOGUE;\n", ""), ("  FUNC_EPILOGUE;\n", "")]
+# Z_NAME_instance_t, of the module's name, is renamed, too.
+RENAMED = [("  FUNC_PROLOGUE;\n", ""), ("  FUNC_EPILOGUE;\n", "")]
 INCLUDES = '#include "layout.h"\n#include "tcpcore.h"\n\n#include <string.h>\n'
+INCLUDES_HERE = """\
+#include "tcpcore.h"
+
+#if defined(__STDC_HOSTED__) && __STDC_HOSTED__ == 0
+/* No C library: the program has these three. */
+void *memcpy(void *, const void *, size_t);
+void *memmove(void *, const void *, size_t);
+void *memset(void *, int, size_t);
+#else
+#include <string.h>
+#endif
+"""
 # What wasm2c's functions may name beside each other and themselves: what memory.c has.
 KNOWN = set(re.findall(r"\b(?:LOAD|STORE)\((\w+),", (HERE / "memory.c").read_text())) | {
     "memory_copy", "memory_fill", "REM_U", "I32_ROTR", "UNREACHABLE", "if", "u8", "u16", "u32", "u64", "s32", "s64"}
@@ -41,43 +58,49 @@ def layer():
         stop("tcpcore.c isn't as it was")
     fields = layout[layout.index("#define FIELD") : layout.index("#endif", layout.index("#undef FIELD"))]
     holds = "/* Where the fields lie, on this machine too. */\n#define HOLDS(condition) extern const char tcpcore_holds[(condition) ? 1 : -1]\n"
-    text = native.sub("", text).replace(INCLUDES, INCLUDES.split("\n", 1)[1] + "\n" + holds + fields)
+    text = native.sub("", text).replace(INCLUDES, INCLUDES_HERE + "\n" + holds + fields)
     text = re.sub(r'_Static_assert\((.*), (?:#field )?".*"\)(;?)$', r"HOLDS(\1)\2", text, flags=re.M)
     text, calls = re.subn(r"^((?:uint32_t|size_t) tcp_c_\w+\()", r"static \1", text, flags=re.M)
-    if "_Static_assert" in text or calls != 26:
+    # All calls of the header but strerror and version are the library's.
+    wanted = len(set(re.findall(r"^[a-z].* \**(tcpcore_\w+)\(", (LAYER / "tcpcore.h").read_text(), re.M))) - 2
+    if "_Static_assert" in text or calls != wanted:
         stop(f"the layer has {calls} calls of the library, or an assertion of another form")
     return text
 
 
-def function_names(text):
-    return re.findall(r"^static (?:u32|u64|void) (w2c_\w+)\(Z_tcp_c_instance_t\*", text, re.M)
+def made_of(text, instance, what):
+    """What wasm2c's function that makes a module's globals or memories does."""
+    return re.search(rf"^static void init_{what}\({instance} instance\) \{{\n(.*?)^\}}\n", text, re.M | re.S)
 
 
-def functions(text):
-    """wasm2c's functions, and their declarations."""
-    globals_of = re.search(r"^static void init_globals\(Z_tcp_c_instance_t\* instance\) \{\n(.*?)^\}\n", text, re.M | re.S)
-    memories = re.search(r"^static void init_memories\(Z_tcp_c_instance_t\* instance\) \{\n(.*?)^\}\n", text, re.M | re.S)
+def functions(text, module, has_data=False):
+    """wasm2c's functions of a module, and their declarations. Where it may have data that is in memory from the start, that is left
+    to the caller."""
+    instance = f"Z_{module}_instance_t\\*"
+    globals_of, memories = (made_of(text, instance, what) for what in ("globals", "memories"))
     named = re.findall(r"instance->(\w+) = (\w+);\n", globals_of[1])
     if [name for name, _ in named] != ["w2c___stack_pointer", "w2c_in_call", "w2c___heap_base"] or named[1][1] != "0u":
         stop(f"the module's globals are {named}")
     memory = r"  wasm_rt_allocate_memory\(&instance->w2c_memory, \d+, \d+\);\n"
-    if not re.fullmatch(memory + r"(?:  LOAD_DATA\(instance->w2c_memory, \d+u, NULL, 0\);\n)?", memories[1]):
+    data = r"\w+, \d+" if has_data else "NULL, 0"
+    if not re.fullmatch(memory + rf"(?:  LOAD_DATA\(instance->w2c_memory, \d+u, {data}\);\n)?", memories[1]):
         stop(f"the module's memory has {memories[1]}")
     if "CALL_INDIRECT(table" in text[memories.end() :] or "w2c_T" in text[memories.end() :]:
         stop("the module has a table")
     declared = text[text.index("static u32 w2c___rattle_enter(") : globals_of.start()]
-    start = text.index("static u32 w2c___rattle_enter(Z_tcp_c_instance_t* instance)")
+    start = re.search(rf"^static u32 w2c___rattle_enter\({instance} instance\)", text, re.M).start()
     body = text[start : text.index("/* export: ")]
-    names = set(function_names(declared))
+    names = set(re.findall(rf"^static (?:u32|u64|void) (w2c_\w+)\({instance}", declared, re.M))
     unknown = set(re.findall(r"\b([A-Za-z_]\w*)\(", body)) - names - KNOWN
-    if unknown or re.search(r"\b(?:f32|f64|memory_init|funcref)\b", body):
+    # REM_U of memory.c is of 32 bits.
+    if unknown or re.search(r"\b(?:f32|f64|memory_init|funcref|REM_U\(w2c_j)\b", body):
         stop(f"the functions name {sorted(unknown)}")
-    for old, new in RENAMED:
+    for old, new in [(f"Z_{module}_instance_t*", "Machine *"), *RENAMED]:
         declared, body = declared.replace(old, new), body.replace(old, new)
-    # The names of instances of generic functions end in a checksum.
+    # The names of instances of generic functions end in a checksum: it goes where another isn't named so.
     shorter = {name: re.sub(r"____[0-9a-f]{16}_$", "", name) for name in names}
-    if len(set(shorter.values())) != len(shorter):
-        stop("two functions have one name")
+    shared = {short for short, count in collections.Counter(shorter.values()).items() if count > 1}
+    shorter = {name: name if short in shared else short for name, short in shorter.items()}
     for name, short in shorter.items():
         declared, body = (re.sub(rf"\b{name}\b", short, it) for it in (declared, body))
     return declared, body
@@ -110,14 +133,19 @@ def stack_of(body):
 
 
 def main():
-    declared, body = functions(pathlib.Path(sys.argv[1]).read_text())
+    declared, body = functions(pathlib.Path(sys.argv[1]).read_text(), "tcp_c")
     stack = (stack_of(body) + 15) // 16 * 16
+    body, loops, pieces = quicker.quicker(body)
+    if loops < 10 or pieces < 5:
+        stop(f"{loops} loops and {pieces} pieces of code could be made quicker: wasm2c or the compiler writes them in other forms")
     own = f"\n/* The module's own stack: what its deepest chain of calls takes. */\nenum {{ MODULE_STACK = {stack} }};\n\n"
     module = "/* THE MODULE: crates/tcp_c and those below it, function by function, as wasm2c has written them. */\n"
     parts = [HEAD, layer(), (HERE / "memory.c").read_text(), own, module, declared, body, (HERE / "calls.c").read_text()]
     text = "".join(parts)
     pathlib.Path(sys.argv[2]).write_text(text)
-    print(f"{sys.argv[2]}: {len(text.splitlines())} lines, {declared.count(';')} functions, {stack} bytes of the module's stack")
+    print(f"{sys.argv[2]}: {len(text.splitlines())} lines, {declared.count(';')} functions, {stack} bytes of the module's stack,"
+          f" {loops} loops and {pieces} pieces made quicker")
 
 
-main()
+if __name__ == "__main__":
+    main()

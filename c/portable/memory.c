@@ -134,6 +134,25 @@ static inline void memory_fill(const Memory *memory, u32 destination, u32 value,
         memset(at, (int)(value & 255), count);
 }
 
+/*
+ * Of a loop that copies four bytes a turn, `left` bytes in all: does each turn but the last at once, and answers how many bytes these
+ * are; 0 where it does none: where a turn would stop, or would read what another one has written.
+ */
+static inline u64 copied_ahead(const Memory *memory, u64 destination, u64 source, u64 left)
+{
+    u32 to = (u32)destination, from = (u32)source;
+    const struct window *there = memory->written + (to >> 30), *here = memory->read + (from >> 30);
+    if (left < 8 || left > PLACE || left % 4 != 0)
+        return 0;
+    u32 count = (u32)left - 4;
+    int is_apart = to >> 30 != from >> 30 || (to > from ? to - from : from - to) >= count;
+    to &= PLACE, from &= PLACE;
+    if (!is_apart || to + count > there->size || from + count > here->size)
+        return 0;
+    memmove(there->data + to, here->data + from, count);
+    return count;
+}
+
 static inline u32 remainder_of(u32 value, u32 by)
 {
     if (by == 0)

@@ -141,6 +141,8 @@ here() {
         [[ $(names "out/here.$compiler.o") == "$wanted" ]] || fail "the names aren't the header's"
         pass
     done
+    # With the compiler's own headers alone, as where there is no C library.
+    object freestanding gcc -O2 -ffreestanding -nostdinc -isystem "$(gcc -print-file-name=include)"
     sanitizers="-g -O1 -fsanitize=address,undefined -fno-sanitize-recover=all"
     gcc -std=c99 $sanitizers -I"$layer" -c "$file" -o out/sanitized.o
     calls_over sanitized gcc $sanitizers
@@ -183,13 +185,13 @@ machines
 # Bare metal: qemu's board mps2-an385, 4 MB for code and 16 MB of memory, with picolibc.
 bare() {
     has gcc-arm-none-eabi arm-none-eabi-gcc --version || return 0
-    compiled cortex-m0 arm-none-eabi -mcpu=cortex-m0 -mthumb
-    compiled cortex-m4 arm-none-eabi -mcpu=cortex-m4 -mthumb
-    { has picolibc-arm-none-eabi arm-none-eabi-gcc --specs=picolibc.specs -E -x c /dev/null &&
-        has qemu-system-arm qemu-system-arm --version; } || return 0
-    linked="--specs=picolibc.specs --crt0=hosted --oslib=semihost -Wl,--defsym=__flash=0 -Wl,--defsym=__flash_size=4M"
+    has picolibc-arm-none-eabi arm-none-eabi-gcc --specs=picolibc.specs -E -x c /dev/null || return 0
+    compiled cortex-m0 arm-none-eabi --specs=picolibc.specs -mcpu=cortex-m0 -mthumb
+    compiled cortex-m4 arm-none-eabi --specs=picolibc.specs -mcpu=cortex-m4 -mthumb
+    has qemu-system-arm qemu-system-arm --version || return 0
+    linked="--crt0=hosted --oslib=semihost -Wl,--defsym=__flash=0 -Wl,--defsym=__flash_size=4M"
     linked+=" -Wl,--defsym=__ram=0x21000000 -Wl,--defsym=__ram_size=16M -Wl,--defsym=__stack_size=64K"
-    machine cortex-m3 arm-none-eabi ./tests/board.sh -mcpu=cortex-m3 -mthumb
+    machine cortex-m3 arm-none-eabi ./tests/board.sh --specs=picolibc.specs -mcpu=cortex-m3 -mthumb
 }
 [[ -n $short ]] || bare
 
@@ -211,7 +213,7 @@ is static.
 
 Instructions on x86-64 for a segment of 1,460 bytes with its answer, both ends together, at -O2:
 $(cat out/speed.txt 2>/dev/null || echo "not measured").
-Most are those of the checksum and of copies byte by byte, which the native library does by the processor's vectors.
+Most are those of the checksum, which the native library sums by the processor's vectors.
 TABLE
 fi
 echo "portable: $passed passed, $left_out left out"

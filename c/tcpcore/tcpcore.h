@@ -480,8 +480,8 @@ uint32_t tcpcore_rest_status(const struct tcpcore_rest *rest, uint32_t *phase, u
 const char *tcpcore_strerror(uint32_t answer);
 
 /*
- * The TCPCORE_VERSION with which tcpcore.c was compiled. A program that loads a shared library compares it with its
- * own.
+ * The TCPCORE_VERSION with which tcpcore.c was compiled. A program that loads a shared library looks that this isn't below its
+ * own. While the soname stays, later versions add calls, answers, and fields in the place of reserved words, and change nothing.
  */
 uint32_t tcpcore_version(void);
 

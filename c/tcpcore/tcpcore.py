@@ -288,7 +288,8 @@ def load(path: str) -> dict[str, Callable[..., Any]]:
         call = getattr(library, f"tcpcore_{name}")
         call.argtypes, call.restype = types, RESULTS.get(name, ctypes.c_uint32)
         calls[name] = call
-    if calls["version"]() != VERSION:
+    # Later versions add to it.
+    if calls["version"]() < VERSION:
         raise ImportError(f"{path} has version {calls['version']()}, and tcpcore.py is for version {VERSION}")
     return calls
 

@@ -7,7 +7,8 @@ import sys
 import tempfile
 
 TOP = os.path.realpath(f"{os.path.dirname(__file__)}/../..")
-PROGRAM = f"{TOP}/crates/tcpkit/out/tcpkit"
+# Another one may be named.
+PROGRAM = os.environ.get("TCPKIT", f"{TOP}/crates/tcpkit/out/tcpkit")
 
 
 def hexadecimal(data):

@@ -1,7 +1,7 @@
 #!/usr/bin/env bash
 # Installs the C library (of the static library that the first argument names, or crates/tcp_c's own) to a new folder, and
 # builds an example outside the repository as a user does, by what pkg-config tells alone: linked statically, and
-# against the shared library. What they print is compared. Stops at the first failure.
+# against the shared library. What they print is compared; and programs of older versions run with it (older.sh). Stops at the first failure.
 set -euo pipefail
 cd "$(dirname "$0")/.."
 library=$(realpath "${1:-../../crates/tcp_c/out/libtcp_c.a}")
@@ -24,16 +24,19 @@ prints() {
 }
 
 make --silent install OUT="$there/out" PREFIX="$there/usr" LIBRARY="$library"
+soname=libtcpcore.so.$(sed -n 's/^TCPCORE_\([0-9]*\) {$/\1/p' tcpcore.map | head -n 1)
 same files "$(cd "$there/usr" && find . -type f -o -type l | sort | tr '\n' ' ')" \
-    "./include/tcpcore.h ./lib/libtcpcore.a ./lib/libtcpcore.so ./lib/libtcpcore.so.$(sed -n \
-        's/^#define TCPCORE_VERSION //p' tcpcore.h) ./lib/pkgconfig/tcpcore.pc "
+    "./include/tcpcore.h ./lib/libtcpcore.a ./lib/libtcpcore.so ./lib/$soname ./lib/pkgconfig/tcpcore.pc "
 cp examples/two_ends.c "$there"
 cd "$there"
 export PKG_CONFIG_PATH=$there/usr/lib/pkgconfig
 shared=$(readlink usr/lib/libtcpcore.so)
 same soname "$(objdump -p "usr/lib/$shared" | awk '$1 == "SONAME" { print $2 }')" "$shared"
 calls=$(grep -o '^[a-z].* \**tcpcore_[a-z_]*(' usr/include/tcpcore.h | grep -o 'tcpcore_[a-z_]*' | sort)
-same "exported names" "$(nm -D --defined-only "usr/lib/$shared" | awk '{ print $3 }' | sort)" "$calls"
+# Each call of the header is in a node of the map, and nothing else is exported.
+same "exported names" "$(nm -D --defined-only "usr/lib/$shared" | sed -n 's/.* \([^ @]*\)@@TCPCORE_[0-9]*$/\1/p' | sort)" "$calls"
+same "nodes of the map" "$(nm -D --defined-only "usr/lib/$shared" | awk '$2 == "A" { print $3 }' | sort -V | head -n 1)" \
+    "TCPCORE_${soname##*.}"
 same "names of the archive" "$(nm --defined-only --extern-only usr/lib/libtcpcore.a | awk 'NF == 3 { print $3 }' | sort)" "$calls"
 
 cc -static two_ends.c $(pkg-config --cflags --libs --static tcpcore) -o static
@@ -41,6 +44,8 @@ prints ./static
 cc two_ends.c $(pkg-config --cflags --libs tcpcore) -o dynamic
 same "what the program needs" "$(objdump -p dynamic | awk '$1 == "NEEDED" { print $2 }' | grep tcpcore)" "$shared"
 prints env LD_LIBRARY_PATH="$there/usr/lib" ./dynamic
+"$OLDPWD/tests/older.sh" "usr/lib/$shared"
+passed=$((passed + 1))
 # Moved elsewhere it is found by where its .pc file lies.
 mv usr moved
 cc two_ends.c $(PKG_CONFIG_PATH=$there/moved/lib/pkgconfig pkg-config --define-prefix --cflags --libs tcpcore) -o relocated

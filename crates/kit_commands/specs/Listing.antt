@@ -1,5 +1,5 @@
 -- What is written of a list of segments: a function from its whole text.
-use Rattle.std.specs.Prelude.{ℕ, ◌+◌, ◌==◌, if◌then◌else◌, Bool, true, false, List, [], ◌∷◌, ◌++◌, length, codes, decimal, string_bytes, Option, Some, None, option_map, Result, Ok, Err}
+use Rattle.std.specs.Prelude.{ℕ, ◌+◌, ◌==◌, if◌then◌else◌, Bool, List, [], ◌∷◌, ◌++◌, length, codes, decimal, string_bytes, Option, Some, None, option_map, Result, Ok, Err}
 use Rattle.std.specs.Option.{option_and_then, option_map_or}
 use Rattle.tcp_wire.specs.declared.fault.DecodeError.{DecodeError}
 use Rattle.tcp_wire.specs.Wire.{Content}

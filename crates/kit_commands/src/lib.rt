@@ -1,8 +1,9 @@
 //! The program's commands, over any input and output: they list the segments of a list, or replay a script, and write
 //! what comes of it.
 //!
-//! [`show`] and [`replay`] read their input to its end, write a whole listing or report, and flush; [`report_of`] makes the report of a
-//! text alone. [`ToolError`] is each way in which they end otherwise. The program's words are `kit_words`'.
+//! [`show`] and [`replay`] read their input to its end, write a whole listing or report, and flush; [`list_segments`] and [`report_of`]
+//! make the listing and the report of a text alone. [`ToolError`] is each way in which they end otherwise. The program's words are
+//! `kit_words`'.
 #![tactic(auto)]
 
 mod errors;
@@ -12,5 +13,6 @@ mod replay_script;
 mod show_list;
 
 pub use errors::ToolError;
+pub use listing::{Listing, list_segments};
 pub use replay_script::{replay, report_of};
 pub use show_list::show;

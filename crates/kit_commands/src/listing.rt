@@ -12,7 +12,7 @@ type Answer = Result<bool, usize>;
 
 /// A listing, and how it ends.
 #[derive(Debug, Drop)]
-pub(crate) struct Listing<A: Allocator = Global> {
+pub struct Listing<A: Allocator = Global> {
     /// A line for each segment, and then the total, unless a line is bad.
     pub text: String<A>,
     /// Whether no segment was malformed; or the first bad line, where the listing ends.
@@ -79,10 +79,7 @@ fn push_lines<A: Allocator + Copy>(
 /// The listing of a text whose bytes can be any: a line for each segment up to the first bad line, and the total
 /// where no line is bad.
 #[tactic(auto, unfolding(crate::specs::Listing::listing_of))]
-pub(crate) fn list_segments<A: Allocator + Copy>(
-    alloc: A,
-    text: &[u8],
-) -> Result<Listing<A>, AllocError>
+pub fn list_segments<A: Allocator + Copy>(alloc: A, text: &[u8]) -> Result<Listing<A>, AllocError>
     ensures { IfOk result (λ listing. listing_content listing ≡ listing_of text.now) }
 {
     let mut listing = String::new(alloc);

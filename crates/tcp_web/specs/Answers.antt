@@ -1,5 +1,5 @@
 -- What the module answers: a text, or the line of a fault.
-use Rattle.std.specs.Prelude.{◌≡◌, ◌⊎◌, ℕ, List, [], ◌∷◌, ◌++◌, length, codes, decimal, Option, Some, None, Ok, if◌then◌else◌, ◌==◌, true, false}
+use Rattle.std.specs.Prelude.{◌≡◌, ◌⊎◌, ℕ, Bool, List, [], ◌∷◌, ◌++◌, length, codes, decimal, Option, Some, None, Result, Ok, if◌then◌else◌, ◌==◌, true, false}
 use Rattle.tcp_halves.specs.Config.{config_error_number}
 use Rattle.tcp_replay.specs.declared.event.Side.{Side}
 use Rattle.tcp_replay.specs.declared.event.Side.TheVariants.{A, B}
@@ -9,6 +9,7 @@ use Rattle.kit_script.specs.Script.{ScriptContent, script_of}
 use Rattle.kit_report.specs.Steps.{steps_text, shown_segment}
 use Rattle.kit_commands.specs.declared.errors.ToolError.{ToolError}
 use Rattle.kit_commands.specs.declared.errors.ToolError.TheVariants.{BadLine, NoMemory, ReadFault, WriteFault, Config as ConfigFault}
+use Rattle.kit_commands.specs.Listing.{listing_of}
 use Rattle.kit_commands.specs.Replay.{IsReport, RefusesText}
 
 -- the numbers of the answers
@@ -73,6 +74,11 @@ pub record IsSegment (text : List ℕ) (side : Side) (k : ℕ) (shown : Option (
   pub meaning : script_of text ≡ Ok script
   pub configs : HasGoodConfigs script.a script.b
   pub shown_is : shown ≡ shown_segment script side k
+
+-- THE LISTING of a list of segments, and how it ends: whether no segment was malformed, or the first bad line
+pub record IsListing (list listing : List ℕ) (answer : Result Bool ℕ) : Type 0 where
+  pub text_is : listing ≡ (listing_of list).text
+  pub answer_is : (listing_of list).answer ≡ answer
 
 -- WHAT WANTS ROOM: a text or a fault's line of this length
 pub record WantsRoom (IsWritten : List ℕ → Type 0) (script : List ℕ) (len : ℕ) : Type 0 where

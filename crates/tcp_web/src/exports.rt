@@ -1,12 +1,13 @@
 //! The exported functions.
-ghost use Rattle.std.specs.Prelude.{◌≡◌, ◌≢◌, ◌≤◌, ◌<◌, ◌⊎◌, true, false, length, take, Some, None, IfSome, IsNone};
+ghost use Rattle.std.specs.Prelude.{◌≡◌, ◌≢◌, ◌≤◌, ◌<◌, ◌⊎◌, true, false, length, take, Some, None, IfSome, IsNone, Ok, Err};
+ghost use Rattle.kit_commands.specs.Listing.{listing_of};
 ghost use Rattle.kit_commands.specs.Replay.{IsReport};
-ghost use Rattle.tcp_web.specs.Answers.{well, refused, fault, no_memory, no_room, no_segment, side_of, fault_text, IsOfText, IsFaultLine, IsAnyReport, IsSteps, IsSegment, WantsRoom};
+ghost use Rattle.tcp_web.specs.Answers.{well, refused, fault, no_memory, no_room, no_segment, side_of, fault_text, IsOfText, IsFaultLine, IsAnyReport, IsSteps, IsSegment, IsListing, WantsRoom};
 
 use crate::answers::{FAULT, NO_MEMORY, NO_SEGMENT, REFUSED, WELL, put};
 use crate::faults::fault_line;
 use crate::texts::{segment_of, steps_of};
-use kit_commands::{ToolError, report_of};
+use kit_commands::{ToolError, list_segments, report_of};
 use region_heap::{Block, Region};
 use std::alloc::Allocator;
 use tcp_replay::Side;
@@ -125,5 +126,44 @@ pub extern "C" fn tcp_web_show(
         Ok(Some(shown)) => put(shown.as_bytes(), out, count, WELL),
         Ok(None) => NO_SEGMENT,
         Err(error) => put_fault(&region, error, out, count),
+    }
+}
+
+/// Writes the listing of a list of segments: [`WELL`] where none is malformed, [`REFUSED`] where one is. With a bad line it ends before
+/// the first, whose number goes to `line`, and the answer is [`FAULT`]; else that is 0.
+#[unsafe(no_mangle)]
+pub extern "C" fn tcp_web_list(
+    memory: Block,
+    list: &[u8],
+    out: &mut [u8],
+    count: &mut usize,
+    line: &mut usize,
+) -> u32
+    ensures well { result ≡ well → IsListing list.now (take count.new out.new) (Ok true) }
+    ensures refused { result ≡ refused → IsListing list.now (take count.new out.new) (Ok false) }
+    ensures fault { result ≡ fault → IsListing list.now (take count.new out.new) (Err line.new) }
+    ensures no_line { result ≢ fault → line.new ≡ 0 }
+    ensures fits { result ≤ fault → count.new ≤ length out.old }
+    ensures no_memory { result ≡ no_memory → count.new ≡ 0 }
+    ensures no_room { result ≡ no_room → (length out.old < count.new) × (count.new ≡ length (listing_of list.now).text) }
+    ensures answers { result ≤ no_room }
+{
+    *count = 0;
+    *line = 0;
+    let region = Region::new(memory);
+    let Ok(listing) = list_segments(&region, list) else {
+        return NO_MEMORY;
+    };
+    let ending = listing.answer;
+    let text = listing.text.as_bytes();
+    match ending {
+        Ok(is_well) => put(text, out, count, if is_well { WELL } else { REFUSED }),
+        Err(number) => {
+            let answer = put(text, out, count, FAULT);
+            if answer == FAULT {
+                *line = number;
+            }
+            answer
+        }
     }
 }

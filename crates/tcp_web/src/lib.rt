@@ -7,6 +7,7 @@
 //! uint32_t tcp_web_replay(tcp_web_block memory, const uint8_t *script, size_t script_length, uint8_t *out, size_t out_length, size_t *count);
 //! uint32_t tcp_web_steps(tcp_web_block memory, const uint8_t *script, size_t script_length, uint8_t *out, size_t out_length, size_t *count);
 //! uint32_t tcp_web_show(tcp_web_block memory, const uint8_t *script, size_t script_length, uint32_t side, size_t number, uint8_t *out, size_t out_length, size_t *count);
+//! uint32_t tcp_web_list(tcp_web_block memory, const uint8_t *list, size_t list_length, uint8_t *out, size_t out_length, size_t *count, size_t *line);
 //! ```
 //!
 //! The caller owes what no code here can test: the block is aligned to 16, its size is a multiple of 16, and no piece of memory
@@ -19,4 +20,4 @@ mod faults;
 mod texts;
 
 pub use answers::{FAULT, NO_MEMORY, NO_ROOM, NO_SEGMENT, REFUSED, WELL};
-pub use exports::{tcp_web_replay, tcp_web_show, tcp_web_steps};
+pub use exports::{tcp_web_list, tcp_web_replay, tcp_web_show, tcp_web_steps};

@@ -1,0 +1,21 @@
+#!/usr/bin/env bash
+# Builds out/tcpkit.c, the program tcpkit as one C99 file, which wants a C compiler alone, and out/tcpkit of it: crates/tcp_web, the
+# proved replay and listing as a WebAssembly module (the first argument, or apps/web/out/tcp_web.wasm, which apps/web/build.sh builds),
+# with its addresses made 32 bits wide by wasm-opt (binaryen), translated to C by wasm2c (wabt) and put together with memory and program
+# by join.py. It installs both by apt-get where this machine lacks them.
+set -euo pipefail
+module=$(realpath -m "${1:-$(dirname "$0")/../web/out/tcp_web.wasm}")
+cd "$(dirname "$0")"
+# shellcheck disable=SC2034
+test=tcpkit
+. ../../checks/lib.sh
+[[ -e $module ]] || { echo "tcpkit: no $module: run apps/web/build.sh"; exit 1; }
+install_commands <<'LIST'
+wasm-opt binaryen
+wasm2c wabt
+LIST
+mkdir -p out
+wasm-opt --enable-memory64 --enable-bulk-memory --enable-mutable-globals -g --memory64-lowering "$module" -o out/tcp_web.wasm
+wasm2c out/tcp_web.wasm -n tcp_web -o out/tcp_web.c
+python3 join.py out/tcp_web.c out/tcpkit.c
+cc -std=c99 -O1 out/tcpkit.c -o out/tcpkit

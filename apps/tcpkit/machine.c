@@ -1,0 +1,10 @@
+/* What the module's functions name beside memory.c. */
+#define DIV_U(x, y) ((y) == 0 ? (stop(), (x)) : (x) / (y))
+#define I32_ROTL(x, y) ((x) << ((y) & 31) | (x) >> ((32 - (y)) & 31))
+
+static inline u32 i32_load8_s(const Memory *memory, u64 address)
+{
+    u32 byte = get8(place(memory->read, (u32)address, 1));
+    return byte < 128 ? byte : byte | UINT32_C(0xffffff00);
+}
+

@@ -1,0 +1,72 @@
+"""What a header promises to programs that were built with an older one: python3 older.py OLDER.h HEADER.h prints each answer, bound, field
+and call of OLDER.h that HEADER.h has otherwise, and ends with 1 where there is one. TCPCORE_VERSION may grow, and so may bounds of the
+stack; fields may take the place of reserved words. The C compiler (CC, else cc) tells where fields lie.
+"""
+
+import os
+import pathlib
+import re
+import subprocess
+import sys
+import tempfile
+
+MAY_GROW = {"TCPCORE_VERSION", "TCPCORE_STACK", "TCPCORE_PORTABLE_STACK"}
+
+
+def without_comments(text):
+    return re.sub(r"/\*.*?\*/", " ", text, flags=re.S)
+
+
+def calls(text):
+    """The prototypes, with one blank between words."""
+    found = re.findall(r"^(?:uint32_t|size_t|const char \*)\s*tcpcore_\w+\([^;{]*\);", text, re.M)
+    return {re.search(r"tcpcore_\w+", call)[0]: " ".join(call.split()) for call in found}
+
+
+def fields(text):
+    """Each field, as (type, field), reserved and unnamed ones left out; and each type."""
+    found = []
+    for tag, body in re.findall(r"\bstruct (tcpcore_\w+) \{(.*?)\}", text, re.S):
+        names = re.findall(r"\b(\w+)(?:\[\w+\])?\s*;", re.sub(r":\s*\d+", "", body))
+        found += [(f"struct {tag}", name) for name in names if name not in ("reserved", "int")]
+    return found
+
+
+def numbers(text):
+    """The enumerators and the macros that are numbers."""
+    named = re.findall(r"\b(TCPCORE_\w+)\s*=\s*\d+", text)
+    bounds = re.findall(r"^#define (TCPCORE_\w+) (?:\d+|UINT64_C\(\d+\))\s*$", text, re.M)
+    # Of the macro with arguments some values.
+    return [it for it in named + bounds if it not in MAY_GROW] + ["TCPCORE_MEMORY(1, 1)", "TCPCORE_MEMORY(257, 1048576)"]
+
+
+def values(header, older):
+    """What the compiler makes of the older header's names with a header."""
+    lines = [f'    printf("{name} %llu\\n", (unsigned long long)({name}));' for name in numbers(older)]
+    for kind, field in fields(older):
+        lines.append(f'    printf("{kind} {field} %zu %zu\\n", offsetof({kind}, {field}), sizeof(({kind} *)0)->{field});')
+    for kind in sorted({kind for kind, _ in fields(older)}):
+        lines.append(f'    printf("{kind} %zu\\n", sizeof({kind}));')
+    with tempfile.TemporaryDirectory() as folder:
+        place = pathlib.Path(folder)
+        (place / "tcpcore.h").write_text(pathlib.Path(header).read_text())
+        (place / "values.c").write_text("\n".join(['#include "tcpcore.h"', "#include <stdio.h>", "int main(void)", "{", *lines, "    return 0;", "}", ""]))
+        subprocess.run([os.environ.get("CC", "cc"), "-std=c11", f"-I{place}", place / "values.c", "-o", place / "values"], check=True)
+        return subprocess.run([place / "values"], check=True, capture_output=True, text=True).stdout.splitlines()
+
+
+def main():
+    older, newer = (without_comments(pathlib.Path(name).read_text()) for name in sys.argv[1:3])
+    if not calls(older) or not fields(older) or len(numbers(older)) < 10:
+        sys.exit("older.py: no header was read")
+    before, now = values(sys.argv[1], older), values(sys.argv[2], older)
+    wrong = [f"{name} is {found!r}, and was {wanted!r}" for name, wanted in calls(older).items() if (found := calls(newer).get(name)) != wanted]
+    wrong += [f"'{found}', and was '{wanted}'" for wanted, found in zip(before, now) if found != wanted]
+    for line in wrong:
+        print(f"older.py: {line}")
+    print(f"older.py: {len(calls(older))} calls and {len(before)} values looked at, {len(wrong)} of them are not as they were")
+    sys.exit(bool(wrong))
+
+
+if __name__ == "__main__":
+    main()
