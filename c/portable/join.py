@@ -44,7 +44,7 @@ def layer():
     text = native.sub("", text).replace(INCLUDES, INCLUDES.split("\n", 1)[1] + "\n" + holds + fields)
     text = re.sub(r'_Static_assert\((.*), (?:#field )?".*"\)(;?)$', r"HOLDS(\1)\2", text, flags=re.M)
     text, calls = re.subn(r"^((?:uint32_t|size_t) tcp_c_\w+\()", r"static \1", text, flags=re.M)
-    if "_Static_assert" in text or calls != 26:
+    if "_Static_assert" in text or calls != 28:
         stop(f"the layer has {calls} calls of the library, or an assertion of another form")
     return text
 

@@ -18,9 +18,9 @@ fi
 library=${1:-../../crates/tcp_c/out/libtcp_c.a}
 warnings="-std=c11 -g -Wall -Wextra -Wpedantic -Wcast-qual -Wconversion -Wshadow -Wstrict-prototypes -Werror"
 sanitizers="-O1 -fsanitize=address,undefined -fno-sanitize-recover=all"
-calls=$(printf '%s\n' abort acknowledge arrive close connect emit free listen new peer pending receive rest rest_abort \
-    rest_arrive rest_emit rest_pending rest_status rest_timer room send status stray_reset take timer timers)
-tests="examples/two_ends tests/misuse tests/misuse_rest tests/room tests/fields tests/answers tests/cautions tests/rest"
+calls=$(printf '%s\n' abort acknowledge arrive close connect emit free listen new next peer pending receive rest rest_abort \
+    rest_arrive rest_emit rest_pending rest_status rest_timer room send status stray_reset take timer timers transmit)
+tests="examples/two_ends tests/misuse tests/misuse_rest tests/room tests/fields tests/answers tests/cautions tests/rest tests/reports"
 passed=0
 
 pass() { passed=$((passed + 1)); }
