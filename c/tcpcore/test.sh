@@ -131,6 +131,9 @@ check_with gcc libasan8
 # A new file: one that a running program has mapped is left as it is.
 cp out/libtcpcore.gcc.so out/new.so
 mv -f out/new.so out/libtcpcore.so
+# What is reported, against the second program.
+python3 ../../checks/differential/reports.py out/libtcpcore.so 1500 >out/reports.log || { cat out/reports.log; exit 1; }
+pass
 if has clang clang --version; then
     check_with clang libclang-rt-14-dev
 fi
