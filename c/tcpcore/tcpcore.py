@@ -167,7 +167,7 @@ class Transmit(NamedTuple):
     kind: Kind
     length: int
     position: int
-    count: int
+    text_count: int
 
 
 class Config(NamedTuple):
