@@ -57,11 +57,10 @@ static void drop(struct usernet *net, struct conn *conn, int resets)
 static void emit(struct usernet *net, struct conn *conn)
 {
     uint8_t segment[TCPCORE_EMIT_ROOM];
-    tcpcore_addr to;
-    size_t length;
-    while (tcpcore_emit(&conn->end, segment, sizeof segment, &to, &length) == TCPCORE_DONE) {
-        timers_emitted(&conn->timers, segment, length, net->now);
-        send_segment(net, segment, length, conn->pair.server, to);
+    struct tcpcore_transmit sent;
+    while (tcpcore_transmit(&conn->end, segment, sizeof segment, &sent) == TCPCORE_DONE) {
+        timers_sent(&conn->timers, &sent, net->now);
+        send_segment(net, segment, (size_t)sent.length, conn->pair.server, sent.to);
     }
     send_rest(net);
 }
@@ -187,12 +186,11 @@ void arrive(struct usernet *net, const struct ip_packet *packet)
     } else if (!conn) {
         stray(net, packet);
     } else if (conn->is_open) {
-        uint32_t at_once;
-        uint32_t answer = tcpcore_take(&conn->end, packet->src, packet->dst, bytes, packet->length, &at_once);
+        struct tcpcore_taken taken;
+        uint32_t answer = tcpcore_take(&conn->end, packet->src, packet->dst, bytes, packet->length, &taken);
         net->counters[MALFORMED] += answer >= TCPCORE_TOO_SHORT && answer <= TCPCORE_BAD_PADDING;
-        if (answer == TCPCORE_DONE)
-            timers_arrived(&conn->timers, bytes, packet->length, net->now);
-        if (at_once)
+        timers_taken(&conn->timers, &conn->end, &taken, net->now);
+        if (taken.at_once)
             emit(net, conn); /* out of order, or a gap was filled (RFC 5681, 4.2) */
         wheel_wake(&net->wheel, &conn->node);
     } else if (bits_of(bytes, RST)) {

@@ -69,16 +69,6 @@ static void received(struct flow *flow, uint64_t moved, int at_once, uint64_t no
         flow->answer_at = now + flow->delay;
 }
 
-/* Whether a segment that was taken is a duplicate acknowledgement (RFC 5681, 2). */
-static int is_duplicate(const struct flow *flow, const uint8_t *segment, size_t length, const struct tcpcore_status *before,
-                        const struct tcpcore_status *after)
-{
-    uint64_t window = (uint64_t)read16(segment + AT_WINDOW) << after->peer_shift;
-    return before->phase >= TCPCORE_PHASE_ESTABLISHED && before->in_flight > 0 && length == header_of(segment) &&
-           bits_of(segment, SYN | FIN | RST | ACK) == ACK && window == before->snd_wnd && before->una == after->una &&
-           read32(segment + AT_ACK) == flow->timers.isn + (uint32_t)after->una;
-}
-
 /* The milliseconds after which silence is probed (RFC 8985, 7.2): two round trips, or more where these vary, and where the peer may
    wait for a second full segment 200 ms more. */
 static uint64_t patience(const struct flow *flow)
@@ -119,13 +109,13 @@ static void duplicate(struct flow *flow, tcpcore_end *end, uint64_t now)
         flow->fast++;
 }
 
-/* What an arrival acknowledges, and what it tells of losses. */
-static void acknowledged(struct flow *flow, tcpcore_end *end, const uint8_t *segment, size_t length, int is_same,
+/* What an arrival acknowledges, and what it tells of losses; of blocks where it has nothing but options. */
+static void acknowledged(struct flow *flow, tcpcore_end *end, const struct tcpcore_taken *taken, int tells_blocks,
                          const struct tcpcore_status *after, uint64_t now)
 {
     struct congestion *congestion = &flow->congestion;
-    uint64_t acked = after->released - congestion->released, again = congestion->again;
-    int tells_blocks = length == header_of(segment) && length > SEGMENT_HEADER;
+    uint64_t acked = taken->acked, again = congestion->again;
+    int is_same = taken->is_duplicate != 0;
     if (after->mss > 0)
         congestion_agreed(congestion, after->mss);
     congestion_clock(congestion, now, trip_of(flow));
@@ -177,21 +167,21 @@ uint32_t flow_arrive(struct flow *flow, tcpcore_end *end, tcpcore_addr src, tcpc
 {
     const uint8_t *segment = bytes;
     struct tcpcore_status before = status_of(end);
-    uint32_t at_once, answer = tcpcore_take(end, src, dst, bytes, length, &at_once);
+    struct tcpcore_taken taken;
+    uint32_t answer = tcpcore_take(end, src, dst, bytes, length, &taken);
     if (answer != TCPCORE_DONE && answer != TCPCORE_DROPPED)
         return answer;
     struct tcpcore_status after = status_of(end);
-    int is_answered = answers_arrived(&flow->answers, segment, length, at_once, now);
-    int is_same = answer == TCPCORE_DONE && is_duplicate(flow, segment, length, &before, &after);
+    int is_answered = answers_arrived(&flow->answers, segment, length, taken.at_once, now);
+    int tells_blocks = taken.brought == TCPCORE_BROUGHT_NOTHING && length > SEGMENT_HEADER;
     flow->heard_at = now;
     flow->asked = flow->is_asking = 0;
-    if (answer == TCPCORE_DONE)
-        timers_arrived(&flow->timers, segment, length, now);
-    else if (is_answered)
+    timers_taken(&flow->timers, end, &taken, now);
+    if (answer == TCPCORE_DROPPED && is_answered)
         repeated(flow, end, segment, &before, now);
     if (after.phase >= TCPCORE_PHASE_ESTABLISHED)
         window_is(flow, after.snd_wnd);
-    acknowledged(flow, end, segment, length, is_same, &after, now);
+    acknowledged(flow, end, &taken, tells_blocks, &after, now);
     mind_override(flow, now);
     received(flow, after.next - before.next, is_answered, now);
     return answer;
@@ -332,23 +322,23 @@ static void answered(struct flow *flow)
     flow->is_owed = flow->is_urgent = 0;
 }
 
-/* A segment was emitted. */
-static void sent(struct flow *flow, const tcpcore_end *end, const uint8_t *segment, size_t length, uint64_t now)
+/* A segment was emitted, of which this was reported. */
+static void sent(struct flow *flow, const tcpcore_end *end, const uint8_t *segment, const struct tcpcore_transmit *transmit,
+                 uint64_t now)
 {
     struct tcpcore_status status = status_of(end);
-    size_t text = length - header_of(segment);
-    if (timers_emitted(&flow->timers, segment, length, now)) {
-        congestion_resent(&flow->congestion, text);
+    if (timers_sent(&flow->timers, transmit, now)) {
+        congestion_resent(&flow->congestion, transmit->count);
         flow->resent++;
     } else {
         flow->is_resending = 0;
     }
-    if (text > 0) {
+    if (transmit->count > 0) {
         flow->sent_at = now;
         await(flow, now);
     }
-    if (!bits_of(segment, SYN))
-        flow->options = (uint32_t)(header_of(segment) - SEGMENT_HEADER);
+    if (transmit->kind != TCPCORE_KIND_SYN)
+        flow->options = (uint32_t)(transmit->length - transmit->count - SEGMENT_HEADER);
     if (bits_of(segment, ACK)) {
         answered(flow);
         answers_told(&flow->answers, segment, edge_of(flow, &status));
@@ -380,9 +370,20 @@ static int goes(struct flow *flow, const tcpcore_end *end, uint8_t *segment, siz
                                                          step_of(flow), now);
 }
 
+/* tcpcore_transmit, with what tcpcore_emit tells. */
+static uint32_t transmitted(tcpcore_end *end, void *out, size_t room, tcpcore_addr *to, size_t *length,
+                            struct tcpcore_transmit *transmit)
+{
+    uint32_t answer = tcpcore_transmit(end, out, room, transmit);
+    *to = transmit->to;
+    *length = (size_t)transmit->length;
+    return answer;
+}
+
 uint32_t flow_emit(struct flow *flow, tcpcore_end *end, void *out, size_t room, tcpcore_addr *to, size_t *length,
                    uint64_t now)
 {
+    struct tcpcore_transmit transmit;
     /* Which tcpcore_emit refuses. */
     if (!to || !length)
         return tcpcore_emit(end, out, room, to, length);
@@ -391,11 +392,11 @@ uint32_t flow_emit(struct flow *flow, tcpcore_end *end, void *out, size_t room, 
         *length = 0;
         return TCPCORE_NOT_DUE;
     }
-    uint32_t answer = tcpcore_emit(end, out, room, to, length);
+    uint32_t answer = transmitted(end, out, room, to, length, &transmit);
     while (answer == TCPCORE_DONE && !goes(flow, end, out, *length, now))
-        answer = tcpcore_emit(end, out, room, to, length);
+        answer = transmitted(end, out, room, to, length, &transmit);
     if (answer == TCPCORE_DONE)
-        sent(flow, end, out, *length, now);
+        sent(flow, end, out, &transmit, now);
     if (answer == TCPCORE_NOT_DUE) {
         answered(flow);
         flow->is_resending = 0;

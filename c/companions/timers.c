@@ -22,9 +22,6 @@ void timers_init(struct timers *timers, const struct timers_rules *rules)
         timers->deadline[timer] = TIMERS_NEVER;
 }
 
-/* Whether sequence number `a` comes before `b` (RFC 9293, 3.4). */
-static int comes_before(uint32_t a, uint32_t b) { return a != b && b - a < UINT32_C(1) << 31; }
-
 /* How long a timer takes, in milliseconds. Reordering is given one round trip, or the timeout where none was
    measured. */
 static uint64_t span(const struct timers *timers, uint32_t timer)
@@ -37,21 +34,15 @@ static uint64_t span(const struct timers *timers, uint32_t timer)
     return timers->samples == 0 ? timers->rto : trip > least ? trip : least;
 }
 
-int timers_emitted(struct timers *timers, const void *segment, size_t length, uint64_t now)
+/* A segment went out that begins at a position, and takes so many numbers (RFC 9293, 3.4). Whether it was sent again. */
+static int sent_at(struct timers *timers, uint64_t first, uint64_t numbers, uint64_t now)
 {
-    const uint8_t *bytes = segment;
-    uint32_t first = read32(bytes + AT_SEQ);
-    uint32_t numbers = (uint32_t)(length - header_of(bytes)) + !!bits_of(bytes, SYN) + !!bits_of(bytes, FIN);
+    int is_new = first >= timers->highest;
     if (timers->phase == TCPCORE_PHASE_TIME_WAIT)
         timers->deadline[TCPCORE_TIMER_TIME_WAIT] = now + timers->rules.time_wait;
-    if (bits_of(bytes, RST) || numbers == 0)
+    if (numbers == 0)
         return 0;
-    if (bits_of(bytes, SYN) && !timers->has_isn) {
-        timers->has_isn = 1;
-        timers->isn = timers->highest = first;
-    }
-    int is_new = !comes_before(first, timers->highest);
-    if (comes_before(timers->highest, first + numbers))
+    if (first + numbers > timers->highest)
         timers->highest = first + numbers;
     if (!is_new) {
         timers->timed_at = TIMERS_NEVER;
@@ -64,11 +55,38 @@ int timers_emitted(struct timers *timers, const void *segment, size_t length, ui
     return !is_new;
 }
 
+int timers_sent(struct timers *timers, const struct tcpcore_transmit *sent, uint64_t now)
+{
+    uint32_t kind = sent->kind;
+    int takes_one = kind == TCPCORE_KIND_SYN || kind == TCPCORE_KIND_FIN || kind == TCPCORE_KIND_FIN_AGAIN;
+    return sent_at(timers, sent->position, sent->count + (takes_one ? 1 : 0), now);
+}
+
+int timers_emitted(struct timers *timers, const void *segment, size_t length, uint64_t now)
+{
+    const uint8_t *bytes = segment;
+    uint64_t numbers = length - header_of(bytes) + !!bits_of(bytes, SYN) + !!bits_of(bytes, FIN);
+    if (bits_of(bytes, RST))
+        numbers = 0;
+    if (bits_of(bytes, SYN) && timers->highest == 0)
+        timers->isn = read32(bytes + AT_SEQ);
+    /* How far it begins from what was emitted before, which is less than 2^31 (RFC 9293, 3.4). */
+    int64_t ahead = (int32_t)(read32(bytes + AT_SEQ) - (timers->isn + (uint32_t)timers->highest));
+    return sent_at(timers, timers->highest + (uint64_t)ahead, numbers, now);
+}
+
 /* The time towards R2 starts anew. */
 static void begin_anew(struct timers *timers, uint64_t now)
 {
     timers->since = now;
     timers->resent = 0;
+}
+
+void timers_taken(struct timers *timers, const tcpcore_end *end, const struct tcpcore_taken *taken, uint64_t now)
+{
+    struct tcpcore_status status;
+    if (taken->window_taken && tcpcore_status(end, &status) == TCPCORE_DONE && status.snd_wnd == 0 && timers->una > 0)
+        begin_anew(timers, now);
 }
 
 void timers_arrived(struct timers *timers, const void *segment, size_t length, uint64_t now)
@@ -106,7 +124,7 @@ static void progress(struct timers *timers, uint64_t una, uint64_t now)
     timers->una = una;
     if (ends_handshake && timers->resent > 0 && timers->rules.first_rto < AFTER_SYN_RESENT)
         timers->rto = AFTER_SYN_RESENT;
-    if (timers->timed_at != TIMERS_NEVER && !comes_before(timers->isn + (uint32_t)una, timers->timed)) {
+    if (timers->timed_at != TIMERS_NEVER && una >= timers->timed) {
         sample(timers, now - timers->timed_at);
         timers->timed_at = TIMERS_NEVER;
     }

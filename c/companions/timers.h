@@ -4,10 +4,11 @@
  * This is C over tcpcore.h, tested and not proved. An end is right at any times; these are the standard's.
  *
  * The caller has the clock: `now` is a count of milliseconds that never goes back. In each turn of its loop it
- *   1. hands arrivals to tcpcore_arrive, and each segment that it answered by TCPCORE_DONE to timers_arrived,
+ *   1. hands arrivals to tcpcore_take, and each report to timers_taken,
  *   2. calls timers_run, then makes its own calls (tcpcore_receive, tcpcore_send, tcpcore_close),
- *   3. emits, and hands each segment that it emits to timers_emitted,
+ *   3. transmits, and hands each report to timers_sent,
  *   4. calls timers_run once more, which starts the timers of what was sent, and waits for timers_wait at most.
+ * With tcpcore_arrive and tcpcore_emit it hands the segments themselves to timers_arrived and timers_emitted, all of them.
  */
 #ifndef TCPCORE_TIMERS_H
 #define TCPCORE_TIMERS_H
@@ -56,11 +57,10 @@ struct timers {
     uint64_t since;         /* when progress was seen last, or sending began */
     uint64_t una;           /* SND.UNA as tcpcore_status told it last */
     uint32_t phase;         /* the phase as tcpcore_status told it last */
-    uint32_t isn;           /* the initial sequence number, from the SYN that was emitted */
-    uint32_t highest;       /* the number after all that was emitted */
-    uint32_t timed;         /* the number after the segment that is being timed */
+    uint64_t highest;       /* the position after all that was emitted */
+    uint64_t timed;         /* the position after the segment that is being timed */
     uint64_t timed_at;      /* when it was emitted, or TIMERS_NEVER: none is */
-    uint32_t has_isn;       /* whether a SYN was emitted */
+    uint32_t isn;           /* the initial sequence number, from the SYN that timers_emitted was passed */
     uint64_t next;          /* RCV.NXT as tcpcore_status told it last */
     uint64_t left_at;       /* when an end in FIN-WAIT-2 is given up, or TIMERS_NEVER */
 };
@@ -69,17 +69,23 @@ struct timers {
 void timers_init(struct timers *timers, const struct timers_rules *rules);
 
 /*
- * A segment of `length` bytes was emitted. New text is timed, one segment at a time; where anything is sent again
+ * A segment was emitted, of which tcpcore_transmit reported this. New text is timed, one segment at a time; where anything is sent again
  * nothing is, since its acknowledgement wouldn't tell which one it answers (Karn's rule: RFC 6298, 3), and reordering
  * is given a round trip more, in which the peer can tell that it came. In TIME-WAIT an emission answers the peer's FIN
  * and starts that time anew (RFC 9293, 3.10.7.4). Answers whether the segment was sent again.
  */
+int timers_sent(struct timers *timers, const struct tcpcore_transmit *sent, uint64_t now);
+
+/* The same of a segment of `length` bytes that tcpcore_emit wrote. */
 int timers_emitted(struct timers *timers, const void *segment, size_t length, uint64_t now);
 
 /*
- * A segment of `length` bytes has come, and tcpcore_arrive answered TCPCORE_DONE. A peer that answers with a shut
- * window is there: it is probed for as long as it answers (RFC 9293, 3.8.6.1).
+ * A segment has come to the end, of which tcpcore_take reported this. A peer that answers with a window of 0 is there: it is
+ * probed for as long as it answers (RFC 9293, 3.8.6.1).
  */
+void timers_taken(struct timers *timers, const tcpcore_end *end, const struct tcpcore_taken *taken, uint64_t now);
+
+/* The same of a segment of `length` bytes that tcpcore_arrive answered by TCPCORE_DONE. */
 void timers_arrived(struct timers *timers, const void *segment, size_t length, uint64_t now);
 
 /*

@@ -11,7 +11,7 @@ enum {
     AT_FOUND = AT_DST + 8,
     AT_OTHER = AT_FOUND + 8,
     AT_RECORD = AT_OTHER + 8,
-    RECORD = 88,
+    RECORD = 104,
     FRAME = AT_RECORD + RECORD
 };
 
@@ -28,7 +28,9 @@ struct call {
 /* How many bytes each field of a record has, in turn. */
 static const u8 OF_ADDR[] = {1, 1, 1, 1, 0};
 static const u8 OF_CONFIG[] = {1, 1, 1, 1, 2, 2, 4, 4, 8, 8, 8, 1, 1, 1, 0};
-static const u8 OF_STATUS[] = {4, 4, 8, 8, 8, 8, 8, 8, 8, 8, 4, 1, 1, 1, 1, 4, 0};
+static const u8 OF_STATUS[] = {4, 4, 8, 8, 8, 8, 8, 8, 8, 8, 4, 1, 1, 1, 1, 4, 4, 8, 4, 4, 0};
+static const u8 OF_TAKEN[] = {4, 4, 8, 4, 4, 4, 0};
+static const u8 OF_TRANSMIT[] = {1, 1, 1, 1, 4, 8, 8, 8, 0};
 static const u8 OF_REST[] = {4, 1, 1, 1, 1, 1, 1, 1, 1, 2, 2, 4, 4, 4, 1, 1, 1, 1, 4, 4, 2, 1, 1, 2, 2, 0};
 
 /* Carries a record between the program's memory and the module's: their fields lie at the same places. */
@@ -193,13 +195,13 @@ static uint32_t tcp_c_arrive(struct handle *handle, const tcpcore_addr *src, con
 }
 
 static uint32_t tcp_c_take(struct handle *handle, const tcpcore_addr *src, const tcpcore_addr *dst, const uint8_t *bytes,
-                           size_t length, uint32_t *at_once)
+                           size_t length, struct tcpcore_taken *taken)
 {
     WITH_END(handle);
     put_segment(&call, src, dst, bytes, length);
-    put32(call.frame + AT_FOUND, 0);
-    uint32_t answer = w2c_tcp_c_take(M, AT_HANDLE, AT_SRC, AT_DST, WINDOW(IN_READ), length_of(length), AT_FOUND);
-    *at_once = get32(call.frame + AT_FOUND);
+    carry_record(call.frame + AT_RECORD, taken, OF_TAKEN);
+    uint32_t answer = w2c_tcp_c_take(M, AT_HANDLE, AT_SRC, AT_DST, WINDOW(IN_READ), length_of(length), AT_RECORD);
+    carry_record(taken, call.frame + AT_RECORD, OF_TAKEN);
     end_with(&call, handle);
     return answer;
 }
@@ -224,6 +226,27 @@ static uint32_t tcp_c_emit(struct handle *handle, uint8_t *out, size_t room, tcp
     put_written(&call, to, out, room);
     uint32_t answer = w2c_tcp_c_emit(M, AT_HANDLE, WINDOW(IN_WRITTEN), length_of(room), AT_DST, AT_FOUND);
     get_written(&call, to, length);
+    end_with(&call, handle);
+    return answer;
+}
+
+static uint32_t tcp_c_transmit(struct handle *handle, uint8_t *out, size_t room, struct tcpcore_transmit *transmit)
+{
+    WITH_END(handle);
+    carry_record(call.frame + AT_RECORD, transmit, OF_TRANSMIT);
+    see(&call, IN_WRITTEN, out, room);
+    uint32_t answer = w2c_tcp_c_transmit(M, AT_HANDLE, WINDOW(IN_WRITTEN), length_of(room), AT_RECORD);
+    carry_record(transmit, call.frame + AT_RECORD, OF_TRANSMIT);
+    end_with(&call, handle);
+    return answer;
+}
+
+static uint32_t tcp_c_next(struct handle *handle, struct tcpcore_transmit *next)
+{
+    WITH_END(handle);
+    carry_record(call.frame + AT_RECORD, next, OF_TRANSMIT);
+    uint32_t answer = w2c_tcp_c_next(M, AT_HANDLE, AT_RECORD);
+    carry_record(next, call.frame + AT_RECORD, OF_TRANSMIT);
     end_with(&call, handle);
     return answer;
 }

@@ -39,9 +39,30 @@ FIELD(struct tcpcore_status, peer_shift, 77, 1);
 FIELD(struct tcpcore_status, scaling, 78, 1);
 FIELD(struct tcpcore_status, sack, 79, 1);
 FIELD(struct tcpcore_status, snd_wnd, 80, 4);
+FIELD(struct tcpcore_status, rcv_wnd, 84, 4);
+FIELD(struct tcpcore_status, nxt, 88, 8);
+FIELD(struct tcpcore_status, closing, 96, 4);
+FIELD(struct tcpcore_status, finished, 100, 4);
 /* The library's status ends here: it writes nothing behind. */
-FIELD(struct tcpcore_status, reserved, 84, 44);
+FIELD(struct tcpcore_status, reserved, 104, 24);
 _Static_assert(sizeof(struct tcpcore_status) == 128, "the status of every version");
+FIELD(struct tcpcore_taken, at_once, 0, 4);
+FIELD(struct tcpcore_taken, rule, 4, 4);
+FIELD(struct tcpcore_taken, acked, 8, 8);
+FIELD(struct tcpcore_taken, brought, 16, 4);
+FIELD(struct tcpcore_taken, is_duplicate, 20, 4);
+FIELD(struct tcpcore_taken, window_taken, 24, 4);
+/* What the library reports of an arrival ends here. */
+FIELD(struct tcpcore_taken, reserved, 28, 36);
+_Static_assert(sizeof(struct tcpcore_taken) == 64, "what is reported of an arrival, in every version");
+FIELD(struct tcpcore_transmit, to, 0, 4);
+FIELD(struct tcpcore_transmit, kind, 4, 4);
+FIELD(struct tcpcore_transmit, length, 8, 8);
+FIELD(struct tcpcore_transmit, position, 16, 8);
+FIELD(struct tcpcore_transmit, count, 24, 8);
+/* And of a segment. */
+FIELD(struct tcpcore_transmit, reserved, 32, 32);
+_Static_assert(sizeof(struct tcpcore_transmit) == 64, "what is reported of a segment, in every version");
 
 FIELD(struct tcpcore_rest, mark, 0, 4);
 FIELD(struct tcpcore_rest, addr, 4, 4);

@@ -40,8 +40,10 @@ uint32_t tcp_c_close(struct handle *);
 uint32_t tcp_c_abort(struct handle *);
 uint32_t tcp_c_timer(struct handle *, uint32_t);
 uint32_t tcp_c_arrive(struct handle *, const tcpcore_addr *, const tcpcore_addr *, const uint8_t *, size_t);
-uint32_t tcp_c_take(struct handle *, const tcpcore_addr *, const tcpcore_addr *, const uint8_t *, size_t, uint32_t *);
+uint32_t tcp_c_take(struct handle *, const tcpcore_addr *, const tcpcore_addr *, const uint8_t *, size_t, struct tcpcore_taken *);
 uint32_t tcp_c_emit(struct handle *, uint8_t *, size_t, tcpcore_addr *, size_t *);
+uint32_t tcp_c_transmit(struct handle *, uint8_t *, size_t, struct tcpcore_transmit *);
+uint32_t tcp_c_next(struct handle *, struct tcpcore_transmit *);
 uint32_t tcp_c_pending(struct handle *, uint32_t *);
 uint32_t tcp_c_stray_reset(const tcpcore_addr *, const tcpcore_addr *, const uint8_t *, size_t, uint8_t *, size_t, size_t *);
 uint32_t tcp_c_timers(struct handle *, uint32_t *);
@@ -252,10 +254,11 @@ uint32_t tcpcore_arrive(tcpcore_end *end, tcpcore_addr src, tcpcore_addr dst, co
     return answer != TCPCORE_DONE ? answer : tcp_c_arrive(handle(end), &src, &dst, front(bytes), length);
 }
 
-uint32_t tcpcore_take(tcpcore_end *end, tcpcore_addr src, tcpcore_addr dst, const void *bytes, size_t length, uint32_t *at_once)
+uint32_t tcpcore_take(tcpcore_end *end, tcpcore_addr src, tcpcore_addr dst, const void *bytes, size_t length,
+                      struct tcpcore_taken *taken)
 {
-    uint32_t found = 0;
-    struct place place = {at_once, sizeof *at_once};
+    struct tcpcore_taken found = {0};
+    struct place place = {taken, sizeof *taken};
     uint32_t answer = refusal_with(end, bytes, length, place);
     if (answer == TCPCORE_DONE)
         answer = tcp_c_take(handle(end), &src, &dst, front(bytes), length, &found);
@@ -273,6 +276,30 @@ uint32_t tcpcore_emit(tcpcore_end *end, void *out, size_t room, tcpcore_addr *to
         answer = tcp_c_emit(handle(end), start(out), room, &address, &found);
     put(where, end_at(end), out, room, &address);
     put(place, end_at(end), out, room, &found);
+    return answer;
+}
+
+uint32_t tcpcore_transmit(tcpcore_end *end, void *out, size_t room, struct tcpcore_transmit *transmit)
+{
+    struct tcpcore_transmit found = {0};
+    struct place place = {transmit, sizeof *transmit};
+    uint32_t answer = refusal_with(end, out, room, place);
+    if (answer == TCPCORE_DONE)
+        answer = tcp_c_transmit(handle(end), start(out), room, &found);
+    put(place, end_at(end), out, room, &found);
+    return answer;
+}
+
+uint32_t tcpcore_next(const tcpcore_end *end, struct tcpcore_transmit *next)
+{
+    struct tcpcore_transmit found = {0};
+    struct place place = {next, sizeof *next};
+    uint32_t answer = refusal_with(end, NULL, 0, place);
+    if (answer == TCPCORE_DONE) {
+        struct handle copy = copy_of(end);
+        answer = tcp_c_next(&copy, &found);
+    }
+    put(place, end_at(end), NULL, 0, &found);
     return answer;
 }
 

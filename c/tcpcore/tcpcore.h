@@ -87,7 +87,7 @@
  * ANSWERS
  *   Each function answers one number of the table below. A refusal changes no end. What a call writes through a pointer
  *   (a count, an address, timers, a status) is written at every answer, and is all 0 unless the answer is TCPCORE_DONE,
- *   but for what tcpcore_take tells beside TCPCORE_DROPPED; buffers stay as they are then. Such a pointer may not be over
+XX buffers stay as they are then. Such a pointer may not be over
  *   the struct, over the buffer of the same call, or over another such pointer: the answer is TCPCORE_OVERLAP, and
  *   nothing is written there. A buffer may be NULL where its length is 0.
  *
@@ -106,14 +106,14 @@
 #ifdef __cplusplus
 extern "C" {
 #ifdef __GNUC__
-/* Two structs have the names of calls. */
+/* Three structs have the names of calls. */
 #pragma GCC diagnostic push
 #pragma GCC diagnostic ignored "-Wshadow"
 #endif
 #endif
 
 /* The version of this header: it grows with each change of a struct, a call or an answer. */
-#define TCPCORE_VERSION 4
+#define TCPCORE_VERSION 5
 
 /* The answers; tcpcore_strerror has a text for each. */
 enum {
@@ -264,7 +264,78 @@ struct tcpcore_status {
     uint8_t sack;      /* 1 where selective acknowledgement is in use (RFC 2018, 2) */
     uint32_t snd_wnd;  /* SND.WND: the peer's window in bytes, scaled, as the segments told it that the end goes by (RFC 9293,
                           3.3.1 and 3.10.7.4). It is 0 until the own SYN was acknowledged */
-    uint32_t reserved[11]; /* 0. Fields of later versions take their place from here: the struct's size stays */
+    uint32_t rcv_wnd;  /* RCV.WND in bytes: how much more this end takes (RFC 9293, 3.3.1) */
+    uint64_t nxt;      /* SND.NXT as a position of the own direction: what is sent next for the first time */
+    uint32_t closing;  /* 1 once tcpcore_close was accepted */
+    uint32_t finished; /* 1 once the peer's FIN was taken */
+    uint32_t reserved[6]; /* 0. Fields of later versions take their place from here: the struct's size stays */
+};
+
+/* The rules that an arrival goes by (RFC 9293, 3.10.7), in the order of their tests. */
+enum {
+    TCPCORE_RULE_NONE = 0,             /* the bytes are no segment */
+    TCPCORE_RULE_FOREIGN = 1,          /* for another end, or from another peer */
+    TCPCORE_RULE_RESET_IGNORED = 2,    /* a reset that nothing follows from */
+    TCPCORE_RULE_STRAY = 3,            /* CLOSED: a reset answers it (3.10.7.1) */
+    TCPCORE_RULE_ACK_OF_LISTEN = 4,    /* LISTEN has sent nothing: a reset answers its acknowledgement (3.10.7.2, second) */
+    TCPCORE_RULE_OPENS_NOTHING = 5,    /* LISTEN, SYN-SENT: nothing follows from it */
+    TCPCORE_RULE_PEER_OPENS = 6,       /* a SYN in LISTEN (3.10.7.2, third) */
+    TCPCORE_RULE_ACK_OF_NO_SYN = 7,    /* SYN-SENT: it acknowledges something else than the SYN: a reset answers it (3.10.7.3, first) */
+    TCPCORE_RULE_PEER_REFUSES = 8,     /* a reset answers the SYN (3.10.7.3, second) */
+    TCPCORE_RULE_PEER_ACCEPTS = 9,     /* a SYN answers the SYN (3.10.7.3, fourth) */
+    TCPCORE_RULE_UNACCEPTABLE = 10,    /* outside the window: an acknowledgement answers it (3.10.7.4, first) */
+    TCPCORE_RULE_PEER_RESETS = 11,     /* a reset at RCV.NXT (3.10.7.4, second) */
+    TCPCORE_RULE_RESET_ELSEWHERE = 12, /* a reset elsewhere in the window: an acknowledgement answers it (3.10.7.4, second) */
+    TCPCORE_RULE_SYN_IN_WINDOW = 13,   /* an acknowledgement answers it (3.10.7.4, fourth) */
+    TCPCORE_RULE_NO_ACK = 14,          /* it acknowledges nothing, and nothing of it counts (3.10.7.4, fifth) */
+    TCPCORE_RULE_ACKS_UNSENT = 15,     /* an acknowledgement answers it (3.10.7.4, fifth) */
+    TCPCORE_RULE_HANDSHAKE_REFUSED = 16, /* SYN-RECEIVED: it acknowledges something else than the SYN: a reset answers it */
+    TCPCORE_RULE_HANDSHAKE_REFUSED_SHUT = 17, /* the same with a window of 0 */
+    TCPCORE_RULE_TAKEN = 18,           /* all of it is taken (3.10.7.4, fifth to eighth) */
+    TCPCORE_RULE_TAKEN_SHUT = 19       /* the window is 0: its acknowledgement, window and blocks are taken, its text and FIN aren't */
+};
+
+/* What a segment brought of the peer's stream (RFC 9293, 3.10.7.4, seventh and eighth). */
+enum {
+    TCPCORE_BROUGHT_NOTHING = 0,  /* it has neither text nor a FIN */
+    TCPCORE_BROUGHT_IN_ORDER = 1, /* text or a FIN in order: RCV.NXT was moved */
+    TCPCORE_BROUGHT_HELD = 2,     /* text out of order, which is held until what is missing before it comes */
+    TCPCORE_BROUGHT_NOT_KEPT = 3  /* text or a FIN of which nothing is kept */
+};
+
+/* What tcpcore_take reports of a segment. All 0 where the answer is a refusal. */
+struct tcpcore_taken {
+    uint32_t at_once;      /* 1 where it has to be answered at once (RFC 5681, 4.2) */
+    uint32_t rule;         /* TCPCORE_RULE_NONE .. TCPCORE_RULE_TAKEN_SHUT */
+    uint64_t acked;        /* bytes of text that its acknowledgement released; SYN and FIN aren't counted */
+    uint32_t brought;      /* TCPCORE_BROUGHT_NOTHING .. TCPCORE_BROUGHT_NOT_KEPT */
+    uint32_t is_duplicate; /* 1 where it is a duplicate acknowledgement (RFC 5681, 2): text was in flight, it has no text, no SYN
+                              and no FIN, it acknowledges up to SND.UNA, and its window is SND.WND */
+    uint32_t window_taken; /* 1 where SND.WND was taken from it (RFC 9293, 3.10.7.4, fifth) */
+    uint32_t reserved[9];  /* 0. Fields of later versions take their place from here: the struct's size stays */
+};
+
+/* What a segment is that an end emits. */
+enum {
+    TCPCORE_KIND_NONE = 0,           /* none is due */
+    TCPCORE_KIND_RESET = 1,
+    TCPCORE_KIND_SYN = 2,            /* for the first time or again, with an acknowledgement once the peer's was taken */
+    TCPCORE_KIND_NEW_TEXT = 3,       /* text for the first time, also a byte that probes a window of 0 (RFC 9293, 3.8.6.1) */
+    TCPCORE_KIND_TEXT_AGAIN = 4,     /* text that is retransmitted (RFC 9293, 3.8.1) */
+    TCPCORE_KIND_FIN = 5,
+    TCPCORE_KIND_FIN_AGAIN = 6,
+    TCPCORE_KIND_ACKNOWLEDGEMENT = 7 /* without text */
+};
+
+/* What tcpcore_transmit and tcpcore_next report of a segment. (The tag alone is a type, as of tcpcore_status.) */
+struct tcpcore_transmit {
+    tcpcore_addr to;      /* the address that it goes to */
+    uint32_t kind;        /* TCPCORE_KIND_NONE .. TCPCORE_KIND_ACKNOWLEDGEMENT */
+    uint64_t length;      /* its length in bytes, with its header */
+    uint64_t position;    /* where it begins, as a position of the own direction: a SYN at 0, byte i at 1 + i, the FIN after the last
+                             byte, an acknowledgement at SND.NXT; 0 of a reset */
+    uint64_t count;       /* bytes of its text */
+    uint32_t reserved[8]; /* 0, as of tcpcore_taken */
 };
 
 /*
@@ -377,12 +448,13 @@ uint32_t tcpcore_timer(tcpcore_end *end, uint32_t timer);
 uint32_t tcpcore_arrive(tcpcore_end *end, tcpcore_addr src, tcpcore_addr dst, const void *bytes, size_t length);
 
 /*
- * The same, and tells whether the segment has to be answered at once (RFC 5681, 4.2), by emitting what is due: *at_once is
- * 1 where it came out of order or filled all or part of a gap, had a SYN or a FIN, or wasn't taken and is answered all
- * the same. Where it is 0 an acknowledgement that is due may wait: for a second segment, and at most half a second.
+ * The same, and reports what the segment is to the end. taken->at_once tells whether it has to be answered at once (RFC 5681, 4.2),
+ * by emitting what is due: it came out of order or filled all or part of a gap, had a SYN or a FIN, or wasn't taken and is answered
+ * all the same. Where it is 0 an acknowledgement that is due may wait: for a second segment, and at most half a second.
  *   As tcpcore_arrive.
  */
-uint32_t tcpcore_take(tcpcore_end *end, tcpcore_addr src, tcpcore_addr dst, const void *bytes, size_t length, uint32_t *at_once);
+uint32_t tcpcore_take(tcpcore_end *end, tcpcore_addr src, tcpcore_addr dst, const void *bytes, size_t length,
+                      struct tcpcore_taken *taken);
 
 /*
  * Writes the segment that is due to `out`, checksum and all (RFC 9293, 3.7, 3.8 and 3.10).
@@ -390,6 +462,19 @@ uint32_t tcpcore_take(tcpcore_end *end, tcpcore_addr src, tcpcore_addr dst, cons
  *   NOT_DUE: none. ROOM: `room` is below TCPCORE_EMIT_ROOM. NO_END; NULL; LENGTH; OVERLAP; COPIED.
  */
 uint32_t tcpcore_emit(tcpcore_end *end, void *out, size_t room, tcpcore_addr *to, size_t *length);
+
+/*
+ * As tcpcore_emit: the same bytes, and the same end behind it. It reports what the segment is, where it begins, and how much text
+ * it has, beside where it goes and its length.
+ *   As tcpcore_emit.
+ */
+uint32_t tcpcore_transmit(tcpcore_end *end, void *out, size_t room, struct tcpcore_transmit *transmit);
+
+/*
+ * Tells what tcpcore_transmit would report now, and writes no segment.
+ *   DONE; NOT_DUE: no segment is due. NO_END; NULL; OVERLAP; COPIED.
+ */
+uint32_t tcpcore_next(const tcpcore_end *end, struct tcpcore_transmit *next);
 
 /*
  * Tells the length of the segment that tcpcore_emit would write now, 0 where none is due.

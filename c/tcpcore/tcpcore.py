@@ -12,7 +12,7 @@ import ipaddress
 import os
 from typing import Any, Callable, NamedTuple, NoReturn, Optional, Union
 
-VERSION = 4
+VERSION = 5
 EMIT_ROOM = 1520
 RESET_ROOM = 20
 REST_ROOM = 20
@@ -100,6 +100,26 @@ class Timer(enum.IntEnum):
         return format(int(self), format_spec)
 
 
+class Rule(enum.IntEnum):
+    """The rule that an arrival goes by (RFC 9293, 3.10.7): tcpcore.h has each one's meaning."""
+
+    NONE, FOREIGN, RESET_IGNORED, STRAY, ACK_OF_LISTEN, OPENS_NOTHING, PEER_OPENS, ACK_OF_NO_SYN = range(8)
+    PEER_REFUSES, PEER_ACCEPTS, UNACCEPTABLE, PEER_RESETS, RESET_ELSEWHERE, SYN_IN_WINDOW = range(8, 14)
+    NO_ACK, ACKS_UNSENT, HANDSHAKE_REFUSED, HANDSHAKE_REFUSED_SHUT, TAKEN, TAKEN_SHUT = range(14, 20)
+
+
+class Brought(enum.IntEnum):
+    """What a segment brought of the peer's stream (RFC 9293, 3.10.7.4, seventh and eighth)."""
+
+    NOTHING, IN_ORDER, HELD, NOT_KEPT = range(4)
+
+
+class Kind(enum.IntEnum):
+    """What a segment is that an end emits."""
+
+    NONE, RESET, SYN, NEW_TEXT, TEXT_AGAIN, FIN, FIN_AGAIN, ACKNOWLEDGEMENT = range(8)
+
+
 PHASES, ENDINGS = tuple(Phase), tuple(Ending)
 RETRANSMIT, REORDER, TIME_WAIT = Timer.RETRANSMIT, Timer.REORDER, Timer.TIME_WAIT
 
@@ -123,6 +143,31 @@ class Status(NamedTuple):
     scaling: int
     sack: int
     snd_wnd: int
+    rcv_wnd: int
+    nxt: int
+    closing: int
+    finished: int
+
+
+class Taken(NamedTuple):
+    """What `take` reports of a segment: struct tcpcore_taken has each field's meaning."""
+
+    at_once: bool
+    rule: Rule
+    acked: int
+    brought: Brought
+    is_duplicate: bool
+    window_taken: bool
+
+
+class Transmit(NamedTuple):
+    """What `transmit` and `next` report of a segment: struct tcpcore_transmit has each field's meaning."""
+
+    to: bytes
+    kind: Kind
+    length: int
+    position: int
+    text_count: int
 
 
 class Config(NamedTuple):
@@ -194,7 +239,34 @@ class StatusStruct(ctypes.Structure):
         ("scaling", ctypes.c_uint8),
         ("sack", ctypes.c_uint8),
         ("snd_wnd", ctypes.c_uint32),
-        ("reserved", ctypes.c_uint32 * 11),
+        ("rcv_wnd", ctypes.c_uint32),
+        ("nxt", ctypes.c_uint64),
+        ("closing", ctypes.c_uint32),
+        ("finished", ctypes.c_uint32),
+        ("reserved", ctypes.c_uint32 * 6),
+    ]
+
+
+class TakenStruct(ctypes.Structure):
+    _fields_ = [
+        ("at_once", ctypes.c_uint32),
+        ("rule", ctypes.c_uint32),
+        ("acked", ctypes.c_uint64),
+        ("brought", ctypes.c_uint32),
+        ("is_duplicate", ctypes.c_uint32),
+        ("window_taken", ctypes.c_uint32),
+        ("reserved", ctypes.c_uint32 * 9),
+    ]
+
+
+class TransmitStruct(ctypes.Structure):
+    _fields_ = [
+        ("to", AddrStruct),
+        ("kind", ctypes.c_uint32),
+        ("length", ctypes.c_uint64),
+        ("position", ctypes.c_uint64),
+        ("count", ctypes.c_uint64),
+        ("reserved", ctypes.c_uint32 * 8),
     ]
 
 
@@ -234,8 +306,10 @@ CALLS = {
     "abort": [END],
     "timer": [END, ctypes.c_uint32],
     "arrive": [END, AddrStruct, AddrStruct, ctypes.c_char_p, SIZE],
-    "take": [END, AddrStruct, AddrStruct, ctypes.c_char_p, SIZE, ctypes.POINTER(ctypes.c_uint32)],
+    "take": [END, AddrStruct, AddrStruct, ctypes.c_char_p, SIZE, ctypes.POINTER(TakenStruct)],
     "emit": [END, ctypes.c_char_p, SIZE, ctypes.POINTER(AddrStruct), OUT],
+    "transmit": [END, ctypes.c_char_p, SIZE, ctypes.POINTER(TransmitStruct)],
+    "next": [END, ctypes.POINTER(TransmitStruct)],
     "pending": [END, ctypes.POINTER(ctypes.c_uint32)],
     "stray_reset": [AddrStruct, AddrStruct, ctypes.c_char_p, SIZE, ctypes.c_char_p, SIZE, OUT],
     "timers": [END, ctypes.POINTER(ctypes.c_uint32)],
@@ -252,6 +326,13 @@ CALLS = {
     "version": [],
 }
 RESULTS = {"room": SIZE, "strerror": ctypes.c_char_p}
+
+
+def transmit_of(told: TransmitStruct) -> Transmit:
+    """The named fields of the struct."""
+    return Transmit(bytes(told.to.byte), Kind(told.kind), told.length, told.position, told.count)
+
+
 loaded: dict[str, Callable[..., Any]] = {}
 
 
@@ -474,11 +555,19 @@ class End:
         source, destination, data = address(src), address(dst), octets(data)
         return Answer(self.calls["arrive"](self.end, source, destination, data, len(data)))
 
-    def take(self, src: Address, dst: Address, data: Buffer) -> tuple[Answer, bool]:
-        """What became of the segment, and whether the segment has to be answered at once."""
+    def take(self, src: Address, dst: Address, data: Buffer) -> tuple[Answer, Taken]:
+        """What became of the segment, and what it is to the end."""
         source, destination, data = address(src), address(dst), octets(data)
-        answer = self.calls["take"](self.end, source, destination, data, len(data), self.due)
-        return Answer(answer), self.due.value == 1
+        told = TakenStruct()
+        answer = self.calls["take"](self.end, source, destination, data, len(data), told)
+        return Answer(answer), Taken(
+            told.at_once == 1,
+            Rule(told.rule),
+            told.acked,
+            Brought(told.brought),
+            told.is_duplicate == 1,
+            told.window_taken == 1,
+        )
 
     def pending(self) -> int:
         """The length of the segment that is due, 0 where none is."""
@@ -490,6 +579,18 @@ class End:
         if self.calls["emit"](self.end, self.segment, EMIT_ROOM, self.to, self.count) != DONE:
             return None
         return bytes(self.to.byte), ctypes.string_at(self.segment, self.count.value)
+
+    def transmit(self) -> Optional[tuple[Transmit, bytes]]:
+        """What a segment is, and its bytes, or None."""
+        told = TransmitStruct()
+        if self.calls["transmit"](self.end, self.segment, EMIT_ROOM, told) != DONE:
+            return None
+        return transmit_of(told), ctypes.string_at(self.segment, told.length)
+
+    def next(self) -> Optional[Transmit]:
+        """What `transmit` would report, or None."""
+        told = TransmitStruct()
+        return transmit_of(told) if self.calls["next"](self.end, told) == DONE else None
 
     def timers(self) -> int:
         """Bit 1 << t where timer t has to run."""

@@ -20,7 +20,7 @@ warnings="-std=c11 -g -Wall -Wextra -Wpedantic -Wcast-qual -Wconversion -Wshadow
 sanitizers="-O1 -fsanitize=address,undefined -fno-sanitize-recover=all"
 # The header's calls; two of them are the layer's alone.
 calls=$(grep -o '^[a-z].* \**tcpcore_[a-z_]*(' tcpcore.h | sed -n 's/.*tcpcore_\([a-z_]*\)($/\1/p' | grep -vxE 'strerror|version' | sort)
-tests="examples/two_ends tests/misuse tests/misuse_rest tests/room tests/fields tests/answers tests/cautions tests/rest"
+tests="examples/two_ends tests/misuse tests/misuse_rest tests/room tests/fields tests/answers tests/cautions tests/rest tests/reports"
 passed=0
 
 pass() { passed=$((passed + 1)); }
@@ -131,6 +131,9 @@ check_with gcc libasan8
 # A new file: one that a running program has mapped is left as it is.
 cp out/libtcpcore.gcc.so out/new.so
 mv -f out/new.so out/libtcpcore.so
+# What is reported, against the second program.
+python3 ../../checks/differential/reports.py out/libtcpcore.so 1500 >out/reports.log || { cat out/reports.log; exit 1; }
+pass
 if has clang clang --version; then
     check_with clang libclang-rt-14-dev
 fi

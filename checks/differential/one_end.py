@@ -81,7 +81,7 @@ def arrival(rng, end):
     src, dst = (PEER[0], OWN[0]) if rng.random() < 0.98 else (rng.choice([PEER[0], bytes([10, 0, 0, 9])]), rng.choice([OWN[0], PEER[0]]))
     text = rng.randbytes(rng.choice([0, 0, 0, 1, 1, 2, 3, rng.randrange(80)]))
     area = options(rng, bool(flags & SYN), end)
-    window = rng.choice([0, 0, 1, 2, 3, 10, 100, 5000, 65535])
+    window = rng.choice([0, 0, 1, 2, 3, 10, 100, 5000, 65535, end.snd_wnd >> end.peer_shift, end.snd_wnd >> end.peer_shift])
     seq, ack = random_seq(rng, end), random_ack(rng, end)
     header = struct.pack(">HHIIBBHHH", *ports, seq, ack, (5 + len(area) // 4) << 4 | rng.choice([0, 0, 15]), flags, window, 0, rng.choice([0, 7]))
     data = with_checksum(src, dst, header + area + text)
@@ -136,9 +136,8 @@ def state(end):
     return f"{end.phase} {end.ending} unread {len(end.unread)} released {end.released} ordered {end.ordered}"
 
 
-def one(rng, note):
-    """The lines of one end, and what is told of them."""
-    config = {
+def config_of(rng):
+    return {
         "addr": OWN[0],
         "port": OWN[1],
         "isn": rng.choice([5000, SPACE - 1, SPACE - 2, SPACE - 40, 0, HALF, HALF - 3, rng.randrange(SPACE)]),
@@ -148,14 +147,26 @@ def one(rng, note):
         "shift": rng.choice([None, None, 0, 1, 2, 7, 14]),
         "sack": rng.random() < 0.8,
     }
+
+
+def first_call(rng, end):
+    """Mostly an end is opened first: the line, and what is answered."""
+    if rng.random() >= 0.95:
+        return None
+    first = rng.choice(["connect", "listen"])
+    return first, answer_of(end.connect(PEER) if first == "connect" else end.listen())
+
+
+def one(rng, note):
+    """The lines of one end, and what is told of them."""
+    config = config_of(rng)
     end = End(config, note)
     shift = "none" if config["shift"] is None else config["shift"]
     lines = [f"new {config['isn']} {config['mss']} {config['send']} {config['recv']} {shift} {int(config['sack'])}"]
     told = []
-    if rng.random() < 0.95:
-        first = rng.choice(["connect", "listen"])
-        lines.append(first)
-        told.append(f"{answer_of(end.connect(PEER) if first == 'connect' else end.listen())} {state(end)}")
+    if first := first_call(rng, end):
+        lines.append(first[0])
+        told.append(f"{first[1]} {state(end)}")
     for _ in range(rng.choice([15, 60, 150])):
         words, answer = line(rng, end)
         lines.append(words)
@@ -183,4 +194,5 @@ def main():
     print(", ".join(f"{name} {times}" for name, times in sorted(seen.items())))
 
 
-main()
+if __name__ == "__main__":
+    main()

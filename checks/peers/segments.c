@@ -67,9 +67,9 @@ static size_t make(uint8_t *bytes, uint32_t seq, uint32_t ack, unsigned bits, co
 static uint32_t arrive(uint32_t seq, uint32_t ack, unsigned bits, const char *options, uint32_t text)
 {
     static uint8_t bytes[MOST];
-    uint32_t at_once;
+    struct tcpcore_taken taken;
     size_t length = make(bytes, seq, ack, bits, options, text);
-    return tcpcore_take(&end, PEER, OWN, bytes, length, &at_once);
+    return tcpcore_take(&end, PEER, OWN, bytes, length, &taken);
 }
 
 /* Emits one segment; its bits, or NONE. */

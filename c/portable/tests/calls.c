@@ -121,12 +121,29 @@ static void make(struct side *side)
     told(tcpcore_new(&side->end, &config, side->block + next(16), length));
 }
 
+/* What is due, and the same once it is written, each number of it. */
+static uint32_t transmit(struct side *side, struct kept *kept, size_t given, size_t *length)
+{
+    struct tcpcore_transmit all[2];
+    told(tcpcore_next(&side->end, &all[0]));
+    uint32_t answer = tcpcore_transmit(&side->end, kept->bytes, given, &all[1]);
+    for (int i = 0; i < 2; i++) {
+        mix_bytes(all[i].to.byte, 4), mix(all[i].kind), mix(all[i].length), mix(all[i].position), mix(all[i].count);
+        for (size_t at = 0; at < sizeof all[i].reserved / sizeof *all[i].reserved; at++)
+            mix(all[i].reserved[at]);
+    }
+    kept->to = all[1].to;
+    *length = (size_t)all[1].length;
+    return answer;
+}
+
 static void emit(struct side *side, int rests)
 {
     struct kept *kept = &side->kept[side->emitted % KEPT];
     size_t given = next(50) ? TCPCORE_EMIT_ROOM : next(TCPCORE_EMIT_ROOM), length;
-    uint32_t answer = rests ? tcpcore_rest_emit(&side->rest, kept->bytes, given, &kept->to, &length)
-                            : tcpcore_emit(&side->end, kept->bytes, given, &kept->to, &length);
+    uint32_t answer = rests                ? tcpcore_rest_emit(&side->rest, kept->bytes, given, &kept->to, &length)
+                      : side->emitted % 2 ? transmit(side, kept, given, &length)
+                                          : tcpcore_emit(&side->end, kept->bytes, given, &kept->to, &length);
     if (told(answer) == TCPCORE_DONE) {
         kept->length = length;
         side->emitted++;
@@ -176,7 +193,8 @@ static void harm(struct kept *kept, tcpcore_addr src)
 static void arrive(struct side *from, struct side *to)
 {
     static struct kept kept;
-    uint32_t back = next(next(3) ? 3 : KEPT), at_once = 0;
+    struct tcpcore_taken taken = {0};
+    uint32_t back = next(next(3) ? 3 : KEPT);
     if (from->emitted <= back)
         return;
     struct kept *sent = &from->kept[(from->emitted - 1 - back) % KEPT];
@@ -190,8 +208,10 @@ static void arrive(struct side *from, struct side *to)
     else if (next(2))
         told(tcpcore_arrive(&to->end, from->addr, kept.to, kept.bytes, kept.length));
     else
-        told(tcpcore_take(&to->end, from->addr, kept.to, kept.bytes, kept.length, &at_once));
-    mix(at_once);
+        told(tcpcore_take(&to->end, from->addr, kept.to, kept.bytes, kept.length, &taken));
+    mix(taken.at_once), mix(taken.rule), mix(taken.acked), mix(taken.brought), mix(taken.is_duplicate), mix(taken.window_taken);
+    for (size_t i = 0; i < sizeof taken.reserved / sizeof *taken.reserved; i++)
+        mix(taken.reserved[i]);
     if (next(8) == 0) {
         size_t written = 0;
         if (told(tcpcore_stray_reset(from->addr, kept.to, kept.bytes, kept.length, room, next(9) ? 20 : next(20), &written)) == 0)
@@ -210,6 +230,7 @@ static void tell(struct side *side)
     mix(status.phase), mix(status.ending), mix(status.unread), mix(status.released), mix(status.ordered), mix(status.una);
     mix(status.next), mix(status.room), mix(status.queued), mix(status.in_flight), mix(status.mss), mix(status.own_shift);
     mix(status.peer_shift), mix(status.scaling), mix(status.sack), mix(status.snd_wnd);
+    mix(status.rcv_wnd), mix(status.nxt), mix(status.closing), mix(status.finished);
     for (size_t i = 0; i < sizeof status.reserved / sizeof *status.reserved; i++)
         mix(status.reserved[i]);
     told(tcpcore_pending(&side->end, &due)), mix(due);

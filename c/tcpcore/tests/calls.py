@@ -9,7 +9,7 @@ import sys
 
 sys.path.insert(0, os.path.dirname(os.path.dirname(os.path.realpath(__file__))))
 import tcpcore  # noqa: E402
-from tcpcore import Answer, Config, End, Ending, Phase, Refused, Rest, Timer  # noqa: E402
+from tcpcore import Answer, Brought, Config, End, Ending, Kind, Phase, Refused, Rest, Rule, Taken, Timer, Transmit  # noqa: E402
 
 A, B = "10.0.0.1", bytes([10, 0, 0, 2])
 GOOD = Config(A, 1, 1460, 7, 1000, 1000, None, True)
@@ -77,8 +77,12 @@ def buffers():
     for kind in (bytes, bytearray, memoryview, lambda data: memoryview(bytearray(data)), lambda data: array.array("B", data)):
         a, b = opened(kind)
         check(a.send(kind(b"hello")), 5)
-        to, segment = a.emit()
-        check(b.take(A, to, kind(segment)), (Answer.DONE, False))
+        check(a.next(), Transmit(B, Kind.NEW_TEXT, 25, 1, 5))
+        told, segment = a.transmit()
+        check(told, Transmit(B, Kind.NEW_TEXT, 25, 1, 5))
+        check((a.next(), a.transmit()), (None, None))
+        taken = Taken(False, Rule.TAKEN, 0, Brought.IN_ORDER, False, True)
+        check(b.take(A, told.to, kind(segment)), (Answer.DONE, taken))
         check(b.receive(), b"hello")
         check(b.receive(), None)
         check(tcpcore.stray_reset(A, B, kind(segment))[13], 4)

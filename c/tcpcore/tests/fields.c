@@ -75,8 +75,27 @@ static void layout(void)
     FIELD(struct tcpcore_status, scaling);
     FIELD(struct tcpcore_status, sack);
     FIELD(struct tcpcore_status, snd_wnd);
+    FIELD(struct tcpcore_status, rcv_wnd);
+    FIELD(struct tcpcore_status, nxt);
+    FIELD(struct tcpcore_status, closing);
+    FIELD(struct tcpcore_status, finished);
     FIELD(struct tcpcore_status, reserved);
-    printf(" of %zu\ntcpcore_rest:", sizeof(struct tcpcore_status));
+    printf(" of %zu\ntcpcore_taken:", sizeof(struct tcpcore_status));
+    FIELD(struct tcpcore_taken, at_once);
+    FIELD(struct tcpcore_taken, rule);
+    FIELD(struct tcpcore_taken, acked);
+    FIELD(struct tcpcore_taken, brought);
+    FIELD(struct tcpcore_taken, is_duplicate);
+    FIELD(struct tcpcore_taken, window_taken);
+    FIELD(struct tcpcore_taken, reserved);
+    printf(" of %zu\ntcpcore_transmit:", sizeof(struct tcpcore_taken));
+    FIELD(struct tcpcore_transmit, to);
+    FIELD(struct tcpcore_transmit, kind);
+    FIELD(struct tcpcore_transmit, length);
+    FIELD(struct tcpcore_transmit, position);
+    FIELD(struct tcpcore_transmit, count);
+    FIELD(struct tcpcore_transmit, reserved);
+    printf(" of %zu\ntcpcore_rest:", sizeof(struct tcpcore_transmit));
     FIELD(struct tcpcore_rest, mark);
     FIELD(struct tcpcore_rest, addr);
     FIELD(struct tcpcore_rest, peer_addr);
@@ -257,10 +276,10 @@ static struct segment emitted(struct side *from)
 
 static void hand(const struct side *from, struct side *to, const struct segment *segment)
 {
-    uint32_t at_once;
-    uint32_t answer = tcpcore_take(&to->end, from->config.addr, segment->dst, segment->bytes, segment->length, &at_once);
+    struct tcpcore_taken taken;
+    uint32_t answer = tcpcore_take(&to->end, from->config.addr, segment->dst, segment->bytes, segment->length, &taken);
     printf("%s takes %zu bytes: %s, %s\n", to->name, segment->length, tcpcore_strerror(answer),
-           at_once ? "at once" : "may wait");
+           taken.at_once ? "at once" : "may wait");
 }
 
 /* Two ends that agree on all that can be agreed on. The second of three texts comes last, and one comes again. */

@@ -64,7 +64,7 @@ class Side:
 
 
 def layout():
-    for name in ("end", "addr", "config", "status", "rest"):
+    for name in ("end", "addr", "config", "status", "taken", "transmit", "rest"):
         struct = getattr(tcpcore, f"{name.capitalize()}Struct")
         fields = ((field, getattr(struct, field)) for field, _ in struct._fields_)
         told = " ".join(f"{field} {place.offset}+{place.size}" for field, place in fields)
@@ -164,8 +164,8 @@ def close_both(a, b):
 
 
 def hand(source, target, segment):
-    answer, at_once = target.end.take(source.config.addr, *segment)
-    print(f"{target.name} takes {len(segment[1])} bytes: {strerror(answer)}, {'at once' if at_once else 'may wait'}")
+    answer, taken = target.end.take(source.config.addr, *segment)
+    print(f"{target.name} takes {len(segment[1])} bytes: {strerror(answer)}, {'at once' if taken.at_once else 'may wait'}")
 
 
 def agree(a, b):

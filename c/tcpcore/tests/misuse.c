@@ -22,6 +22,16 @@ static uint32_t make(tcpcore_end *end, const tcpcore_config *config)
     return tcpcore_new(end, config, block, sizeof block);
 }
 
+/* Whether all of a struct is 0. */
+static int is_zero(const void *at, size_t size)
+{
+    const unsigned char *bytes = at;
+    unsigned char any = 0;
+    for (size_t i = 0; i < size; i++)
+        any |= bytes[i];
+    return any == 0;
+}
+
 static int is_empty(const tcpcore_end *end)
 {
     static const tcpcore_end EMPTY = TCPCORE_END_INIT;
@@ -44,10 +54,13 @@ static void every_call(tcpcore_end *end, uint32_t wanted)
     size_t count = 7;
     uint32_t due = 7;
     tcpcore_addr to = {{7, 7, 7, 7}};
-    uint32_t at_once = 7;
     uint16_t port = 7;
     struct tcpcore_status status;
+    struct tcpcore_taken taken;
+    struct tcpcore_transmit transmit;
     memset(&status, 7, sizeof status);
+    memset(&taken, 7, sizeof taken);
+    memset(&transmit, 7, sizeof transmit);
     CHECK(tcpcore_connect(end, THERE, 9), wanted);
     CHECK(tcpcore_listen(end), wanted);
     CHECK(tcpcore_send(end, "abc", 3, &count), wanted);
@@ -60,8 +73,13 @@ static void every_call(tcpcore_end *end, uint32_t wanted)
     CHECK(tcpcore_abort(end), wanted);
     CHECK(tcpcore_timer(end, TCPCORE_TIMER_RETRANSMIT), wanted);
     CHECK(tcpcore_arrive(end, THERE, HERE, "short", 5), wanted);
-    CHECK(tcpcore_take(end, THERE, HERE, "short", 5, &at_once), wanted);
-    CHECK(at_once, 0);
+    CHECK(tcpcore_take(end, THERE, HERE, "short", 5, &taken), wanted);
+    CHECK(is_zero(&taken, sizeof taken), 1);
+    CHECK(tcpcore_transmit(end, buffer, sizeof buffer, &transmit), wanted);
+    CHECK(is_zero(&transmit, sizeof transmit), 1);
+    memset(&transmit, 7, sizeof transmit);
+    CHECK(tcpcore_next(end, &transmit), wanted);
+    CHECK(is_zero(&transmit, sizeof transmit), 1);
     count = 7;
     CHECK(tcpcore_emit(end, buffer, sizeof buffer, &to, &count), wanted);
     CHECK(count, 0);
@@ -130,11 +148,18 @@ static void null_pointers(void)
     CHECK(tcpcore_timers(&end, NULL), TCPCORE_NULL);
     CHECK(tcpcore_status(&end, NULL), TCPCORE_NULL);
     CHECK(tcpcore_rest(&end, NULL), TCPCORE_NULL);
-    uint32_t at_once = 7;
-    CHECK(tcpcore_take(&end, THERE, HERE, NULL, 20, &at_once), TCPCORE_NULL);
-    CHECK(at_once, 0);
+    struct tcpcore_taken taken;
+    memset(&taken, 7, sizeof taken);
+    CHECK(tcpcore_take(&end, THERE, HERE, NULL, 20, &taken), TCPCORE_NULL);
+    CHECK(is_zero(&taken, sizeof taken), 1);
     CHECK(tcpcore_take(&end, THERE, HERE, buffer, 20, NULL), TCPCORE_NULL);
-    CHECK(tcpcore_take(&end, THERE, HERE, NULL, 0, &at_once), TCPCORE_TOO_SHORT);
+    CHECK(tcpcore_take(&end, THERE, HERE, NULL, 0, &taken), TCPCORE_TOO_SHORT);
+    struct tcpcore_transmit transmit;
+    memset(&transmit, 7, sizeof transmit);
+    CHECK(tcpcore_transmit(&end, NULL, sizeof buffer, &transmit), TCPCORE_NULL);
+    CHECK(is_zero(&transmit, sizeof transmit), 1);
+    CHECK(tcpcore_transmit(&end, buffer, sizeof buffer, NULL), TCPCORE_NULL);
+    CHECK(tcpcore_next(&end, NULL), TCPCORE_NULL);
     CHECK(tcpcore_pending(&end, NULL), TCPCORE_NULL);
     uint16_t port = 7;
     CHECK(tcpcore_peer(&end, NULL, &port), TCPCORE_NULL);
@@ -259,9 +284,16 @@ static void numbers(void)
     CHECK(tcpcore_receive(&end, buffer, SIZE_MAX, &count), TCPCORE_LENGTH);
     CHECK(tcpcore_arrive(&end, THERE, HERE, buffer, HUGE_LENGTH), TCPCORE_LENGTH);
     CHECK(tcpcore_emit(&end, buffer, SIZE_MAX, &to, &count), TCPCORE_LENGTH);
-    uint32_t at_once = 7;
-    CHECK(tcpcore_take(&end, THERE, HERE, buffer, HUGE_LENGTH, &at_once), TCPCORE_LENGTH);
-    CHECK(at_once, 0);
+    struct tcpcore_taken taken;
+    struct tcpcore_transmit transmit;
+    memset(&taken, 7, sizeof taken);
+    memset(&transmit, 7, sizeof transmit);
+    CHECK(tcpcore_take(&end, THERE, HERE, buffer, HUGE_LENGTH, &taken), TCPCORE_LENGTH);
+    CHECK(is_zero(&taken, sizeof taken), 1);
+    CHECK(tcpcore_transmit(&end, buffer, SIZE_MAX, &transmit), TCPCORE_LENGTH);
+    CHECK(tcpcore_transmit(&end, buffer, TCPCORE_EMIT_ROOM - 1, &transmit), TCPCORE_ROOM);
+    CHECK(is_zero(&transmit, sizeof transmit), 1);
+    CHECK(tcpcore_transmit(&end, NULL, 0, &transmit), TCPCORE_ROOM);
     CHECK(count, 0);
     count = 7;
     CHECK(tcpcore_emit(&end, buffer, TCPCORE_EMIT_ROOM - 1, &to, &count), TCPCORE_ROOM);
@@ -294,7 +326,8 @@ static void overlaps(void)
     tcpcore_config config = good_config(HERE);
     union {
         size_t count;
-        uint32_t at_once;
+        struct tcpcore_taken taken;
+        struct tcpcore_transmit transmit;
         uint16_t port;
         tcpcore_addr to;
         unsigned char bytes[TCPCORE_EMIT_ROOM];
@@ -312,8 +345,10 @@ static void overlaps(void)
     CHECK(count, 0);
     CHECK(tcpcore_receive(&place.end, first + sizeof place.end - 1, 1, &count), TCPCORE_OVERLAP);
     CHECK(tcpcore_arrive(&place.end, THERE, HERE, place.before, 9), TCPCORE_OVERLAP);
-    uint32_t at_once;
-    CHECK(tcpcore_take(&place.end, THERE, HERE, place.before, 9, &at_once), TCPCORE_OVERLAP);
+    struct tcpcore_taken taken;
+    struct tcpcore_transmit transmit;
+    CHECK(tcpcore_take(&place.end, THERE, HERE, place.before, 9, &taken), TCPCORE_OVERLAP);
+    CHECK(tcpcore_transmit(&place.end, place.before, sizeof place, &transmit), TCPCORE_OVERLAP);
     CHECK(tcpcore_emit(&place.end, place.before, sizeof place, &to, &count), TCPCORE_OVERLAP);
     /* Beside it is no overlap. */
     CHECK(tcpcore_arrive(&place.end, THERE, HERE, place.before, 8), TCPCORE_TOO_SHORT);
@@ -332,6 +367,8 @@ static void overlaps(void)
         CHECK(tcpcore_status(&place.end, over), TCPCORE_OVERLAP);
         CHECK(tcpcore_rest(&place.end, over), TCPCORE_OVERLAP);
         CHECK(tcpcore_take(&place.end, THERE, HERE, place.behind, 20, over), TCPCORE_OVERLAP);
+        CHECK(tcpcore_transmit(&place.end, place.behind, sizeof place.behind, over), TCPCORE_OVERLAP);
+        CHECK(tcpcore_next(&place.end, over), TCPCORE_OVERLAP);
         CHECK(tcpcore_pending(&place.end, over), TCPCORE_OVERLAP);
         uint16_t port;
         CHECK(tcpcore_peer(&place.end, over, &port), TCPCORE_OVERLAP);
@@ -345,7 +382,8 @@ static void overlaps(void)
     CHECK(tcpcore_emit(&place.end, shared.bytes, sizeof shared.bytes, &shared.to, &count), TCPCORE_OVERLAP);
     CHECK(tcpcore_emit(&place.end, shared.bytes, sizeof shared.bytes, &to, &shared.count), TCPCORE_OVERLAP);
     CHECK(tcpcore_emit(&place.end, place.behind, sizeof place.behind, &shared.to, &shared.count), TCPCORE_OVERLAP);
-    CHECK(tcpcore_take(&place.end, THERE, HERE, shared.bytes, 20, &shared.at_once), TCPCORE_OVERLAP);
+    CHECK(tcpcore_take(&place.end, THERE, HERE, shared.bytes, 20, &shared.taken), TCPCORE_OVERLAP);
+    CHECK(tcpcore_transmit(&place.end, shared.bytes, sizeof shared.bytes, &shared.transmit), TCPCORE_OVERLAP);
     CHECK(tcpcore_peer(&place.end, &shared.to, &shared.port), TCPCORE_OVERLAP);
     for (size_t i = 0; i < sizeof shared.bytes; i++)
         if (shared.bytes[i] != 0)

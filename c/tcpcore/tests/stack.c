@@ -55,15 +55,21 @@ static void make(tcpcore_end *end, tcpcore_addr addr)
 static void carry(tcpcore_end *from, tcpcore_addr src, tcpcore_end *to)
 {
     static unsigned char segment[TCPCORE_EMIT_ROOM];
+    struct tcpcore_transmit sent;
+    struct tcpcore_taken taken;
     tcpcore_addr dst;
     size_t length;
     uint32_t answer;
     for (;;) {
         DEPTH(answer = tcpcore_emit(from, segment, sizeof segment, &dst, &length));
+        if (answer == TCPCORE_DONE && ++count % 5 != 0)
+            DEPTH(tcpcore_arrive(to, src, dst, segment, length));
+        DEPTH(tcpcore_next(from, &sent));
+        DEPTH(answer = tcpcore_transmit(from, segment, sizeof segment, &sent));
         if (answer != TCPCORE_DONE)
             return;
         if (++count % 5 != 0)
-            DEPTH(tcpcore_arrive(to, src, dst, segment, length));
+            DEPTH(tcpcore_take(to, src, sent.to, segment, (size_t)sent.length, &taken));
     }
 }
 

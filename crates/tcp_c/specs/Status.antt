@@ -12,6 +12,7 @@ use Rattle.tcp_conn.specs.Outcome.{call_error_number}
 use Rattle.tcp_halves.specs.Receiver.{next_wanted}
 use Rattle.tcp_conn.specs.State.{State}
 use Rattle.tcp_conn.specs.Status.{negotiated_of, peer_of, room_of, queued_of, in_flight_of}
+use Rattle.tcp_conn.specs.Windows.{receive_window}
 use Rattle.tcp_c.specs.Answers.{done}
 use Rattle.tcp_c.specs.Segments.{nowhere}
 use Rattle.tcp_c.specs.declared.records.CStatus.{CStatus}
@@ -65,6 +66,10 @@ no_status = record {
   scaling = 0;
   sack = 0;
   snd_wnd = 0;
+  rcv_wnd = 0;
+  nxt = 0;
+  closing = 0;
+  finished = 0;
 }
 
 abbrev pub status_of : Option State → CStatus
@@ -86,6 +91,10 @@ status_of (Some s) = record {
   scaling = flag (agreed s).scaling;
   sack = flag (agreed s).sack;
   snd_wnd = s.sending.wnd;
+  rcv_wnd = receive_window s;
+  nxt = s.sending.nxt;
+  closing = flag s.closing;
+  finished = flag s.receiving.finished;
 }
 
 -- THE PEER (RFC 9293, 3.10.6), once it is known

@@ -70,6 +70,48 @@ pub struct CStatus {
     pub sack: u8,
     /// SND.WND in bytes, scaled: what the peer advertised last (RFC 9293, 3.3.1).
     pub snd_wnd: u32,
+    /// RCV.WND in bytes: how much more this end takes (RFC 9293, 3.3.1).
+    pub rcv_wnd: u32,
+    /// The next position of the own direction to be sent for the first time, SND.NXT.
+    pub nxt: u64,
+    /// 1 once `tcp_c_close` was accepted.
+    pub closing: u32,
+    /// 1 once the peer's FIN was taken.
+    pub finished: u32,
+}
+
+/// What is reported of bytes that arrived.
+#[repr(C)]
+#[derive(Clone, Copy)]
+pub struct CTaken {
+    /// 1 where they have to be answered at once (RFC 5681, 4.2).
+    pub at_once: u32,
+    /// The rule that applied, from 1, in the order of [`tcp_conn::Judgement`]; 0 where they are no segment.
+    pub rule: u32,
+    /// The text bytes that their acknowledgement released.
+    pub acked: u64,
+    /// What they brought: 0 neither text nor FIN, 1 text or FIN in order, 2 text that is held, 3 nothing that is kept.
+    pub brought: u32,
+    /// 1 where they are a duplicate acknowledgement (RFC 5681, 2).
+    pub is_duplicate: u32,
+    /// 1 where SND.WND was taken from them.
+    pub window_taken: u32,
+}
+
+/// A segment that was written, or would be.
+#[repr(C)]
+#[derive(Clone, Copy)]
+pub struct CTransmit {
+    /// The address that it goes to.
+    pub to: CAddr,
+    /// What it is, from 1, in the order of [`tcp_conn::Kind`]; 0 where there is none.
+    pub kind: u32,
+    /// Its length in bytes.
+    pub length: usize,
+    /// Where it begins, as a position of the own direction.
+    pub position: u64,
+    /// The bytes of its text.
+    pub count: usize,
 }
 
 /// What rests in the place of an end in TIME-WAIT: a plain value, which may be copied, stored and moved.

@@ -76,6 +76,10 @@ fn no_status() -> CStatus
         scaling: 0,
         sack: 0,
         snd_wnd: 0,
+        rcv_wnd: 0,
+        nxt: 0,
+        closing: 0,
+        finished: 0,
     }
 }
 
@@ -101,6 +105,10 @@ fn status_of(end: &Endpoint<Region>) -> CStatus
         scaling: u8::from(agreed.scaling),
         sack: u8::from(agreed.sack),
         snd_wnd: end.windows().1,
+        rcv_wnd: end.windows().0,
+        nxt: end.nxt(),
+        closing: u32::from(end.is_closing()),
+        finished: u32::from(end.is_finished()),
     }
 }
 

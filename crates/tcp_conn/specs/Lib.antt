@@ -16,6 +16,7 @@ pub mod Due
 pub mod Forms
 pub mod Writing
 pub mod Emission
+pub mod Transmission
 pub mod Status
 pub mod AtOnce
 pub mod Taking

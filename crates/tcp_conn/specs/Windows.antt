@@ -17,6 +17,10 @@ own_shift c link = if link.scaling then unwrap_or c.window_shift 0 else 0
 abbrev pub window_from : Link → ℕ → ℕ
 window_from link field = field * 2 ^ link.peer_shift
 
+-- RCV.WND (RFC 9293, 3.3.1)
+abbrev pub receive_window : State → ℕ
+receive_window s = window s.receiving.inbox
+
 abbrev pub window_field : ℕ → ℕ → ℕ
 window_field shift window = min max_window (window / 2 ^ shift)
 

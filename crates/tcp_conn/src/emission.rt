@@ -29,7 +29,7 @@ impl<A: Allocator> Endpoint<A> {
 
     /// The length of the segment that is due.
     #[tactic(auto, using(crate::proofs::Segments::length_syn_segment), unfolding(crate::specs::Forms::segment_of))]
-    fn length_of(&self, due: Due) -> usize
+    pub(crate) fn length_of(&self, due: Due) -> usize
         requires lies { Lies self.now.sending max_mss due }
         ensures value { result ≡ wire_length (segment_of self.now due) }
         ensures least { header_len ≤ result }
@@ -63,7 +63,7 @@ impl<A: Allocator> Endpoint<A> {
     }
 
     /// What was due has gone out.
-    fn mark_sent(&mut self, due: Due)
+    pub(crate) fn mark_sent(&mut self, due: Due)
         requires { Lies self.old.sending max_mss due }
         ensures { self.new ≡ state_after self.old due }
     {
@@ -85,7 +85,6 @@ impl<A: Allocator> Endpoint<A> {
     /// Writes the segment that is due at the start of `out`, which has room for [`EMIT_ROOM`] bytes, and answers where it
     /// goes and its length, at most that (RFC 9293, 3.7, 3.8 and 3.10). `None`, and nothing changes, exactly where none is due.
     #[must_use]
-    #[tactic(auto, unfolding(crate::specs::Emission::pending_length, crate::specs::Emission::destination, crate::specs::Emission::buffer_after, crate::specs::Emission::after_emission))]
     pub fn emit(&mut self, out: &mut [u8]) -> Option<(Addr, usize)>
         requires { EMIT_ROOM ≤ length out.old }
         ensures destination { option_map (λ sent. sent.0.0) result ≡ destination self.old }
@@ -95,14 +94,7 @@ impl<A: Allocator> Endpoint<A> {
         ensures state { self.new ≡ after_emission self.old }
         ensures within { IsWithin self.new }
     {
-        // So that the proof knows what always holds of an end.
-        let _ = &self.config;
-        let due = self.due()?;
-        let len = self.write(due, out);
-        let to = self.destination(due);
-        self.mark_sent(due);
-        // So that the proof knows what always holds of an end.
-        let _ = &self.config;
-        Some((to, len))
+        let sent = self.transmit(out)?;
+        Some((sent.to, sent.len))
     }
 }

@@ -82,6 +82,16 @@ impl<A: Allocator> Endpoint<A> {
         self.sender.una
     }
 
+    /// SND.NXT (RFC 9293, 3.3.1) as a position of the own direction: the next to be sent for the first time. 0 where no SYN was
+    /// sent.
+    #[must_use]
+    pub fn nxt(&self) -> u64
+        ensures value { result ≡ self.now.sending.nxt }
+        ensures most { result ≤ 2 + stream_limit }
+    {
+        self.sender.nxt
+    }
+
     /// RCV.NXT (RFC 9293, 3.3.1) as a position of the peer's direction: 1 and the bytes that came in order, and 1 more once the
     /// peer's FIN was taken. It stays at 2^64 - 1 once there.
     #[must_use]
@@ -92,6 +102,22 @@ impl<A: Allocator> Endpoint<A> {
             .ordered
             .saturating_add(1)
             .saturating_add(u64::from(self.receiver.finished))
+    }
+
+    /// Whether a `close` was accepted (RFC 9293, 3.10.4).
+    #[must_use]
+    pub fn is_closing(&self) -> bool
+        ensures { result ≡ self.now.closing }
+    {
+        self.closing
+    }
+
+    /// Whether the peer's FIN was taken (RFC 9293, 3.10.7.4, eighth).
+    #[must_use]
+    pub fn is_finished(&self) -> bool
+        ensures { result ≡ self.now.receiving.finished }
+    {
+        self.receiver.finished
     }
 
     /// The text bytes that acknowledgements have released.

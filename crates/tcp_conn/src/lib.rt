@@ -4,6 +4,7 @@
 //! - [`Endpoint`] is made from a [`Config`]. The user calls `connect`, `listen`, `send`, `receive`, `close`, `abort`; `arrive` takes
 //!   any bytes, `emit` writes the segment that is due, and `timers` and `timer` are the caller's clock. Nothing but `new` takes memory.
 //! - `take` is `arrive` with a report, [`Taken`]: the rule that applied ([`Judgement`]), what was acknowledged, what it brought.
+//!   `transmit` is `emit` with one, [`Transmit`]: what the segment is, where it begins, how much text it has.
 //! - [`Rest`] stands in the place of an end in TIME-WAIT, without buffers.
 //! - [`stray_reset`] answers a segment for which there is no end (RFC 9293, 3.10.7.1).
 //! - [`laws`]: what always holds of an end, what close, abort and timers do in each phase, that what rests is the end.
@@ -35,6 +36,7 @@ mod status;
 mod stray;
 mod taking;
 mod timers;
+mod transmission;
 mod windows;
 mod writing;
 
@@ -52,3 +54,4 @@ pub use tcp_halves::{
     Config, ConfigError, DEFAULT_LIMIT, MAX_LIMIT, MAX_MSS, MAX_SHIFT, MIN_MSS, Peer, WaitingReset,
 };
 pub use tcp_sendq::MAX_CAPACITY;
+pub use transmission::{Kind, Transmit};

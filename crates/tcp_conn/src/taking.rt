@@ -95,6 +95,7 @@ impl<A: Allocator> Endpoint<A> {
     /// applied, the text that it acknowledged, whether it is a duplicate acknowledgement (RFC 5681, 2), whether its window was
     /// taken, and what it brought.
     #[must_use]
+    #[inline(always)]
     #[tactic(auto, unfolding(crate::specs::Arrival::arrival_answer, crate::specs::Arrival::after_arrival, crate::specs::AtOnce::answers_at_once, crate::specs::Taking::rule_of, crate::specs::Taking::is_duplicate, crate::specs::Taking::is_window_taken, crate::specs::Taking::brought))]
     pub fn take(&mut self, src: Addr, dst: Addr, bytes: &[u8]) -> Taken
         ensures answer { result.arrival ≡ arrival_answer self.old src.0 dst.0 bytes.now }
@@ -128,6 +129,7 @@ impl<A: Allocator> Endpoint<A> {
     }
 
     /// A segment by the rule that applies to it, and the report.
+    #[inline(always)]
     fn take_by(&mut self, rule: Judgement, src: Addr, segment: &RawSegment<'_>) -> Taken
         ensures answer { result.arrival ≡ answer_of rule }
         ensures at_once { result.at_once ≡ is_urgent rule (nat_lt 0 (length (runs self.old.receiving.inbox.held))) self.new (raw_content segment.now) }
@@ -154,6 +156,7 @@ impl<A: Allocator> Endpoint<A> {
     }
 
     /// What a judgement does, and what is reported of it.
+    #[inline(always)]
     fn follow_told(&mut self, rule: Judgement, src: Addr, segment: &RawSegment<'_>) -> News
         ensures state { self.new ≡ after_judgement rule self.old src.0 (raw_content segment.now) }
         ensures window { result.window_taken ≡ takes_window_by rule self.old (raw_content segment.now) }

@@ -254,6 +254,14 @@ pub struct Status {
     pub queued: u64,
     /// Those of them that were sent.
     pub in_flight: u64,
+    /// SND.NXT as a position of the own direction.
+    pub nxt: u64,
+    /// RCV.WND in bytes.
+    pub rcv_wnd: u32,
+    /// Whether a `close` was accepted.
+    pub is_closing: bool,
+    /// Whether the peer's FIN was taken.
+    pub is_finished: bool,
     /// SND.WND in bytes; 0 until the own SYN was acknowledged.
     pub snd_wnd: u32,
     /// What the two SYNs agreed on, once the peer's was taken.
@@ -286,6 +294,10 @@ impl Status {
             room: told.room,
             queued: told.queued,
             in_flight: told.in_flight,
+            nxt: told.nxt,
+            rcv_wnd: told.rcv_wnd,
+            is_closing: told.closing == 1,
+            is_finished: told.finished == 1,
             snd_wnd: told.snd_wnd,
             agreed: (told.mss > 0).then_some(agreed),
         }

@@ -1,7 +1,7 @@
 //! tcpcore.h by hand: its structs, whose layouts tests/layout.rs compares with the C compiler's, and its calls.
 use core::ffi::c_void;
 
-pub(crate) const VERSION: u32 = 4;
+pub(crate) const VERSION: u32 = 5;
 pub(crate) const END_SIZE: usize = 704;
 pub(crate) const UNIT: usize = 16;
 
@@ -52,7 +52,23 @@ pub struct Status {
     pub scaling: u8,
     pub sack: u8,
     pub snd_wnd: u32,
-    pub reserved: [u32; 11],
+    pub rcv_wnd: u32,
+    pub nxt: u64,
+    pub closing: u32,
+    pub finished: u32,
+    pub reserved: [u32; 6],
+}
+
+#[repr(C)]
+#[derive(Clone, Copy, Default)]
+pub struct Taken {
+    pub at_once: u32,
+    pub rule: u32,
+    pub acked: u64,
+    pub brought: u32,
+    pub is_duplicate: u32,
+    pub window_taken: u32,
+    pub reserved: [u32; 9],
 }
 
 #[repr(C)]
@@ -74,7 +90,7 @@ extern "C" {
     pub fn tcpcore_close(end: *mut End) -> u32;
     pub fn tcpcore_abort(end: *mut End) -> u32;
     pub fn tcpcore_timer(end: *mut End, timer: u32) -> u32;
-    pub fn tcpcore_take(end: *mut End, src: Addr, dst: Addr, bytes: *const c_void, length: usize, at_once: *mut u32) -> u32;
+    pub fn tcpcore_take(end: *mut End, src: Addr, dst: Addr, bytes: *const c_void, length: usize, taken: *mut Taken) -> u32;
     pub fn tcpcore_emit(end: *mut End, out: *mut c_void, room: usize, to: *mut Addr, length: *mut usize) -> u32;
     pub fn tcpcore_pending(end: *const End, due: *mut u32) -> u32;
     pub fn tcpcore_stray_reset(
@@ -149,8 +165,13 @@ mod tests {
                 scaling,
                 sack,
                 snd_wnd,
+                rcv_wnd,
+                nxt,
+                closing,
+                finished,
                 reserved
             ),
+            places!(Taken, "struct tcpcore_taken", at_once, rule, acked, brought, is_duplicate, window_taken, reserved),
             places!(Rest, "struct tcpcore_rest", mark),
         ];
         let (expressions, found): (Vec<_>, Vec<_>) = all.into_iter().unzip();
