@@ -7,6 +7,7 @@ pub mod Listed
 pub mod WrittenOptions
 pub mod Reading
 pub mod Outcome
+pub mod Unsummed
 pub mod Writing
 pub mod Places
 pub mod RoundTrip

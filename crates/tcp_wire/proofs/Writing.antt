@@ -10,7 +10,7 @@ use Rattle.tcp_wire.proofs.OptionLaws.{spellings_bytes}
 
 -- ---- the checksum field
 
-completion_checks : (sum : ℕ) → (sum + completion sum) % 65535 ≡ 0
+pub completion_checks : (sum : ℕ) → (sum + completion sum) % 65535 ≡ 0
 completion_checks sum = omega arith
 
 pub completion_below : (sum : ℕ) → completion sum < 65535

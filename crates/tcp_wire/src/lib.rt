@@ -2,7 +2,7 @@
 //!
 //! - [`decode`] reads bytes as a [`Segment`], or answers the first fault, a [`DecodeError`]; [`encode`] writes one.
 //! - [`RawSegment`] is a segment whose options stand where they came, for who lists none; [`OptionsLeft`] takes them in turn, as
-//!   [`TcpOption`]s.
+//!   [`TcpOption`]s. `parse_vouched` reads one whose checksum a device has checked.
 //! - [`Header`] is the fixed header's fields; [`write_around`] writes a segment around text that is in its place already.
 //! - [`Seq`], [`Addr`], [`Flags`], the sums and [`laws`] are `tcp_numbers`'.
 //!
@@ -19,6 +19,7 @@ mod option_writing;
 mod options_left;
 mod raw;
 mod segment;
+mod vouched;
 
 pub use decoding::decode;
 pub use encoding::{encode, write_around};
