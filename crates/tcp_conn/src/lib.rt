@@ -35,6 +35,7 @@ mod status;
 mod stray;
 mod taking;
 mod timers;
+mod vouched;
 mod windows;
 mod writing;
 
