@@ -9,6 +9,7 @@ pub mod Blocks
 pub mod NewEnd
 pub mod Endings
 pub mod Calls
+pub mod Lending
 pub mod Timers
 pub mod Judgement
 pub mod Arrival

@@ -4,6 +4,8 @@
 //! - [`Endpoint`] is made from a [`Config`]. The user calls `connect`, `listen`, `send`, `receive`, `close`, `abort`; `arrive` takes
 //!   any bytes, `emit` writes the segment that is due, and `timers` and `timer` are the caller's clock. Nothing but `new` takes memory.
 //! - `take` is `arrive` with a report, [`Taken`]: the rule that applied ([`Judgement`]), what was acknowledged, what it brought.
+//! - Fewer copies and sums: `peek` lends what is unread ([`Lent`]) and `consume` takes it away, `arrive_vouched` takes what a device
+//!   has summed.
 //! - [`Rest`] stands in the place of an end in TIME-WAIT, without buffers.
 //! - [`stray_reset`] answers a segment for which there is no end (RFC 9293, 3.10.7.1).
 //! - [`laws`]: what always holds of an end, what close, abort and timers do in each phase, that what rests is the end.
@@ -23,6 +25,7 @@ mod fault;
 mod forms;
 mod judgement;
 pub mod laws;
+mod lending;
 mod names;
 mod new_end;
 mod outcome;
@@ -42,6 +45,7 @@ mod writing;
 pub use emission::EMIT_ROOM;
 pub use endpoint::Endpoint;
 pub use judgement::Judgement;
+pub use lending::Lent;
 pub use outcome::{Arrival, CallError, Received};
 pub use phase::{Ending, Phase, Timer};
 pub use rest::{REST_LEN, Rest};

@@ -214,9 +214,10 @@ impl<A: Allocator> Reassembly<A> {
         self.consume(out.len())
     }
 
-    /// The unread bytes where they lie, in two parts: first the front, then the back.
+    /// The unread bytes where they lie, in two parts: first the front, then the back. The front is empty only where none is unread.
     pub fn peek(&self) -> (&[u8], &[u8])
-        ensures { result.0.now ++ result.1.now ≡ self.now.unread }
+        ensures bytes { result.0.now ++ result.1.now ≡ self.now.unread }
+        ensures front { 0 < length self.now.unread → 0 < length result.0.now }
     {
         self.ring.lend(self.unread)
     }

@@ -1,5 +1,5 @@
 //! A ring of bytes in one block: its places are counted from a start on, over the block's end.
-ghost use Rattle.std.specs.Prelude.{◌≡◌, ℕ, ◌+◌, ◌≤◌, ◌++◌, length, List, take, drop, vec_capacity, IfOk};
+ghost use Rattle.std.specs.Prelude.{◌≡◌, ℕ, ◌+◌, ◌<◌, ◌≤◌, ◌++◌, length, List, take, drop, vec_capacity, IfOk};
 ghost use Rattle.tcp_reasm.specs.Reassembly.{max_capacity};
 ghost use Rattle.tcp_reasm.specs.Store.{turned, filled, put, ready_from, IsRing, Turned};
 
@@ -116,11 +116,12 @@ impl<A: Allocator> Ring<A> {
         }
     }
 
-    /// The first bytes as they lie: up to the block's end, and from its beginning on.
+    /// The first bytes as they lie: up to the block's end, and from its beginning on. Where there are any, the first part has some.
     pub(crate) fn lend(&self, count: usize) -> (&[u8], &[u8])
         requires ready { count ≤ self.now.ready }
         requires inside { count ≤ length self.now.bytes }
-        ensures { result.0.now ++ result.1.now ≡ take count self.now.bytes }
+        ensures bytes { result.0.now ++ result.1.now ≡ take count self.now.bytes }
+        ensures front { 0 < count → 0 < length result.0.now }
     {
         if count == 0 {
             return (&[], &[]);
@@ -129,6 +130,8 @@ impl<A: Allocator> Ring<A> {
         let until_end = self.capacity as usize - start;
         if count <= until_end {
             (&self.block[start..start + count], &[])
+        } else if until_end == 0 {
+            (&self.block[..count], &[])
         } else {
             (&self.block[start..], &self.block[..count - until_end])
         }

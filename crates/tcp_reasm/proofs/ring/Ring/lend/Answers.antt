@@ -16,8 +16,8 @@ seen_size : (start capacity : ℕ) (block : List ℕ) (seen : Turned) → turned
 seen_size start capacity block seen is within =
     omega (arith, ap length is, length_turned start (filled capacity block), length_filled capacity block within)
 
-pub returns-else-count-until_end : goal.returns-else-count-until_end
-returns-else-count-until_end g c =
+pub returns-else-until_end-eq0-clause-bytes : goal.returns-else-until_end-eq0-clause-bytes
+returns-else-until_end-eq0-clause-bytes g c =
     let start : ℕ = c.self.inside.start in
     let capacity : ℕ = c.self.inside.capacity in
     let block : List ℕ = c.self.inside.block.items in
@@ -25,13 +25,13 @@ returns-else-count-until_end g c =
     let ready : c.args.count ≤ ready_from start capacity (length block) = omega (arith, c.requires.ready, ap (λ (r : Turned). r.ready) c.self.view_is) in
     let size = seen_size start capacity block c.args.self.now (ap (λ (r : Turned). r.bytes) c.self.view_is) c.self.invariant.within in
     let full = ready_over start capacity (length block) c.args.count ready c.if-count-until_end.false c.self.invariant.within in
-    ap (λ (bytes : List ℕ). take (length bytes - start) (drop start bytes) ++ take past c.deref-else-count-until_end-2.result.now) c.deref-else-count-until_end.ensures.value
-    ∙ ap (λ (bytes : List ℕ). take (length block - start) (drop start block) ++ take past bytes) c.deref-else-count-until_end-2.ensures.value
+    ap (λ (bytes : List ℕ). take (length bytes - start) (drop start bytes) ++ take past c.deref-else-until_end-eq0-2.result.now) c.deref-else-until_end-eq0.ensures.value
+    ∙ ap (λ (bytes : List ℕ). take (length block - start) (drop start block) ++ take past bytes) c.deref-else-until_end-eq0-2.ensures.value
     ∙ lent_over start c.args.count past capacity block full c.self.invariant.starts (omega (arith, c.if-count-until_end.false)) (omega (arith, c.requires.inside, size, c.self.invariant.starts))
     ∙ ap (λ (r : Turned). take c.args.count r.bytes) c.self.view_is
 
-pub returns-then-count-until_end : goal.returns-then-count-until_end
-returns-then-count-until_end g c =
+pub returns-then-count-until_end-clause-bytes : goal.returns-then-count-until_end-clause-bytes
+returns-then-count-until_end-clause-bytes g c =
     let start : ℕ = c.self.inside.start in
     let capacity : ℕ = c.self.inside.capacity in
     let block : List ℕ = c.self.inside.block.items in
