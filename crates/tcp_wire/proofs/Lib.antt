@@ -10,6 +10,7 @@ pub mod Outcome
 pub mod Unsummed
 pub mod Writing
 pub mod Places
+pub mod Fronts
 pub mod RoundTrip
 pub mod Lemmas
 mod Rows
