@@ -63,7 +63,7 @@ impl<A: Allocator> Endpoint<A> {
     }
 
     /// What was due has gone out.
-    fn mark_sent(&mut self, due: Due)
+    pub(crate) fn mark_sent(&mut self, due: Due)
         requires { Lies self.old.sending max_mss due }
         ensures { self.new ≡ state_after self.old due }
     {
