@@ -1,6 +1,7 @@
-//! The sum of a segment whose text lies in two parts.
-ghost use Rattle.std.specs.Prelude.{◌≡◌, ◌+◌, ◌*◌, ◌%◌, ◌≤◌, ◌++◌, length};
+//! The sum of a segment that lies in parts, and the part of it that is left to a device.
+ghost use Rattle.std.specs.Prelude.{◌≡◌, ◌+◌, ◌*◌, ◌%◌, ◌<◌, ◌≤◌, ◌++◌, length};
 ghost use Rattle.tcp_numbers.specs.Checksum.{completion, max_len, segment_sum, word_sum};
+ghost use Rattle.tcp_numbers.specs.Partial.{partial_field};
 
 use crate::addr::Addr;
 use crate::sums::{pseudo_sum, word_sum};
@@ -31,4 +32,16 @@ pub fn checksum_in_parts(src: Addr, dst: Addr, front: &[u8], first: &[u8], secon
     let len = front.len() + first.len() + second.len();
     let sum = word_sum(front) + joined_sum(first, second) + pseudo_sum(src, dst, len);
     ((65535 - sum % 65535) % 65535) as u16
+}
+
+/// The ones' complement sum over the pseudo-header of a segment of so many bytes, which a device that sums the segment finds in its
+/// checksum field (RFC 9293, 3.1; RFC 1071, 2). It is never 0.
+pub fn partial_checksum(src: Addr, dst: Addr, len: usize) -> u16
+    requires { len ≤ max_len }
+    ensures value { result ≡ partial_field src.0 dst.0 len }
+    ensures some { 0 < result }
+{
+    let sum = pseudo_sum(src, dst, len);
+    let sum = sum % 65_536 + sum / 65_536;
+    (sum % 65_536 + sum / 65_536) as u16
 }

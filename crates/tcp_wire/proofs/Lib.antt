@@ -11,6 +11,7 @@ pub mod Unsummed
 pub mod Writing
 pub mod Places
 pub mod Fronts
+pub mod Partials
 pub mod RoundTrip
 pub mod Lemmas
 mod Rows

@@ -10,4 +10,5 @@ pub mod Decoded
 pub mod Listed
 pub mod View
 pub mod Vouched
+pub mod Partial
 pub mod Refusals
