@@ -17,6 +17,7 @@ pub mod Due
 pub mod Forms
 pub mod Writing
 pub mod Emission
+pub mod Partial
 pub mod Status
 pub mod AtOnce
 pub mod Taking

@@ -5,7 +5,8 @@
 //!   any bytes, `emit` writes the segment that is due, and `timers` and `timer` are the caller's clock. Nothing but `new` takes memory.
 //! - `take` is `arrive` with a report, [`Taken`]: the rule that applied ([`Judgement`]), what was acknowledged, what it brought.
 //! - Fewer copies and sums: `peek` lends what is unread ([`Lent`]) and `consume` takes it away, `parts` lends the text of the segment
-//!   that is due ([`Parts`]) and `sent` says that it went out, `arrive_vouched` takes what a device has summed.
+//!   that is due ([`Parts`]) and `sent` says that it went out, `arrive_vouched` takes what a device has summed, and
+//!   `emit_partial` leaves the sum to it.
 //! - [`Rest`] stands in the place of an end in TIME-WAIT, without buffers.
 //! - [`stray_reset`] answers a segment for which there is no end (RFC 9293, 3.10.7.1).
 //! - [`laws`]: what always holds of an end, what close, abort and timers do in each phase, that what rests is the end.
@@ -30,6 +31,7 @@ mod names;
 mod new_end;
 mod outcome;
 mod owed;
+mod partial;
 mod parts;
 mod phase;
 mod phases;

@@ -52,7 +52,7 @@ impl<A: Allocator> Endpoint<A> {
 
     /// Where the text of such a segment begins, after the options that report blocks (RFC 9293, 3.1, Data Offset).
     #[tactic(auto, using(crate::proofs::Segments::offset_of_report))]
-    fn text_start(&self) -> usize
+    pub(crate) fn text_start(&self) -> usize
         ensures offset { result ≡ text_offset (sack_options (blocks_to_report self.now)) 0 }
         ensures most { result ≤ header_len + max_area_len }
     {
