@@ -1,5 +1,6 @@
 pub mod Around
 pub mod Segments
+pub mod Parting
 pub mod PhaseRows
 mod Strays
 mod Urgent

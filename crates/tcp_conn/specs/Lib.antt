@@ -9,6 +9,7 @@ pub mod Blocks
 pub mod NewEnd
 pub mod Endings
 pub mod Calls
+pub mod Lending
 pub mod Timers
 pub mod Judgement
 pub mod Arrival
@@ -17,6 +18,7 @@ pub mod Forms
 pub mod Writing
 pub mod Emission
 pub mod Transmission
+pub mod Partial
 pub mod Status
 pub mod AtOnce
 pub mod Taking

@@ -141,7 +141,7 @@ impl<A: Allocator> Endpoint<A> {
     }
 
     /// Why `receive` is refused.
-    fn receive_refusal(&self) -> Option<CallError>
+    pub(crate) fn receive_refusal(&self) -> Option<CallError>
         ensures { result ≡ receive_refusal self.now }
     {
         if gives_up(self.ending) {

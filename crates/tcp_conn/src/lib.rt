@@ -5,6 +5,9 @@
 //!   any bytes, `emit` writes the segment that is due, and `timers` and `timer` are the caller's clock. Nothing but `new` takes memory.
 //! - `take` is `arrive` with a report, [`Taken`]: the rule that applied ([`Judgement`]), what was acknowledged, what it brought.
 //!   `transmit` is `emit` with one, [`Transmit`]: what the segment is, where it begins, how much text it has.
+//! - Fewer copies and sums: `peek` lends what is unread ([`Lent`]) and `consume` takes it away, `parts` lends the text of the segment
+//!   that is due ([`Parts`]) and `sent` says that it went out, `arrive_vouched` takes what a device has summed, and
+//!   `emit_partial` leaves the sum to it.
 //! - [`Rest`] stands in the place of an end in TIME-WAIT, without buffers.
 //! - [`stray_reset`] answers a segment for which there is no end (RFC 9293, 3.10.7.1).
 //! - [`laws`]: what always holds of an end, what close, abort and timers do in each phase, that what rests is the end.
@@ -24,10 +27,13 @@ mod fault;
 mod forms;
 mod judgement;
 pub mod laws;
+mod lending;
 mod names;
 mod new_end;
 mod outcome;
 mod owed;
+mod partial;
+mod parts;
 mod phase;
 mod phases;
 mod rest;
@@ -37,13 +43,16 @@ mod stray;
 mod taking;
 mod timers;
 mod transmission;
+mod vouched;
 mod windows;
 mod writing;
 
 pub use emission::EMIT_ROOM;
 pub use endpoint::Endpoint;
 pub use judgement::Judgement;
+pub use lending::Lent;
 pub use outcome::{Arrival, CallError, Received};
+pub use parts::{HEADER_ROOM, Parts};
 pub use phase::{Ending, Phase, Timer};
 pub use rest::{REST_LEN, Rest};
 pub use rest_fields::RestFields;

@@ -130,7 +130,7 @@ impl<A: Allocator> Endpoint<A> {
 
     /// A segment by the rule that applies to it, and the report.
     #[inline(always)]
-    fn take_by(&mut self, rule: Judgement, src: Addr, segment: &RawSegment<'_>) -> Taken
+    pub(crate) fn take_by(&mut self, rule: Judgement, src: Addr, segment: &RawSegment<'_>) -> Taken
         ensures answer { result.arrival ≡ answer_of rule }
         ensures at_once { result.at_once ≡ is_urgent rule (nat_lt 0 (length (runs self.old.receiving.inbox.held))) self.new (raw_content segment.now) }
         ensures rule { result.rule ≡ Some rule }

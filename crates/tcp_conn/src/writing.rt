@@ -13,13 +13,14 @@ use crate::blocks::sack_options;
 use crate::emission::EMIT_ROOM;
 use crate::endpoint::Endpoint;
 use crate::forms::HEADER_LEN;
+use crate::parts::HEADER_ROOM;
 use std::alloc::Allocator;
 use tcp_halves::{Due, WaitingReset};
 use tcp_wire::{Addr, TcpOption, write_around};
 
 impl<A: Allocator> Endpoint<A> {
     /// Each of its numbers fits its field of a segment, as callers learn; it does nothing when it runs.
-    fn fits_fields(&self)
+    pub(crate) fn fits_fields(&self)
         ensures { FitsFields self.now }
     {
         let _peer_port = self.peer.port;
@@ -29,10 +30,10 @@ impl<A: Allocator> Endpoint<A> {
     /// Writes the own SYN at the start of `out`, and answers its length.
     #[inline(never)]
     #[tactic(auto, using(crate::proofs::Segments::length_syn_segment))]
-    fn write_syn(&self, out: &mut [u8]) -> usize
-        requires { EMIT_ROOM ≤ length out.old }
+    pub(crate) fn write_syn(&self, out: &mut [u8]) -> usize
+        requires { HEADER_ROOM ≤ length out.old }
         ensures len { result ≡ wire_length (syn_segment self.now) }
-        ensures most { result ≤ EMIT_ROOM }
+        ensures most { result ≤ HEADER_ROOM }
         ensures bytes { out.new ≡ encoded_bytes self.now.config.addr.0 self.now.peer.addr.0 (syn_segment self.now) ++ drop result out.old }
     {
         self.fits_fields();
@@ -51,7 +52,7 @@ impl<A: Allocator> Endpoint<A> {
 
     /// Where the text of such a segment begins, after the options that report blocks (RFC 9293, 3.1, Data Offset).
     #[tactic(auto, using(crate::proofs::Segments::offset_of_report))]
-    fn text_start(&self) -> usize
+    pub(crate) fn text_start(&self) -> usize
         ensures offset { result ≡ text_offset (sack_options (blocks_to_report self.now)) 0 }
         ensures most { result ≤ header_len + max_area_len }
     {
@@ -116,10 +117,10 @@ impl<A: Allocator> Endpoint<A> {
 
     /// Writes a waiting reset at the start of `out`, and answers its length.
     #[inline(never)]
-    fn write_reset(&self, reset: WaitingReset, out: &mut [u8]) -> usize
-        requires { EMIT_ROOM ≤ length out.old }
+    pub(crate) fn write_reset(&self, reset: WaitingReset, out: &mut [u8]) -> usize
+        requires { HEADER_ROOM ≤ length out.old }
         ensures len { result ≡ wire_length (reset_segment self.now reset) }
-        ensures most { result ≤ EMIT_ROOM }
+        ensures most { result ≤ HEADER_ROOM }
         ensures bytes { out.new ≡ encoded_bytes self.now.config.addr.0 reset.to.addr.0 (reset_segment self.now reset) ++ drop result out.old }
     {
         let header = self.reset_header(reset);

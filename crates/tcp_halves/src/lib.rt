@@ -10,6 +10,7 @@
 mod acceptable;
 mod config;
 mod due;
+mod lending;
 mod link;
 mod marks;
 mod options;

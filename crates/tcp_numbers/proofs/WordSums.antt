@@ -1,7 +1,7 @@
 -- The word sum: step by step, over joined bytes, and after one changed byte.
 use Rattle.std.proofs.Common.{◌≡◌, ℕ, zero, suc, ◌+◌, ◌-◌, ◌*◌, ◌/◌, ◌%◌, ◌<◌, ◌≤◌, List, [], ◌∷◌, ◌++◌, length, take, drop, get_or, refl, sym, ap, ◌∙◌, ◌⊎◌}
-use Rattle.std.proofs.Common.{inl, inr, length-append, arith}
-use Rattle.std.proofs.lemmas.List.{length-take-le, take-append-drop, length-drop, take_rest, drop_more, get_or-drop}
+use Rattle.std.proofs.Common.{inl, inr, length-append, append-nil, append_assoc, arith}
+use Rattle.std.proofs.lemmas.List.{length-take-le, take-append-drop, length-drop, take_rest, drop_more, drop_all, get_or-drop}
 use Rattle.byteorder.specs.Endian.{big_number, big_from}
 use Rattle.tcp_numbers.specs.Checksum.{AreBytes, word_sum, without_field, pseudo_header, segment_sum, Checks, completion, field, DiffersInOnePlace}
 
@@ -136,3 +136,26 @@ field_is src dst bytes sum own long low sum_is own_is =
     let same : (sum + 65535 - own) % 65535 ≡ segment_sum src dst (without_field bytes) % 65535 =
     omega (arith, low, sum_is, own', pseudo, word_sum-without_field bytes (omega arith)) in
     ap (λ (n : ℕ). (65535 - n) % 65535) same
+
+-- ---- of slices that lie one behind the other
+
+pub word_sum_joined_even : (first second : List ℕ) → length first % 2 ≡ 0 → word_sum (first ++ second) ≡ word_sum first + word_sum second
+word_sum_joined_even first second even = word_sum-append (length first / 2) first second (omega arith)
+
+pub word_sum_joined_none : (first second : List ℕ) → length second ≡ 0 → word_sum (first ++ second) ≡ word_sum first + word_sum second
+word_sum_joined_none first [] none = ap word_sum (append-nil first) ∙ omega arith
+word_sum_joined_none first (b ∷ second) none = absurd (omega arith)
+
+-- where the first ends within a word
+pub word_sum_joined_odd : (first second : List ℕ) (last : ℕ) → last + 1 ≡ length first → last % 2 ≡ 0 → 0 < length second
+    → word_sum (first ++ second) ≡ word_sum (take last first) + (256 * get_or first last 0 + get_or second 0 0) + word_sum (drop 1 second)
+word_sum_joined_odd first [] last is even some = absurd (omega arith)
+word_sum_joined_odd first (b ∷ second) last is even some =
+    let front : List ℕ = take last first in
+    let none : drop (last + 1) first ≡ [] = drop_all (last + 1) first (omega arith) in
+    let parts : first ≡ front ++ (get_or first last 0 ∷ []) =
+    sym (take-append-drop last first) ∙ ap (λ (rest : List ℕ). front ++ rest) (drop_more first last 0 (omega arith) ∙ ap (λ (rest : List ℕ). get_or first last 0 ∷ rest) none) in
+    let sum = word_sum-append (last / 2) front (get_or first last 0 ∷ b ∷ second) (length-take-le last first (omega arith) ∙ omega arith) in
+    ap (λ (xs : List ℕ). word_sum (xs ++ b ∷ second)) parts
+    ∙ ap word_sum (append_assoc front (get_or first last 0 ∷ []) (b ∷ second))
+    ∙ omega (arith, sum)

@@ -117,9 +117,10 @@ fn addr_sum(addr: Addr) -> u32
 
 /// The sum over the pseudo-header: addresses, the protocol's number 6, and the segment's length.
 #[tactic(auto, using(crate::proofs::WordSums::pseudo_parts))]
-fn pseudo_sum(src: Addr, dst: Addr, len: usize) -> u32
+pub(crate) fn pseudo_sum(src: Addr, dst: Addr, len: usize) -> u32
     requires { len ≤ max_len }
     ensures exact { result ≡ word_sum (pseudo_header src.0 dst.0 len) }
+    ensures some { 0 < result }
     ensures bound { result < 2 ^ 20 }
 {
     addr_sum(src) + addr_sum(dst) + 6 + len as u32

@@ -1,7 +1,7 @@
 -- A block seen from one of its places on: what is written, read and left.
-use Rattle.std.proofs.Common.{◌≡◌, ◌⊎◌, inl, inr, ℕ, zero, suc, ◌+◌, ◌-◌, ◌<◌, ◌≤◌, List, [], ◌∷◌, ◌++◌, length, take, drop, refl, sym, ◌∙◌, ap, arith, append_assoc, length-append, length-drop, length-take}
+use Rattle.std.proofs.Common.{◌≡◌, ◌⊎◌, inl, inr, ℕ, zero, suc, ◌+◌, ◌-◌, ◌<◌, ◌≤◌, List, [], ◌∷◌, ◌++◌, length, take, drop, refl, sym, ◌∙◌, ap, arith, append_assoc, length-append, length-drop, length-take, append-nil}
 use Rattle.std.specs.Prelude.{min, replicate}
-use Rattle.std.proofs.lemmas.List.{take-append-drop, take_min, drop_min, drop-drop, drop-append-le, take-append-le, length-replicate, take-replicate, drop-replicate}
+use Rattle.std.proofs.lemmas.List.{take-append-drop, take_rest, take_min, drop_min, drop-drop, drop-append-le, take-append-le, length-replicate, take-replicate, drop-replicate}
 use Rattle.tcp_reasm.specs.declared.table.Run.{Run as Entry}
 use Rattle.tcp_reasm.specs.Reassembly.{stamp_of_run}
 use Rattle.tcp_reasm.specs.Store.{turned, filled, put, IsRing, runs_in, ranked, laid, fresh_byte}
@@ -338,3 +338,31 @@ put_laid_from stamps from (suc start) text (byte ∷ bytes) none = ap (λ rest. 
 pub put_laid : (table : List Entry) (place : ℕ) (text bytes : List ℕ) → length table ≡ 0 → put place text bytes ≡ laid (stamp_of_run (ranked (runs_in table))) 0 place text bytes
 put_laid [] place text bytes none = put_laid_from (λ i. 0) 0 place text bytes (λ i. refl)
 put_laid (run ∷ table) place text bytes none = absurd (omega (arith, none))
+
+-- ---- lending
+
+-- bytes that lie within what was written
+pub lent_before : (start count capacity : ℕ) (block : List ℕ) → start + count ≤ length block → length block ≤ capacity →
+    take count (drop start block) ++ [] ≡ take count (turned start (filled capacity block))
+lent_before start count capacity block inside within =
+    let whole = filled capacity block in
+    let size = length_filled capacity block within in
+    read_filled count 0 start capacity block (omega arith) (omega arith)
+    ∙ sym (take-append-le count (drop start whole) (take start whole) (omega (arith, size, length-drop start whole)))
+
+-- bytes over the end of a block that is full
+pub lent_over : (start count past capacity : ℕ) (block : List ℕ) → length block ≡ capacity → start ≤ capacity → (capacity - start) + past ≡ count → past ≤ start →
+    take (length block - start) (drop start block) ++ take past block ≡ take count (turned start (filled capacity block))
+lent_over start count past capacity block full starts e before =
+    let back = drop start block in
+    let front = take start block in
+    let none : capacity - length block ≡ 0 = omega arith in
+    let filled_is : filled capacity block ≡ block = ap (λ n. block ++ replicate n 0) none ∙ append-nil block in
+    let size : length back + past ≡ count = omega (arith, length-drop start block) in
+    let room : past ≤ length front = omega (arith, length-take start block) in
+    let again : take past front ≡ take past block =
+    sym (take-append-le past front back room) ∙ ap (take past) (take-append-drop start block) in
+    ap (λ (x : List ℕ). x ++ take past block) (take_rest block start)
+    ∙ ap (λ (x : List ℕ). back ++ x) (sym again)
+    ∙ sym (take_past count past back front size)
+    ∙ ap (λ (x : List ℕ). take count (turned start x)) (sym filled_is)

@@ -14,6 +14,15 @@ turned start bytes = drop start bytes ++ take start bytes
 abbrev pub filled : ℕ → List ℕ → List ℕ
 filled size bytes = bytes ++ replicate (size - length bytes) 0
 
+-- how many places from a start on lie in what was written of a block: all of them once it is full
+abbrev pub ready_from : ℕ → ℕ → ℕ → ℕ
+ready_from start capacity written = if nat_lt written capacity then written - start else capacity
+
+-- a ring as it is seen: its bytes, and how many of the first of them were written for certain
+pub record Turned : Type 0 where
+  pub bytes : List ℕ
+  pub ready : ℕ
+
 abbrev pub run_of : Entry → Run
 run_of entry = record { from = entry.from; to = entry.to; stamp = 0 }
 

@@ -15,12 +15,13 @@ pub(crate) fn lay<A: Allocator>(
     place: usize,
     text: &[u8],
 )
-    requires fits { unread + (place + length text.now) ≤ length ring.old }
-    requires most { length ring.old ≤ max_capacity }
-    ensures len { length ring.new ≡ length ring.old }
-    ensures unread { take unread ring.new ≡ take unread ring.old }
-    ensures window { drop unread ring.new
-        ≡ laid (stamp_of_run (ranked (runs_in table.now))) 0 place text.now (drop unread ring.old) }
+    requires fits { unread + (place + length text.now) ≤ length ring.old.bytes }
+    requires most { length ring.old.bytes ≤ max_capacity }
+    ensures len { length ring.new.bytes ≡ length ring.old.bytes }
+    ensures ready { ring.old.ready ≤ ring.new.ready }
+    ensures unread { take unread ring.new.bytes ≡ take unread ring.old.bytes }
+    ensures window { drop unread ring.new.bytes
+        ≡ laid (stamp_of_run (ranked (runs_in table.now))) 0 place text.now (drop unread ring.old.bytes) }
 {
     // Most texts find nothing held.
     if table.is_empty() {

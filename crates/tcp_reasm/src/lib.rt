@@ -2,8 +2,9 @@
 //! and are reported to the peer as blocks (RFC 2018, 4).
 //!
 //! [`Reassembly`] is what came in order and wasn't read, and a map from place to byte of what is held, within a window; `place`
-//! tells by [`Placed`] what a piece brought, and `new` takes its memory, and only that can fail ([`ReasmError`]). [`laws`]: runs
-//! are maximal, and blocks are the newest first. It counts places from the next byte that is wanted, and knows no sequence number.
+//! tells by [`Placed`] what a piece brought, `peek` lends what is unread, and `new` takes its memory, and only that can fail
+//! ([`ReasmError`]). [`laws`]: runs are maximal, and blocks are the newest first. It counts places from the next byte that is
+//! wanted, and knows no sequence number.
 #![tactic(auto)]
 
 pub use error::ReasmError;

@@ -35,9 +35,9 @@ pub struct Reassembly<A: Allocator = Global> {
 impl<A: Allocator> Model for Reassembly<A> {
     ghost Value = { Inbox };
 
-    ghost view = { λ r. inbox_of r.ring r.unread r.table.items };
+    ghost view = { λ r. inbox_of r.ring.bytes r.unread r.table.items };
 
-    ghost invariant = { λ r. IsKept r.ring r.unread (runs_in r.table.items) };
+    ghost invariant = { λ r. IsKept r.ring.bytes r.unread (runs_in r.table.items) × (r.unread ≤ r.ring.ready) };
 }
 
 impl Reassembly {
@@ -169,6 +169,7 @@ impl<A: Allocator> Reassembly<A> {
         let count = union_of(&self.table, piece).to;
         let unread = self.unread;
         lay(&mut self.ring, unread, &self.table, 0, text);
+        self.ring.reach(unread + count as usize);
         leave_rest(&mut self.table, piece, count);
         self.unread += count as usize;
         count as usize
@@ -210,6 +211,25 @@ impl<A: Allocator> Reassembly<A> {
     {
         let count = out.len().min(self.unread);
         self.ring.copy(&mut out[..count]);
+        self.consume(out.len())
+    }
+
+    /// The unread bytes where they lie, in two parts: first the front, then the back. The front is empty only where none is unread.
+    pub fn peek(&self) -> (&[u8], &[u8])
+        ensures bytes { result.0.now ++ result.1.now ≡ self.now.unread }
+        ensures front { 0 < length self.now.unread → 0 < length result.0.now }
+    {
+        self.ring.lend(self.unread)
+    }
+
+    /// Takes the first unread bytes away, at most so many, and answers their count.
+    #[inline(always)]
+    pub fn consume(&mut self, most: usize) -> usize
+        ensures count { result ≡ min most (length self.old.unread) }
+        ensures sound { IsInbox self.new }
+        ensures after { self.new ≡ after_read self.old most }
+    {
+        let count = most.min(self.unread);
         self.unread -= count;
         // Where nothing is left the next byte goes to the block's first place: for a user who keeps up, little of the
         // block is touched, however much comes.

@@ -1,7 +1,7 @@
 //! A ring of bytes in one block: its places are counted from a start on, over the block's end.
-ghost use Rattle.std.specs.Prelude.{◌≡◌, ℕ, ◌+◌, ◌≤◌, ◌++◌, length, List, take, drop, vec_capacity, IfOk};
+ghost use Rattle.std.specs.Prelude.{◌≡◌, ℕ, ◌+◌, ◌<◌, ◌≤◌, ◌++◌, length, List, take, drop, vec_capacity, IfOk};
 ghost use Rattle.tcp_reasm.specs.Reassembly.{max_capacity};
-ghost use Rattle.tcp_reasm.specs.Store.{turned, filled, put, IsRing};
+ghost use Rattle.tcp_reasm.specs.Store.{turned, filled, put, ready_from, IsRing, Turned};
 
 use std::alloc::{AllocError, Allocator, Global};
 use std::marker::Model;
@@ -18,9 +18,9 @@ pub(crate) struct Ring<A: Allocator = Global> {
 }
 
 impl<A: Allocator> Model for Ring<A> {
-    ghost Value = { List ℕ };
+    ghost Value = { Turned };
 
-    ghost view = { λ r. turned r.start (filled r.capacity r.block.items) };
+    ghost view = { λ r. record { bytes = turned r.start (filled r.capacity r.block.items); ready = ready_from r.start r.capacity (length r.block.items) } };
 
     ghost invariant = { λ r. IsRing (vec_capacity r.block) r.capacity r.start r.block.items };
 }
@@ -29,7 +29,7 @@ impl<A: Allocator> Ring<A> {
     /// So many bytes. Their memory is taken now, and isn't touched.
     pub(crate) fn new_in(alloc: A, capacity: usize) -> Result<Self, AllocError>
         requires { capacity ≤ max_capacity }
-        ensures { IfOk result (λ ring. length ring ≡ capacity) }
+        ensures { IfOk result (λ ring. length ring.bytes ≡ capacity) }
     {
         let block = Vec::with_capacity(alloc, capacity)?;
         Ok(Ring {
@@ -41,7 +41,7 @@ impl<A: Allocator> Ring<A> {
 
     /// How many bytes there are.
     pub(crate) fn len(&self) -> usize
-        ensures { result ≡ length self.now }
+        ensures { result ≡ length self.now.bytes }
     {
         self.capacity as usize
     }
@@ -49,8 +49,9 @@ impl<A: Allocator> Ring<A> {
     /// Writes a text over the bytes from a place on.
     #[inline(always)]
     pub(crate) fn write(&mut self, place: usize, text: &[u8])
-        requires { place + length text.now ≤ length self.old }
-        ensures { self.new ≡ put place text.now self.old }
+        requires { place + length text.now ≤ length self.old.bytes }
+        ensures bytes { self.new.bytes ≡ put place text.now self.old.bytes }
+        ensures ready { self.old.ready ≤ self.new.ready }
     {
         let start = self.start as usize;
         let until_end = self.capacity as usize - start;
@@ -67,8 +68,8 @@ impl<A: Allocator> Ring<A> {
 
     /// Copies the first bytes, as many as there is room for.
     pub(crate) fn copy(&self, out: &mut [u8])
-        requires { length out.old ≤ length self.now }
-        ensures { out.new ≡ take (length out.old) self.now }
+        requires { length out.old ≤ length self.now.bytes }
+        ensures { out.new ≡ take (length out.old) self.now.bytes }
     {
         let start = self.start as usize;
         let until_end = self.capacity as usize - start;
@@ -83,8 +84,9 @@ impl<A: Allocator> Ring<A> {
 
     /// Puts the first bytes behind the others.
     pub(crate) fn advance(&mut self, count: usize)
-        requires { count ≤ length self.old }
-        ensures { self.new ≡ drop count self.old ++ take count self.old }
+        requires { count ≤ length self.old.bytes }
+        ensures bytes { self.new.bytes ≡ drop count self.old.bytes ++ take count self.old.bytes }
+        ensures ready { self.old.ready ≤ self.new.ready + count }
     {
         let until_end = (self.capacity - self.start) as usize;
         self.start = if count < until_end {
@@ -96,9 +98,43 @@ impl<A: Allocator> Ring<A> {
 
     /// Puts the first byte where the block begins. Nothing is said of what the bytes are then.
     pub(crate) fn rewind(&mut self)
-        ensures { length self.new ≡ length self.old }
+        ensures { length self.new.bytes ≡ length self.old.bytes }
     {
         self.start = 0;
+    }
+
+    /// Sees to it that the first bytes can be lent, whether they were written or not.
+    #[inline(always)]
+    pub(crate) fn reach(&mut self, count: usize)
+        requires { count ≤ length self.old.bytes }
+        ensures bytes { self.new.bytes ≡ self.old.bytes }
+        ensures ready { count ≤ self.new.ready }
+    {
+        let end = (self.start as usize + count).min(self.capacity as usize);
+        if self.block.len() < end {
+            grow(&mut self.block, end, &[]);
+        }
+    }
+
+    /// The first bytes as they lie: up to the block's end, and from its beginning on. Where there are any, the first part has some.
+    pub(crate) fn lend(&self, count: usize) -> (&[u8], &[u8])
+        requires ready { count ≤ self.now.ready }
+        requires inside { count ≤ length self.now.bytes }
+        ensures bytes { result.0.now ++ result.1.now ≡ take count self.now.bytes }
+        ensures front { 0 < count → 0 < length result.0.now }
+    {
+        if count == 0 {
+            return (&[], &[]);
+        }
+        let start = self.start as usize;
+        let until_end = self.capacity as usize - start;
+        if count <= until_end {
+            (&self.block[start..start + count], &[])
+        } else if until_end == 0 {
+            (&self.block[..count], &[])
+        } else {
+            (&self.block[start..], &self.block[..count - until_end])
+        }
     }
 }
 
@@ -109,6 +145,7 @@ fn write_at<A: Allocator>(block: &mut Vec<u8, A>, at: usize, text: &[u8])
     ensures capacity { vec_capacity block.old ≤ vec_capacity block.new }
     ensures bytes { (n : ℕ) → at + length text.now ≤ n →
         filled n block.new.items ≡ put at text.now (filled n block.old.items) }
+    ensures grown { length block.old.items ≤ length block.new.items }
 {
     let end = at + text.len();
     if end <= block.len() {
@@ -127,6 +164,7 @@ fn grow<A: Allocator>(block: &mut Vec<u8, A>, at: usize, text: &[u8])
     ensures capacity { vec_capacity block.old ≤ vec_capacity block.new }
     ensures bytes { (n : ℕ) → at + length text.now ≤ n →
         filled n block.new.items ≡ put at text.now (filled n block.old.items) }
+    ensures len { length block.new.items ≡ at + length text.now }
 {
     let _ = block.resize(at, 0);
     let _ = block.extend_from_slice(text);

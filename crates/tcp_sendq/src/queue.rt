@@ -1,5 +1,5 @@
 //! The send queue.
-ghost use Rattle.std.specs.Prelude.{◌≡◌, ℕ, ◌+◌, ◌<◌, ◌≤◌, ◌↔◌, ◌⊎◌, length, take, drop, IsTrue, IsFalse, IsNone, IfSome, IfOk};
+ghost use Rattle.std.specs.Prelude.{◌≡◌, ℕ, ◌+◌, ◌<◌, ◌≤◌, ◌++◌, ◌↔◌, ◌⊎◌, length, take, drop, IsTrue, IsFalse, IsNone, IfSome, IfOk};
 ghost use Rattle.tcp_sendq.specs.SendQueue.{Queue, IsQueue, IsMarked, empty_queue, room, count_taken, after_offer, after_release, marks_with, runs_begun, max_runs, max_capacity, can_mark, after_mark, without_marks, next_unmarked, IsNextUnmarked, AllMarkedFrom, last_mark_end, IsLastMarkEnd, NoneMarkedFrom};
 ghost use Rattle.tcp_sendq.specs.Marks.{queue_of, IsKept};
 
@@ -122,6 +122,17 @@ impl<A: Allocator> SendQueue<A> {
     {
         let (front, back) = self.bytes.as_slices();
         ring::copy_from(front, back, at, out);
+    }
+
+    /// The bytes from the place `at` on where they lie: `count` of them, in two parts, of which the first is empty only where the
+    /// count is 0.
+    pub fn lend(&self, at: usize, count: usize) -> (&[u8], &[u8])
+        requires { at + count ≤ length self.now.bytes }
+        ensures bytes { result.0.now ++ result.1.now ≡ take count (drop at self.now.bytes) }
+        ensures first { 0 < count → 0 < length result.0.now }
+    {
+        let (front, back) = self.bytes.as_slices();
+        ring::lend_from(front, back, at, count)
     }
 
     /// Marks the places from `from` on and below `to`, unless more than 16 runs would then be marked:

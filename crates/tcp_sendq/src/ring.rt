@@ -1,5 +1,5 @@
 //! Reading what a ring holds in two slices.
-ghost use Rattle.std.specs.Prelude.{◌≡◌, ◌+◌, ◌≤◌, ◌++◌, length, take, drop};
+ghost use Rattle.std.specs.Prelude.{◌≡◌, ◌+◌, ◌<◌, ◌≤◌, ◌++◌, length, take, drop};
 
 /// Fills `out` with the bytes from the place `at` on of those in `front`, which go on in `back`.
 #[inline(always)]
@@ -31,4 +31,30 @@ fn copy_over_end(front: &[u8], back: &[u8], at: usize, out: &mut [u8])
     let rest = out.len() - count;
     out[..count].copy_from_slice(&first[..count]);
     out[count..].copy_from_slice(&second[..rest]);
+}
+
+/// The bytes from the place `at` on of those in `front`, which go on in `back`, where they lie: so many, in two parts. The first is
+/// empty only where there are none.
+#[inline(always)]
+#[tactic(auto, using(crate::proofs::Joined::joined, crate::proofs::Joined::inside))]
+pub(crate) fn lend_from<'a>(
+    front: &'a [u8],
+    back: &'a [u8],
+    at: usize,
+    count: usize,
+) -> (&'a [u8], &'a [u8])
+    requires { at + count ≤ length front.now + length back.now }
+    ensures bytes { result.0.now ++ result.1.now ≡ take count (drop at (front.now ++ back.now)) }
+    ensures first { 0 < count → 0 < length result.0.now }
+{
+    let end = at + count;
+    if end <= front.len() {
+        return (&front[at..end], &[]);
+    }
+    let over = end - front.len();
+    if at < front.len() {
+        (&front[at..], &back[..over])
+    } else {
+        (&back[at - front.len()..over], &[])
+    }
 }

@@ -3,3 +3,4 @@ pub use Rattle.tcp_numbers.proofs.Lemmas.{position_of_ahead, position_of_behind,
 pub use Rattle.tcp_wire.proofs.OptionLaws.{blocks_bytes_length}
 pub use Rattle.tcp_wire.proofs.RoundTrip.{IsWire_encoded, length_encoded, decoded_encoded, decoded_damaged, differs_set}
 pub use Rattle.tcp_wire.proofs.Places.{IsAround, is_around, encoded_over}
+pub use Rattle.tcp_wire.proofs.Partials.{partial_over}

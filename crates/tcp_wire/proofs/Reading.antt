@@ -17,7 +17,7 @@ use Rattle.tcp_numbers.proofs.Lemmas.{one_place, same_length}
 
 -- ---- tests
 
-by_test : {A : Type 0} (P : A → Type 0) (b : Bool) (x y : A) → (b ≡ true → P x) → (b ≡ false → P y) → P (cond b x y)
+pub by_test : {A : Type 0} (P : A → Type 0) (b : Bool) (x y : A) → (b ≡ true → P x) → (b ≡ false → P y) → P (cond b x y)
 by_test P true x y f g = f refl
 by_test P false x y f g = g refl
 
@@ -136,7 +136,7 @@ content_is : (v : Content) (bytes : List ℕ) → HasHeader v bytes → drop (4 
 content_is v bytes h text = let a = h.src_port in let b = h.dst_port in let c = h.seq in let d = h.ack in let e = h.reserved in let f = h.flags in let g = h.window in let i = h.urgent in cc (rebuilt v)
 
 -- the three tests in front, passed
-checked : (src dst bytes : List ℕ) → IsSized bytes → Checks src dst bytes → decode_answer src dst bytes ≡ layout_of bytes
+pub checked : (src dst bytes : List ℕ) → IsSized bytes → Checks src dst bytes → decode_answer src dst bytes ≡ layout_of bytes
 unfolding decode_answer
 checked src dst bytes sized checks =
     let long : ltb (length bytes) 20 ≡ false = le-ltb _ _ sized.0 in

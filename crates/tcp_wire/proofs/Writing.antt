@@ -10,7 +10,7 @@ use Rattle.tcp_wire.proofs.OptionLaws.{spellings_bytes}
 
 -- ---- the checksum field
 
-completion_checks : (sum : ℕ) → (sum + completion sum) % 65535 ≡ 0
+pub completion_checks : (sum : ℕ) → (sum + completion sum) % 65535 ≡ 0
 completion_checks sum = omega arith
 
 pub completion_below : (sum : ℕ) → completion sum < 65535
@@ -20,7 +20,7 @@ completion_below sum = omega arith
 completion_only : (sum found : ℕ) → found < 65536 → (sum + found) % 65535 ≡ 0 → (found ≡ completion sum) ⊎ ((completion sum ≡ 0) × (found ≡ 65535))
 completion_only sum found fits checks = grind arith
 
-sum_with_field : (v : Content) (f : ℕ) → f < 65536 → word_sum (segment_bytes v f) ≡ word_sum (segment_bytes v 0) + f
+pub sum_with_field : (v : Content) (f : ℕ) → f < 65536 → word_sum (segment_bytes v f) ≡ word_sum (segment_bytes v 0) + f
 sum_with_field v f fits = omega arith
 
 pub length_segment_bytes : (v : Content) (f : ℕ) → length (segment_bytes v f) ≡ wire_length v
@@ -37,7 +37,7 @@ field_of src dst v = refl
 
 -- ---- into the grammar
 
-segment_bytes_are_bytes : (v : Content) (f : ℕ) → IsValid v → AreBytes (option_bytes v) → AreBytes (segment_bytes v f)
+pub segment_bytes_are_bytes : (v : Content) (f : ℕ) → IsValid v → AreBytes (option_bytes v) → AreBytes (segment_bytes v f)
 segment_bytes_are_bytes v f valid options =
     let room = valid.room in
     let low = valid.reserved in

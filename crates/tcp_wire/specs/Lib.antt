@@ -9,4 +9,6 @@ pub mod Fault
 pub mod Decoded
 pub mod Listed
 pub mod View
+pub mod Vouched
+pub mod Partial
 pub mod Refusals

@@ -45,7 +45,7 @@ fn fields_of(bytes: &[u8], offset: usize) -> RawSegment<'_>
 /// What the bytes say, their length and checksum being right.
 #[inline(always)]
 #[tactic(auto, using(crate::proofs::Reading::no_options), unfolding(crate::specs::Decoded::layout_of))]
-fn lay_out(bytes: &[u8]) -> Result<RawSegment<'_>, DecodeError>
+pub(crate) fn lay_out(bytes: &[u8]) -> Result<RawSegment<'_>, DecodeError>
     requires least { header_len ≤ length bytes.now }
     requires most { length bytes.now ≤ max_len }
     ensures value { MatchResult result (λ s. layout_of bytes.now ≡ Ok (raw_content s)) (λ e. layout_of bytes.now ≡ Err e) }

@@ -60,7 +60,7 @@ fn write_area(options: &[TcpOption<'_>], pad: u8, out: &mut [u8]) -> usize
 }
 
 /// Writes all but the text, with a checksum field of zero, and answers the length of the whole.
-fn write_unsummed(
+pub(crate) fn write_unsummed(
     header: &Header,
     options: &[TcpOption<'_>],
     pad: u8,

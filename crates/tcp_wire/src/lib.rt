@@ -2,8 +2,9 @@
 //!
 //! - [`decode`] reads bytes as a [`Segment`], or answers the first fault, a [`DecodeError`]; [`encode`] writes one.
 //! - [`RawSegment`] is a segment whose options stand where they came, for who lists none; [`OptionsLeft`] takes them in turn, as
-//!   [`TcpOption`]s.
-//! - [`Header`] is the fixed header's fields; [`write_around`] writes a segment around text that is in its place already.
+//!   [`TcpOption`]s. `parse_vouched` reads one whose checksum a device has checked.
+//! - [`Header`] is the fixed header's fields; [`write_around`] writes a segment around text that is in its place already,
+//!   [`write_around_partial`] does so for a device that sums it, and [`write_front`] in front of text that stays elsewhere.
 //! - [`Seq`], [`Addr`], [`Flags`], the sums and [`laws`] are `tcp_numbers`'.
 //!
 //! It keeps no state and takes no memory. Left out: IP's own header, options' meaning, and what a connection makes of a segment.
@@ -12,20 +13,25 @@
 mod decoding;
 mod encoding;
 mod fault;
+mod front;
 mod header;
 mod option;
 mod option_reading;
 mod option_writing;
 mod options_left;
+mod partial;
 mod raw;
 mod segment;
+mod vouched;
 
 pub use decoding::decode;
 pub use encoding::{encode, write_around};
 pub use fault::DecodeError;
+pub use front::write_front;
 pub use header::{Header, text_offset};
 pub use option::TcpOption;
 pub use options_left::OptionsLeft;
+pub use partial::write_around_partial;
 pub use raw::RawSegment;
 pub use segment::Segment;
 pub use tcp_numbers::{Addr, Flags, Seq, checks, checksum, laws, word_sum};

@@ -10,17 +10,17 @@ use Rattle.tcp_reasm.proofs.Turns.{turn_laid, turn_unread}
 use Rattle.tcp_reasm.proofs.lay.lay.Goals as goal
 
 pub returns-then-is_empty-clause-len : goal.returns-then-is_empty-clause-len
-returns-then-is_empty-clause-len g c = ap length c.write.ensures ∙ length_put (c.args.unread + c.args.place) c.args.text.now c.args.ring.now
+returns-then-is_empty-clause-len g c = ap length c.write.ensures.bytes ∙ length_put (c.args.unread + c.args.place) c.args.text.now c.args.ring.now.bytes
 
 pub returns-then-is_empty-clause-unread : goal.returns-then-is_empty-clause-unread
 returns-then-is_empty-clause-unread g c =
-    ap (take c.args.unread) c.write.ensures ∙ take_put c.args.unread (c.args.unread + c.args.place) c.args.text.now c.args.ring.now (omega arith)
+    ap (take c.args.unread) c.write.ensures.bytes ∙ take_put c.args.unread (c.args.unread + c.args.place) c.args.text.now c.args.ring.now.bytes (omega arith)
 
 pub returns-then-is_empty-clause-window : goal.returns-then-is_empty-clause-window
 returns-then-is_empty-clause-window g c =
-    ap (drop c.args.unread) c.write.ensures
-    ∙ drop_put c.args.unread c.args.place (c.args.unread + c.args.place) c.args.text.now c.args.ring.now refl
-    ∙ put_laid c.args.table.now c.args.place c.args.text.now (drop c.args.unread c.args.ring.now) (grind (arith, common_steps, c.is_empty.ensures))
+    ap (drop c.args.unread) c.write.ensures.bytes
+    ∙ drop_put c.args.unread c.args.place (c.args.unread + c.args.place) c.args.text.now c.args.ring.now.bytes refl
+    ∙ put_laid c.args.table.now c.args.place c.args.text.now (drop c.args.unread c.args.ring.now.bytes) (grind (arith, common_steps, c.is_empty.ensures))
 
 pub loop-next-preserved : goal.loop-next-preserved
 loop-next-preserved g c =
@@ -38,10 +38,11 @@ loop-next-preserved g c =
     record {
       least = omega arith;
       most = omega arith;
-      size = ap length c.write-in-loop-next.ensures ∙ length_put (c.args.unread + from) middle c.loop-next.ring ∙ c.loop-next.invariant.size;
-      unread = turn_unread c.args.unread from middle c.loop-next.ring c.write-in-loop-next.new.self c.write-in-loop-next.ensures ∙ c.loop-next.invariant.unread;
+      ready = omega arith;
+      size = ap length c.write-in-loop-next.ensures.bytes ∙ length_put (c.args.unread + from) middle c.loop-next.ring.bytes ∙ c.loop-next.invariant.size;
+      unread = turn_unread c.args.unread from middle c.loop-next.ring.bytes c.write-in-loop-next.new.self.bytes c.write-in-loop-next.ensures.bytes ∙ c.loop-next.invariant.unread;
       window =
-          turn_laid all place next from to end c.args.unread text middle c.loop-next.ring c.write-in-loop-next.new.self (omega arith) (omega arith) refl is_from c.gap_to-to.ensures.value is_middle c.write-in-loop-next.ensures
+          turn_laid all place next from to end c.args.unread text middle c.loop-next.ring.bytes c.write-in-loop-next.new.self.bytes (omega arith) (omega arith) refl is_from c.gap_to-to.ensures.value is_middle c.write-in-loop-next.ensures.bytes
           ∙ c.loop-next.invariant.window;
     }
 
@@ -58,7 +59,7 @@ pub returns-clause-window : goal.returns-clause-window
 returns-clause-window g c =
     let stamps = stamp_of_run (ranked (runs_in c.args.table.now)) in
     let next : ℕ = c.loop-next.next in
-    let bytes : List ℕ = drop c.args.unread c.loop-next.ring in
+    let bytes : List ℕ = drop c.args.unread c.loop-next.ring.bytes in
     sym (laid_nothing stamps 0 next bytes)
     ∙ ap (λ (rest : List ℕ). laid stamps 0 next rest bytes) (sym (drop_all (next - c.args.place) c.args.text.now (omega arith)))
     ∙ c.loop-next.invariant.window

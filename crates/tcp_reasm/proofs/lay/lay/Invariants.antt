@@ -7,10 +7,11 @@ abbrev pub invariant-loop-next : goal.invariant-loop-next
 invariant-loop-next g l = record {
   least : l.place ≤ l.next;
   most : l.next ≤ l.end;
-  size : length l.ring ≡ length l.initial.ring;
-  unread : take l.unread l.ring ≡ take l.unread l.initial.ring;
+  ready : l.initial.ring.ready ≤ l.ring.ready;
+  size : length l.ring.bytes ≡ length l.initial.ring.bytes;
+  unread : take l.unread l.ring.bytes ≡ take l.unread l.initial.ring.bytes;
   window : (let stamps = stamp_of_run (ranked (runs_in l.table)) in
-      laid stamps 0 l.next (drop (l.next - l.place) l.text) (drop l.unread l.ring) ≡ laid stamps 0 l.place l.text (drop l.unread l.initial.ring));
+      laid stamps 0 l.next (drop (l.next - l.place) l.text) (drop l.unread l.ring.bytes) ≡ laid stamps 0 l.place l.text (drop l.unread l.initial.ring.bytes));
 }
 
 abbrev pub decreases-loop-next : goal.decreases-loop-next

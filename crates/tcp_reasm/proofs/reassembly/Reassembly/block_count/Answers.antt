@@ -10,7 +10,7 @@ returns-clause-value g c =
     let table = c.self.inside.table.items in
     let count = c.min.result in
     let few : count ≤ length table = omega (arith, c.min.ensures, c.len.ensures.value) in
-    let are = blocks_are c.self.inside.ring c.self.inside.unread count table (omega (arith, c.min.ensures, c.len.ensures.value)) c.self.invariant.inside c.self.invariant.away in
+    let are = blocks_are c.self.inside.ring.bytes c.self.inside.unread count table (omega (arith, c.min.ensures, c.len.ensures.value)) c.self.invariant.0.inside c.self.invariant.0.away in
     sym (length-take-le count table few)
     ∙ sym (length-map (take count table) run_of)
     ∙ sym (length-map (runs_in (take count table)) edges_of)

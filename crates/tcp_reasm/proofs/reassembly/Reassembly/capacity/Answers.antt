@@ -7,7 +7,7 @@ use Rattle.tcp_reasm.proofs.reassembly.Reassembly.capacity.Goals as goal
 
 pub returns-clause-sound : goal.returns-clause-sound
 returns-clause-sound g c =
-    subst IsInbox c.self.view_is (kept_sound c.self.inside.ring c.self.inside.unread c.self.inside.table.items c.self.invariant)
+    subst IsInbox c.self.view_is (kept_sound c.self.inside.ring.bytes c.self.inside.unread c.self.inside.table.items c.self.invariant.0)
 
 pub returns-clause-value : goal.returns-clause-value
 returns-clause-value g c = grind (arith, common_steps)

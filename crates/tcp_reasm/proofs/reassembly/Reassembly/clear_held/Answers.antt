@@ -9,17 +9,17 @@ use Rattle.tcp_reasm.proofs.reassembly.Reassembly.clear_held.Goals as goal
 
 pub returns-clause-state : goal.returns-clause-state
 returns-clause-state g c =
-    ap (λ (table : List Entry). inbox_of c.self.inside.ring c.self.inside.unread table) c.clear.ensures
-    ∙ bare_is_without c.self.inside.ring c.self.inside.unread c.self.inside.table.items c.self.invariant.fits
+    ap (λ (table : List Entry). inbox_of c.self.inside.ring.bytes c.self.inside.unread table) c.clear.ensures
+    ∙ bare_is_without c.self.inside.ring.bytes c.self.inside.unread c.self.inside.table.items c.self.invariant.0.fits
     ∙ ap without_held c.self.view_is
 
 pub returns-clause-sound : goal.returns-clause-sound
 returns-clause-sound g c =
-    subst (λ (table : List Entry). IsInbox (inbox_of c.self.inside.ring c.self.inside.unread table)) (sym c.clear.ensures)
-    (kept_sound c.self.inside.ring c.self.inside.unread [] (record {
-      some = c.self.invariant.some;
-      most = c.self.invariant.most;
-      fits = c.self.invariant.fits;
+    subst (λ (table : List Entry). IsInbox (inbox_of c.self.inside.ring.bytes c.self.inside.unread table)) (sym c.clear.ensures)
+    (kept_sound c.self.inside.ring.bytes c.self.inside.unread [] (record {
+      some = c.self.invariant.0.some;
+      most = c.self.invariant.0.most;
+      fits = c.self.invariant.0.fits;
       inside = tt;
       away = tt;
       few = omega arith;

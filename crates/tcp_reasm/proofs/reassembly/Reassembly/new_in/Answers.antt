@@ -8,16 +8,16 @@ use Rattle.tcp_reasm.proofs.reassembly.Reassembly.new_in.Goals as goal
 
 pub returns-clause-ok : goal.returns-clause-ok
 returns-clause-ok g c =
-    let size : length c.in-Ok.ring ≡ c.args.capacity = c.in-Ok.ensures in
-    ap (λ (table : List Entry). inbox_of c.in-Ok.ring 0 table) c.new.ensures
-    ∙ empty_view c.in-Ok.ring
+    let size : length c.in-Ok.ring.bytes ≡ c.args.capacity = c.in-Ok.ensures in
+    ap (λ (table : List Entry). inbox_of c.in-Ok.ring.bytes 0 table) c.new.ensures
+    ∙ empty_view c.in-Ok.ring.bytes
     ∙ ap empty_inbox size
 
 pub returns-clause-sound : goal.returns-clause-sound
 returns-clause-sound g c =
-    let size : length c.in-Ok.ring ≡ c.args.capacity = c.in-Ok.ensures in
-    subst (λ (table : List Entry). IsInbox (inbox_of c.in-Ok.ring 0 table)) (sym c.new.ensures)
-    (kept_sound c.in-Ok.ring 0 [] (record {
+    let size : length c.in-Ok.ring.bytes ≡ c.args.capacity = c.in-Ok.ensures in
+    subst (λ (table : List Entry). IsInbox (inbox_of c.in-Ok.ring.bytes 0 table)) (sym c.new.ensures)
+    (kept_sound c.in-Ok.ring.bytes 0 [] (record {
       some = omega (arith, size);
       most = omega (arith, size);
       fits = omega arith;

@@ -1,0 +1,44 @@
+-- A segment that is written in front of its text.
+use Rattle.std.proofs.Common.{◌≡◌, ℕ, ◌≤◌, List, [], ◌++◌, map, take, drop, append-nil, sym, subst, ◌∙◌, ap, arith}
+use Rattle.std.proofs.lemmas.List.{take_at, drop_at}
+use Rattle.tcp_wire.specs.declared.header.Header.{Header}
+use Rattle.tcp_wire.specs.declared.option.TcpOption.{TcpOption}
+use Rattle.tcp_wire.specs.Checksum.{AreBytes}
+use Rattle.tcp_wire.specs.Options.{OptionContent}
+use Rattle.tcp_wire.specs.View.{option_content, content_of, text_offset}
+use Rattle.tcp_wire.specs.Wire.{Content, IsValid, wire_length, encoded_bytes}
+use Rattle.tcp_wire.proofs.Lemmas.{length_encoded}
+use Rattle.tcp_halves.specs.declared.due.Due.{Due}
+use Rattle.tcp_halves.specs.Config.{max_mss}
+use Rattle.tcp_conn.specs.State.{State}
+use Rattle.tcp_conn.specs.Endpoint.{FitsFields}
+use Rattle.tcp_conn.specs.Due.{Lies}
+use Rattle.tcp_conn.specs.Blocks.{blocks_to_report, sack_options}
+use Rattle.tcp_conn.specs.Forms.{text_of, plain_segment}
+use Rattle.tcp_conn.proofs.Segments.{plain_segment_valid, text_as_long, offset_of_report, report_options_short}
+
+-- header, options and lent text say the segment that is due
+pub says_due : (s : State) (due : Due) (header : Header) (options : List TcpOption) (text : List ℕ) → map option_content options ≡ sack_options (blocks_to_report s)
+    → text ≡ text_of s.sending due → content_of header (sack_options (blocks_to_report s)) 0 (text_of s.sending due) ≡ plain_segment s due
+    → content_of header (map option_content options) 0 text ≡ plain_segment s due
+says_due s due header options text reports text_is says =
+    ap (λ (listed : List OptionContent). content_of header listed 0 text) reports
+    ∙ ap (content_of header (sack_options (blocks_to_report s)) 0) text_is ∙ says
+
+-- it can be written
+pub due_valid : (s : State) (due : Due) (text : List ℕ) → Lies s.sending max_mss due → FitsFields s → AreBytes text → text ≡ text_of s.sending due → IsValid (plain_segment s due)
+due_valid s due text lies fits bytes text_is =
+    plain_segment_valid s due fits (subst (λ (xs : List ℕ). AreBytes xs) text_is bytes) (omega (arith, text_as_long s.sending due lies, lies.short))
+
+-- and its header has room
+pub front_fits : (s : State) (options : List TcpOption) → map option_content options ≡ sack_options (blocks_to_report s) → text_offset (map option_content options) 0 ≤ 56
+front_fits s options reports =
+    omega (arith, ap (λ (listed : List OptionContent). text_offset listed 0) reports, offset_of_report s, report_options_short s)
+
+-- a segment without text is all header
+pub bare_bytes : (src dst : List ℕ) (v : Content) (n : ℕ) (old out : List ℕ) → n ≡ wire_length v → out ≡ encoded_bytes src dst v ++ drop n old → take n out ++ [] ≡ encoded_bytes src dst v
+bare_bytes src dst v n old out len is =
+    append-nil (take n out) ∙ ap (take n) is ∙ take_at (encoded_bytes src dst v) (drop n old) n (length_encoded src dst v ∙ sym len)
+
+pub bare_rest : (src dst : List ℕ) (v : Content) (n : ℕ) (old out : List ℕ) → n ≡ wire_length v → out ≡ encoded_bytes src dst v ++ drop n old → drop n out ≡ drop n old
+bare_rest src dst v n old out len is = ap (drop n) is ∙ drop_at (encoded_bytes src dst v) (drop n old) n (length_encoded src dst v ∙ sym len)

@@ -1,0 +1,51 @@
+//! What both halves lend of their buffers, and what is taken away without a copy.
+ghost use Rattle.std.specs.Prelude.{◌≡◌, ◌+◌, ◌<◌, ◌++◌, length, min};
+ghost use Rattle.tcp_wire.specs.Checksum.{AreBytes};
+ghost use Rattle.tcp_halves.specs.Config.{max_mss};
+ghost use Rattle.tcp_halves.specs.Due.{Lies, count_of, text_of};
+ghost use Rattle.tcp_halves.specs.Receiver.{after_handing};
+
+use crate::due::Due;
+use crate::receiver::Receiver;
+use crate::sender::Sender;
+use std::alloc::Allocator;
+
+impl<A: Allocator> Receiver<A> {
+    /// Takes the first unread bytes away, at most so many, and answers their count.
+    #[tactic(auto, using(crate::proofs::Placing::whole_read, crate::proofs::Placing::capacity_read))]
+    pub fn consume(&mut self, most: usize) -> usize
+        ensures count { result ≡ min most (length self.old.inbox.unread) }
+        ensures state { self.new ≡ after_handing self.old most }
+        ensures capacity { self.new.inbox.capacity ≡ self.old.inbox.capacity }
+        ensures whole { length self.new.inbox.unread + length self.new.inbox.held ≡ self.new.inbox.capacity }
+    {
+        self.inbox.consume(most)
+    }
+}
+
+/// Two slices are bytes together, as callers learn; it does nothing when it runs.
+fn are_bytes(first: &[u8], second: &[u8])
+    ensures { AreBytes (first.now ++ second.now) }
+{
+    let _first = first.len();
+    let _second = second.len();
+}
+
+impl<A: Allocator> Sender<A> {
+    /// The text of what is due where it lies in the queue, in two parts, of which the first is empty only where there is no text.
+    pub fn text(&self, due: Due) -> (&[u8], &[u8])
+        requires lies { Lies self.now max_mss due }
+        ensures text { result.0.now ++ result.1.now ≡ text_of self.now due }
+        ensures bytes { AreBytes (result.0.now ++ result.1.now) }
+        ensures first { 0 < count_of due → 0 < length result.0.now }
+    {
+        let count = due.count();
+        if count == 0 {
+            return (&[], &[]);
+        }
+        let place = self.place_of(self.start_of(due));
+        let (first, second) = self.queue.lend(place as usize, count);
+        are_bytes(first, second);
+        (first, second)
+    }
+}
