@@ -86,16 +86,18 @@ async function passing(tab, tools, expect) {
     await tab.size(1600, 6000);
 }
 
-// Where the browser has no such memory the page says so.
+// Where the browser has no WebAssembly the page says so, and shows ladders that were drawn before.
 async function unable(tab, tools, expect, address) {
     const { identifier } = await tab.send("Page.addScriptToEvaluateOnNewDocument", {
-        source: "WebAssembly.compile = () => Promise.reject(new WebAssembly.CompileError('memory64'));",
+        source: "WebAssembly.compile = () => Promise.reject(new WebAssembly.CompileError('none'));",
     });
     await tab.send("Page.navigate", { url: "about:blank" });
     await tab.send("Page.navigate", { url: address });
     await tab.until(() => document.getElementById("unsupported")?.hidden === false);
-    expect("a browser that can't", await tools.run(
-        () => /64-bit\s+memory/.test(document.getElementById("unsupported").innerText)), true);
+    expect("a browser that can't", await tools.run(() => [
+        /no\s+WebAssembly/.test(document.getElementById("unsupported").innerText),
+        document.querySelectorAll("#finished svg.ladder").length, document.getElementById("main").hidden,
+    ]), [true, 3, true]);
     await tab.send("Page.removeScriptToEvaluateOnNewDocument", { identifier });
     await tab.open(address);
     expect("one that can", await tools.run(() => document.getElementById("unsupported").hidden), true);

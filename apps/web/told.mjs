@@ -1,5 +1,6 @@
 // What the page says in words: of an event, of a refusal, of a fault (docs/FORMATS.md).
 import { fields_of, other } from "./run.mjs";
+import { word_fault } from "./words.mjs";
 
 // Of a refused call or step: its cause, and its cure.
 const REFUSALS = {
@@ -184,8 +185,7 @@ function cause_of(lines, at) {
         return { cause: "a config line after the first event", cure: "move it before the first event" };
     }
     if (forms.length > 0) {
-        return { cause: "a word is missing, misspelled or too many, or a number is out of its range",
-            cure: forms.join(", ") };
+        return { cause: word_fault(line) ?? "it has no form", cure: forms.join(", ") };
     }
-    return { cause: `no line begins with “${word.slice(0, 24)}”`, cure: "see “Lines of a script” below" };
+    return { cause: word_fault(line), cure: "see “Lines of a script” below" };
 }
