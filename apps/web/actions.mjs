@@ -110,19 +110,19 @@ function numbers_of(seed) {
     };
 }
 
-const WORDS = ["every byte", "in order", "once", "whatever", "the network", "loses"];
+const PHRASES = ["every byte", "in order", "once", "whatever", "the network", "loses"];
 
 // A handshake, then both users sending over a way that loses a fifth of the segments; then no more is lost, and both close.
 export function lossy_script(core, seed) {
-    const next = numbers_of(seed), one_of = list => list[Math.floor(next() * list.length)];
+    const next = numbers_of(seed), pick = list => list[Math.floor(next() * list.length)];
     let text = with_lines(`# A lossy way, with the seed ${seed}\n`, ["listen B", "connect A"]);
     for (const side of ["A", "B", "A"]) {
         text = carried(core, text, side).script;
     }
     for (let step = 0; step < STEPS; step += 1) {
-        const side = one_of(SIDES), draw = next();
+        const side = pick(SIDES), draw = next();
         if (draw < 0.3) {
-            text = with_lines(text, [send_line(side, one_of(WORDS))]);
+            text = with_lines(text, [send_line(side, pick(PHRASES))]);
         } else if (draw < 0.75) {
             text = carried(core, text, side, () => next() < 0.2).script;
         } else {

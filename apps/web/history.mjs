@@ -1,13 +1,13 @@
 // The texts that a field has had. Each change can be undone, whoever makes it: keys, buttons, an example, a file.
 
-const MOST = 200, PAUSE = 700;
+const MOST_TEXTS = 200, TOGETHER = 700;
 
 export function history(field, on_change) {
     let texts = [field.value], at = 0, last = 0;
 
     // What is typed without a pause is one change.
     function note(is_typing) {
-        const now = performance.now(), joins = is_typing && now - last < PAUSE && at > 0 && at === texts.length - 1;
+        const now = performance.now(), joins = is_typing && now - last < TOGETHER && at > 0 && at === texts.length - 1;
         last = is_typing ? now : 0;
         if (field.value === texts[at]) {
             return;
@@ -16,7 +16,7 @@ export function history(field, on_change) {
             texts[at] = field.value;
             return;
         }
-        texts = [...texts.slice(0, at + 1), field.value].slice(-MOST);
+        texts = [...texts.slice(0, at + 1), field.value].slice(-MOST_TEXTS);
         at = texts.length - 1;
     }
 

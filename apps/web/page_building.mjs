@@ -75,7 +75,7 @@ async function segment_buttons(tools, expect) {
 async function to_the_end(tools, expect) {
     await tools.run(() => { document.getElementById("report").open = true; });
     const scripts = [["first run", FIRST], ["nothing sent yet", "listen B\nconnect A\nsend A 6162\nsend B 63\n"],
-        ["closed", "listen B\nconnect A\nsend A 6162\nclose A\nclose B\n"]];
+        ["closed", `${FIRST}close A\nclose B\n`]];
     for (const [name, text] of scripts) {
         await tools.edit(text);
         await tools.run(press, "Run to the end");
@@ -87,6 +87,7 @@ async function to_the_end(tools, expect) {
             expect("closed: both", [A.phase, B.phase], ["CLOSED", "CLOSED"]);
         }
     }
+    let lost = 0;
     for (const seed of SEEDS) {
         const text = await tools.run(number => globalThis.lossy_text(number), seed);
         expect(`seed ${seed}: the same again`, await tools.run(number => globalThis.lossy_text(number), seed), text);
@@ -94,8 +95,10 @@ async function to_the_end(tools, expect) {
         const { report, is_fault } = await tools.shown(), { A, B } = ends_of(report);
         expect(`seed ${seed}: delivered`, [is_fault, B.delivered, A.delivered, A.phase, B.phase],
             [false, A.accepted, B.accepted, "CLOSED", "CLOSED"]);
-        expect(`seed ${seed}: something is sent and lost`, [Number(A.accepted) > 0, /^# lost/m.test(text)], [true, true]);
+        expect(`seed ${seed}: something is sent`, Number(A.accepted) > 0, true);
+        lost += /^# lost/m.test(text) ? 1 : 0;
     }
+    expect("most lose something", lost > SEEDS.length / 2, true);
     await tools.run(press, "A random lossy script");
     expect("the button's script", /^# A lossy way, with the seed \d+\n/.test(await script(tools)), true);
 }

@@ -158,7 +158,7 @@ async function links(tab, tools, expect, address) {
     const link = await tools.run(() => location.href);
     expect("the link names the page", link.startsWith(`${address}#script=`), true);
     expect("the link is short", link.length < address.length + 200, true);
-    await tab.send("Page.navigate", { url: "about:blank" });
+    await tab.leave();
     await tab.open(link);
     expect("the link's script", await tools.run(() => document.getElementById("script").value), script);
     expect("the link's event", (await tools.shown()).place, "7 of 53");
@@ -167,7 +167,7 @@ async function links(tab, tools, expect, address) {
     await tools.run(() => document.getElementById("link").click());
     await tab.until(before => location.href !== before, link);
     const faulty = await tools.run(() => location.href);
-    await tab.send("Page.navigate", { url: "about:blank" });
+    await tab.leave();
     await tab.open(faulty);
     await tab.until(() => !document.getElementById("callout").hidden);
     await tab.key("ArrowRight");
@@ -176,7 +176,7 @@ async function links(tab, tools, expect, address) {
         document.getElementById("picture").childElementCount,
     ]), [true, true, 0]);
     await tools.edit(script);
-    expect("mended", (await tools.shown()).place, "0 of 53");
+    expect("mended", (await tools.shown()).place, "7 of 53");
     await tools.run(() => { location.hash = "#script=%%%"; });
     await tab.until(() => document.getElementById("said").textContent.includes("no script"));
     expect("a link without a script leaves the script", await tools.run(() => document.getElementById("script").value),

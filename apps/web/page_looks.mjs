@@ -88,10 +88,16 @@ async function passing(tab, tools, expect) {
 
 // Where the browser has no WebAssembly the page says so, and shows ladders that were drawn before.
 async function unable(tab, tools, expect, address) {
+    // An example, so that the page doesn't ask before it goes.
+    await tools.run(() => {
+        const field = document.getElementById("example");
+        field.value = "0";
+        field.dispatchEvent(new Event("change"));
+    });
     const { identifier } = await tab.send("Page.addScriptToEvaluateOnNewDocument", {
         source: "WebAssembly.compile = () => Promise.reject(new WebAssembly.CompileError('none'));",
     });
-    await tab.send("Page.navigate", { url: "about:blank" });
+    await tab.leave();
     await tab.send("Page.navigate", { url: address });
     await tab.until(() => document.getElementById("unsupported")?.hidden === false);
     expect("a browser that can't", await tools.run(() => [

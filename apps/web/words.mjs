@@ -21,7 +21,7 @@ function hex(word) {
 
 const side = one_of("A", "B"), capacity = number(0, 4294967295), segment = number(0, 4294967295);
 
-const SETTINGS = {
+const KEYS = {
     isn: number(0, 4294967295), mss: number(0, 65535), send: capacity, recv: capacity,
     shift: word => word === "none" ? null : number(0, 255)(word), sack: one_of("on", "off"),
     limit: number(0, "9223372036854775807"),
@@ -36,15 +36,15 @@ const EVENTS = {
     damage: [["SIDE", side], ["K", segment], ["PLACE", number(0, 4294967295)], ["XOR", number(0, 255)]],
 };
 
-function form_of(words) {
+function places_in(words) {
     if (words[0] !== "config") {
         return EVENTS[words[0]] ?? null;
     }
     if (words[1] === "life") {
         return [["life", one_of("life", "life")], ["N", number(2, 2147483648)]];
     }
-    const key = one_of(...Object.keys(SETTINGS));
-    return [["SIDE", side], ["a key", key], ["its value", SETTINGS[words[2]] ?? (() => null)]];
+    const key = one_of(...Object.keys(KEYS));
+    return [["SIDE", side], ["a key", key], ["its value", KEYS[words[2]] ?? (() => null)]];
 }
 
 // One sentence on the first word that is wrong, or null where none is found.
@@ -57,7 +57,7 @@ export function word_fault(line) {
             : wrong ? `“${words[1]}” ${wrong}`
                 : words[2] in EVENTS ? word_fault(rest) : `“${words[2]}” is no event that can be repeated`;
     }
-    const form = form_of(words);
+    const form = places_in(words);
     if (form === null) {
         return `no line begins with “${words[0].slice(0, 24)}”`;
     }
