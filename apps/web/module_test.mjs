@@ -1,5 +1,5 @@
 // Runs every script of the cases in the module, and compares byte for byte with the stored reports.
-// node --experimental-wasm-memory64 apps/web/module_test.mjs [MODULE]
+// node apps/web/module_test.mjs [MODULE]
 import fs from "node:fs";
 import path from "node:path";
 import { fileURLToPath } from "node:url";

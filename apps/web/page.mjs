@@ -1,7 +1,7 @@
 // The page: the script is replayed by the module as it is edited, and what comes of it is shown.
 import { calls, WELL, REFUSED, FAULT } from "./module.mjs";
 import { comment_at, event_at, other, places_of, read_run, segment_at, state_of } from "./run.mjs";
-import { fault_of, FORMS, NO_MEMORY_FAULT, printable, segments_told, sentence } from "./told.mjs";
+import { fault_of, FORMS, NO_MEMORY_FAULT, printable, rule_told, segments_told, sentence } from "./told.mjs";
 import { key_drawn, whole_drawn } from "./draw.mjs";
 import { end_drawn } from "./bars.mjs";
 import { editor } from "./editor.mjs";
@@ -27,8 +27,8 @@ const view = ladder(at("ladder"), at("heads"), at("canvas"), at("picture"), { on
 
 // What is shown: the last script that was taken, its run, and the current event.
 let core = null, taken = "", run = null, places = null, refused_lines = new Set(), step = 0, chosen = null, waiting = 0;
-// The script that was saved or linked last, and the timer of a play.
-let kept = "", playing = 0;
+// The script that was saved or linked last, and the timers of a play and of a rule that is asked for.
+let kept = "", playing = 0, asking = 0;
 
 function replay(is_typing) {
     const script = field.value;
@@ -82,6 +82,7 @@ function go(row) {
         announce(told);
     }
     at("comment").textContent = comment_at(places, step);
+    show_rule(event);
     at("ends-place").textContent = step === 0 ? "before the first event" : `after event ${step}`;
     for (const side of ["A", "B"]) {
         at(`end-${side}`).innerHTML = end_drawn(state_of(run, step, side));
@@ -94,6 +95,25 @@ function go(row) {
         show_segment(segment, event.arrow?.first ?? segment.number);
     } else {
         show_segment(null);
+    }
+}
+
+// By which rule a segment was judged that arrived. A long script is replayed for it once the stepping rests.
+function show_rule(event) {
+    clearTimeout(asking);
+    at("rule").textContent = "";
+    if (event === null || event.kind !== "deliver" || event.refused || event.is_repeat) {
+        return;
+    }
+    const show = () => {
+        const { answer, text } = core.rule(taken, event.row - 1), side = other(event.side);
+        at("rule").textContent = answer !== WELL ? ""
+            : rule_told(text, state_of(run, event.row - 1, side), state_of(run, event.row, side));
+    };
+    if (run.count < SLOW) {
+        show();
+    } else {
+        asking = setTimeout(show, 100);
     }
 }
 

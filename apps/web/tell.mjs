@@ -4,8 +4,8 @@ import fs from "node:fs";
 import path from "node:path";
 import { fileURLToPath } from "node:url";
 import { calls, FAULT, WELL } from "./module.mjs";
-import { SIDES, event_at, fields_of, other, phase_of, read_run } from "./run.mjs";
-import { fault_of, segments_told, sentence } from "./told.mjs";
+import { SIDES, event_at, fields_of, other, phase_of, read_run, state_of } from "./run.mjs";
+import { fault_of, rule_told, segments_told, sentence } from "./told.mjs";
 
 const HELP = `Usage: node apps/web/tell.mjs [--ladder] [--module FILE] FILE
 
@@ -94,8 +94,18 @@ function ladder(run) {
     return lines.join("\n");
 }
 
-function sentences(run) {
-    return Array.from({ length: run.count }, (_, at) => `${at + 1}. ${sentence(event_at(run, at + 1))}`).join("\n");
+// By which rule a delivered segment was judged, behind the event's sentence.
+function why(core, script, run, event) {
+    if (event.kind !== "deliver" || event.refused || event.is_repeat) {
+        return "";
+    }
+    const { answer, text } = core.rule(script, event.row - 1), side = other(event.side);
+    return answer !== WELL ? "" : ` ${rule_told(text, state_of(run, event.row - 1, side), state_of(run, event.row, side))}`;
+}
+
+function sentences(core, script, run) {
+    return Array.from({ length: run.count }, (_, at) => event_at(run, at + 1)).map(
+        event => `${event.row}. ${sentence(event)}${why(core, script, run, event)}`).join("\n");
 }
 
 async function main(args) {
@@ -117,7 +127,7 @@ async function main(args) {
     }
     const run = read_run(text);
     if (run.count > 0) {
-        console.log(words.ladder ? ladder(run) : sentences(run));
+        console.log(words.ladder ? ladder(run) : sentences(core, script, run));
     }
     return 0;
 }

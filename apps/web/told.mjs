@@ -79,6 +79,37 @@ export function segments_told(arrow_or_segment, first = arrow_or_segment.number)
     return count === 1 ? `segment ${first}` : `segments ${first} to ${first + count - 1}`;
 }
 
+// What each rule of an arrival says (docs/RULES.md), by the name that the module has for it.
+const RULES = {
+    foreign: "it is for another end, or from another peer",
+    "reset-ignored": "a reset that nothing follows from",
+    stray: "it comes to no connection: a reset answers it",
+    "ack-of-listen": "LISTEN has sent nothing that could be acknowledged: a reset answers it",
+    "opens-nothing": "it doesn't open this connection",
+    "peer-opens": "a SYN in LISTEN opens the connection",
+    "ack-of-no-syn": "it acknowledges something else than the SYN: a reset answers it",
+    "peer-refuses": "a reset answers the SYN",
+    "peer-accepts": "a SYN with its acknowledgement answers the SYN",
+    unacceptable: "it lies outside the window: an acknowledgement shows where that lies",
+    "peer-resets": "a reset at exactly RCV.NXT",
+    "reset-elsewhere": "a reset elsewhere in the window: an acknowledgement asks for the exact one",
+    "syn-in-window": "a SYN in the window: an acknowledgement answers it",
+    "no-ack": "it acknowledges nothing, so nothing of it counts",
+    "acks-unsent": "it acknowledges what wasn't sent: an acknowledgement answers it",
+    "handshake-refused": "it doesn't acknowledge the SYN: a reset answers it",
+    "handshake-refused-shut": "it doesn't acknowledge the SYN, and the window is 0: a reset answers it",
+    taken: "all of it is taken",
+    "taken-shut": "the window is 0: its acknowledgement and window are taken, its text and FIN are not",
+};
+
+// The rule as the module has it, `NAME SECTION`, and what the states before and after say that it brought.
+export function rule_told(text, before, after) {
+    const name = text.slice(0, text.indexOf(" ")), section = text.slice(name.length + 1);
+    const came = after.ordered !== before.ordered ? " Its text comes in order."
+        : after.held !== before.held ? " Its text comes early and is held." : "";
+    return `Rule “${name}”: ${RULES[name] ?? ""} (RFC 9293, ${section}).${came}`;
+}
+
 const CALLS = {
     listen: side => `${side}'s user waits for a connection.`,
     connect: side => `${side}'s user opens a connection to ${other(side)}.`,
