@@ -18,6 +18,7 @@ pub mod Writing
 pub mod Emission
 pub mod Status
 pub mod AtOnce
+pub mod Taking
 pub mod Stray
 pub mod PhaseTable
 pub mod Rest

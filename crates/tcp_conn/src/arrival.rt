@@ -1,17 +1,17 @@
 //! What an arrival does (RFC 9293, 3.10.7): each judgement's effect, a method for each rule.
-ghost use Rattle.std.specs.Prelude.{◌≡◌, length, nat_lt};
-ghost use Rattle.tcp_reasm.specs.Reassembly.{runs};
+ghost use Rattle.std.specs.Prelude.{◌≡◌};
 ghost use Rattle.tcp_wire.specs.View.{raw_content};
-ghost use Rattle.tcp_conn.specs.Arrival.{after_acked_text, after_arrival, after_fin, after_its_ack, after_its_text, after_judgement, after_news, after_own_fin, after_own_syn, after_peer_accepts, after_peer_opens, after_reported_blocks, after_taking, after_taking_shut, arrival_answer, reset_at_ack, reset_of_stray, with_reset};
-ghost use Rattle.tcp_conn.specs.AtOnce.{answers_at_once, breaks_order, is_urgent};
+ghost use Rattle.tcp_conn.specs.Arrival.{after_acked_text, after_arrival, after_fin, after_its_ack, after_its_text, after_judgement, after_news, after_own_fin, after_own_syn, after_peer_accepts, after_peer_opens, after_reported_blocks, after_taking, after_taking_shut, arrival_answer, reset_at_ack, reset_of_stray, takes_fin, with_reset};
 ghost use Rattle.tcp_conn.specs.Judgement.{judgement};
 ghost use Rattle.tcp_conn.specs.State.{IsWithin};
+ghost use Rattle.tcp_conn.specs.Taking.{brought_kept, brought_text, is_window_news, takes_window};
 
 use crate::endpoint::Endpoint;
 use crate::judgement::{Judgement, count_numbers};
-use crate::outcome::{Arrival, Taken};
+use crate::outcome::Arrival;
 use crate::phase::{Ending, Phase};
 use crate::phases::{is_closed, is_syn_received, phase_after_fin, takes_text};
+use crate::taking::{Brought, News, brings};
 use std::alloc::Allocator;
 use tcp_halves::{Peer, WaitingReset, link_of};
 use tcp_wire::{Addr, RawSegment, Seq};
@@ -49,77 +49,27 @@ pub(crate) fn reset_of_stray(src: Addr, segment: &RawSegment<'_>) -> WaitingRese
 
 impl<A: Allocator> Endpoint<A> {
     /// Takes bytes that came from `src` to `dst`, whatever they are (RFC 9293, 3.10.7).
+    #[tactic(auto, unfolding(crate::specs::Arrival::arrival_answer, crate::specs::Arrival::after_arrival))]
     pub fn arrive(&mut self, src: Addr, dst: Addr, bytes: &[u8]) -> Arrival
         ensures answer { result ≡ arrival_answer self.old src.0 dst.0 bytes.now }
         ensures state { self.new ≡ after_arrival self.old src.0 dst.0 bytes.now }
         ensures within { IsWithin self.new }
     {
-        self.take(src, dst, bytes).arrival
-    }
-
-    /// The same, and whether the segment has to be answered at once (RFC 5681, 4.2).
-    #[must_use]
-    #[tactic(auto, unfolding(crate::specs::Arrival::arrival_answer, crate::specs::Arrival::after_arrival, crate::specs::AtOnce::answers_at_once))]
-    pub fn take(&mut self, src: Addr, dst: Addr, bytes: &[u8]) -> Taken
-        ensures answer { result.arrival ≡ arrival_answer self.old src.0 dst.0 bytes.now }
-        ensures at_once { result.at_once ≡ answers_at_once self.old src.0 dst.0 bytes.now }
-        ensures state { self.new ≡ after_arrival self.old src.0 dst.0 bytes.now }
-        ensures within { IsWithin self.new }
-    {
-        let taken = match RawSegment::parse(src, dst, bytes) {
+        let arrival = match RawSegment::parse(src, dst, bytes) {
             Ok(segment) => {
                 let judgement = self.judge(src, dst, &segment);
-                let had_gap = self.has_gap();
                 self.follow(judgement, src, &segment);
-                Taken {
-                    arrival: judgement.answer(),
-                    at_once: self.is_urgent(judgement, had_gap, &segment),
-                }
+                judgement.answer()
             }
-            Err(fault) => Taken {
-                arrival: Arrival::Malformed(fault),
-                at_once: false,
-            },
+            Err(fault) => Arrival::Malformed(fault),
         };
         // So that the proof knows what always holds of an end.
         let _ = &self.config;
-        taken
-    }
-
-    /// Whether a segment that was taken by this judgement has to be answered at once (RFC 5681, 4.2).
-    fn is_urgent(&self, judgement: Judgement, had_gap: bool, segment: &RawSegment<'_>) -> bool
-        ensures { result ≡ is_urgent judgement had_gap self.now (raw_content segment.now) }
-    {
-        match judgement {
-            Judgement::Taken => self.owed.ack && self.breaks_order(had_gap, segment),
-            Judgement::TakenShut => self.owed.ack,
-            Judgement::Foreign
-            | Judgement::ResetIgnored
-            | Judgement::OpensNothing
-            | Judgement::NoAck
-            | Judgement::PeerRefuses
-            | Judgement::PeerResets => false,
-            _ => true,
-        }
-    }
-
-    /// Whether a run is held, so that something before it is missing.
-    pub(crate) fn has_gap(&self) -> bool
-        ensures { result ≡ nat_lt 0 (length (runs self.now.receiving.inbox.held)) }
-    {
-        self.receiver.inbox.held_runs() > 0
-    }
-
-    /// Whether it had a FIN, or text that came out of order or filled all or part of a gap.
-    fn breaks_order(&self, had_gap: bool, segment: &RawSegment<'_>) -> bool
-        ensures { result ≡ breaks_order had_gap self.now (raw_content segment.now) }
-    {
-        let is_early = had_gap || self.has_gap();
-        segment.header.flags.is_fin() || !segment.text.is_empty() && is_early
+        arrival
     }
 
     /// What a judgement does.
-    fn follow(&mut self, judgement: Judgement, src: Addr, segment: &RawSegment<'_>)
+    pub(crate) fn follow(&mut self, judgement: Judgement, src: Addr, segment: &RawSegment<'_>)
         ensures { self.new ≡ after_judgement judgement self.old src.0 (raw_content segment.now) }
     {
         match judgement {
@@ -142,8 +92,12 @@ impl<A: Allocator> Endpoint<A> {
             | Judgement::ResetElsewhere
             | Judgement::SynInWindow
             | Judgement::AcksUnsent => self.owed.ack = true,
-            Judgement::Taken => self.take_all(segment),
-            Judgement::TakenShut => self.take_shut(segment),
+            Judgement::Taken => {
+                self.take_all(segment);
+            }
+            Judgement::TakenShut => {
+                self.take_shut(segment);
+            }
         }
     }
 
@@ -191,35 +145,54 @@ impl<A: Allocator> Endpoint<A> {
         self.owed.ack = true;
     }
 
-    /// All of a segment is taken (RFC 9293, 3.10.7.4, fifth to eighth).
+    /// All of a segment is taken (RFC 9293, 3.10.7.4, fifth to eighth), and what is reported of it.
+    #[inline(always)]
     #[tactic(auto, unfolding(crate::specs::Arrival::after_taking))]
-    fn take_all(&mut self, segment: &RawSegment<'_>)
-        ensures { self.new ≡ after_taking self.old (raw_content segment.now) }
+    pub(crate) fn take_all(&mut self, segment: &RawSegment<'_>) -> News
+        ensures state { self.new ≡ after_taking self.old (raw_content segment.now) }
+        ensures window { result.window_taken ≡ takes_window self.old (raw_content segment.now) }
+        ensures brought { result.brought ≡ brought_kept (after_its_ack self.old (raw_content segment.now)) (raw_content segment.now) }
     {
-        self.take_its_ack(segment);
-        self.take_its_text(segment);
-        self.take_fin(segment);
+        let window_taken = self.take_its_ack(segment);
+        let text = self.take_its_text(segment);
+        let brought = if self.take_fin(segment) {
+            Brought::InOrder
+        } else if brings(segment) {
+            text
+        } else {
+            Brought::Nothing
+        };
+        News {
+            window_taken,
+            brought,
+        }
     }
 
-    /// The window is shut: text and FIN are dropped, and an acknowledgement shows where the window lies.
+    /// The window is shut: text and FIN are dropped, and an acknowledgement shows where the window lies. Whether the peer's window
+    /// is taken.
+    #[inline(always)]
     #[tactic(auto, unfolding(crate::specs::Arrival::after_taking_shut))]
-    fn take_shut(&mut self, segment: &RawSegment<'_>)
-        ensures { self.new ≡ after_taking_shut self.old (raw_content segment.now) }
+    pub(crate) fn take_shut(&mut self, segment: &RawSegment<'_>) -> bool
+        ensures state { self.new ≡ after_taking_shut self.old (raw_content segment.now) }
+        ensures window { result ≡ takes_window self.old (raw_content segment.now) }
     {
-        self.take_its_ack(segment);
+        let window_taken = self.take_its_ack(segment);
         self.owed.ack = self.owed.ack || !is_closed(self.phase);
+        window_taken
     }
 
-    /// Its acknowledgement, window and blocks (RFC 9293, 3.10.7.4, fifth).
+    /// Its acknowledgement, window and blocks (RFC 9293, 3.10.7.4, fifth). Whether the window is taken.
     #[inline(always)]
     #[tactic(auto, unfolding(crate::specs::Arrival::after_its_ack))]
-    fn take_its_ack(&mut self, segment: &RawSegment<'_>)
-        ensures { self.new ≡ after_its_ack self.old (raw_content segment.now) }
+    fn take_its_ack(&mut self, segment: &RawSegment<'_>) -> bool
+        ensures state { self.new ≡ after_its_ack self.old (raw_content segment.now) }
+        ensures window { result ≡ takes_window self.old (raw_content segment.now) }
     {
         self.take_own_syn(segment);
         self.take_acked_text(segment);
-        self.take_news(segment);
+        let window_taken = self.take_news(segment);
         self.take_own_fin();
+        window_taken
     }
 
     /// The own SYN is acknowledged in SYN-RECEIVED; a waiting close acts (RFC 9293, 3.10.7.4, fifth).
@@ -251,22 +224,25 @@ impl<A: Allocator> Endpoint<A> {
     }
 
     /// Window update, then each block: not from an acknowledgement that is older than SND.UNA (RFC 9293, 3.10.7.4, fifth;
-    /// RFC 2018, 5).
+    /// RFC 2018, 5). Whether the window is taken.
     #[tactic(auto, unfolding(crate::specs::Arrival::after_news))]
-    fn take_news(&mut self, segment: &RawSegment<'_>)
-        ensures { self.new ≡ after_news self.old (raw_content segment.now) }
+    fn take_news(&mut self, segment: &RawSegment<'_>) -> bool
+        ensures state { self.new ≡ after_news self.old (raw_content segment.now) }
+        ensures window { result ≡ is_window_news self.old (raw_content segment.now) }
     {
         let ack = self.position_near(segment.header.ack);
         if ack < self.sender.una {
-            return;
+            return false;
         }
         let window = self.window_from(segment.header.window);
-        self.sender
+        let is_taken = self
+            .sender
             .update_window(segment.header.seq, segment.header.ack, window);
         // Most segments have no options.
         if self.link.sack && segment.has_area() {
             self.take_blocks(segment);
         }
+        is_taken
     }
 
     /// The blocks of all options (RFC 2018, 5). It is a function of its own, as `peer_opens` and `peer_accepts` are: an option
@@ -295,30 +271,38 @@ impl<A: Allocator> Endpoint<A> {
         }
     }
 
-    /// Its text is placed, where there is any, and an acknowledgement is owed for it (RFC 9293, 3.10.7.4, seventh).
+    /// Its text is placed, where there is any, and an acknowledgement is owed for it (RFC 9293, 3.10.7.4, seventh). What became of
+    /// it.
     #[tactic(auto, unfolding(crate::specs::Arrival::after_its_text))]
-    fn take_its_text(&mut self, segment: &RawSegment<'_>)
-        ensures { self.new ≡ after_its_text self.old (raw_content segment.now) }
+    fn take_its_text(&mut self, segment: &RawSegment<'_>) -> Brought
+        ensures state { self.new ≡ after_its_text self.old (raw_content segment.now) }
+        ensures brought { result ≡ brought_text self.old (raw_content segment.now) }
     {
-        if takes_text(self.phase) && !segment.text.is_empty() {
-            self.receiver.place(segment.header.seq, segment.text);
-            self.owed.ack = true;
+        if !takes_text(self.phase) || segment.text.is_empty() {
+            return Brought::NotKept;
         }
+        let placed = self.receiver.place(segment.header.seq, segment.text);
+        self.owed.ack = true;
+        Brought::text(placed)
     }
 
-    /// The peer's FIN is acknowledged, and taken where its number is the next one (RFC 9293, 3.10.7.4, eighth).
+    /// The peer's FIN is acknowledged, and taken where its number is the next one (RFC 9293, 3.10.7.4, eighth). Whether it is
+    /// taken.
     #[tactic(auto, unfolding(crate::specs::Arrival::after_fin))]
-    fn take_fin(&mut self, segment: &RawSegment<'_>)
-        ensures { self.new ≡ after_fin self.old (raw_content segment.now) }
+    fn take_fin(&mut self, segment: &RawSegment<'_>) -> bool
+        ensures state { self.new ≡ after_fin self.old (raw_content segment.now) }
+        ensures taken { result ≡ takes_fin self.old (raw_content segment.now) }
     {
         if !takes_text(self.phase) || !segment.header.flags.is_fin() {
-            return;
+            return false;
         }
         self.owed.ack = true;
         let number = segment.header.seq.plus(segment.text.len() as u32);
-        if self.receiver.is_fin_due(number) {
+        let is_taken = self.receiver.is_fin_due(number);
+        if is_taken {
             self.receiver.take_fin();
             self.phase = phase_after_fin(self.phase);
         }
+        is_taken
     }
 }

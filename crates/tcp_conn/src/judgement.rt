@@ -15,43 +15,44 @@ use tcp_wire::{Addr, RawSegment, Seq};
 /// Which rule applies to a segment that arrives (RFC 9293, 3.10.7): one case for each, also where two do the same.
 #[derive(Clone, Copy, Debug, PartialEq, Eq)]
 pub enum Judgement {
-    /// It is for another end, or from another peer.
+    /// It is for another end, or from another peer (RFC 9293, 3.10.7).
     Foreign,
-    /// A reset that nothing follows from.
+    /// A reset that nothing follows from (RFC 9293, 3.10.7.1 to 3.10.7.3), or one outside the window (3.10.7.4, first).
     ResetIgnored,
-    /// It comes to no connection, and a reset answers it.
+    /// It comes to no connection, and a reset answers it (RFC 9293, 3.10.7.1).
     Stray,
-    /// LISTEN has sent nothing that could be acknowledged: a reset answers it.
+    /// LISTEN has sent nothing that could be acknowledged: a reset answers it (RFC 9293, 3.10.7.2, second).
     AckOfListen,
-    /// In LISTEN and SYN-SENT: nothing follows from it, as from a SYN without an acknowledgement in SYN-SENT.
+    /// In LISTEN and SYN-SENT: nothing follows from it, as from a SYN without an acknowledgement in SYN-SENT (RFC 9293,
+    /// 3.10.7.2, fourth, and 3.10.7.3, fifth).
     OpensNothing,
-    /// A SYN in LISTEN.
+    /// A SYN in LISTEN (RFC 9293, 3.10.7.2, third).
     PeerOpens,
-    /// In SYN-SENT it acknowledges something else than the SYN: a reset answers it.
+    /// In SYN-SENT it acknowledges something else than the SYN: a reset answers it (RFC 9293, 3.10.7.3, first).
     AckOfNoSyn,
-    /// A reset in answer to the SYN.
+    /// A reset in answer to the SYN (RFC 9293, 3.10.7.3, second).
     PeerRefuses,
-    /// The SYN is answered by a SYN.
+    /// The SYN is answered by a SYN (RFC 9293, 3.10.7.3, fourth).
     PeerAccepts,
-    /// It lies outside the window: an acknowledgement shows where that lies.
+    /// It lies outside the window: an acknowledgement shows where that lies (RFC 9293, 3.10.7.4, first).
     Unacceptable,
-    /// A reset at exactly RCV.NXT.
+    /// A reset at exactly RCV.NXT (RFC 9293, 3.10.7.4, second).
     PeerResets,
-    /// A reset elsewhere in the window: an acknowledgement asks for the exact one.
+    /// A reset elsewhere in the window: an acknowledgement asks for the exact one (RFC 9293, 3.10.7.4, second).
     ResetElsewhere,
-    /// A SYN in the window.
+    /// A SYN in the window: an acknowledgement answers it (RFC 9293, 3.10.7.4, fourth).
     SynInWindow,
-    /// It acknowledges nothing, and nothing of it counts.
+    /// It acknowledges nothing, and nothing of it counts (RFC 9293, 3.10.7.4, fifth).
     NoAck,
-    /// It acknowledges what wasn't sent.
+    /// It acknowledges what wasn't sent: an acknowledgement answers it (RFC 9293, 3.10.7.4, fifth).
     AcksUnsent,
-    /// In SYN-RECEIVED it acknowledges something else than the SYN: a reset answers it.
+    /// In SYN-RECEIVED it acknowledges something else than the SYN: a reset answers it (RFC 9293, 3.10.7.4, fifth).
     HandshakeRefused,
-    /// The same while the window is shut.
+    /// The same while the window is 0.
     HandshakeRefusedShut,
-    /// All of it is taken.
+    /// All of it is taken (RFC 9293, 3.10.7.4, fifth to eighth).
     Taken,
-    /// The window is shut: its acknowledgement, window and blocks are taken, its text and FIN are not.
+    /// The window is 0: its acknowledgement, window and blocks are taken, its text and FIN are not (RFC 9293, 3.10.7.4, first).
     TakenShut,
 }
 

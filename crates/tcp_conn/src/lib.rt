@@ -3,6 +3,7 @@
 //!
 //! - [`Endpoint`] is made from a [`Config`]. The user calls `connect`, `listen`, `send`, `receive`, `close`, `abort`; `arrive` takes
 //!   any bytes, `emit` writes the segment that is due, and `timers` and `timer` are the caller's clock. Nothing but `new` takes memory.
+//! - `take` is `arrive` with a report, [`Taken`]: the rule that applied ([`Judgement`]), what was acknowledged, what it brought.
 //! - [`Rest`] stands in the place of an end in TIME-WAIT, without buffers.
 //! - [`stray_reset`] answers a segment for which there is no end (RFC 9293, 3.10.7.1).
 //! - [`laws`]: what always holds of an end, what close, abort and timers do in each phase, that what rests is the end.
@@ -32,18 +33,21 @@ mod rest;
 mod rest_fields;
 mod status;
 mod stray;
+mod taking;
 mod timers;
 mod windows;
 mod writing;
 
 pub use emission::EMIT_ROOM;
 pub use endpoint::Endpoint;
-pub use outcome::{Arrival, CallError, Received, Taken};
+pub use judgement::Judgement;
+pub use outcome::{Arrival, CallError, Received};
 pub use phase::{Ending, Phase, Timer};
 pub use rest::{REST_LEN, Rest};
 pub use rest_fields::RestFields;
 pub use status::Negotiated;
 pub use stray::{RESET_LEN, stray_reset};
+pub use taking::{Brought, Taken};
 pub use tcp_halves::{
     Config, ConfigError, DEFAULT_LIMIT, MAX_LIMIT, MAX_MSS, MAX_SHIFT, MIN_MSS, Peer, WaitingReset,
 };

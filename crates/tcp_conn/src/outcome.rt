@@ -67,17 +67,6 @@ pub enum Received {
     EndOfStream,
 }
 
-/// What became of bytes that arrived, and how soon they want an answer.
-#[derive(Clone, Copy, Debug, PartialEq, Eq)]
-pub struct Taken {
-    /// What became of them.
-    pub arrival: Arrival,
-    /// Whether they have to be answered at once, by emitting what is due: the segment came out of order or filled all or part
-    /// of a gap, had a SYN or a FIN, or wasn't taken and is answered all the same. Where it is false an acknowledgement that
-    /// is due may wait for the next segment (RFC 5681, 4.2).
-    pub at_once: bool,
-}
-
 /// What became of bytes that arrived.
 #[derive(Clone, Copy, Debug, PartialEq, Eq)]
 pub enum Arrival {

@@ -1,5 +1,5 @@
 ghost use Rattle.std.specs.Prelude.{◌≡◌, ◌↔◌, ◌⊎◌, ◌+◌, ◌^◌, ◌<◌, ◌≤◌, ◌≤ℤ◌, ◌<ℤ◌, pos, negsuc, length, take, drop, min, ◌++◌, IfOk};
-ghost use Rattle.tcp_reasm.specs.Reassembly.{max_capacity, window};
+ghost use Rattle.tcp_reasm.specs.Reassembly.{max_capacity, place_answer, window};
 ghost use Rattle.tcp_halves.specs.Receiver.{Receiving};
 ghost use Rattle.tcp_wire.specs.Position.{offset};
 ghost use Rattle.tcp_wire.specs.Wire.{max_text_len};
@@ -9,7 +9,7 @@ use crate::config::Config;
 use arrayvec::ArrayVec;
 use std::alloc::{Allocator, Global};
 use std::marker::Model;
-use tcp_reasm::{ReasmError, Reassembly};
+use tcp_reasm::{Placed, ReasmError, Reassembly};
 use tcp_wire::Seq;
 
 /// The half of an end that receives (RFC 9293, 3.3.1). Its fields can be read from above, and whatever changes them
@@ -91,20 +91,22 @@ impl<A: Allocator> Receiver<A> {
         }
     }
 
-    /// Places text whose first byte has this number (RFC 9293, 3.10.7.4, seventh).
+    /// Places text whose first byte has this number, and answers what became of it (RFC 9293, 3.10.7.4, seventh).
     #[tactic(auto, using(crate::proofs::Placing::length_placed, crate::proofs::Placing::capacity_placed), unfolding(crate::specs::Receiver::after_text))]
-    pub fn place(&mut self, seq: Seq, text: &[u8])
+    pub fn place(&mut self, seq: Seq, text: &[u8]) -> Placed
         requires { length text.now ≤ max_text_len }
+        ensures answer { result ≡ place_answer self.old.inbox (offset self.old.next seq.0) text.now }
         ensures state { self.new ≡ after_text self.old seq.0 text.now }
         ensures capacity { self.new.inbox.capacity ≡ self.old.inbox.capacity }
         ensures whole { length self.new.inbox.unread + length self.new.inbox.held ≡ self.new.inbox.capacity }
     {
         let offset = self.offset_of(seq);
         let before = self.inbox.window();
-        self.inbox.place(offset, text);
+        let placed = self.inbox.place(offset, text);
         let count = before - self.inbox.window();
         self.next = self.next.plus(count);
         self.ordered = self.ordered.saturating_add(u64::from(count));
+        placed
     }
 
     /// Whether a FIN with this number is the next to come, and the window is open (RFC 9293, 3.10.7.4, eighth).

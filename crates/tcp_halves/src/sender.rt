@@ -2,7 +2,7 @@ ghost use Rattle.std.specs.Prelude.{◌≡◌, ◌<◌, ◌≤◌, ◌+◌, ◌-
 ghost use Rattle.tcp_sendq.specs.SendQueue.{max_capacity, room};
 ghost use Rattle.tcp_halves.specs.Sender.{Sending, accepted_count, place_of, end_of_text};
 ghost use Rattle.tcp_halves.specs.Config.{stream_limit};
-ghost use Rattle.tcp_halves.specs.Sender.{new_sending, with_syn_sent, with_syn_acked, acks_unsent, count_below, after_ack, with_window, after_window_update, with_all_resent, with_gaps_resent, count_sendable, with_text, count_unsent, is_probe_needed, is_fin_acked, without_text, IsSender};
+ghost use Rattle.tcp_halves.specs.Sender.{new_sending, with_syn_sent, with_syn_acked, acks_unsent, count_below, after_ack, with_window, is_newer, after_window_update, with_all_resent, with_gaps_resent, count_sendable, with_text, count_unsent, is_probe_needed, is_fin_acked, without_text, IsSender};
 
 use crate::config::Config;
 use std::alloc::{Allocator, Global};
@@ -139,19 +139,22 @@ impl<A: Allocator> Sender<A> {
         }
     }
 
-    /// Takes a window, unless the last was taken from a newer segment (RFC 9293, 3.10.7.4).
+    /// Takes a window, unless the last was taken from a newer segment, and answers whether it did (RFC 9293, 3.10.7.4).
     #[tactic(auto, unfolding(crate::specs::Sender::after_window_update))]
-    pub fn update_window(&mut self, seq: Seq, ack: Seq, window: u32)
+    pub fn update_window(&mut self, seq: Seq, ack: Seq, window: u32) -> bool
+        ensures answer { result ≡ is_newer self.old seq.0 ack.0 }
         ensures state { self.new ≡ after_window_update self.old seq.0 ack.0 window }
         ensures capacity { self.new.queue.capacity ≡ self.old.queue.capacity }
         ensures queued { length self.new.queue.bytes ≤ self.new.queue.capacity }
     {
         let follows = self.wl1 == seq && (self.wl2.before(ack) || self.wl2 == ack);
-        if self.wl1.before(seq) || follows {
+        let is_newer = self.wl1.before(seq) || follows;
+        if is_newer {
             self.wnd = window;
             self.wl1 = seq;
             self.wl2 = ack;
         }
+        is_newer
     }
 
     /// Sends all that is in flight again, and forgets what the peer reported of it (RFC 9293, 3.8.1; RFC 2018, 5).
