@@ -14,6 +14,8 @@ install_commands <<'LIST'
 wasm-opt binaryen
 LIST
 place=apps/web/out/build
+# What an earlier build copied may have files that are gone.
+rm -rf "$place/crates"
 mkdir -p "$place/crates" apps/web/out
 
 # No program, and no library for C.

@@ -15,7 +15,7 @@ script, or - for standard input (docs/FORMATS.md). The module is apps/web/out/tc
 It ends with 0, with 1 where the script has a fault, which is told with its cause and cure, and with 2 where the words
 of the command can't be taken or a file can't be read.
 `;
-const BETWEEN = 56, HERE = path.dirname(fileURLToPath(import.meta.url));
+const BETWEEN = 56, MOST_NOTE = 40, HERE = path.dirname(fileURLToPath(import.meta.url));
 
 class WrongWords extends Error {}
 
@@ -64,9 +64,10 @@ function row_of(run, row) {
             word === "malformed" ? number : ""].filter(part => part !== "").join(" "));
         return { way: coming(event), beside };
     }
-    note(event.side, [event.is_repeat ? `${event.turns}x` : "", event.kind, ...event.words.slice(0, 1), ":",
-        event.refused ? `refused ${event.refused}` : event.outcome.join(" ")].filter(part => part !== "").join(" ")
-        .replace(" :", ":").slice(0, 40));
+    // The phase that a call leads to stands beside its line anyway.
+    const came = event.refused ? `: refused ${event.refused}` : event.outcome[0] === "ok" ? "" : `: ${event.outcome.join(" ")}`;
+    const words = [event.is_repeat ? `${event.turns}x` : "", event.kind, ...event.words.slice(0, 1)];
+    note(event.side, (words.filter(part => part !== "").join(" ") + came).slice(0, MOST_NOTE));
     return { way: " ".repeat(BETWEEN), beside };
 }
 
