@@ -90,6 +90,11 @@ export async function browser(command) {
             await tab.send("Page.navigate", { url: address });
             await tab.until(() => document.body?.dataset.ready === "yes");
         },
+        // Away from the page, which may ask before it goes where a script is there that isn't saved.
+        async leave() {
+            await tab.send("Page.navigate", { url: "about:blank" });
+            await tab.until(() => location.href === "about:blank");
+        },
         async size(width, height) {
             await tab.send("Emulation.setDeviceMetricsOverride",
                 { width, height, deviceScaleFactor: 1, mobile: false });

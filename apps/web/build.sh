@@ -1,12 +1,21 @@
 #!/usr/bin/env bash
-# Builds out/tcp_web.wasm: crates/tcp_web, proved over the crates below it, for WebAssembly with 64-bit memory; and
-# out/tcp.html, the page in one file, with that module in it.
+# Builds out/tcp_web.wasm: crates/tcp_web, proved over the crates below it, for WebAssembly; and out/tcp.html, the page in
+# one file, with that module in it. 'rt lib' makes a module for 64-bit memory, and wasm-opt (binaryen, which is installed by
+# apt-get where this machine lacks it) makes its addresses 32 bits wide, so that every browser with WebAssembly runs it.
 # The gate takes no crate for another machine: crates.txt has it as a library for this one, so that the gate proves it,
 # and here it is proved once more and built in a folder of its own with copies of the crates that it stands on,
 # apps/web/out/build; or here, with --here, where all of this is such a copy.
 set -euo pipefail
 cd "$(dirname "$0")/../.."
+# shellcheck disable=SC2034
+test=page
+. checks/lib.sh
+install_commands <<'LIST'
+wasm-opt binaryen
+LIST
 place=apps/web/out/build
+# What an earlier build copied may have files that are gone.
+rm -rf "$place/crates"
 mkdir -p "$place/crates" apps/web/out
 
 # No program, and no library for C.
@@ -26,6 +35,7 @@ listed=$(
 )
 echo "$listed" >"$place/crates.txt"
 (cd "$place/crates/tcp_web" && rt lib)
-cp "$place/crates/tcp_web/out/tcp_web.wasm" apps/web/out/tcp_web.wasm
+wasm-opt --enable-memory64 --enable-bulk-memory --enable-mutable-globals --memory64-lowering \
+    "$place/crates/tcp_web/out/tcp_web.wasm" -o apps/web/out/tcp_web.wasm
 ls -l apps/web/out/tcp_web.wasm
 python3 apps/web/pack.py apps/web/out/tcp_web.wasm apps/web/out/tcp.html

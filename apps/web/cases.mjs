@@ -84,8 +84,8 @@ export function wanted(report) {
     const lines = report.split("\n").slice(0, -1), events = lines.slice(0, -2);
     const sent = Object.fromEntries(
         lines.slice(-2).map(line => [line.split(" ")[1], Number(/ sent (\d+) /.exec(line)[1])]));
-    const arrived = { A: new Set(), B: new Set() };
-    const told = { arrows: 0, crosses: 0, damaged: 0, dropped: 0, again: 0, repeated: 0, blocks: 0, marks: 0,
+    const arrived = { A: new Set(), B: new Set() }, begun = { A: new Set(), B: new Set() };
+    const told = { arrows: 0, crosses: 0, damaged: 0, dropped: 0, again: 0, repeated: 0, resent: 0, blocks: 0, marks: 0,
         labels: [] };
     for (const line of events) {
         told.marks += CALL.test(line) || IDLE.test(line) ? 1 : 0;
@@ -95,6 +95,10 @@ export function wanted(report) {
             told.blocks += sack === "-" ? 0 : sack.split("+").length;
             const blocks = sack === "-" ? "" : ` sack ${sack}`;
             told.labels.push(`${side} ${number} ${flags} seq ${seq} ack ${ack} win ${window} len ${text}${blocks}`);
+            if (text !== "0" || /SYN|FIN/.test(flags)) {
+                told.resent += begun[side].has(seq) ? 1 : 0;
+                begun[side].add(seq);
+            }
         }
         if (!carried || /^(refused|done 0)/.test(carried[5])) {
             continue;

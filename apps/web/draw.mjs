@@ -1,27 +1,29 @@
 // Draws a run (run.mjs) as a ladder: two lifelines, and from the top down a row for each event.
-import { SIDES, event_at, event_line, fields_of, other, phase_of, state_of } from "./run.mjs";
+import { SIDES, event_at, event_line, fields_of, is_resent, other, phase_of, state_of } from "./run.mjs";
 import { MALFORMED, printable, segments_told } from "./told.mjs";
 
-const LIGHT = { ground: "#ffffff", ink: "#1c2024", line: "#9aa4ae", accent: "#0a5bb5", band: "#e4effb" };
-const DARK = { ground: "#14171a", ink: "#e8eaed", line: "#646e78", accent: "#7db8f7", band: "#1b3047" };
+const LIGHT = { ground: "#ffffff", ink: "#1c2024", line: "#7d8792", accent: "#0a5bb5", band: "#e4effb" };
+const DARK = { ground: "#14171a", ink: "#e8eaed", line: "#6f7a85", accent: "#7db8f7", band: "#1b3047" };
 
 function rules(colours) {
     const { ground, ink, line, accent, band } = colours;
     return `.ground{fill:${ground}}.ladder text{fill:${ink};stroke:${ground}}` +
-        `.life{stroke:${line}}.shaft,.head,.cross,.mark{stroke:${ink}}.full{fill:${ink}}.open{fill:${ground}}` +
-        `.shaft,.cross,.jag{fill:none}.band{fill:${band}}.ladder .phase{fill:${accent}}.edge{fill:${accent}}` +
+        `.life{stroke:${line}}.shaft,.head,.cross,.mark,.resend{stroke:${ink}}.full{fill:${ink}}.open{fill:${ground}}` +
+        `.shaft,.cross,.jag,.resend{fill:none}.band{fill:${band}}.ladder .phase{fill:${accent}}.edge{fill:${accent}}` +
         `.chosen .shaft,.chosen .head,.chosen .cross{stroke:${accent}}.chosen .full{fill:${accent}}` +
         `.ladder .label.chosen text{fill:${accent}}.ladder .now text{stroke:${band}}`;
 }
 
 export const STYLE = ".ladder text{font-family:ui-monospace,'DejaVu Sans Mono',Menlo,Consolas,monospace;" +
     "stroke-width:4;paint-order:stroke;stroke-linejoin:round}.ladder .strong{font-weight:bold}" +
-    ".life{stroke-width:1.5}.shaft{stroke-width:1.5}.head,.cross,.mark{stroke-width:1.5}.cross{stroke-width:2.5}" +
+    ".life{stroke-width:1.5}.shaft{stroke-width:1.5}.head,.cross,.mark,.resend{stroke-width:1.5}.cross{stroke-width:2.5}" +
     ".again .shaft{stroke-dasharray:12 4}.dropped .shaft{stroke-dasharray:2 4}.damaged .shaft{stroke-dasharray:7 5}" +
     ".hit{fill:none;stroke:transparent;stroke-width:14}.chosen .shaft{stroke-width:2.5}" +
     rules(LIGHT) + `@media(prefers-color-scheme:dark){${rules(DARK)}}`;
 
 const NARROW = 620;
+// An arrow over so many rows has its segment's number at its head, too.
+const FAR = 2;
 
 // Where things stand in a ladder of a width, in pixels. Where it is narrow, what a user or a timer does is written
 // between the lifelines; else in the margins.
@@ -115,6 +117,11 @@ function label(form, event, chosen, is_now) {
         `${texts.join("")}</g>`;
 }
 
+// Where text, SYN or FIN goes out again: most of a circle around the place at the lifeline.
+function resend_drawn(x, y) {
+    return `<path class="resend" d="M${x + 4} ${y - 4}a5.6 5.6 0 1 0 1.6 4M${x + 5} ${y - 8}v4.5h-4.5"/>`;
+}
+
 function ends_of(form, arrow) {
     const { side } = arrow.segment, from = x_of(form, side), to = x_of(form, other(side));
     const y = y_of(form, arrow.from);
@@ -154,6 +161,9 @@ function arrow_drawn(form, arrow, chosen) {
         parts.push(text_at(x2 + (segment.side === "A" ? 12 : -12), y2 + 4, segment.side, words));
     } else {
         parts.push(head_at(x2, y2, dx, dy, kind !== "dropped" && kind !== "damaged"));
+        if (arrow.to - arrow.from >= FAR) {
+            parts.push(text_at(x2 + (segment.side === "A" ? -16 : 16), y2 - 3, other(segment.side), arrow.first));
+        }
     }
     const classes = `arrow ${kind}${arrow.is_again ? " repeated" : ""}${segment === chosen ? " chosen" : ""}`;
     return `<g class="${classes}" data-side="${segment.side}" data-number="${arrow.first}" data-to="${arrow.to}">` +
@@ -278,6 +288,9 @@ export function rows_drawn(run, form, first, last, { now = 0, chosen = null } = 
         const event = event_at(run, row);
         if (event.segment) {
             parts.push(label(form, event, chosen, row === now));
+            if (is_resent(run, event.segment)) {
+                parts.push(resend_drawn(x_of(form, event.side), y_of(form, row)));
+            }
         }
         parts.push(notes_drawn(run, form, event, row === now));
     }
@@ -310,9 +323,11 @@ export function key_drawn() {
     const kinds = [["arrived", "arrives"], ["again", "arrives again"], ["dropped", "dropped"], ["damaged", "damaged"],
         ["lost", "lost"], ["turns", "turns of a repeat"]];
     const form = { left: 2, right: 52, row: 16, point: 9 };
+    const resend = `<li><svg class="ladder" width="20" height="24" aria-hidden="true">${resend_drawn(9, 13)}</svg> ` +
+        "sent again</li>";
     return kinds.map(([kind, words]) => {
         const arrow = { kind, segment: { side: "A", count: 1, row: 1 }, from: 1, to: 1, first: 0, count: 1 };
         return `<li><svg class="ladder" width="56" height="24" aria-hidden="true">${arrow_drawn(form, arrow, null)
             .replace(/<text.*?<\/text>/g, "").replace(/<title>.*?<\/title>/g, "")}</svg> ${words}</li>`;
-    }).join("");
+    }).join("") + resend;
 }

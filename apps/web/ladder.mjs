@@ -57,6 +57,7 @@ export function ladder(box, heads, canvas, picture, { on_row, on_segment }) {
             width = box.clientWidth;
             fit();
             draw_heads();
+            reveal();
             draw(true);
         } else {
             draw(false);

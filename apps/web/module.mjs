@@ -8,7 +8,7 @@ function rounded(n) {
 
 export const WELL = 0, REFUSED = 1, FAULT = 2, NO_MEMORY = 3, NO_ROOM = 4, NO_SEGMENT = 5;
 
-// The three calls over a compiled module. Each answers { answer, text }: `text` is empty where nothing is told.
+// The four calls over a compiled module. Each answers { answer, text }: `text` is empty where nothing is told.
 export async function calls(module) {
     const { exports } = await WebAssembly.instantiate(module, {});
     const encoder = new TextEncoder(), decoder = new TextDecoder();
@@ -40,6 +40,11 @@ export async function calls(module) {
     return {
         replay: script => call(exports.tcp_web_replay, script),
         steps: script => call(exports.tcp_web_steps, script),
+        // By which rule the segment is judged that an event delivers, counted from 0.
+        rule: (script, number) => call(
+            (record, at, length, out, room, count) =>
+                exports.tcp_web_rule(record, at, length, BigInt(number), out, room, count),
+            script),
         show: (script, side, number) => call(
             (record, at, length, out, room, count) =>
                 exports.tcp_web_show(record, at, length, side === "A" ? 0 : 1, BigInt(number), out, room, count),

@@ -1,5 +1,5 @@
 // Runs every script of the cases in the module, and compares byte for byte with the stored reports.
-// node --experimental-wasm-memory64 apps/web/module_test.mjs [MODULE]
+// node apps/web/module_test.mjs [MODULE]
 import fs from "node:fs";
 import path from "node:path";
 import { fileURLToPath } from "node:url";
@@ -9,6 +9,8 @@ const here = path.dirname(fileURLToPath(import.meta.url));
 const at = (...parts) => path.join(here, "..", "..", ...parts);
 const module = new WebAssembly.Module(fs.readFileSync(process.argv[2] ?? at("apps/web/out/tcp_web.wasm")));
 let passed = 0, failed = 0;
+// Asking for the rule of each event replays the script each time: of long ones no rule is asked for.
+const LONG = 20000, LEAST_MET = 8;
 
 function expect(name, found, wanted) {
     if (found === wanted) {
@@ -70,8 +72,33 @@ function expect_shown(name, module_calls, script, report) {
     expect(`${name}, no segment`, module_calls.show(script, "A", 1000000000).answer, report.answer === FAULT ? FAULT : NO_SEGMENT);
 }
 
+// What each rule answers (docs/RULES.md): all but these drop the segment.
+const PROCESSED = ["peer-opens", "peer-refuses", "peer-accepts", "peer-resets", "taken", "taken-shut"];
+
+// The rule that judged a segment is one that answers what its line in the report says.
+function expect_rules(name, module_calls, script, report) {
+    const rules = new Set();
+    for (const line of report.text.split("\n").slice(0, -3)) {
+        const found = /^(\d+) (?:repeat \d+ )?(\w+) [AB] (.*)$/.exec(line), number = Number(found[1]) - 1;
+        const arrived = /^deliver [AB] \d+ (processed|dropped|not-mine) /.exec(line.slice(found[1].length + 1));
+        const { answer, text } = module_calls.rule(script, number);
+        if (found[2] !== "deliver") {
+            expect(`${name}, no rule of event ${number}`, answer, NO_SEGMENT);
+        } else if (arrived) {
+            const rule = text.split(" ")[0];
+            rules.add(rule);
+            const asked = rule === "foreign" ? "not-mine" : PROCESSED.includes(rule) ? "processed" : "dropped";
+            expect(`${name}, rule ${rule} of event ${number}`, [answer, asked].join(), [WELL, arrived[1]].join());
+            expect(`${name}, section of ${rule}`, / 3\.10\.7/.test(text), true);
+        }
+    }
+    expect(`${name}, no event`, module_calls.rule(script, 1000000000).answer, report.answer === FAULT ? FAULT : NO_SEGMENT);
+    return rules;
+}
+
 const module_calls = await calls(module);
 const reports = stored();
+const met = new Set();
 let scripts = 0;
 for (const file of fs.readdirSync(at("crates/test_scripts/data/cases")).sort()) {
     if (!file.endsWith(".script")) {
@@ -85,7 +112,11 @@ for (const file of fs.readdirSync(at("crates/test_scripts/data/cases")).sort()) 
     expect(`${file}, answer`, answer, report.answer);
     expect_steps(file, module_calls, script, report);
     expect_shown(file, module_calls, script, report);
+    if (report.answer !== FAULT && report.text.length < LONG) {
+        expect_rules(file, module_calls, script, report).forEach(rule => met.add(rule));
+    }
 }
+expect("rules that the cases meet", met.size >= LEAST_MET, true);
 const first = module_calls.replay(fs.readFileSync(at("crates/tcpkit/data/first-run.script")));
 expect("the first run", first.text, fs.readFileSync(at("crates/tcpkit/stdout"), "utf8"));
 expect("what is imported", WebAssembly.Module.imports(module).length, 0);

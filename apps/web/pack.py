@@ -11,7 +11,8 @@ import re
 import sys
 
 WEB = pathlib.Path(__file__).resolve().parent
-SCRIPTS = ["module", "run", "told", "draw", "bars", "editor", "ladder", "link", "page"]
+SCRIPTS = ["module", "run", "words", "told", "draw", "bars", "editor", "ladder", "link", "actions", "acts", "history", "files", "page"]
+PICTURES = ["first-run", "loss-and-blocks", "shut-window"]
 IMPORT = re.compile(r"^import .*?;\n", re.MULTILINE | re.DOTALL)
 NAME = re.compile(r"^(?:async )?(?:function|const|let) (\w+)", re.MULTILINE)
 
@@ -34,12 +35,19 @@ def examples():
     return json.dumps(listed).replace("<", "\\u003c")
 
 
+def pictures():
+    """Ladders for a browser that can't run the module."""
+    texts = [(WEB.parents[1] / "docs" / f"{name}.svg").read_text() for name in PICTURES]
+    return json.dumps(texts).replace("<", "\\u003c")
+
+
 def main():
     module, out = map(pathlib.Path, sys.argv[1:])
     page = (WEB / "page.html").read_text()
     for place, text in [
         ("/* page.css */", (WEB / "page.css").read_text()),
         ('id="examples">[]', f'id="examples">{examples()}'),
+        ('id="pictures">[]', f'id="pictures">{pictures()}'),
         ('id="module">', 'id="module">' + base64.b64encode(module.read_bytes()).decode()),
         ("/* page.mjs */", script()),
     ]:

@@ -1,23 +1,34 @@
 // The page: the script is replayed by the module as it is edited, and what comes of it is shown.
 import { calls, WELL, REFUSED, FAULT } from "./module.mjs";
 import { comment_at, event_at, other, places_of, read_run, segment_at, state_of } from "./run.mjs";
-import { fault_of, FORMS, NO_MEMORY_FAULT, printable, segments_told, sentence } from "./told.mjs";
+import { fault_of, FORMS, NO_MEMORY_FAULT, printable, rule_told, segments_told, sentence } from "./told.mjs";
 import { key_drawn, whole_drawn } from "./draw.mjs";
 import { end_drawn } from "./bars.mjs";
 import { editor } from "./editor.mjs";
 import { ladder } from "./ladder.mjs";
 import { fragment_of, script_of } from "./link.mjs";
+import { lossy_script, run_to_end, with_lines } from "./actions.mjs";
+import { acts } from "./acts.mjs";
+import { history } from "./history.mjs";
+import { on_file, save_file } from "./files.mjs";
 
 const at = id => document.getElementById(id);
 const field = at("script"), slider = at("step"), report = at("report");
 const examples = JSON.parse(at("examples").textContent);
-const PICTURE_WIDTH = 760, SLOW = 1000, JUMP = 10;
+const PICTURE_WIDTH = 760, SLOW = 1000, JUMP = 10, PLAY_MS = 900;
 
 const text_view = editor(field, at("gutter"), at("marks"), at("callout"));
+const texts = history(field, () => edited(false));
+const buttons = acts({
+    sides: { A: at("acts-A"), B: at("acts-B") }, wire: at("wire"), text: at("text"), arrive: at("arrive"),
+    damage: at("damage"), lose: at("lose"),
+}, lines => change(with_lines(field.value, lines), true));
 const view = ladder(at("ladder"), at("heads"), at("canvas"), at("picture"), { on_row: go, on_segment: choose });
 
 // What is shown: the last script that was taken, its run, and the current event.
 let core = null, taken = "", run = null, places = null, refused_lines = new Set(), step = 0, chosen = null, waiting = 0;
+// The script that was saved or linked last, and the timers of a play and of a rule that is asked for.
+let kept = "", playing = 0, asking = 0;
 
 function replay(is_typing) {
     const script = field.value;
@@ -27,8 +38,11 @@ function replay(is_typing) {
     document.body.classList.toggle("is-stale", !is_taken && run !== null);
     at("stale").hidden = is_taken || run === null;
     at("save").disabled = !is_taken;
+    at("acts").querySelectorAll("button").forEach(part => { part.disabled = !is_taken && part.id !== "lossy"; });
     if (!is_taken) {
-        text_view.show_fault(answer === FAULT ? fault_of(text, script) : NO_MEMORY_FAULT, is_typing);
+        const fault = answer === FAULT ? fault_of(text, script) : NO_MEMORY_FAULT;
+        text_view.show_fault(fault, is_typing);
+        announce(`${fault.line === null ? "" : `Line ${fault.line + 1}: `}${fault.cause}. Cure: ${fault.cure}.`);
         show_report();
         return;
     }
@@ -40,6 +54,8 @@ function replay(is_typing) {
     slider.max = run.count;
     text_view.show_fault(null, is_typing);
     view.show_run(run);
+    buttons.show_run(run, script);
+    at("finish").disabled = run.count > SLOW;
     go(is_typing && was_last ? run.count : Math.min(step, run.count));
     show_report();
 }
@@ -60,8 +76,13 @@ function go(row) {
     at("place").textContent = `${step} of ${run.count}`;
     at("back").disabled = step === 0;
     at("next").disabled = step === run.count;
+    at("play").disabled = run.count === 0;
     at("sentence").textContent = told;
+    if (document.activeElement !== slider) {
+        announce(told);
+    }
     at("comment").textContent = comment_at(places, step);
+    show_rule(event);
     at("ends-place").textContent = step === 0 ? "before the first event" : `after event ${step}`;
     for (const side of ["A", "B"]) {
         at(`end-${side}`).innerHTML = end_drawn(state_of(run, step, side));
@@ -74,6 +95,25 @@ function go(row) {
         show_segment(segment, event.arrow?.first ?? segment.number);
     } else {
         show_segment(null);
+    }
+}
+
+// By which rule a segment was judged that arrived. A long script is replayed for it once the stepping rests.
+function show_rule(event) {
+    clearTimeout(asking);
+    at("rule").textContent = "";
+    if (event === null || event.kind !== "deliver" || event.refused || event.is_repeat) {
+        return;
+    }
+    const show = () => {
+        const { answer, text } = core.rule(taken, event.row - 1), side = other(event.side);
+        at("rule").textContent = answer !== WELL ? ""
+            : rule_told(text, state_of(run, event.row - 1, side), state_of(run, event.row, side));
+    };
+    if (run.count < SLOW) {
+        show();
+    } else {
+        asking = setTimeout(show, 100);
     }
 }
 
@@ -93,12 +133,14 @@ function show_segment(segment, number) {
     at("segment-text").textContent = "";
     if (segment === null) {
         at("segment-told").textContent = "A click on an arrow shows its segment here.";
+        buttons.show_segment(null, false);
         return;
     }
     const group = segment.count > 1 ? ` (one of ${segments_told(segment)})` : "";
     const arrows = segment.arrows.filter(arrow => number >= arrow.first && number < arrow.first + arrow.count);
     at("segment-told").textContent = `${segment.side}'s segment ${number}${group}, emitted at event ${segment.row}: ` +
         `${arrows.map(fate).join("; ")}.`;
+    buttons.show_segment(chosen, arrows.some(arrow => arrow.kind !== "lost"));
     const show = () => {
         const { text } = core.show(taken, segment.side, number);
         at("listing").textContent = text;
@@ -119,54 +161,129 @@ function fate(arrow) {
         ?? `arrived ${where}${again}`;
 }
 
-function load(script) {
+// Another script in place of the one that is there; undoing brings that back.
+function change(script, to_end) {
+    stop();
     field.value = script;
-    field.scrollTop = 0;
-    step = 0;
-    at("example").value = String(examples.findIndex(example => example.script === script));
-    if (at("example").selectedIndex < 0) {
-        at("example").value = "";
+    edited(false);
+    if (to_end && run !== null && taken === script) {
+        go(run.count);
     }
-    replay(false);
+}
+
+// The text of the field has changed.
+function edited(is_typing) {
+    texts.note(is_typing);
+    const { undo, redo } = texts.can();
+    at("undo").disabled = !undo;
+    at("redo").disabled = !redo;
+    const example = examples.findIndex(one => one.script === field.value);
+    at("example").value = example < 0 ? "" : String(example);
+    replay(is_typing);
+}
+
+function load(script, event = 0) {
+    field.scrollTop = 0;
+    step = event;
+    change(script, false);
+}
+
+function is_own() {
+    return field.value !== "" && field.value !== kept && examples.every(example => example.script !== field.value);
+}
+
+function announce(words) {
+    at("live").textContent = words;
 }
 
 function say(words) {
     at("said").textContent = words;
+    announce(words);
 }
 
 async function give_link() {
-    const fragment = await fragment_of(field.value);
-    history.replaceState(null, "", fragment);
+    const fragment = await fragment_of(field.value, step);
+    history_entry(fragment);
+    kept = field.value;
     try {
         await navigator.clipboard.writeText(location.href);
-        say("The link is copied. It holds the script.");
+        say("The link is copied. It holds the script and the event.");
     } catch {
-        say("The link is in the address bar. It holds the script.");
+        say("The link is in the address bar. It holds the script and the event.");
     }
+}
+
+function history_entry(fragment) {
+    globalThis.history.replaceState(null, "", fragment);
 }
 
 function save() {
     const title = examples.find(example => example.script === taken)?.title ?? "A TCP connection";
-    const file = new Blob([whole_drawn(run, PICTURE_WIDTH, title)], { type: "image/svg+xml" });
-    const link = document.createElement("a");
-    link.href = URL.createObjectURL(file);
-    link.download = "ladder.svg";
-    link.click();
-    setTimeout(() => URL.revokeObjectURL(link.href), 10000);
+    save_file("ladder.svg", "image/svg+xml", whole_drawn(run, PICTURE_WIDTH, title));
     say("The ladder is saved as ladder.svg.");
+}
+
+function save_script() {
+    save_file("tcp.script", "text/plain", field.value);
+    kept = field.value;
+    say("The script is saved as tcp.script.");
 }
 
 async function open_link() {
     try {
-        const script = await script_of(location.hash);
-        if (script !== null && script !== field.value) {
-            load(script);
+        const found = await script_of(location.hash);
+        if (found !== null && found.script !== field.value) {
+            load(found.script, found.event);
+            kept = found.script;
         }
-        return script !== null;
+        return found !== null;
     } catch {
         say("The link holds no script that can be read.");
         return false;
     }
+}
+
+function choose_example() {
+    if (at("example").value === "") {
+        return;
+    }
+    const was_own = is_own();
+    load(examples[at("example").value].script);
+    say(was_own ? "Undo brings your script back." : "");
+}
+
+// A step each time that the timer expires, until the last event or another step.
+function play() {
+    if (playing !== 0) {
+        stop();
+        return;
+    }
+    if (step === run.count) {
+        go(0);
+    }
+    at("play").textContent = "▮▮ Pause";
+    playing = setInterval(() => {
+        go(step + 1);
+        if (step === run.count) {
+            stop();
+        }
+    }, PLAY_MS);
+}
+
+function stop() {
+    clearInterval(playing);
+    playing = 0;
+    at("play").textContent = "▸▸ Play";
+}
+
+function finish() {
+    const script = run_to_end(core, field.value);
+    change(script, true);
+    say("The users, timers and the network are run to the end.");
+}
+
+function lossy() {
+    change(lossy_script(core, Math.floor(Math.random() * 1e6)), true);
 }
 
 const MOVES = {
@@ -182,21 +299,39 @@ function on_key(event) {
         return;
     }
     event.preventDefault();
+    stop();
     go(MOVES[event.key]());
 }
 
+// To the event of the line that the cursor is in, or of the next line with one.
+function on_line() {
+    const line = field.value.slice(0, field.selectionStart).split("\n").length - 1;
+    const row = places === null ? -1 : places.at.findIndex(place => place !== null && place >= line);
+    if (row > 0 && field.value === taken) {
+        stop();
+        go(row);
+    }
+}
+
 function listen() {
-    field.addEventListener("input", () => { at("example").value = ""; replay(true); });
-    slider.addEventListener("input", () => go(Number(slider.value)));
-    at("back").addEventListener("click", () => go(step - 1));
-    at("next").addEventListener("click", () => go(step + 1));
-    at("segment-back").addEventListener("click", () => choose(chosen.side, chosen.number - 1));
-    at("segment-next").addEventListener("click", () => choose(chosen.side, chosen.number + 1));
-    at("example").addEventListener("change", () => {
-        if (at("example").value !== "") {
-            load(examples[at("example").value].script);
+    field.addEventListener("input", () => edited(true));
+    field.addEventListener("keydown", event => {
+        if (event.key === "Enter" && (event.ctrlKey || event.metaKey)) {
+            event.preventDefault();
+            on_line();
         }
     });
+    slider.addEventListener("input", () => { stop(); go(Number(slider.value)); });
+    at("back").addEventListener("click", () => { stop(); go(step - 1); });
+    at("next").addEventListener("click", () => { stop(); go(step + 1); });
+    at("play").addEventListener("click", play);
+    at("undo").addEventListener("click", texts.undo);
+    at("redo").addEventListener("click", texts.redo);
+    at("finish").addEventListener("click", finish);
+    at("lossy").addEventListener("click", lossy);
+    at("segment-back").addEventListener("click", () => choose(chosen.side, chosen.number - 1));
+    at("segment-next").addEventListener("click", () => choose(chosen.side, chosen.number + 1));
+    at("example").addEventListener("change", choose_example);
     at("gutter").addEventListener("click", event => {
         const row = places.at.indexOf(Number(event.target.dataset.line));
         if (row > 0) {
@@ -205,6 +340,18 @@ function listen() {
     });
     at("link").addEventListener("click", give_link);
     at("save").addEventListener("click", save);
+    at("save-script").addEventListener("click", save_script);
+    at("open").addEventListener("click", () => at("file").click());
+    on_file(at("file"), (text, name) => {
+        load(text);
+        kept = text;
+        say(`${name} is open.`);
+    });
+    addEventListener("beforeunload", event => {
+        if (is_own()) {
+            event.preventDefault();
+        }
+    });
     report.addEventListener("toggle", show_report);
     document.addEventListener("keydown", on_key);
     addEventListener("hashchange", open_link);
@@ -228,6 +375,9 @@ async function start() {
         core = await calls(await WebAssembly.compile(bytes));
     } catch {
         at("unsupported").hidden = false;
+        at("finished").hidden = false;
+        at("finished").innerHTML = JSON.parse(at("pictures").textContent).join("");
+        at("main").hidden = true;
         return;
     }
     listen();
@@ -237,6 +387,7 @@ async function start() {
     document.body.dataset.ready = "yes";
 }
 
-// For the page's test, which hands over bytes that no text has.
+// For the page's test, which passes bytes that no text has, and seeds.
 globalThis.replay_bytes = bytes => core.replay(bytes);
+globalThis.lossy_text = seed => lossy_script(core, seed);
 start();

@@ -97,7 +97,17 @@ async function faults(tab, tools, expect) {
     });
     for (const [script, line, cause, cure] of [
         ["listen B\nconect A\nemit A\n", 2, "no line begins with “conect”", "Lines of a script"],
-        ["listen B\n\nemit A 1\n", 3, "missing, misspelled or too many", "emit SIDE"],
+        ["listen B\n\nemit A 1\n", 3, "“1” is a word too many", "emit SIDE"],
+        ["listen B\nsend A 616\n", 2, "“616” has an odd number of digits", "send SIDE HEX"],
+        ["listen B\nsend A 6x\n", 2, "“6x” has x, which isn't a hexadecimal digit", "send SIDE HEX"],
+        ["listen C\n", 1, "“C” isn't A or B", "listen SIDE"],
+        ["receive A\n", 1, "a word is missing behind “receive A”: N", "receive SIDE N"],
+        ["receive A 1048577\n", 1, "“1048577” isn't from 0 to 1048576", "receive SIDE N"],
+        ["deliver A 01\n", 1, "“01” isn't a decimal number", "deliver SIDE K"],
+        ["timer A retransmitted\n", 1, "“retransmitted” isn't retransmit, reorder or timewait", "timer SIDE retransmit"],
+        ["config A mtu 9\n", 1, "“mtu” isn't isn, mss", "config SIDE isn N"],
+        ["tcpkit 2\nrepeat 0 emit A\n", 2, "“0” isn't from 1 to 1048576", "repeat N EVENT"],
+        ["tcpkit 2\nrepeat 2 repeat 2 emit A\n", 2, "“repeat” is no event", "repeat N EVENT"],
         ["listen  B\n", 1, "doubled space", "one space"],
         ["listen B\nconfig A mss 64\n", 2, "after the first event", "before the first event"],
         ["listen B\n# \u00e4\n", 2, "above 7f", "ASCII"],
@@ -142,20 +152,22 @@ async function covered(tab, tools, expect) {
 async function links(tab, tools, expect, address) {
     const script = "# a < b & \"c\" +/=\nlisten B\nconnect A\nemit A\n" + "send A 2a2a\n".repeat(50);
     await tools.edit(script);
+    await tools.go(7);
     await tools.run(() => document.getElementById("link").click());
-    await tab.until(() => document.getElementById("said").textContent !== "");
+    await tab.until(() => document.getElementById("said").textContent.startsWith("The link"));
     const link = await tools.run(() => location.href);
     expect("the link names the page", link.startsWith(`${address}#script=`), true);
     expect("the link is short", link.length < address.length + 200, true);
-    await tab.send("Page.navigate", { url: "about:blank" });
+    await tab.leave();
     await tab.open(link);
     expect("the link's script", await tools.run(() => document.getElementById("script").value), script);
+    expect("the link's event", (await tools.shown()).place, "7 of 53");
     // A link whose script has a fault: there is no run yet, and nothing to step through.
     await tools.edit("listen\n");
     await tools.run(() => document.getElementById("link").click());
     await tab.until(before => location.href !== before, link);
     const faulty = await tools.run(() => location.href);
-    await tab.send("Page.navigate", { url: "about:blank" });
+    await tab.leave();
     await tab.open(faulty);
     await tab.until(() => !document.getElementById("callout").hidden);
     await tab.key("ArrowRight");
@@ -164,7 +176,7 @@ async function links(tab, tools, expect, address) {
         document.getElementById("picture").childElementCount,
     ]), [true, true, 0]);
     await tools.edit(script);
-    expect("mended", (await tools.shown()).place, "0 of 53");
+    expect("mended", (await tools.shown()).place, "7 of 53");
     await tools.run(() => { location.hash = "#script=%%%"; });
     await tab.until(() => document.getElementById("said").textContent.includes("no script"));
     expect("a link without a script leaves the script", await tools.run(() => document.getElementById("script").value),
@@ -246,12 +258,46 @@ async function themes(tab, tools, expect) {
             const style = (part, name) => getComputedStyle(document.querySelector(part))[name];
             const colours = [style("body", "color"), style("footer p", "color"), style("#picture text", "fill"),
                 style("#heads .phase", "fill"), style(".shaft", "stroke"), style("#gutter span", "color")];
-            return { is_dark: luminance(ground) < 0.1, least: Math.min(...colours.map(from)) };
+            const lines = [style(".life", "stroke"), style("#ladder", "borderTopColor"), style("button", "borderTopColor")];
+            return { is_dark: luminance(ground) < 0.1, least: Math.min(...colours.map(from)),
+                lines: Math.min(...lines.map(from)) };
         });
         expect(`${theme}: ground`, apart.is_dark, theme === "dark");
         expect(`${theme}: colours`, apart.least >= 4.5, true);
+        expect(`${theme}: lines`, apart.lines >= 3, true);
     }
     await tab.theme("light");
+    await forced(tab, tools, expect);
+}
+
+// With colours that the user's system forces the bars keep their patterns.
+async function forced(tab, tools, expect) {
+    await tab.send("Emulation.setEmulatedMedia", { features: [{ name: "forced-colors", value: "active" }] });
+    const found = await tools.run(() => ["flight", "waiting", "marked"].map(kind => {
+        const { backgroundColor, backgroundImage } = getComputedStyle(document.querySelector(`.patterns .${kind}`));
+        return backgroundImage !== "none" || backgroundColor !== getComputedStyle(document.body).backgroundColor;
+    }));
+    expect("forced colours keep the patterns", found, [true, true, true]);
+    await tab.send("Emulation.setEmulatedMedia", { features: [] });
+}
+
+// On a phone the ladder comes first; and once it is turned, the current row is in sight.
+async function phone(tab, tools, expect) {
+    await tools.edit(FIRST + "receive B 1\n".repeat(60));
+    await tab.size(360, 740);
+    await tools.go(70);
+    const tops = () => tools.run(() => ["ladder-part", "script-part"].map(
+        id => document.getElementById(id).getBoundingClientRect().top));
+    const [ladder_top, script_top] = await tops();
+    expect("the ladder is first", ladder_top < script_top, true);
+    await tab.size(740, 360);
+    await tab.until(() => document.getElementById("picture").getAttribute("width") > 500);
+    expect("the row is in sight", await tools.run(() => {
+        const band = document.querySelector("#picture .band").getBoundingClientRect();
+        const box = document.getElementById("ladder").getBoundingClientRect();
+        return band.top >= box.top && band.bottom <= box.bottom + 1;
+    }), true);
+    await tab.size(1600, 6000);
 }
 
 // Each control has a name, and is reached by Tab, with a frame around it.
@@ -262,9 +308,14 @@ async function access(tab, tools, expect) {
         const parts = [...document.querySelectorAll("button, select, input, textarea")];
         return parts.filter(part => !name(part)).map(part => part.id);
     }), []);
+    expect("live regions", await tools.run(() => [...document.querySelectorAll("[aria-live], [role=status]")].map(
+        part => part.id)), ["live"]);
+    await tools.run(() => document.activeElement.blur());
+    await tools.go(3);
+    expect("what is said", await tools.run(() => document.getElementById("live").textContent.startsWith("A emits")), true);
     await tools.run(() => { document.activeElement.blur(); window.scrollTo(0, 0); });
     const reached = new Set();
-    for (let turn = 0; turn < 25; turn += 1) {
+    for (let turn = 0; turn < 60; turn += 1) {
         await tab.key("Tab");
         const found = await tools.run(() => {
             const part = document.activeElement, style = getComputedStyle(part);
@@ -275,7 +326,8 @@ async function access(tab, tools, expect) {
             expect(`focus on ${found[0]}`, found[1], true);
         }
     }
-    const asked = ["example", "script", "link", "save", "back", "step", "next", "ladder"];
+    const asked = ["example", "script", "open", "save-script", "link", "save", "back", "step", "next", "play", "ladder",
+        "text", "finish", "lossy"];
     expect("reached by Tab", asked.filter(name => !reached.has(name)), []);
     const foot = await tools.run(() => document.querySelector("footer").textContent);
     expect("the foot", ["JavaScript", "engine", "compiler"].map(word => foot.includes(word)), [true, true, true]);
@@ -291,6 +343,7 @@ export async function handling(tab, tools, expect, address) {
     await examples(tools, expect);
     await widths(tab, tools, expect, height);
     await themes(tab, tools, expect);
+    await phone(tab, tools, expect);
     await access(tab, tools, expect);
     await links(tab, tools, expect, address);
     const others = tab.requests.filter(name => !name.startsWith("blob:") && name.split("#")[0] !== address);

@@ -71,6 +71,27 @@ async function sentences(tools, expect) {
         const { sentence } = await tools.shown();
         expect(`sentence ${row}: ${sentence}`, words.map(word => sentence.includes(word)), words.map(() => true));
     }
+    for (const [row, ...words] of [
+        [3], [4, "“peer-opens”: a SYN in LISTEN opens the connection (RFC 9293, 3.10.7.2, third)."],
+        [6, "“peer-accepts”", "3.10.7.3, fourth"], [11], [15, "“taken”: all of it is taken", "Its text comes in order."],
+        [16, "“unacceptable”: it lies outside the window", "3.10.7.4, first"], [20],
+    ]) {
+        await tools.go(row);
+        const rule = await tools.run(() => document.getElementById("rule").textContent);
+        expect(`rule ${row}: ${rule}`, [rule === "", ...words.map(word => rule.includes(word))],
+            [words.length === 0, ...words.map(() => true)]);
+    }
+    await tools.edit(fs.readFileSync(at("apps/web/examples/2-loss-and-blocks.script"), "utf8"));
+    const held = await tools.run(() => {
+        const rules = [];
+        for (let row = 1; row <= Number(document.getElementById("step").max); row += 1) {
+            document.getElementById("step").value = row;
+            document.getElementById("step").dispatchEvent(new Event("input"));
+            rules.push(document.getElementById("rule").textContent);
+        }
+        return rules.filter(rule => rule.endsWith("Its text comes early and is held.")).length;
+    });
+    expect("text that is held", held > 0, true);
 }
 
 // Arrows whose ends are both out of sight are drawn through.
@@ -86,16 +107,24 @@ async function passing(tab, tools, expect) {
     await tab.size(1600, 6000);
 }
 
-// Where the browser has no such memory the page says so.
+// Where the browser has no WebAssembly the page says so, and shows ladders that were drawn before.
 async function unable(tab, tools, expect, address) {
-    const { identifier } = await tab.send("Page.addScriptToEvaluateOnNewDocument", {
-        source: "WebAssembly.compile = () => Promise.reject(new WebAssembly.CompileError('memory64'));",
+    // An example, so that the page doesn't ask before it goes.
+    await tools.run(() => {
+        const field = document.getElementById("example");
+        field.value = "0";
+        field.dispatchEvent(new Event("change"));
     });
-    await tab.send("Page.navigate", { url: "about:blank" });
+    const { identifier } = await tab.send("Page.addScriptToEvaluateOnNewDocument", {
+        source: "WebAssembly.compile = () => Promise.reject(new WebAssembly.CompileError('none'));",
+    });
+    await tab.leave();
     await tab.send("Page.navigate", { url: address });
     await tab.until(() => document.getElementById("unsupported")?.hidden === false);
-    expect("a browser that can't", await tools.run(
-        () => /64-bit\s+memory/.test(document.getElementById("unsupported").innerText)), true);
+    expect("a browser that can't", await tools.run(() => [
+        /no\s+WebAssembly/.test(document.getElementById("unsupported").innerText),
+        document.querySelectorAll("#finished svg.ladder").length, document.getElementById("main").hidden,
+    ]), [true, 3, true]);
     await tab.send("Page.removeScriptToEvaluateOnNewDocument", { identifier });
     await tab.open(address);
     expect("one that can", await tools.run(() => document.getElementById("unsupported").hidden), true);

@@ -8,6 +8,7 @@ import { at, cases, changes, is_text, long_script, phases, refusals, wanted } fr
 import { PICTURES, setup } from "./page_tools.mjs";
 import { handling } from "./page_handling.mjs";
 import { looks } from "./page_looks.mjs";
+import { building } from "./page_building.mjs";
 
 const [page, chromium, draw] = process.argv.slice(2);
 const address = pathToFileURL(path.resolve(page)).href;
@@ -53,7 +54,7 @@ async function reports(tools, all) {
 // What is drawn is what the report says. The window is high enough for all rows.
 async function pictures(tools, { name, report }) {
     const asked = wanted(report), found = await tools.drawn();
-    for (const part of ["arrows", "crosses", "damaged", "dropped", "again", "repeated", "blocks", "marks"]) {
+    for (const part of ["arrows", "crosses", "damaged", "dropped", "again", "repeated", "resent", "blocks", "marks"]) {
         expect(`${name}: ${part}`, found[part], asked[part]);
     }
     expect(`${name}: phases`, changes(report).filter(change => !found.phases.includes(change)), []);
@@ -127,6 +128,7 @@ try {
     await refused(tools, all);
     await stored(tools);
     await looks(tab, tools, expect, address);
+    await building(tab, tools, expect);
     await handling(tab, tools, expect, address);
     await tab.size(1600, 1000);
     await ten_thousand(tools);

@@ -50,6 +50,7 @@ export async function setup(tab) {
                 arrows: count(".arrow:not(.lost)"), crosses: count(".arrow.lost > .cross"),
                 damaged: count(".arrow.damaged > .jag"), dropped: count(".arrow.dropped"),
                 again: count(".arrow.again"), repeated: count(".arrow.repeated"), marks: count(".mark"),
+                resent: count(".resend"),
                 phases: [...picture.querySelectorAll(".event .phase")].map(
                     phase => `${phase.closest(".event").dataset.row} ${phase.textContent}`),
                 blocks: labels.reduce((sum, label) => sum + Number(label.dataset.blocks), 0),
@@ -105,19 +106,22 @@ export async function setup(tab) {
             times.sort((one, two) => one - two);
             return { median: times[times.length >> 1], slowest: times.at(-1), nodes, rows };
         }),
-        // What the button saves.
-        async saved() {
-            const file = path.join(folder, "ladder.svg");
-            fs.rmSync(file, { force: true });
-            await run(() => document.getElementById("save").click());
-            const end = Date.now() + 10000;
-            while (!fs.existsSync(file) || fs.statSync(file).size === 0) {
-                if (Date.now() > end) {
-                    throw new Error("nothing was saved");
-                }
-                await new Promise(resolve => setTimeout(resolve, 20));
-            }
-            return fs.readFileSync(file, "utf8");
-        },
+        // What the buttons save.
+        saved: () => saved("ladder.svg", "save"),
+        saved_script: () => saved("tcp.script", "save-script"),
     };
+
+    async function saved(name, button) {
+        const file = path.join(folder, name);
+        fs.rmSync(file, { force: true });
+        await run(id => document.getElementById(id).click(), button);
+        const end = Date.now() + 10000;
+        while (!fs.existsSync(file) || fs.statSync(file).size === 0) {
+            if (Date.now() > end) {
+                throw new Error("nothing was saved");
+            }
+            await new Promise(resolve => setTimeout(resolve, 20));
+        }
+        return fs.readFileSync(file, "utf8");
+    }
 }

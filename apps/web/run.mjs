@@ -12,7 +12,7 @@ export function other(side) {
 export function read_run(text) {
     const starts = starts_of(text), count = (starts.length - 3) / 3;
     const run = { text, starts, count, events: new Array(count + 1), emitted: new Map(), refused: [],
-        segments: { A: [], B: [] }, arrows: [] };
+        segments: { A: [], B: [] }, arrows: [], firsts: { A: new Map(), B: new Map() }, looked: { A: 0, B: 0 } };
     for (let row = 1; row <= count; row += 1) {
         add_row(run, row);
     }
@@ -130,6 +130,27 @@ export function fields_of(event) {
     }
     const [, , flags, , seq, , ack, , window, , text, , sack] = event.outcome;
     return { flags, seq, ack, window, text, sack };
+}
+
+// Whether a segment begins with a number from which text, SYN or FIN of its side went out before. Of each number the
+// first segment is kept, as far as has been asked.
+export function is_resent(run, segment) {
+    const { side } = segment, list = run.segments[side], firsts = run.firsts[side];
+    while (run.looked[side] < list.length && list[run.looked[side]].row <= segment.row) {
+        const one = list[run.looked[side]], seq = taken_number(event_at(run, one.row));
+        run.looked[side] += 1;
+        if (seq !== null && !firsts.has(seq)) {
+            firsts.set(seq, one);
+        }
+    }
+    const seq = taken_number(event_at(run, segment.row));
+    return seq !== null && firsts.get(seq) !== segment;
+}
+
+// The sequence number of a segment that takes any; of those of a `repeat` it isn't told.
+function taken_number(event) {
+    const fields = fields_of(event);
+    return fields !== null && (fields.text !== "0" || /SYN|FIN/.test(fields.flags)) ? fields.seq : null;
 }
 
 // The place in a side's list of the segment, or group of them, that has a number; or where the list ends.

@@ -25,7 +25,8 @@ if [[ -z $module ]]; then
     module=apps/web/out/tcp_web.wasm
     [[ -e $module ]] || apps/web/build.sh
 fi
-node --experimental-wasm-memory64 --no-warnings apps/web/module_test.mjs "$module"
+node apps/web/module_test.mjs "$module"
+node apps/web/tell_test.mjs "$module"
 work=$(mktemp -d)
 trap 'rm -rf "$work"' EXIT
 python3 apps/web/pack.py "$module" "$work/tcp.html"

@@ -1,5 +1,6 @@
 // What the page says in words: of an event, of a refusal, of a fault (docs/FORMATS.md).
 import { fields_of, other } from "./run.mjs";
+import { word_fault } from "./words.mjs";
 
 // Of a refused call or step: its cause, and its cure.
 const REFUSALS = {
@@ -76,6 +77,37 @@ function bytes_told(hex) {
 export function segments_told(arrow_or_segment, first = arrow_or_segment.number) {
     const { count } = arrow_or_segment;
     return count === 1 ? `segment ${first}` : `segments ${first} to ${first + count - 1}`;
+}
+
+// What each rule of an arrival says (docs/RULES.md), by the name that the module has for it.
+const RULES = {
+    foreign: "it is for another end, or from another peer",
+    "reset-ignored": "a reset that nothing follows from",
+    stray: "it comes to no connection: a reset answers it",
+    "ack-of-listen": "LISTEN has sent nothing that could be acknowledged: a reset answers it",
+    "opens-nothing": "it doesn't open this connection",
+    "peer-opens": "a SYN in LISTEN opens the connection",
+    "ack-of-no-syn": "it acknowledges something else than the SYN: a reset answers it",
+    "peer-refuses": "a reset answers the SYN",
+    "peer-accepts": "a SYN with its acknowledgement answers the SYN",
+    unacceptable: "it lies outside the window: an acknowledgement shows where that lies",
+    "peer-resets": "a reset at exactly RCV.NXT",
+    "reset-elsewhere": "a reset elsewhere in the window: an acknowledgement asks for the exact one",
+    "syn-in-window": "a SYN in the window: an acknowledgement answers it",
+    "no-ack": "it acknowledges nothing, so nothing of it counts",
+    "acks-unsent": "it acknowledges what wasn't sent: an acknowledgement answers it",
+    "handshake-refused": "it doesn't acknowledge the SYN: a reset answers it",
+    "handshake-refused-shut": "it doesn't acknowledge the SYN, and the window is 0: a reset answers it",
+    taken: "all of it is taken",
+    "taken-shut": "the window is 0: its acknowledgement and window are taken, its text and FIN are not",
+};
+
+// The rule as the module has it, `NAME SECTION`, and what the states before and after say that it brought.
+export function rule_told(text, before, after) {
+    const name = text.slice(0, text.indexOf(" ")), section = text.slice(name.length + 1);
+    const came = after.ordered !== before.ordered ? " Its text comes in order."
+        : after.held !== before.held ? " Its text comes early and is held." : "";
+    return `Rule “${name}”: ${RULES[name] ?? ""} (RFC 9293, ${section}).${came}`;
 }
 
 const CALLS = {
@@ -184,8 +216,7 @@ function cause_of(lines, at) {
         return { cause: "a config line after the first event", cure: "move it before the first event" };
     }
     if (forms.length > 0) {
-        return { cause: "a word is missing, misspelled or too many, or a number is out of its range",
-            cure: forms.join(", ") };
+        return { cause: word_fault(line) ?? "it has no form", cure: forms.join(", ") };
     }
-    return { cause: `no line begins with “${word.slice(0, 24)}”`, cure: "see “Lines of a script” below" };
+    return { cause: word_fault(line), cure: "see “Lines of a script” below" };
 }

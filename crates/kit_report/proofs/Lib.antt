@@ -1,3 +1,4 @@
 pub mod Examples
 pub mod Repeats
 pub mod UnmarkedRuns
+pub mod EventsBefore

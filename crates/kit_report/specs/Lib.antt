@@ -6,3 +6,4 @@ pub mod Outcomes
 pub mod Report
 pub mod Runs
 pub mod Steps
+pub mod Rules

@@ -48,7 +48,7 @@ fn text_at<A: Allocator + Copy>(
 }
 
 /// Applies all events in turn, refused ones too.
-fn apply_all<A: Allocator + Copy>(
+pub(crate) fn apply_all<A: Allocator + Copy>(
     alloc: A,
     world: &mut World<A>,
     events: &[Turn<A>],

@@ -91,6 +91,20 @@ pub(crate) fn brings(segment: &RawSegment<'_>) -> bool
 }
 
 impl<A: Allocator> Endpoint<A> {
+    /// The rule by which bytes are judged that come from `src` to `dst` now (RFC 9293, 3.10.7); `None` where they are no segment.
+    #[must_use]
+    #[tactic(auto, unfolding(crate::specs::Taking::rule_of))]
+    pub fn rule(&self, src: Addr, dst: Addr, bytes: &[u8]) -> Option<Judgement>
+        ensures { result ≡ rule_of self.now src.0 dst.0 bytes.now }
+    {
+        match RawSegment::parse(src, dst, bytes) {
+            Ok(segment) => Some(self.judge(src, dst, &segment)),
+            Err(_) => None,
+        }
+    }
+}
+
+impl<A: Allocator> Endpoint<A> {
     /// As [`arrive`](Self::arrive), with a report: whether the segment has to be answered at once (RFC 5681, 4.2), the rule that
     /// applied, the text that it acknowledged, whether it is a duplicate acknowledgement (RFC 5681, 2), whether its window was
     /// taken, and what it brought.

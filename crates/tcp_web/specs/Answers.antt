@@ -6,6 +6,7 @@ use Rattle.tcp_replay.specs.declared.event.Side.TheVariants.{A, B}
 use Rattle.tcp_replay.specs.Names.{side_name}
 use Rattle.tcp_replay.specs.World.{HasGoodConfigs}
 use Rattle.kit_script.specs.Script.{ScriptContent, script_of}
+use Rattle.kit_report.specs.Rules.{shown_rule}
 use Rattle.kit_report.specs.Steps.{steps_text, shown_segment}
 use Rattle.kit_commands.specs.declared.errors.ToolError.{ToolError}
 use Rattle.kit_commands.specs.declared.errors.ToolError.TheVariants.{BadLine, NoMemory, ReadFault, WriteFault, Config as ConfigFault}
@@ -79,6 +80,13 @@ pub record IsSegment (text : List ℕ) (side : Side) (k : ℕ) (shown : Option (
 pub record IsListing (list listing : List ℕ) (answer : Result Bool ℕ) : Type 0 where
   pub text_is : listing ≡ (listing_of list).text
   pub answer_is : (listing_of list).answer ≡ answer
+
+-- THE RULE by which the segment is judged that event n, from 0, delivers, if it delivers one
+pub record IsRule (text : List ℕ) (n : ℕ) (rule : Option (List ℕ)) : Type 0 where
+  pub script : ScriptContent
+  pub meaning : script_of text ≡ Ok script
+  pub configs : HasGoodConfigs script.a script.b
+  pub rule_is : rule ≡ shown_rule script n
 
 -- WHAT WANTS ROOM: a text or a fault's line of this length
 pub record WantsRoom (IsWritten : List ℕ → Type 0) (script : List ℕ) (len : ℕ) : Type 0 where

@@ -17,7 +17,7 @@ pub const NO_MEMORY: u32 = 3;
 /// There is too little room for the text.
 pub const NO_ROOM: u32 = 4;
 
-/// The side emits no segment of this number, or the number of the side is neither 0 nor 1.
+/// The side emits no segment of this number, or the number of the side is neither 0 nor 1; or the event delivers no segment.
 pub const NO_SEGMENT: u32 = 5;
 
 /// Writes a text, tells its length, and gives this answer; [`NO_ROOM`] where it is too long, and then nothing is written.

@@ -2,11 +2,11 @@
 ghost use Rattle.std.specs.Prelude.{◌≡◌, ◌≢◌, ◌≤◌, ◌<◌, ◌⊎◌, true, false, length, take, Some, None, IfSome, IsNone, Ok, Err};
 ghost use Rattle.kit_commands.specs.Listing.{listing_of};
 ghost use Rattle.kit_commands.specs.Replay.{IsReport};
-ghost use Rattle.tcp_web.specs.Answers.{well, refused, fault, no_memory, no_room, no_segment, side_of, fault_text, IsOfText, IsFaultLine, IsAnyReport, IsSteps, IsSegment, IsListing, WantsRoom};
+ghost use Rattle.tcp_web.specs.Answers.{well, refused, fault, no_memory, no_room, no_segment, side_of, fault_text, IsOfText, IsFaultLine, IsAnyReport, IsRule, IsSteps, IsSegment, IsListing, WantsRoom};
 
 use crate::answers::{FAULT, NO_MEMORY, NO_SEGMENT, REFUSED, WELL, put};
 use crate::faults::fault_line;
-use crate::texts::{segment_of, steps_of};
+use crate::texts::{rule_of, segment_of, steps_of};
 use kit_commands::{ToolError, list_segments, report_of};
 use region_heap::{Block, Region};
 use std::alloc::Allocator;
@@ -165,5 +165,35 @@ pub extern "C" fn tcp_web_list(
             }
             answer
         }
+    }
+}
+
+/// Writes by which rule the segment is judged that event `number`, from 0, of a script delivers (RFC 9293, 3.10.7): its name, and where
+/// the RFC has it; or the line of the script's fault. [`NO_SEGMENT`] where there is no such event or it delivers no segment. Of a
+/// repeated event it is the rule of the first turn.
+#[unsafe(no_mangle)]
+pub extern "C" fn tcp_web_rule(
+    memory: Block,
+    script: &[u8],
+    number: usize,
+    out: &mut [u8],
+    count: &mut usize,
+) -> u32
+    ensures well { result ≡ well → IsRule script.now number (Some (take count.new out.new)) }
+    ensures fault { result ≡ fault → IsFaultLine script.now (take count.new out.new) }
+    ensures none { result ≡ no_segment → IsRule script.now number None }
+    ensures nothing { result ≡ no_segment → count.new ≡ 0 }
+    ensures fits { result ≤ fault → count.new ≤ length out.old }
+    ensures no_memory { result ≡ no_memory → count.new ≡ 0 }
+    ensures no_room { result ≡ no_room → (length out.old < count.new) × WantsRoom (λ shown. IsRule script.now number (Some shown)) script.now count.new }
+    ensures answers { result ≤ no_segment }
+    ensures unrefused { result ≢ refused }
+{
+    *count = 0;
+    let region = Region::new(memory);
+    match rule_of(&region, script, number) {
+        Ok(Some(rule)) => put(rule.as_bytes(), out, count, WELL),
+        Ok(None) => NO_SEGMENT,
+        Err(error) => put_fault(&region, error, out, count),
     }
 }

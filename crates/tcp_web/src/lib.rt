@@ -6,6 +6,7 @@
 //!
 //! uint32_t tcp_web_replay(tcp_web_block memory, const uint8_t *script, size_t script_length, uint8_t *out, size_t out_length, size_t *count);
 //! uint32_t tcp_web_steps(tcp_web_block memory, const uint8_t *script, size_t script_length, uint8_t *out, size_t out_length, size_t *count);
+//! uint32_t tcp_web_rule(tcp_web_block memory, const uint8_t *script, size_t script_length, size_t number, uint8_t *out, size_t out_length, size_t *count);
 //! uint32_t tcp_web_show(tcp_web_block memory, const uint8_t *script, size_t script_length, uint32_t side, size_t number, uint8_t *out, size_t out_length, size_t *count);
 //! uint32_t tcp_web_list(tcp_web_block memory, const uint8_t *list, size_t list_length, uint8_t *out, size_t out_length, size_t *count, size_t *line);
 //! ```
@@ -20,4 +21,4 @@ mod faults;
 mod texts;
 
 pub use answers::{FAULT, NO_MEMORY, NO_ROOM, NO_SEGMENT, REFUSED, WELL};
-pub use exports::{tcp_web_list, tcp_web_replay, tcp_web_show, tcp_web_steps};
+pub use exports::{tcp_web_list, tcp_web_replay, tcp_web_rule, tcp_web_show, tcp_web_steps};

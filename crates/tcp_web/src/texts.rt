@@ -1,10 +1,10 @@
 //! What is told of a script's text.
 ghost use Rattle.std.specs.Prelude.{◌≡◌, option_map, IfOk, IfErr, string_bytes};
 ghost use Rattle.kit_commands.specs.Replay.{RefusesText};
-ghost use Rattle.tcp_web.specs.Answers.{IsSteps, IsSegment};
+ghost use Rattle.tcp_web.specs.Answers.{IsRule, IsSteps, IsSegment};
 
 use kit_commands::ToolError;
-use kit_report::{make_steps, show_segment};
+use kit_report::{make_steps, show_rule, show_segment};
 use kit_script::read_script_bytes;
 use std::alloc::Allocator;
 use tcp_replay::Side;
@@ -32,4 +32,18 @@ pub(crate) fn segment_of<A: Allocator + Copy>(
     let script = read_script_bytes(alloc, text)?;
     let shown = show_segment(alloc, &script, side, k)?;
     Ok(shown)
+}
+
+/// By which rule the segment is judged that event `n` of a text delivers.
+pub(crate) fn rule_of<A: Allocator + Copy>(
+    alloc: A,
+    text: &[u8],
+    n: usize,
+) -> Result<Option<&'static str>, ToolError>
+    ensures rule { IfOk result (λ rule. IsRule text.now n (option_map (λ words. words.now) rule)) }
+    ensures refusal { IfErr result (RefusesText text.now) }
+{
+    let script = read_script_bytes(alloc, text)?;
+    let rule = show_rule(alloc, &script, n)?;
+    Ok(rule)
 }

@@ -1,0 +1,171 @@
+// Tests what builds a script by buttons, what brings a text back, and files.
+import fs from "node:fs";
+import path from "node:path";
+import { at } from "./cases.mjs";
+
+const FIRST = fs.readFileSync(at("crates/tcpkit/data/first-run.script"), "utf8");
+const OWN = "# my own\nlisten B\n";
+const SEEDS = [1, 2, 3, 4, 5, 77, 1234, 99999];
+
+const press = label => {
+    const found = [...document.querySelectorAll("button")].filter(
+        part => (part.getAttribute("aria-label") ?? part.textContent) === label);
+    if (found.length !== 1 || found[0].disabled) {
+        throw new Error(`${found.length} buttons ${label}`);
+    }
+    found[0].click();
+};
+
+const script = tools => tools.run(() => document.getElementById("script").value);
+
+// The counts of the report's last lines.
+function ends_of(report) {
+    return Object.fromEntries(report.trim().split("\n").slice(-2).map(line => {
+        const [, side, phase, , ...words] = line.split(" ");
+        return [side, { phase, ...Object.fromEntries(words.flatMap(
+            (word, number) => number % 2 === 0 ? [[word, words[number + 1]]] : [])) }];
+    }));
+}
+
+// Each button adds its line, in order, and each line can be undone.
+async function buttons(tools, expect) {
+    await tools.edit("# by hand\n");
+    const asked = [["listen at B", "listen B"], ["connect at A", "connect A"], ["emit at A", "emit A"],
+        ["deliver A's segment 0", "deliver A 0"], ["emit at B", "emit B"], ["lose B's segment 0", "# lost: B 0"],
+        ["retransmit timer at B", "timer B retransmit"], ["emit at B", "emit B"],
+        ["damage B's segment 1", "damage B 1 7 1"], ["send A the text beside", "send A 68656c6c6f"],
+        ["receive at A", "receive A 1048576"], ["reorder timer at A", "timer A reorder"],
+        ["time-wait timer at A", "timer A timewait"], ["close at A", "close A"], ["abort at A", "abort A"]];
+    const lines = ["# by hand"];
+    for (const [label, line] of asked) {
+        await tools.run(press, label);
+        lines.push(line);
+        expect(`the button ${label}`, await script(tools), `${lines.join("\n")}\n`);
+    }
+    const events = lines.filter(line => !line.startsWith("#")).length;
+    expect("the last event is shown", (await tools.shown()).place, `${events} of ${events}`);
+    expect("a segment that is said to be lost isn't on the way", await tools.run(
+        () => document.getElementById("wire").textContent.includes("B 0")), false);
+    while (lines.length > 1) {
+        await tools.run(press, "Undo");
+        lines.pop();
+        expect(`undone to ${lines.length} lines`, await script(tools), `${lines.join("\n")}\n`);
+    }
+    await tools.run(press, "Redo");
+    expect("done again", await script(tools), "# by hand\nlisten B\n");
+}
+
+// A segment that is shown can arrive again, be damaged, and be lost before it arrived.
+async function segment_buttons(tools, expect) {
+    const base = "listen B\nconnect A\nemit A\n", states = () => tools.run(() => ["arrive", "damage", "lose"].map(
+        id => document.getElementById(id)).map(part => [part.textContent, part.disabled]));
+    await tools.edit(base);
+    await tools.go(0);
+    expect("no segment", await states(), [["Deliver", true], ["Damage", true], ["Lose", true]]);
+    await tools.go(3);
+    expect("on the way", await states(), [["Deliver", false], ["Damage", false], ["Lose", false]]);
+    await tools.run(press, "Deliver");
+    expect("delivered", await script(tools), `${base}deliver A 0\n`);
+    expect("arrived", await states(), [["Deliver again", false], ["Damage", false], ["Lose", true]]);
+    await tools.run(press, "Deliver again");
+    expect("delivered again", await script(tools), `${base}deliver A 0\ndeliver A 0\n`);
+}
+
+// Run to the end, everything that was accepted is delivered and acknowledged, also of lossy scripts.
+async function to_the_end(tools, expect) {
+    await tools.run(() => { document.getElementById("report").open = true; });
+    const scripts = [["first run", FIRST], ["nothing sent yet", "listen B\nconnect A\nsend A 6162\nsend B 63\n"],
+        ["closed", `${FIRST}close A\nclose B\n`]];
+    for (const [name, text] of scripts) {
+        await tools.edit(text);
+        await tools.run(press, "Run to the end");
+        const { report, is_fault } = await tools.shown(), { A, B } = ends_of(report);
+        expect(`${name}: what was there stays`, (await script(tools)).startsWith(text), true);
+        expect(`${name}: delivered`, [is_fault, B.delivered, A.delivered], [false, A.accepted, B.accepted]);
+        expect(`${name}: acknowledged`, [A.released, B.released], [A.accepted, B.accepted]);
+        if (name === "closed") {
+            expect("closed: both", [A.phase, B.phase], ["CLOSED", "CLOSED"]);
+        }
+    }
+    let lost = 0;
+    for (const seed of SEEDS) {
+        const text = await tools.run(number => globalThis.lossy_text(number), seed);
+        expect(`seed ${seed}: the same again`, await tools.run(number => globalThis.lossy_text(number), seed), text);
+        await tools.edit(text);
+        const { report, is_fault } = await tools.shown(), { A, B } = ends_of(report);
+        expect(`seed ${seed}: delivered`, [is_fault, B.delivered, A.delivered, A.phase, B.phase],
+            [false, A.accepted, B.accepted, "CLOSED", "CLOSED"]);
+        expect(`seed ${seed}: something is sent`, Number(A.accepted) > 0, true);
+        lost += /^# lost/m.test(text) ? 1 : 0;
+    }
+    expect("most lose something", lost > SEEDS.length / 2, true);
+    await tools.run(press, "A random lossy script");
+    expect("the button's script", /^# A lossy way, with the seed \d+\n/.test(await script(tools)), true);
+}
+
+// Nobody's work is lost: an example is an edit, and the page asks before it goes.
+async function kept(tab, tools, expect) {
+    const asks = () => tools.run(() => {
+        const event = new Event("beforeunload", { cancelable: true });
+        dispatchEvent(event);
+        return event.defaultPrevented;
+    });
+    const choose = number => tools.run(which => {
+        const field = document.getElementById("example");
+        field.value = String(which);
+        field.dispatchEvent(new Event("change"));
+    }, number);
+    await choose(0);
+    expect("an example is nobody's work", await asks(), false);
+    await tools.edit(OWN);
+    expect("one's own is asked for", await asks(), true);
+    await choose(1);
+    expect("who chooses an example is told", (await tools.shown()).said, "Undo brings your script back.");
+    await tools.run(press, "Undo");
+    expect("an example can be undone", await script(tools), OWN);
+    await tools.run(() => document.getElementById("script").focus());
+    await tab.send("Input.dispatchKeyEvent", { type: "rawKeyDown", key: "z", code: "KeyZ", modifiers: 2,
+        windowsVirtualKeyCode: 90 });
+    expect("Ctrl+Z undoes", await script(tools) === OWN, false);
+    await tools.edit(OWN);
+    const saved = await tools.saved_script();
+    expect("the saved script", saved, OWN);
+    expect("what is saved isn't asked for", await asks(), false);
+}
+
+async function opened(tab, tools, expect) {
+    const file = path.join(tab.folder, "one.script");
+    fs.writeFileSync(file, FIRST);
+    const { root } = await tab.send("DOM.getDocument");
+    const { nodeId } = await tab.send("DOM.querySelector", { nodeId: root.nodeId, selector: "#file" });
+    await tab.send("DOM.setFileInputFiles", { nodeId, files: [file] });
+    await tab.until(() => document.getElementById("said").textContent === "one.script is open.");
+    expect("the file's script", await script(tools), FIRST);
+}
+
+// The script's line is reached by keys; a play steps to the end.
+async function moved(tab, tools, expect) {
+    await tools.edit(FIRST);
+    await tools.go(0);
+    await tools.run(() => {
+        const field = document.getElementById("script"), place = field.value.indexOf("send A 616263");
+        field.focus();
+        field.setSelectionRange(place, place);
+    });
+    await tab.send("Input.dispatchKeyEvent", { type: "rawKeyDown", key: "Enter", code: "Enter", modifiers: 2,
+        windowsVirtualKeyCode: 13 });
+    expect("Ctrl+Enter", (await tools.shown()).place, "9 of 20");
+    await tools.go(18);
+    await tools.run(press, "Play");
+    await tab.until(() => document.getElementById("place").textContent === "20 of 20");
+    await tab.until(() => document.getElementById("play").textContent.includes("Play"));
+}
+
+export async function building(tab, tools, expect) {
+    await buttons(tools, expect);
+    await segment_buttons(tools, expect);
+    await to_the_end(tools, expect);
+    await kept(tab, tools, expect);
+    await opened(tab, tools, expect);
+    await moved(tab, tools, expect);
+}
