@@ -45,4 +45,5 @@ behind checks/live/run.sh
 behind apps/usernet/test.sh "$library" --short
 behind apps/capture/test.sh
 behind apps/web/test.sh apps/web/out/tcp_web.wasm
+behind docs/site/test.sh
 echo "$passed" >"$folder/behind"

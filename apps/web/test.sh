@@ -26,7 +26,7 @@ if [[ -z $module ]]; then
     [[ -e $module ]] || apps/web/build.sh
 fi
 node apps/web/module_test.mjs "$module"
-node apps/web/tell_test.mjs "$module"
+node apps/web/explain_test.mjs "$module"
 work=$(mktemp -d)
 trap 'rm -rf "$work"' EXIT
 python3 apps/web/pack.py "$module" "$work/tcp.html"

@@ -17,7 +17,7 @@ HERE = pathlib.Path(__file__).resolve().parent
 TOP = HERE.parents[1]
 FRONT = ["README.md", "CHANGELOG.md", "CONTRIBUTING.md"]
 TITLES = {
-    "README": "Boqtilen", "EMBEDDING": "Embedding", "FORMATS": "Formats", "RULES": "Rules", "PROOFS": "Proofs", "TRUST": "Trust",
+    "README": "Boqtilen", "INSTALL": "Install", "EMBEDDING": "Embedding", "FORMATS": "Formats", "RULES": "Rules", "PROOFS": "Proofs", "TRUST": "Trust",
     "ARCHITECTURE": "Architecture", "SPEED": "Speed", "DECISIONS": "Decisions", "CHANGELOG": "Changes", "CONTRIBUTING": "Contributing",
 }
 EXTENSIONS = ["table", "autolink", "strikethrough"]

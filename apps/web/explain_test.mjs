@@ -1,10 +1,10 @@
-// Tests tell.mjs as a command: node apps/web/tell_test.mjs MODULE.
+// Tests explain.mjs as a command: node apps/web/explain_test.mjs MODULE.
 import { spawnSync } from "node:child_process";
 import path from "node:path";
 import { fileURLToPath } from "node:url";
 import { at, cases, is_text } from "./cases.mjs";
 
-const TELL = path.join(path.dirname(fileURLToPath(import.meta.url)), "tell.mjs"), module = process.argv[2];
+const EXPLAIN = path.join(path.dirname(fileURLToPath(import.meta.url)), "explain.mjs"), module = process.argv[2];
 const FIRST = at("crates/tcpkit/data/first-run.script");
 let passed = 0, failed = 0;
 
@@ -17,8 +17,8 @@ function expect(name, found, wanted) {
     console.log(`${name}: wanted ${JSON.stringify(wanted)}, found ${JSON.stringify(found)?.slice(0, 300)}`);
 }
 
-function tell(words, input = "") {
-    const { status, stdout, stderr } = spawnSync("node", [TELL, "--module", module, ...words], { input, encoding: "utf8" });
+function explain(words, input = "") {
+    const { status, stdout, stderr } = spawnSync("node", [EXPLAIN, "--module", module, ...words], { input, encoding: "utf8" });
     return { status, lines: stdout.split("\n").slice(0, -1), error: stderr };
 }
 
@@ -28,7 +28,7 @@ function has(lines, ...parts) {
 
 // Every script of the cases: a sentence for each event, or the cause and cure of its fault, at the line that the program names.
 for (const { name, bytes, answer, report } of cases().filter(one => is_text(one.bytes)).slice(0, 60)) {
-    const { status, lines, error } = tell(["-"], bytes), ladder = tell(["--ladder", "-"], bytes).lines;
+    const { status, lines, error } = explain(["-"], bytes), ladder = explain(["--ladder", "-"], bytes).lines;
     if (answer === 2) {
         const line = /41 line (\d+)/.exec(report)?.[1];
         expect(`${name}: a fault`, [status, lines.length, / Cure: /.test(lines[0])], [1, 1, true]);
@@ -40,23 +40,23 @@ for (const { name, bytes, answer, report } of cases().filter(one => is_text(one.
     }
 }
 
-const first = tell([FIRST]).lines;
+const first = explain([FIRST]).lines;
 expect("the first run", has(first, "3. A emits segment 0: SYN", "Rule “peer-opens”", "11. A's segment 2 arrives at B with its byte 20 changed",
     "16. A's segment 2 arrives at B again. B drops it. Rule “unacceptable”", "19. B's user is handed 3 bytes (“abc”)"),
 [true, true, true, true, true]);
-const drawn = tell(["--ladder", FIRST]).lines;
+const drawn = explain(["--ladder", FIRST]).lines;
 expect("its ladder", has(drawn, "| listen LISTEN", "| 0 SYN seq 1000 ack 0 len 0 -", "2 damaged ->| malformed 3", "2 ->| again dropped"),
     [true, true, true, true]);
 const ladder_arrows = drawn.slice(1).map(line => line.indexOf("|"));
 expect("its first line is straight", new Set(ladder_arrows).size, 1);
-expect("a fault by its word", tell(["-"], "listen B\nsend A 616\n"), { status: 1, lines: [
+expect("a fault by its word", explain(["-"], "listen B\nsend A 616\n"), { status: 1, lines: [
     "Line 2: “616” has an odd number of digits. Cure: send SIDE HEX."], error: "" });
-expect("help", [tell(["--help"]).status, has(tell(["--help"]).lines, "Usage: node apps/web/tell.mjs")], [0, [true]]);
+expect("help", [explain(["--help"]).status, has(explain(["--help"]).lines, "Usage: node apps/web/explain.mjs")], [0, [true]]);
 for (const [words, part] of [[[], "a FILE is missing"], [["--wide", "-"], "--wide: no such word"], [["/no/such"], "/no/such: no such file"],
     [["-", "-"], "-: no such word"]]) {
-    const { status, lines, error } = tell(words);
-    expect(`tell ${words.join(" ")}`, [status, lines, error.includes(part), error.trim().split("\n").length], [2, [], true, 1]);
+    const { status, lines, error } = explain(words);
+    expect(`explain ${words.join(" ")}`, [status, lines, error.includes(part), error.trim().split("\n").length], [2, [], true, 1]);
 }
-expect("no module", spawnSync("node", [TELL, "--module", "/no/such", FIRST]).status, 2);
-console.log(`tell: ${passed} passed, ${failed} failed`);
+expect("no module", spawnSync("node", [EXPLAIN, "--module", "/no/such", FIRST]).status, 2);
+console.log(`explain: ${passed} passed, ${failed} failed`);
 process.exit(failed === 0 ? 0 : 1);

@@ -1,4 +1,4 @@
-// Tells a script in sentences, or as a ladder of letters: node apps/web/tell.mjs [--ladder] [--module FILE] FILE, or - for
+// Explains a script in sentences, or as a ladder of letters: node apps/web/explain.mjs [--ladder] [--module FILE] FILE, or - for
 // standard input. What comes of the script is computed by the module, as in the page.
 import fs from "node:fs";
 import path from "node:path";
@@ -7,9 +7,9 @@ import { calls, FAULT, WELL } from "./module.mjs";
 import { SIDES, event_at, fields_of, other, phase_of, read_run, state_of } from "./run.mjs";
 import { fault_of, rule_told, segments_told, sentence } from "./told.mjs";
 
-const HELP = `Usage: node apps/web/tell.mjs [--ladder] [--module FILE] FILE
+const HELP = `Usage: node apps/web/explain.mjs [--ladder] [--module FILE] FILE
 
-Tells what a script of tcpkit replay does, a sentence for each event; with --ladder draws it with letters. FILE is a
+Explains what a script of tcpkit replay does, a sentence for each event; with --ladder draws it with letters. FILE is a
 script, or - for standard input (docs/FORMATS.md). The module is apps/web/out/tcp_web.wasm, or what --module names.
 
 It ends with 0, with 1 where the script has a fault, which is told with its cause and cure, and with 2 where the words
@@ -30,11 +30,11 @@ function words_of(args) {
         } else if (words.file === null && (args[at] === "-" || !args[at].startsWith("-"))) {
             words.file = args[at];
         } else {
-            throw new WrongWords(`tell: ${args[at]}: no such word; --help says which there are`);
+            throw new WrongWords(`explain: ${args[at]}: no such word; --help says which there are`);
         }
     }
     if (words.file === null) {
-        throw new WrongWords("tell: a FILE is missing; --help says how it is called");
+        throw new WrongWords("explain: a FILE is missing; --help says how it is called");
     }
     return words;
 }
@@ -43,7 +43,7 @@ function read(file) {
     try {
         return fs.readFileSync(file === "-" ? 0 : file);
     } catch (error) {
-        throw new WrongWords(`tell: ${file}: ${error.code === "ENOENT" ? "no such file" : error.code ?? error.message}`);
+        throw new WrongWords(`explain: ${file}: ${error.code === "ENOENT" ? "no such file" : error.code ?? error.message}`);
     }
 }
 
