@@ -187,7 +187,7 @@ void arrive(struct usernet *net, const struct ip_packet *packet)
         stray(net, packet);
     } else if (conn->is_open) {
         struct tcpcore_taken taken;
-        uint32_t answer = tcpcore_take(&conn->end, packet->src, packet->dst, bytes, packet->length, &taken);
+        uint32_t answer = tcpcore_taken(&conn->end, packet->src, packet->dst, bytes, packet->length, &taken);
         net->counters[MALFORMED] += answer >= TCPCORE_TOO_SHORT && answer <= TCPCORE_BAD_PADDING;
         timers_taken(&conn->timers, &conn->end, &taken, net->now);
         if (taken.at_once)

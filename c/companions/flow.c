@@ -168,7 +168,7 @@ uint32_t flow_arrive(struct flow *flow, tcpcore_end *end, tcpcore_addr src, tcpc
     const uint8_t *segment = bytes;
     struct tcpcore_status before = status_of(end);
     struct tcpcore_taken taken;
-    uint32_t answer = tcpcore_take(end, src, dst, bytes, length, &taken);
+    uint32_t answer = tcpcore_taken(end, src, dst, bytes, length, &taken);
     if (answer != TCPCORE_DONE && answer != TCPCORE_DROPPED)
         return answer;
     struct tcpcore_status after = status_of(end);

@@ -4,8 +4,8 @@
  * delayed (RFC 9293, 3.8.6.3; RFC 5681, 4.2) and limited (RFC 5961, 7), and no silly windows (RFC 9293, 3.8.6.2): none is
  * told, and none is filled.
  *
- * This is C over tcpcore.h, timers.h, congestion.h and answers.h, tested and not proved. tcpcore_take, tcpcore_send,
- * tcpcore_receive and tcpcore_emit are called through it, and so is timers_run; all other calls are made as they are.
+ * This is C over tcpcore.h, timers.h, congestion.h and answers.h, tested and not proved. tcpcore_taken, tcpcore_send,
+ * tcpcore_receive and tcpcore_transmit are called through it, and so is timers_run; all other calls are made as they are.
  *
  * The caller has the clock: `now` is a count of milliseconds that never goes back. In each turn of its loop it
  *   1. hands a batch of arrivals to flow_arrive, and emits at once where `is_urgent` is set then,

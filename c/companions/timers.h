@@ -4,7 +4,7 @@
  * This is C over tcpcore.h, tested and not proved. An end is right at any times; these are the standard's.
  *
  * The caller has the clock: `now` is a count of milliseconds that never goes back. In each turn of its loop it
- *   1. hands arrivals to tcpcore_take, and each report to timers_taken,
+ *   1. hands arrivals to tcpcore_taken, and each report to timers_taken,
  *   2. calls timers_run, then makes its own calls (tcpcore_receive, tcpcore_send, tcpcore_close),
  *   3. transmits, and hands each report to timers_sent,
  *   4. calls timers_run once more, which starts the timers of what was sent, and waits for timers_wait at most.
@@ -80,7 +80,7 @@ int timers_sent(struct timers *timers, const struct tcpcore_transmit *sent, uint
 int timers_emitted(struct timers *timers, const void *segment, size_t length, uint64_t now);
 
 /*
- * A segment has come to the end, of which tcpcore_take reported this. A peer that answers with a window of 0 is there: it is
+ * A segment has come to the end, of which tcpcore_taken reported this. A peer that answers with a window of 0 is there: it is
  * probed for as long as it answers (RFC 9293, 3.8.6.1).
  */
 void timers_taken(struct timers *timers, const tcpcore_end *end, const struct tcpcore_taken *taken, uint64_t now);

@@ -195,12 +195,24 @@ static uint32_t tcp_c_arrive(struct handle *handle, const tcpcore_addr *src, con
 }
 
 static uint32_t tcp_c_take(struct handle *handle, const tcpcore_addr *src, const tcpcore_addr *dst, const uint8_t *bytes,
-                           size_t length, struct tcpcore_taken *taken)
+                           size_t length, uint32_t *at_once)
+{
+    WITH_END(handle);
+    put_segment(&call, src, dst, bytes, length);
+    put32(call.frame + AT_FOUND, 0);
+    uint32_t answer = w2c_tcp_c_take(M, AT_HANDLE, AT_SRC, AT_DST, WINDOW(IN_READ), length_of(length), AT_FOUND);
+    *at_once = get32(call.frame + AT_FOUND);
+    end_with(&call, handle);
+    return answer;
+}
+
+static uint32_t tcp_c_taken(struct handle *handle, const tcpcore_addr *src, const tcpcore_addr *dst, const uint8_t *bytes,
+                            size_t length, struct tcpcore_taken *taken)
 {
     WITH_END(handle);
     put_segment(&call, src, dst, bytes, length);
     carry_record(call.frame + AT_RECORD, taken, OF_TAKEN);
-    uint32_t answer = w2c_tcp_c_take(M, AT_HANDLE, AT_SRC, AT_DST, WINDOW(IN_READ), length_of(length), AT_RECORD);
+    uint32_t answer = w2c_tcp_c_taken(M, AT_HANDLE, AT_SRC, AT_DST, WINDOW(IN_READ), length_of(length), AT_RECORD);
     carry_record(taken, call.frame + AT_RECORD, OF_TAKEN);
     end_with(&call, handle);
     return answer;

@@ -40,7 +40,8 @@ uint32_t tcp_c_close(struct handle *);
 uint32_t tcp_c_abort(struct handle *);
 uint32_t tcp_c_timer(struct handle *, uint32_t);
 uint32_t tcp_c_arrive(struct handle *, const tcpcore_addr *, const tcpcore_addr *, const uint8_t *, size_t);
-uint32_t tcp_c_take(struct handle *, const tcpcore_addr *, const tcpcore_addr *, const uint8_t *, size_t, struct tcpcore_taken *);
+uint32_t tcp_c_take(struct handle *, const tcpcore_addr *, const tcpcore_addr *, const uint8_t *, size_t, uint32_t *);
+uint32_t tcp_c_taken(struct handle *, const tcpcore_addr *, const tcpcore_addr *, const uint8_t *, size_t, struct tcpcore_taken *);
 uint32_t tcp_c_emit(struct handle *, uint8_t *, size_t, tcpcore_addr *, size_t *);
 uint32_t tcp_c_transmit(struct handle *, uint8_t *, size_t, struct tcpcore_transmit *);
 uint32_t tcp_c_next(struct handle *, struct tcpcore_transmit *);
@@ -254,14 +255,25 @@ uint32_t tcpcore_arrive(tcpcore_end *end, tcpcore_addr src, tcpcore_addr dst, co
     return answer != TCPCORE_DONE ? answer : tcp_c_arrive(handle(end), &src, &dst, front(bytes), length);
 }
 
-uint32_t tcpcore_take(tcpcore_end *end, tcpcore_addr src, tcpcore_addr dst, const void *bytes, size_t length,
-                      struct tcpcore_taken *taken)
+uint32_t tcpcore_take(tcpcore_end *end, tcpcore_addr src, tcpcore_addr dst, const void *bytes, size_t length, uint32_t *at_once)
+{
+    uint32_t found = 0;
+    struct place place = {at_once, sizeof *at_once};
+    uint32_t answer = refusal_with(end, bytes, length, place);
+    if (answer == TCPCORE_DONE)
+        answer = tcp_c_take(handle(end), &src, &dst, front(bytes), length, &found);
+    put(place, end_at(end), bytes, length, &found);
+    return answer;
+}
+
+uint32_t tcpcore_taken(tcpcore_end *end, tcpcore_addr src, tcpcore_addr dst, const void *bytes, size_t length,
+                       struct tcpcore_taken *taken)
 {
     struct tcpcore_taken found = {0};
     struct place place = {taken, sizeof *taken};
     uint32_t answer = refusal_with(end, bytes, length, place);
     if (answer == TCPCORE_DONE)
-        answer = tcp_c_take(handle(end), &src, &dst, front(bytes), length, &found);
+        answer = tcp_c_taken(handle(end), &src, &dst, front(bytes), length, &found);
     put(place, end_at(end), bytes, length, &found);
     return answer;
 }

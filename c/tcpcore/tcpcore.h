@@ -106,7 +106,7 @@ XX buffers stay as they are then. Such a pointer may not be over
 #ifdef __cplusplus
 extern "C" {
 #ifdef __GNUC__
-/* Three structs have the names of calls. */
+/* Four structs have the names of calls. */
 #pragma GCC diagnostic push
 #pragma GCC diagnostic ignored "-Wshadow"
 #endif
@@ -303,7 +303,7 @@ enum {
     TCPCORE_BROUGHT_NOT_KEPT = 3  /* text or a FIN of which nothing is kept */
 };
 
-/* What tcpcore_take reports of a segment. All 0 where the answer is a refusal. */
+/* What tcpcore_taken reports of a segment. All 0 where the answer is a refusal. (The tag alone is a type, as of tcpcore_status.) */
 struct tcpcore_taken {
     uint32_t at_once;      /* 1 where it has to be answered at once (RFC 5681, 4.2) */
     uint32_t rule;         /* TCPCORE_RULE_NONE .. TCPCORE_RULE_TAKEN_SHUT */
@@ -448,13 +448,20 @@ uint32_t tcpcore_timer(tcpcore_end *end, uint32_t timer);
 uint32_t tcpcore_arrive(tcpcore_end *end, tcpcore_addr src, tcpcore_addr dst, const void *bytes, size_t length);
 
 /*
- * The same, and reports what the segment is to the end. taken->at_once tells whether it has to be answered at once (RFC 5681, 4.2),
- * by emitting what is due: it came out of order or filled all or part of a gap, had a SYN or a FIN, or wasn't taken and is answered
- * all the same. Where it is 0 an acknowledgement that is due may wait: for a second segment, and at most half a second.
+ * The same, and tells whether the segment has to be answered at once (RFC 5681, 4.2), by emitting what is due: *at_once is
+ * 1 where it came out of order or filled all or part of a gap, had a SYN or a FIN, or wasn't taken and is answered all
+ * the same. Where it is 0 an acknowledgement that is due may wait: for a second segment, and at most half a second.
  *   As tcpcore_arrive.
  */
-uint32_t tcpcore_take(tcpcore_end *end, tcpcore_addr src, tcpcore_addr dst, const void *bytes, size_t length,
-                      struct tcpcore_taken *taken);
+uint32_t tcpcore_take(tcpcore_end *end, tcpcore_addr src, tcpcore_addr dst, const void *bytes, size_t length, uint32_t *at_once);
+
+/*
+ * The same, and reports more of what the segment is to the end: the rule that applied, the text that it acknowledged, what it
+ * brought, whether it is a duplicate acknowledgement (RFC 5681, 2), and whether its window was taken. Of version 5.
+ *   As tcpcore_arrive.
+ */
+uint32_t tcpcore_taken(tcpcore_end *end, tcpcore_addr src, tcpcore_addr dst, const void *bytes, size_t length,
+                       struct tcpcore_taken *taken);
 
 /*
  * Writes the segment that is due to `out`, checksum and all (RFC 9293, 3.7, 3.8 and 3.10).
@@ -465,13 +472,13 @@ uint32_t tcpcore_emit(tcpcore_end *end, void *out, size_t room, tcpcore_addr *to
 
 /*
  * As tcpcore_emit: the same bytes, and the same end behind it. It reports what the segment is, where it begins, and how much text
- * it has, beside where it goes and its length.
+ * it has, beside where it goes and its length. Of version 5.
  *   As tcpcore_emit.
  */
 uint32_t tcpcore_transmit(tcpcore_end *end, void *out, size_t room, struct tcpcore_transmit *transmit);
 
 /*
- * Tells what tcpcore_transmit would report now, and writes no segment.
+ * Tells what tcpcore_transmit would report now, and writes no segment. Of version 5.
  *   DONE; NOT_DUE: no segment is due. NO_END; NULL; OVERLAP; COPIED.
  */
 uint32_t tcpcore_next(const tcpcore_end *end, struct tcpcore_transmit *next);

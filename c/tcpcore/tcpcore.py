@@ -150,7 +150,7 @@ class Status(NamedTuple):
 
 
 class Taken(NamedTuple):
-    """What `take` reports of a segment: struct tcpcore_taken has each field's meaning."""
+    """What `taken` reports of a segment: struct tcpcore_taken has each field's meaning."""
 
     at_once: bool
     rule: Rule
@@ -306,7 +306,8 @@ CALLS = {
     "abort": [END],
     "timer": [END, ctypes.c_uint32],
     "arrive": [END, AddrStruct, AddrStruct, ctypes.c_char_p, SIZE],
-    "take": [END, AddrStruct, AddrStruct, ctypes.c_char_p, SIZE, ctypes.POINTER(TakenStruct)],
+    "take": [END, AddrStruct, AddrStruct, ctypes.c_char_p, SIZE, ctypes.POINTER(ctypes.c_uint32)],
+    "taken": [END, AddrStruct, AddrStruct, ctypes.c_char_p, SIZE, ctypes.POINTER(TakenStruct)],
     "emit": [END, ctypes.c_char_p, SIZE, ctypes.POINTER(AddrStruct), OUT],
     "transmit": [END, ctypes.c_char_p, SIZE, ctypes.POINTER(TransmitStruct)],
     "next": [END, ctypes.POINTER(TransmitStruct)],
@@ -555,11 +556,17 @@ class End:
         source, destination, data = address(src), address(dst), octets(data)
         return Answer(self.calls["arrive"](self.end, source, destination, data, len(data)))
 
-    def take(self, src: Address, dst: Address, data: Buffer) -> tuple[Answer, Taken]:
+    def take(self, src: Address, dst: Address, data: Buffer) -> tuple[Answer, bool]:
+        """What became of the segment, and whether the segment has to be answered at once."""
+        source, destination, data = address(src), address(dst), octets(data)
+        answer = self.calls["take"](self.end, source, destination, data, len(data), self.due)
+        return Answer(answer), self.due.value == 1
+
+    def taken(self, src: Address, dst: Address, data: Buffer) -> tuple[Answer, Taken]:
         """What became of the segment, and what it is to the end."""
         source, destination, data = address(src), address(dst), octets(data)
         told = TakenStruct()
-        answer = self.calls["take"](self.end, source, destination, data, len(data), told)
+        answer = self.calls["taken"](self.end, source, destination, data, len(data), told)
         return Answer(answer), Taken(
             told.at_once == 1,
             Rule(told.rule),

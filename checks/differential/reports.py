@@ -148,7 +148,7 @@ def call(library, words):
     """Makes the call of a line, whatever it answers; a report where it has one."""
     name, *rest = words.split()
     if name == "arrive":
-        return library.take(address(rest[0]), address(rest[1]), octets(rest[2]))[1]
+        return library.taken(address(rest[0]), address(rest[1]), octets(rest[2]))[1]
     if name == "emit":
         before, sent = library.next(), library.transmit()
         return (before, sent and sent[0])

@@ -67,9 +67,9 @@ static size_t make(uint8_t *bytes, uint32_t seq, uint32_t ack, unsigned bits, co
 static uint32_t arrive(uint32_t seq, uint32_t ack, unsigned bits, const char *options, uint32_t text)
 {
     static uint8_t bytes[MOST];
-    struct tcpcore_taken taken;
+    uint32_t at_once;
     size_t length = make(bytes, seq, ack, bits, options, text);
-    return tcpcore_take(&end, PEER, OWN, bytes, length, &taken);
+    return tcpcore_take(&end, PEER, OWN, bytes, length, &at_once);
 }
 
 /* Emits one segment; its bits, or NONE. */

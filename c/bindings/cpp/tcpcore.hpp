@@ -65,9 +65,8 @@ public:
     // What became of the segment: DONE, DROPPED, NOT_MINE, or why it is none; and whether it has to be answered at once.
     std::pair<std::uint32_t, bool> arrive(tcpcore_addr src, tcpcore_addr dst, const void *segment, std::size_t length)
     {
-        struct tcpcore_taken taken;
-        std::uint32_t answer = tcpcore_take(raw(), src, dst, segment, length, &taken);
-        return {answer, taken.at_once == 1};
+        std::uint32_t at_once, answer = tcpcore_take(raw(), src, dst, segment, length, &at_once);
+        return {answer, at_once == 1};
     }
     bool timer(std::uint32_t timer) { return tcpcore_timer(raw(), timer) == TCPCORE_DONE; }
     struct tcpcore_status status() const

@@ -138,9 +138,9 @@ func (end *End) Emit(room *[EmitRoom]byte) (to Addr, length int) {
 
 // Arrive takes a segment: nil where it was taken, else what became of it; and whether it has to be answered at once.
 func (end *End) Arrive(src, dst Addr, segment []byte) (atOnce bool, err error) {
-	var taken C.struct_tcpcore_taken
-	err = done(C.tcpcore_take(end.raw, src.c(), dst.c(), front(segment), C.size_t(len(segment)), &taken))
-	return taken.at_once == 1, err
+	var found C.uint32_t
+	err = done(C.tcpcore_take(end.raw, src.c(), dst.c(), front(segment), C.size_t(len(segment)), &found))
+	return found == 1, err
 }
 
 // Timer says that a timer has run out, and tells whether its rule was applied. Timers has bit 1 << t where timer t has to run.

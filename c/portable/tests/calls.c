@@ -207,8 +207,10 @@ static void arrive(struct side *from, struct side *to)
         told(tcpcore_rest_arrive(&to->rest, from->addr, kept.to, kept.bytes, kept.length));
     else if (next(2))
         told(tcpcore_arrive(&to->end, from->addr, kept.to, kept.bytes, kept.length));
+    else if (next(2))
+        told(tcpcore_take(&to->end, from->addr, kept.to, kept.bytes, kept.length, &taken.at_once));
     else
-        told(tcpcore_take(&to->end, from->addr, kept.to, kept.bytes, kept.length, &taken));
+        told(tcpcore_taken(&to->end, from->addr, kept.to, kept.bytes, kept.length, &taken));
     mix(taken.at_once), mix(taken.rule), mix(taken.acked), mix(taken.brought), mix(taken.is_duplicate), mix(taken.window_taken);
     for (size_t i = 0; i < sizeof taken.reserved / sizeof *taken.reserved; i++)
         mix(taken.reserved[i]);

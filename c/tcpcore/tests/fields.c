@@ -276,10 +276,10 @@ static struct segment emitted(struct side *from)
 
 static void hand(const struct side *from, struct side *to, const struct segment *segment)
 {
-    struct tcpcore_taken taken;
-    uint32_t answer = tcpcore_take(&to->end, from->config.addr, segment->dst, segment->bytes, segment->length, &taken);
+    uint32_t at_once;
+    uint32_t answer = tcpcore_take(&to->end, from->config.addr, segment->dst, segment->bytes, segment->length, &at_once);
     printf("%s takes %zu bytes: %s, %s\n", to->name, segment->length, tcpcore_strerror(answer),
-           taken.at_once ? "at once" : "may wait");
+           at_once ? "at once" : "may wait");
 }
 
 /* Two ends that agree on all that can be agreed on. The second of three texts comes last, and one comes again. */

@@ -164,8 +164,8 @@ def close_both(a, b):
 
 
 def hand(source, target, segment):
-    answer, taken = target.end.take(source.config.addr, *segment)
-    print(f"{target.name} takes {len(segment[1])} bytes: {strerror(answer)}, {'at once' if taken.at_once else 'may wait'}")
+    answer, at_once = target.end.take(source.config.addr, *segment)
+    print(f"{target.name} takes {len(segment[1])} bytes: {strerror(answer)}, {'at once' if at_once else 'may wait'}")
 
 
 def agree(a, b):

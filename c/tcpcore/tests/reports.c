@@ -1,5 +1,5 @@
 /*
- * The test of what tcpcore_take and tcpcore_transmit report, beside the answers: each value is worked out by hand from RFC 9293,
+ * The test of what tcpcore_taken and tcpcore_transmit report, beside the answers: each value is worked out by hand from RFC 9293,
  * 3.10.7, and RFC 5681, 2 and 4.2. A is at 10.0.0.1 port 1 with the initial sequence number 1000, B at 10.0.0.2 port 2 with 5000.
  */
 #include "check.h"
@@ -77,7 +77,7 @@ static void comes_from(tcpcore_addr src, tcpcore_end *end, const struct segment 
 {
     struct tcpcore_taken taken;
     memset(&taken, 7, sizeof taken);
-    CHECK(tcpcore_take(end, src, segment->to, segment->bytes, segment->length, &taken), answer);
+    CHECK(tcpcore_taken(end, src, segment->to, segment->bytes, segment->length, &taken), answer);
     CHECK(taken.at_once, wanted.at_once);
     CHECK(taken.rule, wanted.rule);
     CHECK(taken.acked, wanted.acked);

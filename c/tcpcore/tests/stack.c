@@ -69,7 +69,7 @@ static void carry(tcpcore_end *from, tcpcore_addr src, tcpcore_end *to)
         if (answer != TCPCORE_DONE)
             return;
         if (++count % 5 != 0)
-            DEPTH(tcpcore_take(to, src, sent.to, segment, (size_t)sent.length, &taken));
+            DEPTH(tcpcore_taken(to, src, sent.to, segment, (size_t)sent.length, &taken));
     }
 }
 

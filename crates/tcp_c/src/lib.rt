@@ -63,7 +63,8 @@
 //! uint32_t tcp_c_abort(tcp_c_handle *handle);
 //! uint32_t tcp_c_timer(tcp_c_handle *handle, uint32_t timer);
 //! uint32_t tcp_c_arrive(tcp_c_handle *handle, const tcp_c_addr *src, const tcp_c_addr *dst, const uint8_t *bytes, size_t bytes_length);
-//! uint32_t tcp_c_take(tcp_c_handle *handle, const tcp_c_addr *src, const tcp_c_addr *dst, const uint8_t *bytes, size_t bytes_length, tcp_c_taken_record *taken);
+//! uint32_t tcp_c_take(tcp_c_handle *handle, const tcp_c_addr *src, const tcp_c_addr *dst, const uint8_t *bytes, size_t bytes_length, uint32_t *at_once);
+//! uint32_t tcp_c_taken(tcp_c_handle *handle, const tcp_c_addr *src, const tcp_c_addr *dst, const uint8_t *bytes, size_t bytes_length, tcp_c_taken_record *taken);
 //! uint32_t tcp_c_emit(tcp_c_handle *handle, uint8_t *out, size_t out_length, tcp_c_addr *to, size_t *count);
 //! uint32_t tcp_c_transmit(tcp_c_handle *handle, uint8_t *out, size_t out_length, tcp_c_transmit_record *transmit);
 //! uint32_t tcp_c_next(tcp_c_handle *handle, tcp_c_transmit_record *next);
@@ -121,14 +122,14 @@ pub use handle::{Handle, MARK_OF_LIVE};
 pub use held::Held;
 pub use making::{tcp_c_free, tcp_c_new};
 pub use records::{CAddr, CConfig, CRest, CStatus, CTaken, CTransmit};
-pub use reports::{tcp_c_next, tcp_c_take, tcp_c_transmit};
+pub use reports::{tcp_c_next, tcp_c_taken, tcp_c_transmit};
 pub use rest_calls::{
     tcp_c_rest, tcp_c_rest_abort, tcp_c_rest_arrive, tcp_c_rest_emit, tcp_c_rest_pending,
     tcp_c_rest_status, tcp_c_rest_timer,
 };
 pub use rests::MARK_OF_REST;
 pub use room::tcp_c_room;
-pub use segments::{tcp_c_arrive, tcp_c_emit, tcp_c_stray_reset};
+pub use segments::{tcp_c_arrive, tcp_c_emit, tcp_c_stray_reset, tcp_c_take};
 pub use status::{tcp_c_peer, tcp_c_pending, tcp_c_status};
 pub use timing::{tcp_c_timer, tcp_c_timers};
 pub use user::{

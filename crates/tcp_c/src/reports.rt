@@ -125,7 +125,7 @@ fn record_of(sent: Transmit) -> CTransmit
 /// that applied, the text that it acknowledged, what it brought, whether it is a duplicate acknowledgement (RFC 5681, 2), and
 /// whether its window was taken.
 #[unsafe(no_mangle)]
-pub extern "C" fn tcp_c_take(
+pub extern "C" fn tcp_c_taken(
     handle: &mut Handle,
     src: &CAddr,
     dst: &CAddr,

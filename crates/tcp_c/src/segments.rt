@@ -1,10 +1,12 @@
 //! Segments in and out.
 ghost use Rattle.std.specs.Prelude.{◌≡◌, length, option_map};
 ghost use Rattle.tcp_conn.specs.Arrival.{arrival_answer, after_arrival};
+ghost use Rattle.tcp_conn.specs.AtOnce.{answers_at_once};
 ghost use Rattle.tcp_conn.specs.Stray.{stray_reset};
 ghost use Rattle.tcp_conn.specs.declared.emission.TheConstants.{EMIT_ROOM};
 ghost use Rattle.tcp_c.specs.Answers.{answer_of, number_written, arrival_number};
 ghost use Rattle.tcp_c.specs.Segments.{emission_number, after_emission_within, written_length, written_destination, written_buffer, stray_number, stray_buffer, stray_length};
+ghost use Rattle.tcp_c.specs.Status.{flag};
 
 use crate::answers::{DONE, LITTLE_ROOM, NO_END, NOTHING_DUE, arrival_number};
 use crate::handle::Handle;
@@ -25,6 +27,29 @@ pub extern "C" fn tcp_c_arrive(handle: &mut Handle, src: &CAddr, dst: &CAddr, by
     let answer = end.arrive(Addr(src.byte), Addr(dst.byte), bytes);
     handle.put(end);
     arrival_number(answer)
+}
+
+/// The same, and tells whether the segment has to be answered at once, 1, or may wait for the next, 0 (RFC 5681, 4.2).
+#[unsafe(no_mangle)]
+pub extern "C" fn tcp_c_take(
+    handle: &mut Handle,
+    src: &CAddr,
+    dst: &CAddr,
+    bytes: &[u8],
+    at_once: &mut u32,
+) -> u32
+    ensures answer { result ≡ answer_of (λ s. arrival_number (arrival_answer s src.now.byte dst.now.byte bytes.now)) handle.old.held.end }
+    ensures at_once { at_once.new ≡ number_written (λ s. flag (answers_at_once s src.now.byte dst.now.byte bytes.now)) handle.old.held.end }
+    ensures state { handle.new.held.end ≡ option_map (λ s. after_arrival s src.now.byte dst.now.byte bytes.now) handle.old.held.end }
+{
+    *at_once = 0;
+    let Some(mut end) = handle.take() else {
+        return NO_END;
+    };
+    let taken = end.take(Addr(src.byte), Addr(dst.byte), bytes);
+    handle.put(end);
+    *at_once = u32::from(taken.at_once);
+    arrival_number(taken.arrival)
 }
 
 /// Writes the segment that is due into the front of `out`, and tells where it goes and its length (RFC 9293, 3.7, 3.8 and

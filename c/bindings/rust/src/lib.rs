@@ -158,9 +158,9 @@ impl End {
     /// A segment has come from one address to the other (RFC 9293, 3.10.7). Answers what became of it, and whether it has to be
     /// answered at once (RFC 5681, 4.2).
     pub fn arrive(&mut self, src: Addr, dst: Addr, segment: &[u8]) -> (Arrival, bool) {
-        let (src, dst, mut taken) = (sys::Addr { byte: src }, sys::Addr { byte: dst }, sys::Taken::default());
-        let answer = unsafe { sys::tcpcore_take(&mut self.raw, src, dst, segment.as_ptr().cast(), segment.len(), &mut taken) };
-        (Arrival::of(answer), taken.at_once == 1)
+        let (src, dst, mut at_once) = (sys::Addr { byte: src }, sys::Addr { byte: dst }, 0);
+        let answer = unsafe { sys::tcpcore_take(&mut self.raw, src, dst, segment.as_ptr().cast(), segment.len(), &mut at_once) };
+        (Arrival::of(answer), at_once == 1)
     }
 
     /// Writes the segment that is due, if one is (RFC 9293, 3.7, 3.8 and 3.10): the address it is for, and its bytes in `room`. More may

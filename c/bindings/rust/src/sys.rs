@@ -60,18 +60,6 @@ pub struct Status {
 }
 
 #[repr(C)]
-#[derive(Clone, Copy, Default)]
-pub struct Taken {
-    pub at_once: u32,
-    pub rule: u32,
-    pub acked: u64,
-    pub brought: u32,
-    pub is_duplicate: u32,
-    pub window_taken: u32,
-    pub reserved: [u32; 9],
-}
-
-#[repr(C)]
 #[derive(Clone, Debug, Default, PartialEq, Eq)]
 pub struct Rest {
     pub mark: u32,
@@ -90,7 +78,7 @@ extern "C" {
     pub fn tcpcore_close(end: *mut End) -> u32;
     pub fn tcpcore_abort(end: *mut End) -> u32;
     pub fn tcpcore_timer(end: *mut End, timer: u32) -> u32;
-    pub fn tcpcore_take(end: *mut End, src: Addr, dst: Addr, bytes: *const c_void, length: usize, taken: *mut Taken) -> u32;
+    pub fn tcpcore_take(end: *mut End, src: Addr, dst: Addr, bytes: *const c_void, length: usize, at_once: *mut u32) -> u32;
     pub fn tcpcore_emit(end: *mut End, out: *mut c_void, room: usize, to: *mut Addr, length: *mut usize) -> u32;
     pub fn tcpcore_pending(end: *const End, due: *mut u32) -> u32;
     pub fn tcpcore_stray_reset(
@@ -171,7 +159,6 @@ mod tests {
                 finished,
                 reserved
             ),
-            places!(Taken, "struct tcpcore_taken", at_once, rule, acked, brought, is_duplicate, window_taken, reserved),
             places!(Rest, "struct tcpcore_rest", mark),
         ];
         let (expressions, found): (Vec<_>, Vec<_>) = all.into_iter().unzip();
