@@ -109,7 +109,6 @@ impl<A: Allocator> Endpoint<A> {
     /// applied, the text that it acknowledged, whether it is a duplicate acknowledgement (RFC 5681, 2), whether its window was
     /// taken, and what it brought.
     #[must_use]
-    #[inline(always)]
     #[tactic(auto, unfolding(crate::specs::Arrival::arrival_answer, crate::specs::Arrival::after_arrival, crate::specs::AtOnce::answers_at_once, crate::specs::Taking::rule_of, crate::specs::Taking::is_duplicate, crate::specs::Taking::is_window_taken, crate::specs::Taking::brought))]
     pub fn take(&mut self, src: Addr, dst: Addr, bytes: &[u8]) -> Taken
         ensures answer { result.arrival ≡ arrival_answer self.old src.0 dst.0 bytes.now }
