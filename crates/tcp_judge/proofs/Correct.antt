@@ -11,7 +11,7 @@ use Rattle.tcp_halves.specs.Config.{IsConfig}
 use Rattle.tcp_replay.specs.Solo.{SoloState, solo_start, solo_run, run_alone, after_solo, segment_due}
 use Rattle.tcp_replay.specs.SoloEvents.{SoloContent, HasRanges, Emit, Arrive}
 use Rattle.tcp_replay.specs.Truthful.{IsOfUser}
-use Rattle.tcp_replay.proofs.SoloRuns.{one_end_is_true_lem}
+use Rattle.tcp_replay.proofs.SoloRuns.{one_end_is_true_lem, content-is}
 use Rattle.tcp_judge.specs.Known.{Known, nothing_known}
 use Rattle.tcp_judge.specs.Log.{PassageContent, Came, Went, went_from, log_of, log_alone}
 use Rattle.tcp_judge.specs.Judgement.{finding_read, known_read, known_came, first_finding, placed_or, IsClean}
@@ -34,9 +34,6 @@ IsUsers isn accepted closed src dst bytes =
 -- bytes say one thing
 abbrev read_as : Content → Result Content DecodeError
 read_as v = Ok v
-
-content-is : {v w : Content} → read_as v ≡ read_as w → v ≡ w
-content-is e = cc
 
 module _ (isn : ℕ) (accepted : List ℕ) (closed : Bool) (small : isn < 2 ^ 32) (short : 2 + length accepted < 2 ^ 31) where
   -- ONE SEGMENT

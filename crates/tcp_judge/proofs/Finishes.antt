@@ -8,14 +8,12 @@ use Rattle.tcp_wire.specs.Wire.{Content}
 use Rattle.tcp_conn.specs.declared.judgement.Judgement.{Judgement}
 use Rattle.tcp_conn.specs.declared.judgement.Judgement.TheVariants.{Foreign}
 use Rattle.tcp_halves.specs.declared.link.Peer.{Peer}
-use Rattle.tcp_conn.specs.Phase.{is_last_ack, takes_text, phase_after_own_fin}
+use Rattle.tcp_conn.specs.Phase.{takes_text}
 use Rattle.tcp_reasm.specs.Reassembly.{after_read}
 use Rattle.tcp_conn.specs.State.{State, Receiving}
-use Rattle.tcp_halves.specs.Sender.{is_fin_acked}
 use Rattle.tcp_halves.specs.Receiver.{with_syn, after_text, is_fin_due, with_fin}
-use Rattle.tcp_conn.specs.Endings.{after_orderly_end}
 use Rattle.tcp_conn.specs.Judgement.{is_foreign, phase_judgement, judgement}
-use Rattle.tcp_conn.specs.Arrival.{after_peer_opens, after_peer_accepts, after_own_syn, after_acked_text, after_news, after_own_fin, after_its_ack}
+use Rattle.tcp_conn.specs.Arrival.{after_peer_opens, after_peer_accepts, after_its_ack}
 use Rattle.tcp_conn.specs.Arrival.{takes_text_of, after_its_text, has_fin, takes_fin, after_fin, after_taking, after_taking_shut, after_judgement}
 use Rattle.tcp_replay.specs.Alone.{IsAlone}
 use Rattle.tcp_replay.specs.World.{PartyState}
@@ -24,6 +22,7 @@ use Rattle.tcp_replay.proofs.Phases.{end-takes_text}
 use Rattle.tcp_replay.proofs.Judgements.{IsPresent, IsTaken, in-phase}
 use Rattle.tcp_replay.proofs.Alone.{alone-its_ack, alone-its_text}
 use Rattle.tcp_replay.proofs.Calls.{KeptByCalls}
+use Rattle.tcp_replay.proofs.Stages.{its_ack-receiving}
 
 -- FROM ONE HALF THAT RECEIVES TO ANOTHER, where Q holds of the number of a FIN that is taken
 pub record Finishes (Q : ℕ → Type 0) (r r' : Receiving) : Type 0 where
@@ -69,19 +68,6 @@ finishes-calls Q peer p =
     }
 
 -- AN ACKNOWLEDGEMENT leaves what was received as it was
-own_fin-receiving : (s : State) → (after_own_fin s).receiving ≡ s.receiving
-unfolding after_own_fin
-own_fin-receiving s =
-    cond_both (is_fin_acked s.sending) (if is_last_ack s.phase then after_orderly_end s else record s { phase = phase_after_own_fin s.phase }) s
-    (λ (x : State). x.receiving ≡ s.receiving)
-    (λ _. cond_both (is_last_ack s.phase) (after_orderly_end s) (record s { phase = phase_after_own_fin s.phase }) (λ (x : State). x.receiving ≡ s.receiving)
-    (λ _. refl) (λ _. refl))
-    (λ _. refl)
-
-its_ack-receiving : (s : State) (v : Content) → (after_its_ack s v).receiving ≡ s.receiving
-unfolding after_its_ack after_news after_acked_text after_own_syn
-its_ack-receiving s v = own_fin-receiving (after_news (after_acked_text (after_own_syn s v) v) v)
-
 -- TEXT AND FIN
 text-finishes : (Q : ℕ → Type 0) (x : State) (v : Content) (accepted : List ℕ) (closed : Bool) → IsAlone x accepted closed
     → Finishes Q x.receiving (after_its_text x v).receiving

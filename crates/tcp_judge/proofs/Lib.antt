@@ -1,6 +1,5 @@
 pub mod Places
 pub mod Numbers
-pub mod Events
 pub mod Finishes
 pub mod Links
 pub mod Streams

@@ -1,12 +1,11 @@
 -- WHAT A USER SENT stays within the limit of its Config, after every list of events.
 use Rattle.std.proofs.Common.{◌≡◌, ℕ, ◌+◌, ◌-◌, ◌^◌, ◌<◌, ◌≤◌, List, [], ◌∷◌, ◌++◌, length, take, refl, sym, ◌∙◌}
 use Rattle.std.proofs.Common.{ap, subst, arith, length-append, length-take, length-drop}
-use Rattle.std.specs.Prelude.{Bool, false}
+use Rattle.std.specs.Prelude.{Bool, false, None}
 use Rattle.std.specs.List.{AllByRecursion}
 use Rattle.tcp_halves.specs.declared.config.Config.{Config}
 use Rattle.tcp_halves.specs.declared.link.Peer.{Peer}
 use Rattle.tcp_halves.specs.Config.{IsConfig, default_limit}
-use Rattle.tcp_conn.specs.Phase.{gives_up}
 use Rattle.tcp_conn.specs.State.{Sending}
 use Rattle.tcp_halves.specs.Sender.{count_sendable}
 use Rattle.tcp_replay.specs.Alone.{Sends}
@@ -17,10 +16,11 @@ use Rattle.tcp_replay.proofs.Alone.{alone-new}
 use Rattle.tcp_replay.proofs.AloneCalls.{IsAloneIn, send-open}
 use Rattle.tcp_replay.proofs.Calls.{KeptByCalls}
 use Rattle.tcp_replay.proofs.Phases.{gives_up-not_ended}
-use Rattle.tcp_replay.proofs.SoloRuns.{party_in}
+use Rattle.tcp_replay.proofs.SoloRuns.{party_in, solo-step, alone-step}
 use Rattle.tcp_judge.specs.Heard.{Heard, nothing_heard}
-use Rattle.tcp_judge.proofs.Events.{solo-step, alone-step}
 use Rattle.tcp_judge.proofs.Runs.{heard_past, Hears, hears-new, hears-step, address-step}
+use Rattle.tcp_wire.specs.Checksum.{AreBytes}
+use Rattle.tcp_conn.specs.Calls.{send_refusal}
 
 -- a `send` takes no more than the limit leaves
 sent-within : (d : Sending) (accepted text : List ℕ) (closed : Bool) (limit : ℕ) → Sends d accepted closed false → length accepted ≤ limit
@@ -34,24 +34,10 @@ limit-calls : (peer : Peer) (p : PartyState) → IsAloneIn p → length p.accept
     → KeptByCalls peer p (λ p'. length p'.accepted ≤ p.endpoint.config.limit)
 limit-calls peer p a h =
     let s = p.endpoint in
-    record {
-      same = h;
-      connects = λ _. h;
-      listens = λ _. h;
-      sends = λ text bytes e.
-          let none : gives_up s.ending ≡ false = gives_up-not_ended s.ending (send-open s text e).0 in
-          sent-within s.sending p.accepted text p.closed s.config.limit (rw none at a.sends) h;
-      reads = λ _ _. h;
-      withdraws = h;
-      closes = λ _ _. h;
-      aborts = h;
-      acknowledges = h;
-      resends = λ _. h;
-      probes = h;
-      fills = λ _ _ _. h;
-      ends = λ _. h;
-      emits = λ _ _ _. h;
-    }
+    let sends : (text : List ℕ) → AreBytes text → send_refusal s text ≡ None
+    → length (p.accepted ++ take (count_sendable s.sending s.config.limit text) text) ≤ s.config.limit =
+    λ text bytes e. sent-within s.sending p.accepted text p.closed s.config.limit (rw (gives_up-not_ended s.ending (send-open s text e).0) at a.sends) h in
+    assumption
 
 limit-step : (x : SoloState) (e : SoloContent) → HasRanges e → IsAloneIn (party_in x) → length x.accepted ≤ x.endpoint.config.limit
     → length (after_solo x e).accepted ≤ x.endpoint.config.limit

@@ -1,6 +1,6 @@
 -- WHAT THE TWO SYNS AGREED ON, at one end by itself: it changes only with a SYN that came, by the options of that.
 use Rattle.std.proofs.Common.{◌≡◌, ℕ, List, [], ◌∷◌, refl, sym, subst, inl, inr}
-use Rattle.std.specs.Prelude.{◌⊎◌, Bool, true, is_some, if◌then◌else◌}
+use Rattle.std.specs.Prelude.{◌⊎◌, Bool, true, is_some}
 use Rattle.std.proofs.lemmas.Bool.{cond_both, and_parts, false≢true}
 use Rattle.tcp_wire.specs.Flags.{syn, has}
 use Rattle.tcp_wire.specs.Options.{OptionContent, Nop, Mss, WindowScale, SackPermitted, Sack, Unknown}
@@ -11,10 +11,7 @@ use Rattle.tcp_halves.specs.Options.{shift_option, permits_sack, link_of}
 use Rattle.tcp_halves.specs.declared.config.Config.{Config}
 use Rattle.tcp_halves.specs.declared.link.Link.{Link}
 use Rattle.tcp_halves.specs.declared.link.Peer.{Peer}
-use Rattle.tcp_conn.specs.Phase.{is_last_ack, phase_after_own_fin}
 use Rattle.tcp_conn.specs.State.{State}
-use Rattle.tcp_halves.specs.Sender.{is_fin_acked}
-use Rattle.tcp_conn.specs.Endings.{after_orderly_end}
 use Rattle.tcp_conn.specs.Judgement.{is_foreign, phase_judgement, judgement}
 use Rattle.tcp_conn.specs.Arrival.{after_peer_opens, after_peer_accepts, after_own_syn, after_acked_text, after_news, after_own_fin, after_its_ack}
 use Rattle.tcp_conn.specs.Arrival.{after_its_text, after_fin, after_taking, after_taking_shut, after_judgement}
@@ -22,6 +19,7 @@ use Rattle.tcp_replay.specs.World.{PartyState}
 use Rattle.tcp_replay.proofs.Judgements.{in-phase}
 use Rattle.tcp_replay.proofs.Calls.{KeptByCalls}
 use Rattle.tcp_judge.specs.Heard.{any_scale, any_permission}
+use Rattle.tcp_replay.proofs.Cases.{own_fin-cases}
 
 -- it stays, or Q holds of it
 abbrev pub Links : (Link → Type 0) → State → State → Type 0
@@ -46,13 +44,7 @@ links-calls Q peer p = record {
 }
 
 own_fin-link : (s : State) → (after_own_fin s).link ≡ s.link
-unfolding after_own_fin
-own_fin-link s =
-    cond_both (is_fin_acked s.sending) (if is_last_ack s.phase then after_orderly_end s else record s { phase = phase_after_own_fin s.phase }) s
-    (λ (x : State). x.link ≡ s.link)
-    (λ _. cond_both (is_last_ack s.phase) (after_orderly_end s) (record s { phase = phase_after_own_fin s.phase }) (λ (x : State). x.link ≡ s.link)
-    (λ _. refl) (λ _. refl))
-    (λ _. refl)
+own_fin-link s = own_fin-cases s (λ (x : State). x.link ≡ s.link) (λ _ _. refl) (λ _ _. refl) (λ _. refl)
 
 its_ack-link : (s : State) (v : Content) → (after_its_ack s v).link ≡ s.link
 unfolding after_its_ack after_news after_acked_text after_own_syn

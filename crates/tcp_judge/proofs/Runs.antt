@@ -1,26 +1,25 @@
 -- ONE END after every list of events, against what a judge heard of it: each segment that it emits is of form, and acknowledges what
 -- came.
-use Rattle.std.proofs.Common.{◌≡◌, ℕ, ◌+◌, List, [], ◌∷◌, ◌++◌, refl, sym, ◌∙◌, ap, subst, ⊎_elim, arith, ◌<◌, ◌≤◌, ◌^◌, ◌-◌, length}
-use Rattle.std.specs.Prelude.{zero, suc, Bool, true, false, if◌then◌else◌, Option, Some, None, IfSome, option_map, slice_get, Result, Ok}
-use Rattle.std.specs.Prelude.{Err, is_some}
+use Rattle.std.proofs.Common.{◌≡◌, ℕ, ◌+◌, List, [], ◌∷◌, ◌++◌, refl, sym, ◌∙◌, ap, subst, ⊎_elim, arith, ◌<◌, ◌≤◌, ◌^◌, ◌-◌, length, zero, suc, Bool, true}
+use Rattle.std.proofs.Common.{false, if◌then◌else◌, Option, Some, None, IfSome, option_map, slice_get, Result, Ok, Err, is_some, not, nat_lt, ◌&&◌, ◌||◌, inl}
 use Rattle.std.specs.List.{AllByRecursion}
-use Rattle.std.proofs.lemmas.Bool.{false≢true}
+use Rattle.std.proofs.lemmas.Bool.{false≢true, cond_both, and_parts, lt-ltb, cases_lt, or_right}
 use Rattle.tcp_wire.specs.Checksum.{AreBytes}
 use Rattle.tcp_wire.specs.Decoded.{decode_answer}
-use Rattle.tcp_wire.specs.Flags.{rst, ack, has}
-use Rattle.tcp_wire.specs.Position.{number}
-use Rattle.tcp_wire.specs.Wire.{Content}
+use Rattle.tcp_wire.specs.Flags.{rst, ack, has, fin, syn}
+use Rattle.tcp_wire.specs.Position.{number, distance}
+use Rattle.tcp_wire.specs.Wire.{Content, IsValid, encoded_bytes}
 use Rattle.tcp_wire.specs.declared.fault.DecodeError.{DecodeError}
 use Rattle.tcp_wire.proofs.RoundTrip.{decoded_encoded, decoded_valid}
 use Rattle.tcp_halves.specs.declared.config.Config.{Config}
 use Rattle.tcp_halves.specs.declared.due.Due.{Due}
 use Rattle.tcp_halves.specs.declared.due.Due.TheVariants.{Reset, Syn}
 use Rattle.tcp_halves.specs.Config.{IsConfig}
-use Rattle.tcp_conn.specs.Phase.{gives_up}
-use Rattle.tcp_conn.specs.State.{State}
+use Rattle.tcp_conn.specs.Phase.{gives_up, is_closed, has_peer}
+use Rattle.tcp_conn.specs.State.{State, Receiving}
 use Rattle.tcp_conn.specs.Arrival.{after_reading, after_arrival}
-use Rattle.tcp_conn.specs.Due.{due_of}
-use Rattle.tcp_conn.specs.Forms.{segment_of}
+use Rattle.tcp_conn.specs.Due.{due_of, is_fin}
+use Rattle.tcp_conn.specs.Forms.{segment_of, shift_offered, is_sack_offered, scale_options, permission_options, syn_segment, plain_segment, pushes}
 use Rattle.tcp_conn.specs.Writing.{bytes_of, destination_of}
 use Rattle.tcp_replay.specs.Alone.{IsAlone}
 use Rattle.tcp_replay.specs.OneEnd.{count_come}
@@ -30,41 +29,27 @@ use Rattle.tcp_replay.proofs.Lists.{by_test, one_if}
 use Rattle.tcp_replay.proofs.Alone.{alone-new}
 use Rattle.tcp_replay.proofs.AloneCalls.{IsAloneIn}
 use Rattle.tcp_replay.proofs.AloneEmissions.{GoesOutAlone, due-alone}
-use Rattle.tcp_replay.proofs.Emissions.{syn-opened, reset-bit}
+use Rattle.tcp_replay.proofs.Emissions.{syn-opened, reset-bit, syn-bits, plain-bits}
 use Rattle.tcp_replay.proofs.Feeds.{AllText, ByNumber, text-of, text-at, IsFed, fed-new, fed-more}
 use Rattle.tcp_replay.proofs.AloneFeeds.{Feeds, feeds-calls}
-use Rattle.std.specs.Prelude.{not, nat_lt}
-use Rattle.std.proofs.lemmas.Bool.{cond_both, and_parts, lt-ltb, cases_lt}
 use Rattle.tcp_numbers.specs.declared.seq.Seq.{Seq}
-use Rattle.tcp_wire.specs.Flags.{fin}
-use Rattle.tcp_wire.specs.Wire.{IsValid, encoded_bytes}
-use Rattle.tcp_wire.specs.Position.{distance}
 use Rattle.tcp_conn.specs.declared.phase.Phase.{Phase}
 use Rattle.tcp_conn.specs.declared.phase.Phase.TheVariants.{Closed}
-use Rattle.tcp_conn.specs.Phase.{is_closed, has_peer}
-use Rattle.tcp_conn.specs.State.{Receiving}
 use Rattle.tcp_conn.specs.Judgement.{count_numbers}
-use Rattle.tcp_replay.proofs.SoloRuns.{party_in, next_irs, seq_read, IsSynRead, BringsSyn}
+use Rattle.tcp_replay.proofs.SoloRuns.{party_in, next_irs, seq_read, IsSynRead, BringsSyn, read-arrival, solo-step, alone-step, feeds-arrived, fed-next}
+use Rattle.tcp_replay.proofs.SoloRuns.{irs-same}
 use Rattle.tcp_replay.proofs.Phases.{handshake-knows, not-closed-ended, gives_up-not_ended}
 use Rattle.tcp_judge.specs.Heard.{Heard, nothing_heard, covers, has_come, goes_on, is_of_came, tells, tells_beyond, told_after, after_went, syns_of, after_came}
+use Rattle.tcp_judge.specs.Heard.{any_scale, any_permission, answers_more, oversteps}
 use Rattle.tcp_judge.specs.Log.{PassageContent, went_from, log_of, log_alone}
 use Rattle.tcp_judge.specs.Rules.{ack_finding}
 use Rattle.tcp_judge.specs.Law.{heard_read, heard_went, AllSaidRight}
 use Rattle.tcp_judge.proofs.Numbers.{come-more, come-last, HasSyn, syn-more, syn-last, begins-at, positions-came}
 use Rattle.tcp_judge.proofs.Streams.{none-found, unless}
-use Rattle.std.specs.Prelude.{◌&&◌, ◌||◌}
-use Rattle.std.proofs.Common.{inl}
 use Rattle.tcp_judge.proofs.Links.{Links, links-calls, links-judgement, Offered, offered-link}
-use Rattle.tcp_judge.specs.Heard.{any_scale, any_permission, answers_more, oversteps}
 use Rattle.tcp_halves.specs.declared.link.Link.{Link}
 use Rattle.tcp_halves.specs.Options.{link_of}
-use Rattle.tcp_conn.specs.Forms.{shift_offered, is_sack_offered, scale_options, permission_options, syn_segment, plain_segment, pushes}
-use Rattle.tcp_conn.specs.Due.{is_fin}
-use Rattle.tcp_replay.proofs.Emissions.{syn-bits, plain-bits}
-use Rattle.std.proofs.lemmas.Bool.{or_right}
-use Rattle.tcp_wire.specs.Flags.{syn}
 use Rattle.tcp_judge.proofs.Finishes.{Finishes, nothing-new, finishes-calls, finishes-judgement}
-use Rattle.tcp_judge.proofs.Events.{read-arrival, solo-step, alone-step, feeds-arrived, fed-next, irs-same}
 use Rattle.tcp_judge.proofs.Forms.{due-form}
 
 is-below : (a b : ℕ) → a < b → nat_lt a b ≡ true

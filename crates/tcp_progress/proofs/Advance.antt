@@ -1,16 +1,12 @@
 -- A text that covers place 0 and ends within the window comes in order, whatever is held.
-use Rattle.std.proofs.Common.{◌≡◌, ℕ, zero, suc, ◌-◌, ◌≤◌, List, [], ◌∷◌, ◌++◌, length, drop, refl, sym, ⊎_elim, arith, append-nil, length-drop}
-use Rattle.std.specs.Prelude.{ℤ, pos, negsuc, ◌+ℤ◌, ◌≤ℤ◌, Bool, true, false, ◌||◌, ◌==◌, nat_le, if◌then◌else◌, Option, Some, None}
-use Rattle.std.proofs.lemmas.Bool.{or_cases}
-use Rattle.std.proofs.lemmas.Bool.Decides.{nat_tests}
-use Rattle.std.proofs.lemmas.Int.{ints}
-use Rattle.tcp_reasm.specs.declared.placed.Placed.TheVariants.{NotKept}
-use Rattle.tcp_reasm.specs.Reassembly.{Cell, Inbox, Piece, after_place, answer_for, bytes_in_order, greatest_stamp, is_refused, overlay, overlay_of, place_answer, with_overlay}
-use Rattle.tcp_reasm.specs.Agreement.{advance_of}
-use Rattle.tcp_reasm.proofs.Agreement.{advance_of-answer_for}
+use Rattle.std.proofs.Common.{[], ℕ, ℤ, ⊎_elim, ◌++◌, ◌+ℤ◌, ◌-◌, ◌==◌, ◌||◌, ◌∷◌, ◌≡◌, ◌≤ℤ◌, ◌≤◌, append-nil, arith, Bool, drop, false, if◌then◌else◌, length}
+use Rattle.std.proofs.Common.{length-drop, List, nat_le, negsuc, None, Option, pos, refl, Some, suc, sym, true, zero}
+use Rattle.tcp_replay.proofs.Words.{advance_of, advance_of-answer_for, after_place, answer_for, bytes_in_order, Cell, greatest_stamp, Inbox, ints, is_refused}
+use Rattle.tcp_replay.proofs.Words.{nat_tests, NotKept, or_cases, overlay, overlay_of, Piece, place_answer, with_overlay}
 
 -- what is laid over the first places is in order
-overlay-in_order : (text : List ℕ) (stamp : ℕ) (held : List (Option Cell)) → length text ≤ length held → length text ≤ length (bytes_in_order (overlay 0 text stamp held))
+overlay-in_order : (text : List ℕ) (stamp : ℕ) (held : List (Option Cell)) → length text ≤ length held
+    → length text ≤ length (bytes_in_order (overlay 0 text stamp held))
 overlay-in_order [] stamp held fits = omega arith
 overlay-in_order (byte ∷ text) stamp [] fits = absurd (omega arith)
 overlay-in_order (byte ∷ text) stamp (place ∷ places) fits = omega (arith, overlay-in_order text stamp places (omega (arith, fits)))
@@ -48,7 +44,8 @@ refused-empty q text fits e = ⊎_elim
     (λ never. absurd (cc))
     (or_cases ((length text == 0) || nat_le (length q.held) 0) false e)
 
-by-refusal : (q : Inbox) (text : List ℕ) (end : ℤ) (refused : Bool) → (refused ≡ true → length text ≡ 0) → length text ≤ length q.held → (end ≤ℤ pos (length text))
+by-refusal : (q : Inbox) (text : List ℕ) (end : ℤ) (refused : Bool) → (refused ≡ true → length text ≡ 0) → length text ≤ length q.held
+    → (end ≤ℤ pos (length text))
     → Brings q (if refused then q else with_overlay q (overlay_of q (front text))) end
     (advance_of (if refused then NotKept else answer_for (length (bytes_in_order (overlay_of q (front text))))))
 by-refusal q text end true empty fits ends = record {

@@ -1,25 +1,12 @@
 -- What is in flight goes out again: an unmarked queue is sent from the range's start on, segment by segment.
-use Rattle.std.proofs.Common.{◌≡◌, ℕ, zero, suc, ◌+◌, ◌-◌, ◌<◌, ◌≤◌, List, length, drop, replicate, refl, ◌∙◌, ap, inl, inr, arith}
-use Rattle.std.specs.Prelude.{true, false, ◌&&◌, Some, None, min, max, nat_le, nat_lt}
-use Rattle.std.specs.declared.ops.Range.{Range}
-use Rattle.std.proofs.lemmas.Bool.{and_from, cases_lt}
-use Rattle.std.proofs.lemmas.Bool.Decides.{nat_tests}
-use Rattle.std.proofs.lemmas.List.{drop-replicate, length-replicate}
-use Rattle.tcp_sendq.specs.SendQueue.{Queue, count_leading, next_unmarked, without_marks}
-use Rattle.tcp_halves.specs.declared.due.Due.{Due}
-use Rattle.tcp_halves.specs.declared.due.Due.TheVariants.{Resend, ResentFin}
-use Rattle.tcp_conn.specs.declared.owed.Owed.{Owed}
-use Rattle.tcp_conn.specs.declared.phase.Phase.{Phase}
-use Rattle.tcp_conn.specs.declared.phase.Phase.TheVariants.{Closing, Closed, Listen, SynSent, SynReceived, Established, FinWait1, FinWait2, CloseWait, LastAck, TimeWait}
-use Rattle.tcp_conn.specs.Phase.{is_handshake, sends_text}
-use Rattle.tcp_halves.specs.Sender.{with_all_resent, Sending, end_of_text, place_of, position_at}
-use Rattle.tcp_conn.specs.State.{State}
-use Rattle.tcp_conn.specs.Forms.{segment_of}
-use Rattle.tcp_conn.specs.Due.{due_of, end_of, resend_of, resend_start, resent_run, text_limit}
-use Rattle.tcp_conn.specs.Emission.{after_emission, owed_after, range_after, resend_after, state_after}
-use Rattle.tcp_conn.specs.Timers.{after_retransmit}
-use Rattle.tcp_progress.specs.Progress.{is_synchronized}
-use Rattle.tcp_progress.specs.Resent.{CoversNext, FlightGoesOutAgain, GoesOut, IsInFlight, KeepsFlight, MaySend, after_emissions}
+use Rattle.std.proofs.Common.{ℕ, ◌&&◌, ◌+◌, ◌-◌, ◌<◌, ◌∙◌, ◌≡◌, ◌≤◌, ap, arith, drop, false, inl, inr, length, List, max, min, nat_le, nat_lt, None, refl}
+use Rattle.std.proofs.Common.{replicate, Some, suc, true, zero}
+use Rattle.tcp_replay.proofs.Words.{after_emission, after_retransmit, and_from, cases_lt, Closed, count_leading, drop-replicate, Due}
+use Rattle.tcp_replay.proofs.Words.{due_of, end_of, end_of_text, is_handshake, length-replicate, Listen, nat_tests}
+use Rattle.tcp_replay.proofs.Words.{next_unmarked, Owed, owed_after, Phase, place_of, position_at, Queue, Range, range_after, Resend, resend_after, resend_of}
+use Rattle.tcp_replay.proofs.Words.{resend_start, resent_run, ResentFin, segment_of, Sending, sends_text, State, state_after, SynReceived, SynSent, text_limit}
+use Rattle.tcp_replay.proofs.Words.{with_all_resent, without_marks}
+use Rattle.tcp_progress.proofs.Words.{after_emissions, CoversNext, FlightGoesOutAgain, GoesOut, is_synchronized, IsInFlight, KeepsFlight, MaySend}
 use Rattle.tcp_progress.proofs.Covering.{covering}
 
 -- no flag of the queue is set
@@ -82,13 +69,15 @@ resend-text s start r inside sent =
     let d = s.sending in
     let from : max start d.una ≡ start = omega (arith, r.behind) in
     let test : nat_lt (position_at d (place_of d start)) d.nxt ≡ true = grind (arith, nat_tests, sent) in
-    due-resent s (Resend (from_now d start) (count_now s start)) r.may (rw (r.range, from, unmarked-run d.queue (place_of d start) r.unmarked inside, test) refl)
+    due-resent s (Resend (from_now d start) (count_now s start)) r.may
+    (rw (r.range, from, unmarked-run d.queue (place_of d start) r.unmarked inside, test) refl)
 
 fin-run : (d : Sending) (limit : ℕ) (range : Range ℕ) → end_of_text d < range.end → resend_start d range ≤ end_of_text d
     → resent_run d limit range None ≡ Some (ResentFin (end_of_text d))
 fin-run d limit range sent below =
     let reaches : (nat_lt (end_of_text d) range.end && nat_le (resend_start d range) (end_of_text d)) ≡ true =
-    and_from (nat_lt (end_of_text d) range.end) (nat_le (resend_start d range) (end_of_text d)) (grind (arith, nat_tests, sent)) (grind (arith, nat_tests, below)) in
+    and_from (nat_lt (end_of_text d) range.end) (nat_le (resend_start d range) (end_of_text d)) (grind (arith, nat_tests, sent))
+    (grind (arith, nat_tests, below)) in
     rw reaches refl
 
 fin-range : (d : Sending) (limit : ℕ) (range : Range ℕ) → next_unmarked d.queue (place_of d (resend_start d range)) ≡ None → end_of_text d < range.end
@@ -134,12 +123,19 @@ emission s due e = rw e refl
 pub emission-keeps : (s : State) (due : Due) → due_of s ≡ Some due → end_of s.sending due ≤ s.sending.nxt → KeepsFlight s.sending (after_emission s).sending
 emission-keeps s due e most = rw (emission s due e) (record { una = refl; nxt = omega (arith, most); released = refl; queued = refl })
 
-pub emission-resends : (s : State) (start next : ℕ) (due : Due) → Resends s start → due_of s ≡ Some due → resend_after s.sending due ≡ range_after next s.sending.resend
-    → owed_after s.receiving.opened s.owed due ≡ record s.owed { ack = false } → end_of s.sending due ≤ s.sending.nxt → start ≤ next → Resends (after_emission s) next
+pub emission-resends : (s : State) (start next : ℕ) (due : Due) → Resends s start → due_of s ≡ Some due
+    → resend_after s.sending due ≡ range_after next s.sending.resend
+    → owed_after s.receiving.opened s.owed due ≡ record s.owed { ack = false } → end_of s.sending due ≤ s.sending.nxt → start ≤ next
+    → Resends (after_emission s) next
 emission-resends s start next due r e rest owed most ahead =
     let same : max s.sending.nxt (end_of s.sending due) ≡ s.sending.nxt = omega (arith, most) in
     rw (emission s due e) (record {
-      may = record { phase = r.may.phase; reset = ap (λ (o : Owed). o.reset) owed ∙ r.may.reset; syn = ap (λ (o : Owed). o.syn) owed ∙ r.may.syn; limit = r.may.limit };
+      may = record {
+        phase = r.may.phase;
+        reset = ap (λ (o : Owed). o.reset) owed ∙ r.may.reset;
+        syn = ap (λ (o : Owed). o.syn) owed ∙ r.may.syn;
+        limit = r.may.limit;
+      };
       range = rest ∙ rw (r.range, same) refl;
       unmarked = r.unmarked;
       behind = omega (arith, ahead, r.behind);
@@ -162,7 +158,8 @@ keeps-later s most keeps rest (suc n) h =
     kept-twice s.sending (after_emission s).sending (after_emissions n (after_emission s)).sending keeps (rest n (omega (arith, h)))
 
 later : (s : State) (position : ℕ) → KeepsFlight s.sending (after_emission s).sending → GoesOut (after_emission s) position → GoesOut s position
-later s position keeps rest = record { count = suc rest.count; covers = rest.covers; keeps = λ n. λ h. keeps-later s (rest.count + 1) keeps rest.keeps n (omega (arith, h)) }
+later s position keeps rest =
+    record { count = suc rest.count; covers = rest.covers; keeps = λ n. λ h. keeps-later s (rest.count + 1) keeps rest.keeps n (omega (arith, h)) }
 
 fin-goes : (s : State) (start position : ℕ) → Resends s start → IsInFlight s.sending position → start ≤ position
     → length s.sending.queue.bytes ≤ place_of s.sending start → GoesOut s position
@@ -173,7 +170,8 @@ fin-goes s start position r flight begins past =
     let due = resend-fin s start r past (omega (arith, begins, flight.most)) (omega (arith, last, flight.sent)) in
     at-once s position (emission-keeps s (ResentFin (end_of_text d)) due (omega (arith, last, flight.sent)))
     (covering s (ResentFin (end_of_text d)) (end_of_text d) 0 true position
-    (record { is_due = due; form = refl; to = refl; starts = refl; counts = refl; fins = refl; inside = omega arith }) (omega (arith, last)) (omega (arith, last)))
+    (record { is_due = due; form = refl; to = refl; starts = refl; counts = refl; fins = refl; inside = omega arith }) (omega (arith, last))
+    (omega (arith, last)))
 
 text-covers : (s : State) (start position : ℕ) → due_of s ≡ Some (Resend (from_now s.sending start) (count_now s start)) → from_now s.sending start ≤ position
     → position < from_now s.sending start + count_now s start → CoversNext s position
@@ -188,7 +186,8 @@ pub record Fits (s : State) (start : ℕ) : Type 0 where
   pub some : 0 < count_now s start
   pub most : from_now s.sending start + count_now s start ≤ s.sending.nxt
 
-pub fits : (s : State) (start : ℕ) → MaySend s → place_of s.sending start < length s.sending.queue.bytes → from_now s.sending start < s.sending.nxt → Fits s start
+pub fits : (s : State) (start : ℕ) → MaySend s → place_of s.sending start < length s.sending.queue.bytes → from_now s.sending start < s.sending.nxt
+    → Fits s start
 unfolding from_now count_now
 fits s start may inside sent = record { ahead = omega arith; some = omega (arith, may.limit, inside, sent); most = omega (arith, sent) }
 
@@ -196,7 +195,8 @@ from-before : (d : Sending) (start position : ℕ) → IsInFlight d position →
 unfolding from_now
 from-before d start position flight begins = omega (arith, begins, flight.queued)
 
-sent-again : (fuel : ℕ) (s : State) (start position : ℕ) → Resends s start → IsInFlight s.sending position → start ≤ position → position < start + fuel → GoesOut s position
+sent-again : (fuel : ℕ) (s : State) (start position : ℕ) → Resends s start → IsInFlight s.sending position → start ≤ position → position < start + fuel
+    → GoesOut s position
 sent-again zero s start position r flight begins near = absurd (omega (arith, begins, near))
 sent-again (suc fuel) s start position r flight begins near =
     elim (cases_lt (place_of s.sending start) (length s.sending.queue.bytes)) [
@@ -213,7 +213,8 @@ sent-again (suc fuel) s start position r flight begins near =
             | inl ends ↦ at-once s position keeps (text-covers s start position due before ends)
             | inr beyond ↦
                 later s position keeps
-                (sent-again fuel (after_emission s) (from + count) position (emission-resends s start (from + count) (Resend from count) r due refl refl run.most (omega (arith, run.ahead)))
+                (sent-again fuel (after_emission s) (from + count) position
+                (emission-resends s start (from + count) (Resend from count) r due refl refl run.most (omega (arith, run.ahead)))
                 (flight-kept s.sending (after_emission s).sending position keeps flight) beyond (omega (arith, near, run.ahead, run.some)))
           ]
     ]
@@ -224,26 +225,13 @@ sends-synchronized Closed e = absurd (cc)
 sends-synchronized Listen e = absurd (cc)
 sends-synchronized SynSent e = absurd (cc)
 sends-synchronized SynReceived e = absurd (cc)
-sends-synchronized Established e = refl
-sends-synchronized FinWait1 e = refl
-sends-synchronized FinWait2 e = refl
-sends-synchronized CloseWait e = refl
-sends-synchronized Closing e = refl
-sends-synchronized LastAck e = refl
-sends-synchronized TimeWait e = refl
+sends-synchronized other e = refl
 
-no-handshake : (phase : Phase) → is_synchronized phase ≡ true → is_handshake phase ≡ false
-no-handshake Closed e = refl
-no-handshake Listen e = refl
+-- from ESTABLISHED on no SYN is owed
+pub no-handshake : (phase : Phase) → is_synchronized phase ≡ true → is_handshake phase ≡ false
 no-handshake SynSent e = absurd (cc)
 no-handshake SynReceived e = absurd (cc)
-no-handshake Established e = refl
-no-handshake FinWait1 e = refl
-no-handshake FinWait2 e = refl
-no-handshake CloseWait e = refl
-no-handshake Closing e = refl
-no-handshake LastAck e = refl
-no-handshake TimeWait e = refl
+no-handshake other e = refl
 
 pub no-syn : (s : State) → is_synchronized s.phase ≡ true → s.owed.syn ≡ false → (after_retransmit s).owed.syn ≡ false
 unfolding after_retransmit

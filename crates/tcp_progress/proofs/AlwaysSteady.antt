@@ -1,22 +1,15 @@
 -- WHAT EVERY WORLD KEEPS is enough for it to be steady.
-use Rattle.std.proofs.Common.{◌≡◌, ℕ, ◌≤◌, List, arith}
-use Rattle.std.specs.Prelude.{None}
-use Rattle.std.specs.List.{AllByRecursion}
-use Rattle.tcp_halves.specs.declared.config.Config.{Config}
-use Rattle.tcp_halves.specs.Config.{IsConfig}
-use Rattle.tcp_replay.specs.Events.{EventContent, HasBytes}
-use Rattle.tcp_replay.specs.World.{WorldState, PartyState, max_life, new_world_with, refusal_of, world_with_effect, run_of, world_after_all}
-use Rattle.tcp_replay.specs.Sound.{IsSound, IsSoundPair}
-use Rattle.tcp_replay.proofs.Steps.{pair-swapped}
-use Rattle.tcp_replay.proofs.Worlds.{sound-new, sound-after, kept-run, kept-after_all, life-after}
-use Rattle.tcp_progress.specs.Settled.{least_life}
-use Rattle.tcp_progress.specs.Steady.{EveryWorldIsSteady, IsSteady, IsSteadyEnd}
+use Rattle.std.proofs.Common.{ℕ, ◌≡◌, ◌≤◌, arith, List, None}
+use Rattle.tcp_replay.proofs.Words.{AllByRecursion, Config, IsConfig}
+use Rattle.tcp_replay.proofs.WorldWords.{EventContent, HasBytes, IsSound, IsSoundPair, max_life, new_world_with, PartyState, refusal_of, run_of}
+use Rattle.tcp_replay.proofs.WorldWords.{world_after_all, world_with_effect, WorldState}
+use Rattle.tcp_replay.proofs.Lemmas.{Both, both-swapped, in-world, kept-after_all, kept-run, life-after, pair-swapped, sound-after, sound-new}
+use Rattle.tcp_progress.proofs.Words.{EveryWorldIsSteady, IsSteady, IsSteadyEnd, least_life}
 use Rattle.tcp_progress.proofs.OnlySent.{new-sent, takes-only_sent, KeepsSent, sent-kept}
 use Rattle.tcp_progress.proofs.ToldWindows.{new-told, tells-within, KeepsTold, told-kept}
 use Rattle.tcp_progress.proofs.EdgesKept.{new-edges, within-reach, KeepsEdges, edges-kept}
 use Rattle.tcp_progress.proofs.Stages.{new-stages, stages-say, KeepsStages, stages-kept}
 use Rattle.tcp_progress.proofs.Ways.{IsInvariant}
-use Rattle.tcp_replay.proofs.Events.{Both, both-swapped, in-world}
 
 -- two parties
 pub record KeepAll (x y : PartyState) : Type 0 where

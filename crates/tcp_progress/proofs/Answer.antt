@@ -1,27 +1,10 @@
 -- Who is spoken to answers: what is left to be sent again goes out, then an acknowledgement that is owed stands at SND.NXT.
-use Rattle.std.proofs.Common.{◌≡◌, ℕ, suc, ◌≤◌, List, refl, sym, ◌∙◌, ap, inl, inr, arith}
-use Rattle.std.specs.Prelude.{true, false, ◌&&◌, ◌==◌, Some, None, Ok}
-use Rattle.std.proofs.lemmas.Bool.{cases_Bool, cases_lt, true≢false}
-use Rattle.tcp_wire.specs.Decoded.{decode_answer}
-use Rattle.tcp_wire.specs.Wire.{Content}
-use Rattle.tcp_halves.specs.declared.due.Due.{Due}
-use Rattle.tcp_halves.specs.declared.due.Due.TheVariants.{Acknowledgement, Fin, NewText}
-use Rattle.tcp_conn.specs.declared.outcome.Arrival.TheVariants.{Dropped}
-use Rattle.tcp_halves.specs.Due.{is_fin, pushes, start_of}
-use Rattle.tcp_conn.specs.Phase.{sends_text}
-use Rattle.tcp_halves.specs.Sender.{end_of_text}
-use Rattle.tcp_conn.specs.declared.judgement.Judgement.TheVariants.{Unacceptable}
-use Rattle.tcp_conn.specs.Arrival.{after_arrival, arrival_answer}
-use Rattle.tcp_conn.specs.Due.{due_of, new_count, new_text_of, text_limit}
-use Rattle.tcp_conn.specs.Emission.{emitted_bytes}
-use Rattle.tcp_conn.specs.Forms.{plain_segment, segment_of}
-use Rattle.tcp_conn.specs.Judgement.{judgement, phase_judgement, present_judgement, unacceptable_judgement}
-use Rattle.tcp_conn.specs.State.{State, with_ack_owed}
-use Rattle.tcp_conn.specs.Timers.{after_retransmit}
-use Rattle.tcp_conn.specs.Writing.{bytes_of, destination_of}
-use Rattle.tcp_numbers.specs.Position.{number}
-use Rattle.tcp_progress.specs.Resent.{KeepsFlight, MaySend, after_emissions}
-use Rattle.tcp_progress.specs.Answered.{Answers, IsUnacceptable, MayAnswer, SpokenToAnswers, StandsAtNext}
+use Rattle.std.proofs.Common.{ℕ, ◌&&◌, ◌==◌, ◌∙◌, ◌≡◌, ◌≤◌, ap, arith, false, inl, inr, List, None, Ok, refl, Some, suc, sym, true}
+use Rattle.tcp_replay.proofs.Words.{Acknowledgement, after_arrival, after_retransmit, arrival_answer, bytes_of, cases_Bool, cases_lt, Content, decode_answer}
+use Rattle.tcp_replay.proofs.Words.{destination_of, Dropped, Due, due_of, emitted_bytes, end_of_text, Fin, is_fin, judgement, new_count, new_text_of, NewText}
+use Rattle.tcp_replay.proofs.Words.{number, phase_judgement, plain_segment, present_judgement, pushes, segment_of, sends_text, start_of, State, text_limit}
+use Rattle.tcp_replay.proofs.Words.{true≢false, Unacceptable, unacceptable_judgement, with_ack_owed}
+use Rattle.tcp_progress.proofs.Words.{after_emissions, Answers, IsUnacceptable, KeepsFlight, MayAnswer, MaySend, SpokenToAnswers, StandsAtNext}
 use Rattle.tcp_progress.proofs.Again.{kept, no-syn, timeout-keeps, timeout-resends}
 use Rattle.tcp_progress.proofs.Covering.{plain}
 use Rattle.tcp_progress.proofs.Exhausted.{Exhausts, IsRested, at-rest, exhausts}
@@ -55,7 +38,8 @@ quiet-stands s reset syn owed quiet = standing s Acknowledgement (rw (reset, syn
 pub text-stands : (s : State) → IsRested s → sends_text s.phase ≡ true → (new_count s.sending (text_limit s) s.owed.probe == 0) ≡ false → StandsAtNext s
 unfolding due_of new_text_of segment_of
 text-stands s rested sends some =
-    standing s (NewText s.sending.nxt (new_count s.sending (text_limit s) s.owed.probe)) (rw (rested.reset, rested.syn, sends, rested.none sends, some) refl) refl refl refl
+    standing s (NewText s.sending.nxt (new_count s.sending (text_limit s) s.owed.probe)) (rw (rested.reset, rested.syn, sends, rested.none sends, some) refl)
+    refl refl refl
 
 pub fin-stands : (s : State) → IsRested s → sends_text s.phase ≡ true → (new_count s.sending (text_limit s) s.owed.probe == 0) ≡ true
     → (s.closing && (s.sending.nxt == end_of_text s.sending)) ≡ true → StandsAtNext s
@@ -103,7 +87,8 @@ answering s e = record { count = e.count; keeps = e.keeps; answers = answered (a
 
 quiet-rests : (s : State) → MayAnswer s → sends_text s.phase ≡ false → IsRested (after_retransmit s)
 unfolding after_retransmit
-quiet-rests s may quiet = record { phase = may.phase; reset = may.reset; syn = no-syn s may.phase may.syn; none = λ sends. absurd (true≢false (sym sends ∙ quiet)) }
+quiet-rests s may quiet =
+    record { phase = may.phase; reset = may.reset; syn = no-syn s may.phase may.syn; none = λ sends. absurd (true≢false (sym sends ∙ quiet)) }
 
 quiet-keeps : (s : State) → sends_text s.phase ≡ false → KeepsFlight s.sending (after_retransmit s).sending
 unfolding after_retransmit

@@ -1,31 +1,16 @@
 -- WHO HAS NOTHING TO SEND AGAIN stays so until a timer, and whatever is due there stands at SND.NXT.
-use Rattle.std.proofs.Common.{◌≡◌, ℕ, ◌+◌, ◌≤◌, List, [], ◌∷◌, drop, length, inl, inr, refl, sym, ◌∙◌, subst, arith}
-use Rattle.std.specs.Prelude.{Bool, true, false, ◌&&◌, not, ◌==◌, ◌⊎◌, max, Option, Some, None, IfSome, nat_le, nat_lt, if◌then◌else◌}
-use Rattle.std.specs.declared.ops.Range.{Range}
-use Rattle.std.proofs.lemmas.Bool.{cases_Bool, cond_both, false≢true}
-use Rattle.std.proofs.lemmas.Bool.Decides.{nat_tests}
-use Rattle.tcp_numbers.specs.Position.{position_of}
-use Rattle.tcp_wire.specs.Wire.{Content}
-use Rattle.tcp_sendq.specs.SendQueue.{count_leading, first_unmarked, next_unmarked}
-use Rattle.tcp_halves.specs.declared.due.Due.{Due}
-use Rattle.tcp_halves.specs.declared.due.Due.TheVariants.{ResentFin}
-use Rattle.tcp_conn.specs.declared.phase.Ending.TheVariants.{NotEnded}
-use Rattle.tcp_halves.specs.Marks.{after_block, after_blocks, marks_text, with_marks}
-use Rattle.tcp_conn.specs.Phase.{is_last_ack, is_syn_received, phase_after_own_fin, sends_text}
-use Rattle.tcp_halves.specs.Sender.{Sending, acks_more, after_ack, after_window_update, end_of_text, is_fin_acked, is_newer, place_of, position_at}
-use Rattle.tcp_halves.specs.Sender.{with_acked, with_syn_acked, with_window}
-use Rattle.tcp_conn.specs.declared.judgement.Judgement.{Judgement}
-use Rattle.tcp_conn.specs.State.{State}
-use Rattle.tcp_conn.specs.Windows.{window_from}
-use Rattle.tcp_conn.specs.Arrival.{after_acked_text, after_fin, after_its_ack, after_its_text, after_judgement, after_news, after_own_fin, after_own_syn}
-use Rattle.tcp_conn.specs.Arrival.{after_peer_accepts, after_peer_opens, after_taking, after_taking_shut, blocks_used, is_current, with_news}
-use Rattle.tcp_conn.specs.Due.{due_of, new_count, new_text_of, resend_of, resend_start, resent_fin, resent_run, resent_text, text_limit}
-use Rattle.tcp_conn.specs.Endings.{after_orderly_end}
-use Rattle.tcp_conn.specs.Judgement.{judgement, position_near}
-use Rattle.tcp_replay.specs.Alone.{IsAlone}
-use Rattle.tcp_replay.proofs.Judgements.{judged}
-use Rattle.tcp_replay.proofs.Phases.{at-listen}
-use Rattle.tcp_progress.specs.Answered.{StandsAtNext}
+use Rattle.std.proofs.Common.{ℕ, ◌&&◌, ◌+◌, ◌==◌, ◌∙◌, ◌≡◌, ◌≤◌, ◌⊎◌, arith, Bool, drop, false, IfSome, inl, inr, length, List, max}
+use Rattle.std.proofs.Common.{nat_le, nat_lt, None, not, Option, refl, Some, subst, sym, true}
+use Rattle.tcp_replay.proofs.Words.{acks_more, after_ack, after_acked_text, after_fin, after_its_ack, after_its_text}
+use Rattle.tcp_replay.proofs.Words.{after_judgement, after_news, after_own_fin, after_own_syn, after_peer_accepts, after_peer_opens}
+use Rattle.tcp_replay.proofs.Words.{after_taking, after_taking_shut, cases_Bool, cond_both, Content, count_leading, Due}
+use Rattle.tcp_replay.proofs.Words.{due_of, end_of_text, false≢true, first_unmarked, is_syn_received}
+use Rattle.tcp_replay.proofs.Words.{Judgement, judgement, nat_tests, new_count, new_text_of, next_unmarked, NotEnded, place_of}
+use Rattle.tcp_replay.proofs.Words.{position_at, position_near, Range, resend_of, resend_start, resent_fin, resent_run, resent_text, ResentFin}
+use Rattle.tcp_replay.proofs.Words.{Sending, sends_text, State, text_limit, window_from, with_acked, with_syn_acked, with_window}
+use Rattle.tcp_replay.proofs.WorldWords.{IsAlone}
+use Rattle.tcp_replay.proofs.Lemmas.{at-listen, judged, own_fin-cases, news-cases}
+use Rattle.tcp_progress.proofs.Words.{StandsAtNext}
 use Rattle.tcp_progress.proofs.Again.{sends-synchronized}
 use Rattle.tcp_progress.proofs.Answer.{ack-stands, fin-stands, quiet-stands, text-stands}
 use Rattle.tcp_progress.proofs.Exhausted.{IsRested}
@@ -144,41 +129,15 @@ range-done d e keeps h =
       | inr none ↦ subst (λ (o : Option (Range ℕ)). IfSome o (λ range. range.end ≤ max range.start e.una)) (sym none) tt
     ]
 
-block-range : (d : Sending) (left right : ℕ) → KeepsRange d (after_block d left right)
-unfolding after_block
-block-range d left right =
-    cond_both (marks_text d left right) (with_marks d left right) d (λ (e : Sending). KeepsRange d e)
-    (λ _. record { resend = inl refl; una = omega arith; nxt = refl }) (λ _. range-same d)
-
-blocks-range : (iss : ℕ) (d : Sending) (blocks : List (ℕ × ℕ)) → KeepsRange d (after_blocks iss d blocks)
-blocks-range iss d [] = range-same d
-blocks-range iss d (block ∷ blocks) =
-    let e : Sending = after_block d (position_of iss d.una block.0) (position_of iss d.una block.1) in
-    range-then d e (after_blocks iss e blocks) (block-range d (position_of iss d.una block.0) (position_of iss d.una block.1)) (blocks-range iss e blocks)
-
-update-range : (d : Sending) (seq ack window : ℕ) → KeepsRange d (after_window_update d seq ack window)
-unfolding after_window_update
-update-range d seq ack window =
-    cond_both (is_newer d seq ack) (with_window d seq ack window) d (λ (e : Sending). KeepsRange d e)
-    (λ _. record { resend = inl refl; una = omega arith; nxt = refl }) (λ _. range-same d)
-
 news-range : (s : State) (v : Content) → KeepsRange s.sending (after_news s v).sending
-unfolding after_news
 news-range s v =
-    let told : Sending = after_window_update s.sending v.seq v.ack (window_from s.link v.window) in
-    cond_both (is_current s v) (with_news s v) s.sending (λ (e : Sending). KeepsRange s.sending e)
-    (λ _. range-then s.sending told (with_news s v) (update-range s.sending v.seq v.ack (window_from s.link v.window))
-    (blocks-range s.config.isn.0 told (blocks_used s v)))
-    (λ _. range-same s.sending)
+    news-cases (KeepsRange s.sending) s v (λ d h. record { resend = h.resend; una = h.una; nxt = h.nxt })
+    (λ d left right _ h. record { resend = h.resend; una = h.una; nxt = h.nxt }) (range-same s.sending)
 
 own_fin-range : (s : State) → KeepsRange s.sending (after_own_fin s).sending
-unfolding after_own_fin
 own_fin-range s =
-    let goes_on : State = record s { phase = phase_after_own_fin s.phase } in
-    cond_both (is_fin_acked s.sending) (if is_last_ack s.phase then after_orderly_end s else goes_on) s (λ (t : State). KeepsRange s.sending t.sending)
-    (λ _. cond_both (is_last_ack s.phase) (after_orderly_end s) goes_on (λ (t : State). KeepsRange s.sending t.sending)
-    (λ _. record { resend = inr refl; una = omega arith; nxt = refl }) (λ _. range-same s.sending))
-    (λ _. range-same s.sending)
+    own_fin-cases s (λ (t : State). KeepsRange s.sending t.sending) (λ _ _. record { resend = inr refl; una = omega arith; nxt = refl })
+    (λ _ _. range-same s.sending) (λ _. range-same s.sending)
 
 more-acked : (d : Sending) (a : ℕ) → acks_more d a ≡ true → d.una ≤ a
 more-acked d a e = grind (arith, nat_tests, e)
@@ -223,13 +182,10 @@ its_ack-owed : (s : State) (v : Content)
 unfolding after_its_ack after_own_syn after_acked_text after_news after_own_fin
 its_ack-owed s v =
     let three = after_news (after_acked_text (after_own_syn s v) v) v in
-    let goes_on : State = record three { phase = phase_after_own_fin three.phase } in
     let P : State → Type 0 = λ t. (s.owed.syn ≡ false → t.owed.syn ≡ false) × (t.ending ≡ NotEnded → s.owed.ack ≡ true → t.owed.ack ≡ true) in
     let plain : (s.owed.syn && not (is_syn_received s.phase)) ≡ false → three.owed.syn ≡ false = λ e. e in
     let still : s.owed.syn ≡ false → (s.owed.syn && not (is_syn_received s.phase)) ≡ false = λ e. rw e refl in
-    cond_both (is_fin_acked three.sending) (if is_last_ack three.phase then after_orderly_end three else goes_on) three P
-    (λ _. cond_both (is_last_ack three.phase) (after_orderly_end three) goes_on P (λ _. (λ _. refl, λ over. absurd (cc))) (λ _. (λ e. still e, λ _ e. e)))
-    (λ _. (λ e. still e, λ _ e. e))
+    own_fin-cases three P (λ _ _. (λ _. refl, λ over. absurd (cc))) (λ _ _. (λ e. still e, λ _ e. e)) (λ _. (λ e. still e, λ _ e. e))
 
 taking-owed : (s : State) (v : Content) → s.sending.una ≤ s.sending.nxt → KeepsOwed s (after_taking s v)
 unfolding after_taking after_fin after_its_text

@@ -1,29 +1,16 @@
 -- WHAT IS ASKED OF A SEGMENT on the way from p to q, before any rule: it is the peer's, and it hasn't expired.
-use Rattle.std.proofs.Common.{◌≡◌, ℕ, ◌+◌, ◌<◌, [], length, refl, sym, ◌∙◌, ap, arith}
-use Rattle.std.specs.Prelude.{Bool, true, false, not, ◌&&◌, ◌||◌, ◌==◌, bytes_eq, Some, None, slice_get, unwrap_or}
-use Rattle.std.proofs.lemmas.Bool.{false≢true}
-use Rattle.std.proofs.lemmas.Bool.Decides.{nat_tests}
-use Rattle.std.proofs.lemmas.Option.{slice_get_within}
-use Rattle.std.proofs.lemmas.Slice.Eq.{bytes_eq-Decides}
-use Rattle.tcp_wire.specs.Flags.{ack, has, rst}
-use Rattle.tcp_wire.specs.Wire.{Content}
-use Rattle.tcp_conn.specs.declared.phase.Ending.{Ending}
-use Rattle.tcp_conn.specs.declared.phase.Ending.TheVariants.{NotEnded}
-use Rattle.tcp_conn.specs.declared.phase.Phase.{Phase}
-use Rattle.tcp_conn.specs.declared.phase.Phase.TheVariants.{Closed, Listen, SynSent}
-use Rattle.tcp_conn.specs.Phase.{has_peer}
-use Rattle.tcp_conn.specs.Judgement.{is_for_other, is_foreign, is_from_other}
-use Rattle.tcp_replay.specs.Alone.{FitsPhase}
-use Rattle.tcp_replay.specs.World.{PartyState, SentSegment, delivery_refusal, flags_in, is_expired, is_missing, sent_at}
-use Rattle.tcp_replay.specs.Safe.{next_position}
-use Rattle.tcp_replay.proofs.Steps.{pair-swapped}
-use Rattle.tcp_replay.proofs.Emissions.{wanted-is}
-use Rattle.tcp_progress.specs.Settled.{IsLive}
-use Rattle.tcp_progress.specs.Steady.{IsSteadyPair}
+use Rattle.std.proofs.Common.{[], ℕ, ◌&&◌, ◌+◌, ◌<◌, ◌==◌, ◌||◌, ◌∙◌, ◌≡◌, ap, arith, Bool, bytes_eq, false, length, None, not, refl, slice_get, Some, sym}
+use Rattle.std.proofs.Common.{true, unwrap_or}
+use Rattle.tcp_replay.proofs.Words.{ack, bytes_eq-Decides, Closed, Content, Ending, false≢true, has, has_peer, is_for_other, is_foreign, is_from_other, Listen}
+use Rattle.tcp_replay.proofs.Words.{nat_tests, NotEnded, Phase, rst, slice_get_within, SynSent}
+use Rattle.tcp_replay.proofs.WorldWords.{delivery_refusal, FitsPhase, flags_in, is_expired, is_missing, next_position, PartyState, sent_at, SentSegment}
+use Rattle.tcp_replay.proofs.Lemmas.{pair-swapped, wanted-is}
+use Rattle.tcp_progress.proofs.Words.{IsLive, IsSteadyPair}
 use Rattle.tcp_progress.proofs.Judged.{IsPresent}
 
 -- a live end isn't in CLOSED, LISTEN or SYN-SENT
-present-live : (phase : Phase) (ending : Ending) (una nxt : ℕ) (opened finished : Bool) → opened ≡ true → ending ≡ NotEnded → FitsPhase phase ending una nxt opened finished → IsPresent phase
+present-live : (phase : Phase) (ending : Ending) (una nxt : ℕ) (opened finished : Bool) → opened ≡ true → ending ≡ NotEnded
+    → FitsPhase phase ending una nxt opened finished → IsPresent phase
 present-live Closed ending una nxt opened finished e goes h = absurd (false≢true (sym (h goes).not_opened ∙ e))
 present-live Listen ending una nxt opened finished e goes h = absurd (false≢true (sym h.1.not_opened ∙ e))
 present-live SynSent ending una nxt opened finished e goes h = absurd (false≢true (sym h.1.not_opened ∙ e))
@@ -63,11 +50,14 @@ none-late false late false over e f = rw e refl
 pub is-there : (p : PartyState) (k : ℕ) (g : SentSegment) → slice_get p.sent k ≡ Some g → sent_at p k ≡ g
 is-there p k g sent = let none : SentSegment = record { bytes = []; position = 0; wanted = 0 } in ap (λ found. unwrap_or found none) sent
 
-pub unexpired : (p q : PartyState) (life : ℕ) (g : SentSegment) → IsSteadyPair p q → next_position q < g.position + life → q.endpoint.sending.una < g.wanted + life → is_expired life q.endpoint g ≡ false
+pub unexpired : (p q : PartyState) (life : ℕ) (g : SentSegment) → IsSteadyPair p q → next_position q < g.position + life
+    → q.endpoint.sending.una < g.wanted + life → is_expired life q.endpoint g ≡ false
 unexpired p q life g h young acks_young =
-    none-late (has rst (flags_in g.bytes)) _ (has ack (flags_in g.bytes)) _ (grind (arith, nat_tests, young, wanted-is q p (pair-swapped p q h.pair))) (grind (arith, nat_tests, acks_young))
+    none-late (has rst (flags_in g.bytes)) _ (has ack (flags_in g.bytes)) _ (grind (arith, nat_tests, young, wanted-is q p (pair-swapped p q h.pair)))
+    (grind (arith, nat_tests, acks_young))
 
-pub goes : (p q : PartyState) (life k : ℕ) (g : SentSegment) → slice_get p.sent k ≡ Some g → is_expired life q.endpoint g ≡ false → delivery_refusal life p q k ≡ None
+pub goes : (p q : PartyState) (life k : ℕ) (g : SentSegment) → slice_get p.sent k ≡ Some g → is_expired life q.endpoint g ≡ false
+    → delivery_refusal life p q k ≡ None
 goes p q life k g sent kept =
     let inside : k < length p.sent = slice_get_within p.sent k g sent in
     let there : is_missing p k ≡ false = grind (arith, nat_tests, inside) in

@@ -1,31 +1,12 @@
 -- WHO ASKS: one side that doesn't know that the other has all is served; what it sends again is old to the other, and comes.
-use Rattle.std.proofs.Common.{◌≡◌, ℕ, zero, suc, ◌<◌, List, inl, inr, refl, sym, ◌∙◌, ap, subst, arith}
-use Rattle.std.specs.Prelude.{true, Option, Some, None}
-use Rattle.std.specs.List.{AllByRecursion}
-use Rattle.std.proofs.lemmas.Bool.{false≢true}
-use Rattle.tcp_halves.specs.declared.due.Due.TheVariants.{Reset, Syn}
-use Rattle.tcp_halves.specs.declared.link.WaitingReset.{WaitingReset}
-use Rattle.tcp_conn.specs.declared.phase.Ending.TheVariants.{NotEnded}
-use Rattle.tcp_conn.specs.declared.phase.Phase.{Phase}
-use Rattle.tcp_conn.specs.declared.phase.Phase.TheVariants.{Closed, Listen, SynSent, SynReceived, Established, FinWait1, FinWait2, CloseWait, Closing}
-use Rattle.tcp_conn.specs.declared.phase.Phase.TheVariants.{LastAck, TimeWait}
-use Rattle.tcp_conn.specs.declared.phase.Timer.TheVariants.{Retransmit}
-use Rattle.tcp_conn.specs.Phase.{has_peer, is_handshake, sends_text}
-use Rattle.tcp_conn.specs.State.{State}
-use Rattle.tcp_conn.specs.Due.{due_of}
-use Rattle.tcp_conn.specs.Emission.{after_emission}
-use Rattle.tcp_conn.specs.Forms.{syn_segment}
-use Rattle.tcp_conn.specs.Timers.{after_retransmit}
-use Rattle.tcp_replay.specs.declared.event.Side.{Side}
-use Rattle.tcp_replay.specs.Alone.{FitsPhase}
-use Rattle.tcp_replay.specs.Events.{EventContent, Emit, Timer}
-use Rattle.tcp_replay.specs.Safe.{next_position}
-use Rattle.tcp_replay.specs.World.{WorldState, PartyState, other, party_of, world_after, world_after_all}
-use Rattle.tcp_progress.specs.Fair.{AllCome, IsCalm, IsIdle, NoneGaveUp, emissions, served}
-use Rattle.tcp_progress.specs.Resent.{CoversNext, after_emissions}
-use Rattle.tcp_progress.specs.Settled.{IsLive}
-use Rattle.tcp_progress.specs.Stage.{SaysByPhase}
-use Rattle.tcp_progress.specs.Steady.{IsSteadyPair}
+use Rattle.std.proofs.Common.{ℕ, ◌<◌, ◌∙◌, ◌≡◌, ap, arith, inl, inr, List, None, Option, refl, Some, subst, suc, sym, true, zero}
+use Rattle.tcp_replay.proofs.Words.{after_emission, after_retransmit, AllByRecursion, Closed, due_of, false≢true}
+use Rattle.tcp_replay.proofs.Words.{has_peer, is_handshake, Listen, NotEnded, Phase, Reset, Retransmit, sends_text, State, Syn, syn_segment}
+use Rattle.tcp_replay.proofs.Words.{SynReceived, SynSent, WaitingReset}
+use Rattle.tcp_replay.proofs.WorldWords.{Emit, EventContent, FitsPhase, next_position, other, party_of, PartyState, Timer, world_after, world_after_all}
+use Rattle.tcp_replay.proofs.WorldWords.{WorldState}
+use Rattle.tcp_progress.proofs.Words.{after_emissions, AllCome, CoversNext, emissions, IsCalm, IsIdle, IsLive, IsSteadyPair, NoneGaveUp, SaysByPhase, served}
+use Rattle.tcp_progress.proofs.Words.{Side}
 use Rattle.tcp_progress.proofs.Again.{again_lem}
 use Rattle.tcp_progress.proofs.Back.{emissions-last, old-phase, syn-old}
 use Rattle.tcp_progress.proofs.SynOut.{syn-due}
@@ -43,13 +24,7 @@ first-phase s Closed una took going fits says = absurd (false≢true (sym (fits 
 first-phase s Listen una took going fits says = absurd (false≢true (sym fits.1.not_opened ∙ took))
 first-phase s SynSent una took going fits says = absurd (false≢true (sym fits.1.not_opened ∙ took))
 first-phase s SynReceived una took going fits says = (refl, says.1)
-first-phase s Established una took going fits says = absurd (omega (arith, una, fits.1.least))
-first-phase s FinWait1 una took going fits says = absurd (omega (arith, una, fits.1.least))
-first-phase s FinWait2 una took going fits says = absurd (omega (arith, una, fits.1.least))
-first-phase s CloseWait una took going fits says = absurd (omega (arith, una, fits.1.least))
-first-phase s Closing una took going fits says = absurd (omega (arith, una, fits.1.least))
-first-phase s LastAck una took going fits says = absurd (omega (arith, una, fits.1.least))
-first-phase s TimeWait una took going fits says = absurd (omega (arith, una, fits.1.least))
+first-phase s other una took going fits says = absurd (omega (arith, una, fits.1.least))
 
 -- in a world
 pub syn-alone : (p q : PartyState) → IsSteadyPair p q → IsLive p → p.endpoint.sending.una ≡ 0 → (p.endpoint.phase ≡ SynReceived) × (p.endpoint.sending.nxt ≡ 1)
@@ -91,7 +66,8 @@ syn-or-reset (suc n) (Some reset) s w side later e phase same calm h una all idl
     over-event w (Emit side) (world_after_all (world_after_all v (emissions side n)) later) (IsPending (world_after_all v (emissions side n)) side later) tt h
     (steps-both v (emissions side n) later (calm-emissions side n) calm) up
     (λ h' still.
-    syn-goes n v side later calm h' (ap due_of (emit-endpoint w side ∙ ap after_emission same ∙ reset-gone s reset e) ∙ syn-due (cleared s) (ap is_handshake phase) refl)
+    syn-goes n v side later calm h' (ap due_of (emit-endpoint w side ∙ ap after_emission same ∙ reset-gone s reset e) ∙ syn-due (cleared s)
+    (ap is_handshake phase) refl)
     ((still side).una_of_x ∙ una) ((still side).next_of_y ∙ all) idle come.1 up)
 
 -- ---- WHERE THE PHASE SENDS TEXT: after so many emissions one covers SND.UNA, and SND.NXT is still what it was

@@ -1,15 +1,8 @@
 -- WHAT ISN'T ACKNOWLEDGED, and nothing is on its way: who sent it sends it again, the other is spoken to by what is old to it, and answers.
-use Rattle.std.proofs.Common.{◌≡◌, ℕ, zero, suc, ◌<◌, ◌≤◌, List, ◌++◌, inl, inr, refl, sym, ◌∙◌, ap, subst, arith}
-use Rattle.std.specs.Prelude.{◌⊎◌}
-use Rattle.std.specs.List.{AllByRecursion}
-use Rattle.tcp_conn.specs.declared.phase.Timer.TheVariants.{Retransmit}
-use Rattle.tcp_replay.specs.declared.event.Side.{Side}
-use Rattle.tcp_replay.specs.declared.event.Side.TheVariants.{A, B}
-use Rattle.tcp_replay.specs.Events.{EventContent, Emit, Timer}
-use Rattle.tcp_replay.specs.Safe.{next_position}
-use Rattle.tcp_replay.specs.World.{WorldState, PartyState, other, party_of, world_after, world_after_all}
-use Rattle.tcp_progress.specs.Fair.{AllCome, IsCalm, IsIdle, IsUntimed, NoneGaveUp, emissions, served}
-use Rattle.tcp_progress.specs.Measure.{left_in}
+use Rattle.std.proofs.Common.{ℕ, ◌++◌, ◌<◌, ◌∙◌, ◌≡◌, ◌≤◌, ◌⊎◌, ap, arith, inl, inr, List, refl, subst, suc, sym, zero}
+use Rattle.tcp_replay.proofs.Words.{AllByRecursion, Retransmit}
+use Rattle.tcp_replay.proofs.WorldWords.{Emit, EventContent, next_position, other, party_of, PartyState, Timer, world_after, world_after_all, WorldState}
+use Rattle.tcp_progress.proofs.Words.{A, AllCome, B, emissions, IsCalm, IsIdle, IsUntimed, left_in, NoneGaveUp, served, Side}
 use Rattle.tcp_progress.proofs.AlwaysSteady.{IsKept}
 use Rattle.tcp_progress.proofs.Answering.{KeepsOwed, owed-same}
 use Rattle.tcp_progress.proofs.Asking.{asks}

@@ -1,14 +1,9 @@
 -- What is next brings the half that receives on: its text, and its FIN.
-use Rattle.std.proofs.Common.{◌≡◌, ℕ, ◌+◌, ◌-◌, ◌%◌, ◌^◌, ◌<◌, ◌≤◌, List, [], ◌++◌, length, refl, sym, ◌∙◌, ap, inl, inr, arith, append-nil, length-append}
-use Rattle.std.specs.Prelude.{Bool, true, false, not, ◌==◌, nat_lt, if◌then◌else◌, ◌⊎◌, ℤ, pos, negsuc, ◌+ℤ◌, ◌≤ℤ◌, min, ◌||◌}
-use Rattle.std.proofs.lemmas.Bool.{and_from, cases_Bool, cases_lt, or_right, true≢false}
-use Rattle.std.proofs.lemmas.Bool.Decides.{nat_tests}
-use Rattle.std.proofs.lemmas.Int.{ints}
-use Rattle.tcp_numbers.specs.Position.{distance, number, offset}
-use Rattle.tcp_numbers.proofs.Positions.{near_ahead, near_behind}
-use Rattle.tcp_reasm.specs.Reassembly.{after_place, window}
-use Rattle.tcp_halves.specs.Receiver.{Receiving, max_ordered, after_text, is_fin_due, with_fin}
-use Rattle.tcp_progress.specs.Progress.{BringsOn}
+use Rattle.std.proofs.Common.{[], ℕ, ℤ, ◌%◌, ◌++◌, ◌+ℤ◌, ◌+◌, ◌-◌, ◌<◌, ◌==◌, ◌^◌, ◌||◌, ◌∙◌, ◌≡◌, ◌≤ℤ◌, ◌≤◌, ◌⊎◌, ap, append-nil, arith, Bool, false}
+use Rattle.std.proofs.Common.{if◌then◌else◌, inl, inr, length, length-append, List, min, nat_lt, negsuc, not, pos, refl, sym, true}
+use Rattle.tcp_replay.proofs.Words.{after_place, after_text, and_from, cases_Bool, cases_lt, distance, ints, is_fin_due, max_ordered, nat_tests, near_ahead}
+use Rattle.tcp_replay.proofs.Words.{near_behind, number, offset, or_right, Receiving, true≢false, window, with_fin}
+use Rattle.tcp_progress.proofs.Words.{BringsOn}
 use Rattle.tcp_progress.proofs.Advance.{covering-brings}
 
 -- TEXT: so much of it comes in order
@@ -52,7 +47,8 @@ none-moves r end small counted begins = record {
   room = omega arith;
 }
 
-pub its_text-moves : (r : Receiving) (seq : ℕ) (text : List ℕ) → r.next < 2 ^ 32 → r.ordered ≤ max_ordered → length r.inbox.held ≡ window r.inbox → (offset r.next seq ≤ℤ pos 0)
+pub its_text-moves : (r : Receiving) (seq : ℕ) (text : List ℕ) → r.next < 2 ^ 32 → r.ordered ≤ max_ordered → length r.inbox.held ≡ window r.inbox
+    → (offset r.next seq ≤ℤ pos 0)
     → ((offset r.next seq +ℤ pos (length text)) ≤ℤ pos (window r.inbox))
     → Moves r (if not (length text == 0) then after_text r seq text else r) (offset r.next seq +ℤ pos (length text))
 its_text-moves r seq text small counted whole begins within =

@@ -1,17 +1,7 @@
 -- AFTER THE RETRANSMISSION TIMEOUT each emission goes on through what is sent again, until nothing is, whatever is marked later; or it stands at SND.NXT.
-use Rattle.std.proofs.Common.{◌≡◌, ℕ, ◌+◌, ◌<◌, ◌≤◌, length, inl, inr, refl, sym, ap, subst, arith}
-use Rattle.std.specs.Prelude.{max, Option, Some, None, IfSome, ◌⊎◌}
-use Rattle.std.specs.declared.ops.Range.{Range}
-use Rattle.std.proofs.lemmas.Bool.{cases_lt}
-use Rattle.tcp_halves.specs.declared.due.Due.{Due}
-use Rattle.tcp_halves.specs.declared.due.Due.TheVariants.{Resend, ResentFin}
-use Rattle.tcp_halves.specs.Sender.{Sending, end_of_text, place_of}
-use Rattle.tcp_conn.specs.State.{State}
-use Rattle.tcp_conn.specs.Due.{due_of}
-use Rattle.tcp_conn.specs.Emission.{after_emission}
-use Rattle.tcp_conn.specs.Timers.{after_retransmit}
-use Rattle.tcp_progress.specs.Answered.{StandsAtNext}
-use Rattle.tcp_progress.specs.Resent.{KeepsFlight, MaySend}
+use Rattle.std.proofs.Common.{ℕ, ◌+◌, ◌<◌, ◌≡◌, ◌≤◌, ◌⊎◌, ap, arith, IfSome, inl, inr, length, max, None, Option, refl, Some, subst, sym}
+use Rattle.tcp_replay.proofs.Words.{after_emission, after_retransmit, cases_lt, Due, due_of, end_of_text, place_of, Range, Resend, ResentFin, Sending, State}
+use Rattle.tcp_progress.proofs.Words.{KeepsFlight, MaySend, StandsAtNext}
 use Rattle.tcp_progress.proofs.Again.{Resends, count_now, emission-keeps, emission-resends, fits, from_now, resend-fin, resend-text, timeout-keeps}
 use Rattle.tcp_progress.proofs.Again.{timeout-resends, may-after_retransmit}
 use Rattle.tcp_progress.proofs.Answering.{RangeDone, stands-or-none}

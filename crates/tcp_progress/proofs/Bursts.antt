@@ -1,15 +1,8 @@
 -- THE OTHER SIDE IS SERVED: what it sends again goes out, and then it waits to be spoken to; or something is brought on.
-use Rattle.std.proofs.Common.{◌≡◌, ℕ, zero, suc, ◌<◌, List, ◌++◌, inl, inr, refl, sym, ◌∙◌, ap, subst, arith}
-use Rattle.std.specs.Prelude.{None}
-use Rattle.std.specs.List.{AllByRecursion}
-use Rattle.tcp_conn.specs.State.{State}
-use Rattle.tcp_conn.specs.Due.{due_of}
-use Rattle.tcp_conn.specs.Emission.{after_emission}
-use Rattle.tcp_replay.specs.declared.event.Side.{Side}
-use Rattle.tcp_replay.specs.Events.{EventContent, Emit}
-use Rattle.tcp_replay.specs.Safe.{next_position}
-use Rattle.tcp_replay.specs.World.{WorldState, other, party_of, world_after, world_after_all}
-use Rattle.tcp_progress.specs.Fair.{AllCome, IsCalm, IsIdle, emissions, NoneGaveUp}
+use Rattle.std.proofs.Common.{ℕ, ◌++◌, ◌<◌, ◌∙◌, ◌≡◌, ap, arith, inl, inr, List, None, refl, subst, suc, sym, zero}
+use Rattle.tcp_replay.proofs.Words.{after_emission, AllByRecursion, due_of, State}
+use Rattle.tcp_replay.proofs.WorldWords.{Emit, EventContent, next_position, other, party_of, world_after, world_after_all, WorldState}
+use Rattle.tcp_progress.proofs.Words.{AllCome, emissions, IsCalm, IsIdle, NoneGaveUp, Side}
 use Rattle.tcp_progress.proofs.Bursting.{IsBursting, bursting-emits}
 use Rattle.tcp_progress.proofs.CalmWorlds.{steps-all}
 use Rattle.tcp_progress.proofs.Serving.{emit-endpoint, none-some}

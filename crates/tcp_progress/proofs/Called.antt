@@ -1,28 +1,12 @@
 -- WHO IS SERVED IN THE HANDSHAKE has its SYN due, which goes out; and when that comes, LISTEN becomes SYN-RECEIVED, or both are open.
-use Rattle.std.proofs.Common.{◌≡◌, ℕ, zero, suc, List, [], ◌∷◌, ◌++◌, length, inl, inr, refl, sym, ◌∙◌, ap, subst}
-use Rattle.std.proofs.Math.Bool.{or-true}
-use Rattle.std.specs.Prelude.{Bool, true, false, Option, Some, None, Ok, ◌⊎◌, slice_get}
-use Rattle.std.specs.List.{AllByRecursion}
-use Rattle.tcp_numbers.specs.Position.{number}
-use Rattle.tcp_wire.specs.Decoded.{decode_answer}
-use Rattle.tcp_halves.specs.declared.config.Config.{Config}
-use Rattle.tcp_halves.specs.declared.due.Due.TheVariants.{Reset, Syn}
-use Rattle.tcp_halves.specs.declared.link.WaitingReset.{WaitingReset}
-use Rattle.tcp_conn.specs.declared.phase.Phase.TheVariants.{SynReceived}
-use Rattle.tcp_conn.specs.declared.phase.Timer.TheVariants.{Retransmit}
-use Rattle.tcp_conn.specs.Phase.{is_handshake}
-use Rattle.tcp_conn.specs.State.{State}
-use Rattle.tcp_conn.specs.Due.{due_of}
-use Rattle.tcp_conn.specs.Emission.{after_emission}
-use Rattle.tcp_conn.specs.Timers.{after_retransmit}
-use Rattle.tcp_replay.specs.declared.event.Side.{Side}
-use Rattle.tcp_replay.specs.declared.event.Side.TheVariants.{A, B}
-use Rattle.tcp_replay.specs.Events.{EventContent, Deliver, Emit, Timer}
-use Rattle.tcp_replay.specs.Safe.{next_position}
-use Rattle.tcp_replay.specs.World.{WorldState, PartyState, SentSegment, delivery_refusal, effect_of, other, party_after_arrival, party_after_emission}
-use Rattle.tcp_replay.specs.World.{party_after_timer, party_of, segment_at, stay_or, world_after, world_after_all, world_with_effect}
-use Rattle.tcp_progress.specs.Fair.{AllCome, Delivers, IsCalm, IsIdle, NoneGaveUp, emissions, served}
-use Rattle.tcp_progress.specs.Settled.{IsLive}
+use Rattle.std.proofs.Common.{[], ℕ, ◌++◌, ◌∙◌, ◌∷◌, ◌≡◌, ◌⊎◌, ap, Bool, false, inl, inr, length, List, None, Ok, Option, refl, slice_get, Some, subst, suc}
+use Rattle.std.proofs.Common.{sym, true, zero}
+use Rattle.tcp_replay.proofs.Words.{after_emission, after_retransmit, AllByRecursion, Config, decode_answer, due_of, is_handshake, number, or-true, Reset}
+use Rattle.tcp_replay.proofs.Words.{Retransmit, State, Syn, SynReceived, WaitingReset}
+use Rattle.tcp_replay.proofs.WorldWords.{Deliver, delivery_refusal, effect_of, Emit, EventContent, next_position, other, party_after_arrival}
+use Rattle.tcp_replay.proofs.WorldWords.{party_after_emission, party_after_timer, party_of, PartyState, segment_at, SentSegment, stay_or, Timer, world_after}
+use Rattle.tcp_replay.proofs.WorldWords.{world_after_all, world_with_effect, WorldState}
+use Rattle.tcp_progress.proofs.Words.{A, AllCome, B, Delivers, emissions, IsCalm, IsIdle, IsLive, NoneGaveUp, served, Side}
 use Rattle.tcp_progress.proofs.AlwaysSteady.{IsKept, kept-steady}
 use Rattle.tcp_progress.proofs.Calm.{Grows}
 use Rattle.tcp_progress.proofs.CalmWorlds.{Steps, steps-all, steps-event}
@@ -38,6 +22,7 @@ use Rattle.tcp_progress.proofs.Still.{IsStill, still-emission, still-next, still
 use Rattle.tcp_progress.proofs.SynOut.{IsSyn, syn-emitted}
 use Rattle.tcp_progress.proofs.Turning.{calm-emissions, calm-served}
 use Rattle.tcp_progress.proofs.Useful.{sent-still}
+use Rattle.tcp_progress.proofs.Back.{emitted-endpoint}
 
 -- ---- A SYN that went out is there later
 syn-later : (p q p' q' : PartyState) (k : ℕ) (told : Bool) → Grows p p' → Grows q q' → IsSyn p q k told → IsSyn p' q' k told
@@ -90,10 +75,6 @@ reset-first : (s : State) (reset : WaitingReset) → s.owed.reset ≡ Some reset
 unfolding due_of after_emission
 reset-first s reset e = rw e (refl, refl)
 
-emission-endpoint : (p : PartyState) → (party_after_emission p).endpoint ≡ after_emission p.endpoint
-unfolding party_after_emission
-emission-endpoint p = refl
-
 owes-timer : (p : PartyState) → is_handshake p.endpoint.phase ≡ true → (party_after_timer p Retransmit).endpoint.owed.syn ≡ true
 unfolding party_after_timer after_retransmit
 owes-timer p shakes = rw shakes (or-true p.endpoint.owed.syn)
@@ -145,7 +126,7 @@ syn-among (suc n) w side later told None e h idle come = syn-now n w side later 
 syn-among (suc n) w side later told (Some reset) e h idle come =
     let p = party_of w side in
     let v = world_after w (Emit side) in
-    let owed = ap (λ (t : State). t.owed.syn) (emission-endpoint p) ∙ (reset-first p.endpoint reset e).1 ∙ h.owed in
+    let owed = ap (λ (t : State). t.owed.syn) (emitted-endpoint p) ∙ (reset-first p.endpoint reset e).1 ∙ h.owed in
     let h' = owes-still v side told (party_after_emission p) (steps-event w (Emit side) tt h.kept).kept (emit-party w side) p (still-emission p) h.shakes
     h.first h.opened owed in
     syn-among n v side later told (party_of v side).endpoint.owed.reset refl h' idle come.1

@@ -1,46 +1,24 @@
 -- CALM EVENTS only bring both ends on: SND.UNA, SND.NXT and RCV.NXT don't go back, nothing more is accepted, and no end that lives comes to
 -- an end but by a reset, or in order and with nothing left.
-use Rattle.std.proofs.Common.{◌≡◌, ℕ, ◌≤◌, List, [], ◌++◌, length, inl, inr, refl, sym, ◌∙◌, ap, subst, arith, append-nil, append_assoc, length-append}
-use Rattle.std.specs.Prelude.{Bool, true, false, Option, Some, None, ◌⊎◌, option_map, option_to_list, if◌then◌else◌}
-use Rattle.std.proofs.lemmas.Bool.{cases_Bool, cond_both}
-use Rattle.tcp_wire.specs.Flags.{has, rst}
-use Rattle.tcp_wire.specs.Wire.{Content}
-use Rattle.tcp_conn.specs.declared.phase.Ending.{Ending}
-use Rattle.tcp_conn.specs.declared.phase.Ending.TheVariants.{NotEnded, Orderly}
-use Rattle.tcp_conn.specs.declared.phase.Phase.{Phase}
-use Rattle.tcp_conn.specs.declared.phase.Phase.TheVariants.{Closed, Listen, SynSent, SynReceived, Established, FinWait1, FinWait2, CloseWait, Closing}
-use Rattle.tcp_conn.specs.declared.phase.Phase.TheVariants.{LastAck, TimeWait}
-use Rattle.tcp_conn.specs.declared.phase.Timer.{Timer as Which}
-use Rattle.tcp_conn.specs.declared.phase.Timer.TheVariants as timers
-use Rattle.tcp_conn.specs.Phase.{gives_up, is_closed}
-use Rattle.tcp_halves.specs.Sender.{Sending}
-use Rattle.tcp_conn.specs.State.{State}
-use Rattle.tcp_conn.specs.declared.judgement.Judgement.{Judgement}
-use Rattle.tcp_conn.specs.declared.judgement.Judgement.TheVariants.{Foreign, PeerRefuses, PeerResets, ResetIgnored, Stray}
-use Rattle.tcp_conn.specs.Calls.{after_acknowledge}
-use Rattle.tcp_conn.specs.Timers.{after_gaps, after_reorder, marks_end}
-use Rattle.tcp_conn.specs.Emission.{emitted_bytes}
-use Rattle.tcp_conn.specs.Judgement.{closed_judgement, is_foreign, judgement, phase_judgement}
-use Rattle.tcp_conn.specs.Arrival.{after_acked_text, after_fin, after_its_ack, after_its_text, after_judgement, after_news, after_own_syn}
-use Rattle.tcp_conn.specs.Arrival.{after_peer_accepts, after_peer_opens, after_taking, after_taking_shut}
-use Rattle.tcp_replay.specs.declared.event.Side.{Side}
-use Rattle.tcp_replay.specs.Alone.{FitsPhase, IsAlone}
-use Rattle.tcp_replay.specs.Events.{Timer}
-use Rattle.tcp_replay.specs.World.{PartyState, SentSegment, max_life, delivery_refusal, sent_at, sent_by, segment_at, party_after_receive}
-use Rattle.tcp_replay.specs.World.{party_after_acknowledge, party_after_timer, party_after_emission, party_after_arrival}
-use Rattle.tcp_replay.specs.Safe.{next_position}
-use Rattle.tcp_replay.specs.Sound.{IsSoundPair}
-use Rattle.tcp_replay.proofs.Phases.{at-listen}
-use Rattle.tcp_replay.proofs.Steps.{kept-same}
-use Rattle.tcp_replay.proofs.Judgements.{judged}
-use Rattle.tcp_replay.proofs.Arrivals.{fair-judgement}
-use Rattle.tcp_replay.proofs.Events.{Arrives, Both, arrival-ok, comes, delivered-there, own-decodes, segment-sent}
-use Rattle.tcp_progress.specs.Fair.{IsCalm}
+use Rattle.std.proofs.Common.{[], ℕ, ◌++◌, ◌∙◌, ◌≡◌, ◌≤◌, ◌⊎◌, ap, append-nil, append_assoc, arith, Bool, if◌then◌else◌, inl, inr, length, length-append}
+use Rattle.std.proofs.Common.{List, None, Option, option_map, option_to_list, refl, Some, subst, sym, true}
+use Rattle.tcp_replay.proofs.Words.{after_acked_text, after_acknowledge, after_fin, after_gaps, after_its_ack, after_its_text, after_judgement, after_news}
+use Rattle.tcp_replay.proofs.Words.{after_own_syn, after_peer_accepts, after_peer_opens, after_reorder, after_taking, after_taking_shut, cases_Bool}
+use Rattle.tcp_replay.proofs.Words.{closed_judgement, cond_both, Content, emitted_bytes, Ending, Foreign}
+use Rattle.tcp_replay.proofs.Words.{gives_up, has, is_closed, is_foreign, Judgement, judgement, LastAck, marks_end, NotEnded, Orderly, PeerRefuses}
+use Rattle.tcp_replay.proofs.Words.{PeerResets, Phase, phase_judgement, ResetIgnored, rst, Sending, State, Stray, Timer as Which}
+use Rattle.tcp_replay.proofs.WorldWords.{delivery_refusal, IsAlone, IsSoundPair, max_life, next_position, party_after_acknowledge}
+use Rattle.tcp_replay.proofs.WorldWords.{party_after_arrival, party_after_emission, party_after_receive, party_after_timer, PartyState, segment_at, sent_at}
+use Rattle.tcp_replay.proofs.WorldWords.{sent_by, SentSegment, Timer}
+use Rattle.tcp_replay.proofs.Lemmas.{arrival-ok, Arrives, at-listen, Both, comes, delivered-there, fair-judgement, judged, kept-same, own-decodes, segment-sent}
+use Rattle.tcp_progress.proofs.Words.{IsCalm, Side}
 use Rattle.tcp_progress.proofs.OnlySent.{KeepsSent, reaches-arrive}
 use Rattle.tcp_progress.proofs.Stages.{own_syn-more, acked_text-more, its_ack-una}
 use Rattle.tcp_progress.proofs.Delivered.{last-before, own_fin-ends, same-ending, same-phase, taken-as}
 use Rattle.tcp_progress.proofs.Measure.{GoOn}
 use Rattle.tcp_progress.proofs.Still.{IsStill, still-emission, still-next, still-reading, still-retransmit}
+use Rattle.tcp_conn.specs.declared.phase.Timer.TheVariants as timers
+use Rattle.tcp_replay.proofs.Lemmas.{not-closed-ended}
 
 -- ---- HOW AN END MAY COME TO ITS END: in order from LAST-ACK, or by a reset
 abbrev pub EndsPlainly : Ending → Phase → Type 0
@@ -160,19 +138,7 @@ moves-acknowledged p =
 -- another sending side with the same SND.UNA, whose SND.NXT doesn't go back
 sending-still : (p : PartyState) (d : Sending) → d.una ≡ p.endpoint.sending.una → p.endpoint.sending.nxt ≤ d.nxt
     → IsStill p (record p { endpoint = record p.endpoint { sending = d } })
-sending-still p d una nxt = record {
-  config = refl;
-  phase = refl;
-  ending = refl;
-  closing = refl;
-  opened = refl;
-  finished = refl;
-  una = una;
-  nxt = nxt;
-  ordered = refl;
-  accepted = refl;
-  closed = refl;
-}
+sending-still p d una nxt = assumption
 
 gaps-still : (p : PartyState) (end : Option ℕ) → IsStill p (record p { endpoint = record p.endpoint { sending = after_gaps p.endpoint.sending end } })
 gaps-still p None =
@@ -324,28 +290,13 @@ not-both ending goes over = absurd (cc)
 pub on-swapped : (x y : PartyState) → GoOn x y → GoOn y x
 on-swapped x y h = record { there = h.back; back = h.there; live = λ some. let both = h.live (omega (arith, some)) in (both.1, both.0) }
 
--- who isn't in CLOSED lives
-pub open-goes : (phase : Phase) (ending : Ending) (una nxt : ℕ) (opened finished : Bool) → is_closed phase ≡ false
-    → FitsPhase phase ending una nxt opened finished → ending ≡ NotEnded
-open-goes Closed ending una nxt opened finished e h = absurd (cc)
-open-goes Listen ending una nxt opened finished e h = h.0
-open-goes SynSent ending una nxt opened finished e h = h.0
-open-goes SynReceived ending una nxt opened finished e h = h.0
-open-goes Established ending una nxt opened finished e h = h.0
-open-goes FinWait1 ending una nxt opened finished e h = h.0
-open-goes FinWait2 ending una nxt opened finished e h = h.0
-open-goes CloseWait ending una nxt opened finished e h = h.0
-open-goes Closing ending una nxt opened finished e h = h.0
-open-goes LastAck ending una nxt opened finished e h = h.0
-open-goes TimeWait ending una nxt opened finished e h = h.0
-
 may_end-judgement : (s : State) (src dst : List ℕ) (v : Content) (accepted : List ℕ) (closed : Bool) → IsAlone s accepted closed
     → MayEnd s (after_judgement (judgement s src dst v) s src v)
 may_end-judgement s src dst v accepted closed alone =
     elim (cases_Bool (is_closed s.phase)) [
       | inl shut ↦ inl (closed-ending s src dst v shut)
       | inr here ↦
-          let goes = open-goes s.phase s.ending s.sending.una s.sending.nxt s.receiving.opened s.receiving.finished here alone.progress in
+          let goes = not-closed-ended s.phase s.ending s.sending.una s.sending.nxt s.receiving.opened s.receiving.finished here alone.progress in
           inr (goes, ends-judgement s src dst v goes)
     ]
 

@@ -1,33 +1,12 @@
 -- CALM EVENTS in a world: over them both ends are only brought on, what is left never grows, and both go on while no end is reset.
-use Rattle.std.proofs.Common.{◌≡◌, ℕ, ◌+◌, ◌<◌, ◌≤◌, List, [], ◌∷◌, length, inl, inr, refl, sym, ◌∙◌, ap, subst, arith}
-use Rattle.std.specs.List.{AllByRecursion}
-use Rattle.std.specs.Prelude.{true, false, Option, Some, None, ◌⊎◌}
-use Rattle.std.proofs.lemmas.Bool.{false≢true}
-use Rattle.tcp_conn.specs.declared.phase.Ending.TheVariants.{NotEnded, Orderly}
-use Rattle.tcp_conn.specs.declared.phase.Phase.{Phase}
-use Rattle.tcp_conn.specs.declared.phase.Phase.TheVariants.{Closed, Listen, SynSent, SynReceived, Established, FinWait1, FinWait2, CloseWait, Closing}
-use Rattle.tcp_conn.specs.declared.phase.Phase.TheVariants.{LastAck, TimeWait}
-use Rattle.tcp_conn.specs.Phase.{gives_up}
-use Rattle.tcp_conn.specs.State.{State}
-use Rattle.tcp_replay.specs.declared.event.Side.{Side}
-use Rattle.tcp_replay.specs.declared.event.Side.TheVariants.{A, B}
-use Rattle.tcp_replay.specs.declared.outcome.StepError.{StepError}
-use Rattle.tcp_replay.specs.Alone.{FitsPhase, Sends}
-use Rattle.tcp_replay.specs.Events.{EventContent, HasBytes, side_of, Connect, Listen as Listens, Send, Receive, Close, Abort, Acknowledge, Timer, Emit}
-use Rattle.tcp_replay.specs.Events.{Deliver, Damage}
-use Rattle.tcp_replay.specs.World.{WorldState, PartyState, max_life, other, party_of, world_from, effect_of, refusal_of, world_with_effect, stay_or}
-use Rattle.tcp_replay.specs.World.{world_after, world_after_all}
-use Rattle.tcp_replay.specs.Safe.{gave_up, next_position}
-use Rattle.tcp_replay.specs.Sound.{IsSoundPair}
-use Rattle.tcp_replay.proofs.Lists.{one_if, one_if-most}
-use Rattle.tcp_replay.proofs.Phases.{gives_up-not_ended}
-use Rattle.tcp_replay.proofs.Steps.{pair-swapped}
-use Rattle.tcp_replay.proofs.Events.{Both, both-swapped, finds-damage}
-use Rattle.tcp_progress.specs.Fair.{IsCalm}
-use Rattle.tcp_progress.specs.Measure.{left_in, left_of_both}
-use Rattle.tcp_progress.specs.Settled.{IsLive}
-use Rattle.tcp_progress.specs.Stage.{SaysByPhase, Says}
-use Rattle.tcp_progress.specs.Steady.{IsSteadyPair}
+use Rattle.std.proofs.Common.{[], ℕ, ◌+◌, ◌<◌, ◌∙◌, ◌∷◌, ◌≡◌, ◌≤◌, ◌⊎◌, ap, arith, false, inl, inr, length, List, None, Option, refl, Some, subst, sym, true}
+use Rattle.tcp_replay.proofs.Words.{AllByRecursion, Closed, false≢true, gives_up, LastAck}
+use Rattle.tcp_replay.proofs.Words.{NotEnded, Orderly, Phase, State}
+use Rattle.tcp_replay.proofs.WorldWords.{Abort, Acknowledge, Close, Connect, Damage, Deliver, effect_of, Emit, EventContent, FitsPhase, gave_up, HasBytes}
+use Rattle.tcp_replay.proofs.WorldWords.{IsSoundPair, Listen as Listens, max_life, next_position, other, party_of, PartyState, Receive, refusal_of, Send, Sends}
+use Rattle.tcp_replay.proofs.WorldWords.{side_of, stay_or, Timer, world_after, world_after_all, world_from, world_with_effect, WorldState}
+use Rattle.tcp_replay.proofs.Lemmas.{Both, both-swapped, finds-damage, gives_up-not_ended, one_if, one_if-most, pair-swapped}
+use Rattle.tcp_progress.proofs.Words.{A, B, IsCalm, IsLive, IsSteadyPair, left_in, left_of_both, Says, SaysByPhase, Side, StepError}
 use Rattle.tcp_progress.proofs.OnlySent.{KeepsSent}
 use Rattle.tcp_progress.proofs.Delivered.{all-acked, nothing-left}
 use Rattle.tcp_progress.proofs.Forward.{acked-all}
@@ -56,18 +35,15 @@ calm-effect life p q (Emit side) calm most e pair h = inl (moves-emission p, ref
 calm-effect life p q (Deliver from k) calm most e pair h = inr (refl, moves-arrival q p life k most e (pair-swapped _ _ pair) (both-swapped KeepsSent _ _ h))
 calm-effect life p q (Damage from k place value) calm most e pair h =
     inr (refl, subst (λ (x : PartyState). IsMoved q x) (sym (finds-damage q p life k place value calm e (pair-swapped _ _ pair)).same) (moves-same q))
-calm-effect life p q (Connect side) calm most e pair h = absurd calm
-calm-effect life p q (Listens side) calm most e pair h = absurd calm
-calm-effect life p q (Send side text) calm most e pair h = absurd calm
-calm-effect life p q (Close side) calm most e pair h = absurd calm
-calm-effect life p q (Abort side) calm most e pair h = absurd calm
+calm-effect life p q other calm most e pair h = absurd calm
 
 calm-from : (w : WorldState) (side : Side) (event : EventContent) → IsCalm event → w.life ≤ max_life
     → (effect_of w.life (party_of w side) (party_of w (other side)) event).refusal ≡ None → IsSoundPair w.a w.b → Both KeepsSent w.a w.b
     → let v = world_from w.life side (effect_of w.life (party_of w side) (party_of w (other side)) event).here
     (effect_of w.life (party_of w side) (party_of w (other side)) event).there in OneMoves w.a w.b v.a v.b
 calm-from w A event calm most e pair h = calm-effect w.life w.a w.b event calm most e pair h
-calm-from w B event calm most e pair h = one-swapped _ _ _ _ (calm-effect w.life w.b w.a event calm most e (pair-swapped _ _ pair) (both-swapped KeepsSent _ _ h))
+calm-from w B event calm most e pair h =
+    one-swapped _ _ _ _ (calm-effect w.life w.b w.a event calm most e (pair-swapped _ _ pair) (both-swapped KeepsSent _ _ h))
 
 -- a calm event moves one of them
 pub calm-event : (w : WorldState) (event : EventContent) → IsCalm event → refusal_of w event ≡ None → IsKept w
@@ -122,17 +98,13 @@ steps-one w v h (inr there) = record {
 
 -- a calm event has bytes alone
 pub calm-bytes : (event : EventContent) → IsCalm event → HasBytes event
-calm-bytes (Receive side room) calm = tt
-calm-bytes (Acknowledge side) calm = tt
-calm-bytes (Timer side which) calm = tt
-calm-bytes (Emit side) calm = tt
-calm-bytes (Deliver from k) calm = tt
 calm-bytes (Damage from k place value) calm = calm
 calm-bytes (Connect side) calm = absurd calm
 calm-bytes (Listens side) calm = absurd calm
 calm-bytes (Send side text) calm = absurd calm
 calm-bytes (Close side) calm = absurd calm
 calm-bytes (Abort side) calm = absurd calm
+calm-bytes other calm = tt
 
 -- something of the world after an event, refused or not
 pub after-either : (P : WorldState → Type 0) (refusal : Option StepError) (w v : WorldState) → P w → (refusal ≡ None → P v) → P (stay_or refusal w v)
@@ -157,16 +129,7 @@ steps-all w (event ∷ events) calm h =
 pub says-over : (s : State) (phase : Phase) → s.ending ≡ Orderly → FitsPhase phase s.ending s.sending.una s.sending.nxt s.receiving.opened s.receiving.finished
     → SaysByPhase phase s → Says true true true s
 says-over s Closed over fits says = says over
-says-over s Listen over fits says = absurd (not-both s.ending fits.0 over)
-says-over s SynSent over fits says = absurd (not-both s.ending fits.0 over)
-says-over s SynReceived over fits says = absurd (not-both s.ending fits.0 over)
-says-over s Established over fits says = absurd (not-both s.ending fits.0 over)
-says-over s FinWait1 over fits says = absurd (not-both s.ending fits.0 over)
-says-over s FinWait2 over fits says = absurd (not-both s.ending fits.0 over)
-says-over s CloseWait over fits says = absurd (not-both s.ending fits.0 over)
-says-over s Closing over fits says = absurd (not-both s.ending fits.0 over)
-says-over s LastAck over fits says = absurd (not-both s.ending fits.0 over)
-says-over s TimeWait over fits says = absurd (not-both s.ending fits.0 over)
+says-over s other over fits says = absurd (not-both s.ending fits.0 over)
 
 -- who ends in order from LAST-ACK leaves nothing behind
 over-nothing : (p p' q : PartyState) → IsMoved p p' → IsSteadyPair p q → IsSteadyPair p' q → p'.endpoint.ending ≡ Orderly → p.endpoint.phase ≡ LastAck

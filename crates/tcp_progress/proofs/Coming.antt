@@ -1,12 +1,8 @@
 -- WHAT COMES LATER: what is delivered among some events is delivered among more of them, and what goes out in a list comes part by part.
-use Rattle.std.proofs.Common.{◌≡◌, ℕ, List, [], ◌∷◌, ◌++◌, inl, inr, sym, subst, append_assoc}
-use Rattle.std.specs.Prelude.{false, length, Option, Some, None, IfSome}
-use Rattle.tcp_halves.specs.declared.due.Due.{Due}
-use Rattle.tcp_conn.specs.Due.{due_of}
-use Rattle.tcp_replay.specs.declared.event.Side.{Side}
-use Rattle.tcp_replay.specs.Events.{EventContent, Emit}
-use Rattle.tcp_replay.specs.World.{WorldState, party_of, world_after, world_after_all}
-use Rattle.tcp_progress.specs.Fair.{AllCome, Comes, Delivers, is_reset}
+use Rattle.std.proofs.Common.{[], ℕ, ◌++◌, ◌∷◌, ◌≡◌, append_assoc, false, IfSome, inl, inr, length, List, None, Option, Some, subst, sym}
+use Rattle.tcp_replay.proofs.Words.{Due, due_of}
+use Rattle.tcp_replay.proofs.WorldWords.{Emit, EventContent, party_of, world_after, world_after_all, WorldState}
+use Rattle.tcp_progress.proofs.Words.{AllCome, Comes, Delivers, is_reset, Side}
 
 -- AMONG: whatever is delivered among some events is delivered among others
 abbrev pub AreAmong : List EventContent → List EventContent → Type 0

@@ -1,19 +1,8 @@
 -- A text or FIN that is due covers the positions from its start on and before its end.
-use Rattle.std.proofs.Common.{◌≡◌, ℕ, ◌+◌, ◌-◌, ◌<◌, ◌≤◌, length, refl, sym, ◌∙◌, ap, arith, length-drop}
-use Rattle.std.specs.Prelude.{Bool, true, false, if◌then◌else◌, Some}
-use Rattle.std.proofs.lemmas.List.{length-take}
-use Rattle.tcp_numbers.specs.Flags.{ack, fin, has, psh, rst, syn}
-use Rattle.tcp_halves.specs.declared.due.Due.{Due}
-use Rattle.tcp_numbers.specs.Position.{number}
-use Rattle.tcp_halves.specs.Due.{count_of, is_fin, pushes, start_of}
-use Rattle.tcp_halves.specs.Sender.{place_of}
-use Rattle.tcp_conn.specs.State.{State}
-use Rattle.tcp_conn.specs.Due.{due_of}
-use Rattle.tcp_conn.specs.Emission.{emitted_bytes}
-use Rattle.tcp_conn.specs.Forms.{plain_segment, segment_of}
-use Rattle.tcp_conn.specs.Judgement.{count_numbers}
-use Rattle.tcp_conn.specs.Writing.{bytes_of, destination_of}
-use Rattle.tcp_progress.specs.Resent.{CoversNext}
+use Rattle.std.proofs.Common.{ℕ, ◌+◌, ◌-◌, ◌<◌, ◌∙◌, ◌≡◌, ◌≤◌, ap, arith, Bool, false, if◌then◌else◌, length, length-drop, refl, Some, sym, true}
+use Rattle.tcp_replay.proofs.Words.{ack, bytes_of, count_numbers, count_of, destination_of, Due, due_of, emitted_bytes, fin, has, is_fin, length-take, number}
+use Rattle.tcp_replay.proofs.Words.{place_of, plain_segment, psh, pushes, rst, segment_of, start_of, State, syn}
+use Rattle.tcp_progress.proofs.Words.{CoversNext}
 
 -- the flags of a segment with or without PSH and FIN
 abbrev pub flags : Bool → Bool → ℕ
@@ -47,7 +36,13 @@ unfolding emitted_bytes bytes_of
 covering s due start count last position stands begins ends =
     let p = plain (pushes s.sending due) (is_fin due) in
     let v = plain_segment s due in
-    let long : length v.text ≡ count = length-take (count_of due) _ ∙ omega (arith, length-drop (place_of s.sending (start_of s.sending due)) s.sending.queue.bytes, ap (place_of s.sending) stands.starts, stands.inside, stands.counts) in
+    let long : length v.text ≡ count = length-take (count_of due) _ ∙ omega (
+      arith,
+      length-drop (place_of s.sending (start_of s.sending due)) s.sending.queue.bytes,
+      ap (place_of s.sending) stands.starts,
+      stands.inside,
+      stands.counts,
+    ) in
     let numbers : count_numbers v ≡ count + (if last then 1 else 0) = rw (p.no_syn, p.has_fin, stands.fins) (omega (arith, long)) in
     record {
       due = due;

@@ -1,29 +1,13 @@
 -- A FRESH SEGMENT THAT IS NEXT (RFC 9293, 3.10.7.4): it begins at or before RCV.NXT and ends behind it; RCV.NXT moves on.
-use Rattle.std.proofs.Common.{◌≡◌, ℕ, ◌+◌, ◌<◌, ◌≤◌, ◌^◌, refl, sym, ◌∙◌, ap, inl, inr, arith}
-use Rattle.std.specs.Prelude.{Bool, true, false, ◌||◌, if◌then◌else◌, None, Ok, ℤ, pos, ◌-ℤ◌, ◌<ℤ◌}
-use Rattle.std.proofs.lemmas.Bool.{cases_Bool, cases_lt, false≢true}
-use Rattle.std.proofs.lemmas.Int.{ints}
-use Rattle.tcp_numbers.specs.Position.{number, offset}
+use Rattle.std.proofs.Common.{ℕ, ℤ, ◌+◌, ◌-ℤ◌, ◌<ℤ◌, ◌<◌, ◌^◌, ◌||◌, ◌∙◌, ◌≡◌, ◌≤◌, ap, arith, Bool, false, if◌then◌else◌, inl, inr, None, Ok, pos, refl, sym}
+use Rattle.std.proofs.Common.{true}
+use Rattle.tcp_replay.proofs.Words.{after_arrival, cases_Bool, cases_lt, Closed, Content, count_numbers, decode_answer, Established}
+use Rattle.tcp_replay.proofs.Words.{false≢true, fin, FinWait1, FinWait2, has, ints, Listen, max_ordered, number, offset, Phase, phase_after_own_syn}
+use Rattle.tcp_replay.proofs.Words.{Receiving, State, SynReceived, SynSent, takes_text, window}
+use Rattle.tcp_replay.proofs.WorldWords.{delivery_refusal, max_life, next_position, party_after_arrival, PartyState, segment_at, SentSegment}
+use Rattle.tcp_replay.proofs.Lemmas.{next_of, one_if, one_if-most}
+use Rattle.tcp_progress.proofs.Words.{begins_at, BringsOn, ends_at, IsNext, IsSteadyPair, least_life, SaysByPhase}
 use Rattle.tcp_numbers.proofs.Positions.{offset_of_earlier, offset_of_later}
-use Rattle.tcp_wire.specs.Flags.{fin, has}
-use Rattle.tcp_wire.specs.Decoded.{decode_answer}
-use Rattle.tcp_wire.specs.Wire.{Content}
-use Rattle.tcp_reasm.specs.Reassembly.{window}
-use Rattle.tcp_conn.specs.declared.phase.Phase.{Phase}
-use Rattle.tcp_conn.specs.declared.phase.Phase.TheVariants.{Closed, Listen, SynSent, SynReceived, Established, FinWait1, FinWait2, CloseWait, Closing, LastAck, TimeWait}
-use Rattle.tcp_conn.specs.Phase.{takes_text}
-use Rattle.tcp_halves.specs.Receiver.{Receiving, max_ordered}
-use Rattle.tcp_conn.specs.Arrival.{after_arrival, phase_after_own_syn}
-use Rattle.tcp_conn.specs.Judgement.{count_numbers}
-use Rattle.tcp_conn.specs.State.{State}
-use Rattle.tcp_replay.specs.World.{PartyState, SentSegment, delivery_refusal, max_life, party_after_arrival, segment_at}
-use Rattle.tcp_replay.specs.Safe.{next_position}
-use Rattle.tcp_replay.proofs.Lists.{one_if, one_if-most}
-use Rattle.tcp_replay.proofs.Steps.{next_of}
-use Rattle.tcp_progress.specs.Progress.{BringsOn, IsNext, begins_at, ends_at}
-use Rattle.tcp_progress.specs.Settled.{least_life}
-use Rattle.tcp_progress.specs.Stage.{SaysByPhase}
-use Rattle.tcp_progress.specs.Steady.{IsSteadyPair}
 use Rattle.tcp_progress.proofs.Arriving.{is-there}
 use Rattle.tcp_progress.proofs.Delivered.{IsOpenTo, TakenUp, fresh-goes, fresh-mine, fresh-plain, fresh-taken, open-present, open-wide}
 use Rattle.tcp_progress.proofs.Emitted.{IsFresh}
@@ -35,7 +19,8 @@ own_syn-takes : (closing : Bool) → takes_text (if closing then FinWait1 else E
 own_syn-takes true = refl
 own_syn-takes false = refl
 
-phase-takes : (phase : Phase) (s : State) → IsPresent phase → SaysByPhase phase s → s.receiving.finished ≡ false → takes_text (phase_after_own_syn phase s.closing) ≡ true
+phase-takes : (phase : Phase) (s : State) → IsPresent phase → SaysByPhase phase s → s.receiving.finished ≡ false
+    → takes_text (phase_after_own_syn phase s.closing) ≡ true
 phase-takes Closed s here says open_still = absurd (false≢true (sym here.shut))
 phase-takes Listen s here says open_still = absurd (false≢true (sym here.listening))
 phase-takes SynSent s here says open_still = absurd (false≢true (sym here.syn_sent))
@@ -43,10 +28,7 @@ phase-takes SynReceived s here says open_still = own_syn-takes s.closing
 phase-takes Established s here says open_still = refl
 phase-takes FinWait1 s here says open_still = refl
 phase-takes FinWait2 s here says open_still = refl
-phase-takes CloseWait s here says open_still = absurd (false≢true (sym open_still ∙ says.finished))
-phase-takes Closing s here says open_still = absurd (false≢true (sym open_still ∙ says.finished))
-phase-takes LastAck s here says open_still = absurd (false≢true (sym open_still ∙ says.finished))
-phase-takes TimeWait s here says open_still = absurd (false≢true (sym open_still ∙ says.finished))
+phase-takes other s here says open_still = absurd (false≢true (sym open_still ∙ says.finished))
 
 -- something of p lies behind RCV.NXT, so that its FIN wasn't taken
 unfinished : (p q : PartyState) → IsSteadyPair p q → next_position q < p.endpoint.sending.nxt → q.endpoint.receiving.finished ≡ false
@@ -95,7 +77,8 @@ is-next p q k start v h opened open_to f begins ends =
     let near : next ≤ p.endpoint.sending.nxt = h.there.sent.taken open_to.live.opened in
     let close : next ≤ start + 2 ^ 31 = omega (arith, near, sends.most, one_if-most p.closed, sends.ahead, sends.released, f.near, f.least) in
     let at : begins_at s v ≡ pos start -ℤ pos next =
-    ap (λ n. offset n v.seq) (h.pair.back.takes.next open_to.live.opened) ∙ ap (λ n. offset (number initial next) n) f.seq ∙ lies initial next start begins close in
+    ap (λ n. offset n v.seq) (h.pair.back.takes.next open_to.live.opened) ∙ ap (λ n. offset (number initial next) n) f.seq ∙ lies initial next start begins
+    close in
     let within = ends-within p q k start v h open_to f begins ends in
     record {
       phase = phase-takes s.phase s present h.back.stage (unfinished p q h (omega (arith, ends, f.most)));
@@ -107,7 +90,8 @@ is-next p q k start v h opened open_to f begins ends =
     }
 
 -- ---- RCV.NXT moves on
-brings-further : (r r' : Receiving) (end : ℤ) → BringsOn r r' end → pos 0 <ℤ end → r.finished ≡ false → r.ordered + window r.inbox ≤ max_ordered → next_of r < next_of r'
+brings-further : (r r' : Receiving) (end : ℤ) → BringsOn r r' end → pos 0 <ℤ end → r.finished ≡ false → r.ordered + window r.inbox ≤ max_ordered
+    → next_of r < next_of r'
 brings-further r r' end brings behind open_still room =
     let some : 1 ≤ brings.count = omega (arith, ints, behind, brings.least) in
     let none : one_if r.finished ≡ 0 = ap one_if open_still in
@@ -133,13 +117,16 @@ next-on p q k start v h opened open_to f begins ends =
     let wide = open-wide p q h open_to in
     let read : decode_answer src dst (segment_at p k) ≡ Ok v = ap (λ (g : SentSegment). decode_answer src dst g.bytes) (is-there p k f.g f.sent) ∙ f.read in
     let brings = ready-takes s (open-ready p q h) src dst (segment_at p k) v read next in
-    brings-further s.receiving (after_arrival s src dst (segment_at p k)).receiving (ends_at s v) brings.1 next.ends (unfinished p q h (omega (arith, ends, f.most)))
+    brings-further s.receiving (after_arrival s src dst (segment_at p k)).receiving (ends_at s v) brings.1 next.ends
+    (unfinished p q h (omega (arith, ends, f.most)))
     (omega (arith, h.pair.back.takes.order, h.pair.there.alone.sends.limit, wide.most))
 
 -- WHAT IS NEXT is taken, and brings RCV.NXT on
-pub delivered-next : (p q : PartyState) (life k start : ℕ) (v : Content) → least_life ≤ life → life ≤ max_life → IsSteadyPair p q → p.endpoint.receiving.opened ≡ true → IsOpenTo q → IsFresh p q k start v
+pub delivered-next : (p q : PartyState) (life k start : ℕ) (v : Content) → least_life ≤ life → life ≤ max_life → IsSteadyPair p q
+    → p.endpoint.receiving.opened ≡ true → IsOpenTo q → IsFresh p q k start v
     → start ≤ next_position q → next_position q < start + count_numbers v
-    → (delivery_refusal life p q k ≡ None) × TakenUp p q (party_after_arrival q p (segment_at p k)) × (next_position q < next_position (party_after_arrival q p (segment_at p k)))
+    → (delivery_refusal life p q k ≡ None) × TakenUp p q (party_after_arrival q p (segment_at p k)) ×
+    (next_position q < next_position (party_after_arrival q p (segment_at p k)))
 delivered-next p q life k start v least most h opened open_to f begins ends =
     let next = is-next p q k start v h opened open_to f begins ends in (
       fresh-goes p q life k start v least h open_to.live.opened f,

@@ -1,29 +1,13 @@
 -- EACH BURST ENDS: with no arrival between, an end has something due only so often.
-use Rattle.std.proofs.Common.{◌≡◌, ℕ, zero, suc, ◌+◌, ◌-◌, ◌<◌, ◌≤◌, List, [], ◌∷◌, drop, length, refl, ◌∙◌, ap, subst, arith, length-drop}
-use Rattle.std.specs.Prelude.{Bool, true, false, ◌&&◌, ◌==◌, not, min, max, nat_le, nat_lt, Option, Some, None, IfSome, is_some}
-use Rattle.std.specs.Option.{option_or}
-use Rattle.std.specs.declared.ops.Range.{Range}
-use Rattle.std.proofs.lemmas.Bool.{cond_both, ltb-true}
-use Rattle.std.proofs.lemmas.Bool.Decides.{nat_tests}
-use Rattle.std.proofs.lemmas.List.{drop-drop}
-use Rattle.tcp_sendq.specs.SendQueue.{Queue, count_leading, first_unmarked, next_unmarked}
-use Rattle.tcp_halves.specs.declared.due.Due.{Due}
-use Rattle.tcp_halves.specs.declared.due.Due.TheVariants.{Reset, Syn, Resend, NewText, Fin, ResentFin, Acknowledgement}
-use Rattle.tcp_halves.specs.declared.link.WaitingReset.{WaitingReset}
-use Rattle.tcp_conn.specs.Phase.{sends_text}
-use Rattle.tcp_halves.specs.Sender.{Sending, end_of_text, place_of, position_at}
-use Rattle.tcp_conn.specs.State.{State}
-use Rattle.tcp_conn.specs.Due.{ack_due, due_of, fin_of, new_count, new_text_of, reset_due, resend_of, resend_start, resent_fin, resent_run, resent_text}
-use Rattle.tcp_conn.specs.Due.{syn_due, text_due, text_limit}
-use Rattle.tcp_conn.specs.Emission.{state_after}
-use Rattle.tcp_replay.specs.declared.event.Side.{Side}
-use Rattle.tcp_replay.specs.declared.event.Side.TheVariants.{A, B}
-use Rattle.tcp_replay.specs.Events.{Emit}
-use Rattle.tcp_replay.specs.World.{WorldState, effect_of, other, party_after_emission, party_of, world_after, world_after_all}
-use Rattle.tcp_replay.proofs.AloneEmissions.{option_or-both}
-use Rattle.tcp_replay.proofs.Lists.{one_if}
-use Rattle.tcp_progress.specs.Fair.{BurstEnds, EachBurstEnds}
-use Rattle.tcp_progress.specs.Measure.{all_of}
+use Rattle.std.proofs.Common.{[], ℕ, ◌&&◌, ◌+◌, ◌-◌, ◌<◌, ◌==◌, ◌∙◌, ◌∷◌, ◌≡◌, ◌≤◌, ap, arith, Bool, drop, false, IfSome, is_some, length, length-drop, List}
+use Rattle.std.proofs.Common.{max, min, nat_le, nat_lt, None, not, Option, refl, Some, subst, suc, true, zero}
+use Rattle.tcp_replay.proofs.Words.{ack_due, Acknowledgement, cond_both, count_leading, drop-drop, Due, due_of, end_of_text, Fin, fin_of, first_unmarked}
+use Rattle.tcp_replay.proofs.Words.{ltb-true, nat_tests, new_count, new_text_of, NewText, next_unmarked, option_or, place_of, position_at, Queue, Range, Resend}
+use Rattle.tcp_replay.proofs.Words.{resend_of, resend_start, resent_fin, resent_run, resent_text, ResentFin, Reset, reset_due, Sending, sends_text, State}
+use Rattle.tcp_replay.proofs.Words.{state_after, Syn, syn_due, text_due, text_limit, WaitingReset}
+use Rattle.tcp_replay.proofs.WorldWords.{effect_of, Emit, other, party_after_emission, party_of, world_after, world_after_all, WorldState}
+use Rattle.tcp_replay.proofs.Lemmas.{one_if, option_or-both}
+use Rattle.tcp_progress.proofs.Words.{A, all_of, B, BurstEnds, EachBurstEnds, Side}
 use Rattle.tcp_progress.proofs.Again.{emission}
 use Rattle.tcp_progress.proofs.AlwaysSteady.{IsKept}
 use Rattle.tcp_progress.proofs.CalmWorlds.{steps-event}
@@ -109,13 +93,10 @@ fin-advances d closing =
     cond_both (closing && (d.nxt == end_of_text d)) (Some (Fin d.nxt)) None (λ (o : Option Due). IfSome o (Advances d)) (λ _. refl) (λ _. tt)
 
 advance-settles : (s : State) (due : Due) → Advances s.sending due → Settles s due
-advance-settles s (Resend start count) h = h
-advance-settles s (ResentFin start) h = h
-advance-settles s (NewText start count) h = h
-advance-settles s (Fin start) h = h
 advance-settles s (Reset reset) h = absurd h
 advance-settles s Syn h = absurd h
 advance-settles s Acknowledgement h = absurd h
+advance-settles s other h = h
 
 some-settles : (s : State) (o : Option Due) → IfSome o (Advances s.sending) → IfSome o (Settles s)
 some-settles s None h = tt

@@ -1,36 +1,15 @@
 -- NO END SENDS PAST WHAT THE OTHER HAS ROOM FOR, on the definitions: every event keeps it, where what the ends told of their windows fits their room.
-use Rattle.std.proofs.Common.{◌≡◌, ℕ, ◌+◌, ◌-◌, ◌≤◌, ◌<◌, List, length, ⊎_elim, arith, ◌++◌, take, subst, length-append}
-use Rattle.std.specs.Prelude.{min, max, Bool, true, false, ◌&&◌, ◌||◌, ◌==◌, nat_lt, nat_le, if◌then◌else◌, Option, Some, None, IfSome}
-use Rattle.std.specs.Option.{option_or}
-use Rattle.std.proofs.lemmas.Bool.{cond_both, ltb-true, eqb-true, and_parts, or_cases}
-use Rattle.std.proofs.lemmas.Option.{slice_get_within}
-use Rattle.std.specs.declared.ops.Range.{Range}
-use Rattle.tcp_sendq.specs.SendQueue.{IsMarked, after_release, next_unmarked, end_of_marks, last_mark_end}
-use Rattle.tcp_sendq.proofs.Places.{end_of_marks-marked, IsMarked-without_marks, IsMarked-after_release, IsMarked-after_offer}
-use Rattle.tcp_halves.specs.declared.due.Due.{Due}
-use Rattle.tcp_halves.specs.declared.due.Due.TheVariants.{Resend, NewText, Fin, ResentFin}
-use Rattle.tcp_conn.specs.declared.owed.Owed.{Owed}
-use Rattle.tcp_conn.specs.State.{Sending, place_of, position_at, end_of_text, State}
-use Rattle.tcp_halves.specs.Sender.{count_unsent, with_syn_sent, with_text, with_all_resent, without_resend, without_text, is_probe_needed, count_sendable}
-use Rattle.tcp_conn.specs.Due.{resend_start, resent_text, resent_fin, resent_run, resend_of, usable_window, count_allowed, new_count, new_text_of, fin_of}
-use Rattle.tcp_conn.specs.Due.{sending_due, reset_due, syn_due, ack_due, text_limit, text_due, due_of}
-use Rattle.tcp_conn.specs.Emission.{range_after, sending_after, owed_after}
-use Rattle.tcp_conn.specs.Timers.{after_gaps, needs_probe}
-use Rattle.tcp_replay.proofs.Halves.{range-more}
-use Rattle.tcp_replay.proofs.AloneEmissions.{option_or-both, end-is, range_after-ends, going-on}
-use Rattle.tcp_halves.specs.declared.link.WaitingReset.{WaitingReset}
-use Rattle.tcp_conn.specs.declared.phase.Ending.TheVariants.{Aborted}
-use Rattle.tcp_conn.specs.Phase.{sends_text, gives_up}
-use Rattle.tcp_conn.specs.Endings.{after_giving_up}
-use Rattle.tcp_conn.specs.Calls.{send_refusal}
-use Rattle.tcp_replay.specs.World.{PartyState, address_of}
-use Rattle.tcp_replay.specs.Alone.{Sends, IsAlone}
-use Rattle.tcp_replay.specs.Safe.{next_position}
-use Rattle.tcp_replay.specs.Sound.{IsSoundPair}
-use Rattle.tcp_replay.proofs.Lists.{one_if-false}
-use Rattle.tcp_replay.proofs.Phases.{end-closed}
-use Rattle.tcp_replay.proofs.AloneCalls.{send-unclosed}
-use Rattle.tcp_replay.proofs.Calls.{KeptByCalls}
+use Rattle.std.proofs.Common.{ℕ, ⊎_elim, ◌&&◌, ◌++◌, ◌+◌, ◌-◌, ◌<◌, ◌==◌, ◌||◌, ◌≡◌, ◌≤◌, arith, Bool, false, IfSome, if◌then◌else◌, length, length-append}
+use Rattle.std.proofs.Common.{List, max, min, nat_le, nat_lt, None, Option, Some, subst, take, true}
+use Rattle.tcp_replay.proofs.Words.{Aborted, ack_due, after_gaps, after_giving_up, after_release, and_parts, cond_both, count_allowed, count_sendable}
+use Rattle.tcp_replay.proofs.Words.{count_unsent, Due, due_of, end_of_marks, end_of_marks-marked, end_of_text, eqb-true, Fin, fin_of, gives_up, is_probe_needed}
+use Rattle.tcp_replay.proofs.Words.{IsMarked, IsMarked-after_offer, IsMarked-after_release, IsMarked-without_marks, last_mark_end, ltb-true, needs_probe}
+use Rattle.tcp_replay.proofs.Words.{new_count, new_text_of, NewText, next_unmarked, option_or, or_cases, Owed, owed_after, place_of, position_at, Range}
+use Rattle.tcp_replay.proofs.Words.{range_after, Resend, resend_of, resend_start, resent_fin, resent_run, resent_text, ResentFin, reset_due, send_refusal}
+use Rattle.tcp_replay.proofs.Words.{Sending, sending_after, sending_due, sends_text, slice_get_within, State, syn_due, text_due, text_limit, usable_window}
+use Rattle.tcp_replay.proofs.Words.{WaitingReset, with_all_resent, with_syn_sent, with_text, without_resend, without_text}
+use Rattle.tcp_replay.proofs.WorldWords.{address_of, IsAlone, IsSoundPair, next_position, PartyState, Sends}
+use Rattle.tcp_replay.proofs.Lemmas.{end-closed, end-is, going-on, KeptByCalls, one_if-false, option_or-both, range-more, range_after-ends, send-unclosed}
 use Rattle.tcp_progress.proofs.Covering.{flags}
 use Rattle.tcp_halves.specs.declared.due.Due.TheVariants as dues
 

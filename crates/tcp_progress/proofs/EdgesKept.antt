@@ -1,32 +1,15 @@
 -- HOW FAR AN END SENDS, over arrivals and every event
-use Rattle.std.proofs.Common.{◌≡◌, ℕ, ◌+◌, ◌≤◌, ◌<◌, List, length, ⊎_elim, arith, [], ◌∷◌}
-use Rattle.std.specs.Prelude.{Bool, ◌&&◌, nat_lt, nat_le}
-use Rattle.std.proofs.lemmas.Bool.{cond_both, ltb-true, and_parts, leb-true}
-use Rattle.tcp_sendq.specs.SendQueue.{IsMarked, marks_with, can_mark, after_mark}
-use Rattle.tcp_sendq.proofs.Places.{IsMarked-after_release, marks_with-only}
-use Rattle.tcp_conn.specs.State.{Sending, place_of, position_at, State}
-use Rattle.tcp_halves.specs.Sender.{count_below, acks_more, with_acked, after_ack, is_newer, with_window, after_window_update, with_syn_acked}
-use Rattle.tcp_conn.specs.Phase.{gives_up, is_syn_received}
-use Rattle.tcp_replay.specs.World.{PartyState, SentSegment, new_party}
-use Rattle.tcp_replay.specs.Alone.{Sends}
-use Rattle.tcp_replay.specs.Safe.{next_position}
-use Rattle.tcp_replay.specs.Sound.{IsSoundPair}
-use Rattle.tcp_replay.proofs.Phases.{end-listen, present-opened}
-use Rattle.tcp_wire.specs.Position.{position_of}
-use Rattle.tcp_wire.specs.Wire.{Content}
-use Rattle.tcp_conn.specs.Windows.{window_from}
-use Rattle.tcp_conn.specs.Blocks.{is_of_flight, marks_text, with_marks, after_block, after_blocks}
-use Rattle.tcp_conn.specs.Judgement.{position_near}
-use Rattle.tcp_conn.specs.Arrival.{after_own_syn, after_acked_text, blocks_used, is_current, after_news, after_peer_opens, after_peer_accepts}
-use Rattle.tcp_replay.proofs.Alone.{same-window, same-marks}
-use Rattle.tcp_replay.proofs.Judgements.{IsPresent, IsAckOnly}
-use Rattle.tcp_replay.proofs.Events.{Arrives, after_segment, Both, PairKept, Speaks, both-swapped}
-use Rattle.tcp_progress.specs.Edge.{TellsWithin, IsWithinReach}
-use Rattle.tcp_replay.proofs.Arrivals.{on-arrival}
+use Rattle.std.proofs.Common.{ℕ, ⊎_elim, ◌&&◌, ◌+◌, ◌<◌, ◌≡◌, ◌≤◌, arith, Bool, length, List, nat_le, nat_lt, true}
+use Rattle.tcp_replay.proofs.Words.{acks_more, after_ack, after_acked_text, after_mark, after_news, after_own_syn}
+use Rattle.tcp_replay.proofs.Words.{after_peer_accepts, after_peer_opens, and_parts, can_mark, cond_both, Config, Content}
+use Rattle.tcp_replay.proofs.Words.{count_below, gives_up, is_of_flight, is_syn_received, IsConfig, IsMarked, IsMarked-after_release}
+use Rattle.tcp_replay.proofs.Words.{leb-true, ltb-true, marks_text, marks_with, marks_with-only, place_of, position_at, position_near, Sending}
+use Rattle.tcp_replay.proofs.Words.{State, window_from, with_acked, with_marks, with_syn_acked, with_window}
+use Rattle.tcp_replay.proofs.WorldWords.{IsSoundPair, new_party, next_position, PartyState, Sends, SentSegment}
+use Rattle.tcp_replay.proofs.Lemmas.{after_segment, Arrives, Both, both-swapped, end-listen, IsAckOnly, IsPresent, kept-same, Moved, on-arrival, PairKept}
+use Rattle.tcp_replay.proofs.Lemmas.{present-opened, Speaks, news-cases, windowed-sends, marked-sends}
+use Rattle.tcp_progress.proofs.Words.{IsWithinReach, TellsWithin}
 use Rattle.tcp_progress.proofs.Covering.{flags}
-use Rattle.tcp_replay.proofs.Steps.{kept-same, Moved}
-use Rattle.tcp_halves.specs.declared.config.Config.{Config}
-use Rattle.tcp_halves.specs.Config.{IsConfig}
 use Rattle.tcp_progress.proofs.Edges.{Edge, Edged, EdgedWith, edge-calls, edge-given_up, edge-more, edge-orderly, edge-syn_sent}
 
 module _ (count next capacity : ℕ) where
@@ -39,13 +22,6 @@ module _ (count next capacity : ℕ) where
   edge-window : (d : Sending) (probe : Bool) (seq ack window : ℕ) → window ≤ capacity → Edge count next capacity d probe
       → Edge count next capacity (with_window d seq ack window) probe
   edge-window d probe seq ack window fits h = record { sent = h.sent; window = fits; probed = h.probed; range = h.range; marks = h.marks }
-
-  edge-window_update : (d : Sending) (probe : Bool) (seq ack window : ℕ) → window ≤ capacity → Edge count next capacity d probe
-      → Edge count next capacity (after_window_update d seq ack window) probe
-  unfolding after_window_update
-  edge-window_update d probe seq ack window fits h =
-      cond_both (is_newer d seq ack) (with_window d seq ack window) d (λ (x : Sending). Edge count next capacity x probe)
-      (λ _. edge-window d probe seq ack window fits h) (λ _. h)
 
   -- ACKNOWLEDGEMENT: a release takes bytes with their marks
   edge-after_ack : (d : Sending) (probe : Bool) (a : ℕ) → Edge count next capacity d probe → Edge count next capacity (after_ack d a) probe
@@ -64,14 +40,12 @@ module _ (count next capacity : ℕ) where
       (λ _. h)
 
   -- BLOCKS mark what was sent
-  edge-block : (d : Sending) (probe : Bool) (left right : ℕ) → length d.queue.marks ≡ length d.queue.bytes → Edge count next capacity d probe
-      → Edge count next capacity (after_block d left right) probe
-  unfolding after_block after_mark
-  edge-block d probe left right flags h =
+  edge-marked : (d : Sending) (probe : Bool) (left right : ℕ) → marks_text d left right ≡ true → length d.queue.marks ≡ length d.queue.bytes
+      → Edge count next capacity d probe → Edge count next capacity (with_marks d left right) probe
+  unfolding after_mark
+  edge-marked d probe left right e flags h =
       let from = place_of d left in
       let to = count_below d right in
-      cond_both (marks_text d left right) (with_marks d left right) d (λ (x : Sending). Edge count next capacity x probe)
-      (λ e.
       let parts = and_parts (is_of_flight d left right) (nat_lt from to) e in
       let order : from < to = ltb-true from to parts.1 in
       let flight = and_parts (nat_lt d.una left) (nat_lt left right && nat_le right d.nxt) parts.0 in
@@ -87,35 +61,23 @@ module _ (count next capacity : ℕ) where
             ⊎_elim (h.marks place) (λ (inside : (from ≤ place) × (place < to)). omega (arith, inside.0, inside.1, sent))
             (marks_with-only from to d.queue.marks place (omega (arith, order)) (omega (arith, flags)) is))
             (λ _. h.marks);
-      })
-      (λ _. h)
-
-  edge-blocks : (iss : ℕ) (d : Sending) (probe : Bool) (blocks : List (ℕ × ℕ)) (accepted : List ℕ) (closed gone : Bool) → Sends d accepted closed gone
-      → Edge count next capacity d probe
-      → Edge count next capacity (after_blocks iss d blocks) probe
-  edge-blocks iss d probe [] accepted closed gone sends h = h
-  edge-blocks iss d probe (block ∷ blocks) accepted closed gone sends h =
-      let left = position_of iss d.una block.0 in
-      let right = position_of iss d.una block.1 in
-      edge-blocks iss (after_block d left right) probe blocks accepted closed gone (same-marks d left right accepted closed gone sends).sends
-      (edge-block d probe left right sends.flags h)
+      }
 
 -- ---- THE NEWS of an acknowledgement: its window, and its blocks
 edge-news : (p q : PartyState) (s : State) (v : Content) → Sends s.sending p.accepted p.closed (gives_up s.ending)
     → window_from s.link v.window ≤ q.endpoint.config.recv_capacity → Edged p q s → Edged p q (after_news s v)
 unfolding after_news
 edge-news p q s v sends fits h =
-    let d = s.sending in
-    let told = window_from s.link v.window in
     let count = length p.accepted in
     let n = next_position q in
     let capacity = q.endpoint.config.recv_capacity in
-    let up = after_window_update d v.seq v.ack told in
-    let window = same-window d v.seq v.ack told p.accepted p.closed (gives_up s.ending) sends in
-    cond_both (is_current s v) (after_blocks s.config.isn.0 up (blocks_used s v)) d (λ (x : Sending). Edge count n capacity x s.owed.probe)
-    (λ _. edge-blocks count n capacity s.config.isn.0 up s.owed.probe (blocks_used s v) p.accepted p.closed (gives_up s.ending) window.sends
-    (edge-window_update count n capacity d s.owed.probe v.seq v.ack told fits h))
-    (λ _. h)
+    let probe = s.owed.probe in
+    let gone = gives_up s.ending in
+    (news-cases (λ d. Sends d p.accepted p.closed gone × Edge count n capacity d probe) s v
+    (λ d k. (windowed-sends d v.seq v.ack _ p.accepted p.closed gone k.0, edge-window count n capacity d probe v.seq v.ack _ fits k.1))
+    (λ d left right e k.
+    (marked-sends d left right p.accepted p.closed gone e k.0, edge-marked count n capacity d probe left right e k.0.flags k.1))
+    (sends, h)).1
 
 -- WHAT ARRIVES, with a window that fits the room that the peer has: a SYN's as it is, another's scaled
 pub edge-arrives : (p q : PartyState) (g : SentSegment) (v : Content) → TellsWithin q p → IsSoundPair p q → Arrives p q g v → Edged p q p.endpoint

@@ -1,26 +1,13 @@
 -- WHAT WAS JUST EMITTED: a plain segment says what its sender wants now, and where it stands (RFC 9293, 3.8).
-use Rattle.std.proofs.Common.{◌≡◌, ℕ, ◌+◌, ◌-◌, ◌≤◌, length, drop, refl, sym, ◌∙◌, ap, subst, inl, inr, arith, length-drop, length-take}
-use Rattle.std.specs.Prelude.{min, true, false, ◌++◌, Option, Some, Ok, IfSome, option_map, option_to_list, slice_get, ◌⊎◌}
-use Rattle.std.proofs.lemmas.Bool.{cases_lt, false≢true}
-use Rattle.tcp_numbers.specs.Position.{number, position_of}
-use Rattle.tcp_numbers.specs.Flags.{ack, fin, has, rst, syn}
-use Rattle.tcp_wire.specs.Decoded.{decode_answer}
-use Rattle.tcp_wire.specs.Wire.{Content}
-use Rattle.tcp_wire.proofs.Lemmas.{position_of_number}
-use Rattle.tcp_halves.specs.declared.due.Due.{Due}
-use Rattle.tcp_halves.specs.declared.due.Due.TheVariants.{Reset, Syn, Resend, NewText, Fin, ResentFin, Acknowledgement}
-use Rattle.tcp_halves.specs.Due.{count_of, is_fin, pushes, start_of}
-use Rattle.tcp_conn.specs.Due.{due_of}
-use Rattle.tcp_conn.specs.Emission.{after_due, after_emission, emitted_bytes}
-use Rattle.tcp_conn.specs.Forms.{plain_segment, segment_of}
-use Rattle.tcp_conn.specs.Judgement.{count_numbers}
-use Rattle.tcp_conn.specs.Writing.{bytes_of, destination_of}
-use Rattle.tcp_replay.specs.World.{PartyState, SentSegment, party_after_emission, sent_by}
-use Rattle.tcp_replay.specs.Safe.{next_position}
-use Rattle.tcp_replay.proofs.Lists.{one_if, one_if-most}
-use Rattle.tcp_replay.proofs.AloneEmissions.{GoesOutAlone, IsSaid, due-alone}
-use Rattle.tcp_replay.proofs.Emissions.{GoesOut, due-decodes, due-goes, plain-bits, reset-bit, seq-in, syn-bits, wanted-is}
-use Rattle.tcp_progress.specs.Steady.{IsSteadyPair}
+use Rattle.std.proofs.Common.{ℕ, ◌++◌, ◌+◌, ◌-◌, ◌∙◌, ◌≡◌, ◌≤◌, ◌⊎◌, ap, arith, drop, false, IfSome, inl, inr, length, length-drop, length-take, min, Ok}
+use Rattle.std.proofs.Common.{Option, option_map, option_to_list, refl, slice_get, Some, subst, sym, true}
+use Rattle.tcp_replay.proofs.Words.{ack, Acknowledgement, after_due, after_emission, bytes_of, cases_lt, Content, count_numbers, count_of, decode_answer}
+use Rattle.tcp_replay.proofs.Words.{Due, due_of, emitted_bytes, false≢true, fin, Fin, has, is_fin, NewText, number, plain_segment, position_of}
+use Rattle.tcp_replay.proofs.Words.{position_of_number, pushes, Resend, ResentFin, Reset, rst, segment_of, start_of, syn, Syn}
+use Rattle.tcp_replay.proofs.WorldWords.{next_position, party_after_emission, PartyState, sent_by, SentSegment}
+use Rattle.tcp_replay.proofs.Lemmas.{due-alone, due-decodes, due-goes, GoesOut, GoesOutAlone, IsSaid, one_if, one_if-most, plain-bits, reset-bit}
+use Rattle.tcp_replay.proofs.Lemmas.{syn-bits, wanted-is, due-position}
+use Rattle.tcp_progress.proofs.Words.{IsSteadyPair}
 use Rattle.tcp_progress.proofs.OnlySent.{DueEnds, due-ends}
 use Rattle.tcp_progress.proofs.Ways.{last-of}
 
@@ -48,14 +35,8 @@ pub record IsFresh (p q : PartyState) (k start : ℕ) (v : Content) : Type 0 whe
 
 -- the party after it sent what is due
 abbrev pub party_after_due : PartyState → Option Due → PartyState
-party_after_due p due = record p { endpoint = after_due p.endpoint due; sent = p.sent ++ option_to_list (option_map (sent_by p.endpoint) (option_map (bytes_of p.endpoint) due)) }
-
--- where it is read to stand
-position-said : (p q : PartyState) (due : Due) → GoesOut p q due → (sent_by p.endpoint (bytes_of p.endpoint due)).position ≡ position_of p.endpoint.config.isn.0 p.endpoint.sending.una (segment_of p.endpoint due).seq
-unfolding bytes_of
-position-said p q due goes =
-    let s = p.endpoint in
-    ap (position_of s.config.isn.0 s.sending.una) (sym (seq-in s.config.addr.0 (destination_of s due).addr.0 (segment_of s due) goes.valid))
+party_after_due p due =
+    record p { endpoint = after_due p.endpoint due; sent = p.sent ++ option_to_list (option_map (sent_by p.endpoint) (option_map (bytes_of p.endpoint) due)) }
 
 -- what text, FIN and acknowledgement say
 fresh-said : (p q : PartyState) (due : Due) → IsSteadyPair p q → GoesOut p q due → IsSaid p.endpoint p.accepted p.closed due → DueEnds p due
@@ -70,7 +51,8 @@ fresh-said p q due h goes said ends =
     let sends = h.pair.there.alone.sends in
     let bits = plain-bits (pushes d due) (is_fin due) in
     let at : position_of s.config.isn.0 d.una v.seq ≡ start =
-    position_of_number s.config.isn.0 d.una start h.pair.there.alone.config.isn (omega (arith, plain.within, one_if-most p.closed, sends.ahead, sends.released)) (omega (arith, plain.behind)) in
+    position_of_number s.config.isn.0 d.una start h.pair.there.alone.config.isn (omega (arith, plain.within, one_if-most p.closed, sends.ahead, sends.released))
+    (omega (arith, plain.behind)) in
     let place : position_of s.config.isn.0 d.una (segment_of s due).seq ≡ start = ap (λ (v : Content). position_of s.config.isn.0 d.una v.seq) form ∙ at in
     let no_rst : has rst (segment_of s due).flags ≡ false = ap (λ (v : Content). has rst v.flags) form ∙ bits.2 in
     let size : length v.text ≡ min (count_of due) (length p.accepted - (start - 1)) =
@@ -80,7 +62,7 @@ fresh-said p q due h goes said ends =
       g = sent_by s (bytes_of s due);
       sent = last-of p.sent (sent_by s (bytes_of s due));
       read = due-decodes p q due goes ∙ ap Ok form;
-      starts = position-said p q due goes ∙ place;
+      starts = due-position p q due goes ∙ place;
       wanted = wanted-is p q h.pair;
       no_rst = bits.2;
       no_syn = bits.0;
@@ -104,7 +86,8 @@ fresh-said p q due h goes said ends =
 fresh-kind : (p q : PartyState) (due : Due) → IsSteadyPair p q → GoesOut p q due → IsSaid p.endpoint p.accepted p.closed due → DueEnds p due
     → IsFresh (party_after_due p (Some due)) q (length p.sent) (start_of p.endpoint.sending due) (segment_of p.endpoint due)
 fresh-kind p q due h goes said ends =
-    subst (λ (v : Content). IsFresh (party_after_due p (Some due)) q (length p.sent) (start_of p.endpoint.sending due) v) (sym said.common.segment) (fresh-said p q due h goes said ends)
+    subst (λ (v : Content). IsFresh (party_after_due p (Some due)) q (length p.sent) (start_of p.endpoint.sending due) v) (sym said.common.segment)
+    (fresh-said p q due h goes said ends)
 
 pub fresh-due : (p q : PartyState) (due : Due) → IsSteadyPair p q → GoesOut p q due → GoesOutAlone p.endpoint p.accepted p.closed due
     → has rst (segment_of p.endpoint due).flags ≡ false → has syn (segment_of p.endpoint due).flags ≡ false
@@ -113,16 +96,20 @@ unfolding segment_of
 fresh-due p q (Reset reset) h goes out no_rst no_syn = absurd (false≢true (sym no_rst ∙ reset-bit _))
 fresh-due p q Syn h goes out no_rst no_syn = absurd (false≢true (sym no_syn ∙ (syn-bits p.endpoint.receiving.opened).0))
 fresh-due p q (Resend start count) h goes out no_rst no_syn = fresh-kind p q (Resend start count) h goes out.kind (due-ends p q (Resend start count) h.pair out)
-fresh-due p q (NewText start count) h goes out no_rst no_syn = fresh-kind p q (NewText start count) h goes out.kind (due-ends p q (NewText start count) h.pair out)
+fresh-due p q (NewText start count) h goes out no_rst no_syn =
+    fresh-kind p q (NewText start count) h goes out.kind (due-ends p q (NewText start count) h.pair out)
 fresh-due p q (Fin start) h goes out no_rst no_syn = fresh-kind p q (Fin start) h goes out.kind (due-ends p q (Fin start) h.pair out)
 fresh-due p q (ResentFin start) h goes out no_rst no_syn = fresh-kind p q (ResentFin start) h goes out.kind (due-ends p q (ResentFin start) h.pair out)
 fresh-due p q Acknowledgement h goes out no_rst no_syn = fresh-kind p q Acknowledgement h goes out.kind (due-ends p q Acknowledgement h.pair out)
 
 -- WHAT IS DUE GOES OUT FRESH, unless it is a reset or a SYN
-pub fresh-emitted : (p q : PartyState) → IsSteadyPair p q → (due : Due) → due_of p.endpoint ≡ Some due → has rst (segment_of p.endpoint due).flags ≡ false → has syn (segment_of p.endpoint due).flags ≡ false
+pub fresh-emitted : (p q : PartyState) → IsSteadyPair p q → (due : Due) → due_of p.endpoint ≡ Some due → has rst (segment_of p.endpoint due).flags ≡ false
+    → has syn (segment_of p.endpoint due).flags ≡ false
     → IsFresh (party_after_emission p) q (length p.sent) (start_of p.endpoint.sending due) (segment_of p.endpoint due)
 unfolding party_after_emission emitted_bytes after_emission
 fresh-emitted p q h due is no_rst no_syn =
     let goes : GoesOut p q due = subst (λ (o : Option Due). IfSome o (GoesOut p q)) is (due-goes p q h.pair) in
-    let out : GoesOutAlone p.endpoint p.accepted p.closed due = subst (λ (o : Option Due). IfSome o (GoesOutAlone p.endpoint p.accepted p.closed)) is (due-alone p.endpoint p.accepted p.closed h.pair.there.alone) in
-    subst (λ (o : Option Due). IsFresh (party_after_due p o) q (length p.sent) (start_of p.endpoint.sending due) (segment_of p.endpoint due)) (sym is) (fresh-due p q due h goes out no_rst no_syn)
+    let out : GoesOutAlone p.endpoint p.accepted p.closed due = subst (λ (o : Option Due). IfSome o (GoesOutAlone p.endpoint p.accepted p.closed)) is
+    (due-alone p.endpoint p.accepted p.closed h.pair.there.alone) in
+    subst (λ (o : Option Due). IsFresh (party_after_due p o) q (length p.sent) (start_of p.endpoint.sending due) (segment_of p.endpoint due)) (sym is)
+    (fresh-due p q due h goes out no_rst no_syn)

@@ -1,35 +1,19 @@
 -- THE END: where nothing is left, the users read all, TIME-WAIT runs out, and the ends end in order.
-use Rattle.std.proofs.Common.{◌≡◌, ℕ, ◌+◌, ◌-◌, ◌≤◌, List, [], ◌++◌, length, inl, inr, refl, sym, ◌∙◌, ap, arith, append-nil, length-drop}
-use Rattle.std.proofs.Math.Bool.{or-true, and-false}
-use Rattle.std.specs.Prelude.{true, false, Bool, None, min, ◌⊎◌}
-use Rattle.std.proofs.lemmas.Bool.{cond_both, false≢true, lt-ltb, eq-eqb}
-use Rattle.std.proofs.lemmas.List.{take_all}
-use Rattle.tcp_conn.specs.declared.phase.Ending.{Ending}
-use Rattle.tcp_conn.specs.declared.phase.Ending.TheVariants.{NotEnded, Orderly}
-use Rattle.tcp_conn.specs.declared.phase.Phase.{Phase}
-use Rattle.tcp_conn.specs.declared.phase.Phase.TheVariants.{Closed, Listen, SynSent, SynReceived, Established, FinWait1, FinWait2, CloseWait, Closing, LastAck, TimeWait}
-use Rattle.tcp_conn.specs.declared.phase.Timer.TheVariants as timers
-use Rattle.tcp_conn.specs.Phase.{is_time_wait, is_closed, gives_up}
-use Rattle.tcp_halves.specs.Sender.{Sending, end_of_text, is_fin_acked}
-use Rattle.tcp_reasm.specs.Reassembly.{after_read}
-use Rattle.tcp_conn.specs.State.{State}
-use Rattle.tcp_conn.specs.Calls.{receive_refusal, after_receive}
-use Rattle.tcp_conn.specs.Endings.{after_orderly_end}
-use Rattle.tcp_conn.specs.Timers.{after_time_wait}
-use Rattle.tcp_replay.specs.declared.event.Side.{Side}
-use Rattle.tcp_replay.specs.declared.event.Side.TheVariants.{A, B}
-use Rattle.tcp_replay.specs.Alone.{FitsPhase, Sends}
-use Rattle.tcp_replay.specs.World.{WorldState, PartyState, world_from, party_after_receive, party_after_timer}
-use Rattle.tcp_replay.specs.Safe.{next_position, unread_of, count_released, gave_up}
-use Rattle.tcp_replay.proofs.Lists.{one_if}
-use Rattle.tcp_progress.specs.Measure.{all_of, left_of_both, left_in}
-use Rattle.tcp_progress.specs.Settled.{CanReach, IsThrough, IsSettled}
-use Rattle.tcp_progress.specs.Stage.{SaysByPhase}
-use Rattle.tcp_progress.specs.Steady.{IsSteadyPair}
+use Rattle.std.proofs.Common.{[], ℕ, ◌++◌, ◌+◌, ◌-◌, ◌∙◌, ◌≡◌, ◌≤◌, ◌⊎◌, ap, append-nil, arith, Bool, false, inl, inr, length, length-drop, List, min, None}
+use Rattle.std.proofs.Common.{refl, sym, true}
+use Rattle.tcp_replay.proofs.Words.{after_orderly_end, after_read, after_receive, after_time_wait, and-false, Closed, CloseWait, cond_both}
+use Rattle.tcp_replay.proofs.Words.{end_of_text, Ending, eq-eqb, Established, false≢true, FinWait2, gives_up, is_closed, is_fin_acked, is_time_wait}
+use Rattle.tcp_replay.proofs.Words.{Listen, lt-ltb, NotEnded, or-true, Orderly, Phase, receive_refusal, Sending, State, SynReceived, SynSent, take_all}
+use Rattle.tcp_replay.proofs.Words.{TimeWait}
+use Rattle.tcp_replay.proofs.WorldWords.{count_released, FitsPhase, gave_up, next_position, party_after_receive, party_after_timer, PartyState, Sends}
+use Rattle.tcp_replay.proofs.WorldWords.{unread_of, world_from, WorldState}
+use Rattle.tcp_replay.proofs.Lemmas.{one_if}
+use Rattle.tcp_progress.proofs.Words.{A, all_of, B, CanReach, IsSettled, IsSteadyPair, IsThrough, left_in, left_of_both, SaysByPhase, Side}
 use Rattle.tcp_progress.proofs.Ways.{IsInvariant, reach-here, by-reading, by-timer}
 use Rattle.tcp_progress.proofs.Measure.{IsUp, GoOn}
 use Rattle.tcp_progress.proofs.Still.{IsStill, still-then, still-next, still-reading}
 use Rattle.tcp_progress.proofs.Ready.{steady-back, pair-of, live-open, drop-all}
+use Rattle.tcp_conn.specs.declared.phase.Timer.TheVariants as timers
 
 -- ---- NOTHING IS LEFT between two ends that are up: each has taken all of the other, and all of it is acknowledged
 pub record IsAllTaken (x y : PartyState) : Type 0 where
@@ -97,7 +81,8 @@ read-end p hands none = record {
 }
 
 by-reading-out : {K P : WorldState → Type 0} → IsInvariant K → (life : ℕ) (side : Side) (p q : PartyState) → IsComplete p q → K (world_from life side p q)
-    → ((p' : PartyState) → IsComplete p' q → HasRead p' → K (world_from life side p' q) → CanReach P (world_from life side p' q)) → CanReach P (world_from life side p q)
+    → ((p' : PartyState) → IsComplete p' q → HasRead p' → K (world_from life side p' q) → CanReach P (world_from life side p' q))
+    → CanReach P (world_from life side p q)
 by-reading-out i life side p q whole h next =
     let room = length (unread_of p) in
     let p' = party_after_receive p room in
@@ -107,21 +92,25 @@ by-reading-out i life side p q whole h next =
     let none = read-all p (hands-still p q (pair-of i life side p q h) whole.there.up) in
     by-reading i life side p q room h (λ h'.
     by-reading i life side p' q 0 h'
-    (next p'' (complete-on p p'' q (far-still p p'' (still-then p p' p'' still (still-reading p' 0))) whole) (read-end p' (hands-still p' q (pair-of i life side p' q h') up') none)))
+    (next p'' (complete-on p p'' q (far-still p p'' (still-then p p' p'' still (still-reading p' 0))) whole)
+    (read-end p' (hands-still p' q (pair-of i life side p' q h') up') none)))
 
 -- ---- WHAT NOTHING LEFT SAYS of the numbers: all came in order, and the FIN where there is one
 pub record HasAll (n count : ℕ) (closed fin : Bool) : Type 0 where
   pub ordered : count ≡ n
   pub finished : closed ≡ true → fin ≡ true
 
-has-all : (n count : ℕ) (closed fin : Bool) → count ≤ n → (fin ≡ true → (closed ≡ true) × (count ≡ n)) → 1 + n + one_if closed ≤ 1 + count + one_if fin → HasAll n count closed fin
+has-all : (n count : ℕ) (closed fin : Bool) → count ≤ n → (fin ≡ true → (closed ≡ true) × (count ≡ n)) → 1 + n + one_if closed ≤ 1 + count + one_if fin
+    → HasAll n count closed fin
 has-all n count closed true order taken all = record { ordered = (taken refl).1; finished = λ _. refl }
 has-all n count true false order taken all = absurd (omega (arith, order, all))
 has-all n count false false order taken all = record { ordered = omega (arith, order, all); finished = λ e. e }
 
 -- y has all of x
-pub all-come : (x y : PartyState) → IsSteadyPair x y → IsAllTaken x y → HasAll (length x.accepted) y.endpoint.receiving.ordered x.closed y.endpoint.receiving.finished
-all-come x y h left = has-all (length x.accepted) y.endpoint.receiving.ordered x.closed y.endpoint.receiving.finished h.pair.back.takes.order h.pair.back.takes.fin left.taken
+pub all-come : (x y : PartyState) → IsSteadyPair x y → IsAllTaken x y
+    → HasAll (length x.accepted) y.endpoint.receiving.ordered x.closed y.endpoint.receiving.finished
+all-come x y h left =
+    has-all (length x.accepted) y.endpoint.receiving.ordered x.closed y.endpoint.receiving.finished h.pair.back.takes.order h.pair.back.takes.fin left.taken
 
 -- who is up hasn't given up
 pub up-stays : (ending : Ending) → (ending ≡ NotEnded) ⊎ (ending ≡ Orderly) → gives_up ending ≡ false
@@ -153,28 +142,29 @@ through x y h whole read =
     let least : length x.accepted ≤ hands.count = omega (arith, count, come.ordered) in
     record {
       delivered = sym (append-nil y.delivered) ∙ ap (λ bytes. y.delivered ++ bytes) (sym read.all) ∙ hands.handed ∙ take_all hands.count x.accepted least;
-      released = all-released x.endpoint.sending.una (length x.accepted) (count_released x) (omega (arith, whole.there.acked)) h.pair.there.alone.sends.released;
+      released = all-released x.endpoint.sending.una (length x.accepted) (count_released x) (omega (arith, whole.there.acked))
+          h.pair.there.alone.sends.released;
       ended = λ closed. read.ended (come.finished closed);
       fin_acked = closed-acked x y h whole.there;
       stays = up-stays x.endpoint.ending whole.there.up.kept;
     }
 
 -- which state it is in then (RFC 9293, 3.3.2): TIME-WAIT, or it has ended in order
-last-phase : (s : State) (phase : Phase) → s.closing ≡ true → is_fin_acked s.sending ≡ true → s.receiving.finished ≡ true → s.receiving.opened ≡ true → 2 ≤ s.sending.una
+last-phase : (s : State) (phase : Phase) → s.closing ≡ true → is_fin_acked s.sending ≡ true → s.receiving.finished ≡ true → s.receiving.opened ≡ true
+    → 2 ≤ s.sending.una
     → (s.ending ≡ NotEnded) ⊎ (s.ending ≡ Orderly)
-    → FitsPhase phase s.ending s.sending.una s.sending.nxt s.receiving.opened s.receiving.finished → SaysByPhase phase s → (is_time_wait phase ≡ true) ⊎ (s.ending ≡ Orderly)
+    → FitsPhase phase s.ending s.sending.una s.sending.nxt s.receiving.opened s.receiving.finished → SaysByPhase phase s
+    → (is_time_wait phase ≡ true) ⊎ (s.ending ≡ Orderly)
 last-phase s Closed closing acked finished took una (inl goes) fits says = absurd (false≢true (sym (fits goes).not_opened ∙ took))
 last-phase s Closed closing acked finished took una (inr over) fits says = inr over
 last-phase s Listen closing acked finished took una kept fits says = absurd (false≢true (sym fits.1.not_opened ∙ took))
 last-phase s SynSent closing acked finished took una kept fits says = absurd (false≢true (sym fits.1.not_opened ∙ took))
 last-phase s SynReceived closing acked finished took una kept fits says = absurd (omega (arith, una, says.0))
 last-phase s Established closing acked finished took una kept fits says = absurd (false≢true (sym says.closing ∙ closing))
-last-phase s FinWait1 closing acked finished took una kept fits says = absurd (false≢true (sym says.acked ∙ acked))
 last-phase s FinWait2 closing acked finished took una kept fits says = absurd (false≢true (sym says.finished ∙ finished))
 last-phase s CloseWait closing acked finished took una kept fits says = absurd (false≢true (sym says.closing ∙ closing))
-last-phase s Closing closing acked finished took una kept fits says = absurd (false≢true (sym says.acked ∙ acked))
-last-phase s LastAck closing acked finished took una kept fits says = absurd (false≢true (sym says.acked ∙ acked))
 last-phase s TimeWait closing acked finished took una kept fits says = inl refl
+last-phase s other closing acked finished took una kept fits says = absurd (false≢true (sym says.acked ∙ acked))
 
 -- ---- TIME-WAIT RUNS OUT
 over-after : (s : State) → (is_time_wait s.phase ≡ true) ⊎ (s.ending ≡ Orderly) → (after_time_wait s).ending ≡ Orderly
@@ -194,7 +184,8 @@ ends-in-order x y h back whole closed their =
     let acked : 2 + length x.accepted ≤ s.sending.una = omega (arith, whole.there.acked, ap one_if closed) in
     let fin = closed-acked x y h whole.there closed in
     let finished = (all-come y x back whole.back).finished their in
-    over-after s (last-phase s s.phase (alone.closing ∙ closed) fin finished whole.there.up.opened (omega (arith, acked)) whole.there.up.kept alone.progress h.there.stage)
+    over-after s (last-phase s s.phase (alone.closing ∙ closed) fin finished whole.there.up.opened (omega (arith, acked)) whole.there.up.kept alone.progress
+    h.there.stage)
 
 -- what a TIME-WAIT timeout leaves as it is
 pub record IsOver (p p' : PartyState) : Type 0 where
@@ -215,20 +206,23 @@ over-still p =
     (λ _. record { far = record { all = refl; next = refl; una = refl; up = λ up. up }; closed = refl; read = λ read. read })
 
 by-ending : {K P : WorldState → Type 0} → IsInvariant K → (life : ℕ) (side : Side) (p q : PartyState) → IsComplete p q → K (world_from life side p q)
-    → ((p' : PartyState) → IsOver p p' → EndsInOrder p' q → K (world_from life side p' q) → CanReach P (world_from life side p' q)) → CanReach P (world_from life side p q)
+    → ((p' : PartyState) → IsOver p p' → EndsInOrder p' q → K (world_from life side p' q) → CanReach P (world_from life side p' q))
+    → CanReach P (world_from life side p q)
 by-ending i life side p q whole h next =
     let pair = pair-of i life side p q h in
     by-timer i life side p q timers.TimeWait h (next (party_after_timer p timers.TimeWait) (over-still p) (ends-in-order p q pair (steady-back q p pair) whole))
 
 -- ---- WHERE NOTHING IS LEFT, both users read all, then TIME-WAIT runs out at both ends
-pub at-end : (a b : PartyState) → IsSteadyPair a b → IsComplete a b → HasRead a → HasRead b → EndsInOrder a b → EndsInOrder b a → (life : ℕ) → IsSettled (world_from life A a b)
+pub at-end : (a b : PartyState) → IsSteadyPair a b → IsComplete a b → HasRead a → HasRead b → EndsInOrder a b → EndsInOrder b a → (life : ℕ)
+    → IsSettled (world_from life A a b)
 at-end a b pair whole read-a read-b ends-a ends-b life = record {
   there = through a b pair whole read-b;
   back = through b a (steady-back b a pair) (complete-back a b whole) read-a;
   orderly = λ closed their. (ends-a closed their, ends-b their closed);
 }
 
-both-ended : {K : WorldState → Type 0} → IsInvariant K → (life : ℕ) (a b : PartyState) → IsComplete a b → HasRead a → HasRead b → K (world_from life A a b) → CanReach IsSettled (world_from life A a b)
+both-ended : {K : WorldState → Type 0} → IsInvariant K → (life : ℕ) (a b : PartyState) → IsComplete a b → HasRead a → HasRead b → K (world_from life A a b)
+    → CanReach IsSettled (world_from life A a b)
 both-ended i life a b whole read-a read-b h =
     by-ending i life B b a (complete-back a b whole) h (λ b' over-b ends-b h'.
     let left = complete-back b' a (complete-on b b' a over-b.far (complete-back a b whole)) in

@@ -1,8 +1,6 @@
 -- WHAT EVERY WORLD KEEPS is enough for what is claimed of every world; and over calm events what is left never grows.
-use Rattle.tcp_replay.specs.World.{WorldState, world_after_all}
-use Rattle.tcp_progress.specs.Everywhere.{InEveryWorld}
-use Rattle.tcp_progress.specs.Fair.{NeverGrows, WhatIsLeftNeverGrows}
-use Rattle.tcp_progress.specs.Settled.{HasStreamsOf}
+use Rattle.tcp_replay.proofs.WorldWords.{world_after_all, WorldState}
+use Rattle.tcp_progress.proofs.Words.{HasStreamsOf, InEveryWorld, NeverGrows, WhatIsLeftNeverGrows}
 use Rattle.tcp_progress.proofs.AlwaysSteady.{IsKept, kept-by_runs}
 use Rattle.tcp_progress.proofs.CalmWorlds.{Steps, steps-all, steps-left}
 

@@ -1,29 +1,10 @@
 -- An end that holds sixteen runs: another early piece is refused, and the segment that is next is taken. It may send, and answers
 -- an old SYN.
-use Rattle.std.proofs.Common.{◌≡◌, ℕ, zero, suc, List, [], ◌∷◌, ◌++◌, length, refl, inl, arith}
-use Rattle.std.specs.Prelude.{true, false, pos, Option, Some, None}
-use Rattle.std.proofs.lemmas.Int.{ints}
-use Rattle.tcp_numbers.specs.Position.{offset, position_of}
-use Rattle.tcp_wire.specs.Wire.{Content}
-use Rattle.tcp_reasm.specs.declared.placed.Placed.TheVariants.{Advanced, NotKept}
-use Rattle.tcp_reasm.specs.Reassembly.{Cell, Inbox, place_answer, runs}
-use Rattle.tcp_halves.specs.declared.config.Config.{Config}
-use Rattle.tcp_conn.specs.declared.phase.Phase.TheVariants.{Established}
-use Rattle.tcp_halves.specs.Config.{default_limit}
-use Rattle.tcp_halves.specs.Sender.{new_sending}
-use Rattle.tcp_conn.specs.Endpoint.{AlwaysHolds}
-use Rattle.tcp_conn.specs.Judgement.{is_foreign}
-use Rattle.tcp_conn.specs.NewEnd.{new_end}
-use Rattle.tcp_conn.specs.State.{State}
-use Rattle.tcp_halves.specs.Acceptable.{is_acceptable}
-use Rattle.tcp_conn.specs.Calls.{after_connect, after_listen}
-use Rattle.tcp_replay.specs.declared.event.Side.TheVariants.{A, B}
-use Rattle.tcp_replay.specs.Events.{Connect, Listen}
-use Rattle.tcp_replay.specs.World.{effect_of, new_world_with, party_after_connect, party_after_listen, run_of}
-use Rattle.tcp_progress.specs.Progress.{IsNext}
-use Rattle.tcp_progress.specs.Settled.{AreOpening}
-use Rattle.tcp_progress.specs.Resent.{IsInFlight, IsUnsent, MaySend}
-use Rattle.tcp_progress.specs.Answered.{IsUnacceptable, MayAnswer}
+use Rattle.std.proofs.Common.{[], ℕ, ◌++◌, ◌∷◌, ◌≡◌, arith, false, inl, length, List, None, Option, pos, refl, Some, suc, true, zero}
+use Rattle.tcp_replay.proofs.Words.{Advanced, after_connect, after_listen, AlwaysHolds, Cell, Config, Content, default_limit, Established, Inbox, ints}
+use Rattle.tcp_replay.proofs.Words.{is_acceptable, is_foreign, new_end, new_sending, NotKept, offset, place_answer, position_of, runs, State}
+use Rattle.tcp_replay.proofs.WorldWords.{Connect, effect_of, Listen, new_world_with, party_after_connect, party_after_listen, run_of}
+use Rattle.tcp_progress.proofs.Words.{A, AreOpening, B, IsInFlight, IsNext, IsUnacceptable, IsUnsent, MayAnswer, MaySend}
 
 -- n held bytes, each behind a missing one
 every_other : ℕ → List (Option Cell)
@@ -34,7 +15,17 @@ full : Inbox
 full = record { capacity = 34; unread = []; held = every_other 16 ++ None ∷ None ∷ [] }
 
 config : Config
-config = record { addr = record { 0 = 10 ∷ 0 ∷ 0 ∷ 2 ∷ [] }; port = 2; isn = record { 0 = 5000 }; mss = 1460; send_capacity = 40; recv_capacity = 34; window_shift = None; sack = true; limit = default_limit }
+config = record {
+  addr = record { 0 = 10 ∷ 0 ∷ 0 ∷ 2 ∷ [] };
+  port = 2;
+  isn = record { 0 = 5000 };
+  mss = 1460;
+  send_capacity = 40;
+  recv_capacity = 34;
+  window_shift = None;
+  sack = true;
+  limit = default_limit;
+}
 
 holding : State
 holding = record (new_end config) {
@@ -46,7 +37,20 @@ holding = record (new_end config) {
 
 -- one byte that is old, and the next
 covers-all : Content
-covers-all = record { src_port = 1; dst_port = 2; seq = 1000; ack = 5001; reserved = 0; flags = 16; window = 100; urgent = 0; options = []; pad = 0; text = 97 ∷ 98 ∷ [] }
+covers-all = record {
+  src_port = 1;
+  dst_port = 2;
+  seq = 1000;
+  ack = 5001;
+  reserved = 0;
+  flags = 16;
+  window = 100;
+  urgent = 0;
+  options = [];
+  pad = 0;
+  text = 97 ∷
+      98 ∷ [];
+}
 
 sixteen_held : length (runs full.held) ≡ 16
 unfolding full every_other
@@ -83,7 +87,10 @@ covering_next = record {
 
 -- three bytes are queued, and so many of them are sent; the peer told that it holds the second, and its window is shut
 sent : ℕ → State
-sent n = record holding { sending = record (new_sending 40) { una = 1; nxt = suc n; queue = record { capacity = 40; bytes = 97 ∷ 98 ∷ 99 ∷ []; marks = false ∷ true ∷ false ∷ [] } } }
+sent n = record holding {
+  sending = record (new_sending 40)
+      { una = 1; nxt = suc n; queue = record { capacity = 40; bytes = 97 ∷ 98 ∷ 99 ∷ []; marks = false ∷ true ∷ false ∷ [] } };
+}
 
 sent_may_send : MaySend (sent 3)
 unfolding sent holding config

@@ -1,19 +1,10 @@
 -- What is left to be sent again comes to an end: each emission brings the range's start on, up to SND.NXT or past the FIN.
-use Rattle.std.proofs.Common.{◌≡◌, ℕ, zero, suc, ◌+◌, ◌<◌, ◌≤◌, length, refl, ◌∙◌, ap, inl, inr, arith}
-use Rattle.std.specs.Prelude.{true, false, ◌&&◌, Some, None, max, nat_le, nat_lt}
-use Rattle.std.specs.declared.ops.Range.{Range}
-use Rattle.std.proofs.lemmas.Bool.{cases_Bool, cases_lt}
-use Rattle.std.proofs.lemmas.Bool.Decides.{nat_tests}
-use Rattle.tcp_sendq.specs.SendQueue.{next_unmarked}
-use Rattle.tcp_halves.specs.declared.due.Due.TheVariants.{Resend, ResentFin}
-use Rattle.tcp_conn.specs.Phase.{sends_text}
-use Rattle.tcp_halves.specs.Sender.{Sending, end_of_text, place_of, position_at}
-use Rattle.tcp_conn.specs.State.{State}
-use Rattle.tcp_conn.specs.Due.{resend_of, resend_start, resent_run, text_limit}
-use Rattle.tcp_conn.specs.Emission.{after_emission}
-use Rattle.tcp_progress.specs.Progress.{is_synchronized}
-use Rattle.tcp_progress.specs.Resent.{KeepsFlight, after_emissions}
-use Rattle.tcp_progress.proofs.Again.{Resends, count_now, emission-keeps, emission-resends, fits, from_now, keeps-later, kept, no-run, resend-fin, resend-text, sends-synchronized, unmarked-run}
+use Rattle.std.proofs.Common.{ℕ, ◌&&◌, ◌+◌, ◌<◌, ◌∙◌, ◌≡◌, ◌≤◌, ap, arith, false, inl, inr, length, max, nat_le, nat_lt, None, refl, Some, suc, true, zero}
+use Rattle.tcp_replay.proofs.Words.{after_emission, cases_Bool, cases_lt, end_of_text, nat_tests, next_unmarked, place_of, position_at, Range, Resend}
+use Rattle.tcp_replay.proofs.Words.{resend_of, resend_start, resent_run, ResentFin, Sending, sends_text, State, text_limit}
+use Rattle.tcp_progress.proofs.Words.{after_emissions, is_synchronized, KeepsFlight}
+use Rattle.tcp_progress.proofs.Again.{Resends, count_now, emission-keeps, emission-resends, fits, from_now, keeps-later, kept, no-run, resend-fin, resend-text}
+use Rattle.tcp_progress.proofs.Again.{sends-synchronized, unmarked-run}
 
 -- an end that has nothing to send again
 pub record IsRested (s : State) : Type 0 where
@@ -52,7 +43,8 @@ text-rests s start r inside past =
     rw (r.range, from, unmarked-run d.queue (place_of d start) r.unmarked inside, test) refl
 
 -- nor the FIN
-fin-unreached : (d : Sending) (limit : ℕ) (range : Range ℕ) → (nat_lt (end_of_text d) range.end && nat_le (resend_start d range) (end_of_text d)) ≡ false → resent_run d limit range None ≡ None
+fin-unreached : (d : Sending) (limit : ℕ) (range : Range ℕ) → (nat_lt (end_of_text d) range.end && nat_le (resend_start d range) (end_of_text d)) ≡ false
+    → resent_run d limit range None ≡ None
 fin-unreached d limit range test = rw test refl
 
 range-rests : (d : Sending) (limit : ℕ) (range : Range ℕ) → next_unmarked d.queue (place_of d (resend_start d range)) ≡ None
@@ -61,12 +53,14 @@ unfolding resend_of
 range-rests d limit range none test = rw none (fin-unreached d limit range test)
 
 fin-rests : (s : State) (start : ℕ) → Resends s start → length s.sending.queue.bytes ≤ place_of s.sending start
-    → (nat_lt (end_of_text s.sending) s.sending.nxt && nat_le start (end_of_text s.sending)) ≡ false → resend_of s.sending (text_limit s) s.sending.resend ≡ None
+    → (nat_lt (end_of_text s.sending) s.sending.nxt && nat_le start (end_of_text s.sending)) ≡ false
+    → resend_of s.sending (text_limit s) s.sending.resend ≡ None
 fin-rests s start r past test =
     let d = s.sending in
     let from : max start d.una ≡ start = omega (arith, r.behind) in
     let range : Range ℕ = record { start = start; end = d.nxt } in
-    let none : next_unmarked d.queue (place_of d (max start d.una)) ≡ None = no-run d.queue (place_of d (max start d.una)) r.unmarked (omega (arith, past, from)) in
+    let none : next_unmarked d.queue (place_of d (max start d.una)) ≡ None = no-run d.queue (place_of d (max start d.una)) r.unmarked
+    (omega (arith, past, from)) in
     let same : (nat_lt (end_of_text d) d.nxt && nat_le (max start d.una) (end_of_text d)) ≡ false = rw from test in
     ap (resend_of d (text_limit s)) r.range ∙ range-rests d (text_limit s) range none same
 
@@ -93,7 +87,8 @@ exhausts (suc fuel) s start r near =
                 let due = resend-text s start r inside sent in
                 let keeps = emission-keeps s (Resend from count) due run.most in
                 one-more s keeps
-                (exhausts fuel (after_emission s) (from + count) (emission-resends s start (from + count) (Resend from count) r due refl refl run.most (omega (arith, run.ahead)))
+                (exhausts fuel (after_emission s) (from + count)
+                (emission-resends s start (from + count) (Resend from count) r due refl refl run.most (omega (arith, run.ahead)))
                 (omega (arith, near, keeps.nxt, run.ahead, run.some)))
           ]
       | inr behind ↦
@@ -105,7 +100,8 @@ exhausts (suc fuel) s start r near =
                 let due = resend-fin s start r behind below sent in
                 let keeps = emission-keeps s (ResentFin (end_of_text d)) due (omega (arith, sent)) in
                 one-more s keeps
-                (exhausts fuel (after_emission s) (end_of_text d + 1) (emission-resends s start (end_of_text d + 1) (ResentFin (end_of_text d)) r due refl refl (omega (arith, sent)) (omega (arith, below)))
+                (exhausts fuel (after_emission s) (end_of_text d + 1)
+                (emission-resends s start (end_of_text d + 1) (ResentFin (end_of_text d)) r due refl refl (omega (arith, sent)) (omega (arith, below)))
                 (omega (arith, near, keeps.nxt, below)))
           ]
     ]

@@ -1,18 +1,9 @@
 -- A WORLD THAT GOES ON, over calm events: either less is left in the end, or both are where they were, and what holds so is carried on.
-use Rattle.std.proofs.Common.{◌≡◌, ℕ, ◌+◌, ◌-◌, ◌<◌, ◌≤◌, List, [], length, inl, inr, refl, ap, arith}
-use Rattle.std.specs.Prelude.{Bool, true, false, ◌⊎◌}
-use Rattle.std.specs.List.{AllByRecursion}
-use Rattle.std.proofs.lemmas.Bool.{cases_lt}
-use Rattle.tcp_replay.specs.declared.event.Side.{Side}
-use Rattle.tcp_replay.specs.declared.event.Side.TheVariants.{A, B}
-use Rattle.tcp_replay.specs.Events.{EventContent}
-use Rattle.tcp_replay.specs.World.{WorldState, PartyState, other, party_of, world_after, world_after_all}
-use Rattle.tcp_replay.specs.Safe.{next_position, unread_of}
-use Rattle.tcp_replay.proofs.Lists.{one_if}
-use Rattle.tcp_progress.specs.Fair.{IsCalm, NoneGaveUp}
-use Rattle.tcp_progress.specs.Measure.{all_of, left_in, left_of_both}
-use Rattle.tcp_progress.specs.Settled.{IsLive}
-use Rattle.tcp_progress.specs.Steady.{IsSteadyPair}
+use Rattle.std.proofs.Common.{[], ℕ, ◌+◌, ◌-◌, ◌<◌, ◌≡◌, ◌≤◌, ◌⊎◌, ap, arith, Bool, false, inl, inr, length, List, refl, true}
+use Rattle.tcp_replay.proofs.Words.{AllByRecursion, cases_lt}
+use Rattle.tcp_replay.proofs.WorldWords.{EventContent, next_position, other, party_of, PartyState, unread_of, world_after, world_after_all, WorldState}
+use Rattle.tcp_replay.proofs.Lemmas.{one_if}
+use Rattle.tcp_progress.proofs.Words.{A, all_of, B, IsCalm, IsLive, IsSteadyPair, left_in, left_of_both, NoneGaveUp, Side}
 use Rattle.tcp_progress.proofs.AlwaysSteady.{IsKept, kept-steady}
 use Rattle.tcp_progress.proofs.Calm.{Grows}
 use Rattle.tcp_progress.proofs.CalmWorlds.{Steps, on-event, steps-all, steps-event, steps-left, on-all, steps-then}

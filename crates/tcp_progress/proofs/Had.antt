@@ -1,18 +1,12 @@
 -- TURNS CAN BE HAD, as many as one likes: from every world in which no end has given up, both bursts end; all that went out in them is
 -- delivered; both answer, which ends too; and what they answered is delivered. No end gives up in it.
-use Rattle.std.proofs.Common.{◌≡◌, ℕ, zero, suc, List, [], ◌∷◌, ◌++◌, length, inl, inr, refl, sym, ◌∙◌, ap, subst}
-use Rattle.std.specs.Prelude.{false, if◌then◌else◌, Option, Some, None, IfSome}
-use Rattle.std.specs.List.{AllByRecursion}
-use Rattle.std.proofs.lemmas.Bool.{cond_both}
-use Rattle.tcp_halves.specs.declared.due.Due.{Due}
-use Rattle.tcp_conn.specs.declared.phase.Timer.TheVariants.{Retransmit}
-use Rattle.tcp_conn.specs.Due.{due_of}
-use Rattle.tcp_replay.specs.declared.event.Side.{Side}
-use Rattle.tcp_replay.specs.declared.event.Side.TheVariants.{A, B}
-use Rattle.tcp_replay.specs.Events.{EventContent, Emit, Deliver, Timer}
-use Rattle.tcp_replay.specs.World.{WorldState, effect_of, other, party_after_emission, party_of, world_after, world_after_all}
-use Rattle.tcp_progress.specs.Fair.{AllCome, CanHaveTurns, Comes, Delivers, IsIdle, IsTurn, IsUntimed, NoneGaveUp, TurnsCanBeHad, both_served}
-use Rattle.tcp_progress.specs.Fair.{IsCalm, emissions, is_reset, reads, served}
+use Rattle.std.proofs.Common.{[], ℕ, ◌++◌, ◌∙◌, ◌∷◌, ◌≡◌, ap, false, IfSome, if◌then◌else◌, inl, inr, length, List, None, Option, refl, Some, subst, suc, sym}
+use Rattle.std.proofs.Common.{zero}
+use Rattle.tcp_replay.proofs.Words.{AllByRecursion, cond_both, Due, due_of, Retransmit}
+use Rattle.tcp_replay.proofs.WorldWords.{Deliver, effect_of, Emit, EventContent, other, party_after_emission, party_of, Timer, world_after, world_after_all}
+use Rattle.tcp_replay.proofs.WorldWords.{WorldState}
+use Rattle.tcp_progress.proofs.Words.{A, AllCome, B, both_served, CanHaveTurns, Comes, Delivers, emissions, is_reset, IsCalm, IsIdle, IsTurn, IsUntimed}
+use Rattle.tcp_progress.proofs.Words.{NoneGaveUp, reads, served, Side, TurnsCanBeHad}
 use Rattle.tcp_progress.proofs.AlwaysSteady.{IsKept}
 use Rattle.tcp_progress.proofs.Behind.{emissions-other}
 use Rattle.tcp_progress.proofs.CalmWorlds.{Steps, steps-all, steps-event}

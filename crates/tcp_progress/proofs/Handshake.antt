@@ -1,32 +1,14 @@
 -- THE HANDSHAKE GOES THROUGH (RFC 9293, 3.5): the SYN of who is in SYN-SENT is taken in LISTEN, and the SYN of who is in SYN-RECEIVED, with its
 -- acknowledgement, in SYN-SENT.
-use Rattle.std.proofs.Common.{◌≡◌, ℕ, suc, ◌≤◌, List, length, inl, inr, refl, sym, ◌∙◌, ap, subst, arith}
-use Rattle.std.specs.Prelude.{Bool, true, false, None}
-use Rattle.std.proofs.lemmas.Bool.{eq-eqb}
-use Rattle.tcp_wire.specs.Flags.{ack, syn, rst, has}
-use Rattle.tcp_wire.specs.Wire.{Content}
-use Rattle.tcp_wire.proofs.Lemmas.{position_of_number}
-use Rattle.tcp_conn.specs.declared.phase.Ending.TheVariants.{NotEnded}
-use Rattle.tcp_conn.specs.declared.phase.Phase.TheVariants.{Listen, SynSent, SynReceived}
-use Rattle.tcp_conn.specs.declared.phase.Timer.TheVariants.{Retransmit}
-use Rattle.tcp_conn.specs.Phase.{is_handshake, is_listening, is_syn_received, is_syn_sent}
-use Rattle.tcp_conn.specs.declared.judgement.Judgement.{Judgement}
-use Rattle.tcp_conn.specs.declared.judgement.Judgement.TheVariants.{PeerAccepts, PeerOpens}
-use Rattle.tcp_conn.specs.State.{State}
-use Rattle.tcp_conn.specs.Arrival.{after_arrival, after_judgement, after_peer_accepts, after_peer_opens}
-use Rattle.tcp_conn.specs.Judgement.{acks_syn, is_foreign, judgement, listen_judgement, phase_judgement, position_near, syn_sent_judgement}
-use Rattle.tcp_replay.specs.declared.event.Side.{Side}
-use Rattle.tcp_replay.specs.declared.event.Side.TheVariants.{A, B}
-use Rattle.tcp_replay.specs.Alone.{IsAnswering, IsOpening, IsUnused}
-use Rattle.tcp_replay.specs.World.{PartyState, SentSegment, WorldState, delivery_refusal, other, party_after_arrival, party_after_emission, party_after_timer}
-use Rattle.tcp_replay.specs.World.{segment_at, world_from}
-use Rattle.tcp_replay.specs.Safe.{next_position}
-use Rattle.tcp_replay.proofs.Events.{arrival-ok}
-use Rattle.tcp_replay.proofs.Lists.{one_if}
-use Rattle.tcp_replay.proofs.Phases.{at-listen, at-syn_received, at-syn_sent, handshake-una}
-use Rattle.tcp_progress.specs.Handshake.{AreOpen, CanReachUnaided}
-use Rattle.tcp_progress.specs.Settled.{AreOpening, IsLive, least_life}
-use Rattle.tcp_progress.specs.Steady.{IsSteadyPair}
+use Rattle.std.proofs.Common.{ℕ, ◌∙◌, ◌≡◌, ◌≤◌, ap, arith, Bool, false, inl, inr, length, List, None, refl, subst, suc, sym, true}
+use Rattle.tcp_replay.proofs.Words.{ack, acks_syn, after_arrival, after_judgement, after_peer_accepts, after_peer_opens, Content, eq-eqb, has, is_foreign}
+use Rattle.tcp_replay.proofs.Words.{is_handshake, is_listening, is_syn_received, is_syn_sent, Judgement, judgement, Listen, listen_judgement, NotEnded}
+use Rattle.tcp_replay.proofs.Words.{PeerAccepts, PeerOpens, phase_judgement, position_near, position_of_number, Retransmit, rst, State, syn, syn_sent_judgement}
+use Rattle.tcp_replay.proofs.Words.{SynReceived, SynSent}
+use Rattle.tcp_replay.proofs.WorldWords.{delivery_refusal, IsAnswering, IsOpening, IsUnused, next_position, other, party_after_arrival, party_after_emission}
+use Rattle.tcp_replay.proofs.WorldWords.{party_after_timer, PartyState, segment_at, SentSegment, world_from, WorldState}
+use Rattle.tcp_replay.proofs.Lemmas.{arrival-ok, at-listen, at-syn_received, at-syn_sent, handshake-una, one_if}
+use Rattle.tcp_progress.proofs.Words.{A, AreOpen, AreOpening, B, CanReachUnaided, IsLive, IsSteadyPair, least_life, Side}
 use Rattle.tcp_progress.proofs.Arriving.{goes, is-there, of_peer, unexpired}
 use Rattle.tcp_progress.proofs.Ready.{lives, pair-of, steady-back, turned, turned-back}
 use Rattle.tcp_progress.proofs.Still.{IsStill, still-emission, still-live, still-next, still-retransmit, still-then}

@@ -1,20 +1,11 @@
 -- A segment that is next is taken whole, and the acknowledgement is taken of one that acknowledges something new.
-use Rattle.std.proofs.Common.{◌≡◌, ℕ, ◌≤◌, List, refl, sym, ◌∙◌, ap, inl, inr, arith}
-use Rattle.std.specs.Prelude.{◌⊎◌, Bool, true, false, ◌||◌, ◌==◌, pos, ◌≤ℤ◌, ◌<ℤ◌, nat_lt}
-use Rattle.std.proofs.lemmas.Bool.{cases_Bool, le-ltb}
-use Rattle.std.proofs.lemmas.Bool.Decides.{nat_tests}
-use Rattle.std.proofs.lemmas.Int.{ints}
-use Rattle.tcp_wire.specs.Wire.{Content}
-use Rattle.tcp_reasm.specs.Reassembly.{window}
-use Rattle.tcp_conn.specs.declared.phase.Phase.{Phase}
-use Rattle.tcp_conn.specs.declared.phase.Phase.TheVariants.{Closing, Closed, Listen, SynSent, SynReceived, Established, FinWait1, FinWait2, CloseWait, LastAck, TimeWait}
-use Rattle.tcp_conn.specs.Phase.{is_closed, is_listening, is_syn_received, is_syn_sent, takes_text}
-use Rattle.tcp_conn.specs.declared.judgement.Judgement.{Judgement}
-use Rattle.tcp_conn.specs.declared.judgement.Judgement.TheVariants.{HandshakeRefused, HandshakeRefusedShut, Taken, TakenShut}
-use Rattle.tcp_conn.specs.Arrival.{phase_after_own_syn}
-use Rattle.tcp_conn.specs.Judgement.{ack_judgement, acceptable_judgement, count_numbers, is_acceptable_segment, is_foreign, judgement, phase_judgement, position_near, present_judgement, unacceptable_judgement}
-use Rattle.tcp_conn.specs.State.{State}
-use Rattle.tcp_progress.specs.Progress.{AcksNew, IsNext, IsPlainAck, begins_at, ends_at, is_synchronized}
+use Rattle.std.proofs.Common.{ℕ, ◌<ℤ◌, ◌==◌, ◌||◌, ◌∙◌, ◌≡◌, ◌≤ℤ◌, ◌≤◌, ◌⊎◌, ap, arith, Bool, false, inl, inr, List, nat_lt, pos, refl, sym, true}
+use Rattle.tcp_replay.proofs.Words.{acceptable_judgement, ack_judgement, cases_Bool, Closed, Content, count_numbers}
+use Rattle.tcp_replay.proofs.Words.{HandshakeRefused, HandshakeRefusedShut, ints, is_acceptable_segment, is_closed, is_foreign, is_listening}
+use Rattle.tcp_replay.proofs.Words.{is_syn_received, is_syn_sent, Judgement, judgement, le-ltb, Listen, nat_tests, Phase, phase_after_own_syn}
+use Rattle.tcp_replay.proofs.Words.{phase_judgement, position_near, present_judgement, State, SynReceived, SynSent, Taken, TakenShut, takes_text}
+use Rattle.tcp_replay.proofs.Words.{unacceptable_judgement, window}
+use Rattle.tcp_progress.proofs.Words.{AcksNew, begins_at, ends_at, is_synchronized, IsNext, IsPlainAck}
 use Rattle.tcp_progress.proofs.Wanted.{covering-acceptable}
 
 -- the phases that are tested first are none of those in which it is
@@ -27,27 +18,14 @@ is-present : (phase : Phase) (closing : Bool) → takes_text (phase_after_own_sy
 is-present Closed closing e = absurd (cc)
 is-present Listen closing e = absurd (cc)
 is-present SynSent closing e = absurd (cc)
-is-present SynReceived closing e = record { shut = refl; listening = refl; syn_sent = refl }
-is-present Established closing e = record { shut = refl; listening = refl; syn_sent = refl }
-is-present FinWait1 closing e = record { shut = refl; listening = refl; syn_sent = refl }
-is-present FinWait2 closing e = record { shut = refl; listening = refl; syn_sent = refl }
-is-present CloseWait closing e = record { shut = refl; listening = refl; syn_sent = refl }
-is-present Closing closing e = record { shut = refl; listening = refl; syn_sent = refl }
-is-present LastAck closing e = record { shut = refl; listening = refl; syn_sent = refl }
-is-present TimeWait closing e = record { shut = refl; listening = refl; syn_sent = refl }
+is-present other closing e = record { shut = refl; listening = refl; syn_sent = refl }
 
 pub is-synchronized : (phase : Phase) → is_synchronized phase ≡ true → IsPresent phase
 is-synchronized Closed e = absurd (cc)
 is-synchronized Listen e = absurd (cc)
 is-synchronized SynSent e = absurd (cc)
 is-synchronized SynReceived e = absurd (cc)
-is-synchronized Established e = record { shut = refl; listening = refl; syn_sent = refl }
-is-synchronized FinWait1 e = record { shut = refl; listening = refl; syn_sent = refl }
-is-synchronized FinWait2 e = record { shut = refl; listening = refl; syn_sent = refl }
-is-synchronized CloseWait e = record { shut = refl; listening = refl; syn_sent = refl }
-is-synchronized Closing e = record { shut = refl; listening = refl; syn_sent = refl }
-is-synchronized LastAck e = record { shut = refl; listening = refl; syn_sent = refl }
-is-synchronized TimeWait e = record { shut = refl; listening = refl; syn_sent = refl }
+is-synchronized other e = record { shut = refl; listening = refl; syn_sent = refl }
 
 -- the acknowledgement is a good one
 judged-ack : (s : State) (v : Content) (good refused : Judgement) → IsPlainAck s v → ack_judgement s v good refused ≡ good
@@ -62,17 +40,20 @@ judged-ack s v good refused plain =
           rw (opened, sent) refl
     ]
 
-pub judged-acceptable : (s : State) (src dst : List ℕ) (v : Content) → is_foreign s src dst v ≡ false → IsPresent s.phase → IsPlainAck s v → is_acceptable_segment s v ≡ true
+pub judged-acceptable : (s : State) (src dst : List ℕ) (v : Content) → is_foreign s src dst v ≡ false → IsPresent s.phase → IsPlainAck s v
+    → is_acceptable_segment s v ≡ true
     → judgement s src dst v ≡ Taken
 unfolding judgement phase_judgement present_judgement acceptable_judgement
 judged-acceptable s src dst v mine here plain fits =
     rw (mine, here.shut, here.listening, here.syn_sent, fits, plain.no_rst, plain.no_syn, plain.has_ack) (judged-ack s v Taken HandshakeRefused plain)
 
-judged-shut : (s : State) (src dst : List ℕ) (v : Content) → is_foreign s src dst v ≡ false → IsPresent s.phase → IsPlainAck s v → is_acceptable_segment s v ≡ false
+judged-shut : (s : State) (src dst : List ℕ) (v : Content) → is_foreign s src dst v ≡ false → IsPresent s.phase → IsPlainAck s v
+    → is_acceptable_segment s v ≡ false
     → (window s.receiving.inbox == 0) ≡ true → judgement s src dst v ≡ TakenShut
 unfolding judgement phase_judgement present_judgement unacceptable_judgement
 judged-shut s src dst v mine here plain outside shut =
-    rw (mine, here.shut, here.listening, here.syn_sent, outside, plain.no_rst, shut, plain.has_ack, plain.no_syn) (judged-ack s v TakenShut HandshakeRefusedShut plain)
+    rw (mine, here.shut, here.listening, here.syn_sent, outside, plain.no_rst, shut, plain.has_ack, plain.no_syn)
+    (judged-ack s v TakenShut HandshakeRefusedShut plain)
 
 has-numbers : (s : State) (v : Content) → (begins_at s v ≤ℤ pos 0) → (pos 0 <ℤ ends_at s v) → 1 ≤ count_numbers v
 has-numbers s v begins ends = omega (arith, ints, begins, ends)

@@ -1,17 +1,10 @@
 -- WHERE AN END HAS ENDED IN ORDER, and the other's FIN is acknowledged to it, nothing is left: each has taken all of the other, and all of it is
 -- acknowledged.
-use Rattle.std.proofs.Common.{◌≡◌, inl, inr, refl, sym, ◌∙◌, ap, arith}
-use Rattle.std.specs.Prelude.{true, false, ◌⊎◌}
-use Rattle.std.proofs.lemmas.Bool.{cases_Bool, false≢true}
-use Rattle.tcp_conn.specs.declared.phase.Ending.{Ending}
-use Rattle.tcp_conn.specs.declared.phase.Ending.TheVariants.{NotEnded, Orderly, Reset, Aborted}
-use Rattle.tcp_conn.specs.Phase.{gives_up}
-use Rattle.tcp_replay.specs.Alone.{Sends}
-use Rattle.tcp_replay.specs.World.{PartyState}
-use Rattle.tcp_replay.proofs.Lists.{one_if, one_if-most}
-use Rattle.tcp_progress.specs.Settled.{HasEndedInOrder}
-use Rattle.tcp_progress.specs.Steady.{IsSteadyPair}
-use Rattle.tcp_progress.specs.Measure.{left_of_both}
+use Rattle.std.proofs.Common.{◌∙◌, ◌≡◌, ◌⊎◌, ap, arith, false, inl, inr, refl, sym, true}
+use Rattle.tcp_replay.proofs.Words.{cases_Bool, Ending, false≢true, gives_up, NotEnded, Orderly}
+use Rattle.tcp_replay.proofs.WorldWords.{PartyState, Sends}
+use Rattle.tcp_replay.proofs.Lemmas.{one_if, one_if-most}
+use Rattle.tcp_progress.proofs.Words.{HasEndedInOrder, IsSteadyPair, left_of_both}
 use Rattle.tcp_progress.proofs.CalmWorlds.{says-over}
 use Rattle.tcp_progress.proofs.Measure.{GoOn}
 use Rattle.tcp_progress.proofs.Table.{own_fin-acked}
@@ -20,8 +13,7 @@ use Rattle.tcp_progress.proofs.Table.{own_fin-acked}
 kept-ending : (ending : Ending) → gives_up ending ≡ false → (ending ≡ NotEnded) ⊎ (ending ≡ Orderly)
 kept-ending NotEnded e = inl refl
 kept-ending Orderly e = inr refl
-kept-ending Reset e = absurd (cc)
-kept-ending Aborted e = absurd (cc)
+kept-ending other e = absurd (cc)
 
 -- NOTHING IS LEFT
 pub ended-on : (x y : PartyState) → IsSteadyPair x y → HasEndedInOrder x y → GoOn x y × (left_of_both x y ≡ 0)

@@ -1,3 +1,4 @@
+pub mod Words
 pub mod Wanted
 pub mod Judged
 pub mod Advance

@@ -1,17 +1,10 @@
 -- EACH TURN LEAVES LESS, while something is left.
-use Rattle.std.proofs.Common.{◌≡◌, ℕ, ◌<◌, List, ◌++◌, length, inl, inr, sym, ◌∙◌, ap, subst, arith}
-use Rattle.std.specs.Prelude.{◌⊎◌}
-use Rattle.std.proofs.lemmas.Bool.{cases_lt}
-use Rattle.tcp_replay.specs.declared.event.Side.{Side}
-use Rattle.tcp_replay.specs.declared.event.Side.TheVariants.{A, B}
-use Rattle.tcp_replay.specs.Events.{EventContent}
-use Rattle.tcp_replay.specs.World.{WorldState, PartyState, other, party_of, world_after_all}
-use Rattle.tcp_replay.specs.Safe.{next_position}
-use Rattle.tcp_replay.proofs.Lists.{one_if}
-use Rattle.tcp_progress.specs.Fair.{AllCome, IsIdle, IsTurn, NoneGaveUp, both_served, reads, served}
-use Rattle.tcp_progress.specs.Measure.{all_of, left_in, left_of_both}
-use Rattle.tcp_progress.specs.Settled.{IsLive}
-use Rattle.tcp_progress.specs.Steady.{IsSteadyPair}
+use Rattle.std.proofs.Common.{ℕ, ◌++◌, ◌<◌, ◌∙◌, ◌≡◌, ◌⊎◌, ap, arith, inl, inr, length, List, subst, sym}
+use Rattle.tcp_replay.proofs.Words.{cases_lt}
+use Rattle.tcp_replay.proofs.WorldWords.{EventContent, next_position, other, party_of, PartyState, world_after_all, WorldState}
+use Rattle.tcp_replay.proofs.Lemmas.{one_if}
+use Rattle.tcp_progress.proofs.Words.{A, all_of, AllCome, B, both_served, IsIdle, IsLive, IsSteadyPair, IsTurn, left_in, left_of_both, NoneGaveUp, reads}
+use Rattle.tcp_progress.proofs.Words.{served, Side}
 use Rattle.tcp_progress.proofs.CalmWorlds.{Steps, on-all, steps-all, steps-left, steps-then}
 use Rattle.tcp_progress.proofs.Serving.{HasMore, served-lowers}
 use Rattle.tcp_progress.proofs.Behind.{AreIdle, IsBehind, IsServed, after_both, after_first, behind-lowers}
@@ -124,7 +117,8 @@ from-reads first n m w there back g h up =
     ]
 
 -- ---- A TURN, from its reads on
-pub turn-served : (w : WorldState) (turn : List EventContent) (t : IsTurn w turn) → IsServed t.first t.count t.then_count (world_after_all w reads) t.there t.back
+pub turn-served : (w : WorldState) (turn : List EventContent) (t : IsTurn w turn)
+    → IsServed t.first t.count t.then_count (world_after_all w reads) t.there t.back
 turn-served w turn t =
     let v = world_after_all w reads in
     let one = served t.first t.count in

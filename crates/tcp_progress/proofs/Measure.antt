@@ -1,12 +1,8 @@
 -- WHERE A TURN LEADS: less is left between two parties, and both go on.
-use Rattle.std.proofs.Common.{◌≡◌, ℕ, ◌<◌, inl, arith}
-use Rattle.std.specs.Prelude.{true, ◌⊎◌}
-use Rattle.tcp_conn.specs.declared.phase.Ending.TheVariants.{NotEnded, Orderly}
-use Rattle.tcp_replay.specs.declared.event.Side.{Side}
-use Rattle.tcp_replay.specs.declared.event.Side.TheVariants.{A, B}
-use Rattle.tcp_replay.specs.World.{WorldState, PartyState, world_from}
-use Rattle.tcp_progress.specs.Measure.{left_in, left_of_both}
-use Rattle.tcp_progress.specs.Settled.{IsLive}
+use Rattle.std.proofs.Common.{ℕ, ◌<◌, ◌≡◌, ◌⊎◌, arith, inl, true}
+use Rattle.tcp_replay.proofs.Words.{NotEnded, Orderly}
+use Rattle.tcp_replay.proofs.WorldWords.{PartyState, world_from, WorldState}
+use Rattle.tcp_progress.proofs.Words.{A, B, IsLive, left_in, left_of_both, Side}
 
 -- an end whose SYNs were taken, that lives or has ended in order
 pub record IsUp (x : PartyState) : Type 0 where
@@ -37,6 +33,7 @@ pub record IsLess (K : WorldState → Type 0) (n : ℕ) (w : WorldState) : Type 
 pub swapped : (x y : PartyState) → GoOn y x → GoOn x y
 swapped x y h = record { there = h.back; back = h.there; live = λ some. let both = h.live (omega (arith, some)) in (both.1, both.0) }
 
-pub is-less : (K : WorldState → Type 0) (n life : ℕ) (side : Side) (p q : PartyState) → K (world_from life side p q) → GoOn p q → left_of_both p q < n → IsLess K n (world_from life side p q)
+pub is-less : (K : WorldState → Type 0) (n life : ℕ) (side : Side) (p q : PartyState) → K (world_from life side p q) → GoOn p q → left_of_both p q < n
+    → IsLess K n (world_from life side p q)
 is-less K n life A p q h on less = record { stays = h; on = on; less = less }
 is-less K n life B p q h on less = record { stays = h; on = swapped q p on; less = omega (arith, less) }

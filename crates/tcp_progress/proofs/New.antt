@@ -1,25 +1,17 @@
 -- What is unsent goes out: with nothing in flight nothing is sent again, and the window or the probe allows a byte.
-use Rattle.std.proofs.Common.{◌≡◌, ℕ, ◌+◌, ◌<◌, ◌≤◌, drop, length, refl, subst, inl, inr, arith}
-use Rattle.std.specs.Prelude.{Bool, true, false, ◌&&◌, ◌==◌, ◌⊎◌, Option, Some, None, IfSome, nat_le, nat_lt}
-use Rattle.std.specs.declared.ops.Range.{Range}
-use Rattle.std.proofs.lemmas.Bool.{and_from, cases_Bool, cond_both, or_right}
-use Rattle.std.proofs.lemmas.Bool.Decides.{nat_tests}
-use Rattle.tcp_sendq.specs.SendQueue.{count_leading, first_unmarked, next_unmarked}
-use Rattle.tcp_halves.specs.declared.due.Due.{Due}
-use Rattle.tcp_halves.specs.declared.due.Due.TheVariants.{Fin, NewText, ResentFin}
-use Rattle.tcp_conn.specs.Phase.{sends_text}
-use Rattle.tcp_halves.specs.Sender.{Sending, count_unsent, end_of_text, is_probe_needed, place_of, position_at}
-use Rattle.tcp_conn.specs.State.{State}
-use Rattle.tcp_conn.specs.Forms.{segment_of}
-use Rattle.tcp_conn.specs.Due.{count_allowed, due_of, end_of, new_count, new_text_of, resend_of, resend_start, resent_fin, resent_run, resent_text, text_limit, usable_window}
-use Rattle.tcp_conn.specs.Emission.{after_emission}
-use Rattle.tcp_conn.specs.Timers.{after_retransmit}
-use Rattle.tcp_progress.specs.Resent.{CoversNext, MaySend, MovesOn, UnsentGoesOut}
+use Rattle.std.proofs.Common.{ℕ, ◌&&◌, ◌+◌, ◌<◌, ◌==◌, ◌≡◌, ◌≤◌, ◌⊎◌, arith, Bool, drop, false, IfSome, inl, inr, length, nat_le, nat_lt, None, Option, refl}
+use Rattle.std.proofs.Common.{Some, subst, true}
+use Rattle.tcp_replay.proofs.Words.{after_emission, after_retransmit, and_from, cases_Bool, cond_both, count_allowed, count_leading, count_unsent, Due, due_of}
+use Rattle.tcp_replay.proofs.Words.{end_of, end_of_text, Fin, first_unmarked, is_probe_needed, nat_tests, new_count, new_text_of, NewText, next_unmarked}
+use Rattle.tcp_replay.proofs.Words.{or_right, place_of, position_at, Range, resend_of, resend_start, resent_fin, resent_run, resent_text, ResentFin, segment_of}
+use Rattle.tcp_replay.proofs.Words.{Sending, sends_text, State, text_limit, usable_window}
+use Rattle.tcp_progress.proofs.Words.{CoversNext, MaySend, MovesOn, UnsentGoesOut}
 use Rattle.tcp_progress.proofs.Again.{emission, may-after_retransmit}
 use Rattle.tcp_progress.proofs.Covering.{covering}
 
 -- nothing goes out again
-no-text : (d : Sending) (limit : ℕ) (range : Range ℕ) (run : ℕ × ℕ) → d.nxt ≤ d.una → range.end ≤ d.nxt → d.una ≤ position_at d run.0 → resent_text d limit range.end run ≡ None
+no-text : (d : Sending) (limit : ℕ) (range : Range ℕ) (run : ℕ × ℕ) → d.nxt ≤ d.una → range.end ≤ d.nxt → d.una ≤ position_at d run.0
+    → resent_text d limit range.end run ≡ None
 no-text d limit range run idle most behind =
     let test : nat_lt (position_at d run.0) range.end ≡ false = grind (arith, nat_tests, idle, most, behind) in
     rw test refl
@@ -27,7 +19,8 @@ no-text d limit range run idle most behind =
 no-fin : (d : Sending) (range : Range ℕ) → d.nxt ≤ d.una → range.end ≤ d.nxt → resent_fin d range ≡ None
 no-fin d range idle most =
     let ahead : d.una ≤ resend_start d range = omega arith in
-    cond_both (nat_lt (end_of_text d) range.end && nat_le (resend_start d range) (end_of_text d)) (Some (ResentFin (end_of_text d))) None (λ (due : Option Due). due ≡ None)
+    cond_both (nat_lt (end_of_text d) range.end && nat_le (resend_start d range) (end_of_text d)) (Some (ResentFin (end_of_text d))) None
+    (λ (due : Option Due). due ≡ None)
     (λ yes. absurd (grind (arith, nat_tests, yes, ahead, idle, most))) (λ _. refl)
 
 new-no_run : (d : Sending) (limit : ℕ) (range : Range ℕ) → d.nxt ≤ d.una → range.end ≤ d.nxt → resend_of d limit (Some range) ≡ None
@@ -40,7 +33,8 @@ new-no_run d limit range idle most =
     (λ (run : Option (ℕ × ℕ)). resent_run d limit range run ≡ None)
     (λ _. no-text d limit range (first, first + count_leading false (drop first d.queue.marks)) idle most ahead) (λ _. no-fin d range idle most)
 
-pub no-resend : (d : Sending) (limit : ℕ) (range : Option (Range ℕ)) → d.nxt ≤ d.una → IfSome range (λ range. range.end ≤ d.nxt) → resend_of d limit range ≡ None
+pub no-resend : (d : Sending) (limit : ℕ) (range : Option (Range ℕ)) → d.nxt ≤ d.una → IfSome range (λ range. range.end ≤ d.nxt)
+    → resend_of d limit range ≡ None
 unfolding resend_of
 no-resend d limit None idle most = refl
 no-resend d limit (Some range) idle most = new-no_run d limit range idle most
@@ -96,7 +90,8 @@ text-goes s ready unsent =
     record {
       covers =
           covering s (NewText d.nxt (new_of s)) d.nxt (new_of s) false d.nxt
-          (record { is_due = due; form = refl; to = refl; starts = refl; counts = refl; fins = refl; inside = omega arith }) (omega arith) (omega (arith, some));
+          (record { is_due = due; form = refl; to = refl; starts = refl; counts = refl; fins = refl; inside = omega arith }) (omega arith)
+          (omega (arith, some));
       moves = moving s (NewText d.nxt (new_of s)) due (omega (arith, some));
     }
 
@@ -107,7 +102,8 @@ new-fin_goes s ready closing last =
     let due = new-fin_due s ready closing last in
     record {
       covers =
-          covering s (Fin n) n 0 true n (record { is_due = due; form = refl; to = refl; starts = refl; counts = refl; fins = refl; inside = omega arith }) (omega arith) (omega arith);
+          covering s (Fin n) n 0 true n (record { is_due = due; form = refl; to = refl; starts = refl; counts = refl; fins = refl; inside = omega arith })
+          (omega arith) (omega arith);
       moves = moving s (Fin n) due (omega arith);
     }
 
@@ -125,7 +121,8 @@ nothing-resent s may idle =
     let test : (sends_text s.phase && nat_lt s.sending.una s.sending.nxt) ≡ false = rw may.phase (grind (arith, nat_tests, idle)) in
     rw test refl
 
-probe-granted : (s : State) → MaySend s → s.sending.una ≡ s.sending.nxt → 0 < count_unsent s.sending → s.sending.wnd ≡ 0 → (after_retransmit s).owed.probe ≡ true
+probe-granted : (s : State) → MaySend s → s.sending.una ≡ s.sending.nxt → 0 < count_unsent s.sending → s.sending.wnd ≡ 0
+    → (after_retransmit s).owed.probe ≡ true
 unfolding after_retransmit
 probe-granted s may idle unsent shut =
     let needed : is_probe_needed s.sending ≡ true =

@@ -1,11 +1,9 @@
 -- No world is stuck: where the ends still open the connection the handshake goes through; turn by turn nothing is left, and then the users read to
 -- the end.
-use Rattle.std.proofs.Common.{inl, inr, arith}
-use Rattle.std.specs.Prelude.{◌⊎◌}
-use Rattle.tcp_replay.specs.declared.event.Side.TheVariants.{A, B}
-use Rattle.tcp_replay.specs.World.{WorldState}
-use Rattle.tcp_progress.specs.Settled.{AreOpening, CanReach, CanSettle, HasEndedInOrder, IsLive, IsNotStuck, IsSettled, NoWorldIsStuck}
-use Rattle.tcp_progress.specs.Handshake.{CanOpen, CanReachUnaided, HandshakesCanBeFinished}
+use Rattle.std.proofs.Common.{◌⊎◌, arith, inl, inr}
+use Rattle.tcp_replay.proofs.WorldWords.{WorldState}
+use Rattle.tcp_progress.proofs.Words.{A, AreOpening, B, CanOpen, CanReach, CanReachUnaided, CanSettle, HandshakesCanBeFinished, HasEndedInOrder, IsLive}
+use Rattle.tcp_progress.proofs.Words.{IsNotStuck, IsSettled, NoWorldIsStuck}
 use Rattle.tcp_progress.proofs.Ways.{reach-then}
 use Rattle.tcp_progress.proofs.Measure.{both-live, swapped}
 use Rattle.tcp_progress.proofs.Ready.{steady-back}

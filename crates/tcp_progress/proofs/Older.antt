@@ -1,24 +1,10 @@
 -- WHAT THE OTHER HAS AND DIDN'T TELL goes out again where one side is served, and is old to the other.
-use Rattle.std.proofs.Common.{◌≡◌, ℕ, zero, suc, ◌≤◌, List, ◌++◌, length, inl, inr, sym, ◌∙◌, ap, subst, arith}
-use Rattle.std.specs.Prelude.{false, Some}
-use Rattle.std.specs.List.{AllByRecursion}
-use Rattle.tcp_wire.specs.Flags.{has, rst, syn}
-use Rattle.tcp_wire.specs.Wire.{Content}
-use Rattle.tcp_halves.specs.declared.due.Due.{Due}
-use Rattle.tcp_conn.specs.declared.phase.Timer.TheVariants.{Retransmit}
-use Rattle.tcp_conn.specs.State.{State}
-use Rattle.tcp_conn.specs.Due.{due_of, start_of}
-use Rattle.tcp_conn.specs.Emission.{after_emission}
-use Rattle.tcp_conn.specs.Forms.{segment_of}
-use Rattle.tcp_conn.specs.Judgement.{count_numbers}
-use Rattle.tcp_replay.specs.declared.event.Side.{Side}
-use Rattle.tcp_replay.specs.declared.event.Side.TheVariants.{A, B}
-use Rattle.tcp_replay.specs.Events.{EventContent, Deliver, Emit, Timer}
-use Rattle.tcp_replay.specs.Safe.{next_position}
-use Rattle.tcp_replay.specs.World.{WorldState, effect_of, other, party_after_emission, party_of, world_after, world_after_all}
-use Rattle.tcp_progress.specs.Fair.{AllCome, Comes, Delivers, IsCalm, IsIdle, emissions, is_reset, served, NoneGaveUp}
-use Rattle.tcp_progress.specs.Resent.{CoversNext, after_emissions}
-use Rattle.tcp_progress.specs.Steady.{IsSteadyPair}
+use Rattle.std.proofs.Common.{ℕ, ◌++◌, ◌∙◌, ◌≡◌, ◌≤◌, ap, arith, false, inl, inr, length, List, Some, subst, suc, sym, zero}
+use Rattle.tcp_replay.proofs.Words.{after_emission, AllByRecursion, Content, count_numbers, Due, due_of, has, Retransmit, rst, segment_of, start_of, State, syn}
+use Rattle.tcp_replay.proofs.WorldWords.{Deliver, effect_of, Emit, EventContent, next_position, other, party_after_emission, party_of, Timer, world_after}
+use Rattle.tcp_replay.proofs.WorldWords.{world_after_all, WorldState}
+use Rattle.tcp_progress.proofs.Words.{A, after_emissions, AllCome, B, Comes, CoversNext, Delivers, emissions, is_reset, IsCalm, IsIdle, IsSteadyPair}
+use Rattle.tcp_progress.proofs.Words.{NoneGaveUp, served, Side}
 use Rattle.tcp_progress.proofs.AlwaysSteady.{IsKept}
 use Rattle.tcp_progress.proofs.Back.{emitted-endpoint, text-old}
 use Rattle.tcp_progress.proofs.CalmWorlds.{steps-all, steps-event}

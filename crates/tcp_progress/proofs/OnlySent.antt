@@ -1,48 +1,22 @@
 -- NOTHING IS TAKEN BEFORE IT IS SENT, on the definitions: every event keeps it.
-use Rattle.std.proofs.Common.{◌≡◌, ℕ, suc, ◌+◌, ◌-◌, ◌^◌, ◌<◌, ◌≤◌, List, [], ◌∷◌, length, drop, sym, ap, subst, ⊎_elim, arith, length-drop, refl, zero}
-use Rattle.std.proofs.Common.{◌∙◌, length-take}
-use Rattle.std.specs.Prelude.{min, ℤ, true, false, not, ◌==◌, Option, Some, None, slice_get}
-use Rattle.std.proofs.lemmas.Bool.{cases_lt, and_parts, cond_both, eqb-false, not-true, false≢true}
-use Rattle.tcp_wire.specs.Position.{number, offset, position_of}
-use Rattle.tcp_wire.specs.Flags.{fin, has, rst, syn}
-use Rattle.tcp_wire.specs.Wire.{Content}
-use Rattle.tcp_wire.proofs.Lemmas.{offset_of_later, offset_of_earlier, position_of_number}
-use Rattle.tcp_reasm.specs.Reassembly.{piece, window, after_place, after_read, Cell}
-use Rattle.tcp_conn.specs.Phase.{takes_text, is_syn_received, gives_up}
-use Rattle.tcp_conn.specs.State.{State, Receiving, Sending}
-use Rattle.tcp_conn.specs.Judgement.{count_numbers, position_near}
-use Rattle.tcp_halves.specs.Receiver.{after_text, is_fin_due, with_fin, with_syn, after_handing, without_bytes}
-use Rattle.tcp_conn.specs.Arrival.{has_fin, takes_fin, after_own_syn, after_acked_text, after_news, after_peer_opens, after_peer_accepts, after_arrival}
-use Rattle.tcp_replay.specs.World.{PartyState, address_of, SentSegment, WorldState, new_party, new_world_with, refusal_of, world_with_effect}
-use Rattle.tcp_replay.specs.World.{delivery_refusal, max_life, segment_at, sent_at}
-use Rattle.tcp_replay.specs.Truthful.{IsTruthful}
-use Rattle.tcp_replay.specs.Safe.{witness_of}
-use Rattle.tcp_replay.proofs.Lists.{one_if, one_if-false, one_if-most}
-use Rattle.tcp_replay.proofs.Feeds.{AllText, AllHeld, Brings, brings-place, held-moved, held-same, held-none, held-more}
-use Rattle.tcp_replay.proofs.Steps.{Kept, kept-same, Moved, next_of}
-use Rattle.tcp_replay.proofs.Stages.{IsAhead, IsYoung, text_advance, text-advances, placed, fin-in_turn}
-use Rattle.tcp_conn.specs.declared.phase.Ending.TheVariants.{Aborted}
-use Rattle.tcp_conn.specs.Windows.{window_from}
-use Rattle.tcp_halves.specs.Sender.{with_syn_acked, with_window, acks_more, with_acked, after_ack}
-use Rattle.tcp_conn.specs.Endings.{after_giving_up}
-use Rattle.tcp_replay.specs.Sound.{IsSoundPair, IsSound}
-use Rattle.tcp_replay.proofs.Phases.{end-closed, end-listen, end-syn_sent, handshake-una}
-use Rattle.tcp_replay.proofs.Alone.{same-news}
-use Rattle.tcp_replay.proofs.Events.{arrival-ok, comes, delivered-there, own-decodes, segment-sent, Arrives, after_segment, AllSaid, Both, PairKept, Speaks}
-use Rattle.tcp_replay.proofs.Events.{both-swapped, due-position, in-world, said-after, said-back}
-use Rattle.tcp_replay.proofs.Calls.{KeptByCalls}
-use Rattle.tcp_replay.proofs.Arrivals.{on-arrival}
-use Rattle.tcp_halves.specs.declared.config.Config.{Config}
-use Rattle.tcp_halves.specs.declared.due.Due.{Due}
-use Rattle.tcp_halves.specs.declared.due.Due.TheVariants.{Reset, Syn}
-use Rattle.tcp_conn.specs.Forms.{pushes, text_of, syn_segment, plain_segment, segment_of}
-use Rattle.tcp_conn.specs.Due.{is_fin, start_of, count_of}
-use Rattle.tcp_conn.specs.Emission.{after_due}
-use Rattle.tcp_replay.specs.Events.{EventContent, HasBytes}
-use Rattle.tcp_replay.proofs.AloneEmissions.{IsSaid, GoesOutAlone}
-use Rattle.tcp_replay.proofs.Emissions.{syn-bits, plain-bits, reset-bit}
-use Rattle.tcp_replay.proofs.Worlds.{kept-run, kept-after_all, sound-new, sound-after}
-use Rattle.tcp_progress.specs.Sent.{TakesOnlySent, TakeOnlySent, NothingIsTakenBeforeItIsSent}
+use Rattle.std.proofs.Common.{[], ℕ, ℤ, ⊎_elim, ◌+◌, ◌-◌, ◌<◌, ◌==◌, ◌^◌, ◌∙◌, ◌∷◌, ◌≡◌, ◌≤◌, ap, arith, drop, false, length, length-drop, length-take, List}
+use Rattle.std.proofs.Common.{min, None, not, Option, refl, slice_get, Some, subst, suc, sym, true, zero}
+use Rattle.tcp_replay.proofs.Words.{Aborted, acks_more, after_ack, after_acked_text, after_due, after_giving_up, after_handing, after_news}
+use Rattle.tcp_replay.proofs.Words.{after_own_syn, after_peer_accepts, after_peer_opens, after_place, after_read, after_text, and_parts, cases_lt, Cell}
+use Rattle.tcp_replay.proofs.Words.{cond_both, Config, Content, count_numbers, count_of, Due, eqb-false, false≢true, fin, gives_up, has, has_fin, is_fin}
+use Rattle.tcp_replay.proofs.Words.{is_fin_due, is_syn_received, not-true, number, offset, offset_of_earlier, offset_of_later, piece, plain_segment}
+use Rattle.tcp_replay.proofs.Words.{position_near, position_of, position_of_number, pushes, Receiving, Reset, rst, segment_of, Sending, start_of, State, syn}
+use Rattle.tcp_replay.proofs.Words.{Syn, syn_segment, takes_fin, takes_text, text_of, window, window_from, with_acked, with_fin, with_syn, with_syn_acked}
+use Rattle.tcp_replay.proofs.Words.{with_window, without_bytes, with_connection, with_bytes_received, receive_refusal, state_after, due_of}
+use Rattle.tcp_replay.proofs.WorldWords.{address_of, EventContent, HasBytes, IsSound, IsSoundPair, IsTruthful, new_party}
+use Rattle.tcp_replay.proofs.WorldWords.{new_world_with, PartyState, refusal_of, SentSegment, witness_of, world_with_effect, WorldState}
+use Rattle.tcp_replay.proofs.Lemmas.{after_segment, AllHeld, AllSaid, AllText, Arrives, Both, both-swapped, Brings, brings-place}
+use Rattle.tcp_replay.proofs.Lemmas.{due-position, end-closed, end-listen, end-syn_sent, fin-in_turn, GoesOutAlone, handshake-una, held-more}
+use Rattle.tcp_replay.proofs.Lemmas.{held-moved, held-none, held-same, in-world, IsAhead, IsSaid, IsYoung, Kept, kept-after_all, kept-run, kept-same}
+use Rattle.tcp_replay.proofs.Lemmas.{KeptByCalls, Moved, next_of, on-arrival, one_if, one_if-false, one_if-most, PairKept, placed, plain-bits}
+use Rattle.tcp_replay.proofs.Lemmas.{reset-bit, said-after, said-back, same-news, sound-after, sound-new, Speaks, syn-bits, text-advances}
+use Rattle.tcp_replay.proofs.Lemmas.{text_advance, CanOpen}
+use Rattle.tcp_progress.proofs.Words.{NothingIsTakenBeforeItIsSent, TakeOnlySent, TakesOnlySent}
 
 -- the byte at this place behind a position lies below another one
 abbrev pub Below : ℕ → ℕ → ℕ → ℕ → Type 0
@@ -146,24 +120,12 @@ reaches-calls p q pair taken =
     let n = q.endpoint.sending.nxt in
     let h : Reaches p q s = (omega arith, taken) in
     let gone : Reaches p q (after_giving_up s Aborted) = (h.0, reached-given_up s.receiving n h.1) in
-    record {
-      same = h;
-      connects = λ can.
-          let new = end-closed s can.shut can.ending pair.there.alone.progress in
-          (omega (arith, new.nxt_is), h.1);
-      listens = λ _. h;
-      sends = λ _ _ _. h;
-      reads = λ room _. (h.0, reached-read s.receiving n room h.1);
-      withdraws = gone;
-      closes = λ _ _. h;
-      aborts = gone;
-      acknowledges = h;
-      resends = λ _. h;
-      probes = h;
-      fills = λ _ _ _. h;
-      ends = λ _. h;
-      emits = λ due _ _. (omega arith, h.1);
-    }
+    let connects : CanOpen s → Reaches p q (with_connection s (address_of q)) = λ can.
+    (omega (arith, (end-closed s can.shut can.ending pair.there.alone.progress).nxt_is), h.1) in
+    let reads : (room : ℕ) → receive_refusal s ≡ None → Reaches p q (with_bytes_received s room) =
+    λ room _. (h.0, reached-read s.receiving n room h.1) in
+    let emits : (due : Due) → due_of s ≡ Some due → GoesOutAlone s p.accepted p.closed due → Reaches p q (state_after s due) = λ due _ _. (omega arith, h.1) in
+    assumption
 
 -- ---- ARRIVALS
 acked-nxt : (d : Sending) (a : ℕ) → (after_ack d a).nxt ≡ d.nxt
@@ -284,21 +246,6 @@ sent-moved p p' q pair moved out reaches h = record {
 -- what both keep, and a segment that was emitted is delivered
 abbrev pub KeepBothSent : PartyState → PartyState → Type 0
 KeepBothSent x y = Both KeepsSent x y
-
-pub sent-swapped : (p q : PartyState) → KeepBothSent p q → KeepBothSent q p
-sent-swapped p q h = both-swapped KeepsSent p q h
-
-pub delivered-reaches : (p q : PartyState) (life k : ℕ) → life ≤ max_life → delivery_refusal life q p k ≡ None → IsSoundPair p q → KeepBothSent p q
-    → Reaches p q (after_arrival p.endpoint q.endpoint.config.addr.0 p.endpoint.config.addr.0 (segment_at q k))
-delivered-reaches p q life k most e pair h =
-    let g = sent_at q k in
-    let there = delivered-there life p q k e in
-    let sent = segment-sent q k there.0 in
-    let own = pair.own_back k g sent in
-    let read = own-decodes q p g own in
-    let a : Arrives p q g own.content = record { place = k; sent = sent; read = read; comes = comes p q life g most there.1 pair own } in
-    subst (λ (s : State). Reaches p q s) (sym (arrival-ok p.endpoint q.endpoint.config.addr.0 p.endpoint.config.addr.0 g.bytes own.content read))
-    (reaches-arrive p q g own.content pair a (h.back.emitted k g own.content sent read) h.there.taken)
 
 pub sent-kept : PairKept (λ _ _. Unit {0}) (Both KeepsSent) (λ p q s _. Reaches p q s)
 sent-kept = record {

@@ -1,15 +1,9 @@
 -- WHO IS SERVED OPENS THE CONNECTION: after a turn the SYN of who calls is taken, after another both are open; and so all gets through.
-use Rattle.std.proofs.Common.{◌≡◌, ℕ, zero, suc, ◌≤◌, List, [], ◌∷◌, ◌++◌, inl, inr, sym, ◌∙◌, ap, subst, arith, append_assoc}
-use Rattle.std.specs.Prelude.{◌⊎◌}
-use Rattle.std.specs.List.{AllByRecursion}
-use Rattle.tcp_conn.specs.declared.phase.Phase.TheVariants.{SynReceived}
-use Rattle.tcp_replay.specs.declared.event.Side.{Side}
-use Rattle.tcp_replay.specs.declared.event.Side.TheVariants.{A, B}
-use Rattle.tcp_replay.specs.Events.{EventContent}
-use Rattle.tcp_replay.specs.World.{WorldState, other, party_of, world_after_all}
-use Rattle.tcp_progress.specs.Fair.{GotThrough, HasTurns, IsCalm, IsTurn, NoneGaveUp, reads, served}
-use Rattle.tcp_progress.specs.Handshake.{AreOpen, HaveSyns, OpensAndGetsThrough, WhoIsServedOpens}
-use Rattle.tcp_progress.specs.Measure.{left_in}
+use Rattle.std.proofs.Common.{[], ℕ, ◌++◌, ◌∙◌, ◌∷◌, ◌≡◌, ◌≤◌, ◌⊎◌, ap, append_assoc, arith, inl, inr, List, subst, suc, sym, zero}
+use Rattle.tcp_replay.proofs.Words.{AllByRecursion, SynReceived}
+use Rattle.tcp_replay.proofs.WorldWords.{EventContent, other, party_of, world_after_all, WorldState}
+use Rattle.tcp_progress.proofs.Words.{A, AreOpen, B, GotThrough, HasTurns, HaveSyns, IsCalm, IsTurn, left_in, NoneGaveUp, OpensAndGetsThrough, reads, served}
+use Rattle.tcp_progress.proofs.Words.{Side, WhoIsServedOpens}
 use Rattle.tcp_progress.proofs.AlwaysSteady.{IsKept}
 use Rattle.tcp_progress.proofs.Behind.{IsServed}
 use Rattle.tcp_progress.proofs.Called.{IsTakenOr, serve-answer, serve-call}
@@ -20,8 +14,7 @@ use Rattle.tcp_progress.proofs.Everywhere.{in-every-world, steps-streams}
 use Rattle.tcp_progress.proofs.Lowering.{lowers_lem, turn-served}
 use Rattle.tcp_progress.proofs.Measure.{both-live}
 use Rattle.tcp_progress.proofs.Shaking.{IsShaking, Opens, opens-after, opens-append, received-on, shakes-all, up-before}
-use Rattle.tcp_progress.proofs.Turning.{after-append, all-untimed, calm-append, calm-served, done-through, reads-calm, turn-calm, turns-calm}
-use Rattle.tcp_progress.proofs.Turning.{turns-done}
+use Rattle.tcp_progress.proofs.Turning.{after-append, all-untimed, calm-append, calm-served, done-through, reads-calm, turn-calm, turns-calm, turns-done}
 use Rattle.tcp_progress.proofs.Waited.{waited}
 
 -- ---- ONE TURN, from its reads on: one side is served, then the other, then all comes

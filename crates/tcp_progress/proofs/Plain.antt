@@ -1,51 +1,29 @@
 -- WHERE NO RESET COMES no end gives up: reads, the retransmission timeout and emissions end nothing, nor does a segment that is no reset.
-use Rattle.std.proofs.Common.{◌≡◌, ℕ, ◌+◌, List, [], ◌∷◌, length, inl, inr, refl, sym, ◌∙◌, ap, subst}
-use Rattle.std.specs.Prelude.{Bool, true, false, ◌&&◌, not, if◌then◌else◌, Option, Some, IfSome, Ok, slice_get}
-use Rattle.std.specs.List.{AllByRecursion}
-use Rattle.std.proofs.lemmas.Bool.{cases_Bool, cond_both, false≢true}
-use Rattle.tcp_wire.specs.Decoded.{decode_answer}
-use Rattle.tcp_wire.specs.Flags.{ack, has, rst, syn}
-use Rattle.tcp_wire.specs.Wire.{Content}
-use Rattle.tcp_halves.specs.declared.config.Config.{Config}
-use Rattle.tcp_halves.specs.declared.due.Due.{Due}
-use Rattle.tcp_halves.specs.declared.due.Due.TheVariants as dues
-use Rattle.tcp_conn.specs.declared.phase.Timer.TheVariants as timers
-use Rattle.tcp_halves.specs.Due.{is_fin}
-use Rattle.tcp_conn.specs.Phase.{gives_up, is_closed, is_listening, is_syn_received, is_syn_sent}
-use Rattle.tcp_halves.specs.Sender.{acks_unsent}
-use Rattle.tcp_conn.specs.State.{State}
-use Rattle.tcp_conn.specs.Arrival.{after_arrival, after_judgement}
-use Rattle.tcp_conn.specs.Due.{due_of}
-use Rattle.tcp_conn.specs.Emission.{after_emission, emitted_bytes}
-use Rattle.tcp_conn.specs.Forms.{pushes, segment_of}
-use Rattle.tcp_conn.specs.Writing.{bytes_of}
-use Rattle.tcp_conn.specs.declared.judgement.Judgement.{Judgement}
-use Rattle.tcp_conn.specs.declared.judgement.Judgement.TheVariants.{Foreign, AckOfListen, AckOfNoSyn, OpensNothing, PeerOpens, PeerAccepts}
-use Rattle.tcp_conn.specs.declared.judgement.Judgement.TheVariants.{Unacceptable, SynInWindow, NoAck, AcksUnsent, HandshakeRefused, HandshakeRefusedShut}
-use Rattle.tcp_conn.specs.declared.judgement.Judgement.TheVariants.{Taken, TakenShut}
-use Rattle.tcp_conn.specs.Judgement.{acceptable_judgement, ack_judgement, acks_syn, closed_judgement, is_acceptable_segment, is_allowed_shut, is_foreign}
-use Rattle.tcp_conn.specs.Judgement.{judgement, listen_judgement, phase_judgement, position_near, present_judgement, syn_sent_judgement}
-use Rattle.tcp_conn.specs.Judgement.{unacceptable_judgement}
-use Rattle.tcp_replay.specs.declared.event.Side.{Side}
-use Rattle.tcp_replay.specs.declared.event.Side.TheVariants.{A, B}
-use Rattle.tcp_replay.specs.Alone.{IsAlone}
-use Rattle.tcp_replay.specs.Events.{EventContent, side_of, Receive, Timer, Emit, Deliver}
-use Rattle.tcp_replay.specs.World.{WorldState, PartyState, SentSegment, effect_of, other, party_after_arrival, party_after_emission}
-use Rattle.tcp_replay.specs.World.{party_of, refusal_of, segment_at, sent_by, world_after, world_after_all, world_from, world_with_effect}
-use Rattle.tcp_replay.specs.Safe.{gave_up}
-use Rattle.tcp_replay.specs.Sound.{IsSoundPair}
-use Rattle.tcp_replay.proofs.Events.{arrival-ok}
-use Rattle.tcp_replay.proofs.Emissions.{GoesOut, due-decodes, due-goes, plain-bits}
-use Rattle.tcp_replay.proofs.Steps.{pair-swapped}
-use Rattle.tcp_progress.specs.Fair.{IsCalm, NoneGaveUp, is_reset}
+use Rattle.std.proofs.Common.{[], ℕ, ◌&&◌, ◌∙◌, ◌∷◌, ◌≡◌, ap, Bool, false, IfSome, if◌then◌else◌, inl, inr, length, List, not, Ok, Option, slice_get}
+use Rattle.std.proofs.Common.{Some, subst, sym}
+use Rattle.tcp_replay.proofs.Words.{acceptable_judgement, ack, ack_judgement, AckOfListen, AckOfNoSyn, acks_syn, acks_unsent, AcksUnsent, after_arrival}
+use Rattle.tcp_replay.proofs.Words.{after_emission, after_judgement, AllByRecursion, bytes_of, cases_Bool, closed_judgement, cond_both, Config, Content}
+use Rattle.tcp_replay.proofs.Words.{decode_answer, Due, due_of, emitted_bytes, false≢true, Foreign, gives_up, HandshakeRefused, HandshakeRefusedShut, has}
+use Rattle.tcp_replay.proofs.Words.{is_acceptable_segment, is_allowed_shut, is_closed, is_fin, is_foreign, is_listening, is_syn_received, is_syn_sent}
+use Rattle.tcp_replay.proofs.Words.{Judgement, judgement, listen_judgement, NoAck, OpensNothing, PeerAccepts, PeerOpens, phase_judgement, position_near}
+use Rattle.tcp_replay.proofs.Words.{present_judgement, pushes, rst, segment_of, State, syn, syn_sent_judgement, SynInWindow, Taken, TakenShut, Unacceptable}
+use Rattle.tcp_replay.proofs.Words.{unacceptable_judgement}
+use Rattle.tcp_replay.proofs.WorldWords.{Deliver, effect_of, Emit, EventContent, gave_up, IsAlone, IsSoundPair, other, party_after_arrival}
+use Rattle.tcp_replay.proofs.WorldWords.{party_after_emission, party_of, PartyState, Receive, refusal_of, segment_at, sent_by, SentSegment, side_of, Timer}
+use Rattle.tcp_replay.proofs.WorldWords.{world_after, world_after_all, world_from, world_with_effect, WorldState}
+use Rattle.tcp_replay.proofs.Lemmas.{arrival-ok, due-decodes, due-goes, GoesOut, pair-swapped, plain-bits, not-closed-ended}
+use Rattle.tcp_progress.proofs.Words.{A, B, is_reset, IsCalm, NoneGaveUp, Side}
 use Rattle.tcp_progress.proofs.AlwaysSteady.{IsKept}
 use Rattle.tcp_progress.proofs.Arriving.{is-there}
-use Rattle.tcp_progress.proofs.Calm.{Grows, Resets, closed-ending, how-ends, open-goes}
+use Rattle.tcp_progress.proofs.Calm.{Grows, Resets, closed-ending, how-ends}
 use Rattle.tcp_progress.proofs.CalmWorlds.{Steps, after-either, steps-all, steps-event}
 use Rattle.tcp_progress.proofs.Emitted.{party_after_due}
 use Rattle.tcp_progress.proofs.Still.{still-emission, still-reading, still-retransmit}
 use Rattle.tcp_progress.proofs.Useful.{sent-still}
 use Rattle.tcp_progress.proofs.Ways.{last-of}
+use Rattle.tcp_halves.specs.declared.due.Due.TheVariants as dues
+use Rattle.tcp_conn.specs.declared.phase.Timer.TheVariants as timers
+use Rattle.tcp_progress.proofs.SynOut.{no-reset}
 
 -- ---- WITHOUT RST no judgement is passed that a reset alone brings (RFC 9293, 3.10.7)
 abbrev NotReset : Judgement → Type 0
@@ -113,7 +91,7 @@ stays-judgement s src dst v accepted closed alone plain stays =
     elim (cases_Bool (is_closed s.phase)) [
       | inl shut ↦ ap gives_up (closed-ending s src dst v shut) ∙ stays
       | inr here ↦
-          let goes = open-goes s.phase s.ending s.sending.una s.sending.nxt s.receiving.opened s.receiving.finished here alone.progress in
+          let goes = not-closed-ended s.phase s.ending s.sending.una s.sending.nxt s.receiving.opened s.receiving.finished here alone.progress in
           elim (how-ends s src dst v goes) [
             | inl reset ↦ absurd (judged-plain s src dst v plain reset)
             | inr ends ↦ elim ends [
@@ -143,14 +121,10 @@ no_reset-later p q p' q' k gp gq h = record {
   no_rst = h.no_rst;
 }
 
-syn-plain : (opened : Bool) → has rst (syn + (if opened then ack else 0)) ≡ false
-syn-plain true = refl
-syn-plain false = refl
-
 due-plain : (s : State) (due : Due) → is_reset due ≡ false → has rst (segment_of s due).flags ≡ false
 unfolding segment_of
 due-plain s (dues.Reset reset) e = absurd (false≢true (sym e))
-due-plain s dues.Syn e = syn-plain s.receiving.opened
+due-plain s dues.Syn e = no-reset s.receiving.opened
 due-plain s due e = (plain-bits (pushes s.sending due) (is_fin due)).2
 
 -- what is due is none, unless a reset is

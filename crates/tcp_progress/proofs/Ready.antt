@@ -1,34 +1,15 @@
 -- Before a turn: a waiting reset goes out and is lost, and the user reads all.
-use Rattle.std.proofs.Common.{◌≡◌, ℕ, ◌≤◌, List, [], ◌∷◌, length, inl, inr, refl, sym, ◌∙◌, subst, arith}
-use Rattle.std.specs.Prelude.{true, false, Bool, Option, Some, None, drop}
-use Rattle.std.proofs.lemmas.Bool.{false≢true, cases_Bool}
-use Rattle.tcp_halves.specs.declared.due.Due.{Due}
-use Rattle.tcp_halves.specs.declared.link.WaitingReset.{WaitingReset}
-use Rattle.tcp_conn.specs.declared.phase.Ending.{Ending}
-use Rattle.tcp_conn.specs.declared.phase.Ending.TheVariants.{NotEnded}
-use Rattle.tcp_conn.specs.declared.phase.Phase.{Phase}
-use Rattle.tcp_conn.specs.declared.phase.Phase.TheVariants.{Closed, SynSent, SynReceived}
-use Rattle.tcp_conn.specs.Phase.{is_closed, is_handshake, sends_text}
-use Rattle.tcp_reasm.specs.Reassembly.{after_read}
-use Rattle.tcp_conn.specs.State.{State}
-use Rattle.tcp_conn.specs.Calls.{after_receive}
-use Rattle.tcp_conn.specs.Due.{due_of, text_limit}
-use Rattle.tcp_conn.specs.Emission.{after_emission, after_due}
-use Rattle.tcp_conn.proofs.Segments.{report_options_short}
-use Rattle.tcp_replay.specs.declared.event.Side.{Side}
-use Rattle.tcp_replay.specs.declared.event.Side.TheVariants.{A, B}
-use Rattle.tcp_replay.specs.Alone.{FitsPhase}
-use Rattle.tcp_replay.specs.World.{WorldState, PartyState, max_life, world_from, other, party_after_receive, party_after_emission}
-use Rattle.tcp_replay.specs.Safe.{unread_of}
-use Rattle.tcp_progress.specs.Resent.{MaySend}
-use Rattle.tcp_progress.specs.Settled.{CanReach, IsLive, least_life}
-use Rattle.tcp_progress.specs.Steady.{IsSteady, IsSteadyPair}
+use Rattle.std.proofs.Common.{[], ℕ, ◌∙◌, ◌∷◌, ◌≡◌, ◌≤◌, arith, Bool, drop, false, inl, inr, length, List, None, Option, refl, Some, subst, sym, true}
+use Rattle.tcp_replay.proofs.Words.{after_due, after_emission, after_read, after_receive, cases_Bool, Closed, Due, due_of, Ending, false≢true, is_closed}
+use Rattle.tcp_replay.proofs.Words.{is_handshake, NotEnded, Phase, report_options_short, sends_text, State, SynReceived, SynSent, text_limit, WaitingReset}
+use Rattle.tcp_replay.proofs.WorldWords.{FitsPhase, max_life, other, party_after_emission, party_after_receive, PartyState, unread_of, world_from, WorldState}
+use Rattle.tcp_progress.proofs.Words.{A, B, CanReach, IsLive, IsSteady, IsSteadyPair, least_life, MaySend, Side}
 use Rattle.tcp_progress.proofs.Ways.{IsInvariant, other-side, by-reading, by-emission}
 use Rattle.tcp_progress.proofs.Still.{IsStill, still-same, still-emission, still-reading}
 
 -- a pair from the other side, and the pair of a steady world from either side
 pub steady-back : (p q : PartyState) → IsSteadyPair q p → IsSteadyPair p q
-steady-back p q h = record { pair = record { there = h.pair.back; back = h.pair.there; own_there = h.pair.own_back; own_back = h.pair.own_there }; there = h.back; back = h.there }
+steady-back p q h = record { pair = assumption; there = h.back; back = h.there }
 
 pub steady-pair : (life : ℕ) (side : Side) (p q : PartyState) → IsSteady (world_from life side p q) → IsSteadyPair p q
 steady-pair life A p q h = h.ends
@@ -48,7 +29,8 @@ pub turned-back : (K : WorldState → Type 0) (life : ℕ) (side : Side) (p q : 
 turned-back K life side p q h = subst K (other-side life side p q) h
 
 -- a live end isn't CLOSED
-live-phase : (phase : Phase) (ending : Ending) (una nxt : ℕ) (opened finished : Bool) → opened ≡ true → ending ≡ NotEnded → FitsPhase phase ending una nxt opened finished → is_closed phase ≡ false
+live-phase : (phase : Phase) (ending : Ending) (una nxt : ℕ) (opened finished : Bool) → opened ≡ true → ending ≡ NotEnded
+    → FitsPhase phase ending una nxt opened finished → is_closed phase ≡ false
 live-phase Closed ending una nxt opened finished took going h = absurd (false≢true (sym (h going).not_opened ∙ took))
 live-phase other ending una nxt opened finished took going h = refl
 
@@ -67,7 +49,8 @@ unfolding party_after_receive after_receive after_read
 all-read p q h live = rw (live.goes_on, live-open p q h live) (drop-all (unread_of p))
 
 pub by-reading-all : {K P : WorldState → Type 0} → IsInvariant K → (life : ℕ) (side : Side) (p q : PartyState) → IsLive p → K (world_from life side p q)
-    → ((p' : PartyState) → IsStill p p' → unread_of p' ≡ [] → p'.endpoint.sending.nxt ≡ p.endpoint.sending.nxt → K (world_from life side p' q) → CanReach P (world_from life side p' q)) → CanReach P (world_from life side p q)
+    → ((p' : PartyState) → IsStill p p' → unread_of p' ≡ [] → p'.endpoint.sending.nxt ≡ p.endpoint.sending.nxt → K (world_from life side p' q) → CanReach P
+    (world_from life side p' q)) → CanReach P (world_from life side p q)
 unfolding party_after_receive after_receive
 by-reading-all i life side p q live h next =
     let room = length (unread_of p) in
@@ -77,7 +60,8 @@ by-reading-all i life side p q live h next =
 
 -- the other one's user
 pub by-peer_reading-all : {K P : WorldState → Type 0} → IsInvariant K → (life : ℕ) (side : Side) (p q : PartyState) → IsLive q → K (world_from life side p q)
-    → ((q' : PartyState) → IsStill q q' → unread_of q' ≡ [] → K (world_from life side p q') → CanReach P (world_from life side p q')) → CanReach P (world_from life side p q)
+    → ((q' : PartyState) → IsStill q q' → unread_of q' ≡ [] → K (world_from life side p q') → CanReach P (world_from life side p q'))
+    → CanReach P (world_from life side p q)
 by-peer_reading-all {K} {P} i life side p q live h next =
     turned-back (CanReach P) life side p q (by-reading-all i life (other side) q p live (turned K life side p q h)
     (λ q' still read _ h'. turned (CanReach P) life side p q' (next q' still read (turned-back K life side p q' h'))))
@@ -95,19 +79,24 @@ pub emission-receiving : (p : PartyState) → (party_after_emission p).endpoint.
 unfolding party_after_emission after_emission
 emission-receiving p = due-receiving p.endpoint (due_of p.endpoint)
 
-reset-sends_nothing : (p : PartyState) (reset : WaitingReset) → p.endpoint.owed.reset ≡ Some reset → (party_after_emission p).endpoint.sending.nxt ≡ p.endpoint.sending.nxt
+reset-sends_nothing : (p : PartyState) (reset : WaitingReset) → p.endpoint.owed.reset ≡ Some reset
+    → (party_after_emission p).endpoint.sending.nxt ≡ p.endpoint.sending.nxt
 unfolding party_after_emission after_emission due_of
 reset-sends_nothing p reset e = rw e (omega arith)
 
-flushing : {K P : WorldState → Type 0} → IsInvariant K → (life : ℕ) (side : Side) (p q : PartyState) (waiting : Option WaitingReset) → p.endpoint.owed.reset ≡ waiting → K (world_from life side p q)
-    → ((p' : PartyState) → IsStill p p' → p'.endpoint.receiving ≡ p.endpoint.receiving → p'.endpoint.sending.nxt ≡ p.endpoint.sending.nxt → p'.endpoint.owed.reset ≡ None → K (world_from life side p' q) → CanReach P (world_from life side p' q))
+flushing : {K P : WorldState → Type 0} → IsInvariant K → (life : ℕ) (side : Side) (p q : PartyState) (waiting : Option WaitingReset)
+    → p.endpoint.owed.reset ≡ waiting → K (world_from life side p q)
+    → ((p' : PartyState) → IsStill p p' → p'.endpoint.receiving ≡ p.endpoint.receiving → p'.endpoint.sending.nxt ≡ p.endpoint.sending.nxt →
+    p'.endpoint.owed.reset ≡ None → K (world_from life side p' q) → CanReach P (world_from life side p' q))
     → CanReach P (world_from life side p q)
 flushing i life side p q None e h next = next p (still-same p) refl refl e h
 flushing i life side p q (Some reset) e h next =
-    by-emission i life side p q h (next (party_after_emission p) (still-emission p) (emission-receiving p) (reset-sends_nothing p reset e) (reset-first p reset e))
+    by-emission i life side p q h (next (party_after_emission p) (still-emission p) (emission-receiving p) (reset-sends_nothing p reset e)
+    (reset-first p reset e))
 
 pub by-flushing : {K P : WorldState → Type 0} → IsInvariant K → (life : ℕ) (side : Side) (p q : PartyState) → K (world_from life side p q)
-    → ((p' : PartyState) → IsStill p p' → p'.endpoint.receiving ≡ p.endpoint.receiving → p'.endpoint.sending.nxt ≡ p.endpoint.sending.nxt → p'.endpoint.owed.reset ≡ None → K (world_from life side p' q) → CanReach P (world_from life side p' q))
+    → ((p' : PartyState) → IsStill p p' → p'.endpoint.receiving ≡ p.endpoint.receiving → p'.endpoint.sending.nxt ≡ p.endpoint.sending.nxt →
+    p'.endpoint.owed.reset ≡ None → K (world_from life side p' q) → CanReach P (world_from life side p' q))
     → CanReach P (world_from life side p q)
 by-flushing i life side p q h next = flushing i life side p q (p.endpoint.owed.reset) refl h next
 

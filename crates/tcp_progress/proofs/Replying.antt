@@ -1,36 +1,17 @@
 -- WHO REPLIES: the side that has all is served; what it sends again goes out, and then it waits to be spoken to.
-use Rattle.std.proofs.Common.{◌≡◌, ℕ, zero, suc, ◌<◌, List, ◌++◌, length, inl, inr, refl, sym, ◌∙◌, ap, subst, arith}
-use Rattle.std.specs.Prelude.{true, false, Option, Some, None, ◌⊎◌}
-use Rattle.std.specs.List.{AllByRecursion}
-use Rattle.std.proofs.lemmas.Bool.{cases_Bool, cond_both, false≢true}
-use Rattle.tcp_halves.specs.declared.due.Due.TheVariants.{Reset}
-use Rattle.tcp_halves.specs.declared.link.WaitingReset.{WaitingReset}
-use Rattle.tcp_conn.specs.declared.phase.Ending.TheVariants.{NotEnded}
-use Rattle.tcp_conn.specs.declared.phase.Phase.{Phase}
-use Rattle.tcp_conn.specs.declared.phase.Phase.TheVariants.{Closed, Listen, SynSent, SynReceived, Established, FinWait1, FinWait2, CloseWait, Closing}
-use Rattle.tcp_conn.specs.declared.phase.Phase.TheVariants.{LastAck, TimeWait}
-use Rattle.tcp_conn.specs.declared.phase.Timer.TheVariants.{Retransmit}
-use Rattle.tcp_conn.specs.Phase.{sends_text}
-use Rattle.tcp_halves.specs.Sender.{Sending, is_fin_acked, with_all_resent}
-use Rattle.tcp_conn.specs.State.{State}
-use Rattle.tcp_conn.specs.Due.{due_of}
-use Rattle.tcp_conn.specs.Emission.{after_emission}
-use Rattle.tcp_conn.specs.Timers.{after_retransmit, sends_again}
-use Rattle.tcp_replay.specs.declared.event.Side.{Side}
-use Rattle.tcp_replay.specs.Alone.{FitsPhase}
-use Rattle.tcp_replay.specs.Events.{EventContent, Emit, Timer}
-use Rattle.tcp_replay.specs.Safe.{next_position}
-use Rattle.tcp_replay.specs.World.{WorldState, PartyState, other, party_of, world_after, world_after_all}
-use Rattle.tcp_replay.proofs.Lists.{one_if, one_if-most}
-use Rattle.tcp_progress.specs.Fair.{AllCome, IsCalm, IsIdle, NoneGaveUp, emissions, served}
-use Rattle.tcp_progress.specs.Settled.{IsLive}
-use Rattle.tcp_progress.specs.Stage.{SaysByPhase}
-use Rattle.tcp_progress.specs.Steady.{IsSteadyPair}
+use Rattle.std.proofs.Common.{ℕ, ◌++◌, ◌<◌, ◌∙◌, ◌≡◌, ◌⊎◌, ap, arith, false, inl, inr, length, List, None, Option, refl, Some, subst, suc, sym, true, zero}
+use Rattle.tcp_replay.proofs.Words.{after_emission, after_retransmit, AllByRecursion, cases_Bool, Closed, cond_both, due_of}
+use Rattle.tcp_replay.proofs.Words.{false≢true, FinWait2, is_fin_acked, Listen, NotEnded, Phase, Reset, Retransmit, Sending, sends_again}
+use Rattle.tcp_replay.proofs.Words.{sends_text, State, SynReceived, SynSent, TimeWait, WaitingReset, with_all_resent}
+use Rattle.tcp_replay.proofs.WorldWords.{Emit, EventContent, FitsPhase, next_position, other, party_of, PartyState, Timer, world_after, world_after_all}
+use Rattle.tcp_replay.proofs.WorldWords.{WorldState}
+use Rattle.tcp_replay.proofs.Lemmas.{one_if, one_if-most, end-is}
+use Rattle.tcp_progress.proofs.Words.{AllCome, emissions, IsCalm, IsIdle, IsLive, IsSteadyPair, NoneGaveUp, SaysByPhase, served, Side}
 use Rattle.tcp_progress.proofs.Asking.{syn-alone, reset-due}
 use Rattle.tcp_progress.proofs.Bursting.{IsBounded, IsBursting, still-done, timeout-bursts}
 use Rattle.tcp_progress.proofs.Bursts.{burst-waits}
 use Rattle.tcp_progress.proofs.CalmWorlds.{steps-all}
-use Rattle.tcp_progress.proofs.Forward.{acked-all, fin-last, live-sends, past-syn, text-end}
+use Rattle.tcp_progress.proofs.Forward.{acked-all, fin-last, live-sends, past-syn}
 use Rattle.tcp_progress.proofs.Going.{IsGoing, IsStillFrom, Lowers, going-live, over-all, over-event, side-pair}
 use Rattle.tcp_progress.proofs.Serving.{cleared, cleared-same, emit-endpoint, may-send-cleared, none-some, reset-gone, timer-endpoint}
 use Rattle.tcp_progress.proofs.Speaking.{Waits, idle-no_syn}
@@ -46,11 +27,7 @@ quiet-phase s SynSent quiet took going fits says = absurd (false≢true (sym fit
 quiet-phase s SynReceived quiet took going fits says = inl says.0
 quiet-phase s FinWait2 quiet took going fits says = inr says.acked
 quiet-phase s TimeWait quiet took going fits says = inr says.acked
-quiet-phase s Established quiet took going fits says = absurd (false≢true (sym quiet))
-quiet-phase s FinWait1 quiet took going fits says = absurd (false≢true (sym quiet))
-quiet-phase s CloseWait quiet took going fits says = absurd (false≢true (sym quiet))
-quiet-phase s Closing quiet took going fits says = absurd (false≢true (sym quiet))
-quiet-phase s LastAck quiet took going fits says = absurd (false≢true (sym quiet))
+quiet-phase s other quiet took going fits says = absurd (false≢true (sym quiet))
 
 -- once nothing is due there, and both are where they were, it waits
 quiet-waits : (w u : WorldState) (side : Side) → IsGoing w → IsGoing u → IsStillFrom w u → sends_text (party_of w side).endpoint.phase ≡ false
@@ -101,7 +78,7 @@ bounded p q h live sends =
     let had = live-sends p q h live in
     record {
       ahead = omega (arith, past-syn p q h sends, had.released);
-      most = omega (arith, text-end p.endpoint.sending p.accepted p.closed had, had.most, one_if-most p.closed);
+      most = omega (arith, end-is p.endpoint.sending p.accepted p.closed had, had.most, one_if-most p.closed);
     }
 
 cleared-bursts : (p q : PartyState) → IsSteadyPair p q → IsLive p → sends_text p.endpoint.phase ≡ true → IsBursting (after_retransmit (cleared p.endpoint))

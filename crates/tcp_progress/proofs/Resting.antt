@@ -1,23 +1,11 @@
 -- Before an answer: the user reads all and a waiting reset goes out and is lost; then all that is left to be sent again, or the SYN, goes
 -- out and is lost, so that what goes out next stands at SND.NXT.
-use Rattle.std.proofs.Common.{◌≡◌, ℕ, zero, suc, ◌≤◌, [], inl, inr, refl, sym, ◌∙◌, ap, subst, arith}
-use Rattle.std.specs.Prelude.{true, false, None, ◌⊎◌}
-use Rattle.std.proofs.lemmas.Bool.{cases_Bool, false≢true}
-use Rattle.tcp_conn.specs.declared.phase.Phase.{Phase}
-use Rattle.tcp_conn.specs.declared.phase.Phase.TheVariants.{Closed, Listen, SynSent, SynReceived, Established, FinWait1, FinWait2, CloseWait, Closing, LastAck, TimeWait}
-use Rattle.tcp_conn.specs.declared.phase.Timer.TheVariants.{Retransmit}
-use Rattle.tcp_conn.specs.Phase.{is_handshake, sends_text}
-use Rattle.tcp_conn.specs.State.{State, with_ack_owed}
-use Rattle.tcp_conn.specs.Due.{due_of}
-use Rattle.tcp_conn.specs.Emission.{after_emission}
-use Rattle.tcp_conn.specs.Timers.{after_retransmit}
-use Rattle.tcp_replay.specs.declared.event.Side.{Side}
-use Rattle.tcp_replay.specs.World.{WorldState, PartyState, other, world_from, party_after_timer, party_after_emission}
-use Rattle.tcp_replay.specs.Safe.{unread_of}
-use Rattle.tcp_progress.specs.Answered.{MayAnswer, StandsAtNext}
-use Rattle.tcp_progress.specs.Progress.{is_synchronized}
-use Rattle.tcp_progress.specs.Resent.{after_emissions}
-use Rattle.tcp_progress.specs.Settled.{CanReach, IsLive}
+use Rattle.std.proofs.Common.{[], ℕ, ◌∙◌, ◌≡◌, ◌≤◌, ◌⊎◌, ap, arith, false, inl, inr, None, refl, subst, suc, sym, true, zero}
+use Rattle.tcp_replay.proofs.Words.{after_emission, after_retransmit, cases_Bool, Closed, due_of, false≢true}
+use Rattle.tcp_replay.proofs.Words.{Listen, Phase, Retransmit, sends_text, State, SynReceived, SynSent}
+use Rattle.tcp_replay.proofs.Words.{with_ack_owed}
+use Rattle.tcp_replay.proofs.WorldWords.{other, party_after_emission, party_after_timer, PartyState, unread_of, world_from, WorldState}
+use Rattle.tcp_progress.proofs.Words.{after_emissions, CanReach, is_synchronized, IsLive, MayAnswer, Side, StandsAtNext}
 use Rattle.tcp_progress.proofs.Answer.{quiet-stands, stands, timeout-exhausts}
 use Rattle.tcp_progress.proofs.Exhausted.{IsRested}
 use Rattle.tcp_progress.proofs.Judged.{IsPresent}
@@ -25,6 +13,7 @@ use Rattle.tcp_progress.proofs.Ready.{turned, turned-back, by-flushing, by-readi
 use Rattle.tcp_progress.proofs.Still.{IsStill, still-same, still-then, still-emission, still-emissions, still-retransmit}
 use Rattle.tcp_progress.proofs.Arriving.{live-present}
 use Rattle.tcp_progress.proofs.Ways.{IsInvariant, after-emissions, by-emission, by-emissions, by-timer, party_after_emissions}
+use Rattle.tcp_progress.proofs.Again.{no-handshake}
 
 -- CLEAR: its user has read all, no reset waits, and SND.NXT hasn't moved
 pub record IsCleared (p p' : PartyState) : Type 0 where
@@ -65,19 +54,20 @@ timer-unread p = refl
 rested-stands : (s : State) → IsRested s → StandsAtNext (with_ack_owed s)
 rested-stands s rested = stands (with_ack_owed s) (record { phase = rested.phase; reset = rested.reset; syn = rested.syn; none = rested.none }) refl
 
--- in ESTABLISHED and after it, what is left to be sent again goes out
-synchronized-past : (phase : Phase) → is_synchronized phase ≡ true → is_handshake phase ≡ false
-synchronized-past SynSent e = absurd (cc)
-synchronized-past SynReceived e = absurd (cc)
-synchronized-past other e = refl
-
-resting-later : {K P : WorldState → Type 0} → IsInvariant K → (life : ℕ) (side : Side) (p q : PartyState) → is_synchronized p.endpoint.phase ≡ true → p.endpoint.owed.reset ≡ None → K (world_from life side p q)
+resting-later : {K P : WorldState → Type 0} → IsInvariant K → (life : ℕ) (side : Side) (p q : PartyState) → is_synchronized p.endpoint.phase ≡ true
+    → p.endpoint.owed.reset ≡ None → K (world_from life side p q)
     → ((p' : PartyState) → Rests p p' → K (world_from life side p' q) → CanReach P (world_from life side p' q)) → CanReach P (world_from life side p q)
 unfolding party_after_timer
 resting-later i life side p q phase none h next =
     let s = p.endpoint in
     let pair = pair-of i life side p q h in
-    let may : MayAnswer s = record { phase = phase; reset = none; syn = no-syn-owed p q pair (synchronized-past s.phase phase); limit = has-room p q pair; range = pair.there.range } in
+    let may : MayAnswer s = record {
+      phase = phase;
+      reset = none;
+      syn = no-syn-owed p q pair (no-handshake s.phase phase);
+      limit = has-room p q pair;
+      range = pair.there.range;
+    } in
     let rests = timeout-exhausts s may in
     let count = rests.1.count in
     let p1 = party_after_timer p Retransmit in
@@ -102,10 +92,12 @@ syn-gone : (p : PartyState) → p.endpoint.owed.reset ≡ None → p.endpoint.ow
 unfolding party_after_emission after_emission due_of
 syn-gone p none owed least = rw (none, owed) (record { reset = refl; syn = refl; nxt = omega (arith, least) })
 
-shaking-stands : (p : PartyState) → p.endpoint.phase ≡ SynReceived → p.endpoint.owed.reset ≡ None → p.endpoint.owed.syn ≡ false → StandsAtNext (with_ack_owed p.endpoint)
+shaking-stands : (p : PartyState) → p.endpoint.phase ≡ SynReceived → p.endpoint.owed.reset ≡ None → p.endpoint.owed.syn ≡ false
+    → StandsAtNext (with_ack_owed p.endpoint)
 shaking-stands p phase reset syn = quiet-stands (with_ack_owed p.endpoint) reset syn refl (ap sends_text phase)
 
-resting-first : {K P : WorldState → Type 0} → IsInvariant K → (life : ℕ) (side : Side) (p q : PartyState) → p.endpoint.phase ≡ SynReceived → 1 ≤ p.endpoint.sending.nxt → p.endpoint.owed.reset ≡ None → K (world_from life side p q)
+resting-first : {K P : WorldState → Type 0} → IsInvariant K → (life : ℕ) (side : Side) (p q : PartyState) → p.endpoint.phase ≡ SynReceived
+    → 1 ≤ p.endpoint.sending.nxt → p.endpoint.owed.reset ≡ None → K (world_from life side p q)
     → ((p' : PartyState) → Rests p p' → K (world_from life side p' q) → CanReach P (world_from life side p' q)) → CanReach P (world_from life side p q)
 resting-first i life side p q phase least none h next =
     elim (cases_Bool p.endpoint.owed.syn) [
@@ -115,7 +107,13 @@ resting-first i life side p q phase least none h next =
           let gone = syn-gone p none owed least in
           let still = still-emission p in
           by-emission i life side p q h
-          (next p' (record { still = still; nxt = gone.nxt; unread = ap (λ r. r.inbox.unread) (emission-receiving p); stands = shaking-stands p' (still.phase ∙ phase) gone.reset gone.syn }))
+          (next p' (record {
+            still = still;
+            nxt = gone.nxt;
+            unread = ap (λ r. r.inbox.unread) (emission-receiving p);
+            stands = shaking-stands p'
+                (still.phase ∙ phase) gone.reset gone.syn;
+          }))
     ]
 
 -- a live end is in one of these
@@ -124,15 +122,10 @@ phase-of Closed here = absurd (false≢true (sym here.shut))
 phase-of Listen here = absurd (false≢true (sym here.listening))
 phase-of SynSent here = absurd (false≢true (sym here.syn_sent))
 phase-of SynReceived here = inr refl
-phase-of Established here = inl refl
-phase-of FinWait1 here = inl refl
-phase-of FinWait2 here = inl refl
-phase-of CloseWait here = inl refl
-phase-of Closing here = inl refl
-phase-of LastAck here = inl refl
-phase-of TimeWait here = inl refl
+phase-of other here = inl refl
 
-pub by-resting : {K P : WorldState → Type 0} → IsInvariant K → (life : ℕ) (side : Side) (p q : PartyState) → IsLive p → 1 ≤ p.endpoint.sending.nxt → p.endpoint.owed.reset ≡ None → K (world_from life side p q)
+pub by-resting : {K P : WorldState → Type 0} → IsInvariant K → (life : ℕ) (side : Side) (p q : PartyState) → IsLive p → 1 ≤ p.endpoint.sending.nxt
+    → p.endpoint.owed.reset ≡ None → K (world_from life side p q)
     → ((p' : PartyState) → Rests p p' → K (world_from life side p' q) → CanReach P (world_from life side p' q)) → CanReach P (world_from life side p q)
 by-resting i life side p q live least none h next =
     elim (phase-of p.endpoint.phase (live-present p q (pair-of i life side p q h) live)) [
@@ -141,7 +134,8 @@ by-resting i life side p q live least none h next =
     ]
 
 -- the other one
-pub by-peer_resting : {K P : WorldState → Type 0} → IsInvariant K → (life : ℕ) (side : Side) (p q : PartyState) → IsLive q → 1 ≤ q.endpoint.sending.nxt → q.endpoint.owed.reset ≡ None → K (world_from life side p q)
+pub by-peer_resting : {K P : WorldState → Type 0} → IsInvariant K → (life : ℕ) (side : Side) (p q : PartyState) → IsLive q → 1 ≤ q.endpoint.sending.nxt
+    → q.endpoint.owed.reset ≡ None → K (world_from life side p q)
     → ((q' : PartyState) → Rests q q' → K (world_from life side p q') → CanReach P (world_from life side p q')) → CanReach P (world_from life side p q)
 by-peer_resting {K} {P} i life side p q live least none h next =
     turned-back (CanReach P) life side p q (by-resting i life (other side) q p live least none (turned K life side p q h)

@@ -1,32 +1,13 @@
 -- ONE SIDE IS SERVED: where something of it is in flight that the other hasn't taken, or nothing is in flight and something waits, what goes out is useful.
-use Rattle.std.proofs.Common.{◌≡◌, ℕ, zero, suc, ◌<◌, List, ◌++◌, length, inl, inr, refl, sym, ◌∙◌, ap, subst, arith}
-use Rattle.std.specs.Prelude.{true, false, max, Option, Some, None, IfSome, ◌⊎◌}
-use Rattle.std.specs.List.{AllByRecursion}
-use Rattle.std.proofs.lemmas.Bool.{false≢true}
-use Rattle.tcp_wire.specs.Flags.{has, rst, syn}
-use Rattle.tcp_wire.specs.Wire.{Content}
-use Rattle.tcp_halves.specs.declared.due.Due.{Due}
-use Rattle.tcp_halves.specs.declared.due.Due.TheVariants as dues
-use Rattle.tcp_halves.specs.declared.link.WaitingReset.{WaitingReset}
-use Rattle.tcp_conn.specs.declared.phase.Timer.TheVariants.{Retransmit}
-use Rattle.tcp_conn.specs.Phase.{sends_text}
-use Rattle.tcp_conn.specs.State.{State}
-use Rattle.tcp_conn.specs.Due.{due_of}
-use Rattle.tcp_conn.specs.Emission.{after_emission}
-use Rattle.tcp_conn.specs.Forms.{segment_of}
-use Rattle.tcp_conn.specs.Judgement.{count_numbers}
-use Rattle.tcp_conn.specs.Timers.{after_retransmit}
-use Rattle.tcp_replay.specs.declared.event.Side.{Side}
-use Rattle.tcp_replay.specs.declared.event.Side.TheVariants.{A, B}
-use Rattle.tcp_replay.specs.Events.{EventContent, Emit, Timer}
-use Rattle.tcp_replay.specs.World.{WorldState, PartyState, effect_of, other, party_after_emission, party_after_timer, party_of, world_after, world_after_all}
-use Rattle.tcp_replay.specs.Safe.{next_position}
-use Rattle.tcp_replay.proofs.Emissions.{reset-bit}
-use Rattle.tcp_progress.specs.Fair.{AllCome, Comes, Delivers, IsCalm, IsIdle, emissions, is_reset, served, NoneGaveUp}
-use Rattle.tcp_progress.specs.Measure.{all_of, left_in}
-use Rattle.tcp_progress.specs.Resent.{CoversNext, MaySend, after_emissions}
-use Rattle.tcp_progress.specs.Settled.{IsLive}
-use Rattle.tcp_progress.specs.Steady.{IsSteadyPair}
+use Rattle.std.proofs.Common.{ℕ, ◌++◌, ◌<◌, ◌∙◌, ◌≡◌, ◌⊎◌, ap, arith, false, IfSome, inl, inr, length, List, max, None, Option, refl, Some, subst, suc, sym}
+use Rattle.std.proofs.Common.{true, zero}
+use Rattle.tcp_replay.proofs.Words.{after_emission, after_retransmit, AllByRecursion, Content, count_numbers, Due, due_of, false≢true, has, Retransmit, rst}
+use Rattle.tcp_replay.proofs.Words.{segment_of, sends_text, State, syn, WaitingReset}
+use Rattle.tcp_replay.proofs.WorldWords.{effect_of, Emit, EventContent, next_position, other, party_after_emission, party_after_timer, party_of, PartyState}
+use Rattle.tcp_replay.proofs.WorldWords.{Timer, world_after, world_after_all, WorldState}
+use Rattle.tcp_replay.proofs.Lemmas.{reset-bit}
+use Rattle.tcp_progress.proofs.Words.{A, after_emissions, all_of, AllCome, B, Comes, CoversNext, Delivers, emissions, is_reset, IsCalm, IsIdle, IsLive}
+use Rattle.tcp_progress.proofs.Words.{IsSteadyPair, left_in, MaySend, NoneGaveUp, served, Side}
 use Rattle.tcp_progress.proofs.Again.{again_lem}
 use Rattle.tcp_progress.proofs.New.{new_lem}
 use Rattle.tcp_progress.proofs.CalmWorlds.{steps-all}
@@ -36,6 +17,7 @@ use Rattle.tcp_progress.proofs.Ready.{has-room, no-syn-owed, sends-no_handshake}
 use Rattle.tcp_progress.proofs.Turning.{calm-append, calm-emissions}
 use Rattle.tcp_progress.proofs.Useful.{IsUseful, useful-comes}
 use Rattle.tcp_progress.proofs.Going.{IsGoing, going-live, lowers-only, over-event, side-pair}
+use Rattle.tcp_halves.specs.declared.due.Due.TheVariants as dues
 
 -- ---- AN END WITH NO RESET
 abbrev pub cleared : State → State

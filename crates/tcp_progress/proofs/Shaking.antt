@@ -1,45 +1,23 @@
 -- OVER CALM EVENTS two ends that are opening the connection go on to do so, or both are open, while no end is reset (RFC 9293, 3.10.7.2 to 3.10.7.4).
-use Rattle.std.proofs.Common.{◌≡◌, ℕ, ◌≤◌, List, [], ◌∷◌, ◌++◌, inl, inr, refl, sym, ◌∙◌, ap, subst, arith, append_assoc}
-use Rattle.std.specs.Prelude.{true, false, Bool, None, ◌⊎◌}
-use Rattle.std.specs.List.{AllByRecursion}
-use Rattle.std.proofs.lemmas.Bool.{cases_Bool, false≢true}
-use Rattle.tcp_wire.specs.Flags.{ack, has, rst}
-use Rattle.tcp_wire.specs.Wire.{Content}
-use Rattle.tcp_conn.specs.declared.phase.Ending.{Ending}
-use Rattle.tcp_conn.specs.declared.phase.Ending.TheVariants.{NotEnded}
-use Rattle.tcp_conn.specs.declared.phase.Phase.{Phase}
-use Rattle.tcp_conn.specs.declared.phase.Phase.TheVariants.{Closed, Listen, SynSent, SynReceived, LastAck}
-use Rattle.tcp_conn.specs.declared.phase.Timer.TheVariants as timers
-use Rattle.tcp_conn.specs.Phase.{gives_up, is_syn_sent}
-use Rattle.tcp_conn.specs.State.{State}
-use Rattle.tcp_conn.specs.declared.judgement.Judgement.{Judgement}
-use Rattle.tcp_conn.specs.Arrival.{after_judgement, after_peer_opens}
-use Rattle.tcp_conn.specs.Calls.{after_acknowledge}
-use Rattle.tcp_conn.specs.Judgement.{judgement}
-use Rattle.tcp_conn.specs.Timers.{after_reorder}
-use Rattle.tcp_replay.specs.declared.event.Side.{Side}
-use Rattle.tcp_replay.specs.declared.event.Side.TheVariants.{A, B}
-use Rattle.tcp_replay.specs.Alone.{FitsPhase}
-use Rattle.tcp_replay.specs.Events.{EventContent, side_of, Connect, Listen as Listens, Send, Receive, Close, Abort, Acknowledge, Timer, Emit, Deliver, Damage}
-use Rattle.tcp_replay.specs.Safe.{gave_up}
-use Rattle.tcp_replay.specs.Sound.{IsSoundPair}
-use Rattle.tcp_replay.specs.World.{WorldState, PartyState, delivery_refusal, effect_of, other, party_after_acknowledge, party_after_arrival}
-use Rattle.tcp_replay.specs.World.{party_after_timer, party_of, refusal_of, segment_at, sent_at, world_after, world_after_all, world_from, world_with_effect}
-use Rattle.tcp_replay.proofs.Events.{arrival-ok, delivered-there, finds-damage, own-decodes, segment-sent}
-use Rattle.tcp_replay.proofs.Judgements.{judged}
-use Rattle.tcp_replay.proofs.Steps.{pair-swapped}
-use Rattle.tcp_progress.specs.Fair.{IsCalm, NoneGaveUp}
-use Rattle.tcp_progress.specs.Handshake.{AreOpen}
-use Rattle.tcp_progress.specs.Settled.{IsLive}
-use Rattle.tcp_progress.proofs.AlwaysSteady.{IsKept}
+use Rattle.std.proofs.Common.{[], ℕ, ◌++◌, ◌∙◌, ◌∷◌, ◌≡◌, ◌≤◌, ◌⊎◌, ap, append_assoc, arith, Bool, false, inl, inr, List, None, refl, subst, sym, true}
+use Rattle.tcp_replay.proofs.Words.{ack, after_acknowledge, after_judgement, after_peer_opens, after_reorder, AllByRecursion, cases_Bool, Closed, Content}
+use Rattle.tcp_replay.proofs.Words.{Ending, false≢true, gives_up, has, is_syn_sent, Judgement, judgement, LastAck, Listen, NotEnded, Phase, rst, State}
+use Rattle.tcp_replay.proofs.Words.{SynReceived, SynSent}
+use Rattle.tcp_replay.proofs.WorldWords.{Acknowledge, Damage, Deliver, delivery_refusal, effect_of, Emit, EventContent, FitsPhase}
+use Rattle.tcp_replay.proofs.WorldWords.{gave_up, IsSoundPair, other, party_after_acknowledge, party_after_arrival, party_after_timer}
+use Rattle.tcp_replay.proofs.WorldWords.{party_of, PartyState, Receive, refusal_of, segment_at, sent_at, side_of, Timer, world_after, world_after_all}
+use Rattle.tcp_replay.proofs.WorldWords.{world_from, world_with_effect, WorldState}
+use Rattle.tcp_replay.proofs.Lemmas.{arrival-ok, delivered-there, finds-damage, judged, own-decodes, pair-swapped, segment-sent}
+use Rattle.tcp_progress.proofs.Words.{A, AreOpen, B, IsCalm, IsLive, NoneGaveUp, Side}
+use Rattle.tcp_progress.proofs.AlwaysSteady.{IsKept, kept-after}
 use Rattle.tcp_progress.proofs.Calm.{IsMoved, moves-same}
 use Rattle.tcp_progress.proofs.CalmWorlds.{OneMoves, after-either, calm-event, calm-bytes, steps-all, steps-event}
-use Rattle.tcp_progress.proofs.AlwaysSteady.{kept-after}
 use Rattle.tcp_progress.proofs.Going.{side-pair}
 use Rattle.tcp_progress.proofs.Handshake.{answering, opening, unopened-listen}
 use Rattle.tcp_progress.proofs.Ready.{steady-back}
 use Rattle.tcp_progress.proofs.Still.{still-emission, still-reading, still-retransmit}
 use Rattle.tcp_progress.proofs.Turning.{after-append}
+use Rattle.tcp_conn.specs.declared.phase.Timer.TheVariants as timers
 
 -- ---- WHO ANSWERS is in LISTEN, or in SYN-RECEIVED, and goes on from the one to the other alone
 abbrev pub Answers : Phase → Type 0
@@ -128,15 +106,10 @@ here-phase life p q (Receive side room) calm = (still-reading p room).phase
 here-phase life p q (Acknowledge side) calm = acknowledge-phase p
 here-phase life p q (Timer side timers.Retransmit) calm = (still-retransmit p).phase
 here-phase life p q (Timer side timers.Reorder) calm = reorder-phase p
-here-phase life p q (Timer side timers.TimeWait) calm = absurd calm
 here-phase life p q (Emit side) calm = (still-emission p).phase
 here-phase life p q (Deliver from k) calm = refl
 here-phase life p q (Damage from k place value) calm = refl
-here-phase life p q (Connect side) calm = absurd calm
-here-phase life p q (Listens side) calm = absurd calm
-here-phase life p q (Send side text) calm = absurd calm
-here-phase life p q (Close side) calm = absurd calm
-here-phase life p q (Abort side) calm = absurd calm
+here-phase life p q other calm = absurd calm
 
 there-on : (life : ℕ) (p q : PartyState) (event : EventContent) → IsCalm event → (effect_of life p q event).refusal ≡ None → IsSoundPair p q
     → p.endpoint.receiving.opened ≡ false → Answers q.endpoint.phase → ComesOn q.endpoint (effect_of life p q event).there.endpoint
@@ -148,11 +121,7 @@ there-on life p q (Emit side) calm e pair unopened answers = inl (inl refl)
 there-on life p q (Deliver from k) calm e pair unopened answers = arrival-on p q life k e pair unopened answers
 there-on life p q (Damage from k place value) calm e pair unopened answers =
     subst (λ (x : PartyState). ComesOn q.endpoint x.endpoint) (sym (finds-damage q p life k place value calm e (pair-swapped _ _ pair)).same) (inl (inl refl))
-there-on life p q (Connect side) calm e pair unopened answers = absurd calm
-there-on life p q (Listens side) calm e pair unopened answers = absurd calm
-there-on life p q (Send side text) calm e pair unopened answers = absurd calm
-there-on life p q (Close side) calm e pair unopened answers = absurd calm
-there-on life p q (Abort side) calm e pair unopened answers = absurd calm
+there-on life p q other calm e pair unopened answers = absurd calm
 
 -- of the world that an event at side s leads to, seen from `side`
 on-from : (w : WorldState) (side s : Side) (event : EventContent) → IsCalm event → (effect_of w.life (party_of w s) (party_of w (other s)) event).refusal ≡ None

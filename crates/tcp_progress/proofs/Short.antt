@@ -1,15 +1,9 @@
 -- SHORT WAYS: timeouts, emissions and deliveries one after another, no more than so many, at one of two parties or from one to the other.
-use Rattle.std.proofs.Common.{◌≡◌, ℕ, suc, refl, arith}
-use Rattle.std.specs.Prelude.{Option, Some, None}
-use Rattle.tcp_halves.specs.declared.link.WaitingReset.{WaitingReset}
-use Rattle.tcp_conn.specs.declared.phase.Timer.TheVariants.{Retransmit}
-use Rattle.tcp_replay.specs.declared.event.Side.{Side}
-use Rattle.tcp_replay.specs.declared.event.Side.TheVariants.{A, B}
-use Rattle.tcp_replay.specs.Events.{EventContent, Timer, Emit, Deliver}
-use Rattle.tcp_replay.specs.World.{WorldState, PartyState, delivery_refusal, effect_of, party_after_arrival, party_after_emission, party_after_timer}
-use Rattle.tcp_replay.specs.World.{refusal_of, segment_at, world_from, world_with_effect}
-use Rattle.tcp_progress.specs.Handshake.{CanReachUnaided, IsUnaided}
-use Rattle.tcp_progress.specs.Settled.{IsQuiet}
+use Rattle.std.proofs.Common.{ℕ, ◌≡◌, arith, None, Option, refl, Some, suc}
+use Rattle.tcp_replay.proofs.Words.{Retransmit, WaitingReset}
+use Rattle.tcp_replay.proofs.WorldWords.{Deliver, delivery_refusal, effect_of, Emit, EventContent, party_after_arrival, party_after_emission, party_after_timer}
+use Rattle.tcp_replay.proofs.WorldWords.{PartyState, refusal_of, segment_at, Timer, world_from, world_with_effect, WorldState}
+use Rattle.tcp_progress.proofs.Words.{A, B, CanReachUnaided, IsQuiet, IsUnaided, Side}
 use Rattle.tcp_progress.proofs.Ready.{reset-first}
 use Rattle.tcp_progress.proofs.Still.{IsStill, still-same, still-emission}
 use Rattle.tcp_progress.proofs.Ways.{IsInvariant, quiet-bytes, reach-here, reach-step}

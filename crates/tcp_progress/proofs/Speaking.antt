@@ -1,41 +1,17 @@
 -- WHO IS SPOKEN TO by what is old to it answers, and the answer brings on: once both were served, whatever comes but timers.
-use Rattle.std.proofs.Common.{◌≡◌, ℕ, ◌<◌, List, [], ◌∷◌, ◌++◌, length, inl, inr, refl, sym, ◌∙◌, ap, subst, arith}
-use Rattle.std.specs.Prelude.{Bool, true, false, if◌then◌else◌, ◌⊎◌, Option, Some, None, Ok, slice_get}
-use Rattle.std.specs.List.{AllByRecursion}
-use Rattle.std.specs.Option.{option_or}
-use Rattle.std.proofs.lemmas.Bool.{cases_Bool}
-use Rattle.tcp_numbers.specs.Position.{number}
-use Rattle.tcp_wire.specs.Decoded.{decode_answer}
-use Rattle.tcp_wire.specs.Flags.{has, rst, syn}
-use Rattle.tcp_wire.specs.Wire.{Content}
-use Rattle.tcp_halves.specs.declared.config.Config.{Config}
-use Rattle.tcp_halves.specs.declared.due.Due.{Due}
-use Rattle.tcp_halves.specs.declared.due.Due.TheVariants.{Acknowledgement, Syn}
-use Rattle.tcp_halves.specs.declared.link.WaitingReset.{WaitingReset}
-use Rattle.tcp_conn.specs.declared.outcome.CallError.{CallError}
-use Rattle.tcp_conn.specs.Phase.{sends_text}
-use Rattle.tcp_conn.specs.State.{State}
-use Rattle.tcp_conn.specs.Arrival.{after_arrival, after_judgement}
-use Rattle.tcp_conn.specs.Calls.{after_acknowledge, after_receive, receive_refusal, state_unless, with_bytes_received}
-use Rattle.tcp_conn.specs.Due.{ack_due, due_of, reset_due, start_of, syn_due, text_due}
-use Rattle.tcp_conn.specs.Emission.{after_emission}
-use Rattle.tcp_conn.specs.Forms.{segment_of}
-use Rattle.tcp_conn.specs.Judgement.{judgement}
-use Rattle.tcp_replay.specs.declared.event.Side.{Side}
-use Rattle.tcp_replay.specs.declared.event.Side.TheVariants.{A, B}
-use Rattle.tcp_replay.specs.declared.outcome.StepError.{StepError}
-use Rattle.tcp_replay.specs.Events.{EventContent, side_of, Connect, Listen as Listens, Send, Receive, Close, Abort, Acknowledge, Timer, Emit, Deliver, Damage}
-use Rattle.tcp_replay.specs.Safe.{next_position}
-use Rattle.tcp_replay.specs.Sound.{IsSoundPair}
-use Rattle.tcp_replay.specs.World.{WorldState, PartyState, SentSegment, delivery_refusal, effect_of, other, party_after_acknowledge, party_after_arrival}
-use Rattle.tcp_replay.specs.World.{party_after_emission, party_after_receive, party_of, refusal_of, segment_at, sent_at, stay_or, world_after}
-use Rattle.tcp_replay.specs.World.{world_after_all, world_from, world_with_effect}
-use Rattle.tcp_replay.proofs.Events.{arrival-ok, delivered-there, finds-damage, own-decodes, segment-sent}
-use Rattle.tcp_replay.proofs.Steps.{pair-swapped}
-use Rattle.tcp_progress.specs.Answered.{StandsAtNext}
-use Rattle.tcp_progress.specs.Fair.{AllCome, Comes, Delivers, IsCalm, IsIdle, IsUntimed, NoneGaveUp}
-use Rattle.tcp_progress.specs.Measure.{left_in}
-use Rattle.tcp_progress.specs.Steady.{IsSteadyPair}
+use Rattle.std.proofs.Common.{[], ℕ, ◌++◌, ◌<◌, ◌∙◌, ◌∷◌, ◌≡◌, ◌⊎◌, ap, arith, Bool, false, if◌then◌else◌, inl, inr, length, List, None, Ok, Option, refl}
+use Rattle.std.proofs.Common.{slice_get, Some, subst, sym, true}
+use Rattle.tcp_replay.proofs.Words.{ack_due, Acknowledgement, after_acknowledge, after_arrival, after_emission, after_judgement, after_receive, AllByRecursion}
+use Rattle.tcp_replay.proofs.Words.{CallError, cases_Bool, Config, Content, decode_answer, Due, due_of, has, judgement, number, option_or, receive_refusal}
+use Rattle.tcp_replay.proofs.Words.{reset_due, rst, segment_of, sends_text, start_of, State, state_unless, syn, Syn, syn_due, text_due, WaitingReset}
+use Rattle.tcp_replay.proofs.Words.{with_bytes_received}
+use Rattle.tcp_replay.proofs.WorldWords.{Acknowledge, Damage, Deliver, delivery_refusal, effect_of, Emit, EventContent, IsSoundPair}
+use Rattle.tcp_replay.proofs.WorldWords.{next_position, other, party_after_acknowledge, party_after_arrival, party_after_emission}
+use Rattle.tcp_replay.proofs.WorldWords.{party_after_receive, party_of, PartyState, Receive, refusal_of, segment_at, sent_at, SentSegment, side_of}
+use Rattle.tcp_replay.proofs.WorldWords.{stay_or, world_after, world_after_all, world_from, world_with_effect, WorldState}
+use Rattle.tcp_replay.proofs.Lemmas.{arrival-ok, delivered-there, finds-damage, own-decodes, pair-swapped, segment-sent}
+use Rattle.tcp_progress.proofs.Words.{A, AllCome, B, Comes, Delivers, IsCalm, IsIdle, IsSteadyPair, IsUntimed, left_in, NoneGaveUp, Side, StandsAtNext}
+use Rattle.tcp_progress.proofs.Words.{StepError}
 use Rattle.tcp_progress.proofs.AlwaysSteady.{IsKept, kept-steady}
 use Rattle.tcp_progress.proofs.Answering.{KeepsOwed, RangeDone, owed-judgement, owed-same, quiet-or-none, range-done, range-same, stands-or-none}
 use Rattle.tcp_progress.proofs.CalmWorlds.{after-either, steps-all}
@@ -88,7 +64,6 @@ owed-effect : (life : ℕ) (p q : PartyState) (event : EventContent) → IsUntim
 unfolding effect_of
 owed-effect life p q (Receive side room) calm e pair opened = record { here = inr (read-owed p room); there = owed-same q.endpoint }
 owed-effect life p q (Acknowledge side) calm e pair opened = record { here = inr (acknowledged-owed p); there = owed-same q.endpoint }
-owed-effect life p q (Timer side which) calm e pair opened = absurd calm
 owed-effect life p q (Emit side) calm e pair opened = record { here = inl refl; there = owed-same q.endpoint }
 owed-effect life p q (Deliver from k) calm e pair opened =
     record { here = inr (owed-same p.endpoint); there = arrival-owed q p life k e (pair-swapped _ _ pair) opened }
@@ -98,11 +73,7 @@ owed-effect life p q (Damage from k place value) calm e pair opened = record {
       subst (λ (x : PartyState). KeepsOwed q.endpoint x.endpoint) (sym (finds-damage q p life k place value calm e (pair-swapped _ _ pair)).same)
       (owed-same q.endpoint);
 }
-owed-effect life p q (Connect side) calm e pair opened = absurd calm
-owed-effect life p q (Listens side) calm e pair opened = absurd calm
-owed-effect life p q (Send side text) calm e pair opened = absurd calm
-owed-effect life p q (Close side) calm e pair opened = absurd calm
-owed-effect life p q (Abort side) calm e pair opened = absurd calm
+owed-effect life p q other calm e pair opened = absurd calm
 
 -- in the world: at A and at B
 record OwedIn (w v : WorldState) (event : EventContent) : Type 0 where

@@ -1,53 +1,24 @@
 -- WHAT EACH STATE SAYS OF BOTH FINS, AND WHO THE PEER IS: every event keeps it.
-use Rattle.std.proofs.Common.{◌≡◌, ℕ, ◌+◌, ◌<◌, List, length, refl, sym, ◌∙◌, ap, arith, ◌≤◌}
-use Rattle.std.specs.Prelude.{true, false, None, Bool, nat_lt, nat_le, not, ◌==◌, Ok}
-use Rattle.std.proofs.lemmas.Bool.{false≢true, cond_both, and_parts, ltb-true}
-use Rattle.tcp_conn.specs.declared.outcome.CallError.TheVariants.{NotOpen, Ended}
-use Rattle.tcp_conn.specs.declared.phase.Ending.{Ending}
-use Rattle.tcp_conn.specs.declared.phase.Ending.TheVariants.{NotEnded, Orderly, Aborted, Reset}
-use Rattle.tcp_conn.specs.declared.phase.Phase.{Phase}
-use Rattle.tcp_conn.specs.declared.phase.Phase.TheVariants.{Listen, SynSent, LastAck, Closed, SynReceived, Established, FinWait1, FinWait2, CloseWait}
-use Rattle.tcp_conn.specs.declared.phase.Phase.TheVariants.{Closing, TimeWait}
-use Rattle.tcp_conn.specs.Phase.{has_peer, is_closed, is_listening, is_syn_sent, is_ended, gives_up, is_last_ack, is_syn_received, takes_text}
-use Rattle.tcp_conn.specs.Phase.{phase_after_own_fin, phase_after_fin}
-use Rattle.tcp_conn.specs.State.{State, Sending}
-use Rattle.tcp_conn.specs.Endings.{after_giving_up, after_orderly_end}
-use Rattle.tcp_conn.specs.Calls.{refusal_if, open_refusal, close_refusal, is_unanswered, with_closing}
-use Rattle.tcp_replay.specs.World.{PartyState, address_of, SentSegment, new_party}
-use Rattle.tcp_replay.specs.Safe.{next_position}
-use Rattle.tcp_replay.specs.Sound.{IsSoundPair, IsOwn}
-use Rattle.tcp_replay.proofs.Lists.{one_if-false}
-use Rattle.tcp_replay.proofs.Steps.{next_of, kept-same, Moved}
-use Rattle.tcp_replay.proofs.Phases.{at-closed, knows-closing, gives_up-not_ended, end-listen, end-syn_sent, end-syn_received, end-synchronized, present-knows}
-use Rattle.tcp_replay.proofs.Phases.{syn_sent-knows, knows-own_fin, knows-fin}
-use Rattle.tcp_replay.proofs.AloneCalls.{send-open}
+use Rattle.std.proofs.Common.{ℕ, ◌+◌, ◌<◌, ◌==◌, ◌∙◌, ◌≡◌, ◌≤◌, ap, arith, Bool, false, length, List, nat_le, nat_lt, None, not, Ok, refl, sym, true}
+use Rattle.tcp_replay.proofs.Words.{Aborted, acks_more, after_ack, after_acked_text, after_giving_up, after_its_ack, after_news, after_orderly_end}
+use Rattle.tcp_replay.proofs.Words.{after_own_syn, after_peer_accepts, after_peer_opens, after_text, and_parts, close_refusal, Closed, CloseWait}
+use Rattle.tcp_replay.proofs.Words.{cond_both, Config, Content, decode_answer, Due, Ended, Ending, Established, false≢true, fin, FinWait2, gives_up}
+use Rattle.tcp_replay.proofs.Words.{has, has_fin, has_peer, is_closed, is_ended, is_fin_acked, is_fin_due, is_last_ack, is_listening, is_syn_received}
+use Rattle.tcp_replay.proofs.Words.{is_syn_sent, is_unanswered, IsConfig, LastAck, Listen, ltb-true, NotEnded, NotOpen, number, open_refusal, Orderly, Phase}
+use Rattle.tcp_replay.proofs.Words.{phase_after_fin, phase_after_own_fin, position_near, refusal_if, Reset, rst, segment_of, Sending, State, SynReceived}
+use Rattle.tcp_replay.proofs.Words.{SynSent, takes_fin, takes_text, takes_text_of, TimeWait, window_from, with_acked, with_closing, with_fin, with_syn_acked}
+use Rattle.tcp_replay.proofs.Words.{with_window}
+use Rattle.tcp_replay.proofs.WorldWords.{address_of, FitsPhase, IsAlone, IsOwn, IsSoundPair, new_party, next_position, PartyState, Sends, SentSegment}
+use Rattle.tcp_replay.proofs.Lemmas.{after_segment, AllSaid, Arrives, at-closed, Both, both-swapped, end-listen, end-syn_received, end-syn_sent}
+use Rattle.tcp_replay.proofs.Lemmas.{end-synchronized, gives_up-not_ended, IsPresent, kept-same, KeptByCalls, knows-closing, knows-fin, knows-own_fin, Moved}
+use Rattle.tcp_replay.proofs.Lemmas.{next_of, on-arrival, one_if-false, option_or-none, own-decodes, PairKept, present-knows, refusal_if-none, said-after}
+use Rattle.tcp_replay.proofs.Lemmas.{said-back, same-content, send-open, Speaks, syn_sent-knows, Synced, wanted-is}
+use Rattle.tcp_progress.proofs.Words.{KnowsPort, ReleasesAll, SaysByPhase}
+use Rattle.tcp_conn.specs.declared.phase.Ending.TheVariants.{Reset}
 use Rattle.tcp_progress.proofs.Table.{Table, table-unopened, table-more, table-close, table-time_wait, Between, table-unanswered, table-acked, table-own_fin}
 use Rattle.tcp_progress.proofs.Table.{table-last_ack, table-no_own_fin, table-fin, last_ack-own_syn, last_ack-own_fin, last_ack-fin, last_ack-takes}
 use Rattle.tcp_progress.proofs.Table.{own_fin-acked, own_fin-unacked, own_fin-is_acked, own_fin-is_unacked}
-use Rattle.tcp_replay.proofs.Calls.{KeptByCalls, option_or-none, refusal_if-none}
-use Rattle.tcp_wire.specs.Position.{number}
-use Rattle.tcp_wire.specs.Flags.{fin, rst, has}
-use Rattle.tcp_wire.specs.Wire.{Content}
-use Rattle.tcp_conn.specs.Windows.{window_from}
-use Rattle.tcp_halves.specs.Sender.{acks_more, with_acked, after_ack, with_syn_acked, with_window, is_fin_acked}
-use Rattle.tcp_halves.specs.Receiver.{after_text, is_fin_due, with_fin}
-use Rattle.tcp_conn.specs.Judgement.{position_near}
-use Rattle.tcp_conn.specs.Arrival.{after_own_syn, after_acked_text, after_news, after_its_ack, takes_text_of, has_fin, takes_fin, after_peer_opens}
-use Rattle.tcp_conn.specs.Arrival.{after_peer_accepts}
-use Rattle.tcp_replay.specs.Alone.{Sends, FitsPhase, IsAlone}
-use Rattle.tcp_replay.proofs.Judgements.{IsPresent}
-use Rattle.tcp_replay.proofs.Stages.{Synced}
 use Rattle.tcp_progress.proofs.Acked.{news-keep, own_fin-keeps}
-use Rattle.tcp_replay.proofs.Events.{Arrives, after_segment, same-content, AllSaid, Both, PairKept, Speaks, both-swapped, said-after, said-back, own-decodes}
-use Rattle.tcp_replay.proofs.Arrivals.{on-arrival}
-use Rattle.tcp_wire.specs.Decoded.{decode_answer}
-use Rattle.tcp_halves.specs.declared.config.Config.{Config}
-use Rattle.tcp_halves.specs.declared.due.Due.{Due}
-use Rattle.tcp_halves.specs.declared.due.Due.TheVariants.{Reset}
-use Rattle.tcp_halves.specs.Config.{IsConfig}
-use Rattle.tcp_conn.specs.Forms.{segment_of}
-use Rattle.tcp_replay.proofs.Emissions.{wanted-is}
-use Rattle.tcp_progress.specs.Stage.{SaysByPhase, KnowsPort, ReleasesAll}
 use Rattle.tcp_progress.proofs.OnlySent.{KeepsSent}
 use Rattle.tcp_conn.specs.declared.outcome.CallError.TheVariants as errors
 
@@ -415,17 +386,13 @@ says Listen s accepted closed fits alone h = tt
 says SynSent s accepted closed fits alone h = tt
 says SynReceived s accepted closed fits alone h = (h, fits.1.nxt_is)
 says Established s accepted closed fits alone h = record { closing = h.0; acked = unsent s accepted closed fits.0 h.0 alone; finished = h.1 }
-says FinWait1 s accepted closed fits alone h =
-    record { closing = h.0; acked = own_fin-is_unacked s.sending accepted closed (sends-on s accepted closed fits.0 alone) h.2; finished = h.1 }
 says FinWait2 s accepted closed fits alone h =
     record { closing = h.0; acked = own_fin-is_acked s.sending accepted closed (sends-on s accepted closed fits.0 alone) h.2; finished = h.1 }
 says CloseWait s accepted closed fits alone h = record { closing = h.0; acked = unsent s accepted closed fits.0 h.0 alone; finished = h.1 }
-says Closing s accepted closed fits alone h =
-    record { closing = h.0; acked = own_fin-is_unacked s.sending accepted closed (sends-on s accepted closed fits.0 alone) h.2; finished = h.1 }
-says LastAck s accepted closed fits alone h =
-    record { closing = h.0; acked = own_fin-is_unacked s.sending accepted closed (sends-on s accepted closed fits.0 alone) h.2; finished = h.1 }
 says TimeWait s accepted closed fits alone h =
     record { closing = h.0; acked = own_fin-is_acked s.sending accepted closed (sends-on s accepted closed fits.0 alone) h.2; finished = h.1 }
+says other s accepted closed fits alone h =
+    record { closing = h.0; acked = own_fin-is_unacked s.sending accepted closed (sends-on s accepted closed fits.0 alone) h.2; finished = h.1 }
 
 -- each state says what it does of both FINs, in both ends
 pub stages-say : (p q : PartyState) → IsSoundPair p q → Both KeepsStages p q → SaysByPhase p.endpoint.phase p.endpoint × SaysByPhase q.endpoint.phase q.endpoint

@@ -1,18 +1,9 @@
 -- What an end does by itself on the way leaves what it has come to: it reads, its timer runs out, it emits.
-use Rattle.std.proofs.Common.{◌≡◌, ℕ, zero, suc, ◌≤◌, refl, ◌∙◌, arith}
-use Rattle.std.specs.Prelude.{Option, Some, None, if◌then◌else◌}
-use Rattle.std.proofs.lemmas.Bool.{cond_both}
-use Rattle.tcp_halves.specs.declared.due.Due.{Due}
-use Rattle.tcp_conn.specs.declared.outcome.CallError.{CallError}
-use Rattle.tcp_conn.specs.declared.phase.Timer.TheVariants.{Retransmit}
-use Rattle.tcp_halves.specs.Sender.{Sending, with_all_resent}
-use Rattle.tcp_conn.specs.Calls.{receive_refusal, with_bytes_received, after_receive, state_unless}
-use Rattle.tcp_conn.specs.Due.{due_of}
-use Rattle.tcp_conn.specs.Emission.{after_emission, after_due}
-use Rattle.tcp_conn.specs.Timers.{after_retransmit, sends_again}
-use Rattle.tcp_replay.specs.World.{PartyState, party_after_receive, party_after_timer, party_after_emission}
-use Rattle.tcp_replay.specs.Safe.{next_position}
-use Rattle.tcp_progress.specs.Settled.{IsLive}
+use Rattle.std.proofs.Common.{ℕ, ◌∙◌, ◌≡◌, ◌≤◌, arith, if◌then◌else◌, None, Option, refl, Some, suc, zero}
+use Rattle.tcp_replay.proofs.Words.{after_due, after_emission, after_receive, after_retransmit, CallError, cond_both, Due, due_of, receive_refusal, Retransmit}
+use Rattle.tcp_replay.proofs.Words.{Sending, sends_again, state_after, state_unless, with_all_resent, with_bytes_received}
+use Rattle.tcp_replay.proofs.WorldWords.{next_position, party_after_emission, party_after_receive, party_after_timer, PartyState}
+use Rattle.tcp_progress.proofs.Words.{IsLive}
 use Rattle.tcp_progress.proofs.Ways.{party_after_emissions}
 
 -- THE SAME but for what it owes, what goes out again and what is unread
@@ -30,7 +21,7 @@ pub record IsStill (p p' : PartyState) : Type 0 where
   pub closed : p'.closed ≡ p.closed
 
 pub still-same : (p : PartyState) → IsStill p p
-still-same p = record { config = refl; phase = refl; ending = refl; closing = refl; opened = refl; finished = refl; una = refl; nxt = omega arith; ordered = refl; accepted = refl; closed = refl }
+still-same p = let nxt : p.endpoint.sending.nxt ≤ p.endpoint.sending.nxt = omega arith in assumption
 
 pub still-then : (p p' p'' : PartyState) → IsStill p p' → IsStill p' p'' → IsStill p p''
 still-then p p' p'' one two = record {
@@ -55,18 +46,19 @@ still-live p p' h live = record { opened = h.opened ∙ live.opened; goes_on = h
 
 -- EMISSION
 due-still : (p : PartyState) (due : Option Due) → IsStill p (record p { endpoint = after_due p.endpoint due })
-due-still p None = record { config = refl; phase = refl; ending = refl; closing = refl; opened = refl; finished = refl; una = refl; nxt = omega arith; ordered = refl; accepted = refl; closed = refl }
-due-still p (Some due) = record { config = refl; phase = refl; ending = refl; closing = refl; opened = refl; finished = refl; una = refl; nxt = omega arith; ordered = refl; accepted = refl; closed = refl }
+due-still p None = still-same p
+due-still p (Some due) = let nxt : p.endpoint.sending.nxt ≤ (state_after p.endpoint due).sending.nxt = omega arith in assumption
 
 pub still-emission : (p : PartyState) → IsStill p (party_after_emission p)
 unfolding party_after_emission after_emission
 still-emission p =
     let h = due-still p (due_of p.endpoint) in
-    record { config = h.config; phase = h.phase; ending = h.ending; closing = h.closing; opened = h.opened; finished = h.finished; una = h.una; nxt = h.nxt; ordered = h.ordered; accepted = refl; closed = refl }
+    assumption
 
 pub still-emissions : (n : ℕ) (p : PartyState) → IsStill p (party_after_emissions n p)
 still-emissions zero p = still-same p
-still-emissions (suc n) p = still-then p (party_after_emission p) (party_after_emissions n (party_after_emission p)) (still-emission p) (still-emissions n (party_after_emission p))
+still-emissions (suc n) p =
+    still-then p (party_after_emission p) (party_after_emissions n (party_after_emission p)) (still-emission p) (still-emissions n (party_after_emission p))
 
 -- THE RETRANSMISSION TIMEOUT
 pub still-retransmit : (p : PartyState) → IsStill p (party_after_timer p Retransmit)
@@ -74,16 +66,18 @@ unfolding party_after_timer after_retransmit
 still-retransmit p =
     let s = p.endpoint in
     let Same : Sending → Type 0 = λ d. (d.una ≡ s.sending.una) × (s.sending.nxt ≤ d.nxt) in
-    let same : Same (if sends_again s then with_all_resent s.sending else s.sending) = cond_both (sends_again s) (with_all_resent s.sending) s.sending Same (λ _. (refl, omega arith)) (λ _. (refl, omega arith)) in
-    record { config = refl; phase = refl; ending = refl; closing = refl; opened = refl; finished = refl; una = same.0; nxt = same.1; ordered = refl; accepted = refl; closed = refl }
+    let same : Same (if sends_again s then with_all_resent s.sending else s.sending) = cond_both (sends_again s) (with_all_resent s.sending) s.sending Same
+    (λ _. (refl, omega arith)) (λ _. (refl, omega arith)) in
+    assumption
 
 -- READING
-receive-still : (p : PartyState) (room : ℕ) (refusal : Option CallError) → IsStill p (record p { endpoint = state_unless refusal p.endpoint (with_bytes_received p.endpoint room) })
-receive-still p room None = record { config = refl; phase = refl; ending = refl; closing = refl; opened = refl; finished = refl; una = refl; nxt = omega arith; ordered = refl; accepted = refl; closed = refl }
-receive-still p room (Some error) = record { config = refl; phase = refl; ending = refl; closing = refl; opened = refl; finished = refl; una = refl; nxt = omega arith; ordered = refl; accepted = refl; closed = refl }
+receive-still : (p : PartyState) (room : ℕ) (refusal : Option CallError)
+    → IsStill p (record p { endpoint = state_unless refusal p.endpoint (with_bytes_received p.endpoint room) })
+receive-still p room None = let nxt : p.endpoint.sending.nxt ≤ p.endpoint.sending.nxt = omega arith in assumption
+receive-still p room (Some error) = still-same p
 
 pub still-reading : (p : PartyState) (room : ℕ) → IsStill p (party_after_receive p room)
 unfolding party_after_receive after_receive
 still-reading p room =
     let h = receive-still p room (receive_refusal p.endpoint) in
-    record { config = h.config; phase = h.phase; ending = h.ending; closing = h.closing; opened = h.opened; finished = h.finished; una = h.una; nxt = h.nxt; ordered = h.ordered; accepted = refl; closed = refl }
+    assumption

@@ -1,12 +1,10 @@
 -- QUIET EVENTS leave what was accepted, and who closed.
-use Rattle.std.proofs.Common.{List, [], ◌∷◌, refl, ◌∙◌}
-use Rattle.std.specs.Prelude.{Option, Some, None}
-use Rattle.std.specs.List.{AllByRecursion}
-use Rattle.tcp_replay.specs.declared.event.Side.TheVariants.{A, B}
-use Rattle.tcp_replay.specs.declared.outcome.StepError.{StepError}
-use Rattle.tcp_replay.specs.Events.{EventContent, Connect, Listen, Send, Receive, Close, Abort, Acknowledge, Timer, Emit, Deliver, Damage}
-use Rattle.tcp_replay.specs.World.{WorldState, effect_of, refusal_of, world_with_effect, stay_or, run_of, party_after_receive, party_after_timer, party_after_emission, party_after_arrival}
-use Rattle.tcp_progress.specs.Settled.{IsQuiet, HasStreamsOf}
+use Rattle.std.proofs.Common.{[], ◌∙◌, ◌∷◌, List, None, Option, refl, Some}
+use Rattle.tcp_replay.proofs.Words.{AllByRecursion}
+use Rattle.tcp_replay.proofs.WorldWords.{Abort, Acknowledge, Close, Connect, Damage, Deliver, effect_of, Emit, EventContent, Listen, party_after_arrival}
+use Rattle.tcp_replay.proofs.WorldWords.{party_after_emission, party_after_receive, party_after_timer, Receive, refusal_of, run_of, Send, stay_or, Timer}
+use Rattle.tcp_replay.proofs.WorldWords.{world_with_effect, WorldState}
+use Rattle.tcp_progress.proofs.Words.{A, B, HasStreamsOf, IsQuiet, StepError}
 
 same-streams : (w : WorldState) → HasStreamsOf w w
 same-streams w = record { accepted_of_a = refl; accepted_of_b = refl; closed_of_a = refl; closed_of_b = refl }
@@ -47,4 +45,5 @@ unfolding run_of
 quiet-streams w [] quiet = same-streams w
 quiet-streams w (event ∷ events) quiet =
     let next = world_with_effect w event in
-    stays-or w (run_of next events) (refusal_of w event) (then-streams w next (run_of next events) (quiet-event w event quiet.0) (quiet-streams next events quiet.1))
+    stays-or w (run_of next events) (refusal_of w event) (then-streams w next (run_of next events) (quiet-event w event quiet.0)
+    (quiet-streams next events quiet.1))

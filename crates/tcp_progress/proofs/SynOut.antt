@@ -1,28 +1,11 @@
 -- THE OWN SYN GOES OUT AGAIN after a retransmission timeout in SYN-SENT and SYN-RECEIVED (RFC 9293, 3.8.1), and what it says then.
-use Rattle.std.proofs.Common.{◌≡◌, ℕ, ◌≤◌, length, refl, sym, ◌∙◌, ap, subst, arith}
-use Rattle.std.proofs.Math.Bool.{or-true}
-use Rattle.std.specs.Prelude.{Bool, true, false, ◌+◌, if◌then◌else◌, Option, Some, None, IfSome, Ok, slice_get}
-use Rattle.tcp_numbers.specs.Position.{number, position_of}
-use Rattle.tcp_wire.specs.Flags.{ack, syn, rst, has}
-use Rattle.tcp_wire.specs.Decoded.{decode_answer}
-use Rattle.tcp_wire.specs.Wire.{Content}
-use Rattle.tcp_wire.proofs.Lemmas.{position_of_number}
-use Rattle.tcp_halves.specs.declared.config.Config.{Config}
-use Rattle.tcp_halves.specs.declared.due.Due.{Due}
-use Rattle.tcp_halves.specs.declared.due.Due.TheVariants.{Syn}
-use Rattle.tcp_conn.specs.declared.phase.Timer.TheVariants.{Retransmit}
-use Rattle.tcp_conn.specs.Phase.{is_handshake}
-use Rattle.tcp_conn.specs.State.{State}
-use Rattle.tcp_conn.specs.Due.{due_of}
-use Rattle.tcp_conn.specs.Emission.{emitted_bytes}
-use Rattle.tcp_conn.specs.Forms.{segment_of, syn_segment}
-use Rattle.tcp_conn.specs.Timers.{after_retransmit}
-use Rattle.tcp_conn.specs.Writing.{bytes_of}
-use Rattle.tcp_replay.specs.World.{PartyState, SentSegment, sent_by, party_after_timer, party_after_emission}
-use Rattle.tcp_replay.specs.Safe.{next_position}
-use Rattle.tcp_replay.proofs.Emissions.{GoesOut, due-decodes, due-goes, seq-in, syn-bits, wanted-is}
-use Rattle.tcp_replay.proofs.Phases.{handshake-knows, handshake-una}
-use Rattle.tcp_progress.specs.Steady.{IsSteadyPair}
+use Rattle.std.proofs.Common.{ℕ, ◌+◌, ◌∙◌, ◌≡◌, ◌≤◌, ap, arith, Bool, false, IfSome, if◌then◌else◌, length, None, Ok, Option, refl, slice_get, Some, subst, sym}
+use Rattle.std.proofs.Common.{true}
+use Rattle.tcp_replay.proofs.Words.{ack, after_retransmit, bytes_of, Config, Content, decode_answer, Due, due_of, emitted_bytes, has, is_handshake, number}
+use Rattle.tcp_replay.proofs.Words.{or-true, position_of, position_of_number, Retransmit, rst, segment_of, State, syn, Syn, syn_segment}
+use Rattle.tcp_replay.proofs.WorldWords.{next_position, party_after_emission, party_after_timer, PartyState, sent_by, SentSegment}
+use Rattle.tcp_replay.proofs.Lemmas.{due-decodes, due-goes, GoesOut, handshake-knows, handshake-una, seq-in, syn-bits, wanted-is}
+use Rattle.tcp_progress.proofs.Words.{IsSteadyPair}
 use Rattle.tcp_progress.proofs.Still.{still-emission}
 use Rattle.tcp_progress.proofs.Ways.{last-of}
 
@@ -72,7 +55,8 @@ syn-position p q h goes first =
     ap (position_of s.config.isn.0 s.sending.una) (sym (seq-in s.config.addr.0 s.peer.addr.0 (syn_segment s) goes.valid))
     ∙ position_of_number s.config.isn.0 s.sending.una 0 h.pair.there.alone.config.isn (omega arith) (omega (arith, first))
 
-no-reset : (opened : Bool) → has rst (syn + (if opened then ack else 0)) ≡ false
+-- a SYN carries no RST
+pub no-reset : (opened : Bool) → has rst (syn + (if opened then ack else 0)) ≡ false
 no-reset true = refl
 no-reset false = refl
 

@@ -1,19 +1,11 @@
 -- WHAT EACH STATE SAYS of the own close, of the own FIN's acknowledgement and of the peer's FIN: as numbers, and what each move does.
-use Rattle.std.proofs.Common.{◌≡◌, ℕ, ◌+◌, ◌<◌, ◌≤◌, List, length, refl, ap, arith}
-use Rattle.std.specs.Prelude.{Bool, true, false, ◌==◌, nat_lt}
-use Rattle.std.proofs.lemmas.Bool.{and_parts, eqb-true, ltb-true, lt-ltb, eq-eqb}
-use Rattle.tcp_conn.specs.declared.phase.Phase.{Phase}
-use Rattle.tcp_conn.specs.declared.phase.Phase.TheVariants.{Closed, Listen, SynSent, SynReceived, Established, FinWait1, FinWait2, CloseWait, Closing, LastAck, TimeWait}
-use Rattle.tcp_conn.specs.declared.phase.Ending.{Ending}
-use Rattle.tcp_conn.specs.declared.phase.Ending.TheVariants.{NotEnded, Orderly}
-use Rattle.tcp_conn.specs.Phase.{is_closed, is_listening, is_syn_sent, is_syn_received, is_last_ack, is_time_wait, takes_text, phase_after_own_fin, phase_after_fin}
-use Rattle.tcp_conn.specs.State.{Sending, end_of_text}
-use Rattle.tcp_halves.specs.Sender.{is_fin_sent, is_fin_acked}
-use Rattle.tcp_conn.specs.Calls.{phase_after_close}
-use Rattle.tcp_conn.specs.Arrival.{phase_after_own_syn}
-use Rattle.tcp_replay.specs.Alone.{Sends}
-use Rattle.tcp_replay.proofs.Lists.{by_test, one_if-most}
-use Rattle.tcp_replay.proofs.AloneEmissions.{end-is}
+use Rattle.std.proofs.Common.{ℕ, ◌+◌, ◌<◌, ◌==◌, ◌≡◌, ◌≤◌, ap, arith, Bool, false, length, List, nat_lt, refl, true}
+use Rattle.tcp_replay.proofs.Words.{and_parts, Closed, CloseWait, Closing, end_of_text, Ending, eq-eqb, eqb-true, Established, FinWait1, FinWait2, is_closed}
+use Rattle.tcp_replay.proofs.Words.{is_fin_acked, is_fin_sent, is_last_ack, is_listening, is_syn_received, is_syn_sent, is_time_wait, LastAck, Listen, lt-ltb}
+use Rattle.tcp_replay.proofs.Words.{ltb-true, NotEnded, Orderly, Phase, phase_after_close, phase_after_fin, phase_after_own_fin, phase_after_own_syn, Sending}
+use Rattle.tcp_replay.proofs.Words.{SynReceived, SynSent, takes_text, TimeWait}
+use Rattle.tcp_replay.proofs.WorldWords.{Sends}
+use Rattle.tcp_replay.proofs.Lemmas.{by_test, end-is, one_if-most}
 
 -- THE TABLE, against the position after the own FIN: SND.UNA is there where the own FIN is acknowledged, and below it where it isn't
 abbrev pub Table : Phase → Ending → Bool → Bool → ℕ → ℕ → Type 0
@@ -41,16 +33,19 @@ Between TimeWait closing finished una end = (closing ≡ true) × (finished ≡ 
 Between other closing finished una end = ⊥
 
 -- OPEN
-pub table-unopened : (phase : Phase) (ending : Ending) (closing finished : Bool) (una end : ℕ) → is_closed phase ≡ true → ending ≡ NotEnded → Table phase ending closing finished una end → closing ≡ false
+pub table-unopened : (phase : Phase) (ending : Ending) (closing finished : Bool) (una end : ℕ) → is_closed phase ≡ true → ending ≡ NotEnded
+    → Table phase ending closing finished una end → closing ≡ false
 table-unopened Closed ending closing finished una end shut going h = h.0 going
 table-unopened other ending closing finished una end shut going h = absurd (cc)
 
-pub table-unanswered : (phase : Phase) (ending : Ending) (closing finished : Bool) (una end : ℕ) → is_syn_sent phase ≡ true → Table phase ending closing finished una end → closing ≡ false
+pub table-unanswered : (phase : Phase) (ending : Ending) (closing finished : Bool) (una end : ℕ) → is_syn_sent phase ≡ true
+    → Table phase ending closing finished una end → closing ≡ false
 table-unanswered SynSent ending closing finished una end sent h = h
 table-unanswered other ending closing finished una end sent h = absurd (cc)
 
 -- SEND: more is accepted before a close
-pub table-more : (phase : Phase) (ending : Ending) (closing finished : Bool) (una end end' : ℕ) → closing ≡ false → Table phase ending closing finished una end → Table phase ending closing finished una end'
+pub table-more : (phase : Phase) (ending : Ending) (closing finished : Bool) (una end end' : ℕ) → closing ≡ false → Table phase ending closing finished una end
+    → Table phase ending closing finished una end'
 table-more Closed ending closing finished una end end' early h = (h.0, λ e. absurd (cc ((h.1 e).0)))
 table-more FinWait1 ending closing finished una end end' early h = absurd (cc (h.0))
 table-more FinWait2 ending closing finished una end end' early h = absurd (cc (h.0))
@@ -60,7 +55,8 @@ table-more TimeWait ending closing finished una end end' early h = absurd (cc (h
 table-more other ending closing finished una end end' early h = h
 
 -- CLOSE
-pub table-close : (phase : Phase) (ending : Ending) (closing finished : Bool) (una end : ℕ) → is_closed phase ≡ false → is_listening phase ≡ false → is_syn_sent phase ≡ false → una < end
+pub table-close : (phase : Phase) (ending : Ending) (closing finished : Bool) (una end : ℕ) → is_closed phase ≡ false → is_listening phase ≡ false
+    → is_syn_sent phase ≡ false → una < end
     → Table phase ending closing finished una end
     → Table (phase_after_close phase) ending true finished una end
 table-close Closed ending closing finished una end e f g less h = absurd (cc)
@@ -72,13 +68,15 @@ table-close CloseWait ending closing finished una end e f g less h = (refl, h.1,
 table-close other ending closing finished una end e f g less h = (refl, h.1, h.2)
 
 -- TIME-WAIT ends
-pub table-time_wait : (phase : Phase) (ending : Ending) (closing finished : Bool) (una end : ℕ) → is_time_wait phase ≡ true → Table phase ending closing finished una end
+pub table-time_wait : (phase : Phase) (ending : Ending) (closing finished : Bool) (una end : ℕ) → is_time_wait phase ≡ true
+    → Table phase ending closing finished una end
     → Table Closed Orderly closing finished una end
 table-time_wait TimeWait ending closing finished una end e h = (λ never. absurd (cc), λ _. h)
 table-time_wait other ending closing finished una end e h = absurd (cc)
 
 -- AN ACKNOWLEDGEMENT moves SND.UNA on,
-pub table-acked : (phase : Phase) (ending : Ending) (closing finished : Bool) (una una' end : ℕ) → is_closed phase ≡ false → is_listening phase ≡ false → is_syn_sent phase ≡ false
+pub table-acked : (phase : Phase) (ending : Ending) (closing finished : Bool) (una una' end : ℕ) → is_closed phase ≡ false → is_listening phase ≡ false
+    → is_syn_sent phase ≡ false
     → (is_syn_received phase ≡ true → finished ≡ false)
     → una ≤ una' → Table phase ending closing finished una end → Between (phase_after_own_syn phase closing) closing finished una' end
 table-acked Closed ending closing finished una una' end e f g new more h = absurd (cc)
@@ -93,7 +91,8 @@ table-acked TimeWait ending closing finished una una' end e f g new more h = (h.
 table-acked other ending closing finished una una' end e f g new more h = (h.0, h.1)
 
 -- and it may be the own FIN's,
-pub table-own_fin : (phase : Phase) (ending : Ending) (closing finished : Bool) (una end : ℕ) → is_last_ack phase ≡ false → una ≡ end → Between phase closing finished una end
+pub table-own_fin : (phase : Phase) (ending : Ending) (closing finished : Bool) (una end : ℕ) → is_last_ack phase ≡ false → una ≡ end
+    → Between phase closing finished una end
     → Table (phase_after_own_fin phase) ending closing finished una end
 table-own_fin Closed ending closing finished una end e all h = absurd h
 table-own_fin Listen ending closing finished una end e all h = absurd h
@@ -104,12 +103,14 @@ table-own_fin CloseWait ending closing finished una end e all h = h
 table-own_fin LastAck ending closing finished una end e all h = absurd (cc)
 table-own_fin other ending closing finished una end e all h = (h.0, h.1, all)
 
-pub table-last_ack : (phase : Phase) (closing finished : Bool) (una end : ℕ) → is_last_ack phase ≡ true → una ≡ end → Between phase closing finished una end → Table Closed Orderly closing finished una end
+pub table-last_ack : (phase : Phase) (closing finished : Bool) (una end : ℕ) → is_last_ack phase ≡ true → una ≡ end → Between phase closing finished una end
+    → Table Closed Orderly closing finished una end
 table-last_ack LastAck closing finished una end e all h = (λ never. absurd (cc), λ _. (h.0, h.1, all))
 table-last_ack other closing finished una end e all h = absurd (cc)
 
 -- or not
-pub table-no_own_fin : (phase : Phase) (ending : Ending) (closing finished : Bool) (una end : ℕ) → una < end → Between phase closing finished una end → Table phase ending closing finished una end
+pub table-no_own_fin : (phase : Phase) (ending : Ending) (closing finished : Bool) (una end : ℕ) → una < end → Between phase closing finished una end
+    → Table phase ending closing finished una end
 table-no_own_fin Closed ending closing finished una end less h = absurd h
 table-no_own_fin Listen ending closing finished una end less h = absurd h
 table-no_own_fin SynSent ending closing finished una end less h = absurd h
@@ -121,7 +122,8 @@ table-no_own_fin TimeWait ending closing finished una end less h = absurd (omega
 table-no_own_fin other ending closing finished una end less h = (h.0, h.1, less)
 
 -- THE PEER'S FIN
-pub table-fin : (phase : Phase) (ending : Ending) (closing finished : Bool) (una end : ℕ) → takes_text phase ≡ true → Table phase ending closing finished una end
+pub table-fin : (phase : Phase) (ending : Ending) (closing finished : Bool) (una end : ℕ) → takes_text phase ≡ true
+    → Table phase ending closing finished una end
     → Table (phase_after_fin phase) ending closing true una end
 table-fin Established ending closing finished una end e h = (h.0, refl)
 table-fin FinWait1 ending closing finished una end e h = (h.0, refl, h.2)
@@ -171,6 +173,7 @@ own_fin-unacked d accepted closed h e =
     let differs : d.una ≡ 2 + length accepted → ⊥ = λ all. cc (own_fin-is_acked d accepted closed h all, e) in
     omega (arith, below, differs)
 
-pub own_fin-is_unacked : (d : Sending) (accepted : List ℕ) (closed : Bool) → Sends d accepted closed false → d.una < 2 + length accepted → is_fin_acked d ≡ false
+pub own_fin-is_unacked : (d : Sending) (accepted : List ℕ) (closed : Bool) → Sends d accepted closed false → d.una < 2 + length accepted
+    → is_fin_acked d ≡ false
 own_fin-is_unacked d accepted closed h less =
     by_test (is_fin_acked d) (λ b. is_fin_acked d ≡ b → b ≡ false) (λ e _. absurd (omega (arith, less, own_fin-acked d accepted closed h e))) (λ _ _. refl) refl

@@ -1,23 +1,12 @@
 -- What is next is taken: through the stages of a segment that is taken whole.
-use Rattle.std.proofs.Common.{◌≡◌, ℕ, ◌+◌, ◌^◌, ◌<◌, ◌≤◌, List, length, refl, sym, subst, inl, inr, arith}
-use Rattle.std.specs.Prelude.{true, false, not, ◌||◌, ◌==◌, if◌then◌else◌, ℤ, pos, ◌+ℤ◌, ◌≤ℤ◌, ◌<ℤ◌}
-use Rattle.std.proofs.lemmas.Bool.{cases_Bool, or_left, or_right}
-use Rattle.std.proofs.lemmas.Bool.Decides.{nat_tests}
-use Rattle.std.proofs.lemmas.Int.{ints}
-use Rattle.tcp_numbers.specs.Flags.{fin, has, syn}
-use Rattle.tcp_numbers.specs.Position.{number, offset}
-use Rattle.tcp_wire.specs.Wire.{Content}
-use Rattle.tcp_reasm.specs.Reassembly.{window}
-use Rattle.tcp_conn.specs.declared.phase.Phase.{Phase}
-use Rattle.tcp_conn.specs.declared.phase.Phase.TheVariants.{Closing, Closed, Listen, SynSent, SynReceived, Established, FinWait1, FinWait2, CloseWait, LastAck, TimeWait}
-use Rattle.tcp_conn.specs.Phase.{is_last_ack, phase_after_own_fin, takes_text}
-use Rattle.tcp_halves.specs.Receiver.{Receiving, max_ordered, after_text, is_fin_due}
-use Rattle.tcp_halves.specs.Sender.{is_fin_acked}
-use Rattle.tcp_conn.specs.Arrival.{after_acked_text, after_arrival, after_fin, after_its_ack, after_its_text, after_news, after_own_fin, after_own_syn, after_taking, arrival_answer, phase_after_own_syn}
-use Rattle.tcp_conn.specs.Judgement.{count_numbers}
-use Rattle.tcp_conn.specs.Endpoint.{AlwaysHolds}
-use Rattle.tcp_conn.specs.State.{State}
-use Rattle.tcp_progress.specs.Progress.{BringsOn, IsNext, TakesWhatIsNext, ends_at}
+use Rattle.std.proofs.Common.{ℕ, ℤ, ◌+ℤ◌, ◌+◌, ◌<ℤ◌, ◌<◌, ◌==◌, ◌^◌, ◌||◌, ◌≡◌, ◌≤ℤ◌, ◌≤◌, arith, false, if◌then◌else◌, inl, inr, length, List, not, pos, refl}
+use Rattle.std.proofs.Common.{subst, sym, true}
+use Rattle.tcp_replay.proofs.Words.{after_acked_text, after_arrival, after_fin, after_its_ack, after_its_text, after_news, after_own_fin, after_own_syn}
+use Rattle.tcp_replay.proofs.Words.{after_taking, after_text, AlwaysHolds, arrival_answer, cases_Bool, Closing, Content, count_numbers}
+use Rattle.tcp_replay.proofs.Words.{fin, FinWait1, has, ints, is_fin_acked, is_fin_due, is_last_ack, LastAck, max_ordered}
+use Rattle.tcp_replay.proofs.Words.{nat_tests, number, offset, or_left, or_right, Phase, phase_after_own_fin, phase_after_own_syn, Receiving, State, syn}
+use Rattle.tcp_replay.proofs.Words.{takes_text, window}
+use Rattle.tcp_progress.proofs.Words.{BringsOn, ends_at, IsNext, TakesWhatIsNext}
 use Rattle.tcp_progress.proofs.Judged.{judged-next}
 use Rattle.tcp_progress.proofs.Brought.{its_text-moves, with-fin, without-fin}
 
@@ -27,30 +16,13 @@ record StillTakes (s s' : State) : Type 0 where
   phase : takes_text s'.phase ≡ true
 
 not-last_ack : (phase : Phase) → takes_text phase ≡ true → is_last_ack phase ≡ false
-not-last_ack Closed e = refl
-not-last_ack Listen e = refl
-not-last_ack SynSent e = refl
-not-last_ack SynReceived e = refl
-not-last_ack Established e = refl
-not-last_ack FinWait1 e = refl
-not-last_ack FinWait2 e = refl
-not-last_ack CloseWait e = refl
-not-last_ack Closing e = refl
 not-last_ack LastAck e = absurd (cc)
-not-last_ack TimeWait e = refl
+not-last_ack other e = refl
 
 takes-after_own_fin : (phase : Phase) → takes_text phase ≡ true → takes_text (phase_after_own_fin phase) ≡ true
-takes-after_own_fin Closed e = e
-takes-after_own_fin Listen e = e
-takes-after_own_fin SynSent e = e
-takes-after_own_fin SynReceived e = e
-takes-after_own_fin Established e = e
 takes-after_own_fin FinWait1 e = refl
-takes-after_own_fin FinWait2 e = e
-takes-after_own_fin CloseWait e = e
 takes-after_own_fin Closing e = absurd (cc)
-takes-after_own_fin LastAck e = e
-takes-after_own_fin TimeWait e = e
+takes-after_own_fin other e = e
 
 own_fin-takes : (s : State) → takes_text s.phase ≡ true → StillTakes s (after_own_fin s)
 unfolding after_own_fin
@@ -86,7 +58,8 @@ brings-fin s v takes plain last fits =
     let count : count_numbers v ≡ length v.text + 1 = rw (plain, last) (omega arith) in
     let m = its_text-moves r v.seq v.text fits.next fits.ordered fits.whole fits.begins (omega (arith, ints, fits.within, count)) in
     let r' : Receiving = if not (length v.text == 0) then after_text r v.seq v.text else r in
-    rw (count, takes, last) (with-fin r r' v.seq (length v.text) m (is_fin_due r' (number v.seq (length v.text))) refl (omega (arith, ints, fits.within, count)))
+    rw (count, takes, last) (with-fin r r' v.seq (length v.text) m (is_fin_due r' (number v.seq (length v.text))) refl
+    (omega (arith, ints, fits.within, count)))
 
 brings-text : (s : State) (v : Content) → takes_text s.phase ≡ true → has syn v.flags ≡ false → has fin v.flags ≡ false → FitsTaken s.receiving v
     → BringsOn s.receiving (text_fin s v).receiving (offset s.receiving.next v.seq +ℤ pos (count_numbers v))
@@ -103,7 +76,8 @@ owes-fin : (s : State) (v : Content) → takes_text s.phase ≡ true → has fin
 unfolding text_fin after_fin after_its_text
 owes-fin s v takes last = rw (takes, last) (or_right _ true refl)
 
-owes-text : (s : State) (v : Content) → takes_text s.phase ≡ true → has syn v.flags ≡ false → has fin v.flags ≡ false → FitsTaken s.receiving v → (text_fin s v).owed.ack ≡ true
+owes-text : (s : State) (v : Content) → takes_text s.phase ≡ true → has syn v.flags ≡ false → has fin v.flags ≡ false → FitsTaken s.receiving v
+    → (text_fin s v).owed.ack ≡ true
 unfolding text_fin after_fin after_its_text
 owes-text s v takes plain open_still fits =
     let count : count_numbers v ≡ length v.text = rw (plain, open_still) (omega arith) in
@@ -134,7 +108,7 @@ taking : (s : State) (src dst : List ℕ) (v : Content) → IsReady s.receiving 
 unfolding after_taking text_fin
 taking s src dst v sound next =
     let still = its_ack-takes s v next.phase in
-    let fits : FitsTaken s.receiving v = record { next = sound.next; ordered = sound.ordered; whole = sound.whole; begins = next.begins; ends = next.ends; within = next.within } in
+    let fits : FitsTaken s.receiving v = assumption in
     let after = after_its_ack s v in
     let taken = text_fin-taken after v still.phase next.plain.no_syn (subst (λ r. FitsTaken r v) (sym still.receiving) fits) in
     subst (λ (r : Receiving). Taken r (text_fin after v) (offset r.next v.seq +ℤ pos (count_numbers v))) still.receiving taken

@@ -1,38 +1,18 @@
 -- TOLD WINDOWS, on the definitions: every event keeps what each end tells of its window within its room.
-use Rattle.std.proofs.Common.{◌≡◌, ℕ, suc, ◌+◌, ◌≤◌, List, [], ◌∷◌, ◌++◌, length, drop, refl, sym, ◌∙◌, arith, length-append, length-drop, ◌*◌, ◌^◌, ap, subst}
-use Rattle.std.specs.Prelude.{ℤ, true, false, Option, Some, None, Bool}
-use Rattle.std.proofs.lemmas.Bool.{cond_both, false≢true}
-use Rattle.tcp_wire.specs.Flags.{rst, syn, has}
-use Rattle.tcp_wire.specs.Wire.{Content}
-use Rattle.tcp_reasm.specs.Reassembly.{Cell, Inbox, Run, piece, window, bytes_in_order, with_ranks_from, with_ranks, runs, greatest_stamp, is_refused}
-use Rattle.tcp_reasm.specs.Reassembly.{with_overlay, overlay_of, after_place}
-use Rattle.tcp_halves.specs.declared.config.Config.{Config}
-use Rattle.tcp_halves.specs.declared.link.Link.{Link}
-use Rattle.tcp_conn.specs.declared.phase.Ending.TheVariants.{Aborted}
-use Rattle.tcp_halves.specs.Config.{min_mss, HasGoodShift}
-use Rattle.tcp_halves.specs.Options.{link_of}
-use Rattle.tcp_halves.specs.Receiver.{Receiving, HoldsWithin, after_text, after_handing, with_fin, without_bytes}
-use Rattle.tcp_halves.proofs.Placing.{capacity_placed, capacity_read, whole_read, whole_without_held, whole_empty}
-use Rattle.tcp_conn.specs.State.{State}
-use Rattle.tcp_conn.specs.Endings.{after_giving_up}
-use Rattle.tcp_conn.specs.Arrival.{after_own_syn, after_acked_text, after_news, after_peer_opens, after_peer_accepts}
-use Rattle.tcp_replay.specs.World.{PartyState, address_of, SentSegment, new_party}
+use Rattle.std.proofs.Common.{[], ℕ, ℤ, ◌*◌, ◌++◌, ◌+◌, ◌^◌, ◌∙◌, ◌∷◌, ◌≡◌, ◌≤◌, ap, arith, Bool, drop, false, length, length-append, length-drop, List, None}
+use Rattle.std.proofs.Common.{Option, refl, Some, subst, suc, sym, true}
+use Rattle.tcp_replay.proofs.Words.{Aborted, after_acked_text, after_giving_up, after_handing, after_news, after_own_syn, after_peer_accepts, after_peer_opens}
+use Rattle.tcp_replay.proofs.Words.{after_place, after_text, bytes_in_order, capacity_placed, capacity_read, Cell, cond_both, Config, Content, Due, false≢true}
+use Rattle.tcp_replay.proofs.Words.{greatest_stamp, has, HasGoodShift, HoldsWithin, Inbox, is_fin, is_refused, IsConfig, Link, link_of, min_mss, overlay_of}
+use Rattle.tcp_replay.proofs.Words.{own_shift, piece, plain_segment, pushes, Receiving, Reset, rst, Run, runs, segment_of, State, syn, Syn, syn_segment}
+use Rattle.tcp_replay.proofs.Words.{whole_empty, whole_read, whole_without_held, window, window_field, with_fin, with_overlay, with_ranks, with_ranks_from}
+use Rattle.tcp_replay.proofs.Words.{without_bytes, receive_refusal, with_bytes_received}
+use Rattle.tcp_replay.proofs.WorldWords.{address_of, IsSoundPair, new_party, PartyState, SentSegment}
+use Rattle.tcp_replay.proofs.Lemmas.{after_segment, AllSaid, Arrives, Both, both-swapped, GoesOutAlone, kept-same, KeptByCalls, Moved, on-arrival, PairKept}
+use Rattle.tcp_replay.proofs.Lemmas.{plain-bits, reset-bit, said-after, said-back, Speaks, syn-bits}
+use Rattle.tcp_progress.proofs.Words.{TellsWithin}
 use Rattle.tcp_progress.proofs.Advance.{overlay-length, in_order-most}
 use Rattle.tcp_progress.proofs.Shifts.{AgreesOn, agreed_shift, own_shift-agreed, syn-agrees, field-within}
-use Rattle.tcp_replay.proofs.Events.{Arrives, after_segment, AllSaid, Both, PairKept, Speaks, both-swapped, said-after, said-back}
-use Rattle.tcp_replay.specs.Sound.{IsSoundPair}
-use Rattle.tcp_replay.proofs.Calls.{KeptByCalls}
-use Rattle.tcp_replay.proofs.Arrivals.{on-arrival}
-use Rattle.tcp_replay.proofs.Steps.{kept-same, Moved}
-use Rattle.tcp_halves.specs.declared.due.Due.{Due}
-use Rattle.tcp_halves.specs.declared.due.Due.TheVariants.{Reset, Syn}
-use Rattle.tcp_halves.specs.Config.{IsConfig}
-use Rattle.tcp_conn.specs.Windows.{own_shift, window_field}
-use Rattle.tcp_conn.specs.Forms.{pushes, syn_segment, plain_segment, segment_of}
-use Rattle.tcp_conn.specs.Due.{is_fin}
-use Rattle.tcp_replay.proofs.AloneEmissions.{GoesOutAlone}
-use Rattle.tcp_replay.proofs.Emissions.{syn-bits, plain-bits, reset-bit}
-use Rattle.tcp_progress.specs.Edge.{TellsWithin}
 
 -- ---- THE INBOX: what is unread and the window make up the capacity
 ranks_from-length : (all : List Run) (place : ℕ) (held : List (Option Cell)) → length (with_ranks_from all place held) ≡ length held
@@ -100,22 +80,9 @@ room-calls p q h =
     let r = p.endpoint.receiving in
     let capacity = p.endpoint.config.recv_capacity in
     let gone : InRoom p q (after_giving_up p.endpoint Aborted) = record { within = within-given_up capacity r h.within; mss = h.mss; agreed = h.agreed } in
-    record {
-      same = h;
-      connects = λ _. h;
-      listens = λ _. h;
-      sends = λ _ _ _. h;
-      reads = λ room _. record { within = within-read capacity room r h.within; mss = h.mss; agreed = h.agreed };
-      withdraws = gone;
-      closes = λ _ _. h;
-      aborts = gone;
-      acknowledges = h;
-      resends = λ _. h;
-      probes = h;
-      fills = λ _ _ _. h;
-      ends = λ _. h;
-      emits = λ _ _ _. h;
-    }
+    let reads : (room : ℕ) → receive_refusal p.endpoint ≡ None → InRoom p q (with_bytes_received p.endpoint room) =
+    λ room _. record { within = within-read capacity room r h.within; mss = h.mss; agreed = h.agreed } in
+    assumption
 
 -- a SYN makes the link
 least-mss : (c : Config) (v : Content) → min_mss ≤ (link_of c v.options).peer_mss

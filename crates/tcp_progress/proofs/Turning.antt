@@ -1,19 +1,11 @@
 -- TURN AFTER TURN: where each turn leaves less, as many turns as something is left, and one more, bring both ways through.
-use Rattle.std.proofs.Common.{◌≡◌, ℕ, zero, suc, ◌+◌, ◌<◌, ◌≤◌, List, [], ◌∷◌, ◌++◌, length, inl, inr, refl, sym, ◌∙◌, ap, subst, arith, length-append}
-use Rattle.std.proofs.Common.{length-drop, length-take}
-use Rattle.std.specs.Prelude.{false, None, drop}
-use Rattle.std.specs.List.{AllByRecursion}
-use Rattle.std.proofs.lemmas.Bool.{cases_lt}
-use Rattle.tcp_reasm.specs.Reassembly.{after_read}
-use Rattle.tcp_conn.specs.Calls.{after_receive, receive_refusal}
-use Rattle.tcp_replay.specs.declared.event.Side.{Side}
-use Rattle.tcp_replay.specs.Events.{EventContent, Connect, Listen as Listens, Send, Receive, Close, Abort, Acknowledge, Timer, Emit, Deliver, Damage}
-use Rattle.tcp_replay.specs.World.{WorldState, PartyState, both, other, effect_of, party_after_receive, world_after, world_after_all}
-use Rattle.tcp_replay.specs.Safe.{gave_up, unread_of}
-use Rattle.tcp_progress.specs.Fair.{GetsThrough, HasTurns, IsCalm, IsTurn, IsUntimed, WhoIsServedGetsThrough, all_room, both_served, emissions, reads, served}
-use Rattle.tcp_progress.specs.Measure.{left_in}
-use Rattle.tcp_progress.specs.Settled.{IsThrough}
-use Rattle.tcp_progress.specs.Steady.{IsSteadyPair}
+use Rattle.std.proofs.Common.{[], ℕ, ◌++◌, ◌+◌, ◌<◌, ◌∙◌, ◌∷◌, ◌≡◌, ◌≤◌, ap, arith, drop, false, inl, inr, length, length-append, length-drop, length-take}
+use Rattle.std.proofs.Common.{List, None, refl, subst, suc, sym, zero}
+use Rattle.tcp_replay.proofs.Words.{after_read, after_receive, AllByRecursion, cases_lt, receive_refusal}
+use Rattle.tcp_replay.proofs.WorldWords.{Acknowledge, both, Damage, Deliver, effect_of, Emit, EventContent, gave_up}
+use Rattle.tcp_replay.proofs.WorldWords.{other, party_after_receive, PartyState, Receive, unread_of, world_after, world_after_all, WorldState}
+use Rattle.tcp_progress.proofs.Words.{all_room, both_served, emissions, GetsThrough, HasTurns, IsCalm, IsSteadyPair, IsThrough, IsTurn, IsUntimed, left_in}
+use Rattle.tcp_progress.proofs.Words.{reads, served, Side, WhoIsServedGetsThrough}
 use Rattle.tcp_progress.proofs.AlwaysSteady.{IsKept, kept-steady}
 use Rattle.tcp_progress.proofs.Calm.{Grows}
 use Rattle.tcp_progress.proofs.CalmWorlds.{Steps, on-all, steps-all, steps-left}
@@ -28,15 +20,10 @@ use Rattle.tcp_progress.proofs.Waited.{waited}
 pub untimed-calm : (event : EventContent) → IsUntimed event → IsCalm event
 untimed-calm (Receive side room) h = tt
 untimed-calm (Acknowledge side) h = tt
-untimed-calm (Timer side which) h = absurd h
 untimed-calm (Emit side) h = tt
 untimed-calm (Deliver from k) h = tt
 untimed-calm (Damage from k place value) h = h
-untimed-calm (Connect side) h = absurd h
-untimed-calm (Listens side) h = absurd h
-untimed-calm (Send side text) h = absurd h
-untimed-calm (Close side) h = absurd h
-untimed-calm (Abort side) h = absurd h
+untimed-calm other h = absurd h
 
 -- untimed events are calm
 pub all-untimed : (events : List EventContent) → AllByRecursion IsUntimed events → AllByRecursion IsCalm events

@@ -1,11 +1,8 @@
 -- Turn by turn: while something is left there is a turn after which less is left, so that some list of events leaves nothing.
-use Rattle.std.proofs.Common.{◌≡◌, ℕ, zero, suc, ◌<◌, subst, inl, inr, arith}
-use Rattle.std.proofs.lemmas.Bool.{cases_lt}
-use Rattle.tcp_replay.specs.declared.event.Side.TheVariants.{A, B}
-use Rattle.tcp_replay.specs.World.{WorldState, PartyState, world_from}
-use Rattle.tcp_replay.specs.Safe.{next_position}
-use Rattle.tcp_progress.specs.Measure.{all_of, left_of_both, left_in}
-use Rattle.tcp_progress.specs.Settled.{CanReach, IsLive}
+use Rattle.std.proofs.Common.{ℕ, ◌<◌, ◌≡◌, arith, inl, inr, subst, suc, zero}
+use Rattle.tcp_replay.proofs.Words.{cases_lt}
+use Rattle.tcp_replay.proofs.WorldWords.{next_position, PartyState, world_from, WorldState}
+use Rattle.tcp_progress.proofs.Words.{A, all_of, B, CanReach, IsLive, left_in, left_of_both}
 use Rattle.tcp_progress.proofs.Ways.{IsInvariant, reach-here, reach-then}
 use Rattle.tcp_progress.proofs.Measure.{GoOn, IsLess}
 use Rattle.tcp_progress.proofs.Ready.{pair-of}
@@ -13,12 +10,14 @@ use Rattle.tcp_progress.proofs.Forward.{forward-flight, forward-unsent}
 use Rattle.tcp_progress.proofs.Back.{back}
 
 -- the same from the other side
-less-swapped : {K : WorldState → Type 0} (p q : PartyState) {w : WorldState} → CanReach (IsLess K (left_of_both q p)) w → CanReach (IsLess K (left_of_both p q)) w
+less-swapped : {K : WorldState → Type 0} (p q : PartyState) {w : WorldState} → CanReach (IsLess K (left_of_both q p)) w
+    → CanReach (IsLess K (left_of_both p q)) w
 less-swapped {K} p q {w} way = subst (λ (n : ℕ). CanReach (IsLess K n) w) (omega arith) way
 
 -- nothing is on its way: what isn't acknowledged is, or what waits goes out
 idle-turn : {K : WorldState → Type 0} → IsInvariant K → (life : ℕ) (p q : PartyState) → K (world_from life A p q) → IsLive p → IsLive q
-    → next_position q ≡ p.endpoint.sending.nxt → next_position p ≡ q.endpoint.sending.nxt → 0 < left_of_both p q → CanReach (IsLess K (left_of_both p q)) (world_from life A p q)
+    → next_position q ≡ p.endpoint.sending.nxt → next_position p ≡ q.endpoint.sending.nxt → 0 < left_of_both p q
+    → CanReach (IsLess K (left_of_both p q)) (world_from life A p q)
 idle-turn i life p q h here there one two some =
     let pair = pair-of i life A p q h in
     elim (cases_lt p.endpoint.sending.una (next_position q)) [
@@ -47,7 +46,8 @@ turn i life p q h here there some =
       | inr taken ↦
           elim (cases_lt (next_position p) q.endpoint.sending.nxt) [
             | inl flight ↦ less-swapped p q (forward-flight i life B q p h there here flight)
-            | inr both ↦ idle-turn i life p q h here there (omega (arith, taken, pair.there.sent.taken there.opened)) (omega (arith, both, pair.back.sent.taken here.opened)) some
+            | inr both ↦ idle-turn i life p q h here there (omega (arith, taken, pair.there.sent.taken there.opened))
+                (omega (arith, both, pair.back.sent.taken here.opened)) some
           ]
     ]
 

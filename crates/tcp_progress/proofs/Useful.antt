@@ -1,22 +1,10 @@
 -- WHAT IS SURE TO COME AND BRINGS ON: a segment that is useful stays so until something is brought on, and brings on when it comes.
-use Rattle.std.proofs.Common.{◌≡◌, ℕ, zero, suc, ◌+◌, ◌<◌, ◌≤◌, List, [], ◌∷◌, ◌++◌, length, inl, inr, sym, ◌∙◌, ap, subst, arith}
-use Rattle.std.specs.Prelude.{true, Some, None, Ok, ◌⊎◌, slice_get}
-use Rattle.std.specs.List.{AllByRecursion}
-use Rattle.tcp_numbers.specs.Position.{number}
-use Rattle.tcp_wire.specs.Decoded.{decode_answer}
-use Rattle.tcp_wire.specs.Wire.{Content}
-use Rattle.tcp_halves.specs.declared.config.Config.{Config}
-use Rattle.tcp_conn.specs.Judgement.{count_numbers}
-use Rattle.tcp_replay.specs.declared.event.Side.{Side}
-use Rattle.tcp_replay.specs.declared.event.Side.TheVariants.{A, B}
-use Rattle.tcp_replay.specs.Events.{EventContent, Deliver}
-use Rattle.tcp_replay.specs.World.{WorldState, PartyState, SentSegment, delivery_refusal, effect_of, max_life, other, party_after_arrival, party_of}
-use Rattle.tcp_replay.specs.World.{segment_at, stay_or, world_after, world_after_all, world_with_effect}
-use Rattle.tcp_replay.specs.Safe.{next_position}
-use Rattle.tcp_progress.specs.Fair.{Delivers, IsCalm, NoneGaveUp}
-use Rattle.tcp_progress.specs.Measure.{left_in, left_of_both}
-use Rattle.tcp_progress.specs.Settled.{least_life}
-use Rattle.tcp_progress.specs.Steady.{IsSteadyPair}
+use Rattle.std.proofs.Common.{[], ℕ, ◌++◌, ◌+◌, ◌<◌, ◌∙◌, ◌∷◌, ◌≡◌, ◌≤◌, ◌⊎◌, ap, arith, inl, inr, length, List, None, Ok, slice_get, Some, subst, suc, sym}
+use Rattle.std.proofs.Common.{true, zero}
+use Rattle.tcp_replay.proofs.Words.{AllByRecursion, Config, Content, count_numbers, decode_answer, number}
+use Rattle.tcp_replay.proofs.WorldWords.{Deliver, delivery_refusal, effect_of, EventContent, max_life, next_position, other, party_after_arrival, party_of}
+use Rattle.tcp_replay.proofs.WorldWords.{PartyState, segment_at, SentSegment, stay_or, world_after, world_after_all, world_with_effect, WorldState}
+use Rattle.tcp_progress.proofs.Words.{A, B, Delivers, IsCalm, IsSteadyPair, least_life, left_in, left_of_both, NoneGaveUp, Side}
 use Rattle.tcp_progress.proofs.AlwaysSteady.{kept-steady}
 use Rattle.tcp_progress.proofs.CalmWorlds.{steps-all, steps-event, steps-left}
 use Rattle.tcp_progress.proofs.Delivered.{IsOpenTo, delivered-at}

@@ -1,14 +1,13 @@
 -- WHERE NOTHING IS LEFT and both users have read all, TIME-WAIT runs out at both ends (RFC 9293, 3.10.8): then they have ended in order
 -- where both users closed.
-use Rattle.std.proofs.Common.{◌≡◌, refl, sym, ◌∙◌, subst}
-use Rattle.tcp_conn.specs.declared.phase.Timer.TheVariants as timers
-use Rattle.tcp_replay.specs.World.{WorldState, both, effect_of, party_after_timer, world_after_all}
-use Rattle.tcp_replay.proofs.Worlds.{kept-after_all}
-use Rattle.tcp_progress.specs.Fair.{time_waits}
-use Rattle.tcp_progress.specs.Settled.{IsSettled}
+use Rattle.std.proofs.Common.{◌∙◌, ◌≡◌, refl, subst, sym}
+use Rattle.tcp_replay.proofs.WorldWords.{both, effect_of, party_after_timer, world_after_all, WorldState}
+use Rattle.tcp_replay.proofs.Lemmas.{kept-after_all}
+use Rattle.tcp_progress.proofs.Words.{IsSettled, time_waits}
 use Rattle.tcp_progress.proofs.AlwaysSteady.{IsKept, kept-after, kept-steady}
 use Rattle.tcp_progress.proofs.Ended.{HasRead, IsComplete, at-end, complete-back, complete-on, ends-in-order, over-still}
 use Rattle.tcp_progress.proofs.Ready.{steady-back}
+use Rattle.tcp_conn.specs.declared.phase.Timer.TheVariants as timers
 
 time_waits-are : (w : WorldState)
     → world_after_all w time_waits ≡ both w.life (party_after_timer w.a timers.TimeWait) (party_after_timer w.b timers.TimeWait)

@@ -1,24 +1,9 @@
 -- What an end has had already wakes it (RFC 9293, 3.10.7.4, first): an old segment isn't acceptable, and an acknowledgement is owed for it.
-use Rattle.std.proofs.Common.{◌≡◌, ℕ, ◌+◌, ◌-◌, ◌≤◌, length, refl, ◌∙◌, ap, arith}
-use Rattle.std.specs.Prelude.{true, false, ◌==◌, Some, None, Ok, slice_get, pos, negsuc, ◌+ℤ◌, ◌≤ℤ◌}
-use Rattle.std.proofs.lemmas.Bool.Decides.{nat_tests}
-use Rattle.std.proofs.lemmas.Int.{ints}
-use Rattle.tcp_numbers.specs.Position.{is_inside, near, number, offset}
-use Rattle.tcp_wire.specs.Decoded.{decode_answer}
-use Rattle.tcp_wire.specs.Flags.{has, rst}
-use Rattle.tcp_wire.specs.Wire.{Content}
-use Rattle.tcp_wire.proofs.Lemmas.{offset_of_earlier}
-use Rattle.tcp_sendq.specs.SendQueue.{max_capacity}
-use Rattle.tcp_reasm.specs.Reassembly.{window}
-use Rattle.tcp_halves.specs.Acceptable.{is_acceptable}
-use Rattle.tcp_conn.specs.State.{with_ack_owed}
-use Rattle.tcp_conn.specs.Arrival.{after_arrival}
-use Rattle.tcp_conn.specs.Judgement.{count_numbers}
-use Rattle.tcp_replay.specs.World.{PartyState, SentSegment, delivery_refusal, party_after_arrival, segment_at, sent_at}
-use Rattle.tcp_replay.specs.Safe.{next_position}
-use Rattle.tcp_progress.specs.Answered.{IsUnacceptable}
-use Rattle.tcp_progress.specs.Settled.{least_life}
-use Rattle.tcp_progress.specs.Steady.{IsSteadyPair}
+use Rattle.std.proofs.Common.{ℕ, ◌+ℤ◌, ◌+◌, ◌-◌, ◌==◌, ◌∙◌, ◌≡◌, ◌≤ℤ◌, ◌≤◌, ap, arith, false, length, negsuc, None, Ok, pos, refl, slice_get, Some, true}
+use Rattle.tcp_replay.proofs.Words.{after_arrival, Content, count_numbers, decode_answer, has, ints, is_acceptable, is_inside, max_capacity, nat_tests, near}
+use Rattle.tcp_replay.proofs.Words.{number, offset, offset_of_earlier, rst, window, with_ack_owed}
+use Rattle.tcp_replay.proofs.WorldWords.{delivery_refusal, next_position, party_after_arrival, PartyState, segment_at, sent_at, SentSegment}
+use Rattle.tcp_progress.proofs.Words.{IsSteadyPair, IsUnacceptable, least_life}
 use Rattle.tcp_progress.proofs.Answer.{judged-old}
 use Rattle.tcp_progress.proofs.Delivered.{IsOpenTo}
 use Rattle.tcp_progress.proofs.Ready.{steady-back}
@@ -43,11 +28,13 @@ first-outside : (next window seq count : ℕ) → ((offset next seq +ℤ pos cou
 unfolding offset
 first-outside next window seq count behind some = grind (arith, ints, nat_tests)
 
-last-outside : (next window seq count : ℕ) → ((offset next seq +ℤ pos count) ≤ℤ pos 0) → 1 ≤ count → is_inside next window (near next seq +ℤ pos (count - 1)) ≡ false
+last-outside : (next window seq count : ℕ) → ((offset next seq +ℤ pos count) ≤ℤ pos 0) → 1 ≤ count
+    → is_inside next window (near next seq +ℤ pos (count - 1)) ≡ false
 unfolding offset
 last-outside next window seq count behind some = grind (arith, ints, nat_tests)
 
-old-unacceptable : (next window seq count : ℕ) → ((offset next seq +ℤ pos count) ≤ℤ pos 0) → 1 ≤ count → 1 ≤ window → is_acceptable next window seq count ≡ false
+old-unacceptable : (next window seq count : ℕ) → ((offset next seq +ℤ pos count) ≤ℤ pos 0) → 1 ≤ count → 1 ≤ window
+    → is_acceptable next window seq count ≡ false
 unfolding is_acceptable
 old-unacceptable next window seq count behind some wide =
     let counted : (count == 0) ≡ false = grind (arith, nat_tests, some) in
@@ -68,7 +55,8 @@ old-behind p q k v h opened old =
     rw (next, old.seq, place) (ends-behind (next_position q - at - 1) (count_numbers v) (omega (arith, old.ends, old.some)))
 
 -- ---- WHAT IT DOES: an acknowledgement is owed, and nothing else changes
-old-untaken : (p q : PartyState) (k : ℕ) (v : Content) → IsSteadyPair p q → IsOpenTo q → IsOld p q k v → IsUnacceptable q.endpoint p.endpoint.config.addr.0 q.endpoint.config.addr.0 v
+old-untaken : (p q : PartyState) (k : ℕ) (v : Content) → IsSteadyPair p q → IsOpenTo q → IsOld p q k v
+    → IsUnacceptable q.endpoint p.endpoint.config.addr.0 q.endpoint.config.addr.0 v
 old-untaken p q k v h ready old =
     let s = q.endpoint in
     let wide : 1 ≤ window s.receiving.inbox = omega (arith, h.back.within.size, ap length ready.read, h.pair.back.alone.config.good.0.1.0) in

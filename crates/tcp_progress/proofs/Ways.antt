@@ -1,22 +1,18 @@
 -- Ways on: quiet events one after another, at one of two parties or from one to the other, and what stays true on the way.
-use Rattle.std.proofs.Common.{◌≡◌, ℕ, zero, suc, List, [], ◌∷◌, ◌++◌, length, refl, sym, ◌∙◌, ap, subst}
-use Rattle.std.specs.Prelude.{Option, Some, None, slice_get}
-use Rattle.std.specs.List.{AllByRecursion}
-use Rattle.tcp_conn.specs.declared.phase.Timer.{Timer as Which}
-use Rattle.tcp_replay.specs.declared.event.Side.{Side}
-use Rattle.tcp_replay.specs.declared.event.Side.TheVariants.{A, B}
-use Rattle.tcp_replay.specs.declared.outcome.StepError.{StepError}
-use Rattle.tcp_replay.specs.Events.{EventContent, HasBytes, Connect, Listen, Send, Receive, Close, Abort, Acknowledge, Timer, Emit, Deliver, Damage}
-use Rattle.tcp_replay.specs.World.{WorldState, PartyState, SentSegment, other, world_from, segment_at, delivery_refusal, effect_of, refusal_of, world_with_effect, stop_of, stop_or, later, stay_or, run_of, party_after_receive, party_after_timer, party_after_emission, party_after_arrival}
-use Rattle.tcp_progress.specs.Resent.{after_emissions}
-use Rattle.tcp_progress.specs.Settled.{IsQuiet, CanReach}
-use Rattle.tcp_progress.specs.Steady.{IsSteady}
+use Rattle.std.proofs.Common.{[], ℕ, ◌++◌, ◌∙◌, ◌∷◌, ◌≡◌, ap, length, List, None, Option, refl, slice_get, Some, subst, suc, sym, zero}
+use Rattle.tcp_replay.proofs.Words.{AllByRecursion, Timer as Which}
+use Rattle.tcp_replay.proofs.WorldWords.{Deliver, delivery_refusal, effect_of, Emit, EventContent, HasBytes, later}
+use Rattle.tcp_replay.proofs.WorldWords.{other, party_after_arrival, party_after_emission, party_after_receive, party_after_timer, PartyState, Receive}
+use Rattle.tcp_replay.proofs.WorldWords.{refusal_of, run_of, segment_at, SentSegment, stay_or, stop_of, stop_or, Timer, world_from, world_with_effect}
+use Rattle.tcp_replay.proofs.WorldWords.{WorldState}
+use Rattle.tcp_progress.proofs.Words.{A, after_emissions, B, CanReach, IsQuiet, IsSteady, Side, StepError}
 
 unfoldable pub reach-here : {P : WorldState → Type 0} {w : WorldState} → P w → CanReach P w
 unfolding stop_of run_of
 reach-here h = record { events = []; quiet = tt; goes_on = refl; reached = h }
 
-unfoldable pub reach-step : {P : WorldState → Type 0} {w : WorldState} (event : EventContent) → IsQuiet event → refusal_of w event ≡ None → CanReach P (world_with_effect w event) → CanReach P w
+unfoldable pub reach-step : {P : WorldState → Type 0} {w : WorldState} (event : EventContent) → IsQuiet event → refusal_of w event ≡ None
+    → CanReach P (world_with_effect w event) → CanReach P w
 unfolding stop_of run_of
 reach-step {P} {w} event quiet goes way = record {
   events = event ∷ way.events;
@@ -35,7 +31,8 @@ goes None None e = record { first = refl; others = refl }
 goes None (Some stop) e = absurd (cc)
 goes (Some error) rest e = absurd (cc)
 
-then-all : {P Q : WorldState → Type 0} (w : WorldState) (events : List EventContent) → AllByRecursion IsQuiet events → stop_of w events ≡ None → Q (run_of w events)
+then-all : {P Q : WorldState → Type 0} (w : WorldState) (events : List EventContent) → AllByRecursion IsQuiet events → stop_of w events ≡ None
+    → Q (run_of w events)
     → ((v : WorldState) → Q v → CanReach P v) → CanReach P w
 unfolding stop_of run_of
 then-all w [] quiet e h next = next w h
@@ -57,13 +54,7 @@ quiet-bytes (Receive side room) quiet = tt
 quiet-bytes (Timer side which) quiet = tt
 quiet-bytes (Emit side) quiet = tt
 quiet-bytes (Deliver from k) quiet = tt
-quiet-bytes (Connect side) quiet = absurd quiet
-quiet-bytes (Listen side) quiet = absurd quiet
-quiet-bytes (Send side text) quiet = absurd quiet
-quiet-bytes (Close side) quiet = absurd quiet
-quiet-bytes (Abort side) quiet = absurd quiet
-quiet-bytes (Acknowledge side) quiet = absurd quiet
-quiet-bytes (Damage from k place value) quiet = absurd quiet
+quiet-bytes other quiet = absurd quiet
 
 -- one event more, after which all that stays true still is
 pub reach-kept : {K P : WorldState → Type 0} {w : WorldState} → IsInvariant K → (event : EventContent) → IsQuiet event → refusal_of w event ≡ None → K w
@@ -76,26 +67,31 @@ other-side life A p q = refl
 other-side life B p q = refl
 
 pub by-reading : {K P : WorldState → Type 0} → IsInvariant K → (life : ℕ) (side : Side) (p q : PartyState) (room : ℕ) → K (world_from life side p q)
-    → (K (world_from life side (party_after_receive p room) q) → CanReach P (world_from life side (party_after_receive p room) q)) → CanReach P (world_from life side p q)
+    → (K (world_from life side (party_after_receive p room) q) → CanReach P (world_from life side (party_after_receive p room) q))
+    → CanReach P (world_from life side p q)
 unfolding effect_of
 by-reading i life A p q room h next = reach-kept i (Receive A room) tt refl h next
 by-reading i life B p q room h next = reach-kept i (Receive B room) tt refl h next
 
 pub by-timer : {K P : WorldState → Type 0} → IsInvariant K → (life : ℕ) (side : Side) (p q : PartyState) (which : Which) → K (world_from life side p q)
-    → (K (world_from life side (party_after_timer p which) q) → CanReach P (world_from life side (party_after_timer p which) q)) → CanReach P (world_from life side p q)
+    → (K (world_from life side (party_after_timer p which) q) → CanReach P (world_from life side (party_after_timer p which) q))
+    → CanReach P (world_from life side p q)
 unfolding effect_of
 by-timer i life A p q which h next = reach-kept i (Timer A which) tt refl h next
 by-timer i life B p q which h next = reach-kept i (Timer B which) tt refl h next
 
 pub by-emission : {K P : WorldState → Type 0} → IsInvariant K → (life : ℕ) (side : Side) (p q : PartyState) → K (world_from life side p q)
-    → (K (world_from life side (party_after_emission p) q) → CanReach P (world_from life side (party_after_emission p) q)) → CanReach P (world_from life side p q)
+    → (K (world_from life side (party_after_emission p) q) → CanReach P (world_from life side (party_after_emission p) q))
+    → CanReach P (world_from life side p q)
 unfolding effect_of
 by-emission i life A p q h next = reach-kept i (Emit A) tt refl h next
 by-emission i life B p q h next = reach-kept i (Emit B) tt refl h next
 
 -- from p to q
-pub by-delivery : {K P : WorldState → Type 0} → IsInvariant K → (life : ℕ) (side : Side) (p q : PartyState) (k : ℕ) → delivery_refusal life p q k ≡ None → K (world_from life side p q)
-    → (K (world_from life side p (party_after_arrival q p (segment_at p k))) → CanReach P (world_from life side p (party_after_arrival q p (segment_at p k)))) → CanReach P (world_from life side p q)
+pub by-delivery : {K P : WorldState → Type 0} → IsInvariant K → (life : ℕ) (side : Side) (p q : PartyState) (k : ℕ) → delivery_refusal life p q k ≡ None
+    → K (world_from life side p q)
+    → (K (world_from life side p (party_after_arrival q p (segment_at p k))) → CanReach P (world_from life side p (party_after_arrival q p (segment_at p k))))
+    → CanReach P (world_from life side p q)
 unfolding effect_of
 by-delivery i life A p q k e h next = reach-kept i (Deliver A k) tt e h next
 by-delivery i life B p q k e h next = reach-kept i (Deliver B k) tt e h next
@@ -106,7 +102,8 @@ party_after_emissions zero p = p
 party_after_emissions (suc n) p = party_after_emissions n (party_after_emission p)
 
 pub by-emissions : {K P : WorldState → Type 0} → IsInvariant K → (n life : ℕ) (side : Side) (p q : PartyState) → K (world_from life side p q)
-    → (K (world_from life side (party_after_emissions n p) q) → CanReach P (world_from life side (party_after_emissions n p) q)) → CanReach P (world_from life side p q)
+    → (K (world_from life side (party_after_emissions n p) q) → CanReach P (world_from life side (party_after_emissions n p) q))
+    → CanReach P (world_from life side p q)
 by-emissions i zero life side p q h next = next h
 by-emissions i (suc n) life side p q h next = by-emission i life side p q h (λ h'. by-emissions i n life side (party_after_emission p) q h' next)
 

@@ -1,37 +1,22 @@
 -- ONE END by itself: what a rule may do to it, whoever its peer is, and a segment that it takes, stage by stage.
-use Rattle.std.proofs.Common.{◌≡◌, ℕ, List, [], refl, sym, ◌∙◌, ⊎_elim, arith, length, ◌+◌, ◌≤◌, ◌^◌, ◌<◌, ◌∷◌}
-use Rattle.std.specs.Prelude.{Bool, true, false, ◌||◌, Option, Some, None, IfSome, max, not, ◌&&◌, nat_lt, nat_le, ◌==◌, if◌then◌else◌}
-use Rattle.std.proofs.lemmas.Bool.{or_cases, false≢true, cond_both, ltb-true, leb-true, and_parts, not-true}
-use Rattle.tcp_halves.specs.declared.config.Config.{Config}
-use Rattle.tcp_halves.specs.Config.{IsConfig}
-use Rattle.tcp_halves.specs.declared.link.WaitingReset.{WaitingReset}
-use Rattle.tcp_conn.specs.declared.phase.Ending.{Ending}
-use Rattle.tcp_conn.specs.declared.phase.Ending.TheVariants.{NotEnded}
-use Rattle.tcp_conn.specs.Phase.{has_peer, gives_up, is_closed, is_syn_received, is_last_ack, takes_text, phase_after_own_fin, phase_after_fin, is_handshake}
-use Rattle.tcp_conn.specs.State.{State, Sending, with_ack_owed, place_of}
-use Rattle.tcp_conn.specs.NewEnd.{new_end}
-use Rattle.tcp_conn.specs.Endings.{after_orderly_end, after_giving_up}
-use Rattle.tcp_conn.specs.Arrival.{first_reset, with_reset, after_own_syn, after_acked_text, blocks_used, is_current, after_news, after_own_fin, after_its_ack}
-use Rattle.tcp_conn.specs.Arrival.{takes_text_of, after_its_text, has_fin, takes_fin, after_fin, after_taking, after_taking_shut}
-use Rattle.tcp_replay.specs.Alone.{Sends, FitsPhase, IsWritable, IsAlone}
+use Rattle.std.proofs.Common.{[], ℕ, ⊎_elim, ◌&&◌, ◌+◌, ◌<◌, ◌==◌, ◌^◌, ◌||◌, ◌∙◌, ◌≡◌, ◌≤◌, arith, Bool, false, IfSome, if◌then◌else◌, length, List, max}
+use Rattle.std.proofs.Common.{nat_le, nat_lt, None, not, Option, refl, Some, sym, true}
+use Rattle.tcp_replay.proofs.Words.{acks_more, after_ack, after_acked_text, after_block, after_fin, after_giving_up, after_its_ack}
+use Rattle.tcp_replay.proofs.Words.{after_its_text, after_mark, after_news, after_orderly_end, after_own_fin, after_own_syn, after_taking, after_taking_shut}
+use Rattle.tcp_replay.proofs.Words.{after_text, after_window_update, and_parts, can_mark, cond_both, Config, Content, count_below, Ending}
+use Rattle.tcp_replay.proofs.Words.{Established, false≢true, fin, FinWait1, first_reset, gives_up, has, has_fin, has_peer, is_closed}
+use Rattle.tcp_replay.proofs.Words.{is_fin_due, is_handshake, is_newer, is_of_flight, is_syn_received, IsConfig, leb-true, length-marks_with}
+use Rattle.tcp_replay.proofs.Words.{ltb-true, marks_text, marks_with, new_end, not-true, NotEnded, number, or_cases, phase_after_fin, phase_after_own_fin}
+use Rattle.tcp_replay.proofs.Words.{place_of, position_near, Sending, State, takes_fin, takes_text, takes_text_of, WaitingReset, window_from}
+use Rattle.tcp_replay.proofs.Words.{with_ack_owed, with_acked, with_fin, with_marks, with_reset, with_syn_acked, with_window, without_resend}
+use Rattle.tcp_replay.proofs.WorldWords.{FitsPhase, IsAlone, IsWritable, Sends}
 use Rattle.tcp_replay.proofs.Halves.{sends-given_up, sends-syn_acked, sends-acked}
 use Rattle.tcp_replay.proofs.Phases.{gives_up-not_ended, is_synchronized, end-syn_received, end-synchronized, end-takes_text, synchronized-knows}
 use Rattle.tcp_replay.proofs.Phases.{takes_text-synchronized, present-knows, own_syn-synchronized, fits-own_syn, knows-own_syn, fits-acked, fits-own_fin}
 use Rattle.tcp_replay.proofs.Phases.{knows-own_fin, handshake-own_fin, synchronized-own_fin, fits-fin, knows-fin, handshake-fin}
-use Rattle.tcp_halves.specs.Sender.{without_resend, acks_more, with_acked, after_ack, with_syn_acked, is_newer, with_window, after_window_update, count_below}
-use Rattle.tcp_halves.specs.Sender.{is_fin_acked}
-use Rattle.tcp_wire.specs.Position.{number, position_of}
-use Rattle.tcp_wire.specs.Flags.{fin, has}
-use Rattle.tcp_wire.specs.Wire.{Content}
-use Rattle.tcp_sendq.specs.SendQueue.{marks_with, can_mark, after_mark}
-use Rattle.tcp_sendq.proofs.Kept.{length-marks_with}
-use Rattle.tcp_conn.specs.declared.phase.Phase.TheVariants.{Established, FinWait1}
-use Rattle.tcp_conn.specs.Windows.{window_from}
-use Rattle.tcp_conn.specs.Blocks.{is_of_flight, marks_text, with_marks, after_block, after_blocks}
-use Rattle.tcp_halves.specs.Receiver.{after_text, is_fin_due, with_fin}
-use Rattle.tcp_conn.specs.Judgement.{position_near}
 use Rattle.tcp_replay.proofs.Lists.{by_test}
 use Rattle.tcp_replay.proofs.Judgements.{IsPresent}
+use Rattle.tcp_replay.proofs.Cases.{own_fin-cases, news-cases}
 
 -- a new end
 pub alone-new : (c : Config) → IsConfig c → IsAlone (new_end c) [] false
@@ -50,8 +35,7 @@ alone-new c is = record {
         limit = omega arith;
         capacity = is.good.0.0.1;
         ahead = omega arith;
-        bytes =
-            λ i. omega arith;
+        bytes = λ i. omega arith;
         released = refl;
         queue = λ _. refl;
         flags = refl;
@@ -67,6 +51,7 @@ pub first_reset-keeps : (P : WaitingReset → Type 0) (waiting : Option WaitingR
 first_reset-keeps P None reset h fits = fits
 first_reset-keeps P (Some waiting) reset h fits = h
 
+-- a reset may wait at any end
 pub alone-reset : (s : State) (accepted : List ℕ) (closed : Bool) (reset : WaitingReset) → IsWritable reset → IsAlone s accepted closed
     → IsAlone (with_reset s reset) accepted closed
 alone-reset s accepted closed reset fits h =
@@ -78,6 +63,7 @@ pub alone-owing : (s : State) (accepted : List ℕ) (closed : Bool) → has_peer
     → IsAlone (with_ack_owed s) accepted closed
 alone-owing s accepted closed knows opened h = assumption
 
+-- an acknowledgement may be owed where the peer is known and its SYN was taken
 pub alone-ack_owed : (s : State) (accepted : List ℕ) (closed owing : Bool) → (owing ≡ true → (has_peer s.phase ≡ true) × (s.receiving.opened ≡ true))
     → IsAlone s accepted closed
     → IsAlone (record s { owed = record s.owed { ack = s.owed.ack || owing } }) accepted closed
@@ -183,6 +169,7 @@ alone-acked s accepted closed a synced h =
     assumption)
     (λ _. h)
 
+-- so it is of the acknowledgement of a segment, read near SND.UNA
 pub alone-acked_text : (s : State) (accepted : List ℕ) (closed : Bool) (v : Content) → is_synchronized s.phase ≡ true → IsAlone s accepted closed
     → IsAlone (after_acked_text s v) accepted closed
 unfolding after_acked_text
@@ -197,55 +184,57 @@ pub record SameText (d d' : Sending) (accepted : List ℕ) (closed gone : Bool) 
 same-text : (d : Sending) (accepted : List ℕ) (closed gone : Bool) → Sends d accepted closed gone → SameText d d accepted closed gone
 same-text d accepted closed gone h = record { una = refl; nxt = refl; sends = h }
 
+-- a window is no part of it
+pub windowed-sends : (d : Sending) (seq ack window : ℕ) (accepted : List ℕ) (closed gone : Bool) → Sends d accepted closed gone
+    → Sends (with_window d seq ack window) accepted closed gone
+windowed-sends d seq ack window accepted closed gone h = assumption
+
+-- a window update leaves SND.UNA and SND.NXT, and what is kept of the half that sends
 pub same-window : (d : Sending) (seq ack window : ℕ) (accepted : List ℕ) (closed gone : Bool) → Sends d accepted closed gone
     → SameText d (after_window_update d seq ack window) accepted closed gone
 unfolding after_window_update
 same-window d seq ack window accepted closed gone h =
     cond_both (is_newer d seq ack) (with_window d seq ack window) d (λ (x : Sending). SameText d x accepted closed gone)
-    (λ _. let una : d.una ≡ d.una = refl in let nxt : d.nxt ≡ d.nxt = refl in assumption) (λ _. same-text d accepted closed gone h)
+    (λ _. record { una = refl; nxt = refl; sends = windowed-sends d seq ack window accepted closed gone h }) (λ _. same-text d accepted closed gone h)
 
-pub same-marks : (d : Sending) (left right : ℕ) (accepted : List ℕ) (closed gone : Bool) → Sends d accepted closed gone
-    → SameText d (after_block d left right) accepted closed gone
-unfolding after_block after_mark
-same-marks d left right accepted closed gone h =
+-- there are as many marks as queued bytes where a block is marked
+pub marked-sends : (d : Sending) (left right : ℕ) (accepted : List ℕ) (closed gone : Bool) → marks_text d left right ≡ true → Sends d accepted closed gone
+    → Sends (with_marks d left right) accepted closed gone
+unfolding after_mark
+marked-sends d left right accepted closed gone e h =
     let from = place_of d left in
     let to = count_below d right in
-    cond_both (marks_text d left right) (with_marks d left right) d (λ (x : Sending). SameText d x accepted closed gone)
-    (λ e.
     let order : from < to = ltb-true from to (and_parts (is_of_flight d left right) (nat_lt from to) e).1 in
     cond_both (can_mark d.queue from to) (marks_with from to d.queue.marks) d.queue.marks
-    (λ (marks : List Bool). SameText d (record d { queue = record d.queue { marks = marks } }) accepted closed gone)
+    (λ (marks : List Bool). Sends (record d { queue = record d.queue { marks = marks } }) accepted closed gone)
     (λ _.
     let flags : length (marks_with from to d.queue.marks) ≡ length d.queue.bytes = length-marks_with from to d.queue.marks (omega arith)
     (omega (arith, h.flags)) ∙ h.flags in
-    let una : d.una ≡ d.una = refl in let nxt : d.nxt ≡ d.nxt = refl in assumption)
-    (λ _. same-text d accepted closed gone h))
-    (λ _. same-text d accepted closed gone h)
+    assumption)
+    (λ _. h)
 
-same-blocks : (iss : ℕ) (d : Sending) (blocks : List (ℕ × ℕ)) (accepted : List ℕ) (closed gone : Bool) → Sends d accepted closed gone
-    → SameText d (after_blocks iss d blocks) accepted closed gone
-same-blocks iss d [] accepted closed gone h = same-text d accepted closed gone h
-same-blocks iss d (block ∷ blocks) accepted closed gone h =
-    let first = same-marks d (position_of iss d.una block.0) (position_of iss d.una block.1) accepted closed gone h in
-    let rest = same-blocks iss (after_block d (position_of iss d.una block.0) (position_of iss d.una block.1)) blocks accepted closed gone first.sends in
-    record { una = rest.una ∙ first.una; nxt = rest.nxt ∙ first.nxt; sends = rest.sends }
+-- a reported block marks queued bytes, and leaves these, too
+pub same-marks : (d : Sending) (left right : ℕ) (accepted : List ℕ) (closed gone : Bool) → Sends d accepted closed gone
+    → SameText d (after_block d left right) accepted closed gone
+unfolding after_block
+same-marks d left right accepted closed gone h =
+    cond_both (marks_text d left right) (with_marks d left right) d (λ (x : Sending). SameText d x accepted closed gone)
+    (λ e. record { una = refl; nxt = refl; sends = marked-sends d left right accepted closed gone e h }) (λ _. same-text d accepted closed gone h)
 
+-- so it is of window and blocks of a segment together
 pub same-news : (s : State) (accepted : List ℕ) (closed gone : Bool) (v : Content) → Sends s.sending accepted closed gone
     → SameText s.sending (after_news s v).sending accepted closed gone
-unfolding after_news
 same-news s accepted closed gone v h =
-    let d = s.sending in
-    let told = window_from s.link v.window in
-    let first = same-window d v.seq v.ack told accepted closed gone h in
-    let rest = same-blocks s.config.isn.0 (after_window_update d v.seq v.ack told) (blocks_used s v) accepted closed gone first.sends in
-    cond_both (is_current s v) (after_blocks s.config.isn.0 (after_window_update d v.seq v.ack told) (blocks_used s v)) d
-    (λ (x : Sending). SameText d x accepted closed gone)
-    (λ _. record { una = rest.una ∙ first.una; nxt = rest.nxt ∙ first.nxt; sends = rest.sends }) (λ _. same-text d accepted closed gone h)
+    news-cases (λ d. SameText s.sending d accepted closed gone) s v
+    (λ d k. record { una = k.una; nxt = k.nxt; sends = windowed-sends d v.seq v.ack _ accepted closed gone k.sends })
+    (λ d left right e k. record { una = k.una; nxt = k.nxt; sends = marked-sends d left right accepted closed gone e k.sends })
+    (same-text s.sending accepted closed gone h)
 
 news-sending : (s : State) (v : Content) → after_news s v ≡ record s { sending = (after_news s v).sending }
 unfolding after_news
 news-sending s v = refl
 
+-- an end keeps what it keeps over window and blocks
 pub alone-news : (s : State) (accepted : List ℕ) (closed : Bool) (v : Content) → IsAlone s accepted closed → IsAlone (after_news s v) accepted closed
 alone-news s accepted closed v h =
     let same = same-news s accepted closed (gives_up s.ending) v h.sends in
@@ -266,24 +255,14 @@ own_fin-phase s accepted closed h =
 
 alone-own_fin : (s : State) (accepted : List ℕ) (closed : Bool) → is_synchronized s.phase ≡ true → IsAlone s accepted closed
     → IsAlone (after_own_fin s) accepted closed
-unfolding after_own_fin
 alone-own_fin s accepted closed synced h =
-    let d = s.sending in
-    let at = end-synchronized s synced h.progress in
-    cond_both (is_fin_acked d) (if is_last_ack s.phase then after_orderly_end s else record s { phase = phase_after_own_fin s.phase }) s
-    (λ (x : State). IsAlone x accepted closed)
-    (λ _. cond_both (is_last_ack s.phase) (after_orderly_end s) (record s { phase = phase_after_own_fin s.phase }) (λ (x : State). IsAlone x accepted closed)
-    (λ _. alone-orderly s accepted closed at.0 h) (λ _. own_fin-phase s accepted closed h))
-    (λ _. h)
+    own_fin-cases s (λ (x : State). IsAlone x accepted closed) (λ _ _. alone-orderly s accepted closed (end-synchronized s synced h.progress).0 h)
+    (λ _ _. own_fin-phase s accepted closed h) (λ _. h)
 
 own_fin-goes_on : (s : State) → is_synchronized s.phase ≡ true → is_closed (after_own_fin s).phase ≡ false → is_synchronized (after_own_fin s).phase ≡ true
-unfolding after_own_fin
 own_fin-goes_on s synced =
-    let P : State → Type 0 = λ x. is_closed x.phase ≡ false → is_synchronized x.phase ≡ true in
-    cond_both (is_fin_acked s.sending) (if is_last_ack s.phase then after_orderly_end s else record s { phase = phase_after_own_fin s.phase }) s P
-    (λ _. cond_both (is_last_ack s.phase) (after_orderly_end s) (record s { phase = phase_after_own_fin s.phase }) P
-    (λ _ never. absurd (cc)) (λ _ _. synchronized-own_fin s.phase ∙ synced))
-    (λ _ _. synced)
+    own_fin-cases s (λ x. is_closed x.phase ≡ false → is_synchronized x.phase ≡ true) (λ _ _ never. absurd (cc))
+    (λ _ _ _. synchronized-own_fin s.phase ∙ synced) (λ _ _. synced)
 
 -- ALL OF AN ACKNOWLEDGEMENT, whatever it acknowledges
 pub own_syn-synced : (s : State) (v : Content) → IsPresent s → is_synchronized (after_own_syn s v).phase ≡ true
@@ -294,6 +273,7 @@ news-synced : (s : State) (v : Content) → IsPresent s → is_synchronized (aft
 unfolding after_own_syn after_acked_text after_news
 news-synced s v present = own_syn-synchronized s.phase s.closing present.shut present.listening present.syn_sent
 
+-- and over all that an acknowledgement does
 pub alone-its_ack : (s : State) (accepted : List ℕ) (closed : Bool) (v : Content) → IsPresent s → IsAlone s accepted closed
     → IsAlone (after_its_ack s v) accepted closed
 unfolding after_its_ack
@@ -315,6 +295,7 @@ owes-taking s accepted closed e h = (
   (end-takes_text s e h.progress).1.is_opened,
 )
 
+-- an end keeps what it keeps where text is placed,
 pub alone-text : (s : State) (accepted : List ℕ) (closed : Bool) (v : Content) → IsAlone s accepted closed
     → IsAlone (record s { receiving = after_text s.receiving v.seq v.text }) accepted closed
 unfolding after_text
@@ -322,11 +303,7 @@ alone-text s accepted closed v h =
     let next : (after_text s.receiving v.seq v.text).next < 2 ^ 32 = omega arith in
     assumption
 
--- an acknowledgement is owed for it
-text-owes : (s : State) (accepted : List ℕ) (closed : Bool) (v : Content) → IsAlone s accepted closed → takes_text_of s v ≡ true
-    → (has_peer s.phase ≡ true) × (s.receiving.opened ≡ true)
-text-owes s accepted closed v h e = owes-taking s accepted closed (and_parts (takes_text s.phase) (not (length v.text == 0)) e).0 h
-
+-- and where text comes, placed or not
 pub alone-its_text : (s : State) (accepted : List ℕ) (closed : Bool) (v : Content) → IsAlone s accepted closed → IsAlone (after_its_text s v) accepted closed
 unfolding after_its_text
 alone-its_text s accepted closed v h =
@@ -381,19 +358,24 @@ alone-taking s accepted closed v present h =
     alone-fin (after_its_text (after_its_ack s v) v) accepted closed v
     (alone-its_text (after_its_ack s v) accepted closed v (alone-its_ack s accepted closed v present h))
 
--- what an acknowledgement is owed for
+-- where an answer is owed to what was taken while the window is shut
+abbrev pub owes_shut : State → Bool
+owes_shut x = not (is_closed x.phase)
+
+-- then the peer is known, and its SYN was taken
 pub owes-going_on : (s : State) (accepted : List ℕ) (closed : Bool) (v : Content) → IsPresent s → IsAlone (after_its_ack s v) accepted closed
-    → not (is_closed (after_its_ack s v).phase) ≡ true
+    → owes_shut (after_its_ack s v) ≡ true
     → (has_peer (after_its_ack s v).phase ≡ true) × ((after_its_ack s v).receiving.opened ≡ true)
 owes-going_on s accepted closed v present h e =
     let x = after_its_ack s v in
     let synced : is_synchronized x.phase ≡ true = its_ack-goes_on s v present (not-true (is_closed x.phase) e) in
     (synchronized-knows x.phase synced, (end-synchronized x synced h.progress).1.is_opened)
 
+-- while the window is shut only the acknowledgement is taken
 pub alone-taking_shut : (s : State) (accepted : List ℕ) (closed : Bool) (v : Content) → IsPresent s → IsAlone s accepted closed
     → IsAlone (after_taking_shut s v) accepted closed
 unfolding after_taking_shut
 alone-taking_shut s accepted closed v present h =
     let x = after_its_ack s v in
     let first = alone-its_ack s accepted closed v present h in
-    alone-ack_owed x accepted closed (not (is_closed x.phase)) (owes-going_on s accepted closed v present first) first
+    alone-ack_owed x accepted closed (owes_shut x) (owes-going_on s accepted closed v present first) first

@@ -1,18 +1,15 @@
 -- ONE END by itself: a segment that arrives, whatever is judged of it, and the user's calls and the timers.
-use Rattle.std.proofs.Common.{◌≡◌, ℕ, ◌^◌, ◌<◌, List, refl, arith, ◌-◌, ◌≤◌, ◌++◌, length, take, sym, ◌∙◌, ap, ⊎_elim, length-drop, ◌+◌}
-use Rattle.std.specs.Prelude.{Bool, true, IfSome, Option, Some, None, false, not, ◌&&◌, ◌==◌, nat_lt, ◌||◌, max, replicate}
-use Rattle.std.proofs.lemmas.Bool.{cond_both, and_parts, or_cases}
-use Rattle.tcp_wire.specs.Position.{number}
-use Rattle.tcp_wire.specs.Flags.{ack, has}
-use Rattle.tcp_wire.specs.Wire.{Content, IsValid}
-use Rattle.tcp_numbers.specs.declared.seq.Seq.{Seq}
-use Rattle.tcp_conn.specs.declared.judgement.Judgement.{Judgement}
-use Rattle.tcp_conn.specs.declared.phase.Ending.TheVariants.{Reset, NotEnded, Aborted}
-use Rattle.tcp_conn.specs.Phase.{is_listening, is_syn_sent, gives_up, has_peer, is_closed, is_handshake, takes_text, sends_text, resets_on_abort, is_ended}
-use Rattle.tcp_conn.specs.State.{State, with_ack_owed, Sending}
-use Rattle.tcp_conn.specs.Judgement.{count_numbers, judgement}
-use Rattle.tcp_conn.specs.Arrival.{reset_at_ack, reset_of_stray, with_reset, after_peer_opens, after_peer_accepts, after_judgement}
-use Rattle.tcp_replay.specs.Alone.{IsWritable, IsAlone, Sends}
+use Rattle.std.proofs.Common.{ℕ, ⊎_elim, ◌&&◌, ◌++◌, ◌+◌, ◌-◌, ◌<◌, ◌==◌, ◌^◌, ◌||◌, ◌∙◌, ◌≡◌, ◌≤◌, ap, arith, Bool, false, IfSome, length, length-drop, List}
+use Rattle.std.proofs.Common.{max, nat_lt, None, not, Option, refl, replicate, Some, sym, take, true}
+use Rattle.tcp_replay.proofs.Words.{Aborted, ack, advertised_window, after_judgement, after_peer_accepts, after_peer_opens, after_read, and_parts, AreBytes}
+use Rattle.tcp_replay.proofs.Words.{cond_both, Content, count_numbers, count_sendable, end_of_marks, end_of_marks-le, Ended, gives_up, has, has_peer, is_closed}
+use Rattle.tcp_replay.proofs.Words.{is_ended, is_full, is_handshake, is_listening, is_syn_sent, IsValid, Judgement, judgement, last_mark_end, length-replicate}
+use Rattle.tcp_replay.proofs.Words.{Listen, NotConnected, NotEnded, NotOpen, number, open_refusal, opens_window, option_or, or_cases, own_reset, Peer}
+use Rattle.tcp_replay.proofs.Words.{phase_after_close, position_at, Queue, receive_refusal, refusal_if, reset_after_abort, reset_at_ack, reset_of_stray}
+use Rattle.tcp_replay.proofs.Words.{resets_on_abort, send_refusal, Sending, sends_text, Seq, State, StreamFull, takes_text, WaitingReset, with_ack_owed}
+use Rattle.tcp_replay.proofs.Words.{with_all_resent, with_bytes_received, with_connection, with_gaps_resent, with_reset, with_text, without_marks}
+use Rattle.tcp_replay.proofs.WorldWords.{IsAlone, IsWritable, PartyState, Sends}
+use Rattle.tcp_conn.specs.declared.phase.Ending.TheVariants.{Reset}
 use Rattle.tcp_replay.proofs.Halves.{sends-syn, sends-syn_acked, sends-more, sends-closed}
 use Rattle.tcp_replay.proofs.Phases.{end-listen, end-syn_sent, syn_sent-knows, present-knows, present-opened, gives_up-not_ended, not_ended, end-closed}
 use Rattle.tcp_replay.proofs.Phases.{closed-unknown, resets_on_abort-knows, handshake-knows, sends_text-synchronized, time_wait-synchronized, end-synchronized}
@@ -20,28 +17,14 @@ use Rattle.tcp_replay.proofs.Phases.{fits-closing, knows-closing, handshake-clos
 use Rattle.tcp_replay.proofs.Alone.{alone-reset, alone-owing, alone-given_up, alone-taking, alone-taking_shut, alone-ack_owed, alone-orderly, alone-sending}
 use Rattle.tcp_replay.proofs.Alone.{owes-taking}
 use Rattle.tcp_replay.proofs.Judgements.{IsPresent, judged}
-use Rattle.std.specs.Option.{option_or}
-use Rattle.std.proofs.lemmas.List.{length-replicate}
-use Rattle.tcp_wire.specs.Checksum.{AreBytes}
-use Rattle.tcp_sendq.specs.SendQueue.{Queue, without_marks, end_of_marks, last_mark_end}
-use Rattle.tcp_sendq.proofs.Places.{end_of_marks-le}
-use Rattle.tcp_reasm.specs.Reassembly.{after_read}
-use Rattle.tcp_halves.specs.declared.link.Peer.{Peer}
-use Rattle.tcp_halves.specs.declared.link.WaitingReset.{WaitingReset}
-use Rattle.tcp_conn.specs.declared.outcome.CallError.TheVariants.{NotOpen, Closing, Ended, StreamFull, NotConnected}
-use Rattle.tcp_conn.specs.declared.phase.Phase.TheVariants.{Listen}
-use Rattle.tcp_halves.specs.Sender.{count_sendable, with_text, with_all_resent, with_gaps_resent}
-use Rattle.tcp_conn.specs.Calls.{refusal_if, open_refusal, with_connection, is_full, send_refusal, receive_refusal, opens_window, with_bytes_received}
-use Rattle.tcp_conn.specs.Calls.{phase_after_close, own_reset, reset_after_abort}
-use Rattle.tcp_conn.specs.Windows.{advertised_window}
+use Rattle.tcp_conn.specs.declared.outcome.CallError.TheVariants.{Closing}
 use Rattle.tcp_replay.proofs.Calls.{CanOpen, KeptByCalls, option_or-none, owed_on_timeout, refusal_if-none}
-use Rattle.tcp_replay.specs.World.{PartyState}
-use Rattle.tcp_halves.specs.Sender.{position_at}
 
 -- RESETS can be written
 pub writable-at_ack : (src : List ℕ) (v : Content) → IsValid v → IsWritable (reset_at_ack src v)
 writable-at_ack src v valid = record { port = valid.src_port; seq = valid.ack; ack = tt }
 
+-- the answer to a stray segment fits its fields
 pub writable-stray : (src : List ℕ) (v : Content) → IsValid v → IsWritable (reset_of_stray src v)
 writable-stray src v valid = record {
   port = valid.src_port;
@@ -111,6 +94,7 @@ refused_shut s accepted closed src v valid h present =
     owing-present (with_reset s (reset_at_ack src v)) accepted closed (alone-reset s accepted closed (reset_at_ack src v) (writable-at_ack src v valid) h)
     (record { shut = present.shut; listening = present.listening; syn_sent = present.syn_sent })
 
+-- whatever is judged of a segment, the end keeps what it keeps by itself
 pub alone-judgement : (s : State) (accepted : List ℕ) (closed : Bool) (src dst : List ℕ) (v : Content) → IsValid v → IsAlone s accepted closed
     → IsAlone (after_judgement (judgement s src dst v) s src v) accepted closed
 alone-judgement s accepted closed src dst v valid h =
@@ -159,6 +143,7 @@ alone-connection s accepted closed peer port can h =
       unopened = h.unopened;
     }
 
+-- LISTEN
 pub alone-passive : (s : State) (accepted : List ℕ) (closed : Bool) → CanOpen s → IsAlone s accepted closed
     → IsAlone (record s { phase = Listen }) accepted closed
 alone-passive s accepted closed can h =
@@ -193,6 +178,7 @@ send-open s text e =
 pub send-unclosed : (s : State) (accepted text : List ℕ) (closed : Bool) → send_refusal s text ≡ None → IsAlone s accepted closed → closed ≡ false
 send-unclosed s accepted text closed e h = sym h.closing ∙ (send-open s text e).1
 
+-- what the queue has room for is accepted
 pub alone-with_text : (s : State) (accepted text : List ℕ) (closed : Bool) → AreBytes text → send_refusal s text ≡ None → IsAlone s accepted closed
     → IsAlone (record s { sending = with_text s.sending s.config.limit text }) (accepted ++ take (count_sendable s.sending s.config.limit text) text) closed
 alone-with_text s accepted text closed bytes e h =
@@ -209,6 +195,7 @@ receive-open s e =
     refusal_if-none (gives_up s.ending) (Ended s.ending)
     (option_or-none (refusal_if (gives_up s.ending) (Ended s.ending)) (refusal_if (is_closed s.phase && not (is_ended s.ending)) NotOpen) e).0
 
+-- a read may open the window, which owes an acknowledgement
 pub alone-bytes_received : (s : State) (accepted : List ℕ) (closed : Bool) (room : ℕ) → IsAlone s accepted closed
     → IsAlone (with_bytes_received s room) accepted closed
 alone-bytes_received s accepted closed room h =
@@ -226,6 +213,7 @@ alone-close_asked s accepted closed h =
     let sends = sends-closed s.sending accepted closed (gives_up s.ending) h.sends in
     assumption
 
+-- the phase after a close: the FIN is still to be sent
 pub alone-close_begun : (s : State) (accepted : List ℕ) (closed : Bool) → IsAlone s accepted closed
     → IsAlone (record s { phase = phase_after_close s.phase }) accepted closed
 alone-close_begun s accepted closed h =

@@ -1,28 +1,13 @@
 -- WHAT IS DUE at one end by itself: it is what may go out, it can be written, it is of what its user sent, and the end keeps what it does.
-use Rattle.std.proofs.Common.{◌≡◌, ℕ, ◌+◌, ◌-◌, ◌<◌, ◌≤◌, List, length, refl, sym, ◌∙◌, ap, arith, length-drop, ◌^◌, [], take, drop, subst, length-take}
-use Rattle.std.specs.Prelude.{min, max, Bool, true, false, ◌&&◌, ◌==◌, nat_lt, nat_le, Option, Some, None, IfSome, not}
-use Rattle.std.proofs.lemmas.Bool.{cond_both, ltb-true, eqb-true, and_parts, false≢true}
-use Rattle.std.specs.declared.ops.Range.{Range}
-use Rattle.tcp_sendq.specs.SendQueue.{next_unmarked}
-use Rattle.std.specs.Option.{option_or}
-use Rattle.tcp_halves.specs.declared.due.Due.{Due}
-use Rattle.tcp_halves.specs.declared.due.Due.TheVariants.{Reset, Syn, Resend, NewText, Fin, ResentFin, Acknowledgement}
-use Rattle.tcp_conn.specs.Phase.{sends_text, gives_up, has_peer, is_handshake}
-use Rattle.tcp_conn.specs.State.{State, Sending, place_of, position_at, end_of_text}
-use Rattle.tcp_halves.specs.Sender.{count_unsent}
-use Rattle.tcp_conn.specs.Due.{resend_start, resent_text, resent_fin, resent_run, resend_of, new_count, new_text_of, fin_of, text_limit, text_due, is_fin}
-use Rattle.tcp_conn.specs.Due.{start_of, count_of, end_of, reset_due, syn_due, ack_due, due_of}
-use Rattle.tcp_replay.specs.Alone.{Sends, FitsPhase, IsWritable, IsAlone}
-use Rattle.std.proofs.lemmas.List.{drop-drop}
-use Rattle.tcp_wire.specs.Checksum.{AreBytes}
-use Rattle.tcp_wire.specs.Wire.{IsValid}
-use Rattle.tcp_numbers.specs.declared.seq.Seq.{Seq}
-use Rattle.tcp_halves.specs.declared.link.WaitingReset.{WaitingReset}
-use Rattle.tcp_conn.specs.Endpoint.{FitsFields}
-use Rattle.tcp_conn.specs.Forms.{reset_ack, text_of, plain_segment, segment_of}
-use Rattle.tcp_conn.specs.Writing.{destination_of}
-use Rattle.tcp_conn.specs.Emission.{range_after, resend_after, owed_after, state_after}
-use Rattle.tcp_conn.proofs.Segments.{plain_segment_valid, reset_segment_valid, syn_segment_valid}
+use Rattle.std.proofs.Common.{[], ℕ, ◌&&◌, ◌+◌, ◌-◌, ◌<◌, ◌==◌, ◌^◌, ◌∙◌, ◌≡◌, ◌≤◌, ap, arith, Bool, drop, false, IfSome, length, length-drop, length-take}
+use Rattle.std.proofs.Common.{List, max, min, nat_le, nat_lt, None, not, Option, refl, Some, subst, sym, take, true}
+use Rattle.tcp_replay.proofs.Words.{ack_due, Acknowledgement, and_parts, AreBytes, cond_both, count_of, count_unsent, destination_of, drop-drop, Due, due_of}
+use Rattle.tcp_replay.proofs.Words.{end_of, end_of_text, eqb-true, false≢true, Fin, fin_of, FitsFields, gives_up, has_peer, is_fin, is_handshake, IsValid}
+use Rattle.tcp_replay.proofs.Words.{ltb-true, new_count, new_text_of, NewText, next_unmarked, option_or, owed_after, place_of, plain_segment}
+use Rattle.tcp_replay.proofs.Words.{plain_segment_valid, position_at, Range, range_after, Resend, resend_after, resend_of, resend_start, resent_fin, resent_run}
+use Rattle.tcp_replay.proofs.Words.{resent_text, ResentFin, Reset, reset_ack, reset_due, reset_segment_valid, segment_of, Sending, sends_text, Seq, start_of}
+use Rattle.tcp_replay.proofs.Words.{State, state_after, Syn, syn_due, syn_segment_valid, text_due, text_limit, text_of, WaitingReset}
+use Rattle.tcp_replay.proofs.WorldWords.{FitsPhase, IsAlone, IsWritable, Sends}
 use Rattle.tcp_replay.proofs.Lists.{one_if, one_if-most, AreBytes-take, AreBytes-drop}
 use Rattle.tcp_replay.proofs.Halves.{range-more, sends-sent}
 use Rattle.tcp_replay.proofs.Phases.{gives_up-not_ended, handshake-knows, end-synchronized, sends_text-synchronized, synchronized-knows, knows-nxt, fits-sent}
@@ -56,9 +41,7 @@ option_or-both P (Some due) rest h h' = h
 
 -- where the queue ends, the accepted bytes do
 pub end-is : (d : Sending) (accepted : List ℕ) (closed : Bool) → Sends d accepted closed false → end_of_text d ≡ 1 + length accepted
-end-is d accepted closed h =
-    let count : length d.queue.bytes ≡ length accepted - d.released = ap length (h.queue refl) ∙ length-drop d.released accepted in
-    omega (arith, count, h.released)
+end-is d accepted closed h = omega (arith, ap length (h.queue refl), length-drop d.released accepted, h.released)
 
 -- what was sent after all text is the FIN
 sent-fin : (d : Sending) (accepted : List ℕ) (closed gone : Bool) → Sends d accepted closed gone → 1 + length accepted < d.nxt → closed ≡ true
@@ -129,6 +112,7 @@ fin-new d accepted closing closed same h =
 limit-short : (s : State) → s.config.mss ≤ 1460 → text_limit s ≤ 1460
 limit-short s small = omega arith
 
+-- what follows from a fact of what is due, where something is
 pub if-some-map : (P P' : Due → Type 0) (o : Option Due) → ((due : Due) → P due → P' due) → IfSome o P → IfSome o P'
 if-some-map P P' None further h = tt
 if-some-map P P' (Some due) further h = further due h
@@ -231,6 +215,7 @@ same-range : (d : Sending) (accepted : List ℕ) (closed gone : Bool) (n : ℕ) 
     → IfSome d.resend (λ r. r.end ≤ max (max d.nxt n) (1 + length accepted))
 same-range d accepted closed gone n h = range-more (max d.nxt (1 + length accepted)) (max (max d.nxt n) (1 + length accepted)) d.resend (omega arith) h.range
 
+-- a range of which a front went out ends where it did
 pub range_after-ends : (m start : ℕ) (range : Option (Range ℕ)) → IfSome range (λ r. r.end ≤ m) → IfSome (range_after start range) (λ r. r.end ≤ m)
 range_after-ends m start None h = tt
 range_after-ends m start (Some range) h = h
@@ -340,6 +325,7 @@ fin-plain d accepted closed gone due start place none empty is h = record {
   last = λ _. (is.is_closed, place ∙ is.place, none);
 }
 
+-- an end in a phase that sends text has its SYN acknowledged, and its queue
 pub going-on : (s : State) (accepted : List ℕ) (closed : Bool) → sends_text s.phase ≡ true → IsAlone s accepted closed
     → (1 ≤ s.sending.una) × (gives_up s.ending ≡ false)
 going-on s accepted closed e h =
@@ -368,8 +354,6 @@ out s accepted closed due goes kind = record { alone = goes.alone; valid = goes.
 out-text : (s : State) (accepted : List ℕ) (closed : Bool) (due : Due) → IsAlone s accepted closed
     → (sends_text s.phase ≡ true) × IsOut s.sending accepted closed due → GoesOutAlone s accepted closed due
 unfolding segment_of
-out-text s accepted closed (Reset reset) h is = absurd is.1
-out-text s accepted closed Syn h is = absurd is.1
 out-text s accepted closed (Resend start count) h is =
     let d = s.sending in
     let goes = out-plain s accepted closed (Resend start count) is.0
@@ -397,7 +381,7 @@ out-text s accepted closed (ResentFin start) h is =
     (fin-plain d accepted closed (gives_up s.ending) (ResentFin start) start refl refl refl is.1 h.sends) (fin-within accepted closed start is.1)
     (range_after-ends (max d.nxt (1 + length accepted)) (start + 1) d.resend h.sends.range) h in
     out s accepted closed (ResentFin start) goes goes.said
-out-text s accepted closed Acknowledgement h is = absurd is.1
+out-text s accepted closed other h is = absurd is.1
 
 -- WHATEVER IS DUE
 due-reset : (s : State) (accepted : List ℕ) (closed : Bool) (reset : Option WaitingReset) → s.owed.reset ≡ reset → IfSome reset IsWritable
@@ -405,6 +389,7 @@ due-reset : (s : State) (accepted : List ℕ) (closed : Bool) (reset : Option Wa
 due-reset s accepted closed None waits fits h = tt
 due-reset s accepted closed (Some reset) waits fits h = out-reset s accepted closed reset waits fits h
 
+-- whatever is due goes out: the end keeps what it keeps, and the segment can be written
 pub due-alone : (s : State) (accepted : List ℕ) (closed : Bool) → IsAlone s accepted closed → IfSome (due_of s) (GoesOutAlone s accepted closed)
 unfolding due_of
 due-alone s accepted closed h =

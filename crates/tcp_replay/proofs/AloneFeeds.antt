@@ -1,33 +1,21 @@
 -- What each event does to the half that receives, at one end by itself: what came in order grows by the text that is
 -- taken, and by nothing else.
-use Rattle.std.proofs.Common.{◌≡◌, ℕ, ◌+◌, ◌-◌, ◌^◌, ◌<◌, List, ◌++◌, length, take, refl, sym, ◌∙◌, ap, subst, inl, inr, arith, drop, length-drop}
-use Rattle.std.specs.Prelude.{◌⊎◌, min, Bool, true, false, not, ◌==◌, if◌then◌else◌}
-use Rattle.std.proofs.lemmas.Bool.{cond_both, and_parts, false≢true}
-use Rattle.tcp_wire.specs.Flags.{fin, syn, has}
-use Rattle.tcp_wire.specs.Position.{number}
-use Rattle.tcp_wire.specs.Wire.{Content}
-use Rattle.tcp_conn.specs.declared.judgement.Judgement.{Judgement}
-use Rattle.tcp_conn.specs.declared.judgement.Judgement.TheVariants.{Foreign}
-use Rattle.tcp_halves.specs.declared.link.Peer.{Peer}
+use Rattle.std.proofs.Common.{ℕ, ◌++◌, ◌+◌, ◌-◌, ◌<◌, ◌==◌, ◌^◌, ◌∙◌, ◌≡◌, ◌⊎◌, ap, arith, Bool, drop, false, if◌then◌else◌, inl, inr, length, length-drop}
+use Rattle.std.proofs.Common.{List, min, not, refl, subst, sym, take, true}
+use Rattle.tcp_replay.proofs.Words.{after_acked_text, after_fin, after_giving_up, after_its_ack, after_its_text, after_judgement, after_news}
+use Rattle.tcp_replay.proofs.Words.{after_own_fin, after_own_syn, after_peer_accepts, after_peer_opens, after_read, after_taking, after_taking_shut, after_text}
+use Rattle.tcp_replay.proofs.Words.{and_parts, cond_both, Content, false≢true, fin, Foreign, gives_up, has, has_fin, is_fin_due, is_foreign}
+use Rattle.tcp_replay.proofs.Words.{Judgement, judgement, number, Peer, phase_judgement, Receiving, State, syn, takes_fin}
+use Rattle.tcp_replay.proofs.Words.{takes_text, takes_text_of, with_bytes_received, with_fin, with_syn}
+use Rattle.tcp_replay.proofs.WorldWords.{IsAlone, PartyState}
 use Rattle.tcp_conn.specs.declared.phase.Ending.TheVariants.{Reset}
-use Rattle.tcp_conn.specs.Phase.{is_last_ack, takes_text, gives_up, phase_after_own_fin}
-use Rattle.tcp_reasm.specs.Reassembly.{after_read}
-use Rattle.tcp_conn.specs.State.{State, Receiving}
-use Rattle.tcp_halves.specs.Sender.{is_fin_acked}
-use Rattle.tcp_halves.specs.Receiver.{with_syn, after_text, is_fin_due, with_fin}
-use Rattle.tcp_conn.specs.Endings.{after_orderly_end, after_giving_up}
-use Rattle.tcp_conn.specs.Calls.{with_bytes_received}
-use Rattle.tcp_conn.specs.Judgement.{is_foreign, phase_judgement, judgement}
-use Rattle.tcp_conn.specs.Arrival.{after_peer_opens, after_peer_accepts, after_own_syn, after_acked_text, after_news, after_own_fin, after_its_ack}
-use Rattle.tcp_conn.specs.Arrival.{takes_text_of, after_its_text, has_fin, takes_fin, after_fin, after_taking, after_taking_shut, after_judgement}
-use Rattle.tcp_replay.specs.Alone.{IsAlone}
 use Rattle.tcp_replay.proofs.Lists.{by_test}
 use Rattle.tcp_replay.proofs.Phases.{gives_up-not_ended, end-listen, end-syn_sent, end-synchronized, end-takes_text, not-closed-ended, time_wait-synchronized}
 use Rattle.tcp_replay.proofs.Judgements.{IsPresent, IsTaken, in-phase}
 use Rattle.tcp_replay.proofs.Alone.{alone-its_ack, alone-its_text}
 use Rattle.tcp_replay.proofs.Feeds.{AllText, ByNumber, IsFed, fed-syn, fed-read, fed-given_up, fed-fin, fed-text}
 use Rattle.tcp_replay.proofs.Calls.{KeptByCalls}
-use Rattle.tcp_replay.specs.World.{PartyState}
+use Rattle.tcp_replay.proofs.Cases.{own_fin-cases}
 
 -- FROM ONE STATE TO ANOTHER: as many bytes more are in order as make what is unread longer
 pub record Feeds (P : ℕ → ℕ → Type 0) (Q : Type 0) (s s' : State) (irs k : ℕ) (delivered : List ℕ) : Type 0 where
@@ -45,6 +33,7 @@ module _ (P : ℕ → ℕ → Type 0) (Q : Type 0) (s : State) (irs k : ℕ) (de
       let same : k ≡ k + (length s.receiving.inbox.unread - length s.receiving.inbox.unread) = omega arith in
       subst (λ (n : ℕ). IsFed P s.receiving irs n delivered gone) same (subst (λ (b : Bool). IsFed P s.receiving irs k delivered b) (sym e) h)
 
+  -- an end that stays as it is is fed nothing
   pub feeds-same : Feeds P Q s s irs k delivered
   feeds-same = record { fed = still (gives_up s.ending) refl; config = refl; stays = λ e. e; opens = λ e. inl e }
 
@@ -127,12 +116,9 @@ pub record Acked (s x : State) : Type 0 where
   pub config : x.config ≡ s.config
 
 own_fin-keeps_received : (s : State) → gives_up s.ending ≡ false → Acked s (after_own_fin s)
-unfolding after_own_fin
 own_fin-keeps_received s going =
-    cond_both (is_fin_acked s.sending) (if is_last_ack s.phase then after_orderly_end s else record s { phase = phase_after_own_fin s.phase }) s (Acked s)
-    (λ _. cond_both (is_last_ack s.phase) (after_orderly_end s) (record s { phase = phase_after_own_fin s.phase }) (Acked s)
-    (λ _. record { receiving = refl; going = refl; config = refl }) (λ _. record { receiving = refl; going = going; config = refl }))
-    (λ _. record { receiving = refl; going = going; config = refl })
+    own_fin-cases s (Acked s) (λ _ _. record { receiving = refl; going = refl; config = refl })
+    (λ _ _. record { receiving = refl; going = going; config = refl }) (λ _. record { receiving = refl; going = going; config = refl })
 
 its_ack-acked : (s : State) (v : Content) → gives_up s.ending ≡ false → Acked s (after_its_ack s v)
 unfolding after_its_ack after_news after_acked_text after_own_syn
@@ -252,6 +238,7 @@ accepted-by_peer : (s : State) (v : Content)
 unfolding after_peer_accepts
 accepted-by_peer s v = (refl, refl, refl)
 
+-- whatever is judged of a segment: what comes in order is its text, where that is taken
 pub feeds-judgement : (P : ℕ → ℕ → Type 0) (s : State) (irs k : ℕ) (delivered accepted : List ℕ) (closed : Bool) (src dst : List ℕ) (v : Content)
     → v.seq < 2 ^ 32 → IsAlone s accepted closed
     → (s.receiving.opened ≡ false → irs ≡ v.seq) → (is_foreign s src dst v ≡ false → IsTaken s v → AllText (ByNumber P v.seq) 0 v.text)

@@ -1,22 +1,15 @@
 -- A SEGMENT THAT THE PEER EMITTED arrives: whatever is judged of it, the end stays sound; and what else each rule has to keep, gone through once.
-use Rattle.std.proofs.Common.{◌≡◌, ℕ, ◌+◌, ◌^◌, ◌≤◌, List, length, refl, sym, ◌∙◌, ap, arith, ⊎_elim}
-use Rattle.std.specs.Prelude.{true, false, Bool, Option, if◌then◌else◌, not, nat_le, nat_lt, ◌||◌}
-use Rattle.std.proofs.lemmas.Bool.{eqb-true, cond_both, and_cases, leb-false, ltb-false}
-use Rattle.tcp_wire.specs.Position.{number}
-use Rattle.tcp_wire.specs.Flags.{syn, rst, ack, has}
-use Rattle.tcp_wire.specs.Wire.{Content, IsValid}
-use Rattle.tcp_conn.specs.declared.judgement.Judgement.{Judgement}
-use Rattle.tcp_conn.specs.declared.judgement.Judgement.TheVariants.{HandshakeRefusedShut, Taken, TakenShut}
+use Rattle.std.proofs.Common.{ℕ, ◌+◌, ◌^◌, ◌||◌, ◌∙◌, ◌≡◌, ◌≤◌, ap, arith, Bool, false, if◌then◌else◌, length, List, Option, refl}
+use Rattle.std.proofs.Common.{sym, true}
+use Rattle.tcp_replay.proofs.Words.{ack, acks_more, after_ack, after_acked_text, after_fin, after_giving_up, after_its_ack, after_its_text, after_judgement}
+use Rattle.tcp_replay.proofs.Words.{after_news, after_orderly_end, after_own_fin, after_own_syn, after_peer_accepts, after_peer_opens, after_taking}
+use Rattle.tcp_replay.proofs.Words.{after_taking_shut, after_text, cond_both, Content, eqb-true, first_reset, gives_up, HandshakeRefusedShut, has}
+use Rattle.tcp_replay.proofs.Words.{has_fin, is_fin_acked, is_last_ack, is_listening, is_syn_received, is_syn_sent, IsValid, Judgement, judgement}
+use Rattle.tcp_replay.proofs.Words.{number, Owed, phase_after_fin, phase_after_own_fin, position_near, reset_at_ack, reset_of_stray, rst}
+use Rattle.tcp_replay.proofs.Words.{Sending, State, syn, Taken, TakenShut, takes_fin, takes_text_of, WaitingReset, window_from, with_ack_owed, with_acked}
+use Rattle.tcp_replay.proofs.Words.{with_fin, with_reset, with_syn_acked, with_window, nat_tests}
+use Rattle.tcp_replay.proofs.WorldWords.{IsTruthful, next_position, PartyState, StandsAt, witness_of}
 use Rattle.tcp_conn.specs.declared.phase.Ending.TheVariants.{Reset}
-use Rattle.tcp_conn.specs.Phase.{is_listening, is_syn_sent, is_closed, is_last_ack, phase_after_fin, phase_after_own_fin, gives_up, is_syn_received}
-use Rattle.tcp_conn.specs.State.{State, with_ack_owed, Sending}
-use Rattle.tcp_conn.specs.Judgement.{judgement, position_near}
-use Rattle.tcp_conn.specs.Arrival.{reset_at_ack, reset_of_stray, with_reset, after_peer_opens, after_peer_accepts, after_judgement, after_acked_text}
-use Rattle.tcp_conn.specs.Arrival.{after_fin, after_its_ack, after_its_text, after_news, after_own_fin, after_own_syn, after_taking, after_taking_shut}
-use Rattle.tcp_conn.specs.Arrival.{first_reset, has_fin, takes_fin, takes_text_of}
-use Rattle.tcp_replay.specs.World.{PartyState}
-use Rattle.tcp_replay.specs.Truthful.{IsTruthful, StandsAt}
-use Rattle.tcp_replay.specs.Safe.{witness_of, next_position}
 use Rattle.tcp_replay.proofs.Halves.{takes-syn}
 use Rattle.tcp_replay.proofs.Steps.{Kept, kept-changed, kept-reset, kept-owing, kept-given_up}
 use Rattle.tcp_replay.proofs.Phases.{end-listen, end-syn_sent, syn_sent-knows}
@@ -24,14 +17,9 @@ use Rattle.tcp_replay.proofs.AloneCalls.{writable-at_ack, writable-stray, alone-
 use Rattle.tcp_replay.proofs.Judgements.{IsPresent, IsAckOnly, judged, IsSyn}
 use Rattle.tcp_replay.proofs.Stages.{IsAhead, IsYoung, IsAck, kept-taking, kept-taking_shut, Synced, acked_text-behind, kept-acked_text, kept-its_ack}
 use Rattle.tcp_replay.proofs.Stages.{kept-its_text, kept-news, kept-own_syn, own_syn-near, young-later}
-use Rattle.tcp_conn.specs.declared.owed.Owed.{Owed}
-use Rattle.tcp_halves.specs.declared.link.WaitingReset.{WaitingReset}
-use Rattle.tcp_halves.specs.Sender.{is_fin_acked, acks_more, after_ack, with_acked, with_syn_acked, with_window}
-use Rattle.tcp_conn.specs.Endings.{after_giving_up, after_orderly_end}
-use Rattle.tcp_halves.specs.Receiver.{after_text, with_fin}
 use Rattle.tcp_replay.proofs.Lists.{by_test}
 use Rattle.tcp_replay.proofs.Alone.{same-news}
-use Rattle.tcp_conn.specs.Windows.{window_from}
+use Rattle.tcp_replay.proofs.Cases.{own_fin-cases}
 
 -- SYN: its position is 0
 syn-number : (p q : PartyState) (v : Content) → IsTruthful (witness_of q p) v → has syn v.flags ≡ true → v.seq ≡ number q.endpoint.config.isn.0 0
@@ -93,6 +81,7 @@ module _ (p q : PartyState) (s : State) (v : Content) (position wanted : ℕ) (c
   abbrev pub truth_of : IsTruthful (witness_of q p) v
   truth_of = (c.truthful told.plain).truth
 
+  -- what it acknowledges is a position of the own stream, and not far from SND.UNA
   pub ack-is : Kept p q s → IsAck s v (truth_of.has_ack told.is_ack).position
   ack-is h =
       let a = truth_of.has_ack told.is_ack in record {
@@ -100,6 +89,7 @@ module _ (p q : PartyState) (s : State) (v : Content) (position wanted : ℕ) (c
         behind = omega (arith, c.acks_young told.plain told.is_ack, (c.truthful told.plain).wanted_is told.is_ack);
       }
 
+  -- its text does not lie too far behind what is wanted
   pub young-is : IsYoung s truth_of.own.position
   young-is = omega (arith, c.young told.plain, (c.truthful told.plain).position_is)
 
@@ -119,6 +109,7 @@ fair-refused_shut p q s v valid h present =
     let waits : Kept p q (with_reset s reset) = kept-reset p q s reset (writable-at_ack q.endpoint.config.addr.0 v valid) refl h in
     fair-owing p q (with_reset s reset) waits (record { shut = present.shut; listening = present.listening; syn_sent = present.syn_sent })
 
+-- whatever is judged of a segment that the peer emitted, both ends stay sound
 pub fair-judgement : (p q : PartyState) (s : State) (dst : List ℕ) (v : Content) (position wanted : ℕ) → Comes p q s v position wanted → Kept p q s
     → Fair p q s v (judgement s q.endpoint.config.addr.0 dst v)
 fair-judgement p q s dst v position wanted c h =
@@ -174,18 +165,18 @@ pub record KeptByArrival (p q : PartyState) (v : Content) (position wanted : ℕ
   pub owing : (x : State) (ack : Bool) → P x → P (record x { owed = record x.owed { ack = ack } })
 
 -- SND.UNA is what is acknowledged of what was sent
-ack-to : (d : Sending) (a : ℕ) → d.una ≤ a → a ≤ d.nxt → (after_ack d a).una ≡ a
+pub ack-to : (d : Sending) (a : ℕ) → d.una ≤ a → a ≤ d.nxt → (after_ack d a).una ≡ a
 unfolding after_ack
 ack-to d a least most =
-    cond_both (acks_more d a) (with_acked d a) d (λ (x : Sending). x.una ≡ a) (λ _. refl)
-    (λ e. ⊎_elim (λ (no : nat_lt d.una a ≡ false). omega (arith, least, ltb-false d.una a no))
-    (λ (no : nat_le a d.nxt ≡ false). absurd (omega (arith, most, leb-false a d.nxt no)))
-    (and_cases (nat_lt d.una a) (nat_le a d.nxt) e))
+    cond_both (acks_more d a) (with_acked d a) d (λ (x : Sending). x.una ≡ a) (λ _. refl) (λ e. grind (arith, nat_tests, e, least, most))
 
-acked_text-to : (s : State) (v : Content) (a : ℕ) → position_near s v.ack ≡ a → s.sending.una ≤ a → a ≤ s.sending.nxt → (after_acked_text s v).sending.una ≡ a
+-- and so it is of the acknowledgement of a segment
+pub acked_text-to : (s : State) (v : Content) (a : ℕ) → position_near s v.ack ≡ a → s.sending.una ≤ a → a ≤ s.sending.nxt
+    → (after_acked_text s v).sending.una ≡ a
 unfolding after_acked_text
 acked_text-to s v a is least most = ack-to s.sending (position_near s v.ack) (omega (arith, is, least)) (omega (arith, is, most)) ∙ is
 
+-- the acknowledgement of the own SYN leaves SND.NXT where it was
 pub own_syn-nxt : (s : State) (v : Content) → (after_own_syn s v).sending.nxt ≡ s.sending.nxt
 unfolding after_own_syn
 own_syn-nxt s v =
@@ -195,11 +186,7 @@ own_syn-nxt s v =
 
 -- the acknowledgement of the own FIN leaves it there
 own_fin-una : (x : State) → (after_own_fin x).sending.una ≡ x.sending.una
-unfolding after_own_fin
-own_fin-una x =
-    let P : State → Type 0 = λ y. y.sending.una ≡ x.sending.una in
-    cond_both (is_fin_acked x.sending) (if is_last_ack x.phase then after_orderly_end x else record x { phase = phase_after_own_fin x.phase }) x P
-    (λ _. cond_both (is_last_ack x.phase) (after_orderly_end x) (record x { phase = phase_after_own_fin x.phase }) P (λ _. refl) (λ _. refl)) (λ _. refl)
+own_fin-una x = own_fin-cases x (λ y. y.sending.una ≡ x.sending.una) (λ _ _. refl) (λ _ _. refl) (λ _. refl)
 
 text-una : (x : State) (v : Content) → (after_its_text x v).sending.una ≡ x.sending.una
 unfolding after_its_text
@@ -215,12 +202,8 @@ its_ack-released p q s v synced =
 module _ (p q : PartyState) (v : Content) (position wanted : ℕ) (P B : State → Type 0) (c : Comes p q p.endpoint v position wanted) where
   module _ (kept : Kept p q p.endpoint) (h : KeptByArrival p q v position wanted P B) where
     own_fin-kept : (x : State) → Synced p q x → B x → P (after_own_fin x)
-    unfolding after_own_fin
     own_fin-kept x synced b =
-        let passed : State = record x { phase = phase_after_own_fin x.phase } in
-        cond_both (is_fin_acked x.sending) (if is_last_ack x.phase then after_orderly_end x else passed) x P
-        (λ e. cond_both (is_last_ack x.phase) (after_orderly_end x) passed P (λ last. h.last x synced e last b) (λ other. h.passes x synced e other b))
-        (λ e. h.stays x synced e b)
+        own_fin-cases x P (λ e last. h.last x synced e last b) (λ e more. h.passes x synced e more b) (λ e. h.stays x synced e b)
 
     its_text-kept : (x : State) → IsAckOnly v → Kept p q x → IsYoung x position → P x → P (after_its_text x v)
     unfolding after_its_text
@@ -282,9 +265,7 @@ module _ (p q : PartyState) (v : Content) (position wanted : ℕ) (P B : State �
 
       taking_shut-kept : P (after_taking_shut p.endpoint v)
       unfolding after_taking_shut
-      taking_shut-kept =
-          let x = after_its_ack p.endpoint v in
-          h.owing x (x.owed.ack || not (is_closed x.phase)) its_ack-kept
+      taking_shut-kept = h.owing _ (after_taking_shut p.endpoint v).owed.ack its_ack-kept
 
     -- whatever is judged of it
     pub on-arrival : (dst : List ℕ) → P (after_judgement (judgement p.endpoint q.endpoint.config.addr.0 dst v) p.endpoint q.endpoint.config.addr.0 v)

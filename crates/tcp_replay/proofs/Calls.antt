@@ -1,36 +1,18 @@
 -- THE CALLS, TIMERS AND EMISSIONS OF A PARTY, gone through once: what each has to keep, where it isn't refused.
-use Rattle.std.proofs.Common.{◌≡◌, refl, List, append-nil, length, take, ℕ, ◌++◌}
-use Rattle.tcp_conn.specs.declared.phase.Timer.{Timer}
-use Rattle.tcp_conn.specs.declared.phase.Timer.TheVariants.{Retransmit, Reorder, TimeWait}
-use Rattle.tcp_conn.specs.declared.phase.Ending.TheVariants.{Aborted, NotEnded}
-use Rattle.tcp_conn.specs.declared.outcome.CallError.TheVariants.{AlreadyOpen, Ended}
-use Rattle.tcp_wire.specs.Checksum.{AreBytes}
-use Rattle.std.specs.Prelude.{Bool, IfSome, None, Ok, Option, Some, false, is_ok, min, not, true, ◌||◌}
-use Rattle.tcp_conn.specs.declared.outcome.CallError.{CallError}
-use Rattle.tcp_halves.specs.declared.due.Due.{Due}
+use Rattle.std.proofs.Common.{ℕ, ◌++◌, ◌||◌, ◌≡◌, append-nil, Bool, false, IfSome, is_ok, length, List, min, None, not, Ok, Option, refl, Some, take, true}
+use Rattle.tcp_replay.proofs.Words.{Aborted, after_abort, after_acknowledge, after_close, after_closing, after_connect, after_due, after_emission, after_gaps}
+use Rattle.tcp_replay.proofs.Words.{after_giving_up, after_listen, after_orderly_end, after_receive, after_reorder, after_retransmit, after_send}
+use Rattle.tcp_replay.proofs.Words.{after_time_wait, AlreadyOpen, answer_unless, AreBytes, bytes_unless, CallError, close_refusal, cond_both, count_sendable}
+use Rattle.tcp_replay.proofs.Words.{Due, due_of, Ended, is_closed, is_ended, is_handshake, is_time_wait, is_unanswered, last_mark_end, Listen, needs_probe}
+use Rattle.tcp_replay.proofs.Words.{not-false, NotEnded, open_refusal, opening_refusal, option_or, or_right, Owed, Peer, receive_refusal, Received}
+use Rattle.tcp_replay.proofs.Words.{received_value, refusal_if, Reorder, Retransmit, send_refusal, Sending, sends_again, sends_text, State, state_after}
+use Rattle.tcp_replay.proofs.Words.{state_unless, takes_text, Timer, with_abort, with_all_resent, with_bytes_received, with_closing, with_connection}
+use Rattle.tcp_replay.proofs.Words.{with_gaps_resent, with_text}
+use Rattle.tcp_replay.proofs.WorldWords.{front_taken, is_end_of_stream, IsAlone, party_after_abort, party_after_acknowledge, party_after_close}
+use Rattle.tcp_replay.proofs.WorldWords.{party_after_connect, party_after_listen, party_after_receive, party_after_send, party_after_timer, PartyState}
+use Rattle.tcp_conn.specs.declared.phase.Timer.TheVariants.{TimeWait}
 use Rattle.tcp_replay.proofs.AloneEmissions.{GoesOutAlone, due-alone}
-use Rattle.tcp_replay.specs.Alone.{IsAlone}
-use Rattle.tcp_conn.specs.declared.phase.Phase.TheVariants.{Listen}
-use Rattle.tcp_conn.specs.declared.owed.Owed.{Owed}
-use Rattle.tcp_replay.specs.World.{PartyState, front_taken, is_end_of_stream, party_after_abort, party_after_acknowledge, party_after_close}
-use Rattle.tcp_replay.specs.World.{party_after_connect, party_after_listen, party_after_receive, party_after_send, party_after_timer}
-use Rattle.tcp_halves.specs.declared.link.Peer.{Peer}
-use Rattle.tcp_conn.specs.declared.outcome.Received.{Received}
-use Rattle.tcp_conn.specs.State.{Sending, State}
-use Rattle.tcp_conn.specs.Calls.{after_abort, after_acknowledge, after_close, after_closing, after_connect, after_listen, after_receive, after_send}
-use Rattle.tcp_conn.specs.Calls.{answer_unless, bytes_unless, close_refusal, is_unanswered, open_refusal, opening_refusal, receive_refusal, received_value}
-use Rattle.tcp_conn.specs.Calls.{refusal_if, send_refusal, state_unless, with_abort, with_bytes_received, with_closing, with_connection}
-use Rattle.tcp_conn.specs.Emission.{after_due, after_emission, state_after}
-use Rattle.tcp_conn.specs.Timers.{after_gaps, after_reorder, after_retransmit, after_time_wait, needs_probe, sends_again}
-use Rattle.tcp_conn.specs.Endings.{after_giving_up, after_orderly_end}
-use Rattle.std.proofs.lemmas.Bool.{cond_both, not-false, or_right}
-use Rattle.tcp_halves.specs.Sender.{count_sendable, with_all_resent, with_gaps_resent, with_text}
-use Rattle.tcp_conn.specs.Due.{due_of}
-use Rattle.tcp_conn.specs.Phase.{is_closed, is_ended, is_handshake, is_time_wait, takes_text}
-use Rattle.tcp_sendq.specs.SendQueue.{last_mark_end}
 use Rattle.tcp_replay.proofs.Phases.{not_ended}
-use Rattle.std.specs.Option.{option_or}
-use Rattle.tcp_conn.specs.Phase.{sends_text}
 
 -- REFUSALS: a call that is refused changes nothing
 pub unless-kept : (P : State → Type 0) (o : Option CallError) (s s' : State) → P s → (o ≡ None → P s') → P (state_unless o s s')
@@ -52,6 +34,7 @@ pub record CanOpen (s : State) : Type 0 where
   pub ending : s.ending ≡ NotEnded
   pub shut : is_closed s.phase ≡ true
 
+-- an end at which CONNECT and LISTEN are not refused can be opened
 pub can-open : (s : State) → opening_refusal s ≡ None → CanOpen s
 can-open s e =
     let parts = option_or-none (refusal_if (is_ended s.ending) (Ended s.ending)) (refusal_if (not (is_closed s.phase)) AlreadyOpen) e in
@@ -69,12 +52,15 @@ or-false false = refl
 abbrev pub with_end : PartyState → State → PartyState
 with_end p s = record p { endpoint = s }
 
+-- it has this end, and more accepted
 abbrev pub with_accepted : PartyState → State → List ℕ → PartyState
 with_accepted p s more = record p { endpoint = s; accepted = p.accepted ++ more }
 
+-- it has this end, more delivered, and perhaps the end of the stream
 abbrev pub with_delivered : PartyState → State → List ℕ → Bool → PartyState
 with_delivered p s more ends = record p { endpoint = s; delivered = p.delivered ++ more; ended = p.ended || ends }
 
+-- it has this end, and perhaps a close
 abbrev pub with_closed : PartyState → State → Bool → PartyState
 with_closed p s closes = record p { endpoint = s; closed = p.closed || closes }
 
@@ -113,6 +99,7 @@ module _ (peer : Peer) (p : PartyState) (P : PartyState → Type 0) (h : KeptByC
       unless-kept (λ s. P (with_end p s)) (opening_refusal p.endpoint) p.endpoint (with_connection p.endpoint peer) h.same
       (λ e. h.connects (can-open p.endpoint e))
 
+  -- P holds after LISTEN
   pub on-listen : P (party_after_listen p)
   unfolding party_after_listen after_listen
   on-listen = unless-kept (λ s. P (with_end p s)) (opening_refusal p.endpoint) p.endpoint _ h.same (λ e. h.listens (can-open p.endpoint e))
@@ -123,6 +110,7 @@ module _ (peer : Peer) (p : PartyState) (P : PartyState → Type 0) (h : KeptByC
   sent-unless None s n text next = next refl
   sent-unless (Some error) s n text next = rw (append-nil p.accepted) h.same
 
+  -- after SEND
   pub on-send : (text : List ℕ) → AreBytes text → P (party_after_send p text)
   unfolding party_after_send after_send
   on-send text fits = sent-unless (send_refusal p.endpoint text) _ _ text (h.sends text fits)
@@ -133,6 +121,7 @@ module _ (peer : Peer) (p : PartyState) (P : PartyState → Type 0) (h : KeptByC
   received-unless None s value bytes next = next refl
   received-unless (Some error) s value bytes next = rw (append-nil p.delivered, or-false p.ended) h.same
 
+  -- after RECEIVE
   pub on-receive : (room : ℕ) → P (party_after_receive p room)
   unfolding party_after_receive after_receive
   on-receive room = received-unless (receive_refusal p.endpoint) _ _ _ (h.reads room)
@@ -143,16 +132,19 @@ module _ (peer : Peer) (p : PartyState) (P : PartyState → Type 0) (h : KeptByC
   closed-unless None s next = rw (or_right p.closed true refl) (next refl)
   closed-unless (Some error) s next = rw (or-false p.closed) h.same
 
+  -- after CLOSE
   pub on-close : P (party_after_close p)
   unfolding party_after_close after_close
   on-close = closed-unless (close_refusal p.endpoint) (after_closing p.endpoint) (λ e.
       cond_both (is_unanswered p.endpoint.phase) (record (after_giving_up p.endpoint Aborted) { closing = true }) (with_closing p.endpoint)
       (λ (s : State). P (record p { endpoint = s; closed = true })) (λ _. h.withdraws) (h.closes e))
 
+  -- after ABORT
   pub on-abort : P (party_after_abort p)
   unfolding party_after_abort after_abort
   on-abort = unless-kept (λ s. P (with_end p s)) (open_refusal p.endpoint) p.endpoint (with_abort p.endpoint) h.same (λ _. h.aborts)
 
+  -- after the call that asks for an acknowledgement
   pub on-acknowledge : P (party_after_acknowledge p)
   unfolding party_after_acknowledge after_acknowledge
   on-acknowledge = h.acknowledges
@@ -163,6 +155,7 @@ module _ (peer : Peer) (p : PartyState) (P : PartyState → Type 0) (h : KeptByC
   on-gaps None e sends = h.same
   on-gaps (Some end) e sends = h.fills end sends e
 
+  -- after any of the timers
   pub on-timer : (timer : Timer) → P (party_after_timer p timer)
   unfolding party_after_timer after_retransmit after_reorder after_time_wait
   on-timer Retransmit =
@@ -179,6 +172,7 @@ module _ (peer : Peer) (p : PartyState) (P : PartyState → Type 0) (h : KeptByC
   on-due None is out = h.same
   on-due (Some due) is out = h.emits due is out
 
+  -- and after an emission
   pub on-emission : IsAlone p.endpoint p.accepted p.closed → P (with_end p (after_emission p.endpoint))
   unfolding after_emission
   on-emission alone = on-due (due_of p.endpoint) refl (due-alone p.endpoint p.accepted p.closed alone)

@@ -1,27 +1,11 @@
 -- What is due may go out to the peer: it is truthful unless it is a reset, and the end stays sound.
-use Rattle.std.proofs.Common.{◌≡◌, ℕ, ◌+◌, ◌-◌, ◌≤◌, List, length, take, drop, refl, sym, ◌∙◌, ap, subst, arith, length-take, length-drop}
-use Rattle.std.specs.Prelude.{min, Bool, true, false, if◌then◌else◌, Option, Some, None, Ok, IfSome, is_some}
-use Rattle.std.proofs.lemmas.Bool.{ne_eqb, false≢true}
-use Rattle.std.proofs.lemmas.List.{take_min}
-use Rattle.tcp_wire.specs.Flags.{fin, syn, rst, psh, ack, has}
-use Rattle.tcp_wire.specs.Position.{position_of}
-use Rattle.tcp_wire.specs.Wire.{Content, IsValid, encoded_bytes}
-use Rattle.tcp_wire.specs.Decoded.{decode_answer}
-use Rattle.tcp_wire.proofs.Lemmas.{decoded_encoded, IsWire_encoded, position_of_number}
-use Rattle.tcp_halves.specs.declared.due.Due.{Due}
-use Rattle.tcp_halves.specs.declared.due.Due.TheVariants.{Reset, Syn}
-use Rattle.tcp_halves.specs.declared.link.WaitingReset.{WaitingReset}
-use Rattle.tcp_conn.specs.State.{State}
-use Rattle.tcp_conn.specs.Due.{is_fin, start_of, count_of, due_of}
-use Rattle.tcp_conn.specs.Forms.{syn_segment, text_of, pushes, plain_segment, segment_of}
-use Rattle.tcp_conn.specs.Writing.{destination_of, bytes_of}
-use Rattle.tcp_conn.specs.Emission.{owed_after, state_after}
-use Rattle.tcp_conn.specs.Phase.{is_handshake}
-use Rattle.tcp_halves.specs.Receiver.{next_wanted}
-use Rattle.tcp_replay.specs.World.{PartyState, seq_in, sent_by}
-use Rattle.tcp_replay.specs.Truthful.{IsOfUser, IsTruthful, IsTrueAck, StandsAt}
-use Rattle.tcp_replay.specs.Safe.{witness_of, next_position}
-use Rattle.tcp_replay.specs.Sound.{IsOwn, IsSoundPair}
+use Rattle.std.proofs.Common.{ℕ, ◌+◌, ◌-◌, ◌∙◌, ◌≡◌, ◌≤◌, ap, arith, Bool, drop, false, IfSome, if◌then◌else◌, is_some, length, length-drop, length-take, List}
+use Rattle.std.proofs.Common.{min, None, Ok, Option, refl, Some, subst, sym, take, true}
+use Rattle.tcp_replay.proofs.Words.{ack, bytes_of, Content, count_of, decode_answer, decoded_encoded, destination_of, Due, due_of, encoded_bytes, false≢true}
+use Rattle.tcp_replay.proofs.Words.{fin, has, is_fin, is_handshake, IsValid, IsWire_encoded, ne_eqb, next_wanted, owed_after, plain_segment, position_of}
+use Rattle.tcp_replay.proofs.Words.{position_of_number, psh, pushes, Reset, rst, segment_of, start_of, State, state_after, syn, Syn, syn_segment, take_min}
+use Rattle.tcp_replay.proofs.Words.{text_of, WaitingReset}
+use Rattle.tcp_replay.proofs.WorldWords.{IsOfUser, IsOwn, IsSoundPair, IsTrueAck, IsTruthful, next_position, PartyState, sent_by, seq_in, StandsAt, witness_of}
 use Rattle.tcp_replay.proofs.Lists.{one_if-most}
 use Rattle.tcp_replay.proofs.Phases.{handshake-knows, handshake-una}
 use Rattle.tcp_replay.proofs.Steps.{Kept, kept-same, kept-alone}
@@ -43,6 +27,7 @@ pub syn-bits : (opened : Bool) → (has syn (syn + (if opened then ack else 0)) 
 syn-bits true = (refl, refl, refl)
 syn-bits false = (refl, refl, refl)
 
+-- a SYN is its user's: position 0, without text
 pub syn-of_user : (s : State) (accepted : List ℕ) (closed : Bool) → IsOfUser s.config.isn.0 accepted closed (syn_segment s)
 syn-of_user s accepted closed =
     let bits = syn-bits s.receiving.opened in
@@ -89,6 +74,7 @@ syn-stands p q handshake h =
 take-own_length : (n : ℕ) (xs : List ℕ) → take n xs ≡ take (length (take n xs)) xs
 take-own_length n xs = sym (ap (λ k. take k xs) (length-take n xs) ∙ take_min n xs)
 
+-- the flags of text, FIN and acknowledgement: ACK, and neither SYN nor RST
 pub plain-bits : (push last : Bool)
     → (has syn (ack + (if push then psh else 0) + (if last then fin else 0)) ≡ false)
     × (has fin (ack + (if push then psh else 0) + (if last then fin else 0)) ≡ last)
@@ -99,6 +85,7 @@ plain-bits true false = (refl, refl, refl, refl)
 plain-bits false true = (refl, refl, refl, refl)
 plain-bits false false = (refl, refl, refl, refl)
 
+-- text and FIN are the user's, at their positions
 pub plain-of_user : (s : State) (accepted : List ℕ) (closed : Bool) (due : Due) → IsSaid s accepted closed due
     → IsOfUser s.config.isn.0 accepted closed (plain_segment s due)
 plain-of_user s accepted closed due said =
@@ -154,6 +141,7 @@ pub record GoesOut (p q : PartyState) (due : Due) : Type 0 where
 pub seq-in : (src dst : List ℕ) (v : Content) → IsValid v → v.seq ≡ seq_in (encoded_bytes src dst v)
 seq-in src dst v valid = (IsWire_encoded src dst v valid).header.seq
 
+-- what is due is truthful, or a reset
 pub own-due : (p q : PartyState) (due : Due) → GoesOut p q due → IsOwn p q (sent_by p.endpoint (bytes_of p.endpoint due))
 unfolding bytes_of
 own-due p q due h = record {
@@ -184,6 +172,7 @@ kept-out p q due out reset h =
     kept-alone p q p.endpoint (state_after p.endpoint due) (kept-same p q h) refl out.alone
     (record { peer = h.there.speaks.peer; reset = reset }) refl refl h.there.between
 
+-- a reset has RST
 pub reset-bit : (told : Bool) → has rst (rst + (if told then ack else 0)) ≡ true
 reset-bit true = refl
 reset-bit false = refl
@@ -202,6 +191,7 @@ reset-to : (waiting : Option WaitingReset) (reset : WaitingReset) (addr : List �
 reset-to None reset addr e h = absurd (cc)
 reset-to (Some waiting) reset addr e h = let same : waiting ≡ reset = cc in ap (λ (r : WaitingReset). r.to.addr.0) (sym same) ∙ h
 
+-- what goes out of an end goes out to its peer, and both stay sound
 pub goes-out : (p q : PartyState) (due : Due) → IsSoundPair p q → GoesOutAlone p.endpoint p.accepted p.closed due → GoesOut p q due
 unfolding segment_of
 goes-out p q (Reset reset) h out = record {

@@ -1,49 +1,27 @@
 -- EVERY EVENT of two sound ends, gone through once: deliveries, damage that is found, what was emitted, and what a fact of both has to keep.
-use Rattle.std.proofs.Common.{◌≡◌, ◌≢◌, ℕ, ◌+◌, ◌<◌, ◌≤◌, List, [], length, refl, sym, ◌∙◌, ap, subst, arith, append-nil, ⊎_elim, ◌++◌}
-use Rattle.std.specs.Prelude.{Bool, true, false, not, nat_le, ◌==◌, if◌then◌else◌, Option, Some, None, Ok, Err, slice_get, slice_index, bit_xor, ◌||◌, IfSome}
-use Rattle.std.specs.Prelude.{Result, option_map, option_to_list}
-use Rattle.std.proofs.lemmas.Bool.{eqb-false, leb-false}
-use Rattle.std.proofs.lemmas.Nat.{xor_of_8}
-use Rattle.std.proofs.lemmas.Option.{slice_get-get_or, unwrap_or-slice_get}
-use Rattle.std.specs.Int.Bits.{xor_self, xor_zero_l, xor_assoc}
-use Rattle.tcp_wire.specs.Checksum.{DiffersInOnePlace}
-use Rattle.tcp_wire.specs.Wire.{Content, IsWire}
-use Rattle.tcp_wire.specs.Decoded.{decode_answer}
-use Rattle.tcp_wire.specs.Flags.{rst, ack, has}
-use Rattle.tcp_halves.specs.Receiver.{next_wanted}
-use Rattle.tcp_wire.specs.declared.fault.DecodeError.{DecodeError}
-use Rattle.tcp_wire.specs.declared.fault.DecodeError.TheVariants.{BadChecksum}
-use Rattle.tcp_wire.proofs.Lemmas.{decoded_encoded, IsWire_encoded, decoded_damaged, differs_set}
-use Rattle.tcp_conn.specs.declared.outcome.Arrival.TheVariants.{Malformed}
-use Rattle.tcp_conn.specs.State.{State}
-use Rattle.tcp_conn.specs.Judgement.{judgement}
-use Rattle.tcp_conn.specs.Arrival.{after_judgement, after_reading, after_arrival, answer_to_reading, arrival_answer}
-use Rattle.tcp_replay.specs.declared.outcome.StepError.{StepError}
-use Rattle.tcp_replay.specs.declared.outcome.StepError.TheVariants.{NoSuchSegment, NoChange, PlaceOutside, Expired}
-use Rattle.tcp_replay.specs.World.{PartyState, SentSegment, flags_in, party_after_arrival, arrival_outcome, sent_at, segment_at, is_late, acks_late}
-use Rattle.tcp_replay.specs.World.{is_expired, max_life, bytes_with_damage, is_missing, delivery_refusal, damage_refusal, WorldState, address_of, effect_of}
-use Rattle.tcp_replay.specs.World.{other, party_after_abort, party_after_acknowledge, party_after_close, party_after_connect, party_after_emission}
-use Rattle.tcp_replay.specs.World.{party_after_listen, party_after_receive, party_after_send, party_after_timer, party_of, refusal_of, sent_by, world_from}
-use Rattle.tcp_replay.specs.World.{world_with_effect}
-use Rattle.tcp_replay.specs.Sound.{IsSoundEnd, IsOwn, AreOwn, IsSoundPair, AreSoundEnds}
+use Rattle.std.proofs.Common.{[], ℕ, ⊎_elim, ◌++◌, ◌+◌, ◌<◌, ◌==◌, ◌||◌, ◌∙◌, ◌≡◌, ◌≢◌, ◌≤◌, ap, append-nil, arith, bit_xor, Bool, Err, false, IfSome}
+use Rattle.std.proofs.Common.{if◌then◌else◌, length, List, nat_le, None, not, Ok, Option, option_map, option_to_list, refl, Result, slice_get, slice_index}
+use Rattle.std.proofs.Common.{Some, subst, sym, true}
+use Rattle.tcp_replay.proofs.Words.{ack, after_arrival, after_due, after_emission, after_judgement, after_reading, answer_to_reading, arrival_answer}
+use Rattle.tcp_replay.proofs.Words.{BadChecksum, bytes_of, Config, Content, decode_answer, decoded_damaged, decoded_encoded, DecodeError, destination_of}
+use Rattle.tcp_replay.proofs.Words.{differs_set, DiffersInOnePlace, Due, due_of, emitted_bytes, eqb-false, has, IsWire, IsWire_encoded, judgement, leb-false}
+use Rattle.tcp_replay.proofs.Words.{Malformed, next_wanted, position_of, rst, segment_of, slice_get-get_or, State, state_after, unwrap_or-slice_get, xor_assoc}
+use Rattle.tcp_replay.proofs.Words.{xor_of_8, xor_self, xor_zero_l}
+use Rattle.tcp_replay.proofs.WorldWords.{A, Abort, Acknowledge, acks_late, address_of, AreOwn, AreSoundEnds, arrival_outcome, B, bytes_with_damage, Close}
+use Rattle.tcp_replay.proofs.WorldWords.{Connect, Damage, damage_refusal, Deliver, delivery_refusal, effect_of, Emit, EventContent, Expired, flags_in, HasBytes}
+use Rattle.tcp_replay.proofs.WorldWords.{is_expired, is_late, is_missing, IsOwn, IsSoundEnd, IsSoundPair, Listen, max_life, NoChange, NoSuchSegment, other}
+use Rattle.tcp_replay.proofs.WorldWords.{party_after_abort, party_after_acknowledge, party_after_arrival, party_after_close, party_after_connect}
+use Rattle.tcp_replay.proofs.WorldWords.{party_after_emission, party_after_listen, party_after_receive, party_after_send, party_after_timer, party_of}
+use Rattle.tcp_replay.proofs.WorldWords.{PartyState, PlaceOutside, Receive, refusal_of, segment_at, Send, sent_at, sent_by, SentSegment, Side, side_of}
+use Rattle.tcp_replay.proofs.WorldWords.{StepError, Timer, world_from, world_with_effect, WorldState}
 use Rattle.tcp_replay.proofs.Lists.{one_if-most, and-fails, or-fails}
 use Rattle.tcp_replay.proofs.Arrivals.{Comes, fair-judgement}
 use Rattle.tcp_replay.proofs.Emissions.{wanted-is, GoesOut, due-decodes, due-goes, seq-in}
-use Rattle.tcp_replay.specs.Events.{Abort, Acknowledge, Close, Connect, Damage, Deliver, Emit, EventContent, HasBytes, Receive, Send, Timer, side_of, Listen}
-use Rattle.tcp_halves.specs.declared.config.Config.{Config}
-use Rattle.tcp_halves.specs.declared.due.Due.{Due}
 use Rattle.tcp_replay.proofs.AloneEmissions.{GoesOutAlone, due-alone}
 use Rattle.tcp_replay.proofs.Steps.{Kept, Moved, kept-same, pair-swapped, slice_get-more}
 use Rattle.tcp_replay.proofs.Calls.{KeptByCalls, on-abort, on-acknowledge, on-close, on-connect, on-emission, on-listen, on-receive, on-send, on-timer}
 use Rattle.tcp_replay.proofs.Calls.{with_end}
-use Rattle.tcp_replay.specs.declared.event.Side.{Side}
-use Rattle.tcp_replay.specs.declared.event.Side.TheVariants.{A, B}
-use Rattle.tcp_conn.specs.Emission.{after_due, after_emission, emitted_bytes, state_after}
-use Rattle.tcp_conn.specs.Writing.{bytes_of, destination_of}
-use Rattle.tcp_conn.specs.Due.{due_of}
-use Rattle.tcp_conn.specs.Forms.{segment_of}
 use Rattle.tcp_replay.proofs.Users.{sound-calls}
-use Rattle.tcp_wire.specs.Position.{position_of}
 use Rattle.tcp_replay.specs.declared.outcome.Outcome.TheVariants as outcomes
 
 -- DELIVERY of a segment that the peer emitted
@@ -56,6 +34,7 @@ arrival-err : (s : State) (src dst bytes : List ℕ) (fault : DecodeError) → d
 unfolding after_arrival
 arrival-err s src dst bytes fault e = ap (after_reading s src dst) e
 
+-- what the peer emitted is read as what it wrote
 pub own-decodes : (q p : PartyState) (g : SentSegment) → (own : IsOwn q p g)
     → decode_answer q.endpoint.config.addr.0 p.endpoint.config.addr.0 g.bytes ≡ Ok own.content
 own-decodes q p g own =
@@ -86,6 +65,7 @@ young-both life s g e plain =
           (and-fails (has ack (flags_in g.bytes)) (nat_le (g.wanted + life) s.sending.una) both.1 told);
     }
 
+-- a segment that the peer emitted and that has not expired comes as an arrival may assume
 pub comes : (p q : PartyState) (life : ℕ) (g : SentSegment) → life ≤ max_life → is_expired life p.endpoint g ≡ false → IsSoundPair p q → (own : IsOwn q p g)
     → Comes p q p.endpoint own.content g.position g.wanted
 comes p q life g most e h own =
@@ -124,6 +104,7 @@ refusal-none : (b : Bool) (error : StepError) (rest : Option StepError) → (if 
 refusal-none true error rest e = absurd (cc)
 refusal-none false error rest e = (refl, e)
 
+-- a delivery that is not refused is of a segment that was emitted and has not expired
 pub delivered-there : (life : ℕ) (p q : PartyState) (k : ℕ) → delivery_refusal life q p k ≡ None
     → (is_missing q k ≡ false) × (is_expired life p.endpoint (sent_at q k) ≡ false)
 delivered-there life p q k e =
@@ -158,6 +139,7 @@ pub record IsFoundDamage (p q : PartyState) (k place value : ℕ) : Type 0 where
   pub same : party_after_arrival p q (bytes_with_damage (segment_at q k) place value) ≡ p
   pub answer : arrival_outcome p q (bytes_with_damage (segment_at q k) place value) ≡ outcomes.Arrived (Malformed BadChecksum)
 
+-- a damaged segment is found, and changes nothing
 pub finds-damage : (p q : PartyState) (life k place value : ℕ) → value < 256 → damage_refusal life q p k place value ≡ None → IsSoundPair p q
     → IsFoundDamage p q k place value
 finds-damage p q life k place value fits e h =
@@ -190,9 +172,11 @@ speaks-due p q pair = record {
   after = after-due p.endpoint (due_of p.endpoint);
 }
 
+-- what an option has is one
 pub some-is : {x y : SentSegment} → Some x ≡ Some y → x ≡ y
 some-is e = cc
 
+-- bytes are read in one way
 pub same-content : (v v' : Content) (r : Result Content DecodeError) → r ≡ Ok v → r ≡ Ok v' → v ≡ v'
 same-content v v' r e e' = cc
 
@@ -240,6 +224,7 @@ pub record Both (One : PartyState → PartyState → Type 0) (x y : PartyState) 
   pub there : One x y
   pub back : One y x
 
+-- from the other side
 pub both-swapped : (One : PartyState → PartyState → Type 0) (p q : PartyState) → Both One p q → Both One q p
 both-swapped One p q h = record { there = h.back; back = h.there }
 

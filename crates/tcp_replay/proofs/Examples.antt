@@ -1,39 +1,24 @@
 -- A whole connection on the definitions: the handshake, three bytes each way, and an orderly close (RFC 9293, 3.5 and 3.6).
-use Rattle.std.proofs.Common.{◌≡◌, [], ◌∷◌, ◌++◌, List, length, refl}
-use Rattle.std.specs.Prelude.{true, false, None}
-use Rattle.tcp_wire.specs.Position.{position_of, offset}
-use Rattle.tcp_wire.specs.Wire.{encoded_bytes}
-use Rattle.tcp_wire.specs.Decoded.{decode_answer, layout_of, options_in, option_at, padding_at}
-use Rattle.tcp_sendq.specs.SendQueue.{next_unmarked, without_marks, after_mark, can_mark}
-use Rattle.tcp_reasm.specs.Reassembly.{after_place, place_answer, with_ranks, after_read, blocks, runs_newest_first}
-use Rattle.tcp_halves.specs.declared.config.Config.{Config}
-use Rattle.tcp_conn.specs.declared.phase.Ending.TheVariants.{Orderly}
+use Rattle.std.proofs.Common.{[], ◌++◌, ◌∷◌, ◌≡◌, false, length, List, None, refl, true}
+use Rattle.tcp_replay.proofs.Words.{acceptable_judgement, ack_judgement, after_ack, after_acked_text, after_arrival, after_block, after_close, after_connect}
+use Rattle.tcp_replay.proofs.Words.{after_emission, after_fin, after_its_ack, after_its_text, after_listen, after_mark, after_news, after_own_fin}
+use Rattle.tcp_replay.proofs.Words.{after_own_syn, after_peer_accepts, after_peer_opens, after_place, after_read, after_receive, after_send, after_taking}
+use Rattle.tcp_replay.proofs.Words.{after_text, after_time_wait, after_window_update, arrival_answer, blocks, bytes_of, can_mark, closed_judgement, Config}
+use Rattle.tcp_replay.proofs.Words.{decode_answer, default_limit, due_of, emitted_bytes, encoded_bytes, is_acceptable, is_foreign, judgement, layout_of}
+use Rattle.tcp_replay.proofs.Words.{link_of, listen_judgement, new_text_of, next_unmarked, offset, option_at, options_in, Orderly, padding_at, phase_judgement}
+use Rattle.tcp_replay.proofs.Words.{place_answer, position_of, present_judgement, resend_of, runs_newest_first, segment_of, syn_sent_judgement}
+use Rattle.tcp_replay.proofs.Words.{unacceptable_judgement, with_ranks, without_marks}
+use Rattle.tcp_replay.proofs.WorldWords.{A, B, Close, Connect, Deliver, effect_of, Emit, EventContent, Listen, new_world, party_after_arrival}
+use Rattle.tcp_replay.proofs.WorldWords.{party_after_close, party_after_connect, party_after_emission, party_after_listen, party_after_receive}
+use Rattle.tcp_replay.proofs.WorldWords.{party_after_send, party_after_timer, Receive, Send, stop_of, Timer, world_after_all, WorldState}
 use Rattle.tcp_conn.specs.declared.phase.Timer.TheVariants.{TimeWait}
-use Rattle.tcp_halves.specs.Config.{default_limit}
-use Rattle.tcp_halves.specs.Acceptable.{is_acceptable}
-use Rattle.tcp_halves.specs.Options.{link_of}
-use Rattle.tcp_halves.specs.Sender.{after_ack, after_window_update}
-use Rattle.tcp_conn.specs.Blocks.{after_block}
-use Rattle.tcp_halves.specs.Receiver.{after_text}
-use Rattle.tcp_conn.specs.Calls.{after_connect, after_listen, after_send, after_receive, after_close}
-use Rattle.tcp_conn.specs.Timers.{after_time_wait}
-use Rattle.tcp_conn.specs.Judgement.{is_foreign, closed_judgement, listen_judgement, syn_sent_judgement, ack_judgement, unacceptable_judgement}
-use Rattle.tcp_conn.specs.Judgement.{acceptable_judgement, present_judgement, phase_judgement, judgement}
-use Rattle.tcp_conn.specs.Arrival.{after_peer_opens, after_peer_accepts, after_own_syn, after_acked_text, after_news, after_own_fin, after_its_ack}
-use Rattle.tcp_conn.specs.Arrival.{after_its_text, after_fin, after_taking, arrival_answer, after_arrival}
-use Rattle.tcp_conn.specs.Due.{resend_of, new_text_of, due_of}
-use Rattle.tcp_conn.specs.Forms.{segment_of}
-use Rattle.tcp_conn.specs.Writing.{bytes_of}
-use Rattle.tcp_conn.specs.Emission.{emitted_bytes, after_emission}
-use Rattle.tcp_replay.specs.declared.event.Side.TheVariants.{A, B}
-use Rattle.tcp_replay.specs.Events.{EventContent, Connect, Listen, Send, Receive, Close, Timer, Emit, Deliver}
-use Rattle.tcp_replay.specs.World.{WorldState, new_world, party_after_connect, party_after_listen, party_after_send, party_after_receive, party_after_close}
-use Rattle.tcp_replay.specs.World.{party_after_timer, party_after_emission, party_after_arrival, effect_of, world_after_all, stop_of}
 
+-- the end that connects
 unfoldable pub a : Config
 a =
     record { addr = record { 0 = 10 ∷ 0 ∷ 0 ∷ 1 ∷ [] }; port = 1; isn = record { 0 = 1000 }; mss = 1460; send_capacity = 40; recv_capacity = 40; window_shift = None; sack = true; limit = default_limit }
 
+-- the end that listens
 unfoldable pub b : Config
 b =
     record { addr = record { 0 = 10 ∷ 0 ∷ 0 ∷ 2 ∷ [] }; port = 2; isn = record { 0 = 5000 }; mss = 1460; send_capacity = 40; recv_capacity = 40; window_shift = None; sack = true; limit = default_limit }

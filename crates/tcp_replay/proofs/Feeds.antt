@@ -1,18 +1,11 @@
 -- The half that receives, by itself: where each byte that it has came from, whoever sent it.
-use Rattle.std.proofs.Common.{◌≡◌, ℕ, zero, suc, ◌+◌, ◌-◌, ◌%◌, ◌^◌, ◌<◌, ◌≤◌, List, [], ◌∷◌, ◌++◌, length, take, drop, refl, sym, ◌∙◌, ap, subst, arith}
-use Rattle.std.proofs.Common.{append-nil, length-append, take-append-drop}
-use Rattle.std.specs.Prelude.{min, nat_lt, ℤ, negsuc, Bool, true, false, if◌then◌else◌, replicate, Option, Some, None, slice_get}
-use Rattle.std.proofs.lemmas.Bool.{false≢true, ltb-true, ltb-false}
-use Rattle.std.proofs.lemmas.List.{append_assoc, take_min}
-use Rattle.tcp_wire.specs.Position.{number, distance, offset}
-use Rattle.tcp_wire.proofs.Lemmas.{offset_ahead, offset_of_earlier}
-use Rattle.tcp_reasm.specs.declared.placed.Placed.TheVariants.{NotKept}
-use Rattle.tcp_reasm.specs.Agreement.{advance_of}
-use Rattle.tcp_reasm.specs.Reassembly.{Cell, Inbox, Run, piece, window, overlay, bytes_in_order, with_ranks, with_ranks_from, runs, is_refused, overlay_of}
-use Rattle.tcp_reasm.specs.Reassembly.{with_overlay, greatest_stamp, answer_for, after_place, place_answer, after_read}
-use Rattle.tcp_reasm.proofs.Agreement.{advance_of-answer_for}
-use Rattle.tcp_conn.specs.State.{Receiving}
-use Rattle.tcp_halves.specs.Receiver.{new_receiving, with_syn, after_text, with_fin, after_handing, without_bytes}
+use Rattle.std.proofs.Common.{[], ℕ, ℤ, ◌%◌, ◌++◌, ◌+◌, ◌-◌, ◌<◌, ◌^◌, ◌∙◌, ◌∷◌, ◌≡◌, ◌≤◌, ap, append-nil, arith, Bool, drop, false, if◌then◌else◌, length}
+use Rattle.std.proofs.Common.{length-append, List, min, nat_lt, negsuc, None, Option, refl, replicate, slice_get, Some, subst, suc, sym, take, take-append-drop}
+use Rattle.std.proofs.Common.{true, zero}
+use Rattle.tcp_replay.proofs.Words.{advance_of, advance_of-answer_for, after_handing, after_place, after_read, after_text, answer_for, append_assoc}
+use Rattle.tcp_replay.proofs.Words.{bytes_in_order, Cell, distance, false≢true, greatest_stamp, Inbox, is_refused, ltb-false, ltb-true, new_receiving, NotKept}
+use Rattle.tcp_replay.proofs.Words.{number, offset, offset_ahead, offset_of_earlier, overlay, overlay_of, piece, place_answer, Receiving, Run, runs, take_min}
+use Rattle.tcp_replay.proofs.Words.{window, with_fin, with_overlay, with_ranks, with_ranks_from, with_syn, without_bytes}
 use Rattle.tcp_replay.proofs.Lists.{by_test, one_if, one_if-false, number-further}
 
 -- what holds of each byte of a text whose first is at this place, and of each byte that is held from this place on
@@ -20,6 +13,7 @@ abbrev pub AllText : (ℕ → ℕ → Type 0) → ℕ → List ℕ → Type 0
 AllText P place [] = Unit {0}
 AllText P place (byte ∷ text) = P place byte × AllText P (suc place) text
 
+-- P holds of each byte that is held, by its place
 abbrev pub AllHeld : (ℕ → ℕ → Type 0) → ℕ → List (Option Cell) → Type 0
 AllHeld P place [] = Unit {0}
 AllHeld P place (None ∷ places) = AllHeld P (suc place) places
@@ -47,6 +41,7 @@ text-append : (P : ℕ → ℕ → Type 0) (place from : ℕ) (text more : List 
 text-append P place from [] more e t m = subst (λ (n : ℕ). AllText P n more) (omega (arith, e)) m
 text-append P place from (byte ∷ text) more e t m = (t.0, text-append P (suc place) from text more (omega (arith, e)) t.1 m)
 
+-- of a front of a text, too
 pub text-front : (P : ℕ → ℕ → Type 0) (place : ℕ) (text more : List ℕ) → AllText P place (text ++ more) → AllText P place text
 text-front P place [] more t = tt
 text-front P place (byte ∷ text) more t = (t.0, text-front P (suc place) text more t.1)
@@ -56,6 +51,7 @@ text-drop P place to zero text e t = subst (λ (k : ℕ). AllText P k text) (ome
 text-drop P place to (suc n) [] e t = tt
 text-drop P place to (suc n) (byte ∷ text) e t = text-drop P (suc place) to n text (omega (arith, e)) t.1
 
+-- of a text, where it holds of each of its bytes
 pub text-of : (P : ℕ → ℕ → Type 0) (k place : ℕ) (text : List ℕ) → place ≡ k → ((i byte : ℕ) → slice_get text i ≡ Some byte → P (k + i) byte)
     → AllText P place text
 text-of P k place [] e h = tt
@@ -64,6 +60,7 @@ text-of P k place (byte ∷ text) e h = (
   text-of P (suc k) (suc place) text (omega (arith, e)) (λ i b is. subst (λ (n : ℕ). P n b) (omega arith) (h (suc i) b is)),
 )
 
+-- and of each byte of such a text
 pub text-at : (P : ℕ → ℕ → Type 0) (place : ℕ) (text : List ℕ) (i n byte : ℕ) → n ≡ place + i → slice_get text i ≡ Some byte → AllText P place text → P n byte
 text-at P place [] i n byte e is t = absurd (cc)
 text-at P place (first ∷ text) zero n byte e is t =
@@ -79,14 +76,17 @@ held-moved P P' d h from to (None ∷ places) e t = held-moved P P' d h (suc fro
 held-moved P P' d h from to (Some cell ∷ places) e t =
     (h to cell.byte (subst (λ (n : ℕ). P n cell.byte) e t.0), held-moved P P' d h (suc from) (suc to) places (omega (arith, e)) t.1)
 
+-- what follows of each byte
 pub held-same : (P P' : ℕ → ℕ → Type 0) (place : ℕ) (held : List (Option Cell)) → ((n byte : ℕ) → P n byte → P' n byte) → AllHeld P place held
     → AllHeld P' place held
 held-same P P' place held h t = held-moved P P' 0 (λ i byte had. h i byte (subst (λ (n : ℕ). P n byte) (omega arith) had)) place place held (omega arith) t
 
+-- nothing is held
 pub held-none : (P : ℕ → ℕ → Type 0) (place n : ℕ) → AllHeld P place (replicate n None)
 held-none P place zero = tt
 held-none P place (suc n) = held-none P (suc place) n
 
+-- places behind, at which nothing is held
 pub held-more : (P : ℕ → ℕ → Type 0) (place n : ℕ) (held : List (Option Cell)) → AllHeld P place held → AllHeld P place (held ++ replicate n None)
 held-more P place n [] t = held-none P place n
 held-more P place n (None ∷ places) t = held-more P (suc place) n places t
@@ -151,6 +151,7 @@ brings-overlay P q over h = record {
       (held-drop P 0 (length (bytes_in_order over)) (length (bytes_in_order over)) over (omega arith) h);
 }
 
+-- placing a piece brings bytes in order of which P holds, and holds others of which it does
 pub brings-place : (P : ℕ → ℕ → Type 0) (q : Inbox) (z : ℤ) (text : List ℕ) → AllHeld P 0 q.held → AllText P (piece z text).start (piece z text).text
     → Brings P q (after_place q z text) (advance_of (place_answer q z text))
 unfolding after_place place_answer
@@ -197,6 +198,7 @@ pub record IsFed (P : ℕ → ℕ → Type 0) (r : Receiving) (irs k : ℕ) (del
   pub text : AllText (ByNumber P irs) 1 (delivered ++ r.inbox.unread)
   pub whole : gone ≡ false → length (delivered ++ r.inbox.unread) ≡ k
 
+-- nothing came at a new end
 pub fed-new : (P : ℕ → ℕ → Type 0) (capacity irs : ℕ) → IsFed P (new_receiving capacity) irs 0 [] false
 fed-new P capacity irs = record {
   next = λ never. absurd (cc);
@@ -252,6 +254,7 @@ handed-over delivered unread n =
     append_assoc delivered (take (min n (length unread)) unread) (drop n unread)
     ∙ ap (λ xs. delivered ++ xs) (ap (λ xs. xs ++ drop n unread) (take_min n unread) ∙ take-append-drop n unread)
 
+-- what the user reads came
 pub fed-read : (P : ℕ → ℕ → Type 0) (r : Receiving) (irs k : ℕ) (delivered : List ℕ) (gone : Bool) (n : ℕ) → IsFed P r irs k delivered gone
     → IsFed P (after_handing r n) irs k (delivered ++ take (min n (length r.inbox.unread)) r.inbox.unread) gone
 unfolding after_read
@@ -271,6 +274,7 @@ none-left : (delivered unread : List ℕ) → delivered ++ unread ≡ [] → del
 none-left [] unread e = refl
 none-left (byte ∷ delivered) unread e = absurd (cc)
 
+-- what is unread and held may be given up
 pub fed-given_up : (P : ℕ → ℕ → Type 0) (r : Receiving) (irs k : ℕ) (delivered : List ℕ) (gone : Bool) → IsFed P r irs k delivered gone
     → IsFed P (without_bytes r) irs k delivered true
 fed-given_up P r irs k delivered gone h = record {

@@ -1,22 +1,13 @@
 -- The moves of one half of a direction: what each does to the bytes that were accepted, queued, held and
 -- delivered.
-use Rattle.std.proofs.Common.{◌≡◌, ℕ, ◌+◌, ◌-◌, ◌<◌, ◌≤◌, List, [], ◌++◌, length, take, drop, refl, sym, ◌∙◌, ap, ⊎_elim, arith, append_assoc, append-nil}
-use Rattle.std.proofs.Common.{length-append, length-take, length-drop, take-append-drop}
-use Rattle.std.specs.Prelude.{min, max, Bool, true, false, ◌||◌, if◌then◌else◌, replicate, Option, Some, None, IfSome}
-use Rattle.std.proofs.lemmas.List.{take_all, take-append-le, drop-append-le, drop-drop, take_min, length-replicate}
-use Rattle.std.proofs.lemmas.Bool.{or_cases}
-use Rattle.tcp_wire.specs.Position.{number}
-use Rattle.tcp_wire.specs.Checksum.{AreBytes}
-use Rattle.tcp_reasm.specs.Reassembly.{Inbox, after_read}
-use Rattle.tcp_reasm.specs.Agreement.{Advances}
-use Rattle.tcp_reasm.proofs.Agreement.{after_read-agrees, without_held-agrees, empty_inbox-agrees}
-use Rattle.std.specs.declared.ops.Range.{Range}
-use Rattle.tcp_conn.specs.State.{Sending, Receiving}
-use Rattle.tcp_halves.specs.Receiver.{max_ordered, with_inbox, with_fin, with_syn, after_handing, without_bytes}
-use Rattle.tcp_halves.specs.Config.{stream_limit}
-use Rattle.tcp_halves.specs.Sender.{count_sendable, with_text, with_syn_sent, with_acked, count_below, without_text}
-use Rattle.tcp_replay.specs.Alone.{Sends}
-use Rattle.tcp_replay.specs.Sound.{Takes, HandsOver}
+use Rattle.std.proofs.Common.{[], ℕ, ⊎_elim, ◌++◌, ◌+◌, ◌-◌, ◌<◌, ◌||◌, ◌∙◌, ◌≡◌, ◌≤◌, ap, append-nil, append_assoc, arith, Bool, drop, false, IfSome}
+use Rattle.std.proofs.Common.{if◌then◌else◌, length, length-append, length-drop, length-take, List, max, min, None, Option, refl, replicate, Some, sym, take}
+use Rattle.std.proofs.Common.{take-append-drop, true}
+use Rattle.tcp_replay.proofs.Words.{Advances, after_handing, after_read, after_read-agrees, AreBytes, count_below, count_sendable, drop-append-le, drop-drop}
+use Rattle.tcp_replay.proofs.Words.{empty_inbox-agrees, Inbox, length-replicate, max_ordered, number, or_cases, Range, Receiving, Sending, stream_limit}
+use Rattle.tcp_replay.proofs.Words.{take-append-le, take_all, take_min, with_acked, with_fin, with_inbox, with_syn, with_syn_sent, with_text, without_bytes}
+use Rattle.tcp_replay.proofs.Words.{without_held-agrees, without_text}
+use Rattle.tcp_replay.proofs.WorldWords.{HandsOver, Sends, Takes}
 use Rattle.tcp_replay.proofs.Lists.{one_if, one_if-false, AreBytes-append, AreBytes-take, Agrees-more, take-none, take-further, front-is, nothing-follows}
 use Rattle.tcp_replay.proofs.Lists.{number-further}
 use Rattle.tcp_sendq.specs.SendQueue as queues
@@ -52,6 +43,7 @@ accepted-limit s limit accepted text within h =
     let count : length s.queue.bytes ≡ length accepted - s.released = ap length (h.queue refl) ∙ length-drop s.released accepted in
     omega (arith, within, inside, count, length-append accepted (take (count_sendable s limit text) text), length-take (count_sendable s limit text) text)
 
+-- the queue takes the front of a text that it has room for
 pub sends-more : (s : Sending) (limit : ℕ) (accepted text : List ℕ) → limit ≤ stream_limit → AreBytes text → Sends s accepted false false
     → Sends (with_text s limit text) (accepted ++ take (count_sendable s limit text) text) false false
 sends-more s limit accepted text most bytes h =
@@ -137,6 +129,7 @@ same-accepted : (accepted more : List ℕ) (closed closed' : Bool) → (closed �
     → accepted ≡ accepted ++ more
 same-accepted accepted more closed closed' fixed e = sym (ap (λ xs. accepted ++ xs) (fixed e).0 ∙ append-nil accepted)
 
+-- what was taken of a stream was taken of a longer one
 pub takes-more : (r : Receiving) (irs : ℕ) (accepted : List ℕ) (closed closed' : Bool) (more : List ℕ) → (closed ≡ true → (more ≡ []) × (closed' ≡ true))
     → Takes r irs accepted closed → Takes r irs (accepted ++ more) closed'
 takes-more r irs accepted closed closed' more fixed h = record {
@@ -147,6 +140,7 @@ takes-more r irs accepted closed closed' more fixed h = record {
   held = rw (drop-append-le r.ordered accepted more h.order) (Agrees-more r.inbox.held (drop r.ordered accepted) more h.held);
 }
 
+-- and what was delivered
 pub hands-more : (r : Receiving) (accepted : List ℕ) (closed closed' : Bool) (delivered more : List ℕ) (ended gone : Bool)
     → (closed ≡ true → (more ≡ []) × (closed' ≡ true)) → r.ordered ≤ length accepted
     → HandsOver r.inbox.unread r.ordered accepted closed delivered ended gone
@@ -174,6 +168,7 @@ unfolding after_read
 takes-read r irs accepted closed n h =
     record { next = h.next; unopened = h.unopened; order = h.order; fin = h.fin; held = after_read-agrees r.inbox n (drop r.ordered accepted) h.held }
 
+-- what the user reads is delivered
 pub hands-read : (r : Receiving) (accepted : List ℕ) (closed : Bool) (delivered : List ℕ) (ended gone : Bool) (n : ℕ)
     → HandsOver r.inbox.unread r.ordered accepted closed delivered ended gone
     → HandsOver (after_handing r n).inbox.unread (after_handing r n).ordered accepted closed
@@ -220,6 +215,7 @@ further-ordered : (r : Receiving) (inbox : Inbox) (accepted : List ℕ) (n : ℕ
     → min max_ordered (r.ordered + n) ≡ r.ordered + n
 further-ordered r inbox accepted n limit order steps = omega (arith, order, limit, steps.within, length-drop r.ordered accepted)
 
+-- RCV.NXT moves on by what came in order
 pub takes-advance : (r : Receiving) (irs : ℕ) (accepted : List ℕ) (closed : Bool) (inbox : Inbox) (n : ℕ) → length accepted ≤ stream_limit → r.opened ≡ true
     → r.finished ≡ false
     → Takes r irs accepted closed → Advances r.inbox inbox (drop r.ordered accepted) n → Takes (with_inbox r inbox n) irs accepted closed
@@ -234,6 +230,7 @@ takes-advance r irs accepted closed inbox n limit opened unfinished h steps =
       held = rw further (rw (← drop-drop n r.ordered accepted) steps.held);
     }
 
+-- and what is unread grows by it
 pub hands-advance : (r : Receiving) (irs : ℕ) (accepted : List ℕ) (closed : Bool) (delivered : List ℕ) (ended gone : Bool) (inbox : Inbox) (n : ℕ)
     → length accepted ≤ stream_limit → gone ≡ false
     → Takes r irs accepted closed → HandsOver r.inbox.unread r.ordered accepted closed delivered ended gone
@@ -269,6 +266,7 @@ pub takes-given_up : (r : Receiving) (irs : ℕ) (accepted : List ℕ) (closed :
 takes-given_up r irs accepted closed h =
     record { next = h.next; unopened = h.unopened; order = h.order; fin = h.fin; held = empty_inbox-agrees r.inbox.capacity (drop r.ordered accepted) }
 
+-- what is unread may be given up, and is not delivered then
 pub hands-given_up : (r : Receiving) (accepted : List ℕ) (closed : Bool) (delivered : List ℕ) (ended gone : Bool)
     → HandsOver r.inbox.unread r.ordered accepted closed delivered ended gone
     → HandsOver (without_bytes r).inbox.unread (without_bytes r).ordered accepted closed delivered ended true

@@ -1,49 +1,28 @@
 -- SELECTIVE ACKNOWLEDGEMENT: what is reported is true, and every event keeps blocks and marks true.
-use Rattle.std.proofs.Common.{◌≡◌, ℕ, ◌+◌, ◌^◌, ◌≤◌, List, [], length, refl, sym, ◌∙◌, arith, subst, zero, suc, ◌-◌, ◌∷◌, ◌++◌, take, map, ap, inr, append-nil}
-use Rattle.std.specs.Prelude.{true, false, not, ◌==◌, Bool, nat_lt, Option, Some, None, slice_get}
-use Rattle.std.proofs.lemmas.Bool.{cond_both, and_parts, eqb-false, not-true, false≢true}
-use Rattle.tcp_wire.specs.Position.{offset, number}
-use Rattle.tcp_wire.specs.Wire.{Content}
-use Rattle.tcp_reasm.specs.Reassembly.{after_place, blocks, Cell, Run, runs, insertion_by_stamp, runs_newest_first, max_blocks}
-use Rattle.tcp_reasm.proofs.Placing.{after_place-keeps}
-use Rattle.tcp_conn.specs.declared.phase.Ending.{Ending}
-use Rattle.tcp_conn.specs.declared.phase.Ending.TheVariants.{Reset, Aborted}
-use Rattle.tcp_conn.specs.Phase.{is_syn_received, takes_text, gives_up}
-use Rattle.tcp_conn.specs.State.{State, Sending, Receiving}
-use Rattle.tcp_conn.specs.Windows.{window_from}
-use Rattle.tcp_conn.specs.Blocks.{reported_blocks, after_blocks, block_numbers, blocks_to_report, sack_options}
-use Rattle.tcp_halves.specs.Sender.{with_syn_acked, with_window, after_window_update, with_all_resent}
-use Rattle.tcp_halves.specs.Receiver.{after_text, with_fin, after_handing, next_wanted}
-use Rattle.tcp_conn.specs.Endings.{after_giving_up}
-use Rattle.tcp_conn.specs.Judgement.{position_near}
-use Rattle.tcp_conn.specs.Arrival.{after_own_syn, after_acked_text, blocks_used, is_current, after_news, takes_text_of, takes_fin, after_peer_opens}
-use Rattle.tcp_conn.specs.Arrival.{after_peer_accepts}
-use Rattle.tcp_replay.specs.World.{PartyState, address_of, SentSegment, WorldState, max_life, new_party, other, refusal_of, world_with_effect}
-use Rattle.tcp_replay.specs.Truthful.{IsTruthful, IsTrueBlock, Witness, HasPosition}
-use Rattle.tcp_replay.specs.Safe.{witness_of, gave_up, next_position, HasTrueHints, HintsAreTrue}
-use Rattle.tcp_replay.specs.Sound.{IsSoundPair, AreBlocksBehind, KeepBothHints, IsBlockBehind, AreSoundEnds, KeepsHints}
+use Rattle.std.proofs.Common.{[], ℕ, ◌++◌, ◌+◌, ◌-◌, ◌==◌, ◌^◌, ◌∙◌, ◌∷◌, ◌≡◌, ◌≤◌, ap, append-nil, arith, Bool, false, inr, length, List, map, nat_lt, None}
+use Rattle.std.proofs.Common.{not, Option, refl, slice_get, Some, subst, suc, sym, take, true, zero}
+use Rattle.tcp_replay.proofs.Words.{Aborted, ack, after_acked_text, after_blocks, after_giving_up, after_handing, after_news, after_own_syn, after_peer_accepts}
+use Rattle.tcp_replay.proofs.Words.{after_peer_opens, after_place, after_place-keeps, after_text, after_window_update, AllByRecursion, and_parts, block_numbers}
+use Rattle.tcp_replay.proofs.Words.{blocks, blocks_to_report, blocks_used, Cell, cond_both, Config, Content, Due, Ending, eqb-false, false≢true, gives_up, has}
+use Rattle.tcp_replay.proofs.Words.{insertion_by_stamp, is_current, is_fin, is_sack_offered, is_syn_received, IsHeld, IsMaximal, max_blocks, Mss, next_wanted}
+use Rattle.tcp_replay.proofs.Words.{not-true, number, offset, permission_options, plain_segment, position_near, pushes, Receiving, reported_blocks, Reset, rst}
+use Rattle.tcp_replay.proofs.Words.{Run, runs, runs_are_maximal_lem, runs_newest_first, sack_options, scale_options, segment_of, Sending, shift_offered, State}
+use Rattle.tcp_replay.proofs.Words.{Syn, takes_fin, takes_text, takes_text_of, window_from, with_all_resent, with_fin, with_syn_acked, with_window}
+use Rattle.tcp_replay.proofs.WorldWords.{address_of, AreBlocksBehind, AreSoundEnds, EventContent, gave_up, HasBytes, HasPosition, HasTrueHints, HintsAreTrue}
+use Rattle.tcp_replay.proofs.WorldWords.{IsBlockBehind, IsSoundPair, IsTrueBlock, IsTruthful, KeepBothHints, KeepsHints, max_life, new_party, next_position}
+use Rattle.tcp_replay.proofs.WorldWords.{other, PartyState, refusal_of, SentSegment, Witness, witness_of, world_with_effect, WorldState}
+use Rattle.tcp_conn.specs.declared.phase.Ending.TheVariants.{Reset}
 use Rattle.tcp_replay.proofs.Steps.{Kept, kept-same, Moved}
 use Rattle.tcp_replay.proofs.Phases.{gives_up-not_ended, end-synchronized, time_wait-synchronized}
 use Rattle.tcp_replay.proofs.Alone.{same-window}
 use Rattle.tcp_replay.proofs.Stages.{Synced, IsAhead, IsYoung, text_advance, text-advances, placed, fin-in_turn}
 use Rattle.tcp_replay.proofs.Holdings.{Has, HasMore, has-inside, has-text, has-fin, has-read, AreTrueMarks, marks-after_ack, marks-given_up, marks-window}
 use Rattle.tcp_replay.proofs.Holdings.{marks-blocks, marks-text, marks-none}
-use Rattle.tcp_wire.specs.Flags.{has, rst, ack}
-use Rattle.tcp_halves.specs.declared.due.Due.TheVariants.{Reset, Syn}
 use Rattle.tcp_replay.proofs.Events.{Arrives, after_segment, PairKept, Speaks, in-world, said-after, said-back}
 use Rattle.tcp_replay.proofs.Calls.{KeptByCalls}
 use Rattle.tcp_replay.proofs.Arrivals.{on-arrival}
-use Rattle.std.specs.List.{AllByRecursion}
-use Rattle.tcp_wire.specs.Options.{Mss}
-use Rattle.tcp_reasm.specs.Laws.{IsHeld, IsMaximal}
-use Rattle.tcp_reasm.proofs.Maximal.{runs_are_maximal_lem}
-use Rattle.tcp_halves.specs.declared.due.Due.{Due}
-use Rattle.tcp_conn.specs.Due.{is_fin}
-use Rattle.tcp_conn.specs.Forms.{pushes, plain_segment, shift_offered, is_sack_offered, scale_options, permission_options, segment_of}
 use Rattle.tcp_replay.proofs.Lists.{number-further}
 use Rattle.tcp_replay.proofs.Emissions.{GoesOut, plain-bits, wanted-is}
-use Rattle.tcp_halves.specs.declared.config.Config.{Config}
-use Rattle.tcp_replay.specs.Events.{EventContent, HasBytes}
 
 -- Party p's end may be in this state, its peer q being where it is: what it had it has, unless it gave up, and what it
 -- marks q has, unless that gave up.
@@ -326,6 +305,7 @@ hints-kept = record {
   moved = hints-moved;
 }
 
+-- any event keeps blocks and marks true
 pub hints-after : (w : WorldState) (event : EventContent) → w.life ≤ max_life → HasBytes event → refusal_of w event ≡ None → AreSoundEnds w
     → KeepBothHints w.a w.b
     → KeepBothHints (world_with_effect w event).a (world_with_effect w event).b
@@ -335,6 +315,7 @@ hints-after w event most fits e ends h = in-world _ _ _ hints-kept w event most 
 new-hints : (a b : Config) → KeepsHints (new_party a) (new_party b)
 new-hints a b = record { blocks = λ k g v never. absurd (cc); marks = λ stays place never. absurd (cc) }
 
+-- two new ends report and mark nothing
 pub hints-new : (a b : Config) → KeepBothHints (new_party a) (new_party b)
 hints-new a b = record { there = new-hints a b; back = new-hints b a }
 
@@ -342,5 +323,6 @@ hints-new a b = record { there = new-hints a b; back = new-hints b a }
 true-there : (p q : PartyState) → KeepsHints p q → HasTrueHints p q
 true-there p q h = record { blocks = λ v sent stays k block is. (h.blocks sent.0 sent.1 v sent.2 sent.3 stays k block is).0; marks = h.marks }
 
+-- what is kept of blocks and marks is what is promised of them
 pub hints-true : (w : WorldState) → KeepBothHints w.a w.b → HintsAreTrue w
 hints-true w h = record { there = true-there w.a w.b h.there; back = true-there w.b w.a h.back }

@@ -1,27 +1,16 @@
 -- WHAT AN END HAS of the other direction, and keeps until it gives up; and the marks of the half that sends, each of a position that the other end has.
-use Rattle.std.proofs.Common.{◌≡◌, ℕ, zero, suc, ◌+◌, ◌-◌, ◌<◌, ◌≤◌, List, [], ◌∷◌, ◌++◌, length, get_or, take, drop, refl, sym, ◌∙◌, ap, ⊎_elim, inl, inr}
-use Rattle.std.proofs.Common.{arith, length-append, length-drop, ◌^◌, subst}
-use Rattle.std.specs.Prelude.{◌⊎◌, min, Bool, true, false, map, replicate, Option, Some, None, slice_get, ◌&&◌, nat_lt, nat_le}
-use Rattle.std.proofs.lemmas.Bool.{cases_lt, cond_both, ltb-true, and_parts}
-use Rattle.std.proofs.lemmas.List.{get_or-append-add, length-map, length-take-le}
-use Rattle.tcp_reasm.specs.Reassembly.{Cell, Inbox, after_read}
-use Rattle.tcp_reasm.specs.Agreement.{Agrees, Advances}
-use Rattle.tcp_reasm.specs.Laws.{byte_of, byte_at, KeepsBytes}
-use Rattle.tcp_conn.specs.State.{Receiving, Sending, place_of, position_at}
-use Rattle.tcp_halves.specs.Receiver.{max_ordered, with_inbox, with_fin, after_handing}
-use Rattle.tcp_halves.specs.Config.{stream_limit}
+use Rattle.std.proofs.Common.{[], ℕ, ⊎_elim, ◌&&◌, ◌++◌, ◌+◌, ◌-◌, ◌<◌, ◌^◌, ◌∙◌, ◌∷◌, ◌≡◌, ◌≤◌, ◌⊎◌, ap, arith, Bool, drop, false, get_or, inl, inr, length}
+use Rattle.std.proofs.Common.{length-append, length-drop, List, map, min, nat_le, nat_lt, None, Option, refl, replicate, slice_get, Some, subst, suc, sym, take}
+use Rattle.std.proofs.Common.{true, zero}
+use Rattle.tcp_replay.proofs.Words.{acks_more, Advances, after_ack, after_block, after_blocks, after_handing, after_mark, after_read, after_window_update}
+use Rattle.tcp_replay.proofs.Words.{Agrees, and_parts, byte_at, byte_of, can_mark, cases_lt, Cell, cond_both, count_below, get_or-append-add, Inbox, is_newer}
+use Rattle.tcp_replay.proofs.Words.{is_of_flight, IsMarked, IsMarked-after_offer, IsMarked-after_release, IsMarked-without_marks, KeepsBytes, length-map}
+use Rattle.tcp_replay.proofs.Words.{length-take-le, ltb-true, marks_text, marks_with, marks_with-only, max_capacity, max_ordered, place_of, position_at}
+use Rattle.tcp_replay.proofs.Words.{position_of, position_of_number, Queue, Receiving, Sending, slice_get_within, stream_limit, with_acked, with_fin}
+use Rattle.tcp_replay.proofs.Words.{with_inbox, with_marks, with_text, with_window, without_marks, without_text}
+use Rattle.tcp_replay.proofs.WorldWords.{AreBlocksBehind, HasPosition, IsBlockBehind, Sends, Witness}
 use Rattle.tcp_replay.proofs.Lists.{one_if, one_if-false, one_if-most}
 use Rattle.tcp_replay.proofs.Steps.{next_of}
-use Rattle.std.proofs.lemmas.Option.{slice_get_within}
-use Rattle.tcp_wire.specs.Position.{position_of}
-use Rattle.tcp_wire.proofs.Lemmas.{position_of_number}
-use Rattle.tcp_sendq.specs.SendQueue.{Queue, IsMarked, marks_with, can_mark, after_mark, without_marks, max_capacity}
-use Rattle.tcp_sendq.proofs.Places.{marks_with-only, IsMarked-without_marks, IsMarked-after_release, IsMarked-after_offer}
-use Rattle.tcp_halves.specs.Sender.{with_text, count_below, acks_more, with_acked, after_ack, is_newer, with_window, after_window_update, without_text}
-use Rattle.tcp_conn.specs.Blocks.{is_of_flight, marks_text, with_marks, after_block, after_blocks}
-use Rattle.tcp_replay.specs.Truthful.{Witness, HasPosition}
-use Rattle.tcp_replay.specs.Sound.{IsBlockBehind, AreBlocksBehind}
-use Rattle.tcp_replay.specs.Alone.{Sends}
 use Rattle.tcp_replay.proofs.Alone.{same-marks}
 
 -- a position that is held: so many places after the next one
@@ -32,6 +21,7 @@ IsHeldAt r n = (cell : Cell) × (next_of r ≤ n) × (slice_get r.inbox.held (n 
 abbrev pub Has : Receiving → ℕ → Type 0
 Has r n = (n < next_of r) ⊎ IsHeldAt r n
 
+-- a position that the one half has, the other has
 abbrev pub HasMore : Receiving → Receiving → Type 0
 HasMore r r' = (n : ℕ) → Has r n → Has r' n
 
@@ -40,11 +30,10 @@ held-inside : (held : List (Option Cell)) (rest : List ℕ) (k : ℕ) (cell : Ce
 held-inside [] rest k cell h e = absurd (cc)
 held-inside (None ∷ places) [] zero cell h e = absurd (cc)
 held-inside (None ∷ places) [] (suc k) cell h e = absurd (omega (arith, held-inside places [] k cell h e))
-held-inside (None ∷ places) (byte ∷ rest) zero cell h e = omega arith
 held-inside (None ∷ places) (byte ∷ rest) (suc k) cell h e = omega (arith, held-inside places rest k cell h e)
 held-inside (Some first ∷ places) [] k cell h e = absurd h
-held-inside (Some first ∷ places) (byte ∷ rest) zero cell h e = omega arith
 held-inside (Some first ∷ places) (byte ∷ rest) (suc k) cell h e = omega (arith, held-inside places rest k cell h.1 e)
+held-inside other (byte ∷ rest) zero cell h e = omega arith
 
 below-inside : (ordered whole n : ℕ) (finished : Bool) → ordered ≤ whole → n < 1 + ordered + one_if finished → n ≤ 1 + whole
 below-inside ordered whole n true order below = omega arith
@@ -65,6 +54,7 @@ slice_get-before [] ys k x e = absurd (cc)
 slice_get-before (first ∷ xs) ys zero x e = e
 slice_get-before (first ∷ xs) ys (suc k) x e = slice_get-before xs ys k x e
 
+-- a read leaves all positions
 pub has-read : (r : Receiving) (n : ℕ) → HasMore r (after_handing r n)
 unfolding after_read
 has-read r n position (inl below) = inl below
@@ -106,6 +96,7 @@ stays-held q q' n k cell keeps longer further e =
     let place : length q.unread + k ≡ length q'.unread + (k - n) = omega (arith, longer) in
     held-byte q'.held (k - n) cell.byte (sym (after-unread q' (k - n)) ∙ ap (byte_at q') (sym place) ∙ keeps (length q.unread + k) cell.byte there)
 
+-- placing text leaves all positions
 pub has-text : (r : Receiving) (q' : Inbox) (accepted : List ℕ) (n : ℕ) → r.ordered ≤ length accepted → length accepted ≤ stream_limit → KeepsBytes r.inbox q'
     → Advances r.inbox q' (drop r.ordered accepted) n → HasMore r (with_inbox r q' n)
 has-text r q' accepted n order limit keeps steps position had =
@@ -124,12 +115,9 @@ has-text r q' accepted n order limit keeps steps position had =
     inr (still.0, omega (arith, next, is.1), ap (slice_get q'.held) (sym place) ∙ still.1))
     (cases_lt k n)) had
 
+-- each marked byte is at a position that the other half has
 abbrev pub AreTrueMarks : Sending → Receiving → Type 0
 AreTrueMarks d r = (place : ℕ) → IsMarked d.queue place → Has r (position_at d place)
-
--- the other end has what it had
-marks-more : (d : Sending) (r r' : Receiving) → HasMore r r' → AreTrueMarks d r → AreTrueMarks d r'
-marks-more d r r' more h place is = more (position_at d place) (h place is)
 
 -- a release takes bytes with their marks
 marks-acked : (d : Sending) (r : Receiving) (a : ℕ) → AreTrueMarks d r → AreTrueMarks (with_acked d a) r
@@ -137,6 +125,7 @@ marks-acked d r a h place is =
     let same : 1 + d.released + (count_below d a + place) ≡ 1 + (d.released + count_below d a) + place = omega arith in
     subst (Has r) same (h (count_below d a + place) (IsMarked-after_release d.queue (count_below d a) place is))
 
+-- an acknowledgement leaves marks true
 pub marks-after_ack : (d : Sending) (r : Receiving) (a : ℕ) → AreTrueMarks d r → AreTrueMarks (after_ack d a) r
 unfolding after_ack
 marks-after_ack d r a h = cond_both (acks_more d a) (with_acked d a) d (λ (x : Sending). AreTrueMarks x r) (λ _. marks-acked d r a h) (λ _. h)
@@ -149,12 +138,14 @@ marks-text d r limit text h place is = h place (IsMarked-after_offer d.queue _ p
 pub marks-none : (d d' : Sending) (r : Receiving) → d'.queue ≡ without_marks d.queue → AreTrueMarks d' r
 marks-none d d' r e place is = absurd (IsMarked-without_marks d.queue place (subst (λ (q : Queue). IsMarked q place) e is))
 
+-- an end that gives up has no marks
 pub marks-given_up : (d : Sending) (r : Receiving) → length d.queue.marks ≡ length d.queue.bytes → AreTrueMarks (without_text d) r
 marks-given_up d r flags place is =
     let inside : length d.queue.bytes + place < length d.queue.marks = slice_get_within d.queue.marks (length d.queue.bytes + place) true
     (IsMarked-after_release d.queue (length d.queue.bytes) place is) in
     absurd (omega (arith, flags))
 
+-- a window update leaves them
 pub marks-window : (d : Sending) (r : Receiving) (seq ack window : ℕ) → AreTrueMarks d r → AreTrueMarks (after_window_update d seq ack window) r
 unfolding after_window_update
 marks-window d r seq ack window h = cond_both (is_newer d seq ack) (with_window d seq ack window) d (λ (x : Sending). AreTrueMarks x r) (λ _. h) (λ _. h)

@@ -1,20 +1,11 @@
 -- What is known of a segment and the end where each judgement is passed: the tests are gone through once.
-use Rattle.std.proofs.Common.{◌≡◌, ℕ, List}
-use Rattle.std.specs.Prelude.{true, false, not, ◌&&◌, ◌==◌, if◌then◌else◌}
-use Rattle.std.proofs.lemmas.Bool.{cond_both, and_parts, not-false, not-true}
-use Rattle.tcp_wire.specs.Flags.{syn, rst, ack, has}
-use Rattle.tcp_wire.specs.Wire.{Content}
-use Rattle.tcp_reasm.specs.Reassembly.{window}
-use Rattle.tcp_conn.specs.declared.judgement.Judgement.{Judgement}
-use Rattle.tcp_conn.specs.declared.judgement.Judgement.TheVariants.{Foreign, ResetIgnored, Stray, AckOfListen, OpensNothing, PeerOpens, AckOfNoSyn}
-use Rattle.tcp_conn.specs.declared.judgement.Judgement.TheVariants.{PeerRefuses, PeerAccepts, Unacceptable, PeerResets, ResetElsewhere, SynInWindow, NoAck}
-use Rattle.tcp_conn.specs.declared.judgement.Judgement.TheVariants.{AcksUnsent, HandshakeRefused, HandshakeRefusedShut, Taken, TakenShut}
-use Rattle.tcp_conn.specs.Phase.{is_closed, is_listening, is_syn_sent, is_syn_received}
-use Rattle.tcp_conn.specs.State.{State}
-use Rattle.tcp_halves.specs.Sender.{acks_unsent}
-use Rattle.tcp_conn.specs.Judgement.{position_near, is_foreign, closed_judgement, listen_judgement, acks_syn, syn_sent_judgement, is_acceptable_segment}
-use Rattle.tcp_conn.specs.Judgement.{ack_judgement, is_allowed_shut, unacceptable_judgement, acceptable_judgement, present_judgement, phase_judgement}
-use Rattle.tcp_conn.specs.Judgement.{judgement}
+use Rattle.std.proofs.Common.{ℕ, ◌&&◌, ◌==◌, ◌≡◌, false, if◌then◌else◌, List, not, true}
+use Rattle.tcp_replay.proofs.Words.{acceptable_judgement, ack, ack_judgement, AckOfListen, AckOfNoSyn, acks_syn, acks_unsent, AcksUnsent, and_parts}
+use Rattle.tcp_replay.proofs.Words.{closed_judgement, cond_both, Content, Foreign, HandshakeRefused, HandshakeRefusedShut, has, is_acceptable_segment}
+use Rattle.tcp_replay.proofs.Words.{is_allowed_shut, is_closed, is_foreign, is_listening, is_syn_received, is_syn_sent, Judgement, judgement, listen_judgement}
+use Rattle.tcp_replay.proofs.Words.{NoAck, not-false, not-true, OpensNothing, PeerAccepts, PeerOpens, PeerRefuses, PeerResets, phase_judgement, position_near}
+use Rattle.tcp_replay.proofs.Words.{present_judgement, ResetElsewhere, ResetIgnored, rst, State, Stray, syn, syn_sent_judgement, SynInWindow, Taken, TakenShut}
+use Rattle.tcp_replay.proofs.Words.{Unacceptable, unacceptable_judgement, window}
 
 -- the phases that are tested first are none of them
 pub record IsPresent (s : State) : Type 0 where
@@ -27,6 +18,7 @@ pub record IsSyn (v : Content) : Type 0 where
   pub plain : has rst v.flags ≡ false
   pub is_syn : has syn v.flags ≡ true
 
+-- an acknowledgement without SYN and RST
 pub record IsAckOnly (v : Content) : Type 0 where
   pub plain : has rst v.flags ≡ false
   pub no_syn : has syn v.flags ≡ false
@@ -130,6 +122,7 @@ module _ (s : State) (v : Content) (P : Judgement → Type 0) (c : Cases s v P) 
   in-present present =
       cond_both (is_acceptable_segment s v) (acceptable_judgement s v) (unacceptable_judgement s v) P (in-acceptable present) (λ _. in-unacceptable present)
 
+  -- something holds of what is judged by the phase
   pub in-phase : P (phase_judgement s v)
   unfolding phase_judgement
   in-phase =
@@ -139,6 +132,7 @@ module _ (s : State) (v : Content) (P : Judgement → Type 0) (c : Cases s v P) 
       (λ listening. cond_both (is_syn_sent s.phase) (syn_sent_judgement s v) (present_judgement s v) P in-syn_sent
       (λ sent. in-present (record { shut = shut; listening = listening; syn_sent = sent }))))
 
+  -- and of whatever is judged
   pub judged : (src dst : List ℕ) → P (judgement s src dst v)
   unfolding judgement
   judged src dst = cond_both (is_foreign s src dst v) Foreign (phase_judgement s v) P (λ _. c.foreign) (λ _. in-phase)

@@ -1,4 +1,7 @@
+pub mod Words
+pub mod WorldWords
 pub mod Lists
+pub mod Cases
 pub mod Halves
 pub mod Phases
 pub mod Feeds
@@ -21,4 +24,5 @@ pub mod Hints
 pub mod Runs
 pub mod SoloLogs
 pub mod Worlds
+pub mod Lemmas
 pub mod Examples

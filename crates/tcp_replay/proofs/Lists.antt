@@ -1,13 +1,8 @@
 -- Cases by a test, prefixes of lists, bytes, and the numbers of positions.
-use Rattle.std.proofs.Common.{◌≡◌, ℕ, zero, suc, ◌+◌, ◌-◌, ◌≤◌, List, [], ◌∷◌, ◌++◌, length, take, drop, refl, sym, ◌∙◌, ap, ⊎_elim, arith, length-append}
-use Rattle.std.proofs.Common.{length-take, ◌%◌, ◌^◌, ◌<◌}
-use Rattle.std.specs.Prelude.{Bool, true, false, ◌&&◌, ◌||◌, if◌then◌else◌, Option, Some, None}
-use Rattle.std.proofs.lemmas.List.{nil_from_length, get_or-take, get_or-drop, get_or_past, get_or_append_left, get_or-append_right}
-use Rattle.std.proofs.lemmas.Bool.{cases_lt}
-use Rattle.tcp_wire.specs.Checksum.{AreBytes}
-use Rattle.tcp_reasm.specs.Reassembly.{Cell}
-use Rattle.tcp_reasm.specs.Agreement.{Agrees}
-use Rattle.tcp_wire.specs.Position.{number}
+use Rattle.std.proofs.Common.{[], ℕ, ⊎_elim, ◌%◌, ◌&&◌, ◌++◌, ◌+◌, ◌-◌, ◌<◌, ◌^◌, ◌||◌, ◌∙◌, ◌∷◌, ◌≡◌, ◌≤◌, ap, arith, Bool, drop, false, if◌then◌else◌, length}
+use Rattle.std.proofs.Common.{length-append, length-take, List, None, Option, refl, Some, suc, sym, take, true, zero}
+use Rattle.tcp_replay.proofs.Words.{Agrees, AreBytes, cases_lt, Cell, get_or-append_right, get_or-drop, get_or-take, get_or_append_left, get_or_past}
+use Rattle.tcp_replay.proofs.Words.{nil_from_length, number}
 
 -- what holds by a test, either way
 pub by_test : (b : Bool) (P : Bool → Type 0) → (b ≡ true → P true) → (b ≡ false → P false) → P b
@@ -18,9 +13,11 @@ by_test false P holds fails = fails refl
 abbrev pub one_if : Bool → ℕ
 one_if b = if b then 1 else 0
 
+-- a flag that is not set counts nothing
 pub one_if-false : (b : Bool) → b ≡ false → one_if b ≡ 0
 one_if-false b e = rw e refl
 
+-- a flag counts one at most
 pub one_if-most : (b : Bool) → one_if b ≤ 1
 one_if-most true = omega arith
 one_if-most false = omega arith
@@ -30,6 +27,7 @@ pub and-fails : (a b : Bool) → (a && b) ≡ false → a ≡ true → b ≡ fal
 and-fails true b e holds = e
 and-fails false b e holds = absurd (cc)
 
+-- neither of two tests holds
 pub or-fails : (a b : Bool) → (a || b) ≡ false → (a ≡ false) × (b ≡ false)
 or-fails true b e = absurd (cc)
 or-fails false b e = (refl, e)
@@ -43,11 +41,13 @@ AreBytes-append xs ys left right i =
 take-short : (n : ℕ) (xs : List ℕ) (i : ℕ) → n ≤ i → length (take n xs) ≤ i
 take-short n xs i more = omega (arith, length-take n xs)
 
+-- a front of bytes is bytes
 pub AreBytes-take : (n : ℕ) (xs : List ℕ) → AreBytes xs → AreBytes (take n xs)
 AreBytes-take n xs h i =
     ⊎_elim (λ less. rw (get_or-take n xs i 0 less) (h i))
     (λ more. rw (get_or_past (take n xs) i 0 (take-short n xs i more)) (omega arith)) (cases_lt i n)
 
+-- and what is behind it
 pub AreBytes-drop : (n : ℕ) (xs : List ℕ) → AreBytes xs → AreBytes (drop n xs)
 AreBytes-drop n xs h i = rw (get_or-drop n xs i 0) (h (n + i))
 
@@ -60,6 +60,7 @@ Agrees-more (None ∷ places) (byte ∷ rest) more h = Agrees-more places rest m
 Agrees-more (Some cell ∷ places) [] more h = absurd h
 Agrees-more (Some cell ∷ places) (byte ∷ rest) more h = (h.0, Agrees-more places rest more h.1)
 
+-- nothing is taken of nothing
 pub take-none : (n : ℕ) → take {A = ℕ} n [] ≡ []
 take-none zero = refl
 take-none (suc n) = refl
@@ -71,6 +72,7 @@ take-further (suc m) zero [] = sym (take-none (suc m + 0))
 take-further (suc m) (suc n) [] = sym (take-none (suc m + suc n))
 take-further (suc m) n (x ∷ xs) = ap (λ ys. x ∷ ys) (take-further m n xs) ∙ (let e : suc (m + n) ≡ suc m + n = omega arith in ap (λ k. take k (x ∷ xs)) e)
 
+-- what is behind a front of a front
 pub drop-take_sub : (k n : ℕ) (xs : List ℕ) → drop k (take n xs) ≡ take (n - k) (drop k xs)
 drop-take_sub zero n xs = let e : n ≡ n - zero = omega arith in ap (λ m. take m xs) e
 drop-take_sub (suc k) zero xs = let e : zero ≡ zero - suc k = omega arith in ap (λ m. take m (drop (suc k) xs)) e

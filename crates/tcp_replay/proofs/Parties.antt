@@ -1,35 +1,15 @@
 -- What a party's methods do, step by step, is what the definitions say.
-use Rattle.std.proofs.Common.{◌≡◌, ℕ, List, ◌++◌, length, take, drop, refl, sym, ◌∙◌, ap, subst, arith, length-take}
-use Rattle.std.specs.Prelude.{min, Bool, ◌&&◌, ◌||◌, ◌==◌, nat_lt, if◌then◌else◌, ◌↔◌, Option, Some, None, option_map, option_to_list, replicate, Result, Ok}
-use Rattle.std.specs.Prelude.{Err}
-use Rattle.std.proofs.lemmas.Bool.{cond_both, eqb-true}
-use Rattle.std.proofs.lemmas.List.{take_at, drop_min}
-use Rattle.tcp_wire.specs.Wire.{wire_length}
-use Rattle.tcp_wire.proofs.Lemmas.{length_encoded}
-use Rattle.tcp_reasm.specs.Reassembly.{Inbox, after_read}
-use Rattle.tcp_halves.specs.declared.config.Config.{Config}
-use Rattle.tcp_halves.specs.declared.config.ConfigError.{ConfigError}
+use Rattle.std.proofs.Common.{ℕ, ◌&&◌, ◌++◌, ◌==◌, ◌||◌, ◌↔◌, ◌∙◌, ◌≡◌, ap, arith, Bool, drop, Err, if◌then◌else◌, length, length-take, List, min, nat_lt, None}
+use Rattle.std.proofs.Common.{Ok, Option, option_map, option_to_list, refl, replicate, Result, Some, subst, sym, take}
+use Rattle.tcp_replay.proofs.Words.{advertised_window, after_due, after_emission, after_read, after_receive, answer_unless, buffer_after, buffer_with, Bytes}
+use Rattle.tcp_replay.proofs.Words.{bytes_of, bytes_unless, CallError, cond_both, Config, ConfigError, destination, destination_of, drop_min, Due, due_of}
+use Rattle.tcp_replay.proofs.Words.{emitted_bytes, EndOfStream, eqb-true, HasBadCapacity, HasBadLimit, HasBadMss, HasBadShift, Inbox, IsGoodConfig}
+use Rattle.tcp_replay.proofs.Words.{length_encoded, Nothing, pending_length, receive_answer, receive_refusal, Received, received_bytes, received_value}
+use Rattle.tcp_replay.proofs.Words.{segment_of, State, state_unless, take_at, takes_text, wire_length, with_bytes_received}
+use Rattle.tcp_replay.proofs.WorldWords.{A, B, count_handed, emission_outcome, HasFault, NamesFault, party_after_emission, PartyState, segment_due, sent_by}
+use Rattle.tcp_replay.proofs.WorldWords.{SentSegment, Side, WorldError, WorldState}
 use Rattle.tcp_halves.specs.declared.config.ConfigError.TheVariants as faults
-use Rattle.tcp_halves.specs.Config.{HasBadCapacity, HasBadMss, HasBadShift, HasBadLimit, IsGoodConfig}
-use Rattle.tcp_halves.specs.declared.due.Due.{Due}
-use Rattle.tcp_conn.specs.declared.outcome.CallError.{CallError}
-use Rattle.tcp_conn.specs.declared.outcome.Received.{Received}
-use Rattle.tcp_conn.specs.declared.outcome.Received.TheVariants.{Bytes, Nothing, EndOfStream}
-use Rattle.tcp_conn.specs.Phase.{takes_text}
-use Rattle.tcp_conn.specs.State.{State}
-use Rattle.tcp_conn.specs.Calls.{answer_unless, bytes_unless, state_unless, receive_refusal, received_value, receive_answer, received_bytes}
-use Rattle.tcp_conn.specs.Calls.{with_bytes_received, after_receive}
-use Rattle.tcp_conn.specs.Windows.{advertised_window}
-use Rattle.tcp_conn.specs.Due.{due_of}
-use Rattle.tcp_conn.specs.Forms.{segment_of}
-use Rattle.tcp_conn.specs.Writing.{bytes_of, destination_of}
-use Rattle.tcp_conn.specs.Emission.{emitted_bytes, after_due, after_emission, pending_length, destination, buffer_with, buffer_after}
-use Rattle.tcp_replay.specs.Solo.{segment_due}
-use Rattle.tcp_replay.specs.declared.event.Side.{Side}
-use Rattle.tcp_replay.specs.declared.event.Side.TheVariants.{A, B}
-use Rattle.tcp_replay.specs.declared.outcome.WorldError.{WorldError}
 use Rattle.tcp_replay.specs.declared.outcome.WorldError.TheVariants as worlds
-use Rattle.tcp_replay.specs.World.{PartyState, SentSegment, sent_by, WorldState, NamesFault, HasFault, count_handed, party_after_emission, emission_outcome}
 use Rattle.tcp_replay.specs.declared.outcome.Outcome.TheVariants as outcomes
 
 -- EMISSION, by what is due
@@ -38,6 +18,7 @@ nothing-as : (s : State) (due : Option Due) → option_map (λ d. wire_length (s
 nothing-as s None e = (refl, refl)
 nothing-as s (Some due) e = absurd (cc)
 
+-- where no segment is pending an emission changes nothing
 pub emits_nothing : (s : State) → pending_length s ≡ None → (s ≡ after_emission s) × (None ≡ segment_due s)
 unfolding pending_length after_emission segment_due
 emits_nothing s e = nothing-as s (due_of s) e
@@ -64,6 +45,7 @@ something-as s (Some due) len to room bytes e f h =
     let text : bytes ≡ bytes_of s due = h ∙ ap (λ n. take n (buffer_with s (Some due) room)) (sym is) ∙ front-bytes s due room in
     ap (λ (a : List ℕ). segment_to a bytes) there ∙ ap (λ (b : List ℕ). segment_to (destination_of s due).addr.0 b) text
 
+-- where one is, what is put out is the segment that is due
 pub emits_something : (s : State) (len : ℕ) (to room out bytes : List ℕ) → pending_length s ≡ Some len → Some to ≡ destination s → out ≡ buffer_after s room
     → bytes ≡ take len out
     → segment_to to bytes ≡ segment_due s
@@ -80,6 +62,7 @@ due-bytes s =
       | Some due ↦ refl
     ]
 
+-- the party after an emission is what the definition says
 pub emission_is : (p : PartyState) (end : State) (sent : List SentSegment) (segment : Option (List ℕ × List ℕ)) → segment ≡ segment_due p.endpoint
     → end ≡ after_emission p.endpoint
     → sent ≡ p.sent ++ option_to_list (option_map (sent_by p.endpoint) (option_map (λ s. s.1) segment))
@@ -95,6 +78,7 @@ counts-segment : (o : Option (List ℕ × List ℕ)) (n : ℕ) → option_map (�
 counts-segment None n = refl
 counts-segment (Some segment) n = refl
 
+-- and so is the outcome
 pub outcome_is : (p : PartyState) (n : ℕ) (segment : Option (List ℕ × List ℕ)) → segment ≡ segment_due p.endpoint → n ≡ length p.sent
     → outcomes.Emitted (option_map (λ _. n) segment) ≡ emission_outcome p
 outcome_is p n segment is count =
@@ -120,12 +104,6 @@ same-received s room =
 
 same-count : (n m : ℕ) → min (min n m) m ≡ min n m
 same-count n m = omega arith
-
-same-answer : (s : State) (room : ℕ) → receive_answer s (min room (length s.receiving.inbox.unread)) ≡ receive_answer s room
-same-answer s room =
-    ap (λ n. answer_unless (receive_refusal s)
-    (if length s.receiving.inbox.unread == 0 then (if s.receiving.finished then EndOfStream else Nothing) else Bytes n)) (same-count room
-    (length s.receiving.inbox.unread))
 
 same-bytes : (s : State) (room : ℕ) → received_bytes s (min room (length s.receiving.inbox.unread)) ≡ received_bytes s room
 same-bytes s room = ap (λ n. bytes_unless (receive_refusal s) (take n s.receiving.inbox.unread)) (same-count room (length s.receiving.inbox.unread))
@@ -154,11 +132,13 @@ handed-is s room =
     handed-unless (receive_refusal s) (received_value s room) (take (min room (length unread)) unread)
     (handed-value unread s.receiving.finished room (received_value s room) refl)
 
+-- the end after a read of so many bytes is that after a read with this room
 pub received-state : (s end : State) (room n : ℕ) → n ≡ min room (length s.receiving.inbox.unread) → end ≡ after_receive s n → end ≡ after_receive s room
 unfolding after_receive
 received-state s end room n size f =
     f ∙ ap (λ n. state_unless (receive_refusal s) s (with_bytes_received s n)) size ∙ ap (state_unless (receive_refusal s) s) (same-received s room)
 
+-- and what was put out is what it hands over
 pub received-text : (s : State) (room handed : ℕ) (answer : Result Received CallError) (out old : List ℕ)
     → length old ≡ min room (length s.receiving.inbox.unread) → answer ≡ receive_answer s (length old)
     → out ≡ received_bytes s (length old) ++ drop (length (received_bytes s (length old))) old → handed ≡ count_handed answer
@@ -194,6 +174,7 @@ in-world_named : (fault named : ConfigError) (P : Type 0) → ((refused_for faul
     → (world_refused_for A fault ≡ Err (worlds.Config A named)) ↔ P
 in-world_named fault named P h = (λ e. h.0 (cc), λ p. let same : refused_for fault ≡ Err named = h.1 p in cc)
 
+-- a fault of the one Config is named as its
 pub fault-of_a : (a b : Config) (fault : ConfigError) → IsFaultOf a fault → NamesFault a b (Err (worlds.Config A fault))
 fault-of_a a b fault h = record {
   named = fault_is a fault h;
@@ -213,6 +194,7 @@ fault-of_b a b fault good h = record {
   bad_limit_of_a = (λ e. absurd (cc), λ bad. absurd (bad.3 good.3));
 }
 
+-- where a world is made no fault is named
 pub fault-of_none : (a b : Config) (w : WorldState) → IsGoodConfig a → NamesFault a b (Ok w)
 fault-of_none a b w good = record {
   named = tt;

@@ -1,17 +1,10 @@
 -- What the phase of an end says of how far it has come.
-use Rattle.std.proofs.Common.{◌≡◌, ℕ, ◌≤◌, refl, ap, arith}
-use Rattle.std.specs.Prelude.{Bool, true, false, if◌then◌else◌}
-use Rattle.tcp_conn.specs.State.{State}
-use Rattle.tcp_conn.specs.declared.phase.Phase.{Phase}
-use Rattle.tcp_conn.specs.declared.phase.Phase.TheVariants.{Closed, Listen, SynSent, SynReceived, Established, FinWait1, FinWait2, CloseWait, Closing}
-use Rattle.tcp_conn.specs.declared.phase.Phase.TheVariants.{LastAck, TimeWait}
-use Rattle.tcp_conn.specs.declared.phase.Ending.{Ending}
-use Rattle.tcp_conn.specs.declared.phase.Ending.TheVariants.{NotEnded}
-use Rattle.tcp_conn.specs.Phase.{is_closed, is_listening, has_peer, is_syn_sent, is_syn_received, is_handshake, is_time_wait, is_last_ack, takes_text}
-use Rattle.tcp_conn.specs.Phase.{sends_text, resets_on_abort, is_ended, gives_up, phase_after_own_fin, phase_after_fin}
-use Rattle.tcp_conn.specs.Calls.{phase_after_close}
-use Rattle.tcp_conn.specs.Arrival.{phase_after_own_syn}
-use Rattle.tcp_replay.specs.Alone.{IsUnused, IsOpening, IsAnswering, IsReceiving, IsDone, FitsPhase}
+use Rattle.std.proofs.Common.{ℕ, ◌≡◌, ◌≤◌, ap, arith, Bool, false, if◌then◌else◌, refl, true}
+use Rattle.tcp_replay.proofs.Words.{Closed, CloseWait, Closing, Ending, Established, FinWait1, FinWait2, gives_up, has_peer, is_closed, is_ended, is_handshake}
+use Rattle.tcp_replay.proofs.Words.{is_listening, is_syn_received, is_syn_sent, is_time_wait, LastAck, Listen, NotEnded, Phase, phase_after_close}
+use Rattle.tcp_replay.proofs.Words.{phase_after_fin, phase_after_own_fin, phase_after_own_syn, resets_on_abort, sends_text, State, SynReceived, SynSent}
+use Rattle.tcp_replay.proofs.Words.{takes_text, TimeWait}
+use Rattle.tcp_replay.proofs.WorldWords.{FitsPhase, IsAnswering, IsDone, IsOpening, IsReceiving, IsUnused}
 
 -- both SYNs were taken, and the connection goes on
 abbrev pub is_synchronized : Phase → Bool
@@ -21,9 +14,11 @@ is_synchronized SynSent = false
 is_synchronized SynReceived = false
 is_synchronized other = true
 
+-- who has not ended gave up nothing
 pub gives_up-not_ended : (ending : Ending) → ending ≡ NotEnded → gives_up ending ≡ false
 gives_up-not_ended ending e = ap gives_up e
 
+-- who is not at any of the endings has not ended
 pub not_ended : (ending : Ending) → is_ended ending ≡ false → ending ≡ NotEnded
 not_ended NotEnded e = refl
 not_ended other e = absurd (cc)
@@ -34,21 +29,25 @@ pub at-listen : (phase : Phase) (ending : Ending) (una nxt : ℕ) (opened finish
 at-listen Listen ending una nxt opened finished e h = h
 at-listen other ending una nxt opened finished e h = absurd (cc)
 
+-- in CLOSED nothing was sent or taken
 pub at-closed : (phase : Phase) (ending : Ending) (una nxt : ℕ) (opened finished : Bool) → is_closed phase ≡ true → ending ≡ NotEnded
     → FitsPhase phase ending una nxt opened finished → IsUnused nxt opened
 at-closed Closed ending una nxt opened finished e new h = h new
 at-closed other ending una nxt opened finished e new h = absurd (cc)
 
+-- in SYN-SENT the SYN alone was sent
 pub at-syn_sent : (phase : Phase) (ending : Ending) (una nxt : ℕ) (opened finished : Bool) → is_syn_sent phase ≡ true
     → FitsPhase phase ending una nxt opened finished → (ending ≡ NotEnded) × IsOpening nxt opened
 at-syn_sent SynSent ending una nxt opened finished e h = h
 at-syn_sent other ending una nxt opened finished e h = absurd (cc)
 
+-- in SYN-RECEIVED the peer's SYN was taken, too
 pub at-syn_received : (phase : Phase) (ending : Ending) (una nxt : ℕ) (opened finished : Bool) → is_syn_received phase ≡ true
     → FitsPhase phase ending una nxt opened finished → (ending ≡ NotEnded) × IsAnswering nxt opened finished
 at-syn_received SynReceived ending una nxt opened finished e h = h
 at-syn_received other ending una nxt opened finished e h = absurd (cc)
 
+-- a phase that takes text has not taken the peer's FIN
 pub at-takes_text : (phase : Phase) (ending : Ending) (una nxt : ℕ) (opened finished : Bool) → takes_text phase ≡ true
     → FitsPhase phase ending una nxt opened finished → (ending ≡ NotEnded) × IsReceiving una opened finished
 at-takes_text Established ending una nxt opened finished e h = h
@@ -56,6 +55,7 @@ at-takes_text FinWait1 ending una nxt opened finished e h = h
 at-takes_text FinWait2 ending una nxt opened finished e h = h
 at-takes_text other ending una nxt opened finished e h = absurd (cc)
 
+-- from ESTABLISHED on both SYNs were taken
 pub at-synchronized : (phase : Phase) (ending : Ending) (una nxt : ℕ) (opened finished : Bool) → is_synchronized phase ≡ true
     → FitsPhase phase ending una nxt opened finished → (ending ≡ NotEnded) × IsDone una opened
 at-synchronized Closed ending una nxt opened finished e h = absurd (cc)
@@ -68,23 +68,29 @@ at-synchronized other ending una nxt opened finished e h = assumption
 abbrev pub Progress : State → Type 0
 Progress s = FitsPhase s.phase s.ending s.sending.una s.sending.nxt s.receiving.opened s.receiving.finished
 
+-- so it is of an end in CLOSED
 pub end-closed : (s : State) → is_closed s.phase ≡ true → s.ending ≡ NotEnded → Progress s → IsUnused s.sending.nxt s.receiving.opened
 end-closed s e new h = at-closed s.phase s.ending s.sending.una s.sending.nxt s.receiving.opened s.receiving.finished e new h
 
+-- in LISTEN nothing was sent or taken by an end
 pub end-listen : (s : State) → is_listening s.phase ≡ true → Progress s → (s.ending ≡ NotEnded) × IsUnused s.sending.nxt s.receiving.opened
 end-listen s e h = at-listen s.phase s.ending s.sending.una s.sending.nxt s.receiving.opened s.receiving.finished e h
 
+-- of an end in SYN-SENT the SYN alone was sent
 pub end-syn_sent : (s : State) → is_syn_sent s.phase ≡ true → Progress s → (s.ending ≡ NotEnded) × IsOpening s.sending.nxt s.receiving.opened
 end-syn_sent s e h = at-syn_sent s.phase s.ending s.sending.una s.sending.nxt s.receiving.opened s.receiving.finished e h
 
+-- an end in SYN-RECEIVED has taken the peer's SYN
 pub end-syn_received : (s : State) → is_syn_received s.phase ≡ true → Progress s
     → (s.ending ≡ NotEnded) × IsAnswering s.sending.nxt s.receiving.opened s.receiving.finished
 end-syn_received s e h = at-syn_received s.phase s.ending s.sending.una s.sending.nxt s.receiving.opened s.receiving.finished e h
 
+-- an end that takes text has not taken the peer's FIN
 pub end-takes_text : (s : State) → takes_text s.phase ≡ true → Progress s
     → (s.ending ≡ NotEnded) × IsReceiving s.sending.una s.receiving.opened s.receiving.finished
 end-takes_text s e h = at-takes_text s.phase s.ending s.sending.una s.sending.nxt s.receiving.opened s.receiving.finished e h
 
+-- an end from ESTABLISHED on has both SYNs taken
 pub end-synchronized : (s : State) → is_synchronized s.phase ≡ true → Progress s → (s.ending ≡ NotEnded) × IsDone s.sending.una s.receiving.opened
 end-synchronized s e h = at-synchronized s.phase s.ending s.sending.una s.sending.nxt s.receiving.opened s.receiving.finished e h
 
@@ -94,21 +100,20 @@ pub not-closed-ended : (phase : Phase) (ending : Ending) (una nxt : ℕ) (opened
 not-closed-ended Closed ending una nxt opened finished e h = absurd (cc)
 not-closed-ended other ending una nxt opened finished e h = h.0
 
-synchronized-closed : (phase : Phase) → is_synchronized phase ≡ true → is_closed phase ≡ false
-synchronized-closed Closed e = absurd (cc)
-synchronized-closed other e = refl
-
+-- from ESTABLISHED on the peer is known
 pub synchronized-knows : (phase : Phase) → is_synchronized phase ≡ true → has_peer phase ≡ true
 synchronized-knows Closed e = absurd (cc)
 synchronized-knows Listen e = absurd (cc)
 synchronized-knows other e = refl
 
+-- who takes text has both SYNs taken
 pub takes_text-synchronized : (phase : Phase) → takes_text phase ≡ true → is_synchronized phase ≡ true
 takes_text-synchronized Established e = refl
 takes_text-synchronized FinWait1 e = refl
 takes_text-synchronized FinWait2 e = refl
 takes_text-synchronized other e = absurd (cc)
 
+-- who sends text has, too
 pub sends_text-synchronized : (phase : Phase) → sends_text phase ≡ true → is_synchronized phase ≡ true
 sends_text-synchronized Established e = refl
 sends_text-synchronized FinWait1 e = refl
@@ -117,27 +122,28 @@ sends_text-synchronized Closing e = refl
 sends_text-synchronized LastAck e = refl
 sends_text-synchronized other e = absurd (cc)
 
+-- in TIME-WAIT both SYNs were taken
 pub time_wait-synchronized : (phase : Phase) → is_time_wait phase ≡ true → is_synchronized phase ≡ true
 time_wait-synchronized TimeWait e = refl
 time_wait-synchronized other e = absurd (cc)
 
-last_ack-synchronized : (phase : Phase) → is_last_ack phase ≡ true → is_synchronized phase ≡ true
-last_ack-synchronized LastAck e = refl
-last_ack-synchronized other e = absurd (cc)
-
+-- in SYN-SENT the peer is known
 pub syn_sent-knows : (phase : Phase) → is_syn_sent phase ≡ true → has_peer phase ≡ true
 syn_sent-knows SynSent e = refl
 syn_sent-knows other e = absurd (cc)
 
+-- in SYN-SENT and SYN-RECEIVED the peer is known
 pub handshake-knows : (phase : Phase) → is_handshake phase ≡ true → has_peer phase ≡ true
 handshake-knows SynSent e = refl
 handshake-knows SynReceived e = refl
 handshake-knows other e = absurd (cc)
 
+-- in CLOSED no peer is known
 pub closed-unknown : (phase : Phase) → is_closed phase ≡ true → has_peer phase ≡ true → ⊥
 closed-unknown Closed e known = absurd (cc)
 closed-unknown other e known = absurd (cc)
 
+-- a phase in which an abort sends a reset knows the peer
 pub resets_on_abort-knows : (phase : Phase) → resets_on_abort phase ≡ true → has_peer phase ≡ true
 resets_on_abort-knows Closed e = absurd (cc)
 resets_on_abort-knows Listen e = absurd (cc)
@@ -154,6 +160,7 @@ knows-nxt other ending una nxt opened finished e order h = omega arith
 pub present-knows : (phase : Phase) → is_closed phase ≡ false → is_listening phase ≡ false → has_peer phase ≡ true
 present-knows phase shut listening = rw (shut, listening) refl
 
+-- the phases that are not tested first have the peer's SYN
 pub present-opened : (phase : Phase) (ending : Ending) (una nxt : ℕ) (opened finished : Bool) → is_closed phase ≡ false → is_listening phase ≡ false
     → is_syn_sent phase ≡ false
     → FitsPhase phase ending una nxt opened finished → opened ≡ true
@@ -172,11 +179,13 @@ own_syn-synchronized SynReceived true e f g = refl
 own_syn-synchronized SynReceived false e f g = refl
 own_syn-synchronized other closing e f g = refl
 
+-- the phase after the acknowledgement of the own SYN: ESTABLISHED, or FIN-WAIT-1 after a close
 pub fits-own_syn : (closing : Bool) (ending : Ending) (una nxt : ℕ) (opened finished : Bool) → (ending ≡ NotEnded) × IsAnswering nxt opened finished
     → FitsPhase (if closing then FinWait1 else Established) ending nxt nxt opened finished
 fits-own_syn true ending una nxt opened finished h = (h.0, record { least = omega arith; is_opened = h.1.is_opened; goes_on = h.1.goes_on })
 fits-own_syn false ending una nxt opened finished h = (h.0, record { least = omega arith; is_opened = h.1.is_opened; goes_on = h.1.goes_on })
 
+-- in it the peer is known
 pub knows-own_syn : (closing : Bool) → has_peer (if closing then FinWait1 else Established) ≡ true
 knows-own_syn true = refl
 knows-own_syn false = refl
@@ -200,6 +209,7 @@ fits-sent SynReceived ending una nxt n opened finished none same h =
     (h.0, record { nxt_is = same h.1.nxt_is; is_opened = h.1.is_opened; goes_on = h.1.goes_on })
 fits-sent other ending una nxt n opened finished none same h = h
 
+-- from ESTABLISHED on SND.NXT may move on
 pub fits-sent_text : (phase : Phase) (ending : Ending) (una nxt n : ℕ) (opened finished : Bool) → is_synchronized phase ≡ true
     → FitsPhase phase ending una nxt opened finished → FitsPhase phase ending una n opened finished
 fits-sent_text Closed ending una nxt n opened finished e h = absurd (cc)
@@ -214,14 +224,17 @@ pub fits-own_fin : (phase : Phase) (ending : Ending) (una nxt : ℕ) (opened fin
 fits-own_fin FinWait1 ending una nxt opened finished h = h
 fits-own_fin other ending una nxt opened finished h = h
 
+-- the acknowledgement of the own FIN leaves the peer known or unknown
 pub knows-own_fin : (phase : Phase) → has_peer (phase_after_own_fin phase) ≡ has_peer phase
 knows-own_fin FinWait1 = refl
 knows-own_fin other = refl
 
+-- it leaves the handshake done or not
 pub handshake-own_fin : (phase : Phase) → is_handshake (phase_after_own_fin phase) ≡ is_handshake phase
 handshake-own_fin FinWait1 = refl
 handshake-own_fin other = refl
 
+-- and both SYNs taken or not
 pub synchronized-own_fin : (phase : Phase) → is_synchronized (phase_after_own_fin phase) ≡ is_synchronized phase
 synchronized-own_fin FinWait1 = refl
 synchronized-own_fin other = refl
@@ -234,10 +247,12 @@ fits-fin FinWait1 ending una nxt opened finished e h = assumption
 fits-fin FinWait2 ending una nxt opened finished e h = assumption
 fits-fin other ending una nxt opened finished e h = absurd (cc)
 
+-- the peer's FIN leaves the peer known or unknown
 pub knows-fin : (phase : Phase) → has_peer (phase_after_fin phase) ≡ has_peer phase
 knows-fin Established = refl
 knows-fin other = refl
 
+-- and the handshake done or not
 pub handshake-fin : (phase : Phase) → is_handshake (phase_after_fin phase) ≡ is_handshake phase
 handshake-fin Established = refl
 handshake-fin other = refl
@@ -248,10 +263,12 @@ pub fits-closing : (phase : Phase) (ending : Ending) (una nxt : ℕ) (opened fin
 fits-closing Established ending una nxt opened finished h = h
 fits-closing other ending una nxt opened finished h = h
 
+-- a close leaves the peer known or unknown
 pub knows-closing : (phase : Phase) → has_peer (phase_after_close phase) ≡ has_peer phase
 knows-closing Established = refl
 knows-closing other = refl
 
+-- and the handshake done or not
 pub handshake-closing : (phase : Phase) → is_handshake (phase_after_close phase) ≡ is_handshake phase
 handshake-closing Established = refl
 handshake-closing other = refl

@@ -1,19 +1,11 @@
 -- A run, taken event by event.
-use Rattle.std.proofs.Common.{◌≡◌, ℕ, ◌+◌, ◌<◌, ◌≤◌, List, [], ◌∷◌, ◌++◌, length, get_or, take, drop, map, refl, sym, ◌∙◌, ap, subst, arith, add-one}
-use Rattle.std.proofs.Common.{take-append-drop}
-use Rattle.std.specs.Prelude.{true, Option, Some, None, Result, Ok, Err, IfSome, IfNone, ◌==◌, nat_le, if◌then◌else◌}
-use Rattle.std.specs.List.{AllByRecursion}
-use Rattle.std.proofs.lemmas.Bool.{cond_both}
-use Rattle.std.proofs.lemmas.List.{drop_more, take_all, take_more, length-take-le, length-map, get_or-map}
-use Rattle.std.proofs.lemmas.Option.{slice_get-get_or}
-use Rattle.tcp_conn.specs.State.{State}
-use Rattle.tcp_replay.specs.declared.outcome.Outcome.{Outcome}
-use Rattle.tcp_replay.specs.declared.outcome.StepError.TheVariants.{NoSuchSegment, NoChange, PlaceOutside, Expired, NoMemory}
-use Rattle.tcp_replay.specs.declared.outcome.StepError.{StepError}
-use Rattle.tcp_replay.specs.Events.{EventContent, side_of, Deliver, Damage}
-use Rattle.tcp_replay.specs.World.{WorldState, PartyState, SentSegment, party_of, other, is_missing, sent_at, segment_at, is_expired, age_refusal}
-use Rattle.tcp_replay.specs.World.{delivery_refusal, damage_refusal, effect_of, world_with_effect, refusal_of, grows_for, stop_of, run_of, stop_or, stay_or}
-use Rattle.tcp_replay.specs.World.{later, StopsForMemory}
+use Rattle.std.proofs.Common.{[], ℕ, ◌++◌, ◌+◌, ◌<◌, ◌==◌, ◌∙◌, ◌∷◌, ◌≡◌, add-one, ap, arith, drop, Err, get_or, IfNone, IfSome, if◌then◌else◌, length}
+use Rattle.std.proofs.Common.{List, map, nat_le, None, Ok, Option, refl, Result, Some, subst, sym, take, take-append-drop, true}
+use Rattle.tcp_replay.proofs.Words.{AllByRecursion, cond_both, drop_more, get_or-map, length-map, length-take-le, slice_get-get_or, State, take_more}
+use Rattle.tcp_replay.proofs.WorldWords.{age_refusal, Damage, damage_refusal, Deliver, delivery_refusal, effect_of, EventContent, Expired, grows_for}
+use Rattle.tcp_replay.proofs.WorldWords.{is_expired, is_missing, later, NoChange, NoMemory, NoSuchSegment, other, Outcome, party_of, PartyState, PlaceOutside}
+use Rattle.tcp_replay.proofs.WorldWords.{refusal_of, run_of, segment_at, sent_at, SentSegment, side_of, stay_or, StepError, stop_of, stop_or, StopsForMemory}
+use Rattle.tcp_replay.proofs.WorldWords.{world_with_effect, WorldState}
 
 -- where nothing was refused, the first event wasn't, nor any of the rest
 record GoesThrough (refused : Option StepError) (rest : Option (ℕ × StepError)) : Type 0 where
@@ -102,9 +94,11 @@ refusal-not_memory w event e = effect-not_memory w.life (party_of w (side_of eve
 abbrev pub answered : Outcome → Result Outcome StepError
 answered o = Ok o
 
+-- what a step answers that is refused
 abbrev pub refused_by : StepError → Result Outcome StepError
 refused_by e = Err e
 
+-- where a run stopped, and why
 abbrev pub stopped : ℕ → StepError → Option (ℕ × StepError)
 stopped k e = Some (k, e)
 
@@ -129,6 +123,7 @@ split-at : (list : List EventContent) (i : ℕ) (event : EventContent) → i < l
 split-at list i event inside is =
     ap (λ rest. take i list ++ rest) (ap (λ e. e ∷ drop (i + 1) list) is ∙ sym (drop_more list i event inside)) ∙ take-append-drop i list
 
+-- the events up to the next one
 pub next-front : {X : Type 0} (list : List X) (i : ℕ) (event : X) → i < length list → event ≡ get_or list i event
     → take i list ++ event ∷ [] ≡ take (i + 1) list
 next-front list i event inside is = ap (λ e. take i list ++ e ∷ []) is ∙ sym (take_more list i event inside)
@@ -138,18 +133,17 @@ all-last : {X : Type 0} (P : X → Type 0) (list : List X) (e : X) → AllByRecu
 all-last P [] e all fits = (fits, tt)
 all-last P (first ∷ list) e all fits = (all.0, all-last P list e all.1 fits)
 
+-- what holds of all events so far and of the next holds of one more
 pub all-go_on : {X : Type 0} (P : X → Type 0) (list : List X) (i : ℕ) (e : X) → i < length list → e ≡ get_or list i e → AllByRecursion P (take i list) → P e
     → AllByRecursion P (take (i + 1) list)
 all-go_on P list i e inside is all fits = subst (AllByRecursion P) (next-front list i e inside is) (all-last P (take i list) e all fits)
-
-all-done : {X : Type 0} (P : X → Type 0) (list : List X) (i : ℕ) → length list ≤ i → AllByRecursion P (take i list) → AllByRecursion P list
-all-done P list i done all = subst (AllByRecursion P) (take_all i list done) all
 
 -- a run as far as an event, in the code's words
 pub record RunsTo (w here : WorldState) (list : List EventContent) (i : ℕ) : Type 0 where
   pub going : stop_of w (take i list) ≡ None
   pub now : here ≡ run_of w (take i list)
 
+-- a run that a refusal stops is that of the definition
 pub run_refused : (w here new : WorldState) (list : List EventContent) (i : ℕ) (event : EventContent) (error : StepError) (Q : Type 0) → i < length list
     → event ≡ get_or list i event
     → RunsTo w here list i → IfSome (refusal_of here event) (λ e. refused_by error ≡ Err e) → IfNone (refusal_of here event) ((error ≡ NoMemory) × Q)
@@ -169,6 +163,7 @@ grows-if : (refusal : Option StepError) (error : StepError) (Q : Type 0) → ref
 grows-if None error Q e m = m.1
 grows-if (Some other) error Q e m = absurd (cc)
 
+-- a run that finds no memory stops there
 pub run_out_of_memory : (w here new : WorldState) (list : List EventContent) (i : ℕ) (event : EventContent) (error : StepError) → i < length list
     → event ≡ get_or list i event
     → RunsTo w here list i → IfSome (refusal_of here event) (λ e. refused_by error ≡ Err e)
@@ -186,6 +181,7 @@ run_out_of_memory w here new list i event error inside is so_far h m same memory
       stays = same ∙ so_far.now;
     }
 
+-- a run goes on by one event
 pub run_goes_on : (w here new : WorldState) (list : List EventContent) (i : ℕ) (event : EventContent) (o : Outcome) → i < length list
     → event ≡ get_or list i event
     → RunsTo w here list i → IfSome (refusal_of here event) (λ e. answered o ≡ Err e) → new ≡ world_with_effect here event → RunsTo w new list (i + 1)
@@ -197,6 +193,7 @@ run_goes_on w here new list i event o inside is so_far h state =
       now = state ∙ ap (λ v. world_with_effect v event) so_far.now ∙ sym more.end ∙ ap (λ all. run_of w all) (next-front list i event inside is);
     }
 
+-- a run of no events is where it began
 pub run_begins : (w : WorldState) (list : List EventContent) → RunsTo w w list 0
 unfolding stop_of run_of
 run_begins w list = record { going = refl; now = refl }
@@ -206,5 +203,6 @@ pub content_at : {X Y : Type 0} (content : X → Y) (list : List X) (i : ℕ) (e
     → content event ≡ get_or (map content list) i (content event)
 content_at content list i event inside is = ap content is ∙ sym (get_or-map content list i event (content event) inside)
 
+-- an index of a list is one of the list of its contents
 pub content_inside : {X Y : Type 0} (content : X → Y) (list : List X) (i : ℕ) → i < length list → i < length (map content list)
 content_inside content list i inside = simp length-map inside

@@ -1,19 +1,10 @@
 -- The log of the code, event by event, is that of the definitions, and says what holds of one end.
-use Rattle.std.proofs.Common.{◌≡◌, ℕ, suc, ◌+◌, ◌<◌, ◌≤◌, List, [], ◌∷◌, ◌++◌, length, get_or, take, refl, sym, ◌∙◌, ap, subst}
-use Rattle.std.specs.Prelude.{false, ◌||◌, map, Vec, option_to_list}
-use Rattle.std.specs.List.{AllByRecursion}
-use Rattle.std.proofs.lemmas.List.{take_all, length-map}
-use Rattle.tcp_numbers.specs.declared.addr.Addr.{Addr}
-use Rattle.tcp_halves.specs.declared.config.Config.{Config}
-use Rattle.tcp_halves.specs.Config.{IsConfig}
-use Rattle.tcp_conn.specs.NewEnd.{new_end}
-use Rattle.tcp_conn.specs.State.{State}
-use Rattle.tcp_replay.specs.declared.outcome.Outcome.{Outcome}
-use Rattle.tcp_replay.specs.declared.solo_log.SoloLog.{SoloLog}
-use Rattle.tcp_replay.specs.OneEnd.{SendsItsUsers, HandsOverWhatCame, AcknowledgesInOrder}
-use Rattle.tcp_replay.specs.Solo.{SoloState, solo_start, end_after, bytes_taken, bytes_put_out, hands_end, segment_emitted, solo_outcome, after_solo, solo_run}
-use Rattle.tcp_replay.specs.Solo.{run_alone, segments, IsLogOf}
-use Rattle.tcp_replay.specs.SoloEvents.{SoloContent, HasRanges}
+use Rattle.std.proofs.Common.{[], ℕ, ◌++◌, ◌+◌, ◌<◌, ◌||◌, ◌∙◌, ◌∷◌, ◌≡◌, ◌≤◌, ap, false, get_or, length, List, map, option_to_list, refl, subst, suc, sym}
+use Rattle.std.proofs.Common.{take, Vec}
+use Rattle.tcp_replay.proofs.Words.{Addr, AllByRecursion, Config, IsConfig, length-map, new_end, State, take_all}
+use Rattle.tcp_replay.proofs.WorldWords.{AcknowledgesInOrder, after_solo, bytes_put_out, bytes_taken, end_after, hands_end, HandsOverWhatCame, HasRanges}
+use Rattle.tcp_replay.proofs.WorldWords.{IsLogOf, Outcome, run_alone, segment_emitted, segments, SendsItsUsers, solo_outcome, solo_run, solo_start, SoloContent}
+use Rattle.tcp_replay.proofs.WorldWords.{SoloLog, SoloState}
 use Rattle.tcp_replay.proofs.Runs.{next-front}
 use Rattle.tcp_replay.proofs.SoloRuns.{run-last, one_end_is_true_lem}
 
@@ -54,6 +45,7 @@ log-step log log' x e h n =
       endpoint = n.endpoint ∙ ap (λ (s : State). end_after s e) h.endpoint;
     }
 
+-- after a step a log is that of one event more
 pub log-goes_on : {A : Type 0} (c : Config) (list : List SoloContent) (i : ℕ) (log log' : SoloLog A) (e : SoloContent) → i < length list → e ≡ get_or list i e
     → IsLogOf log (run_alone c (take i list))
     → Steps log log' e → IsLogOf log' (run_alone c (take (i + 1) list))

@@ -1,42 +1,19 @@
 -- ONE END after every list of events: what it keeps of its own, where what it has came from, and what it emitted.
-use Rattle.std.proofs.Common.{◌≡◌, ℕ, ◌+◌, List, [], ◌∷◌, ◌++◌, refl, sym, ◌∙◌, ap, subst, ⊎_elim, inl, inr, arith, append-nil, append_assoc, ◌<◌, ◌^◌}
-use Rattle.std.specs.Prelude.{◌⊎◌, zero, suc, Bool, true, false, if◌then◌else◌, Option, Some, None, IfSome, option_map, option_to_list, slice_get, Result, Ok}
-use Rattle.std.specs.Prelude.{Err, is_some, ◌||◌}
-use Rattle.std.specs.List.{AllByRecursion}
-use Rattle.std.proofs.lemmas.Bool.{false≢true}
-use Rattle.tcp_wire.specs.Checksum.{AreBytes}
-use Rattle.tcp_wire.specs.Decoded.{decode_answer}
-use Rattle.tcp_wire.specs.Flags.{syn, rst, ack, has}
-use Rattle.tcp_wire.specs.Position.{number}
-use Rattle.tcp_wire.specs.Wire.{Content}
-use Rattle.tcp_wire.specs.declared.fault.DecodeError.{DecodeError}
-use Rattle.tcp_wire.proofs.RoundTrip.{decoded_encoded, decoded_valid}
-use Rattle.tcp_halves.specs.declared.config.Config.{Config}
-use Rattle.tcp_halves.specs.declared.due.Due.{Due}
-use Rattle.tcp_halves.specs.declared.due.Due.TheVariants.{Reset, Syn}
-use Rattle.tcp_conn.specs.declared.outcome.CallError.{CallError}
-use Rattle.tcp_halves.specs.Config.{IsConfig}
-use Rattle.tcp_conn.specs.Phase.{gives_up}
-use Rattle.tcp_conn.specs.State.{State}
-use Rattle.tcp_conn.specs.NewEnd.{new_end}
-use Rattle.tcp_conn.specs.Calls.{send_refusal, answer_unless}
-use Rattle.tcp_halves.specs.Sender.{count_sendable}
-use Rattle.tcp_conn.specs.Arrival.{after_reading, after_arrival}
-use Rattle.tcp_conn.specs.Judgement.{is_foreign, is_acceptable_segment}
-use Rattle.tcp_conn.specs.Due.{due_of}
-use Rattle.tcp_conn.specs.Forms.{segment_of}
-use Rattle.tcp_conn.specs.Writing.{bytes_of, destination_of}
-use Rattle.tcp_replay.specs.Alone.{IsAlone}
-use Rattle.tcp_replay.specs.OneEnd.{SendsItsUsers, Came, TookSyn, CameIn, HandsOverWhatCame, count_come, count_in_order, wanted_position, AcknowledgesInOrder}
-use Rattle.tcp_replay.specs.OneEnd.{OneEndIsTrue}
-use Rattle.tcp_replay.specs.Solo.{SoloState, solo_start, end_after, bytes_taken, bytes_put_out, is_close, segment_due, segment_emitted, after_solo, solo_run}
-use Rattle.tcp_replay.specs.Solo.{run_alone}
-use Rattle.tcp_replay.specs.SoloEvents.{SoloContent, HasRanges, Connect, Listen, Send, Receive, Close, Abort, Acknowledge, Timer, Emit, Arrive}
-use Rattle.tcp_replay.specs.Truthful.{IsOfUser}
-use Rattle.tcp_replay.specs.World.{front_taken, PartyState, party_after_abort, party_after_acknowledge, party_after_close, party_after_connect}
-use Rattle.tcp_replay.specs.World.{party_after_listen, party_after_receive, party_after_send, party_after_timer}
+use Rattle.std.proofs.Common.{[], ℕ, ⊎_elim, ◌++◌, ◌+◌, ◌<◌, ◌^◌, ◌||◌, ◌∙◌, ◌∷◌, ◌≡◌, ap, append-nil, append_assoc, arith, Bool, Err, false, IfSome}
+use Rattle.std.proofs.Common.{if◌then◌else◌, is_some, List, None, Ok, Option, option_map, option_to_list, refl, Result, slice_get, Some, subst}
+use Rattle.std.proofs.Common.{sym, true}
+use Rattle.tcp_replay.proofs.Words.{ack, after_arrival, after_reading, AllByRecursion, answer_unless, AreBytes, bytes_of, CallError, Config, Content}
+use Rattle.tcp_replay.proofs.Words.{count_sendable, decode_answer, decoded_encoded, decoded_valid, DecodeError, destination_of, Due, due_of, false≢true}
+use Rattle.tcp_replay.proofs.Words.{gives_up, has, is_acceptable_segment, is_foreign, IsConfig, new_end, number, Peer, Reset, rst, segment_of, send_refusal}
+use Rattle.tcp_replay.proofs.Words.{State, syn, Syn}
+use Rattle.tcp_replay.proofs.WorldWords.{AcknowledgesInOrder, after_solo, Arrive, bytes_put_out, bytes_taken, Came, CameIn, count_come, count_in_order}
+use Rattle.tcp_replay.proofs.WorldWords.{end_after, front_taken, HandsOverWhatCame, HasRanges, is_close, IsAlone, IsOfUser, OneEndIsTrue, party_after_abort}
+use Rattle.tcp_replay.proofs.WorldWords.{party_after_acknowledge, party_after_close, party_after_connect, party_after_listen, party_after_receive}
+use Rattle.tcp_replay.proofs.WorldWords.{party_after_send, party_after_timer, PartyState, run_alone, segment_due, segment_emitted, SendsItsUsers, solo_run}
+use Rattle.tcp_replay.proofs.WorldWords.{solo_start, SoloContent, SoloState, TookSyn, wanted_position}
+use Rattle.tcp_replay.specs.SoloEvents.{Connect, Listen, Send, Receive, Close, Abort, Acknowledge, Timer, Emit}
 use Rattle.tcp_replay.proofs.Lists.{by_test, one_if}
-use Rattle.tcp_replay.proofs.Steps.{of_user-grows}
+use Rattle.tcp_replay.proofs.Steps.{of_user-grows, slice_get-more}
 use Rattle.tcp_replay.proofs.Alone.{alone-new}
 use Rattle.tcp_replay.proofs.AloneCalls.{alone-judgement, send-unclosed, IsAloneIn, alone-calls}
 use Rattle.tcp_replay.proofs.AloneEmissions.{IsSaid, GoesOutAlone, due-alone}
@@ -46,10 +23,9 @@ use Rattle.tcp_replay.proofs.Feeds.{AllText, ByNumber, text-of, text-at, text-fr
 use Rattle.tcp_replay.proofs.AloneFeeds.{Feeds, feeds-same, feeds-judgement, feeds-calls}
 use Rattle.tcp_replay.proofs.Calls.{or-false, KeptByCalls, on-abort, on-acknowledge, on-close, on-connect, on-emission, on-listen, on-receive, on-send}
 use Rattle.tcp_replay.proofs.Calls.{on-timer, with_end}
-use Rattle.tcp_halves.specs.declared.link.Peer.{Peer}
 
--- ARRIVALS, by what the bytes are read as
-read-arrival : (s : State) (src dst bytes : List ℕ) (r : Result Content DecodeError) → decode_answer src dst bytes ≡ r
+-- an arrival is what its bytes are read as
+pub read-arrival : (s : State) (src dst bytes : List ℕ) (r : Result Content DecodeError) → decode_answer src dst bytes ≡ r
     → after_arrival s src dst bytes ≡ after_reading s src dst r
 unfolding after_arrival
 read-arrival s src dst bytes r e = ap (after_reading s src dst) e
@@ -75,7 +51,6 @@ party_in x = record { endpoint = x.endpoint; sent = []; accepted = x.accepted; d
 abbrev peer_of : State → Peer
 peer_of s = record { addr = s.config.addr; port = s.config.port }
 
--- ANY EVENT at one end: what its calls, timers and emissions keep, and an arrival
 module _ (x : SoloState) (P : PartyState → Type 0) (alone : IsAloneIn (party_in x)) where
   module _ (calls : (peer : Peer) → peer.port < 2 ^ 16 → KeptByCalls peer (party_in x) P) where
     -- nothing is added
@@ -86,7 +61,8 @@ module _ (x : SoloState) (P : PartyState → Type 0) (alone : IsAloneIn (party_i
     own-calls : KeptByCalls (peer_of x.endpoint) (party_in x) P
     own-calls = calls (peer_of x.endpoint) alone.config.port
 
-    solo-step : (e : SoloContent) → HasRanges e
+    -- P holds after any event at one end: what calls, timers and emissions keep, and what an arrival does
+    pub solo-step : (e : SoloContent) → HasRanges e
         → ((src dst bytes : List ℕ) → e ≡ Arrive src dst bytes → P (with_end (party_in x) (after_arrival x.endpoint src dst bytes)))
         → P (party_in (after_solo x e))
     unfolding party_after_connect party_after_listen party_after_send party_after_receive party_after_close party_after_abort party_after_acknowledge party_after_timer
@@ -101,7 +77,8 @@ module _ (x : SoloState) (P : PartyState → Type 0) (alone : IsAloneIn (party_i
     solo-step Emit fits arrives = nothing-added _ (on-emission _ (party_in x) P own-calls alone)
     solo-step (Arrive src dst bytes) fits arrives = nothing-added _ (arrives src dst bytes refl)
 
-alone-step : (x : SoloState) (e : SoloContent) → HasRanges e → IsAloneIn (party_in x) → IsAloneIn (party_in (after_solo x e))
+-- any event keeps what an end keeps by itself
+pub alone-step : (x : SoloState) (e : SoloContent) → HasRanges e → IsAloneIn (party_in x) → IsAloneIn (party_in (after_solo x e))
 alone-step x e fits h =
     solo-step x IsAloneIn h (λ peer port. alone-calls peer (party_in x) port h) e fits
     (λ src dst bytes is. alone-arrived x.endpoint x.accepted x.closed src dst bytes (subst HasRanges is fits) h)
@@ -144,6 +121,7 @@ due-says s accepted closed (Reset reset) out plain = absurd (false≢true (sym p
 due-says s accepted closed Syn out plain = syn-speaks s accepted closed
 due-says s accepted closed other out plain = plain-says s accepted closed other out.kind
 
+-- what was put out is read as a segment that says what the end has
 pub record Emits (s : State) (accepted : List ℕ) (closed : Bool) (to bytes : List ℕ) : Type 0 where
   pub content : Content
   pub read : decode_answer s.config.addr.0 to bytes ≡ Ok content
@@ -173,16 +151,6 @@ emits : (s : State) (accepted : List ℕ) (closed : Bool) (to bytes : List ℕ) 
 unfolding segment_due
 emits s accepted closed to bytes h e = emits-due s accepted closed to bytes (due_of s) (due-alone s accepted closed h) e
 
--- a member of a list to which one was added, or none
-emitted-more : (sent : List (List ℕ × List ℕ)) (new : Option (List ℕ × List ℕ)) (k : ℕ) (segment : List ℕ × List ℕ)
-    → slice_get (sent ++ option_to_list new) k ≡ Some segment
-    → (slice_get sent k ≡ Some segment) ⊎ (new ≡ Some segment)
-emitted-more [] None k segment e = absurd (cc)
-emitted-more [] (Some last) zero segment e = inr e
-emitted-more [] (Some last) (suc k) segment e = absurd (cc)
-emitted-more (first ∷ sent) new zero segment e = inl e
-emitted-more (first ∷ sent) new (suc k) segment e = emitted-more sent new k segment e
-
 emission-is_due : (s : State) (e : SoloContent) (segment : List ℕ × List ℕ) → segment_emitted s e ≡ Some segment → (e ≡ Emit) × (segment_due s ≡ Some segment)
 emission-is_due s Emit segment is = (refl, is)
 emission-is_due s other segment is = absurd (cc)
@@ -203,7 +171,17 @@ came-more list e h = record {
 byte-more : (c : Config) (list : List SoloContent) (e : SoloContent) (n byte : ℕ) → CameIn c list n byte → CameIn c (list ++ e ∷ []) n byte
 unfolding came-more
 byte-more c list e n byte h =
-    record { came = came-more list e h.came; mine = h.mine; acceptable = h.acceptable; no_rst = h.no_rst; no_syn = h.no_syn; has_ack = h.has_ack; place = h.place; byte_is = h.byte_is; number = h.number }
+    record {
+      came = came-more list e h.came;
+      mine = h.mine;
+      acceptable = h.acceptable;
+      no_rst = h.no_rst;
+      no_syn = h.no_syn;
+      has_ack = h.has_ack;
+      place = h.place;
+      byte_is = h.byte_is;
+      number = h.number;
+    }
 
 syn-more : (c : Config) (list : List SoloContent) (e : SoloContent) (irs : ℕ) → TookSyn c list irs → TookSyn c (list ++ e ∷ []) irs
 unfolding came-more
@@ -236,10 +214,12 @@ abbrev pub seq_read : Result Content DecodeError → ℕ
 seq_read (Ok v) = v.seq
 seq_read (Err fault) = 0
 
+-- what serves as IRS after an event
 abbrev pub next_irs : State → ℕ → SoloContent → ℕ
 next_irs s irs (Arrive src dst bytes) = if s.receiving.opened then irs else seq_read (decode_answer src dst bytes)
 next_irs s irs other = irs
 
+-- and after several
 abbrev pub irs_of : SoloState → ℕ → List SoloContent → ℕ
 irs_of x irs [] = irs
 irs_of x irs (e ∷ list) = irs_of (after_solo x e) (next_irs x.endpoint irs e) list
@@ -282,7 +262,8 @@ feeds-reading P s irs k delivered accepted closed src dst bytes (Ok v) fits e a 
 feeds-reading P s irs k delivered accepted closed src dst bytes (Err fault) fits e a came h =
     feeds-same P ⊥ s (if s.receiving.opened then irs else 0) k delivered (fed-irs P s irs 0 k delivered h)
 
-feeds-arrived : (P : ℕ → ℕ → Type 0) (s : State) (irs k : ℕ) (delivered accepted : List ℕ) (closed : Bool) (src dst bytes : List ℕ) → AreBytes bytes
+-- what an arrival feeds came in its bytes, with its numbers
+pub feeds-arrived : (P : ℕ → ℕ → Type 0) (s : State) (irs k : ℕ) (delivered accepted : List ℕ) (closed : Bool) (src dst bytes : List ℕ) → AreBytes bytes
     → IsAlone s accepted closed
     → ((v : Content) → decode_answer src dst bytes ≡ Ok v → is_foreign s src dst v ≡ false → IsTaken s v → AllText (ByNumber P v.seq) 0 v.text)
     → IsFed P s.receiving irs k delivered (gives_up s.ending)
@@ -293,12 +274,13 @@ feeds-arrived P s irs k delivered accepted closed src dst bytes fits a came h =
     subst (λ (s' : State). Feeds P (IsSynRead r) s s' (if s.receiving.opened then irs else seq_read r) k delivered) (sym (read-arrival s src dst bytes r refl))
     (feeds-reading P s irs k delivered accepted closed src dst bytes r fits refl a came h)
 
+-- a SYN came
 abbrev pub BringsSyn : SoloContent → Type 0
 BringsSyn (Arrive src dst bytes) = IsSynRead (decode_answer src dst bytes)
 BringsSyn other = ⊥
 
 -- the number of the last segment serves until a SYN is taken
-fed-next : (P : ℕ → ℕ → Type 0) (s : State) (irs k : ℕ) (delivered : List ℕ) (e : SoloContent) → IsFed P s.receiving irs k delivered (gives_up s.ending)
+pub fed-next : (P : ℕ → ℕ → Type 0) (s : State) (irs k : ℕ) (delivered : List ℕ) (e : SoloContent) → IsFed P s.receiving irs k delivered (gives_up s.ending)
     → IsFed P s.receiving (next_irs s irs e) k delivered (gives_up s.ending)
 fed-next P s irs k delivered (Arrive src dst bytes) h = fed-irs P s irs (seq_read (decode_answer src dst bytes)) k delivered h
 fed-next P s irs k delivered other h = h
@@ -325,8 +307,8 @@ feeds-step c list x irs k e fits h =
     feeds-by c list x irs k e fits h
     (fed-more (CameIn c list) (CameIn c (list ++ e ∷ [])) x.endpoint.receiving irs k x.delivered (gives_up x.endpoint.ending) (byte-more c list e) h.fed)
 
--- the SYN, once it was taken or where it comes
-irs-same : (s : State) (irs : ℕ) (e : SoloContent) → s.receiving.opened ≡ true → next_irs s irs e ≡ irs
+-- IRS is what it was once a SYN was taken
+pub irs-same : (s : State) (irs : ℕ) (e : SoloContent) → s.receiving.opened ≡ true → next_irs s irs e ≡ irs
 irs-same s irs (Arrive src dst bytes) opened = ap (λ (b : Bool). if b then irs else seq_read (decode_answer src dst bytes)) opened
 irs-same s irs other opened = refl
 
@@ -378,7 +360,7 @@ sends-step c list x irs k e h n to bytes is =
       subst (λ (c : Config). decode_answer c.addr.0 to bytes ≡ Ok out.content) h.config out.read,
       λ plain. more out.content (subst (λ (c : Config). IsOfUser c.isn.0 x.accepted x.closed out.content) h.config (out.says plain).own),
     ))
-    (emitted-more x.emitted (segment_emitted s e) n (to, bytes) is)
+    (slice_get-more x.emitted (segment_emitted s e) n (to, bytes) is)
 
 holds-step : (c : Config) (list : List SoloContent) (x : SoloState) (irs k : ℕ) (e : SoloContent) → HasRanges e → Holds c list x irs k
     → Holds c (list ++ e ∷ []) (after_solo x e) (next_irs x.endpoint irs e) (k + count_come x.endpoint e)
@@ -458,7 +440,8 @@ hands-over c list x irs k h =
 abbrev read_as : Content → Result Content DecodeError
 read_as v = Ok v
 
-content-is : {v w : Content} → read_as v ≡ read_as w → v ≡ w
+-- what two segments were read as is the same
+pub content-is : {v w : Content} → read_as v ≡ read_as w → v ≡ w
 content-is e = cc
 
 acknowledges : (c : Config) (list : List SoloContent) → IsConfig c → AllByRecursion HasRanges list → AcknowledgesInOrder c list
@@ -484,6 +467,7 @@ acknowledges c list is fits = record {
       );
 }
 
+-- ONE END IS TRUE, over every list of events, whoever its peer is
 pub one_end_is_true_lem : OneEndIsTrue
 one_end_is_true_lem c list is fits =
     let there = reaches c [] list (solo_start c) 0 0 fits (holds-new c is) in

@@ -1,31 +1,14 @@
 -- A segment of the peer is taken, stage by stage: its acknowledgement, window and blocks, its text, its FIN.
-use Rattle.std.proofs.Common.{◌≡◌, ℕ, suc, ◌+◌, ◌-◌, ◌%◌, ◌^◌, ◌<◌, ◌≤◌, List, length, take, drop, refl, sym, ◌∙◌, ap, subst, ⊎_elim, arith}
-use Rattle.std.specs.Prelude.{ℤ, pos, negsuc, Bool, true, false, not, ◌||◌, nat_lt, ◌==◌, if◌then◌else◌}
-use Rattle.std.proofs.lemmas.Bool.{cases_lt, cond_both, eqb-true, eqb-false, and_parts, not-true}
-use Rattle.std.proofs.lemmas.List.{drop-drop}
-use Rattle.tcp_wire.specs.Position.{number, offset}
-use Rattle.tcp_wire.specs.Flags.{fin, has}
-use Rattle.tcp_wire.specs.Wire.{Content}
-use Rattle.tcp_wire.proofs.Lemmas.{position_of_number, offset_of_later, offset_of_earlier}
-use Rattle.tcp_reasm.specs.Reassembly.{window, after_place, place_answer}
-use Rattle.tcp_reasm.specs.Agreement.{LiesAt, advance_of, Advances}
-use Rattle.tcp_reasm.proofs.Agreement.{after_place-agrees}
-use Rattle.tcp_conn.specs.declared.phase.Ending.TheVariants.{NotEnded}
-use Rattle.tcp_conn.specs.Phase.{has_peer, is_closed, is_syn_received, is_last_ack, takes_text, gives_up, phase_after_own_fin, phase_after_fin}
-use Rattle.tcp_conn.specs.State.{State, Sending}
-use Rattle.tcp_conn.specs.Windows.{window_from}
-use Rattle.tcp_halves.specs.Config.{stream_limit}
-use Rattle.tcp_sendq.specs.SendQueue.{max_capacity}
-use Rattle.tcp_halves.specs.Sender.{acks_more, with_acked, after_ack, with_syn_acked, with_window, is_fin_acked}
-use Rattle.tcp_halves.specs.Receiver.{after_text, is_fin_due, with_fin}
-use Rattle.tcp_conn.specs.Endings.{after_orderly_end}
-use Rattle.tcp_conn.specs.Judgement.{position_near}
-use Rattle.tcp_conn.specs.Arrival.{after_own_syn, after_acked_text, after_news, after_own_fin, after_its_ack, takes_text_of, after_its_text, has_fin}
-use Rattle.tcp_conn.specs.Arrival.{takes_fin, after_fin, after_taking, after_taking_shut}
-use Rattle.tcp_replay.specs.World.{PartyState}
-use Rattle.tcp_replay.specs.Truthful.{IsTruthful}
-use Rattle.tcp_replay.specs.Alone.{Sends}
-use Rattle.tcp_replay.specs.Safe.{witness_of, next_position}
+use Rattle.std.proofs.Common.{ℕ, ℤ, ⊎_elim, ◌%◌, ◌+◌, ◌-◌, ◌<◌, ◌==◌, ◌^◌, ◌||◌, ◌∙◌, ◌≡◌, ◌≤◌, ap, arith, Bool, drop, false, if◌then◌else◌, length, List}
+use Rattle.std.proofs.Common.{nat_lt, negsuc, not, pos, refl, subst, suc, sym, take, true}
+use Rattle.tcp_replay.proofs.Words.{acks_more, advance_of, Advances, after_ack, after_acked_text, after_fin, after_its_ack, after_its_text, after_news}
+use Rattle.tcp_replay.proofs.Words.{after_own_fin, after_own_syn, after_place, after_place-agrees, after_taking, after_taking_shut}
+use Rattle.tcp_replay.proofs.Words.{after_text, and_parts, cases_lt, cond_both, Content, drop-drop, eqb-false, eqb-true, fin, gives_up, has, has_fin, has_peer}
+use Rattle.tcp_replay.proofs.Words.{is_fin_due, is_syn_received, LiesAt, max_capacity, not-true, NotEnded, number, offset}
+use Rattle.tcp_replay.proofs.Words.{offset_of_earlier, offset_of_later, phase_after_fin, place_answer, position_near, position_of_number}
+use Rattle.tcp_replay.proofs.Words.{Sending, State, stream_limit, takes_fin, takes_text, takes_text_of, window, window_from, with_acked, with_fin}
+use Rattle.tcp_replay.proofs.Words.{with_syn_acked, with_window}
+use Rattle.tcp_replay.proofs.WorldWords.{IsTruthful, next_position, PartyState, Sends, witness_of}
 use Rattle.tcp_replay.proofs.Lists.{by_test, one_if, one_if-false, one_if-most, drop-take_sub, number-further, number-same}
 use Rattle.tcp_replay.proofs.Halves.{takes-advance, hands-advance, takes-fin}
 use Rattle.tcp_replay.proofs.Steps.{positive, position-of_text, Kept, next_of, kept-alone, kept-changed, kept-ack_owed, kept-orderly}
@@ -33,7 +16,8 @@ use Rattle.tcp_replay.proofs.Phases.{is_synchronized, gives_up-not_ended, end-sy
 use Rattle.tcp_replay.proofs.Phases.{knows-fin}
 use Rattle.tcp_replay.proofs.Judgements.{IsPresent}
 use Rattle.tcp_replay.proofs.Alone.{alone-own_syn, alone-acked_text, same-news, alone-news, own_fin-phase, own_syn-synced, owes-taking, alone-text}
-use Rattle.tcp_replay.proofs.Alone.{alone-fin_taken, owes-going_on}
+use Rattle.tcp_replay.proofs.Alone.{alone-fin_taken, owes-going_on, owes_shut}
+use Rattle.tcp_replay.proofs.Cases.{own_fin-cases}
 
 -- a state in which both SYNs were taken
 pub record Synced (p q : PartyState) (s : State) : Type 0 where
@@ -61,6 +45,7 @@ una-acked : (d : Sending) (a n : ℕ) → d.una ≤ n → a ≤ n → (after_ack
 unfolding after_ack
 una-acked d a n low had = cond_both (acks_more d a) (with_acked d a) d (λ (x : Sending). x.una ≤ n) (λ _. had) (λ _. low)
 
+-- both ends stay sound over the acknowledgement of a segment
 pub kept-acked_text : (p q : PartyState) (s : State) (v : Content) (a : ℕ) → position_near s v.ack ≡ a → a ≤ next_position q → Synced p q s
     → Synced p q (after_acked_text s v)
 unfolding after_acked_text
@@ -85,17 +70,12 @@ kept-news p q s v h =
 
 -- OWN FIN: the connection goes on, or has ended
 kept-own_fin : (p q : PartyState) (s : State) → Synced p q s → Kept p q (after_own_fin s)
-unfolding after_own_fin
 kept-own_fin p q s h =
-    let d = s.sending in
     let at = end-synchronized s h.synced h.kept.here.alone.progress in
-    let knows : has_peer (phase_after_own_fin s.phase) ≡ has_peer s.phase = knows-own_fin s.phase in
-    cond_both (is_fin_acked d) (if is_last_ack s.phase then after_orderly_end s else record s { phase = phase_after_own_fin s.phase }) s
-    (λ (x : State). Kept p q x)
-    (λ _. cond_both (is_last_ack s.phase) (after_orderly_end s) (record s { phase = phase_after_own_fin s.phase }) (λ (x : State). Kept p q x)
-    (λ _. kept-orderly p q s at.0 h.kept)
-    (λ _. kept-alone p q s _ h.kept refl (own_fin-phase s p.accepted p.closed h.kept.here.alone)
-    (record { peer = λ known. h.kept.here.speaks.peer (sym knows ∙ known); reset = h.kept.here.speaks.reset }) refl refl h.kept.here.between))
+    own_fin-cases s (Kept p q) (λ _ _. kept-orderly p q s at.0 h.kept)
+    (λ _ _. kept-alone p q s _ h.kept refl (own_fin-phase s p.accepted p.closed h.kept.here.alone)
+    (record { peer = λ known. h.kept.here.speaks.peer (sym (knows-own_fin s.phase) ∙ known); reset = h.kept.here.speaks.reset }) refl refl
+    h.kept.here.between)
     (λ _. h.kept)
 
 -- TEXT of the peer's stream
@@ -132,6 +112,7 @@ pub record Placed (p q : PartyState) (s : State) (v : Content) : Type 0 where
   pub going : s.ending ≡ NotEnded
   pub next : s.receiving.next ≡ number q.endpoint.config.isn.0 (1 + s.receiving.ordered)
 
+-- an end that takes text expects it at RCV.NXT, and has not taken a FIN
 pub placed : (p q : PartyState) (s : State) (v : Content) → takes_text s.phase ≡ true → Kept p q s → Placed p q s v
 placed p q s v e h =
     let at = end-takes_text s e h.here.alone.progress in
@@ -156,6 +137,7 @@ pub record IsAhead (p q : PartyState) : Type 0 where
 abbrev pub IsYoung : State → ℕ → Type 0
 IsYoung s position = next_of s.receiving ≤ position + 2 ^ 31
 
+-- so many bytes of the text come in order, all of them the stream of the peer
 pub text-advances : (p q : PartyState) (s : State) (v : Content) → takes_text s.phase ≡ true → IsAhead p q → (truth : IsTruthful (witness_of q p) v)
     → IsYoung s truth.own.position → (length v.text ≡ 0 → ⊥) → Kept p q s
     → Advances s.receiving.inbox (after_place s.receiving.inbox (offset s.receiving.next v.seq) v.text) (drop s.receiving.ordered q.accepted) (text_advance s v)
@@ -188,6 +170,7 @@ takes-text p q s v e close truth young some h =
     kept-changed p q s _ h refl (alone-text s p.accepted p.closed v h.here.alone)
     (record { peer = h.here.speaks.peer; reset = h.here.speaks.reset }) new hands h.here.between (λ e. e) (omega (arith, takes.order, close.limit))
 
+-- both ends stay sound where text comes
 pub kept-its_text : (p q : PartyState) (s : State) (v : Content) → IsAhead p q → (truth : IsTruthful (witness_of q p) v) → IsYoung s truth.own.position
     → Kept p q s → Kept p q (after_its_text s v)
 unfolding after_its_text
@@ -211,11 +194,13 @@ fin-next irs position count ordered whole next seq last order close seq_is next_
     let same : position + count ≡ 1 + ordered = number-same irs (position + count) (1 + ordered) (omega arith) (omega arith) (sym one ∙ due ∙ next_is) in
     omega arith
 
+-- what a FIN needs that is taken: its turn has come, and the peer closed
 pub record TakesFin (p q : PartyState) (s : State) (v : Content) : Type 0 where
   pub phase : takes_text s.phase ≡ true
   pub is_closed : q.closed ≡ true
   pub all : s.receiving.ordered ≡ length q.accepted
 
+-- a FIN of the peer that is taken comes behind all that it accepted
 pub fin-in_turn : (p q : PartyState) (s : State) (v : Content) → IsAhead p q → IsTruthful (witness_of q p) v → takes_fin s v ≡ true → Kept p q s
     → TakesFin p q s v
 fin-in_turn p q s v close truth e h =
@@ -277,6 +262,7 @@ own_syn-behind p q s v a told h =
     cond_both (is_syn_received s.phase) (with_window (with_syn_acked d) v.seq v.ack (window_from s.link v.window)) d (λ (x : Sending). x.una ≤ a + 2 ^ 31)
     (λ e. omega (arith, (end-syn_received s e h.here.alone.progress).1.nxt_is)) (λ _. told.behind)
 
+-- once the own SYN is acknowledged the number acknowledged is read as the same position
 pub own_syn-near : (p q : PartyState) (s : State) (v : Content) (a : ℕ) → IsAck s v a → a ≤ next_position q → next_position q ≤ 2 + length p.accepted
     → IsPresent s → Kept p q s → position_near (after_own_syn s v) v.ack ≡ a
 own_syn-near p q s v a told had near present h =
@@ -285,6 +271,7 @@ own_syn-near p q s v a told had near present h =
     (omega (arith, had, near))
     (record { number = own_syn-number s v a told; behind = own_syn-behind p q s v a told h })
 
+-- SND.UNA is at most 2^31 ahead of the position acknowledged
 pub acked_text-behind : (p q : PartyState) (s : State) (v : Content) (a : ℕ) → IsAck s v a → a ≤ next_position q → next_position q ≤ 2 + length p.accepted
     → IsPresent s → Kept p q s
     → (after_acked_text (after_own_syn s v) v).sending.una ≤ a + 2 ^ 31
@@ -293,6 +280,7 @@ acked_text-behind p q s v a told had near present h =
     let x = after_own_syn s v in
     una-acked x.sending (position_near x v.ack) (a + 2 ^ 31) (own_syn-behind p q s v a told h) (omega (arith, own_syn-near p q s v a told had near present h))
 
+-- both ends stay sound over all that an acknowledgement does
 pub kept-its_ack : (p q : PartyState) (s : State) (v : Content) (a : ℕ) → IsAck s v a → a ≤ next_position q → next_position q ≤ 2 + length p.accepted
     → IsPresent s → Kept p q s → Kept p q (after_its_ack s v)
 unfolding after_its_ack
@@ -302,16 +290,15 @@ kept-its_ack p q s v a told had near present h =
 
 -- which leaves the half that receives as it was
 pub its_ack-receiving : (s : State) (v : Content) → (after_its_ack s v).receiving ≡ s.receiving
-unfolding after_its_ack after_own_syn after_acked_text after_news after_own_fin
+unfolding after_its_ack after_own_syn after_acked_text after_news
 its_ack-receiving s v =
-    let x = after_news (after_acked_text (after_own_syn s v) v) v in
-    let P : State → Type 0 = λ y. y.receiving ≡ s.receiving in
-    cond_both (is_fin_acked x.sending) (if is_last_ack x.phase then after_orderly_end x else record x { phase = phase_after_own_fin x.phase }) x P
-    (λ _. cond_both (is_last_ack x.phase) (after_orderly_end x) (record x { phase = phase_after_own_fin x.phase }) P (λ _. refl) (λ _. refl)) (λ _. refl)
+    own_fin-cases (after_news (after_acked_text (after_own_syn s v) v) v) (λ y. y.receiving ≡ s.receiving) (λ _ _. refl) (λ _ _. refl) (λ _. refl)
 
+-- a position that is young stays so over an acknowledgement
 pub young-later : (s : State) (v : Content) (position : ℕ) → IsYoung s position → IsYoung (after_its_ack s v) position
 young-later s v position young = omega (arith, young, ap next_of (its_ack-receiving s v))
 
+-- and where a segment is taken whole,
 pub kept-taking : (p q : PartyState) (s : State) (v : Content) (a : ℕ) → IsAck s v a → a ≤ next_position q → next_position q ≤ 2 + length p.accepted
     → IsAhead p q
     → (truth : IsTruthful (witness_of q p) v) → IsYoung s truth.own.position → IsPresent s → Kept p q s → Kept p q (after_taking s v)
@@ -327,4 +314,4 @@ unfolding after_taking_shut
 kept-taking_shut p q s v a told had near present h =
     let x = after_its_ack s v in
     let first = kept-its_ack p q s v a told had near present h in
-    kept-ack_owed p q x (not (is_closed x.phase)) (owes-going_on s p.accepted p.closed v present first.here.alone) first
+    kept-ack_owed p q x (owes_shut x) (owes-going_on s p.accepted p.closed v present first.here.alone) first

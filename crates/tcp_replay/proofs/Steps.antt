@@ -1,27 +1,14 @@
 -- FROM STEP TO STEP: what was true stays true, and what an event must keep at the party where it happens, for both directions to stay sound.
-use Rattle.std.proofs.Common.{◌≡◌, ℕ, zero, suc, ◌+◌, ◌-◌, ◌<◌, ◌≤◌, List, [], ◌++◌, length, take, drop, refl, sym, ◌∙◌, ap, arith, length-append, length-drop}
-use Rattle.std.proofs.Common.{append-nil, ◌∷◌, subst, ⊎_elim, inl, inr}
-use Rattle.std.specs.Prelude.{Bool, true, false, ◌⊎◌, Option, Some, None, option_to_list, slice_get, ◌||◌}
-use Rattle.std.proofs.lemmas.List.{take-append-le, drop-append-le}
-use Rattle.tcp_wire.specs.Position.{number}
-use Rattle.tcp_wire.specs.Wire.{Content, encoded_bytes}
-use Rattle.tcp_replay.specs.Truthful.{Witness, IsOfUser, IsTruthful, StandsAt}
-use Rattle.tcp_replay.specs.World.{PartyState, SentSegment}
-use Rattle.tcp_replay.specs.Safe.{witness_of, gave_up, next_position}
-use Rattle.tcp_replay.specs.Sound.{IsOwn, SpeaksTo, Takes, HandsOver, IsSoundEnd, AreOwn, IsSoundPair}
+use Rattle.std.proofs.Common.{[], ℕ, ⊎_elim, ◌++◌, ◌+◌, ◌-◌, ◌<◌, ◌||◌, ◌∙◌, ◌∷◌, ◌≡◌, ◌≤◌, ◌⊎◌, ap, append-nil, arith, Bool, drop, false, inl, inr, length}
+use Rattle.std.proofs.Common.{length-append, length-drop, List, None, Option, option_to_list, refl, slice_get, Some, subst, suc, sym, take, true, zero}
+use Rattle.tcp_replay.proofs.Words.{after_giving_up, after_orderly_end, Config, Content, drop-append-le, encoded_bytes, Ending, gives_up, has_peer, NotEnded}
+use Rattle.tcp_replay.proofs.Words.{number, Receiving, State, take-append-le, WaitingReset, with_ack_owed, with_reset}
+use Rattle.tcp_replay.proofs.WorldWords.{AreOwn, gave_up, HandsOver, IsAlone, IsOfUser, IsOwn, IsSoundEnd, IsSoundPair, IsTruthful, IsWritable, next_position}
+use Rattle.tcp_replay.proofs.WorldWords.{PartyState, SentSegment, SpeaksTo, StandsAt, Takes, Witness, witness_of}
 use Rattle.tcp_replay.proofs.Lists.{one_if}
-use Rattle.tcp_halves.specs.declared.config.Config.{Config}
-use Rattle.tcp_conn.specs.State.{State, Sending, Receiving, with_ack_owed}
 use Rattle.tcp_replay.proofs.Halves.{takes-more, hands-more, takes-given_up, hands-given_up}
-use Rattle.tcp_halves.specs.declared.link.WaitingReset.{WaitingReset}
-use Rattle.tcp_conn.specs.declared.phase.Ending.{Ending}
-use Rattle.tcp_conn.specs.declared.phase.Ending.TheVariants.{NotEnded}
-use Rattle.tcp_conn.specs.Phase.{has_peer, gives_up}
-use Rattle.tcp_conn.specs.Endings.{after_orderly_end, after_giving_up}
-use Rattle.tcp_conn.specs.Arrival.{with_reset}
-use Rattle.tcp_replay.specs.Alone.{Sends, IsWritable, IsAlone}
 use Rattle.tcp_replay.proofs.Phases.{gives_up-not_ended}
-use Rattle.tcp_replay.proofs.Alone.{first_reset-keeps, alone-reset, alone-owing, alone-ack_owed, alone-given_up, alone-orderly, alone-sending}
+use Rattle.tcp_replay.proofs.Alone.{first_reset-keeps, alone-reset, alone-owing, alone-ack_owed, alone-given_up, alone-orderly}
 
 -- an end that has more to show than before
 pub record Grows (x x' : Witness) : Type 0 where
@@ -34,6 +21,7 @@ pub record Grows (x x' : Witness) : Type 0 where
   pub opened : x.opened ≡ true → x'.opened ≡ true
   pub next : x.next ≤ x'.next
 
+-- an end shows what it shows
 pub grows-same : (x : Witness) → Grows x x
 grows-same x =
     record { iss = refl; irs = refl; more = []; accepted = sym (append-nil x.accepted); closed = λ e. (refl, e); opened = λ e. e; next = omega arith }
@@ -51,6 +39,7 @@ text-grows position text old more new e least fits h =
     h ∙ sym (take-append-le (length text) (drop (position - 1) old) more room)
     ∙ ap (take (length text)) (sym (drop-append-le (position - 1) old more inside) ∙ ap (drop (position - 1)) (sym e))
 
+-- a number that is not 0 is at least 1
 pub positive : (n : ℕ) → (n ≡ 0 → ⊥) → 1 ≤ n
 positive zero h = absurd (h refl)
 positive (suc n) h = omega arith
@@ -94,6 +83,7 @@ stands-grows : (x x' : Witness) (v : Content) (position wanted : ℕ) → Grows 
 unfolding truthful-grows of_user-grows
 stands-grows x x' v position wanted g h = record { truth = truthful-grows x x' v g h.truth; position_is = h.position_is; wanted_is = h.wanted_is }
 
+-- what was emitted stays truthful while its end has more to show
 pub own-grows : (x y x' y' : PartyState) (sent : SentSegment) → x'.endpoint.config.addr.0 ≡ x.endpoint.config.addr.0
     → y'.endpoint.config.addr.0 ≡ y.endpoint.config.addr.0
     → Grows (witness_of x y) (witness_of x' y') → IsOwn x y sent → IsOwn x' y' sent
@@ -122,14 +112,12 @@ pub record Emitted (p p' q : PartyState) : Type 0 where
   pub sent : p'.sent ≡ p.sent ++ option_to_list new
   pub own : (g : SentSegment) → new ≡ Some g → IsOwn p q g
 
-pub emitted-nothing : (p p' q : PartyState) → p'.sent ≡ p.sent → Emitted p p' q
-emitted-nothing p p' q same = record { new = None; sent = same ∙ sym (append-nil p.sent); own = λ g none. absurd (cc) }
-
+-- an end may stay as it is
 pub kept-same : (p q : PartyState) → IsSoundPair p q → Kept p q p.endpoint
 kept-same p q h = record { here = h.there; config = refl; grows = grows-same (witness_of p q) }
 
 -- a member of a list to which one was added, or none
-pub slice_get-more : (sent : List SentSegment) (new : Option SentSegment) (k : ℕ) (g : SentSegment) → slice_get (sent ++ option_to_list new) k ≡ Some g
+pub slice_get-more : {A : Type 0} (sent : List A) (new : Option A) (k : ℕ) (g : A) → slice_get (sent ++ option_to_list new) k ≡ Some g
     → (slice_get sent k ≡ Some g) ⊎ (new ≡ Some g)
 slice_get-more [] None k g e = absurd (cc)
 slice_get-more [] (Some last) zero g e = inr e
@@ -180,6 +168,7 @@ pair-from-move p p' q h e pair = record {
   own_back = λ k g is. own-grows q p q p' g refl (ap (λ (c : Config). c.addr.0) h.config) (grows-of_peer p p' q h.config) (pair.own_back k g is);
 }
 
+-- from the other side
 pub pair-swapped : (p q : PartyState) → IsSoundPair p q → IsSoundPair q p
 pair-swapped p q h = record { there = h.back; back = h.there; own_there = h.own_back; own_back = h.own_there }
 
@@ -192,28 +181,21 @@ pub kept-changed : (p q : PartyState) (s s' : State) → Kept p q s → s'.confi
     → Takes s'.receiving q.endpoint.config.isn.0 q.accepted q.closed
     → HandsOver s'.receiving.inbox.unread s'.receiving.ordered q.accepted q.closed p.delivered p.ended (gives_up s'.ending)
     → s'.sending.una ≤ next_position q → (s.receiving.opened ≡ true → s'.receiving.opened ≡ true) → next_of s.receiving ≤ next_of s'.receiving → Kept p q s'
-kept-changed p q s s' h config alone speaks takes hands between opened next = record {
-  here =
-      record {
-        alone = alone;
-        speaks = speaks;
-        takes = takes;
-        hands = hands;
-        between = between;
-        limit = omega
-            (arith, ap (λ (c : Config). c.limit) config, h.here.limit);
+kept-changed p q s s' h config alone speaks takes hands between opened next =
+    let limit : length p.accepted ≤ s'.config.limit = omega (arith, ap (λ (c : Config). c.limit) config, h.here.limit) in
+    record {
+      here = assumption;
+      config = config ∙ h.config;
+      grows = record {
+        iss = ap (λ (c : Config). c.isn.0) config ∙ h.grows.iss;
+        irs = h.grows.irs;
+        more = h.grows.more;
+        accepted = h.grows.accepted;
+        closed = h.grows.closed;
+        opened = λ e. opened (h.grows.opened e);
+        next = omega (arith, h.grows.next, next);
       };
-  config = config ∙ h.config;
-  grows = record {
-    iss = ap (λ (c : Config). c.isn.0) config ∙ h.grows.iss;
-    irs = h.grows.irs;
-    more = h.grows.more;
-    accepted = h.grows.accepted;
-    closed = h.grows.closed;
-    opened = λ e. opened (h.grows.opened e);
-    next = omega (arith, h.grows.next, next);
-  };
-}
+    }
 
 -- what an end does by itself that moves neither what it received nor SND.UNA
 pub kept-alone : (p q : PartyState) (s s' : State) → Kept p q s → s'.config ≡ s.config → IsAlone s' p.accepted p.closed → SpeaksTo s' q.endpoint.config.addr.0
@@ -239,6 +221,7 @@ kept-owing p q s knows opened h =
     let alone = alone-owing s p.accepted p.closed knows opened h.here.alone in
     kept-alone p q s (with_ack_owed s) h refl alone (record { peer = h.here.speaks.peer; reset = h.here.speaks.reset }) refl refl h.here.between
 
+-- an acknowledgement may be owed to it on a condition
 pub kept-ack_owed : (p q : PartyState) (s : State) (owing : Bool) → (owing ≡ true → (has_peer s.phase ≡ true) × (s.receiving.opened ≡ true)) → Kept p q s
     → Kept p q (record s { owed = record s.owed { ack = s.owed.ack || owing } })
 kept-ack_owed p q s owing fits h =
@@ -260,10 +243,3 @@ kept-orderly p q s going h =
     let none : false ≡ gives_up s.ending = sym (gives_up-not_ended s.ending going) in
     kept-alone p q s (after_orderly_end s) h refl (alone-orderly s p.accepted p.closed going h.here.alone)
     (record { peer = λ never. absurd (cc); reset = h.here.speaks.reset }) refl none h.here.between
-
--- the half that sends moves, SND.UNA and SND.NXT being where they were
-kept-sending : (p q : PartyState) (s : State) (d : Sending) → d.una ≡ s.sending.una → d.nxt ≡ s.sending.nxt
-    → Sends d p.accepted p.closed (gives_up s.ending) → Kept p q s → Kept p q (record s { sending = d })
-kept-sending p q s d una nxt sends h =
-    let alone = alone-sending s p.accepted p.closed d una nxt sends h.here.alone in
-    kept-alone p q s _ h refl alone (record { peer = h.here.speaks.peer; reset = h.here.speaks.reset }) refl refl (omega (arith, una, h.here.between))

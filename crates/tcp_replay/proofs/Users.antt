@@ -1,20 +1,10 @@
 -- The user's calls, the timers and the emissions: both directions stay sound.
-use Rattle.std.proofs.Common.{◌≡◌, ℕ, List, [], ◌++◌, length, take, refl, sym, ◌∙◌, arith, append-nil}
-use Rattle.std.specs.Prelude.{min, true, false, ◌==◌, if◌then◌else◌, Option, Some, None, IfSome, Ok, ◌||◌}
-use Rattle.std.proofs.lemmas.Bool.{cond_both, eqb-true, false≢true}
-use Rattle.std.proofs.lemmas.List.{nil_from_length}
-use Rattle.tcp_wire.specs.Checksum.{AreBytes}
-use Rattle.tcp_halves.specs.declared.link.WaitingReset.{WaitingReset}
-use Rattle.tcp_conn.specs.declared.outcome.Received.{Received}
-use Rattle.tcp_conn.specs.declared.outcome.Received.TheVariants.{Bytes, Nothing, EndOfStream}
-use Rattle.tcp_conn.specs.declared.phase.Ending.TheVariants.{Aborted}
-use Rattle.tcp_conn.specs.Phase.{resets_on_abort, gives_up, has_peer}
-use Rattle.tcp_conn.specs.State.{State}
-use Rattle.tcp_halves.specs.Sender.{count_sendable, with_text}
-use Rattle.tcp_conn.specs.Endings.{after_giving_up}
-use Rattle.tcp_conn.specs.Calls.{send_refusal, receive_refusal, received_value, with_bytes_received, phase_after_close, own_reset, reset_after_abort}
-use Rattle.tcp_replay.specs.World.{PartyState, address_of, is_end_of_stream}
-use Rattle.tcp_replay.specs.Sound.{IsSoundPair, SpeaksTo}
+use Rattle.std.proofs.Common.{[], ℕ, ◌++◌, ◌==◌, ◌||◌, ◌∙◌, ◌≡◌, append-nil, arith, false, IfSome, if◌then◌else◌, length, List, min, None, Ok, Option, refl}
+use Rattle.std.proofs.Common.{Some, sym, take, true}
+use Rattle.tcp_replay.proofs.Words.{Aborted, after_giving_up, AreBytes, Bytes, cond_both, count_sendable, EndOfStream, eqb-true, false≢true, gives_up, has_peer}
+use Rattle.tcp_replay.proofs.Words.{nil_from_length, Nothing, own_reset, phase_after_close, receive_refusal, Received, received_value, reset_after_abort}
+use Rattle.tcp_replay.proofs.Words.{resets_on_abort, send_refusal, State, WaitingReset, with_bytes_received, with_text}
+use Rattle.tcp_replay.proofs.WorldWords.{address_of, is_end_of_stream, IsSoundPair, PartyState, SpeaksTo}
 use Rattle.tcp_replay.proofs.Halves.{accepted-limit, takes-read, hands-read, hands-ended}
 use Rattle.tcp_replay.proofs.Steps.{Moved, Kept, kept-same, kept-alone, kept-given_up, kept-orderly}
 use Rattle.tcp_replay.proofs.Phases.{gives_up-not_ended, resets_on_abort-knows, time_wait-synchronized, end-synchronized, knows-closing}
@@ -36,15 +26,10 @@ moved-sent p q text bytes h e =
     let none : gives_up s.ending ≡ false = gives_up-not_ended s.ending (send-open s text e).0 in
     let takes = h.there.takes in
     let hands = h.there.hands in
+    let alone = alone-with_text s p.accepted text p.closed bytes e h.there.alone in
+    let limit = accepted-limit s.sending s.config.limit p.accepted text h.there.limit (rw (unclosed, none) at h.there.alone.sends) in
     record {
-      here = record {
-        alone = alone-with_text s p.accepted text p.closed bytes e h.there.alone;
-        speaks = record { peer = h.there.speaks.peer; reset = h.there.speaks.reset };
-        takes = assumption;
-        hands = assumption;
-        between = h.there.between;
-        limit = accepted-limit s.sending s.config.limit p.accepted text h.there.limit (rw (unclosed, none) at h.there.alone.sends);
-      };
+      here = assumption;
       config = refl;
       grows = record {
         iss = refl;
@@ -84,15 +69,9 @@ moved-received p q room h e =
     (ends-all s room) gone h.there.takes h.there.hands in
     let takes = takes-read s.receiving irs q.accepted q.closed room h.there.takes in
     let hands = hands-read s.receiving q.accepted q.closed p.delivered (p.ended || ends) (gives_up s.ending) room last in
+    let alone = alone-bytes_received s p.accepted p.closed room h.there.alone in
     record {
-      here = record {
-        alone = alone-bytes_received s p.accepted p.closed room h.there.alone;
-        speaks = record { peer = h.there.speaks.peer; reset = h.there.speaks.reset };
-        takes = takes;
-        hands = hands;
-        between = h.there.between;
-        limit = h.there.limit;
-      };
+      here = assumption;
       config = refl;
       grows = record {
         iss = refl;
@@ -100,34 +79,28 @@ moved-received p q room h e =
         more = [];
         accepted = sym (append-nil p.accepted);
         closed = λ closed. (refl, closed);
-        opened =
-            λ opened. opened;
+        opened = λ opened. opened;
         next = omega arith;
       };
     }
 
 -- CLOSE: the FIN may follow
 moved-closed : (p q : PartyState) (s : State) → Kept p q s → Moved p (record p { endpoint = record s { closing = true }; closed = true }) q
-moved-closed p q s h = record {
-  here = record {
-    alone = alone-close_asked s p.accepted p.closed h.here.alone;
-    speaks = record { peer = h.here.speaks.peer; reset = h.here.speaks.reset };
-    takes = h.here.takes;
-    hands = h.here.hands;
-    between = h.here.between;
-    limit = h.here.limit;
-  };
-  config = h.config;
-  grows = record {
-    iss = h.grows.iss;
-    irs = h.grows.irs;
-    more = [];
-    accepted = sym (append-nil p.accepted);
-    closed = λ _. (refl, refl);
-    opened = h.grows.opened;
-    next = h.grows.next;
-  };
-}
+moved-closed p q s h =
+    let alone = alone-close_asked s p.accepted p.closed h.here.alone in
+    record {
+      here = assumption;
+      config = h.config;
+      grows = record {
+        iss = h.grows.iss;
+        irs = h.grows.irs;
+        more = [];
+        accepted = sym (append-nil p.accepted);
+        closed = λ _. (refl, refl);
+        opened = h.grows.opened;
+        next = h.grows.next;
+      };
+    }
 
 -- ABORT: the waiting reset goes to the peer
 reset-speaks : (s : State) (addr : List ℕ) → SpeaksTo s addr → IfSome (reset_after_abort s) (λ r. r.to.addr.0 ≡ addr)

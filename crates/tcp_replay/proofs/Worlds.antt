@@ -1,62 +1,29 @@
 -- THE HEADLINE on the definitions: every event keeps both ends sound, sound ends are safe, and no segment expires where the lifetime is the longest.
-use Rattle.std.proofs.Common.{◌≡◌, ℕ, ◌+◌, ◌-◌, ◌≤◌, List, [], ◌∷◌, ◌++◌, length, take, drop, refl, sym, ◌∙◌, ap, arith, length-take, take-append-drop, subst}
-use Rattle.std.proofs.Common.{◌<◌, ⊎_elim}
-use Rattle.std.specs.Prelude.{min, Bool, true, false, Option, Some, None, IfSome, option_map, Result, Ok, Err, OnOk, OnErr, IfOk, not, ◌==◌, if◌then◌else◌}
-use Rattle.std.specs.Prelude.{nat_le, IfErr, IfNone, ◌||◌}
-use Rattle.std.specs.List.{AllByRecursion}
-use Rattle.tcp_wire.specs.declared.fault.DecodeError.TheVariants.{BadChecksum}
-use Rattle.tcp_reasm.proofs.Agreement.{empty_inbox-agrees}
-use Rattle.tcp_halves.specs.declared.config.Config.{Config}
-use Rattle.tcp_conn.specs.declared.outcome.Arrival.TheVariants.{Malformed}
-use Rattle.tcp_halves.specs.Config.{IsConfig, default_limit}
-use Rattle.tcp_replay.specs.declared.event.Side.{Side}
-use Rattle.tcp_replay.specs.declared.event.Side.TheVariants.{A, B}
-use Rattle.tcp_replay.specs.declared.outcome.StepError.{StepError}
-use Rattle.tcp_replay.specs.Events.{EventContent, side_of, HasBytes, IsDamage, Damage, Deliver}
-use Rattle.tcp_replay.specs.World.{WorldState, PartyState, max_life, both, new_party, new_world_with, party_of, other, world_from, Effect, effect_of}
-use Rattle.tcp_replay.specs.World.{refusal_of, outcome_of, world_with_effect, stay_or, world_after, run_of, world_after_all, SentSegment, address_of, sent_by}
-use Rattle.tcp_replay.specs.World.{KeepsAllSegments, is_missing, sent_at, segment_at, is_late, acks_late, flags_in, is_expired, age_refusal, delivery_refusal}
-use Rattle.tcp_replay.specs.World.{damage_refusal, grows_for}
-use Rattle.tcp_replay.specs.Safe.{IsSafeDirection, EmitsTruth, IsSafe, HintsAreTrue, FindsDamage, EveryRunIsSafe}
-use Rattle.tcp_replay.specs.Sound.{IsSoundEnd, AreOwn, IsSoundPair, AreSoundEnds, IsOwn, IsSound}
+use Rattle.std.proofs.Common.{[], ℕ, ⊎_elim, ◌++◌, ◌+◌, ◌-◌, ◌<◌, ◌==◌, ◌||◌, ◌∙◌, ◌∷◌, ◌≡◌, ◌≤◌, ap, arith, Bool, drop, Err, false, IfErr, IfNone, IfOk}
+use Rattle.std.proofs.Common.{IfSome, if◌then◌else◌, length, length-take, List, min, nat_le, None, not, Ok, OnErr, OnOk, Option, option_map, refl, Result, Some}
+use Rattle.std.proofs.Common.{subst, sym, take, take-append-drop, true}
+use Rattle.tcp_replay.proofs.Words.{ack, AllByRecursion, and_parts, BadChecksum, bytes_of, cond_both, Config, default_limit, Due, empty_inbox-agrees, has}
+use Rattle.tcp_replay.proofs.Words.{IsConfig, leb-true, Malformed, next_wanted, or_cases, Peer, rst, State}
+use Rattle.tcp_replay.proofs.WorldWords.{A, acks_late, address_of, age_refusal, AreOwn, AreSoundEnds, Arrived, B, both, Damage, damage_refusal, Deliver}
+use Rattle.tcp_replay.proofs.WorldWords.{delivery_refusal, Effect, effect_of, EmitsTruth, EventContent, EveryRunIsSafe, Expired, FindsDamage, flags_in}
+use Rattle.tcp_replay.proofs.WorldWords.{grows_for, HasBytes, HintsAreTrue, is_expired, is_late, is_missing, IsDamage, IsOwn, IsSafe, IsSafeDirection, IsSound}
+use Rattle.tcp_replay.proofs.WorldWords.{IsSoundEnd, IsSoundPair, KeepsAllSegments, max_life, new_party, new_world_with, NoChange, NoMemory, NoSuchSegment}
+use Rattle.tcp_replay.proofs.WorldWords.{other, Outcome, outcome_of, party_of, PartyState, PlaceOutside, refusal_of, run_of, segment_at, sent_at, sent_by}
+use Rattle.tcp_replay.proofs.WorldWords.{SentSegment, Side, side_of, stay_or, StepError, world_after, world_after_all, world_from, world_with_effect}
+use Rattle.tcp_replay.proofs.WorldWords.{WorldState}
 use Rattle.tcp_replay.proofs.Lists.{one_if, one_if-most}
 use Rattle.tcp_replay.proofs.Alone.{alone-new}
 use Rattle.tcp_replay.proofs.Steps.{pair-swapped, pair-from-move}
 use Rattle.tcp_replay.proofs.Events.{own-decodes, finds-damage, PairKept, in-world, some-is}
-use Rattle.tcp_halves.specs.declared.due.Due.{Due}
 use Rattle.tcp_replay.proofs.Emissions.{GoesOut, own-due, wanted-is}
 use Rattle.tcp_replay.proofs.Calls.{KeptByCalls}
-use Rattle.tcp_halves.specs.declared.link.Peer.{Peer}
-use Rattle.tcp_conn.specs.Writing.{bytes_of}
-use Rattle.tcp_replay.specs.declared.outcome.Outcome.{Outcome}
-use Rattle.tcp_replay.specs.declared.outcome.Outcome.TheVariants.{Arrived}
 use Rattle.tcp_replay.proofs.Hints.{hints-new, hints-after, hints-true}
 use Rattle.tcp_replay.proofs.Runs.{not-refused}
-use Rattle.std.proofs.lemmas.Bool.{cond_both, and_parts, or_cases, leb-true}
-use Rattle.tcp_wire.specs.Flags.{rst, ack, has}
-use Rattle.tcp_conn.specs.State.{State}
-use Rattle.tcp_halves.specs.Receiver.{next_wanted}
-use Rattle.tcp_replay.specs.declared.outcome.StepError.TheVariants.{NoSuchSegment, NoChange, PlaceOutside, Expired, NoMemory}
 use Rattle.tcp_replay.specs.declared.outcome.Outcome.TheVariants as outcomes
 
 -- SOUNDNESS rests on nothing else
 nothing-kept : (peer : Peer) (p : PartyState) → KeptByCalls peer p (λ _. Unit {0})
-nothing-kept peer p = record {
-  same = tt;
-  connects = λ _. tt;
-  listens = λ _. tt;
-  sends = λ _ _ _. tt;
-  reads = λ _ _. tt;
-  withdraws = tt;
-  closes = λ _ _. tt;
-  aborts = tt;
-  acknowledges = tt;
-  resends = λ _. tt;
-  probes = tt;
-  fills = λ _ _ _. tt;
-  ends = λ _. tt;
-  emits = λ _ _ _. tt;
-}
+nothing-kept peer p = assumption
 
 own-new : (p q : PartyState) (due : Option Due) → IfSome due (GoesOut p q) → (g : SentSegment)
     → option_map (sent_by p.endpoint) (option_map (bytes_of p.endpoint) due) ≡ Some g → IsOwn p q g
@@ -71,6 +38,7 @@ sound-kept = record {
   moved = λ p p' q pair moved out _ _. pair-from-move p p' q moved (record { new = _; sent = out.sent; own = own-new p q out.due out.goes }) pair;
 }
 
+-- any event leaves both ends sound
 pub ends-after : (w : WorldState) (event : EventContent) → w.life ≤ max_life → HasBytes event → refusal_of w event ≡ None → AreSoundEnds w
     → AreSoundEnds (world_with_effect w event)
 ends-after w event most fits e h = in-world _ _ _ sound-kept w event most fits e tt tt h h
@@ -80,6 +48,7 @@ life-from : (life : ℕ) (side : Side) (p q : PartyState) → (world_from life s
 life-from life A p q = refl
 life-from life B p q = refl
 
+-- and the lifetime of segments as it is
 pub life-after : (w : WorldState) (event : EventContent) → (world_with_effect w event).life ≡ w.life
 life-after w event = life-from w.life (side_of event) _ _
 
@@ -112,6 +81,7 @@ damage-from w B event is fits e h =
           (λ (q : PartyState). both w.life q w.b) found.there,
     )
 
+-- a damaged segment that is delivered is found, and changes nothing
 pub damage-refused : (w : WorldState) (event : EventContent) → IsDamage event → HasBytes event → refusal_of w event ≡ None → AreSoundEnds w
     → (outcome_of w event ≡ outcomes.Arrived (Malformed BadChecksum)) × (world_with_effect w event ≡ w)
 damage-refused w event is fits e h = damage-from w (side_of event) event is fits e h
@@ -144,6 +114,7 @@ emits-truth x y told k g e =
     let own = told k g e in
     (own.content, own-decodes x y g own, λ plain. (own.truthful plain).truth, own.truthful)
 
+-- two sound ends are safe
 pub safe-ends : (w : WorldState) → AreSoundEnds w → IsSafe w
 safe-ends w h = record {
   there = safe-direction w.a w.b h.there h.back;
@@ -171,6 +142,7 @@ new-end a b one = record {
   limit = omega arith;
 }
 
+-- two new ends are sound
 pub ends-new : (life : ℕ) (a b : Config) → IsConfig a → IsConfig b → AreSoundEnds (new_world_with life a b)
 ends-new life a b one two = record { there = new-end a b one; back = new-end b a two; own_there = λ k g none. absurd (cc); own_back = λ k g none. absurd (cc) }
 
@@ -183,9 +155,11 @@ module _ (P : WorldState → Type 0) (keeps : IsKeptByEvents P) where
   stays-or-goes None here there h next = next refl
   stays-or-goes (Some error) here there h next = h
 
+  -- P holds after an event, refused or not
   pub kept-after : (w : WorldState) (event : EventContent) → HasBytes event → P w → P (world_after w event)
   kept-after w event fits h = stays-or-goes (refusal_of w event) w (world_with_effect w event) h (λ e. keeps w event fits e h)
 
+  -- after a run, as far as it goes
   pub kept-run : (w : WorldState) (list : List EventContent) → AllByRecursion HasBytes list → P w → P (run_of w list)
   unfolding run_of
   kept-run w [] fits h = h
@@ -193,14 +167,17 @@ module _ (P : WorldState → Type 0) (keeps : IsKeptByEvents P) where
       stays-or-goes (refusal_of w event) w (run_of (world_with_effect w event) list) h
       (λ e. kept-run (world_with_effect w event) list fits.1 (keeps w event fits.0 e h))
 
+  -- and after a list of events, refused ones left out
   pub kept-after_all : (w : WorldState) (list : List EventContent) → AllByRecursion HasBytes list → P w → P (world_after_all w list)
   unfolding world_after_all
   kept-after_all w [] fits h = h
   kept-after_all w (event ∷ list) fits h = kept-after_all (world_after w event) list fits.1 (kept-after w event fits.0 h)
 
+-- so is a new world
 pub sound-new : (life : ℕ) (a b : Config) → life ≤ max_life → IsConfig a → IsConfig b → IsSound (new_world_with life a b)
 sound-new life a b most one two = record { ends = ends-new life a b one two; hints = hints-new a b; life = most }
 
+-- and a world after any event
 pub sound-after : (w : WorldState) (event : EventContent) → HasBytes event → refusal_of w event ≡ None → IsSound w → IsSound (world_with_effect w event)
 sound-after w event fits e h = record {
   ends = ends-after w event h.life fits e h.ends;
@@ -208,24 +185,24 @@ sound-after w event fits e h = record {
   life = omega (arith, life-after w event, h.life);
 }
 
-sound-step : (w : WorldState) (event : EventContent) → HasBytes event → IsSound w → IsSound (world_after w event)
-sound-step w event fits h = kept-after IsSound sound-after w event fits h
-
 sound-run : (w : WorldState) (list : List EventContent) → AllByRecursion HasBytes list → IsSound w → IsSound (run_of w list)
 sound-run w list fits h = kept-run IsSound sound-after w list fits h
 
 sound-after_all : (w : WorldState) (list : List EventContent) → AllByRecursion HasBytes list → IsSound w → IsSound (world_after_all w list)
 sound-after_all w list fits h = kept-after_all IsSound sound-after w list fits h
 
+-- a sound world is safe,
 pub safe-sound : (w : WorldState) → IsSound w → IsSafe w
 safe-sound w h = safe-ends w h.ends
 
+-- and its blocks and marks are true
 pub hints-sound : (w : WorldState) → IsSound w → HintsAreTrue w
 hints-sound w h = hints-true w h.hints
 
 damage-sound : (w : WorldState) → IsSound w → FindsDamage w
 damage-sound w h event is fits e = damage-refused w event is fits e h.ends
 
+-- EVERY RUN IS SAFE, whatever events happen, in whatever order
 pub every_run_is_safe_lem : EveryRunIsSafe
 every_run_is_safe_lem life a b list most one two fits =
     let start = sound-new life a b most one two in
@@ -241,6 +218,7 @@ sound_step (Ok o) w new event sound state bytes refused kept =
     subst (λ (w : WorldState). IsSound w) (sym state) (sound-after w event bytes (not-refused (refusal_of w event) o refused) sound)
 sound_step (Err e) w new event sound state bytes refused kept = subst (λ (w : WorldState). IsSound w) (sym kept) sound
 
+-- what a step answers to damage, where it finds memory
 pub damage_step : (r : Result Outcome StepError) (w new : WorldState) (event : EventContent) → IsSound w → OnOk r (new ≡ world_with_effect w event)
     → IfOk r (λ o. o ≡ outcome_of w event) → OnOk r (HasBytes event)
     → IfSome (refusal_of w event) (λ e. r ≡ Err e) → IsDamage event → IfOk r (λ o. (o ≡ Arrived (Malformed BadChecksum)) × (new ≡ w))
@@ -336,12 +314,14 @@ refused-expired (Ok o) refused Q e h m = absurd (cc)
 refused-expired (Err error) None Q e h m = let never : error ≡ NoMemory = m.0 in absurd (cc)
 refused-expired (Err error) (Some other) Q e h m = cc
 
+-- a step of a world that keeps all segments never answers Expired
 pub unexpired_step : (r : Result Outcome StepError) (w : WorldState) (event : EventContent) → IsSound w → KeepsAllSegments w
     → IfSome (refusal_of w event) (λ e. r ≡ Err e)
     → IfNone (refusal_of w event) (IfErr r (λ e. (e ≡ NoMemory) × (grows_for w event ≡ true))) → r ≡ Err Expired → ⊥
 unexpired_step r w event sound keeps refused memory e =
     not-expired w event sound keeps (refused-expired r (refusal_of w event) (grows_for w event ≡ true) e refused memory)
 
+-- and the world after it keeps them still
 pub keeps_step : (r : Result Outcome StepError) (w new : WorldState) (event : EventContent) → IsSound w → OnOk r (new ≡ world_with_effect w event)
     → OnOk r (HasBytes event)
     → IfSome (refusal_of w event) (λ e. r ≡ Err e) → OnErr r (new ≡ w) → KeepsAllSegments w → KeepsAllSegments new

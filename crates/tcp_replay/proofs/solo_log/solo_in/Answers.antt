@@ -1,7 +1,6 @@
 use Rattle.std.proofs.Common.{◌<◌, ◌≤◌, length, map, rules}
-use Rattle.tcp_replay.specs.SoloEvents.{solo_content, HasRanges}
-use Rattle.tcp_replay.proofs.Runs.{content_at, content_inside}
-use Rattle.tcp_replay.proofs.Runs.{all-go_on}
+use Rattle.tcp_replay.proofs.WorldWords.{HasRanges, solo_content}
+use Rattle.tcp_replay.proofs.Runs.{content_at, content_inside, all-go_on}
 use Rattle.tcp_replay.proofs.SoloLogs.{log-begins, log-goes_on, log-ends}
 use Rattle.tcp_replay.proofs.solo_log.solo_in.Goals as goal
 
@@ -28,14 +27,17 @@ loop-i-preserved g c =
 pub returns-clause-sends_its_users : goal.returns-clause-sends_its_users
 returns-clause-sends_its_users g c =
     let done : length c.args.events.now ≤ c.loop-i.i = search rules in
-    (log-ends c.args.config solo_content c.args.events.now c.loop-i.i c.loop-i.log c.loop-i.invariant.made done c.loop-i.invariant.ranges c.loop-i.invariant.so_far).sends
+    (log-ends c.args.config solo_content c.args.events.now c.loop-i.i c.loop-i.log c.loop-i.invariant.made done c.loop-i.invariant.ranges
+    c.loop-i.invariant.so_far).sends
 
 pub returns-clause-hands_over_what_came : goal.returns-clause-hands_over_what_came
 returns-clause-hands_over_what_came g c =
     let done : length c.args.events.now ≤ c.loop-i.i = search rules in
-    (log-ends c.args.config solo_content c.args.events.now c.loop-i.i c.loop-i.log c.loop-i.invariant.made done c.loop-i.invariant.ranges c.loop-i.invariant.so_far).hands_over
+    (log-ends c.args.config solo_content c.args.events.now c.loop-i.i c.loop-i.log c.loop-i.invariant.made done c.loop-i.invariant.ranges
+    c.loop-i.invariant.so_far).hands_over
 
 pub returns-clause-acknowledges_in_order : goal.returns-clause-acknowledges_in_order
 returns-clause-acknowledges_in_order g c =
     let done : length c.args.events.now ≤ c.loop-i.i = search rules in
-    (log-ends c.args.config solo_content c.args.events.now c.loop-i.i c.loop-i.log c.loop-i.invariant.made done c.loop-i.invariant.ranges c.loop-i.invariant.so_far).acknowledges
+    (log-ends c.args.config solo_content c.args.events.now c.loop-i.i c.loop-i.log c.loop-i.invariant.made done c.loop-i.invariant.ranges
+    c.loop-i.invariant.so_far).acknowledges

@@ -1,8 +1,6 @@
-use Rattle.std.specs.Prelude.{map, take}
-use Rattle.std.specs.List.{AllByRecursion}
-use Rattle.tcp_halves.specs.Config.{IsConfig}
-use Rattle.tcp_replay.specs.Solo.{IsLogOf, run_alone}
-use Rattle.tcp_replay.specs.SoloEvents.{solo_content, HasRanges}
+use Rattle.std.proofs.Common.{map, take}
+use Rattle.tcp_replay.proofs.Words.{AllByRecursion, IsConfig}
+use Rattle.tcp_replay.proofs.WorldWords.{HasRanges, IsLogOf, run_alone, solo_content}
 use Rattle.tcp_replay.proofs.solo_log.solo_in.Given as goal
 
 -- the log is that of the events so far

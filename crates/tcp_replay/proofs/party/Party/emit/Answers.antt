@@ -1,8 +1,6 @@
-use Rattle.std.proofs.Common.{◌≡◌, ℕ, List, length, refl, sym, ◌∙◌, ap, arith, append-nil}
-use Rattle.std.specs.Prelude.{Option, None}
-use Rattle.std.proofs.lemmas.Grind.{common_steps}
-use Rattle.tcp_replay.specs.Solo.{segment_due}
-use Rattle.tcp_replay.specs.World.{PartyState, SentSegment, sent_by, party_after_emission}
+use Rattle.std.proofs.Common.{ℕ, ◌∙◌, ◌≡◌, ap, append-nil, arith, length, List, None, Option, refl, sym}
+use Rattle.tcp_replay.proofs.Words.{common_steps}
+use Rattle.tcp_replay.proofs.WorldWords.{party_after_emission, PartyState, segment_due, sent_by, SentSegment}
 use Rattle.tcp_replay.proofs.Parties.{segment_to, emission_is, outcome_is}
 use Rattle.tcp_replay.proofs.party.Party.emit.Goals as goal
 

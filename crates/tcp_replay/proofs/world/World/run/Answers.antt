@@ -1,7 +1,5 @@
-use Rattle.std.proofs.Common.{◌<◌, length, map, subst, ap, rules}
-use Rattle.tcp_replay.specs.Events.{event_content, HasBytes}
-use Rattle.tcp_replay.specs.World.{WorldState, both}
-use Rattle.tcp_replay.specs.Safe.{IsSafe, HintsAreTrue}
+use Rattle.std.proofs.Common.{◌<◌, ap, length, map, rules, subst}
+use Rattle.tcp_replay.proofs.WorldWords.{both, event_content, HasBytes, HintsAreTrue, IsSafe, WorldState}
 use Rattle.tcp_replay.proofs.Runs.{all-go_on, refused_by, run_begins, run_goes_on, run_refused, run_out_of_memory, content_at, content_inside}
 use Rattle.tcp_replay.proofs.Worlds.{safe-sound, hints-sound}
 use Rattle.tcp_replay.proofs.world.World.run.Goals as goal

@@ -1,8 +1,6 @@
-use Rattle.std.specs.Prelude.{map, take}
-use Rattle.std.specs.List.{AllByRecursion}
-use Rattle.tcp_replay.specs.Events.{event_content, HasBytes}
-use Rattle.tcp_replay.specs.World.{KeepsAllSegments}
-use Rattle.tcp_replay.specs.Safe.{IsSafe, HintsAreTrue}
+use Rattle.std.proofs.Common.{map, take}
+use Rattle.tcp_replay.proofs.Words.{AllByRecursion}
+use Rattle.tcp_replay.proofs.WorldWords.{event_content, HasBytes, HintsAreTrue, IsSafe, KeepsAllSegments}
 use Rattle.tcp_replay.proofs.Runs.{RunsTo}
 use Rattle.tcp_replay.proofs.world.World.run.Given as goal
 

@@ -1,8 +1,6 @@
-use Rattle.tcp_replay.specs.Events.{event_content}
-use Rattle.std.proofs.Common.{sym, subst}
-use Rattle.tcp_replay.specs.World.{WorldState, KeepsAllSegments, both}
-use Rattle.tcp_replay.proofs.Worlds.{sound_step, damage_step, safe-sound, hints-sound}
-use Rattle.tcp_replay.proofs.Worlds.{unexpired_step, keeps_step}
+use Rattle.std.proofs.Common.{subst, sym}
+use Rattle.tcp_replay.proofs.WorldWords.{both, event_content, KeepsAllSegments, WorldState}
+use Rattle.tcp_replay.proofs.Worlds.{sound_step, damage_step, safe-sound, hints-sound, unexpired_step, keeps_step}
 use Rattle.tcp_replay.proofs.world.World.step.Goals as goal
 
 -- two sound ends stay sound, whatever the event
