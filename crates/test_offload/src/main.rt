@@ -92,38 +92,58 @@ fn read(twins: &mut Twins) -> Option<usize> {
     if consumed == count { Some(count) } else { None }
 }
 
-/// Sends the text three times from one to the other, over a queue that goes over its end; how many bytes came, if all was the same.
-fn talk(alloc: Global) -> Option<usize> {
-    let (Ok(plain), Ok(lent)) = (new_end(alloc, 1), new_end(alloc, 1)) else {
+/// Two ends of this host.
+fn new_twins(alloc: Global, host: u8) -> Option<Twins> {
+    match (new_end(alloc, host), new_end(alloc, host)) {
+        (Ok(plain), Ok(lent)) => Some(Twins { plain, lent }),
+        _ => None,
+    }
+}
+
+/// Opens both connections; whether no call was refused.
+fn open(a: &mut Twins, b: &mut Twins) -> bool {
+    let peer = Addr([10, 0, 0, 2]);
+    let listens = b.plain.listen().is_ok() && b.lent.listen().is_ok();
+    listens && a.plain.connect(peer, 2).is_ok() && a.lent.connect(peer, 2).is_ok()
+}
+
+/// Carries and reads what there is, both ways; how many bytes came, if all was the same.
+fn take_turn(alloc: Global, a: &mut Twins, b: &mut Twins) -> Option<usize> {
+    let (Ok(true), Ok(true)) = (carry(alloc, a, b), carry(alloc, b, a)) else {
         return None;
     };
-    let mut a = Twins { plain, lent };
-    let (Ok(plain), Ok(lent)) = (new_end(alloc, 2), new_end(alloc, 2)) else {
+    read(b)
+}
+
+/// Sends the text once, and takes turns; how many bytes came.
+fn send_text(alloc: Global, a: &mut Twins, b: &mut Twins) -> Option<usize> {
+    if a.plain.send(TEXT).is_err() || a.lent.send(TEXT).is_err() {
         return None;
-    };
-    let mut b = Twins { plain, lent };
-    b.plain.listen().ok()?;
-    b.lent.listen().ok()?;
-    a.plain.connect(Addr([10, 0, 0, 2]), 2).ok()?;
-    a.lent.connect(Addr([10, 0, 0, 2]), 2).ok()?;
+    }
+    let mut total: usize = 0;
+    for _ in 0..4 {
+        total = total.saturating_add(take_turn(alloc, a, b)?);
+    }
+    Some(total)
+}
+
+/// Sends the text three times from one to the other, over the ends of their buffers; how many bytes came, if all was the same.
+fn talk(alloc: Global, a: &mut Twins, b: &mut Twins) -> Option<usize> {
+    if !open(a, b) {
+        return None;
+    }
     let mut total: usize = 0;
     for _ in 0..3 {
-        a.plain.send(TEXT).ok()?;
-        a.lent.send(TEXT).ok()?;
-        for _ in 0..4 {
-            let there = carry(alloc, &mut a, &mut b).ok()?;
-            let back = carry(alloc, &mut b, &mut a).ok()?;
-            if !there || !back {
-                return None;
-            }
-            total = total.saturating_add(read(&mut b)?);
-        }
+        total = total.saturating_add(send_text(alloc, a, b)?);
     }
     Some(total)
 }
 
 fn main(rt: HostRuntime) -> ExitCode {
-    let Some(total) = talk(rt.alloc()) else {
+    let (Some(mut a), Some(mut b)) = (new_twins(rt.alloc(), 1), new_twins(rt.alloc(), 2)) else {
+        return ExitCode::FAILURE;
+    };
+    let Some(total) = talk(rt.alloc(), &mut a, &mut b) else {
         return ExitCode::FAILURE;
     };
     let _ = println!(rt; "each emission and each reading was the same, and {total} bytes came");
