@@ -8,6 +8,8 @@
 
 static jmp_buf back;
 #define TCPCORE_STOP() longjmp(back, 1)
+enum { TABLE_AT = 0 };
+#define TABLE_SIZE 0
 #include "../memory.c"
 
 enum { SIZE = 300, CASES = 200000 };
