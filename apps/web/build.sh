@@ -1,8 +1,7 @@
 #!/usr/bin/env bash
 # Builds out/tcp_web.wasm: crates/tcp_web, proved over the crates below it, for WebAssembly; and out/tcp.html, the page in
-# one file, with that module in it. 'rt lib' makes a module for 64-bit memory, out/tcp_web64.wasm, and wasm-opt (binaryen,
-# which is installed by apt-get where this machine lacks it) makes its addresses 32 bits wide, so that every browser with
-# WebAssembly runs it.
+# one file, with that module in it. 'rt lib' makes a module for 64-bit memory, and wasm-opt (binaryen, which is installed by
+# apt-get where this machine lacks it) makes its addresses 32 bits wide, so that every browser with WebAssembly runs it.
 # The gate takes no crate for another machine: crates.txt has it as a library for this one, so that the gate proves it,
 # and here it is proved once more and built in a folder of its own with copies of the crates that it stands on,
 # apps/web/out/build; or here, with --here, where all of this is such a copy.
@@ -36,8 +35,7 @@ listed=$(
 )
 echo "$listed" >"$place/crates.txt"
 (cd "$place/crates/tcp_web" && rt lib)
-cp "$place/crates/tcp_web/out/tcp_web.wasm" apps/web/out/tcp_web64.wasm
 wasm-opt --enable-memory64 --enable-bulk-memory --enable-mutable-globals --memory64-lowering \
-    apps/web/out/tcp_web64.wasm -o apps/web/out/tcp_web.wasm
+    "$place/crates/tcp_web/out/tcp_web.wasm" -o apps/web/out/tcp_web.wasm
 ls -l apps/web/out/tcp_web.wasm
 python3 apps/web/pack.py apps/web/out/tcp_web.wasm apps/web/out/tcp.html
