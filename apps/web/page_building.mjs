@@ -124,8 +124,7 @@ async function kept(tab, tools, expect) {
     await tools.run(press, "Undo");
     expect("an example can be undone", await script(tools), OWN);
     await tools.run(() => document.getElementById("script").focus());
-    await tab.send("Input.dispatchKeyEvent", { type: "rawKeyDown", key: "z", code: "KeyZ", modifiers: 2,
-        windowsVirtualKeyCode: 90 });
+    await tab.key("z", true);
     expect("Ctrl+Z undoes", await script(tools) === OWN, false);
     await tools.edit(OWN);
     const saved = await tools.saved_script();
@@ -136,9 +135,7 @@ async function kept(tab, tools, expect) {
 async function opened(tab, tools, expect) {
     const file = path.join(tab.folder, "one.script");
     fs.writeFileSync(file, FIRST);
-    const { root } = await tab.send("DOM.getDocument");
-    const { nodeId } = await tab.send("DOM.querySelector", { nodeId: root.nodeId, selector: "#file" });
-    await tab.send("DOM.setFileInputFiles", { nodeId, files: [file] });
+    await tab.choose_file("#file", file);
     await tab.until(() => document.getElementById("said").textContent === "one.script is open.");
     expect("the file's script", await script(tools), FIRST);
 }
@@ -160,9 +157,7 @@ async function listed(tab, tools, expect) {
     for (const link of [1, 101]) {
         const file = path.join(tab.folder, `link-${link}.pcap`);
         fs.writeFileSync(file, capture(link, segments));
-        const { root } = await tab.send("DOM.getDocument");
-        const { nodeId } = await tab.send("DOM.querySelector", { nodeId: root.nodeId, selector: "#capture" });
-        await tab.send("DOM.setFileInputFiles", { nodeId, files: [file] });
+        await tab.choose_file("#capture", file);
         await tab.until(name => document.getElementById("said").textContent === `${name} is open.`, `link-${link}.pcap`);
         const [shown, told] = await tools.run(() => ["segments-listing", "segments-told"].map(
             id => document.getElementById(id).textContent));
@@ -196,8 +191,7 @@ async function moved(tab, tools, expect) {
         field.focus();
         field.setSelectionRange(place, place);
     });
-    await tab.send("Input.dispatchKeyEvent", { type: "rawKeyDown", key: "Enter", code: "Enter", modifiers: 2,
-        windowsVirtualKeyCode: 13 });
+    await tab.key("Enter", true);
     expect("Ctrl+Enter", (await tools.shown()).place, "9 of 20");
     await tools.go(18);
     await tools.run(press, "Play");

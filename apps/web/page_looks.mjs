@@ -115,17 +115,16 @@ async function unable(tab, tools, expect, address) {
         field.value = "0";
         field.dispatchEvent(new Event("change"));
     });
-    const { identifier } = await tab.send("Page.addScriptToEvaluateOnNewDocument", {
-        source: "WebAssembly.compile = () => Promise.reject(new WebAssembly.CompileError('none'));",
-    });
+    const remove = await tab.before_page(
+        "WebAssembly.compile = () => Promise.reject(new WebAssembly.CompileError('none'));");
     await tab.leave();
-    await tab.send("Page.navigate", { url: address });
+    await tab.navigate(address);
     await tab.until(() => document.getElementById("unsupported")?.hidden === false);
     expect("a browser that can't", await tools.run(() => [
         /no\s+WebAssembly/.test(document.getElementById("unsupported").innerText),
         document.querySelectorAll("#finished svg.ladder").length, document.getElementById("main").hidden,
     ]), [true, 3, true]);
-    await tab.send("Page.removeScriptToEvaluateOnNewDocument", { identifier });
+    await remove();
     await tab.open(address);
     expect("one that can", await tools.run(() => document.getElementById("unsupported").hidden), true);
 }
