@@ -62,7 +62,8 @@ static inline u8 *place(const Memory *memory, u32 address, u32 size)
     return window->data + at;
 }
 
-/* Constants of the module, or nothing: then it stops. */
+/* Constants of the module; where there are none it stops. */
+#if !defined(TCPCORE_UNCHECKED) || TABLE_SIZE > 0
 static inline const u8 *constant(u32 address, u32 size)
 {
 #if TABLE_SIZE > 0
@@ -74,17 +75,18 @@ static inline const u8 *constant(u32 address, u32 size)
     stop();
     return NULL;
 }
+#endif
 
 /* The same of bytes that are read. */
 static inline const u8 *read_place(const Memory *memory, u32 address, u32 size)
 {
     const struct window *window = memory->read + (address >> 30);
     u32 at = address & PLACE;
-#ifdef TCPCORE_UNCHECKED
-    if (TABLE_SIZE > 0 && address >= TABLE_AT && address < WINDOW(1))
-        return constant(address, size);
-#else
+#ifndef TCPCORE_UNCHECKED
     if (at + size > window->size)
+        return constant(address, size);
+#elif TABLE_SIZE > 0
+    if (address >= TABLE_AT && address < WINDOW(1))
         return constant(address, size);
 #endif
     return window->data + at;
