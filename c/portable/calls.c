@@ -31,6 +31,8 @@ static const u8 OF_CONFIG[] = {1, 1, 1, 1, 2, 2, 4, 4, 8, 8, 8, 1, 1, 1, 0};
 static const u8 OF_STATUS[] = {4, 4, 8, 8, 8, 8, 8, 8, 8, 8, 4, 1, 1, 1, 1, 4, 4, 8, 4, 4, 0};
 static const u8 OF_TAKEN[] = {4, 4, 8, 4, 4, 4, 0};
 static const u8 OF_TRANSMIT[] = {1, 1, 1, 1, 4, 8, 8, 8, 0};
+static const u8 OF_LENT[] = {8, 8, 8, 8, 4, 0};
+static const u8 OF_PARTS[] = {1, 1, 1, 1, 4, 8, 8, 8, 8, 0};
 static const u8 OF_REST[] = {4, 1, 1, 1, 1, 1, 1, 1, 1, 2, 2, 4, 4, 4, 1, 1, 1, 1, 4, 4, 2, 1, 1, 2, 2, 0};
 
 /* Carries a record between the program's memory and the module's: their fields lie at the same places. */
@@ -154,6 +156,34 @@ static uint32_t tcp_c_receive(struct handle *handle, uint8_t *out, size_t room, 
     return answer;
 }
 
+/* Where the program sees what the module lends of the block. */
+static uint64_t lent_at(const struct call *call, uint64_t at)
+{
+    return (uintptr_t)call->machine.w2c_memory.read[IN_BLOCK].data + ((u32)at & PLACE);
+}
+
+static uint32_t tcp_c_peek(struct handle *handle, struct lent *lent)
+{
+    WITH_END(handle);
+    carry_record(call.frame + AT_RECORD, lent, OF_LENT);
+    uint32_t answer = w2c_tcp_c_peek(M, AT_HANDLE, AT_RECORD);
+    carry_record(lent, call.frame + AT_RECORD, OF_LENT);
+    lent->first = lent_at(&call, lent->first);
+    lent->second = lent_at(&call, lent->second);
+    end_with(&call, handle);
+    return answer;
+}
+
+static uint32_t tcp_c_consume(struct handle *handle, size_t count, size_t *taken)
+{
+    WITH_END(handle);
+    put64(call.frame + AT_FOUND, 0);
+    uint32_t answer = w2c_tcp_c_consume(M, AT_HANDLE, count, AT_FOUND);
+    *taken = (size_t)get64(call.frame + AT_FOUND);
+    end_with(&call, handle);
+    return answer;
+}
+
 static uint32_t tcp_c_acknowledge(struct handle *handle)
 {
     WITH_END(handle);
@@ -218,6 +248,26 @@ static uint32_t tcp_c_taken(struct handle *handle, const tcpcore_addr *src, cons
     return answer;
 }
 
+static uint32_t tcp_c_arrive_vouched(struct handle *handle, const tcpcore_addr *src, const tcpcore_addr *dst, const uint8_t *bytes,
+                                     size_t length)
+{
+    WITH_END(handle);
+    put_segment(&call, src, dst, bytes, length);
+    ANSWER(handle, w2c_tcp_c_arrive_vouched(M, AT_HANDLE, AT_SRC, AT_DST, WINDOW(IN_READ), length_of(length)));
+}
+
+static uint32_t tcp_c_taken_vouched(struct handle *handle, const tcpcore_addr *src, const tcpcore_addr *dst, const uint8_t *bytes,
+                                    size_t length, struct tcpcore_taken *taken)
+{
+    WITH_END(handle);
+    put_segment(&call, src, dst, bytes, length);
+    carry_record(call.frame + AT_RECORD, taken, OF_TAKEN);
+    uint32_t answer = w2c_tcp_c_taken_vouched(M, AT_HANDLE, AT_SRC, AT_DST, WINDOW(IN_READ), length_of(length), AT_RECORD);
+    carry_record(taken, call.frame + AT_RECORD, OF_TAKEN);
+    end_with(&call, handle);
+    return answer;
+}
+
 /* What a call tells of a segment that it wrote. */
 static void get_written(const struct call *call, tcpcore_addr *to, size_t *length)
 {
@@ -240,6 +290,35 @@ static uint32_t tcp_c_emit(struct handle *handle, uint8_t *out, size_t room, tcp
     get_written(&call, to, length);
     end_with(&call, handle);
     return answer;
+}
+
+static uint32_t tcp_c_emit_partial(struct handle *handle, uint8_t *out, size_t room, tcpcore_addr *to, size_t *length)
+{
+    WITH_END(handle);
+    put_written(&call, to, out, room);
+    uint32_t answer = w2c_tcp_c_emit_partial(M, AT_HANDLE, WINDOW(IN_WRITTEN), length_of(room), AT_DST, AT_FOUND);
+    get_written(&call, to, length);
+    end_with(&call, handle);
+    return answer;
+}
+
+static uint32_t tcp_c_parts(struct handle *handle, uint8_t *header, size_t room, struct parts *parts)
+{
+    WITH_END(handle);
+    carry_record(call.frame + AT_RECORD, parts, OF_PARTS);
+    see(&call, IN_WRITTEN, header, room);
+    uint32_t answer = w2c_tcp_c_parts(M, AT_HANDLE, WINDOW(IN_WRITTEN), length_of(room), AT_RECORD);
+    carry_record(parts, call.frame + AT_RECORD, OF_PARTS);
+    parts->first = lent_at(&call, parts->first);
+    parts->second = lent_at(&call, parts->second);
+    end_with(&call, handle);
+    return answer;
+}
+
+static uint32_t tcp_c_sent(struct handle *handle)
+{
+    WITH_END(handle);
+    ANSWER(handle, w2c_tcp_c_sent(M, AT_HANDLE));
 }
 
 static uint32_t tcp_c_transmit(struct handle *handle, uint8_t *out, size_t room, struct tcpcore_transmit *transmit)

@@ -26,6 +26,25 @@ struct block {
 
 #define UNIT 16
 
+/* Bytes that the library lends, in two parts, and a segment of which it lends the text. An address has 64 bits on any machine. */
+struct lent {
+    uint64_t first, first_length, second, second_length;
+    uint32_t ends;
+};
+
+struct parts {
+    tcpcore_addr to;
+    uint32_t header;
+    uint64_t first, first_length, second, second_length;
+};
+
+_Static_assert(offsetof(struct lent, first_length) == 8, "what is lent, of the library");
+_Static_assert(offsetof(struct lent, second) == 16 && offsetof(struct lent, second_length) == 24, "what is lent, of the library");
+_Static_assert(offsetof(struct lent, ends) == 32 && sizeof(struct lent) == 40, "what is lent, of the library");
+_Static_assert(offsetof(struct parts, header) == 4 && offsetof(struct parts, first) == 8, "the parts of the library");
+_Static_assert(offsetof(struct parts, first_length) == 16 && offsetof(struct parts, second) == 24, "the parts of the library");
+_Static_assert(offsetof(struct parts, second_length) == 32 && sizeof(struct parts) == 40, "the parts of the library");
+
 /* The library's own calls (crate tcp_c). Its words have 64 bits. */
 _Static_assert(sizeof(size_t) == 8 && sizeof(void *) == 8, "the words of the library");
 uint32_t tcp_c_new(struct handle *, const tcpcore_config *, struct block);
@@ -42,7 +61,15 @@ uint32_t tcp_c_timer(struct handle *, uint32_t);
 uint32_t tcp_c_arrive(struct handle *, const tcpcore_addr *, const tcpcore_addr *, const uint8_t *, size_t);
 uint32_t tcp_c_take(struct handle *, const tcpcore_addr *, const tcpcore_addr *, const uint8_t *, size_t, uint32_t *);
 uint32_t tcp_c_taken(struct handle *, const tcpcore_addr *, const tcpcore_addr *, const uint8_t *, size_t, struct tcpcore_taken *);
+uint32_t tcp_c_arrive_vouched(struct handle *, const tcpcore_addr *, const tcpcore_addr *, const uint8_t *, size_t);
+uint32_t tcp_c_taken_vouched(struct handle *, const tcpcore_addr *, const tcpcore_addr *, const uint8_t *, size_t,
+                             struct tcpcore_taken *);
+uint32_t tcp_c_peek(struct handle *, struct lent *);
+uint32_t tcp_c_consume(struct handle *, size_t, size_t *);
 uint32_t tcp_c_emit(struct handle *, uint8_t *, size_t, tcpcore_addr *, size_t *);
+uint32_t tcp_c_emit_partial(struct handle *, uint8_t *, size_t, tcpcore_addr *, size_t *);
+uint32_t tcp_c_parts(struct handle *, uint8_t *, size_t, struct parts *);
+uint32_t tcp_c_sent(struct handle *);
 uint32_t tcp_c_transmit(struct handle *, uint8_t *, size_t, struct tcpcore_transmit *);
 uint32_t tcp_c_next(struct handle *, struct tcpcore_transmit *);
 uint32_t tcp_c_pending(struct handle *, uint32_t *);
@@ -225,6 +252,40 @@ uint32_t tcpcore_receive(tcpcore_end *end, void *out, size_t room, size_t *count
     return answer;
 }
 
+/* A piece where the library has lent it; no bytes lie nowhere. */
+static tcpcore_piece piece_of(uint64_t at, uint64_t length)
+{
+    return (tcpcore_piece){length > 0 ? (const void *)(uintptr_t)at : NULL, (size_t)length};
+}
+
+uint32_t tcpcore_peek(const tcpcore_end *end, struct tcpcore_lent *lent)
+{
+    struct tcpcore_lent found = {.ends = 0};
+    struct place place = {lent, sizeof *lent};
+    uint32_t answer = refusal_with(end, NULL, 0, place);
+    if (answer == TCPCORE_DONE) {
+        struct handle copy = copy_of(end);
+        struct lent told = {.ends = 0};
+        answer = tcp_c_peek(&copy, &told);
+        found.first = piece_of(told.first, told.first_length);
+        found.second = piece_of(told.second, told.second_length);
+        found.ends = told.ends;
+    }
+    put(place, end_at(end), NULL, 0, &found);
+    return answer;
+}
+
+uint32_t tcpcore_consume(tcpcore_end *end, size_t count, size_t *taken)
+{
+    size_t found = 0;
+    struct place place = {taken, sizeof *taken};
+    uint32_t answer = refusal_with(end, NULL, 0, place);
+    if (answer == TCPCORE_DONE)
+        answer = tcp_c_consume(handle(end), count, &found);
+    put(place, end_at(end), NULL, 0, &found);
+    return answer;
+}
+
 uint32_t tcpcore_acknowledge(tcpcore_end *end)
 {
     uint32_t answer = refusal(end);
@@ -278,6 +339,24 @@ uint32_t tcpcore_taken(tcpcore_end *end, tcpcore_addr src, tcpcore_addr dst, con
     return answer;
 }
 
+uint32_t tcpcore_arrive_vouched(tcpcore_end *end, tcpcore_addr src, tcpcore_addr dst, const void *bytes, size_t length)
+{
+    uint32_t answer = refusal_with(end, bytes, length, (struct place){NOWHERE, 0});
+    return answer != TCPCORE_DONE ? answer : tcp_c_arrive_vouched(handle(end), &src, &dst, front(bytes), length);
+}
+
+uint32_t tcpcore_taken_vouched(tcpcore_end *end, tcpcore_addr src, tcpcore_addr dst, const void *bytes, size_t length,
+                               struct tcpcore_taken *taken)
+{
+    struct tcpcore_taken found = {0};
+    struct place place = {taken, sizeof *taken};
+    uint32_t answer = refusal_with(end, bytes, length, place);
+    if (answer == TCPCORE_DONE)
+        answer = tcp_c_taken_vouched(handle(end), &src, &dst, front(bytes), length, &found);
+    put(place, end_at(end), bytes, length, &found);
+    return answer;
+}
+
 uint32_t tcpcore_emit(tcpcore_end *end, void *out, size_t room, tcpcore_addr *to, size_t *length)
 {
     tcpcore_addr address = {{0, 0, 0, 0}};
@@ -289,6 +368,43 @@ uint32_t tcpcore_emit(tcpcore_end *end, void *out, size_t room, tcpcore_addr *to
     put(where, end_at(end), out, room, &address);
     put(place, end_at(end), out, room, &found);
     return answer;
+}
+
+uint32_t tcpcore_emit_partial(tcpcore_end *end, void *out, size_t room, tcpcore_addr *to, size_t *length)
+{
+    tcpcore_addr address = {{0, 0, 0, 0}};
+    size_t found = 0;
+    struct place where = {to, sizeof *to}, place = {length, sizeof *length};
+    uint32_t answer = refusal_with_two(end, out, room, where, place);
+    if (answer == TCPCORE_DONE)
+        answer = tcp_c_emit_partial(handle(end), start(out), room, &address, &found);
+    put(where, end_at(end), out, room, &address);
+    put(place, end_at(end), out, room, &found);
+    return answer;
+}
+
+uint32_t tcpcore_parts(const tcpcore_end *end, void *header, size_t room, struct tcpcore_parts *parts)
+{
+    struct tcpcore_parts found = {.header = 0};
+    struct place place = {parts, sizeof *parts};
+    uint32_t answer = refusal_with(end, header, room, place);
+    if (answer == TCPCORE_DONE) {
+        struct handle copy = copy_of(end);
+        struct parts told = {.header = 0};
+        answer = tcp_c_parts(&copy, start(header), room, &told);
+        found.to = told.to;
+        found.header = told.header;
+        found.first = piece_of(told.first, told.first_length);
+        found.second = piece_of(told.second, told.second_length);
+    }
+    put(place, end_at(end), header, room, &found);
+    return answer;
+}
+
+uint32_t tcpcore_sent(tcpcore_end *end)
+{
+    uint32_t answer = refusal(end);
+    return answer != TCPCORE_DONE ? answer : tcp_c_sent(handle(end));
 }
 
 uint32_t tcpcore_transmit(tcpcore_end *end, void *out, size_t room, struct tcpcore_transmit *transmit)

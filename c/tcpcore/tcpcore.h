@@ -82,12 +82,14 @@
  *   is made in it. Then, and where tcpcore_new was refused, it is the caller's again, whatever its bytes are, and may serve the
  *   next end. Leaving an end without tcpcore_free loses nothing but the block.
  *   Buffers belong to the caller; no call keeps a pointer to one.
+ *   What tcpcore_peek and tcpcore_parts lend lies in the block: it may be read, never written, until the next call that changes the
+ *   end (any but peek, parts, next, pending, timers, peer, status and rest).
  *   What rests in the place of an end, struct tcpcore_rest, is the caller's as a whole: nothing else belongs to it.
  *
  * ANSWERS
  *   Each function answers one number of the table below. A refusal changes no end. What a call writes through a pointer
  *   (a count, an address, timers, a status) is written at every answer, and is all 0 unless the answer is TCPCORE_DONE,
-XX buffers stay as they are then. Such a pointer may not be over
+ *   but for what an arrival reports beside TCPCORE_DROPPED; buffers stay as they are then. Such a pointer may not be over
  *   the struct, over the buffer of the same call, or over another such pointer: the answer is TCPCORE_OVERLAP, and
  *   nothing is written there. A buffer may be NULL where its length is 0.
  *
@@ -142,7 +144,7 @@ enum {
     /* The boundary refuses; nothing changed. */
     TCPCORE_NO_END = 31,    /* no end is in the struct: never made, or freed */
     TCPCORE_IN_USE = 32,    /* tcpcore_new: the struct holds an end already */
-    TCPCORE_ROOM = 33,      /* fewer than TCPCORE_EMIT_ROOM bytes; of tcpcore_stray_reset than TCPCORE_RESET_ROOM */
+    TCPCORE_ROOM = 33,      /* fewer than TCPCORE_EMIT_ROOM bytes; of tcpcore_parts than TCPCORE_HEADER_ROOM, and so on */
     TCPCORE_NO_TIMER = 34,  /* tcpcore_timer: no timer has this number */
     TCPCORE_NULL = 35,      /* a pointer is NULL */
     TCPCORE_LENGTH = 36,    /* a length is above PTRDIFF_MAX */
@@ -199,6 +201,9 @@ enum {
 
 /* The room that tcpcore_emit wants, in bytes: more than the longest segment of an end. */
 #define TCPCORE_EMIT_ROOM 1520
+
+/* The room that tcpcore_parts wants, in bytes: the length of the longest header, options and all (RFC 9293, 3.1). */
+#define TCPCORE_HEADER_ROOM 60
 
 /* The room that tcpcore_stray_reset wants, in bytes: the length of a reset. */
 #define TCPCORE_RESET_ROOM 20
@@ -338,6 +343,32 @@ struct tcpcore_transmit {
     uint32_t reserved[8]; /* 0, as of tcpcore_taken */
 };
 
+/* Bytes that are lent where they lie: two fields in the order of POSIX's struct iovec. `at` is NULL where `length` is 0. */
+typedef struct tcpcore_piece {
+    const void *at;
+    size_t length;
+} tcpcore_piece;
+
+/* The unread bytes, as tcpcore_peek lends them: all of `first`, then all of `second`. */
+struct tcpcore_lent {
+    tcpcore_piece first; /* it is empty only where none is lent */
+    tcpcore_piece second;
+    uint32_t ends;        /* 1 where the peer has closed, so that none comes after these */
+    uint32_t reserved[7]; /* 0, as of tcpcore_taken */
+};
+
+/*
+ * A segment in parts, as tcpcore_parts lends it: its header, which was written, then all of `first`, then all of `second`. (The tag
+ * alone is a type, as of tcpcore_status.)
+ */
+struct tcpcore_parts {
+    tcpcore_addr to;     /* the address that it goes to */
+    uint32_t header;     /* bytes of its header, options and all, at most TCPCORE_HEADER_ROOM */
+    tcpcore_piece first; /* its text; it is empty only where there is none */
+    tcpcore_piece second;
+    uint32_t reserved[6]; /* 0, as of tcpcore_taken */
+};
+
 /*
  * What rests in the place of an end in TIME-WAIT, in 48 bytes, as tcpcore_rest tells it: a plain value, which may be copied,
  * moved and stored; a copy is another that rests there. All zero there is none. (The tag alone is a type, as of tcpcore_status.)
@@ -413,6 +444,21 @@ uint32_t tcpcore_send(tcpcore_end *end, const void *text, size_t length, size_t 
 uint32_t tcpcore_receive(tcpcore_end *end, void *out, size_t room, size_t *count);
 
 /*
+ * Lends all unread bytes where they lie in the end's block, for a user who reads them there: no copy is made (RFC 9293, 3.10.3). They
+ * may be read, and not written, until the next call that changes this end. What was read is taken away by tcpcore_consume. Of
+ * version 5.
+ *   As tcpcore_receive; never LENGTH.
+ */
+uint32_t tcpcore_peek(const tcpcore_end *end, struct tcpcore_lent *lent);
+
+/*
+ * Takes the first unread bytes away, at most `count`: *taken is how many. The end is then as after a tcpcore_receive into `count`
+ * bytes, the window and an acknowledgement that is due included. Of version 5.
+ *   DONE: *taken bytes, 0 where nothing is unread, whether or not more may come. ENDED, NOT_OPEN; NO_END; NULL; OVERLAP; COPIED.
+ */
+uint32_t tcpcore_consume(tcpcore_end *end, size_t count, size_t *taken);
+
+/*
  * Makes an acknowledgement due, which tells the window as it is now: for a user who has read (4. above). In ESTABLISHED,
  * FIN-WAIT-1 and FIN-WAIT-2, where the peer may send; in any other phase nothing changes.
  *   DONE; NO_END; NULL; COPIED.
@@ -464,11 +510,47 @@ uint32_t tcpcore_taken(tcpcore_end *end, tcpcore_addr src, tcpcore_addr dst, con
                        struct tcpcore_taken *taken);
 
 /*
+ * As tcpcore_arrive and tcpcore_taken, of a segment whose checksum a device has found right: it isn't summed. Answer, report and end
+ * are those of the same bytes with the right checksum, whatever the bytes are: the caller drops what the device found wrong. Of
+ * version 5.
+ *   As tcpcore_arrive; never BAD_CHECKSUM.
+ */
+uint32_t tcpcore_arrive_vouched(tcpcore_end *end, tcpcore_addr src, tcpcore_addr dst, const void *bytes, size_t length);
+uint32_t tcpcore_taken_vouched(tcpcore_end *end, tcpcore_addr src, tcpcore_addr dst, const void *bytes, size_t length,
+                               struct tcpcore_taken *taken);
+
+/*
  * Writes the segment that is due to `out`, checksum and all (RFC 9293, 3.7, 3.8 and 3.10).
  *   DONE: it takes the first *length bytes of `out`, and is for address *to; more may be due. What lies behind it in `out` stays.
  *   NOT_DUE: none. ROOM: `room` is below TCPCORE_EMIT_ROOM. NO_END; NULL; LENGTH; OVERLAP; COPIED.
  */
 uint32_t tcpcore_emit(tcpcore_end *end, void *out, size_t room, tcpcore_addr *to, size_t *length);
+
+/*
+ * As tcpcore_emit, for a device that sums segments: the checksum field has the ones' complement sum over the pseudo-header alone (RFC
+ * 9293, 3.1; RFC 1071, 2), and no text is summed. The device adds up what was written, from the first byte on, and puts the
+ * complement of that sum into the field, bytes 16 and 17: then the bytes are those of tcpcore_emit. Of version 5.
+ *   As tcpcore_emit.
+ */
+uint32_t tcpcore_emit_partial(tcpcore_end *end, void *out, size_t room, tcpcore_addr *to, size_t *length);
+
+/*
+ * Writes the header of the segment that is due to `header`, checksum and all, and lends its text where it lies in the end's block:
+ * header and text are together what tcpcore_emit would write, for a gathering write such as POSIX's writev. What lies behind the
+ * header in `header` stays. Nothing changes in the end: once the segment has gone out, tcpcore_sent says so. The text may be read, and
+ * not written, until the next call that changes this end. Of version 5.
+ *   DONE: parts->header bytes of `header`, and the text. NOT_DUE: no segment is due. ROOM: `room` is below TCPCORE_HEADER_ROOM.
+ *   NO_END; NULL; LENGTH; OVERLAP; COPIED.
+ */
+uint32_t tcpcore_parts(const tcpcore_end *end, void *header, size_t room, struct tcpcore_parts *parts);
+
+/*
+ * The segment of the last tcpcore_parts has gone out: the end is as after a tcpcore_emit. For use right after it was sent: a call, an
+ * arrival or a timer in between may make another segment due, which then counts as sent. Nothing changes where none is due. Of
+ * version 5.
+ *   DONE; NO_END; NULL; COPIED.
+ */
+uint32_t tcpcore_sent(tcpcore_end *end);
 
 /*
  * As tcpcore_emit: the same bytes, and the same end behind it. It reports what the segment is, where it begins, and how much text

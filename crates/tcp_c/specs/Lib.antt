@@ -2,6 +2,7 @@ pub mod Answers
 pub mod Calls
 pub mod Configs
 pub mod Held
+pub mod Lent
 pub mod Reports
 pub mod Rests
 pub mod Segments

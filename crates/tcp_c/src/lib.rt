@@ -102,8 +102,11 @@
 mod answers;
 mod handle;
 mod held;
+mod lending;
 mod loose;
 mod making;
+mod partial;
+mod parts;
 mod records;
 mod reports;
 mod rest_calls;
@@ -113,6 +116,7 @@ mod segments;
 mod status;
 mod timing;
 mod user;
+mod vouched;
 
 pub use answers::{
     DONE, END_OF_STREAM, IN_USE, LITTLE_ROOM, NO_END, NO_REST, NO_RULE, NO_TIMER, NOT_AT_REST,
@@ -120,8 +124,11 @@ pub use answers::{
 };
 pub use handle::{Handle, MARK_OF_LIVE};
 pub use held::Held;
+pub use lending::{tcp_c_consume, tcp_c_peek};
 pub use making::{tcp_c_free, tcp_c_new};
-pub use records::{CAddr, CConfig, CRest, CStatus, CTaken, CTransmit};
+pub use partial::tcp_c_emit_partial;
+pub use parts::{tcp_c_parts, tcp_c_sent};
+pub use records::{CAddr, CConfig, CLent, CParts, CRest, CStatus, CTaken, CTransmit};
 pub use reports::{tcp_c_next, tcp_c_taken, tcp_c_transmit};
 pub use rest_calls::{
     tcp_c_rest, tcp_c_rest_abort, tcp_c_rest_arrive, tcp_c_rest_emit, tcp_c_rest_pending,
@@ -136,3 +143,4 @@ pub use user::{
     tcp_c_abort, tcp_c_acknowledge, tcp_c_close, tcp_c_connect, tcp_c_listen, tcp_c_receive,
     tcp_c_send,
 };
+pub use vouched::{tcp_c_arrive_vouched, tcp_c_taken_vouched};

@@ -151,3 +151,37 @@ pub struct CRest {
     /// 0 not ended, 1 orderly, 2 reset, 3 aborted.
     pub ending: u16,
 }
+
+/// Bytes that are lent where they lie, in two parts.
+#[repr(C)]
+#[derive(Clone, Copy)]
+pub struct CLent {
+    /// Where the first of them lie.
+    pub first: *const u8,
+    /// How many lie there.
+    pub first_length: usize,
+    /// Where those after them lie.
+    pub second: *const u8,
+    /// How many lie there.
+    pub second_length: usize,
+    /// 1 where none comes after them: the peer has closed.
+    pub ends: u32,
+}
+
+/// A segment that is due: its header was written, and its text is lent.
+#[repr(C)]
+#[derive(Clone, Copy)]
+pub struct CParts {
+    /// The address that it goes to.
+    pub to: CAddr,
+    /// The length of its header in bytes, options and all.
+    pub header: u32,
+    /// Where the first bytes of its text lie.
+    pub first: *const u8,
+    /// How many lie there.
+    pub first_length: usize,
+    /// Where those after them lie.
+    pub second: *const u8,
+    /// How many lie there.
+    pub second_length: usize,
+}

@@ -40,7 +40,7 @@ fn rule_number(rule: Judgement) -> u32
 }
 
 /// The number of the rule that applied, 0 where none did.
-fn rule_told(rule: Option<Judgement>) -> u32
+pub(crate) fn rule_told(rule: Option<Judgement>) -> u32
     ensures { result ≡ rule_told rule }
 {
     match rule {
@@ -50,7 +50,7 @@ fn rule_told(rule: Option<Judgement>) -> u32
 }
 
 /// The number of what a segment brought.
-fn brought_number(brought: Brought) -> u32
+pub(crate) fn brought_number(brought: Brought) -> u32
     ensures { result ≡ brought_number brought }
 {
     match brought {
@@ -77,7 +77,7 @@ fn kind_number(kind: Kind) -> u32
 }
 
 /// All zero.
-fn no_taken() -> CTaken
+pub(crate) fn no_taken() -> CTaken
     ensures { result ≡ no_taken }
 {
     CTaken {

@@ -39,8 +39,8 @@ pub extern "C" fn tcp_c_listen(handle: &mut Handle) -> u32
     call_number(answer)
 }
 
-/// How many bytes `send` took.
-fn taken_count(answer: &Result<usize, CallError>) -> usize
+/// How many bytes `send` took, or a like call.
+pub(crate) fn taken_count(answer: &Result<usize, CallError>) -> usize
     ensures { result ≡ taken_count answer.now }
 {
     match answer {

@@ -1,0 +1,62 @@
+//! Segments whose checksum a device has checked.
+ghost use Rattle.std.specs.Prelude.{◌≡◌, option_map};
+ghost use Rattle.tcp_wire.specs.Vouched.{with_right_sum};
+ghost use Rattle.tcp_conn.specs.Arrival.{after_arrival, arrival_answer};
+ghost use Rattle.tcp_c.specs.Answers.{answer_of, arrival_number};
+ghost use Rattle.tcp_c.specs.Reports.{taken_of};
+
+use crate::answers::{NO_END, arrival_number};
+use crate::handle::Handle;
+use crate::records::{CAddr, CTaken};
+use crate::reports::{brought_number, no_taken, rule_told};
+use tcp_wire::Addr;
+
+/// Takes bytes whose checksum a device has found right, and doesn't sum them: answer and end are those of `tcp_c_arrive` with the
+/// checksum field that makes the bytes check (RFC 9293, 3.1 and 3.10.7). Never 3.
+#[unsafe(no_mangle)]
+pub extern "C" fn tcp_c_arrive_vouched(
+    handle: &mut Handle,
+    src: &CAddr,
+    dst: &CAddr,
+    bytes: &[u8],
+) -> u32
+    ensures answer { result ≡ answer_of (λ s. arrival_number (arrival_answer s src.now.byte dst.now.byte (with_right_sum src.now.byte dst.now.byte bytes.now))) handle.old.held.end }
+    ensures state { handle.new.held.end ≡ option_map (λ s. after_arrival s src.now.byte dst.now.byte (with_right_sum src.now.byte dst.now.byte bytes.now)) handle.old.held.end }
+{
+    let Some(mut end) = handle.take() else {
+        return NO_END;
+    };
+    let answer = end.arrive_vouched(Addr(src.byte), Addr(dst.byte), bytes);
+    handle.put(end);
+    arrival_number(answer)
+}
+
+/// The same, with the report of `tcp_c_taken`.
+#[unsafe(no_mangle)]
+pub extern "C" fn tcp_c_taken_vouched(
+    handle: &mut Handle,
+    src: &CAddr,
+    dst: &CAddr,
+    bytes: &[u8],
+    taken: &mut CTaken,
+) -> u32
+    ensures answer { result ≡ answer_of (λ s. arrival_number (arrival_answer s src.now.byte dst.now.byte (with_right_sum src.now.byte dst.now.byte bytes.now))) handle.old.held.end }
+    ensures taken { taken.new ≡ taken_of src.now.byte dst.now.byte (with_right_sum src.now.byte dst.now.byte bytes.now) handle.old.held.end }
+    ensures state { handle.new.held.end ≡ option_map (λ s. after_arrival s src.now.byte dst.now.byte (with_right_sum src.now.byte dst.now.byte bytes.now)) handle.old.held.end }
+{
+    let Some(mut end) = handle.take() else {
+        *taken = no_taken();
+        return NO_END;
+    };
+    let found = end.take_vouched(Addr(src.byte), Addr(dst.byte), bytes);
+    handle.put(end);
+    *taken = CTaken {
+        at_once: u32::from(found.at_once),
+        rule: rule_told(found.rule),
+        acked: found.acked,
+        brought: brought_number(found.brought),
+        is_duplicate: u32::from(found.is_duplicate),
+        window_taken: u32::from(found.window_taken),
+    };
+    arrival_number(found.arrival)
+}
