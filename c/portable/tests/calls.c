@@ -32,7 +32,7 @@ struct side {
     int is_resting;
     unsigned long emitted;
     struct kept kept[KEPT];
-    unsigned char block[BLOCK + 32];
+    unsigned char block[BLOCK + 48];
 };
 
 static struct side sides[2];
@@ -115,10 +115,12 @@ static tcpcore_config some_config(struct side *side)
 static void make(struct side *side)
 {
     tcpcore_config config = some_config(side);
-    size_t wanted = tcpcore_room(&config), length = next(20) ? sizeof side->block - 16 : next(900);
+    size_t wanted = tcpcore_room(&config), length = next(20) ? sizeof side->block - 32 : next(900);
+    /* Where a block begins decides whether few bytes are enough: on each machine at the same distance from a multiple of 16. */
+    unsigned char *even = side->block + -(uintptr_t)side->block % 16;
     mix(wanted);
     side->is_resting = 0;
-    told(tcpcore_new(&side->end, &config, side->block + next(16), length));
+    told(tcpcore_new(&side->end, &config, even + next(16), length));
 }
 
 /* What is due, and the same once it is written, each number of it. */
