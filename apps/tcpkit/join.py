@@ -27,19 +27,12 @@ HEAD = """\
 #include <string.h>
 
 #define TCPCORE_STOP() abort()
+
+/* The module's constants are in its memory, as program.c puts them there. */
+enum { TABLE_AT = 0 };
+#define TABLE_SIZE 0
+
 """
-
-
-def data_of(text):
-    """What is in memory from the start: where, and the text of its bytes."""
-    place = re.findall(r"LOAD_DATA\(instance->w2c_memory, (\d+)u, (data_segment_data_\w+), (\d+)\);", text)
-    if len(place) != 1:
-        join.stop(f"the module has {len(place)} pieces of data")
-    at, name, length = place[0]
-    found = re.search(rf"^static const u8 {name}\[\] = \{{\n(.*?)\n\}};", text, re.M | re.S)[1]
-    if len(found.split(",")) - found.rstrip().endswith(",") != int(length):
-        join.stop("the data has another length")
-    return at, found
 
 
 def first_of(text, name):
@@ -50,9 +43,9 @@ def first_of(text, name):
 def main():
     text = pathlib.Path(sys.argv[1]).read_text()
     join.KNOWN |= {"DIV_U", "I32_ROTL", "i32_load8_s"}
-    declared, body = join.functions(text, "tcp_web", has_data=True)
+    declared, body = join.functions(text, "tcp_web")
     body, loops, pieces = quicker.quicker(body)
-    at, data = data_of(text)
+    at, _, data = join.table_of(text)
     places = f"enum {{ STACK = {first_of(text, '__stack_pointer')}, HEAP_BASE = {first_of(text, '__heap_base')}, AT_DATA = {at} }};\n"
     bytes_of = f"static const u8 DATA[] = {{\n{data}\n}};\n\n"
     module = "/* THE MODULE: crates/tcp_web and those below it, function by function, as wasm2c has written them. */\n"

@@ -4,7 +4,7 @@
 
 static inline u32 i32_load8_s(const Memory *memory, u64 address)
 {
-    u32 byte = get8(place(memory->read, (u32)address, 1));
+    u32 byte = get8(read_place(memory, (u32)address, 1));
     return byte < 128 ? byte : byte | UINT32_C(0xffffff00);
 }
 

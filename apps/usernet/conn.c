@@ -38,7 +38,7 @@ static struct conn *conn_new(struct usernet *net, const struct pair *key, int so
     return conn;
 }
 
-/* Frees it; where `resets`, the host is told by a reset. */
+/* Frees it; where `resets`, the host gets a reset. */
 static void drop(struct usernet *net, struct conn *conn, int resets)
 {
     pairs_remove(&net->pairs, &conn->pair);

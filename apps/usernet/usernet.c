@@ -3,7 +3,7 @@
  *     usernet PID|--netns NAME [--publish HOST:PORT:PORT ..] [--mtu 1500] [--no-offloads] [--stats] [--fault PERCENT]
  * Each connection of the namespace ends in an end of ours (../../c/tcpcore/tcpcore.h), behind which a socket of the host goes
  * on to the same address and port; 10.0.2.2 is the host's loopback. The namespace is 10.0.2.100. IPv4 and TCP alone:
- * all else is passed over. It prints "ready", ends on SIGTERM or SIGINT with every connection reset, and tells counts
+ * all else is passed over. It prints "ready", ends on SIGTERM or SIGINT with every connection reset, and reports counts
  * and bytes held with --stats, at its end and on SIGUSR1. --fault loses, doubles and delays so many percent, for tests.
  */
 #define _GNU_SOURCE

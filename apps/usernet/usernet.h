@@ -32,7 +32,7 @@ struct usernet {
     int device, events;        /* the TUN device's descriptor, and epoll's */
     int offloads;              /* whether trains of segments are exchanged with the device */
     uint16_t mss, next_port;   /* the maximum segment size; the last port of the gateway's that was taken */
-    tcpcore_addr own, gateway; /* the namespace's address, and that which stands for the host's loopback */
+    tcpcore_addr own, gateway; /* the namespace's address, and that which means the host's loopback */
     uint64_t now;              /* milliseconds */
     uint64_t counters[COUNTERS];
     struct wheel wheel;

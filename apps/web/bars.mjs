@@ -19,11 +19,12 @@ function piece(kind, from, to, span) {
         : `<span class="${kind}" style="left:${left.toFixed(3)}%;width:max(3px,${width.toFixed(3)}%)"></span>`;
 }
 
-function bar(name, told, pieces, span, is_cut) {
+function bar(name, told, pieces, span, is_cut, edges) {
     const [classes, end] = is_cut ? ["bar is-cut", `${span} …`] : ["bar", span];
     return `<figure><figcaption>${name}: <b>${told}</b></figcaption>` +
         `<div class="${classes}" aria-hidden="true">${pieces.join("")}</div>` +
-        `<div class="scale" aria-hidden="true"><span>0</span><span>${end}</span></div></figure>`;
+        `<div class="scale" aria-hidden="true"><span>0</span><span>${end}</span></div>` +
+        `<p class="edges">${edges}</p></figure>`;
 }
 
 // What lies between the runs, up to an end.
@@ -49,7 +50,10 @@ function send_bar(state) {
         : `${queued} queued, ${flight} in flight` + (marked.length ? `, marked ${runs_told(marked)}` : "");
     const pieces = [piece("flight", 0, flight, span), piece("waiting", flight, queued, span),
         ...marked.map(([from, to]) => piece("marked", from, to, span)), piece("limit", peer, peer + span / 200, span)];
-    return bar("Send queue", told, pieces, span, false);
+    // Places of the stream in bytes, as the drawing of RFC 9293, 3.3.1 has them; SYN and FIN aren't counted.
+    const una = BigInt(state.released), edges = `SND.UNA ${una} · SND.NXT ${una + BigInt(flight)} · ` +
+        `SND.UNA + SND.WND ${una + BigInt(peer)}`;
+    return bar("Send queue", told, pieces, span, false, edges);
 }
 
 function receive_bar(state) {
@@ -59,7 +63,8 @@ function receive_bar(state) {
     const told = `${unread} unread, window ${room}` + (held.length ? `, held ${runs_told(held)}` : "");
     const pieces = [piece("unread", 0, unread, span), piece("window", unread, whole, span),
         ...held.map(([from, to]) => piece("held", unread + from, unread + to, span))];
-    return bar("Receive buffer", told, pieces, span, span < whole);
+    const next = BigInt(state.ordered), edges = `RCV.NXT ${next} · RCV.NXT + RCV.WND ${next + BigInt(room)}`;
+    return bar("Receive buffer", told, pieces, span, span < whole, edges);
 }
 
 // The counts of a side, and what they mean.

@@ -8,13 +8,15 @@ export function save_file(name, type, text) {
     setTimeout(() => URL.revokeObjectURL(link.href), 10000);
 }
 
-// Calls back with the text of a file that is chosen, or dropped on the page.
-export function on_file(input, on_text) {
-    const read = async file => file && on_text(await file.text(), file.name);
-    input.addEventListener("change", async () => {
-        await read(input.files[0]);
-        input.value = "";
-    });
+// Calls back with the bytes of a file that is chosen at one of the inputs, or dropped on the page, and its name.
+export function on_file(inputs, on_bytes) {
+    const read = async file => file && on_bytes(new Uint8Array(await file.arrayBuffer()), file.name);
+    for (const input of inputs) {
+        input.addEventListener("change", async () => {
+            await read(input.files[0]);
+            input.value = "";
+        });
+    }
     addEventListener("dragover", event => event.preventDefault());
     addEventListener("drop", event => {
         event.preventDefault();

@@ -8,7 +8,7 @@ function rounded(n) {
 
 export const WELL = 0, REFUSED = 1, FAULT = 2, NO_MEMORY = 3, NO_ROOM = 4, NO_SEGMENT = 5;
 
-// The four calls over a compiled module. Each answers { answer, text }: `text` is empty where nothing is told.
+// The five calls over a compiled module. Each answers { answer, text }: `text` is empty where nothing is told.
 export async function calls(module) {
     const { exports } = await WebAssembly.instantiate(module, {});
     const encoder = new TextEncoder(), decoder = new TextDecoder();
@@ -40,6 +40,12 @@ export async function calls(module) {
     return {
         replay: script => call(exports.tcp_web_replay, script),
         steps: script => call(exports.tcp_web_steps, script),
+        // The listing of a list of segments; `line` is that of the first bad one, or 0.
+        list(list) {
+            const found = call((record, at, length, out, room, count) =>
+                exports.tcp_web_list(record, at, length, out, room, count, count + 8n), list);
+            return { ...found, line: Number(new DataView(exports.memory.buffer).getBigUint64(Number(count) + 8, true)) };
+        },
         // By which rule the segment is judged that an event delivers, counted from 0.
         rule: (script, number) => call(
             (record, at, length, out, room, count) =>

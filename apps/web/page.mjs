@@ -11,6 +11,7 @@ import { lossy_script, run_to_end, with_lines } from "./actions.mjs";
 import { acts } from "./acts.mjs";
 import { history } from "./history.mjs";
 import { on_file, save_file } from "./files.mjs";
+import { listing } from "./listing.mjs";
 
 const at = id => document.getElementById(id);
 const field = at("script"), slider = at("step"), report = at("report");
@@ -23,6 +24,8 @@ const buttons = acts({
     sides: { A: at("acts-A"), B: at("acts-B") }, wire: at("wire"), text: at("text"), arrive: at("arrive"),
     damage: at("damage"), lose: at("lose"),
 }, lines => change(with_lines(field.value, lines), true));
+const segments = listing({ part: at("listing-part"), list: at("segments"), told: at("segments-told"),
+    shown: at("segments-listing") }, () => core);
 const view = ladder(at("ladder"), at("heads"), at("canvas"), at("picture"), { on_row: go, on_segment: choose });
 
 // What is shown: the last script that was taken, its run, and the current event.
@@ -229,6 +232,16 @@ function save_script() {
     say("The script is saved as tcp.script.");
 }
 
+// A capture is listed, and any other file is a script.
+function open_file(bytes, name) {
+    if (!segments.take(bytes, name)) {
+        const text = new TextDecoder().decode(bytes);
+        load(text);
+        kept = text;
+    }
+    say(`${name} is open.`);
+}
+
 async function open_link() {
     try {
         const found = await script_of(location.hash);
@@ -342,11 +355,8 @@ function listen() {
     at("save").addEventListener("click", save);
     at("save-script").addEventListener("click", save_script);
     at("open").addEventListener("click", () => at("file").click());
-    on_file(at("file"), (text, name) => {
-        load(text);
-        kept = text;
-        say(`${name} is open.`);
-    });
+    at("open-capture").addEventListener("click", () => at("capture").click());
+    on_file([at("file"), at("capture")], open_file);
     addEventListener("beforeunload", event => {
         if (is_own()) {
             event.preventDefault();

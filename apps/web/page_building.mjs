@@ -124,8 +124,7 @@ async function kept(tab, tools, expect) {
     await tools.run(press, "Undo");
     expect("an example can be undone", await script(tools), OWN);
     await tools.run(() => document.getElementById("script").focus());
-    await tab.send("Input.dispatchKeyEvent", { type: "rawKeyDown", key: "z", code: "KeyZ", modifiers: 2,
-        windowsVirtualKeyCode: 90 });
+    await tab.key("z", true);
     expect("Ctrl+Z undoes", await script(tools) === OWN, false);
     await tools.edit(OWN);
     const saved = await tools.saved_script();
@@ -136,11 +135,51 @@ async function kept(tab, tools, expect) {
 async function opened(tab, tools, expect) {
     const file = path.join(tab.folder, "one.script");
     fs.writeFileSync(file, FIRST);
-    const { root } = await tab.send("DOM.getDocument");
-    const { nodeId } = await tab.send("DOM.querySelector", { nodeId: root.nodeId, selector: "#file" });
-    await tab.send("DOM.setFileInputFiles", { nodeId, files: [file] });
+    await tab.choose_file("#file", file);
     await tab.until(() => document.getElementById("said").textContent === "one.script is open.");
     expect("the file's script", await script(tools), FIRST);
+}
+
+// A list of segments is written out as the program lists it; so is a capture of the same segments.
+async function listed(tab, tools, expect) {
+    const list = fs.readFileSync(at("crates/tcpkit/data/segments.list"), "utf8");
+    const wanted = / {4}(2 1 > 2 [^]*? {4}total 3 malformed 1\n)/.exec(fs.readFileSync(at("docs/FORMATS.md"), "utf8"))[1]
+        .replaceAll(/^ {4}/gm, "");
+    const type = text => tools.run(value => {
+        document.getElementById("listing-part").open = true;
+        document.getElementById("segments").value = value;
+        document.getElementById("segments").dispatchEvent(new Event("input"));
+        return [document.getElementById("segments-listing").textContent, document.getElementById("segments-told").textContent];
+    }, text);
+    expect("a list", await type(list), [wanted, ""]);
+    expect("a bad line", (await type("10.0.0.1 10.0.0.2 616\n"))[1].startsWith("Line 1 isn't of this form"), true);
+    const segments = list.split("\n").filter(line => /^\d/.test(line)).map(line => line.split(" ")[2]);
+    for (const link of [1, 101]) {
+        const file = path.join(tab.folder, `link-${link}.pcap`);
+        fs.writeFileSync(file, capture(link, segments));
+        await tab.choose_file("#capture", file);
+        await tab.until(name => document.getElementById("said").textContent === `${name} is open.`, `link-${link}.pcap`);
+        const [shown, told] = await tools.run(() => ["segments-listing", "segments-told"].map(
+            id => document.getElementById(id).textContent));
+        // The capture has no line for the comment.
+        expect(`a capture of link ${link}`, shown, wanted.replace(/^(\d+) /gm, (line, number) => `${number - 1} `)
+            .replace(/^total.*$/m, "total 3 malformed 1"));
+        expect(`what is left out of link ${link}`, told, `link-${link}.pcap: 3 segments, 1 packets without a whole IPv4 ` +
+            "TCP segment left out.");
+    }
+}
+
+// A pcap file with these segments from 10.0.0.1 to 10.0.0.2, and a packet of UDP.
+function capture(link, segments) {
+    const number = (value, size) => Array.from({ length: size }, (_, at) => (value >>> (8 * at)) & 255);
+    const bytes = [...number(0xa1b2c3d4, 4), 2, 0, 4, 0, ...number(0, 8), ...number(65535, 4), ...number(link, 4)];
+    for (const [protocol, hex] of [...segments.map(one => [6, one]), [17, "0001000200080000"]]) {
+        const text = Buffer.from(hex, "hex"), total = 20 + text.length;
+        const packet = [...(link === 1 ? [...number(0, 12), 8, 0] : []), 0x45, 0, total >> 8, total & 255, 0, 0, 0, 0, 64, protocol, 0, 0,
+            10, 0, 0, 1, 10, 0, 0, 2, ...text];
+        bytes.push(...number(0, 8), ...number(packet.length, 4), ...number(packet.length, 4), ...packet);
+    }
+    return Buffer.from(bytes);
 }
 
 // The script's line is reached by keys; a play steps to the end.
@@ -152,8 +191,7 @@ async function moved(tab, tools, expect) {
         field.focus();
         field.setSelectionRange(place, place);
     });
-    await tab.send("Input.dispatchKeyEvent", { type: "rawKeyDown", key: "Enter", code: "Enter", modifiers: 2,
-        windowsVirtualKeyCode: 13 });
+    await tab.key("Enter", true);
     expect("Ctrl+Enter", (await tools.shown()).place, "9 of 20");
     await tools.go(18);
     await tools.run(press, "Play");
@@ -167,5 +205,6 @@ export async function building(tab, tools, expect) {
     await to_the_end(tools, expect);
     await kept(tab, tools, expect);
     await opened(tab, tools, expect);
+    await listed(tab, tools, expect);
     await moved(tab, tools, expect);
 }

@@ -50,6 +50,10 @@ async function bars(tools, expect) {
     expect("B's buffer in words", found.B1.told, `0 unread, window 65536, held ${marked.join("–")}`);
     expect("B's buffer", [near(found.B1.pieces.held, ...marked, found.B1.span), "unread" in found.B1.pieces],
         [true, false]);
+    const edges = await tools.run(() => Object.fromEntries(["A", "B"].map(side => [side, [...document.querySelectorAll(
+        `#end-${side} .edges`)].map(part => part.textContent)])));
+    expect("A's places", edges.A[0], `SND.UNA 4 · SND.NXT ${4 + queued} · SND.UNA + SND.WND ${4 + 65535}`);
+    expect("B's places", edges.B[1], "RCV.NXT 4 · RCV.NXT + RCV.WND 65540");
     expect("the comment", await tools.run(() => document.getElementById("comment").textContent),
         "A marks these bytes in its queue: they needn't be sent again.");
     await tools.go(row - 2);
@@ -115,17 +119,16 @@ async function unable(tab, tools, expect, address) {
         field.value = "0";
         field.dispatchEvent(new Event("change"));
     });
-    const { identifier } = await tab.send("Page.addScriptToEvaluateOnNewDocument", {
-        source: "WebAssembly.compile = () => Promise.reject(new WebAssembly.CompileError('none'));",
-    });
+    const remove = await tab.before_page(
+        "WebAssembly.compile = () => Promise.reject(new WebAssembly.CompileError('none'));");
     await tab.leave();
-    await tab.send("Page.navigate", { url: address });
+    await tab.navigate(address);
     await tab.until(() => document.getElementById("unsupported")?.hidden === false);
     expect("a browser that can't", await tools.run(() => [
         /no\s+WebAssembly/.test(document.getElementById("unsupported").innerText),
         document.querySelectorAll("#finished svg.ladder").length, document.getElementById("main").hidden,
     ]), [true, 3, true]);
-    await tab.send("Page.removeScriptToEvaluateOnNewDocument", { identifier });
+    await remove();
     await tab.open(address);
     expect("one that can", await tools.run(() => document.getElementById("unsupported").hidden), true);
 }

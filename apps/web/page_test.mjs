@@ -1,5 +1,6 @@
-// Tests the built page in headless Chromium: node apps/web/page_test.mjs PAGE CHROMIUM [--draw]. With --draw the pictures of
-// docs/ are saved anew; else they are compared.
+// Tests the built page in a headless browser: node apps/web/page_test.mjs PAGE BROWSER [--draw], BROWSER being the command of
+// Chromium or, with node's --experimental-websocket, of Firefox. With --draw the pictures of docs/ are saved anew; else they are
+// compared.
 import fs from "node:fs";
 import path from "node:path";
 import { pathToFileURL } from "node:url";
@@ -10,7 +11,7 @@ import { handling } from "./page_handling.mjs";
 import { looks } from "./page_looks.mjs";
 import { building } from "./page_building.mjs";
 
-const [page, chromium, draw] = process.argv.slice(2);
+const [page, command, draw] = process.argv.slice(2);
 const address = pathToFileURL(path.resolve(page)).href;
 // A quiet machine takes 60 ms; one whose processors others use, or a slower one, may take four times as long.
 const TEN_THOUSAND = 10000, MOST_MS = 250, MOST_FRAME = 50, MOST_NODES = 3000;
@@ -87,7 +88,7 @@ async function refused(tools, all) {
     expect("all refusals", [...seen].sort(), [...table.keys()].filter(number => /^[13]/.test(number)).sort());
 }
 
-async function ten_thousand(tools) {
+async function ten_thousand(tab, tools) {
     const script = long_script(TEN_THOUSAND), times = [];
     for (let turn = 0; turn < 4; turn += 1) {
         times.push(await tools.timed(script + "#\n".repeat(turn)));
@@ -95,13 +96,17 @@ async function ten_thousand(tools) {
     const { place } = await tools.shown();
     expect("10,000 events", place.endsWith(` of ${TEN_THOUSAND}`), true);
     const told = times.map(({ time, spent }) => `${Math.round(time)} (${Math.round(spent)})`).join(", ");
-    console.log(`page: 10,000 events in ${told} ms (of a processor's time), the first with a cold module`);
-    expect(`10,000 events within ${MOST_MS} ms`, Math.min(...times.map(({ spent }) => spent)) <= MOST_MS, true);
+    console.log(`page: 10,000 events in ${told} ms (of a processor's time, where it is told), the first with a cold module`);
+    if (tab.spent) {
+        expect(`10,000 events within ${MOST_MS} ms`, Math.min(...times.map(({ spent }) => spent)) <= MOST_MS, true);
+    }
     const { median, slowest, nodes, rows } = await tools.scrolled();
     const [usual, longest] = [median, slowest].map(time => Math.round(time));
     console.log(`page: scrolled through, a frame in ${usual} ms, the slowest in ${longest}, ${nodes} nodes`);
     expect("what is drawn", nodes <= MOST_NODES, true);
-    expect("a scroll without a stall", median <= MOST_FRAME, true);
+    if (tab.spent) {
+        expect("a scroll without a stall", median <= MOST_FRAME, true);
+    }
     expect("the rows that are seen are drawn", rows, true);
 }
 
@@ -119,7 +124,7 @@ async function stored(tools) {
     }
 }
 
-const tab = await browser(chromium);
+const tab = await browser(command);
 try {
     await tab.size(1600, 6000);
     await tab.open(address);
@@ -131,7 +136,7 @@ try {
     await building(tab, tools, expect);
     await handling(tab, tools, expect, address);
     await tab.size(1600, 1000);
-    await ten_thousand(tools);
+    await ten_thousand(tab, tools);
     expect("no error in the page", tab.errors, []);
 } catch (error) {
     failed += 1;
@@ -139,5 +144,5 @@ try {
 } finally {
     await tab.close();
 }
-console.log(failed === 0 ? `page: ${passed} passed` : `page: ${failed} FAILED, ${passed} passed`);
+console.log(failed === 0 ? `page, ${command}: ${passed} passed` : `page, ${command}: ${failed} FAILED, ${passed} passed`);
 process.exit(failed === 0 ? 0 : 1);

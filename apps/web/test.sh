@@ -1,7 +1,7 @@
 #!/usr/bin/env bash
-# Tests the module under node, and the page, with that module in it, in headless Chromium: apps/web/test.sh [--draw]
+# Tests the module under node, and the page, with that module in it, in headless Chromium and Firefox: apps/web/test.sh [--draw]
 # [[--module] FILE]. Without FILE the module is apps/web/out/tcp_web.wasm, which apps/web/build.sh builds where there is none. It
-# installs nodejs and chromium by apt-get where this machine lacks them; where it can't, it fails, or, with LEAVE_OUT=1 in
+# installs nodejs, chromium and firefox-esr by apt-get where this machine lacks them; where it can't, it fails, or, with LEAVE_OUT=1 in
 # the environment, says so and leaves the run out. With --draw the pictures of docs/ are saved anew.
 set -euo pipefail
 cd "$(dirname "$0")/../.."
@@ -20,6 +20,7 @@ done
 install_commands <<'LIST'
 node nodejs
 chromium chromium
+firefox-esr firefox-esr
 LIST
 if [[ -z $module ]]; then
     module=apps/web/out/tcp_web.wasm
@@ -31,3 +32,4 @@ work=$(mktemp -d)
 trap 'rm -rf "$work"' EXIT
 python3 apps/web/pack.py "$module" "$work/tcp.html"
 node apps/web/page_test.mjs "$work/tcp.html" chromium $draw
+node --experimental-websocket --no-warnings apps/web/page_test.mjs "$work/tcp.html" firefox-esr

@@ -1,9 +1,9 @@
 /*
  * answers.h: a limit on what an end answers (RFC 5961, 7), and no window told that has grown by less than is worth a segment
- * (RFC 9293, 3.8.6.2.2). flow.h stands on it.
+ * (RFC 9293, 3.8.6.2.2). flow.h uses it.
  *
  * This is C over tcpcore.h, tested and not proved. Two ends that find each other's acknowledgements unacceptable, as where both
- * windows are shut and both have probed, owe each other one for each, for ever; and whoever sends segments from outside of the
+ * windows are shut and both have probed, answer each other's one by one, forever; and whoever sends segments from outside of the
  * window is sent one for each. What asked for by text or a FIN is answered at once, always: no such war has any. What else says
  * the same as before goes out once in `quiet` milliseconds, and is discarded meanwhile: kept back it would go out later, and two
  * would fight on at that pace.
@@ -33,14 +33,14 @@ struct answers {
 void answers_init(struct answers *answers, uint32_t quiet);
 
 /*
- * A segment has come that tcpcore_take answered by DONE or DROPPED, with this `at_once`. Tells whether it is answered at once:
+ * A segment has come that tcpcore_take answered by DONE or DROPPED, with this `at_once`. Returns whether it is answered at once:
  * not where it asks for what goes out once in some time, and that went out.
  */
 int answers_arrived(struct answers *answers, const uint8_t *segment, size_t length, uint32_t at_once, uint64_t now);
 
 /*
- * tcpcore_emit has written this segment, the end is in this phase, and would tell `edge` as the right edge of its window; a
- * window that has grown by `step` bytes is worth a segment. Tells whether it goes out. One that doesn't is discarded, and
+ * tcpcore_emit has written this segment, the end is in this phase, and would advertise `edge` as the right edge of its window; a
+ * window that has grown by `step` bytes is worth a segment. Returns whether it goes out. One that doesn't is discarded, and
  * tcpcore_emit asked again.
  */
 int answers_may_go(struct answers *answers, const uint8_t *segment, size_t length, uint32_t phase, uint64_t edge, uint64_t step,

@@ -1,8 +1,8 @@
 /*
  * congestion.h: the congestion window of one end (RFC 5681, with the initial window of RFC 6928; RFC 9438 where that is
- * chosen), and the pace of what goes out again. flow.h stands on it.
+ * chosen), and the pace of what goes out again. flow.h uses it.
  *
- * This is C alone, tested and not proved: it knows no end, and counts bytes of the own direction. What an end is given
+ * This is C alone, tested and not proved: it knows no end, and counts bytes of its own direction. What an end is given
  * to send is limited, and not what it emits, since each segment that it emits carries an acknowledgement.
  */
 #ifndef TCPCORE_CONGESTION_H
@@ -38,7 +38,7 @@ struct congestion {
     struct cubic cubic; /* what RFC 9438 remembers, where is_cubic */
     uint32_t is_cubic;  /* the window grows and shrinks by RFC 9438 */
     uint32_t is_clocked; /* what goes out again is paced by acknowledgements, not by time */
-    uint32_t is_keeping; /* where no block tells it: the peer was seen to keep what comes out of order */
+    uint32_t is_keeping; /* where no block reports it: the peer was seen to keep what comes out of order */
     uint32_t loss;      /* CONGESTION_OPEN .. CONGESTION_TIMED_OUT */
     uint32_t losses;    /* how often the window was halved */
     uint32_t timeouts;  /* how often it went down to one segment */

@@ -1,5 +1,5 @@
 /*
- * cubic.h: the congestion window of one end in congestion avoidance, by CUBIC (RFC 9438). congestion.h stands on it.
+ * cubic.h: the congestion window of one end in congestion avoidance, by CUBIC (RFC 9438). congestion.h uses it.
  *
  * This is C alone, tested and not proved: it knows no end. Windows are bytes, times milliseconds.
  */

@@ -34,7 +34,7 @@ static void emit(struct demux *demux, struct table_slot *slot, uint64_t now)
     demux->counters.unsaid += slot->flow.answers.withheld - withheld;
 }
 
-/* Answers a segment for which there is no end (RFC 9293, 3.10.7.1); at the own port an end would listen, and answers
+/* Answers a segment for which there is no end (RFC 9293, 3.10.7.1); at its own port an end would listen, and answers
    acknowledgements alone (3.10.7.2). */
 static void stray(struct demux *demux, tcpcore_addr src, const uint8_t *bytes, size_t length, uint64_t now)
 {

@@ -31,7 +31,7 @@ struct demux_counters {
     uint64_t withheld;  /* strays that weren't answered: too many in this second */
     uint64_t unsaid;    /* answers of ends that weren't sent: they'd say what was just said (answers.h) */
     uint64_t orderly, reset, aborted; /* how ends ended */
-    uint64_t gave_up;   /* of the aborted those that the timers gave up */
+    uint64_t gave_up;   /* of the aborted those that the timers abandoned */
 };
 
 /* What a table is made from. */
@@ -67,7 +67,7 @@ struct demux {
 int demux_init(struct demux *demux, const struct demux_config *config, struct table_slot *slots, uint32_t count);
 
 /*
- * A TCP segment of `length` bytes has come from `src` to the own address. Out of order, or where it fills a gap, it is
+ * A TCP segment of `length` bytes has come from `src` to its own address. Out of order, or where it fills a gap, it is
  * answered at once (RFC 5681, 4.2); else by demux_turn. `src` can be a peer's: ip_read has tested that.
  */
 void demux_arrive(struct demux *demux, tcpcore_addr src, const void *segment, size_t length, uint64_t now);

@@ -1,5 +1,5 @@
 /*
- * faults.h: a path that loses packets, doubles them, and lets some come late, for tests of what stands on an end.
+ * faults.h: a path that loses packets, doubles them, and lets some come late, for tests of what uses an end.
  *
  * This is C, tested and not proved.
  */

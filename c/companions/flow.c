@@ -5,7 +5,7 @@
 #include <limits.h>
 #include <string.h>
 
-/* So many segments are acknowledged at once (RFC 5681, 4.2), and so many duplicates tell of a loss (3.2). */
+/* So many segments are acknowledged at once (RFC 5681, 4.2), and so many duplicates mean a loss (3.2). */
 enum { ANSWERED = 2, DUPLICATES = 3 };
 
 /* So long, in milliseconds, a peer may delay the acknowledgement of a single segment (RFC 8985, 7.2). */
@@ -96,7 +96,7 @@ static int begin_clocked(struct flow *flow, tcpcore_end *end, uint64_t now)
     return 1;
 }
 
-/* Without blocks the third duplicate tells of a loss (RFC 5681, 3.2). Before that each of two lets a segment more out (RFC 3042). */
+/* Without blocks the third duplicate means a loss (RFC 5681, 3.2). Before that each of two lets a segment more out (RFC 3042). */
 static void duplicate(struct flow *flow, tcpcore_end *end, uint64_t now)
 {
     if (flow->is_shut || flow->congestion.loss != CONGESTION_OPEN)
@@ -109,7 +109,7 @@ static void duplicate(struct flow *flow, tcpcore_end *end, uint64_t now)
         flow->fast++;
 }
 
-/* What an arrival acknowledges, and what it tells of losses; of blocks where it has nothing but options. */
+/* What an arrival acknowledges, and what it says of losses; of blocks where it has nothing but options. */
 static void acknowledged(struct flow *flow, tcpcore_end *end, const struct tcpcore_taken *taken, int tells_blocks,
                          const struct tcpcore_status *after, uint64_t now)
 {
@@ -215,7 +215,7 @@ uint32_t flow_send(struct flow *flow, tcpcore_end *end, const void *text, size_t
     return answer;
 }
 
-/* The right edge of the window that the end would tell. */
+/* The right edge of the window that the end would advertise. */
 static uint64_t edge_of(const struct flow *flow, const struct tcpcore_status *status)
 {
     return status->next + flow->keeps - status->unread;
@@ -370,7 +370,7 @@ static int goes(struct flow *flow, const tcpcore_end *end, uint8_t *segment, siz
                                                          step_of(flow), now);
 }
 
-/* tcpcore_transmit, with what tcpcore_emit tells. */
+/* tcpcore_transmit, with what tcpcore_emit reports. */
 static uint32_t transmitted(tcpcore_end *end, void *out, size_t room, tcpcore_addr *to, size_t *length,
                             struct tcpcore_transmit *transmit)
 {

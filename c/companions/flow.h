@@ -1,6 +1,6 @@
 /*
  * flow.h: one end with its times and its flow: congestion control, what goes out again paced, a loss found by duplicate
- * acknowledgements, and by silence, where the peer tells no blocks (RFC 5681, 3.2; RFC 6582; RFC 8985, 7), acknowledgements
+ * acknowledgements, and by silence, where the peer reports no blocks (RFC 5681, 3.2; RFC 6582; RFC 8985, 7), acknowledgements
  * delayed (RFC 9293, 3.8.6.3; RFC 5681, 4.2) and limited (RFC 5961, 7), and no silly windows (RFC 9293, 3.8.6.2): none is
  * told, and none is filled.
  *
@@ -67,9 +67,9 @@ struct flow {
     uint8_t choices;        /* FLOW_CUBIC, FLOW_NAGLE */
     uint8_t is_overridden;  /* it may */
     uint8_t is_probed;      /* since the last progress a silence was probed: what comes next is the timeout's */
-    uint8_t has_blocks;     /* the peer tells blocks (RFC 2018) */
+    uint8_t has_blocks;     /* the peer reports blocks (RFC 2018) */
     uint8_t is_asking;      /* the next segment asks whether the peer is there */
-    uint8_t is_shut;        /* the peer's window is, as the end has it: an old segment may tell another */
+    uint8_t is_shut;        /* the peer's window is, as the end has it: an old segment may say another */
     uint8_t is_resending;   /* what goes out next may go out again */
     uint8_t is_owed;        /* an acknowledgement may not wait */
     uint8_t is_urgent;      /* not even for the next arrival: emit now (RFC 5681, 4.2) */
@@ -88,7 +88,7 @@ void flow_choose(struct flow *flow, uint32_t choices);
 void flow_keep_alive(struct flow *flow, const struct flow_keep *keep);
 
 /*
- * tcpcore_take, and its answer. Of duplicate acknowledgements the third one without blocks tells of a loss: the end is told to send
+ * tcpcore_take, and its answer. Of duplicate acknowledgements the third one without blocks means a loss: the end has to send
  * again. So it is by a SYN that comes again in SYN-RECEIVED, as the SYN,ACK was lost: it goes out in place of an acknowledgement,
  * at most once in ANSWERS_QUIET milliseconds. Sets is_urgent where that tells to answer at once.
  */

@@ -1,7 +1,7 @@
 /*
  * ip.h: the IPv4 header around a TCP segment, written, read and checked (RFC 791, 3.1; RFC 1122, 3.2.1).
  *
- * This is C beside tcpcore.h, tested and not proved. There is no reassembly: a TCP whose MSS is told keeps clear of
+ * This is C beside tcpcore.h, tested and not proved. There is no reassembly: a TCP that advertises its MSS keeps clear of
  * fragments.
  */
 #ifndef TCPCORE_IP_H
@@ -25,7 +25,7 @@ enum {
     IP_OTHER_PROTOCOL = 8   /* not TCP */
 };
 
-/* An own address in its network: 10.9.0.2/24 is {{{10, 9, 0, 2}}, 24}. */
+/* An address of its own in its network: 10.9.0.2/24 is {{{10, 9, 0, 2}}, 24}. */
 struct ip_net {
     tcpcore_addr addr;
     uint8_t prefix; /* bits of the network's number, 0 to 32 */
@@ -39,8 +39,8 @@ struct ip_packet {
 };
 
 /*
- * Whether an address can be a peer's. Not: network 0, loopback, multicast and above (so limited broadcast), the own
- * address, and of the own network its number and its broadcast (RFC 1122, 3.2.1.3; RFC 9293, 3.9.2.3), but where it
+ * Whether an address can be a peer's. Not: network 0, loopback, multicast and above (so limited broadcast), its own
+ * address, and of its own network its number and its broadcast (RFC 1122, 3.2.1.3; RFC 9293, 3.9.2.3), but where it
  * has only two addresses or one.
  */
 int ip_may_be_peer(struct ip_net own, tcpcore_addr addr);

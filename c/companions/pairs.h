@@ -1,7 +1,7 @@
 /*
  * pairs.h: connections by both addresses and both ports (a pair of sockets identifies a connection: RFC 9293, 4).
  *
- * This is C beside tcpcore.h and table.h, tested and not proved. Nodes stand in the structs of their connections, the
+ * This is C beside tcpcore.h and table.h, tested and not proved. Nodes are in the structs of their connections, the
  * buckets are the caller's. Nobody outside can choose who shares a bucket, since that is up to a secret.
  */
 #ifndef TCPCORE_PAIRS_H

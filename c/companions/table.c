@@ -59,7 +59,7 @@ uint64_t table_secret(const struct table *table, tcpcore_addr peer, uint16_t por
     return v[0] ^ v[1] ^ v[2] ^ v[3];
 }
 
-/* The head of the list in which the peer's slot stands. The lower half of the secret is seen in its ISN. */
+/* The head of the list in which the peer's slot is. The lower half of the secret is seen in its ISN. */
 static uint32_t *bucket_of(const struct table *table, tcpcore_addr peer, uint16_t port)
 {
     return &table->slots[(table_secret(table, peer, port) >> 32) % table->count].bucket;

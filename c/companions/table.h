@@ -1,5 +1,5 @@
 /*
- * table.h: the ends of one port by their peers' addresses and ports, in slots of the caller's. demux.h stands on it.
+ * table.h: the ends of one port by their peers' addresses and ports, in slots of the caller's. demux.h uses it.
  *
  * This is C over tcpcore.h and flow.h, tested and not proved. A peer can't choose who shares its list, since that
  * is up to a secret; the same secret goes into the initial sequence numbers (RFC 9293, 3.4.1).
@@ -29,13 +29,13 @@ struct table {
     uint32_t used, half_open; /* ends, and half-open ones of them */
     uint32_t free;            /* the first free slot */
     uint8_t secret[16];       /* random */
-    uint16_t port;            /* the own port */
+    uint16_t port;            /* its own port */
 };
 
-/* Sets a table of `count` slots, 2 to UINT32_MAX - 1, all free. `port` is the own port. */
+/* Sets a table of `count` slots, 2 to UINT32_MAX - 1, all free. `port` is its own port. */
 void table_init(struct table *table, struct table_slot *slots, uint32_t count, uint16_t port, const uint8_t secret[16]);
 
-/* The secret function of a connection, 64 bits: SipHash-2-4 of the peer's address, its port and the own port. */
+/* The secret function of a connection, 64 bits: SipHash-2-4 of the peer's address, its port and the own one. */
 uint64_t table_secret(const struct table *table, tcpcore_addr peer, uint16_t port);
 
 /* The slot of a peer, or NULL. */

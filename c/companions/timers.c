@@ -165,7 +165,7 @@ static void follow(struct timers *timers, tcpcore_end *end, uint64_t now)
     }
 }
 
-/* How long the same segment is sent again before the connection is given up (RFC 9293, 3.8.3). */
+/* How long the same segment is sent again before the connection is abandoned (RFC 9293, 3.8.3). */
 static uint32_t limit(const struct timers *timers)
 {
     if (timers->phase == TCPCORE_PHASE_SYN_SENT)
@@ -173,7 +173,7 @@ static uint32_t limit(const struct timers *timers)
     return timers->phase == TCPCORE_PHASE_SYN_RECEIVED ? timers->rules.syn_ack_limit : timers->rules.r2;
 }
 
-/* Whether the connection is given up: R2 lies past R1, so that a single answer that was lost doesn't end it, however long
+/* Whether the connection is abandoned: R2 lies past R1, so that a single answer that was lost doesn't end it, however long
    the timeout was. A SYN has a limit of its own (RFC 9293, 3.8.3). */
 static int is_given_up(const struct timers *timers, uint64_t now)
 {

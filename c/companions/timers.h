@@ -30,11 +30,11 @@ struct timers_rules {
                                (RFC 9293, 3.8.3) */
     uint32_t syn_limit;     /* the same for a SYN: at least 3 minutes (RFC 9293, 3.8.3) */
     uint32_t syn_ack_limit; /* the same for a SYN,ACK; a listener that is flooded takes less (RFC 4987, 3.3) */
-    uint32_t fin_wait_2;    /* so long without a byte of the peer's an end stays in FIN-WAIT-2; 0: for ever, as the standard has it.
+    uint32_t fin_wait_2;    /* so long without a byte of the peer's an end stays in FIN-WAIT-2; 0: forever, as the standard has it.
                                Where the user reads no more, Linux takes 60 s */
 };
 
-/* The values that stand in the comments above; 60 s as the greatest timeout, and no limit in FIN-WAIT-2. */
+/* The values in the comments above; 60 s as the greatest timeout, and no limit in FIN-WAIT-2. */
 extern const struct timers_rules TIMERS_RULES;
 
 /* What timers_run found, as bits. */
@@ -62,7 +62,7 @@ struct timers {
     uint64_t timed_at;      /* when it was emitted, or TIMERS_NEVER: none is */
     uint32_t isn;           /* the initial sequence number, from the SYN that timers_emitted was passed */
     uint64_t next;          /* RCV.NXT as tcpcore_status told it last */
-    uint64_t left_at;       /* when an end in FIN-WAIT-2 is given up, or TIMERS_NEVER */
+    uint64_t left_at;       /* when an end in FIN-WAIT-2 is abandoned, or TIMERS_NEVER */
 };
 
 /* Sets the timers of an end that was just made: none runs. */
@@ -70,7 +70,7 @@ void timers_init(struct timers *timers, const struct timers_rules *rules);
 
 /*
  * A segment was emitted, of which tcpcore_transmit reported this. New text is timed, one segment at a time; where anything is sent again
- * nothing is, since its acknowledgement wouldn't tell which one it answers (Karn's rule: RFC 6298, 3), and reordering
+ * nothing is, since its acknowledgement wouldn't say which one it answers (Karn's rule: RFC 6298, 3), and reordering
  * is given a round trip more, in which the peer can tell that it came. In TIME-WAIT an emission answers the peer's FIN
  * and starts that time anew (RFC 9293, 3.10.7.4). Answers whether the segment was sent again.
  */

@@ -46,7 +46,8 @@ def main():
     wrong += [f"a relationship {words}" for words in relations if len(words) != 3 or not {words[0], words[2]} <= set(names)]
     sha1, sha256 = sums(folder, "sha1sum"), sums(folder, "sha256sum")
     excluded = {"./SHA256SUMS", "./tcpcore.spdx"}
-    listed = {dict(record)["FileName"]: [value for tag, value in record if tag == "FileChecksum"] for record in records if record and record[0][0] == "FileName"}
+    of_files = [record for record in records if record and record[0][0] == "FileName"]
+    listed = {dict(record)["FileName"]: [value for tag, value in record if tag == "FileChecksum"] for record in of_files}
     wrong += [f"{name} isn't listed, or isn't there" for name in (set(sha1) - excluded) ^ set(listed)]
     wrong += [f"{name} has other checksums" for name in listed if listed[name] != [f"SHA1: {sha1.get(name)}", f"SHA256: {sha256.get(name)}"]]
     text = "".join(sorted(sha1[name] for name in set(sha1) - excluded))

@@ -79,7 +79,8 @@ made() {
     echo "wasm2c $(wasm2c --version)"
 }
 
-rm -rf "$place"
+# Of an earlier version, too.
+rm -rf out/tcpcore-0.*
 mkdir -p "$place"/{companions,rust,python/tcpcore,cpp,docs,man,prebuilt,tcpkit}
 library
 program

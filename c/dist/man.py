@@ -1,5 +1,5 @@
 """Makes the manual page tcpcore.3 of tcpcore.h: python3 man.py HEADER DATE > tcpcore.3. What it says is the header's own text: its first
-comment section by section, each call with its prototype, the answers, and the structs field by field.
+comment section by section, each call with its prototype, the numbers, and the structs field by field.
 """
 
 import pathlib
@@ -108,9 +108,10 @@ def main():
     out += [".SH CALLS", "An answer is named without its prefix \\fBTCPCORE_\\fR."]
     for prototype, lines in told:
         out += [f".SS {re.search(r'tcpcore_[a-z_]+', prototype)[0]}", f".B {escaped(prototype)}", ".PP", *call_text(lines)]
-    out += ['.SH "THE ANSWERS BY NUMBER"']
-    for body in re.findall(r"^enum \{\n(.*?)^\};", header, re.M | re.S)[:1]:
-        # In this list a comment may stand before what it is of.
+    out += ['.SH "NUMBERS"']
+    for text, body in re.findall(r"^/\* ((?:(?!\*/).)*?) \*/\nenum \{\n(.*?)^\};", header, re.M | re.S):
+        # A comment on lines of its own is of those that follow.
+        out += [".PP"] * (not out[-1].startswith(".SH")) + [words(text)]
         out += tagged(entries(re.sub(r"^    /\*.*?\*/\n", "", body, flags=re.M | re.S), r"(TCPCORE_\w+ = \d+),?"))
     for tag, body in re.findall(r"struct (tcpcore_\w+) \{\n(.*?)^\}", header, re.M | re.S):
         if tag in ("tcpcore_end", "tcpcore_addr"):

@@ -2,8 +2,8 @@
 # The tarball: made twice it is the same; and in a folder of its own, where the kit and this repository can't be read, it is built, tested
 # and installed, of the portable file and of each machine's code; an example is built on what is installed and moved elsewhere; the
 # program is built and makes its first run; the bill of materials and the manual pages are read; the Debian packages are built and
-# looked at; and the Rust crate and Python's class are tested. It installs what this machine lacks by apt-get; where that fails it fails, or, with LEAVE_OUT=1 in the environment, says what
-# it leaves out. Stops at the first failure.
+# looked at; and the Rust crate and Python's class are tested. It installs what this machine lacks by apt-get; where that fails it
+# fails, or, with LEAVE_OUT=1 in the environment, says what it leaves out. Stops at the first failure.
 set -euo pipefail
 cd "$(dirname "$0")"
 test=dist
@@ -70,7 +70,10 @@ installed() {
 }
 
 # Instructions that x86-64 has from level v2 on.
-of_v2() { objdump -d --no-show-raw-insn "$place/prebuilt/$1/libtcp_c.a" | grep -cE '	(popcnt|pshufb|ptest|p(min|max)u[wd]|pmov[sz]x[a-z]*|pinsr[bdq]|pextr[bdq])\b' || true; }
+of_v2() {
+    local names='popcnt|pshufb|ptest|p(min|max)u[wd]|pmov[sz]x[a-z]*|pinsr[bdq]|pextr[bdq]'
+    objdump -d --no-show-raw-insn "$place/prebuilt/$1/libtcp_c.a" | grep -cE "[[:space:]]($names)\b" || true
+}
 
 prebuilt() {
     local proof
@@ -99,15 +102,17 @@ manual() {
     pass
 }
 
-# Debian's package: built twice it is the same, lintian finds no error, and an example is built on what it installs.
+# Debian's packages, with their source: built twice they are the same, lintian finds no error, and an example is built on what they
+# install.
 package() {
     local first file lib
     { has debhelper dpkg -s debhelper && has lintian lintian --version && has fakeroot fakeroot --version; } || return 0
     for first in one other; do
         mkdir "$there/$first"
         tar -C "$there/$first" -xzf "$top/c/dist/out/tcpcore-$version.tar.gz"
+        cp "$top/c/dist/out/tcpcore-$version.tar.gz" "$there/$first/tcpcore_$version.orig.tar.gz"
         cd "$there/$first/tcpcore-$version"
-        bare dpkg-buildpackage -us -uc -b
+        bare dpkg-buildpackage -us -uc
         cd "$there"
     done
     for file in one/*.deb; do cmp "$file" "other/${file#one/}"; done

@@ -24,6 +24,8 @@ else
     # tcp_c, and the crates below it.
     lines='^(region_heap|tcp_numbers|tcp_wire|tcp_sendq|tcp_reasm|tcp_halves|tcp_conn|tcp_c)( staticlib)?:'
     mapfile -t folders < <(sed -nE "s/$lines.*/crates\/\1/p" "$top/crates.txt")
+    # What an earlier build copied may have files that are gone; what it kept beside them stays.
+    find "$build/crates" -mindepth 2 -maxdepth 2 ! -name out -exec rm -rf {} +
     tar -C "$top" --exclude=out -cf - HANDLES "${folders[@]}" | tar -xf - -C "$build"
     grep -E "$lines" "$top/crates.txt" | sed 's/^tcp_c staticlib:/tcp_c wasm64:/' >"$build/crates.txt"
     (cd "$build/crates/tcp_c" && rt lib)

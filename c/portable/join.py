@@ -73,17 +73,27 @@ def made_of(text, instance, what):
     return re.search(rf"^static void init_{what}\({instance} instance\) \{{\n(.*?)^\}}\n", text, re.M | re.S)
 
 
-def functions(text, module, has_data=False):
-    """wasm2c's functions of a module, and their declarations. Where it may have data that is in memory from the start, that is left
-    to the caller."""
+def table_of(text):
+    """What is in the module's memory from the start: where, how many bytes, and their text; nothing where there is none."""
+    place = re.findall(r"LOAD_DATA\(instance->w2c_memory, (\d+)u, (data_segment_data_\w+), (\d+)\);", text)
+    if not place:
+        return 0, 0, ""
+    at, name, length = place[0]
+    found = re.search(rf"^static const u8 {name}\[\] = \{{\n(.*?)\n\}};", text, re.M | re.S)[1]
+    if len(place) != 1 or len(found.split(",")) - found.rstrip().endswith(",") != int(length):
+        stop("the module's data isn't one table, or has another length")
+    return int(at), int(length), found
+
+
+def functions(text, module):
+    """wasm2c's functions of a module, and their declarations. What is in its memory from the start is `table_of`'s."""
     instance = f"Z_{module}_instance_t\\*"
     globals_of, memories = (made_of(text, instance, what) for what in ("globals", "memories"))
     named = re.findall(r"instance->(\w+) = (\w+);\n", globals_of[1])
     if [name for name, _ in named] != ["w2c___stack_pointer", "w2c_in_call", "w2c___heap_base"] or named[1][1] != "0u":
         stop(f"the module's globals are {named}")
     memory = r"  wasm_rt_allocate_memory\(&instance->w2c_memory, \d+, \d+\);\n"
-    data = r"\w+, \d+" if has_data else "NULL, 0"
-    if not re.fullmatch(memory + rf"(?:  LOAD_DATA\(instance->w2c_memory, \d+u, {data}\);\n)?", memories[1]):
+    if not re.fullmatch(memory + r"(?:  LOAD_DATA\(instance->w2c_memory, \d+u, \w+, \d+\);\n)?", memories[1]):
         stop(f"the module's memory has {memories[1]}")
     if "CALL_INDIRECT(table" in text[memories.end() :] or "w2c_T" in text[memories.end() :]:
         stop("the module has a table")
@@ -133,14 +143,18 @@ def stack_of(body):
 
 
 def main():
-    declared, body = functions(pathlib.Path(sys.argv[1]).read_text(), "tcp_c")
+    text = pathlib.Path(sys.argv[1]).read_text()
+    declared, body = functions(text, "tcp_c")
+    at, size, constants = table_of(text)
     stack = (stack_of(body) + 15) // 16 * 16
     body, loops, pieces = quicker.quicker(body)
     if loops < 10 or pieces < 5:
         stop(f"{loops} loops and {pieces} pieces of code could be made quicker: wasm2c or the compiler writes them in other forms")
     own = f"\n/* The module's own stack: what its deepest chain of calls takes. */\nenum {{ MODULE_STACK = {stack} }};\n\n"
+    table = f"/* The module's constants, and where they lie. */\nenum {{ TABLE_AT = {at} }};\n#define TABLE_SIZE {size}\n"
+    table += f"static const unsigned char TABLE[] = {{\n{constants}\n}};\n\n" if size > 0 else "\n"
     module = "/* THE MODULE: crates/tcp_c and those below it, function by function, as wasm2c has written them. */\n"
-    parts = [HEAD, layer(), (HERE / "memory.c").read_text(), own, module, declared, body, (HERE / "calls.c").read_text()]
+    parts = [HEAD, layer(), table, (HERE / "memory.c").read_text(), own, module, declared, body, (HERE / "calls.c").read_text()]
     text = "".join(parts)
     pathlib.Path(sys.argv[2]).write_text(text)
     print(f"{sys.argv[2]}: {len(text.splitlines())} lines, {declared.count(';')} functions, {stack} bytes of the module's stack,"

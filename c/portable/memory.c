@@ -8,6 +8,7 @@
  *   3  a buffer that is written: room for text or for a segment.
  * Each access tests that it lies in its window, and a store that it isn't in window 2. With TCPCORE_UNCHECKED none does: then
  * nothing but the proof and the translators keep the code within its memory.
+ * The module's constants, TABLE, if it has any, are at TABLE_AT of window 0, behind all else there, and are only read.
  */
 typedef uint8_t u8;
 typedef uint16_t u16;
@@ -47,16 +48,46 @@ static void stop(void)
     }
 }
 
-/* Where `size` bytes at an address lie: at most PLACE of them. */
-static inline u8 *place(const struct window *windows, u32 address, u32 size)
+/* Where `size` bytes at an address lie that are written: at most PLACE of them. */
+static inline u8 *place(const Memory *memory, u32 address, u32 size)
 {
-    const struct window *window = windows + (address >> 30);
+    const struct window *window = memory->written + (address >> 30);
     u32 at = address & PLACE;
 #ifdef TCPCORE_UNCHECKED
     (void)size;
 #else
     if (at + size > window->size)
         stop();
+#endif
+    return window->data + at;
+}
+
+/* Constants of the module; where there are none it stops. */
+#if !defined(TCPCORE_UNCHECKED) || TABLE_SIZE > 0
+static inline const u8 *constant(u32 address, u32 size)
+{
+#if TABLE_SIZE > 0
+    if (address >= TABLE_AT && address - TABLE_AT <= TABLE_SIZE && size <= TABLE_SIZE - (address - TABLE_AT))
+        return TABLE + (address - TABLE_AT);
+#else
+    (void)address, (void)size;
+#endif
+    stop();
+    return NULL;
+}
+#endif
+
+/* The same of bytes that are read. */
+static inline const u8 *read_place(const Memory *memory, u32 address, u32 size)
+{
+    const struct window *window = memory->read + (address >> 30);
+    u32 at = address & PLACE;
+#ifndef TCPCORE_UNCHECKED
+    if (at + size > window->size)
+        return constant(address, size);
+#elif TABLE_SIZE > 0
+    if (address >= TABLE_AT && address < WINDOW(1))
+        return constant(address, size);
 #endif
     return window->data + at;
 }
@@ -93,12 +124,12 @@ static inline void put64(u8 *to, u64 value) { PUT(u64); }
 #define LOAD(name, R, bits) \
     static inline R name(const Memory *memory, u64 address) \
     { \
-        return get##bits(place(memory->read, (u32)address, bits / 8)); \
+        return get##bits(read_place(memory, (u32)address, bits / 8)); \
     }
 #define STORE(name, V, bits) \
     static inline void name(const Memory *memory, u64 address, V value) \
     { \
-        put##bits(place(memory->written, (u32)address, bits / 8), (u##bits)value); \
+        put##bits(place(memory, (u32)address, bits / 8), (u##bits)value); \
     }
 LOAD(i32_load, u32, 32)
 LOAD(i32_load16_u, u32, 16)
@@ -119,8 +150,8 @@ static inline void memory_copy(const Memory *to, const Memory *from, u32 destina
 {
     if (count > PLACE)
         stop();
-    u8 *at = place(to->written, destination, count);
-    const u8 *there = place(from->read, source, count);
+    u8 *at = place(to, destination, count);
+    const u8 *there = read_place(from, source, count);
     if (count > 0)
         memmove(at, there, count);
 }
@@ -129,7 +160,7 @@ static inline void memory_fill(const Memory *memory, u32 destination, u32 value,
 {
     if (count > PLACE)
         stop();
-    u8 *at = place(memory->written, destination, count);
+    u8 *at = place(memory, destination, count);
     if (count > 0)
         memset(at, (int)(value & 255), count);
 }

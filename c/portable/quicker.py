@@ -89,7 +89,7 @@ def spanned(lines):
             for line, _, distance, size in here:
                 piece[line - number] = LOAD.sub(rf"\1\2 = get{8 * size}({near} + {distance - least});", piece[line - number])
             space = re.match(r" *", lines[first])[0]
-            look = f"{space}{near} = place(instance->w2c_memory.read, (u32){base} + {least}u, {most - least});\n"
+            look = f"{space}{near} = read_place({MEMORY}, (u32){base} + {least}u, {most - least});\n"
             piece[first - number] = look + piece[first - number]
             count += 1
         out += piece

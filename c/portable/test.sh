@@ -119,6 +119,13 @@ stops() {
     pass
 }
 
+# What does a loop's copies ahead does what the loop does.
+ahead() {
+    gcc -std=c99 -Wall -Wextra -Wno-unused-function -Werror -g -O1 -fsanitize=address,undefined -fno-sanitize-recover=all tests/ahead.c -o out/ahead
+    out/ahead || fail "a loop that is done ahead does something else"
+    pass
+}
+
 [[ -e $file ]] || fail "no $file: run c/portable/build.sh"
 [[ -e $native ]] || fail "no $native: run 'rt lib' in crates/tcp_c"
 run='' linked=''
@@ -147,6 +154,7 @@ here() {
     gcc -std=c99 $sanitizers -I"$layer" -c "$file" -o out/sanitized.o
     calls_over sanitized gcc $sanitizers
     stops
+    ahead
     [[ -z $short ]] || return 0
     object x86-64 gcc -Os
     object x86-64.unchecked gcc -Os -DTCPCORE_UNCHECKED
@@ -159,7 +167,7 @@ here() {
             "unchecked $(instructions out/fast.unchecked.o)" >out/speed.txt
     fi
 }
-[[ -n $only ]] || rm -rf out/rows
+[[ -n $only || -n $short ]] || rm -rf out/rows
 mkdir -p out/rows
 ! is_wanted x86-64 || here
 
@@ -195,8 +203,12 @@ bare() {
 }
 [[ -n $short ]] || bare
 
+# A machine's line of the table: of one that wasn't looked at now the line that it had.
+line_of() { cat "out/rows/$1" 2>/dev/null || { [[ -n $only ]] && grep "^| $1 |" MACHINES.md; } || true; }
+
 # The table, of the machines that were looked at.
 if [[ -z $short ]]; then
+    lines=$(for name in x86-64 i686 armhf riscv64 s390x cortex-m0 cortex-m3 cortex-m4; do line_of "$name"; done)
     cat >MACHINES.md <<TABLE
 # The portable file by machine
 
@@ -206,7 +218,7 @@ of them) with every answer, told value and emitted byte as the native library's.
 
 | Machine | checked | unchecked | stack | run |
 |---|---|---|---|---|
-$(for name in x86-64 i686 armhf riscv64 s390x cortex-m0 cortex-m3 cortex-m4; do cat "out/rows/$name" 2>/dev/null || true; done)
+$lines
 
 An end takes the memory that it takes with the native library (\`TCPCORE_MEMORY\`) and the 24 bytes of its struct; nothing
 is static.

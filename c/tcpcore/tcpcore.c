@@ -1,6 +1,6 @@
 /*
  * The thin layer between C and the proved library: NULL, lengths, copied structs, and buffers or places over the struct, then the
- * library's own call. What that finds goes to a local first: the library rests on pointers of which no two are to the same bytes.
+ * library's own call. What that finds goes to a local first: the library relies on pointers of which no two are to the same bytes.
  */
 #include "layout.h"
 #include "tcpcore.h"

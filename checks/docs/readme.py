@@ -6,7 +6,7 @@
 - a path in backquotes that begins with a folder of the repository is there, and so is each `docs/NAME.md`;
 - no line but of a table or of what a program prints is longer than 120 characters;
 - README.md names the kit by the line that `rt version` prints;
-- the newest version of CHANGELOG.md is 0.N of the C interface's number N.
+- the newest version of CHANGELOG.md is 0.N of the C interface's number N, and so are those of Python's package and the Rust crate.
 
 python3 checks/docs/readme.py prints how many blocks and paths were looked at; it ends with 1 where one is wrong, and where a comment has no block.
 """
@@ -93,6 +93,10 @@ def main():
     interface = re.search(r"#define TCPCORE_VERSION (\d+)", (TOP / "c/tcpcore/tcpcore.h").read_text())
     if not newest or not interface or newest[1] != interface[1]:
         wrong.append("CHANGELOG.md: its newest version isn't the C interface's")
+    for name in ("c/bindings/python/pyproject.toml", "c/bindings/rust/Cargo.toml", "c/bindings/rust/Cargo.lock"):
+        version = re.search(r'^version = "0\.(\d+)', (TOP / name).read_text(), re.MULTILINE)
+        if not version or not interface or version[1] != interface[1]:
+            wrong.append(f"{name}: its version isn't the C interface's")
     kit = subprocess.run(["rt", "version"], capture_output=True, text=True, check=True).stdout.strip()
     if not kit or f"`{kit}`" not in (TOP / "README.md").read_text():
         wrong.append(f"README.md: the kit is {kit}")
