@@ -116,7 +116,7 @@ def main():
     for tag, body in re.findall(r"struct (tcpcore_\w+) \{\n(.*?)^\}", header, re.M | re.S):
         if tag in ("tcpcore_end", "tcpcore_addr"):
             continue
-        fields = [pair for pair in entries(body, r"((?:uint\d+_t|tcpcore_addr) \w+(?:\[\d+\])?);")]
+        fields = [pair for pair in entries(body, r"((?:uint\d+_t|size_t|tcpcore_addr|tcpcore_piece|const void) \*?\w+(?:\[\d+\])?);")]
         out += [f'.SH "STRUCT {tag}"', *tagged(fields)]
     out += [".SH \"SEE ALSO\"", "RFC 9293, RFC 7323, RFC 2018; docs/EMBEDDING.md of the tarball."]
     print("\n".join(out))

@@ -510,12 +510,16 @@ uint32_t tcpcore_taken(tcpcore_end *end, tcpcore_addr src, tcpcore_addr dst, con
                        struct tcpcore_taken *taken);
 
 /*
- * As tcpcore_arrive and tcpcore_taken, of a segment whose checksum a device has found right: it isn't summed. Answer, report and end
- * are those of the same bytes with the right checksum, whatever the bytes are: the caller drops what the device found wrong. Of
- * version 5.
+ * As tcpcore_arrive, of a segment whose checksum a device has found right: it isn't summed. Answer and end are those of the same bytes
+ * with the right checksum, whatever the bytes are: the caller drops what the device found wrong. Of version 5.
  *   As tcpcore_arrive; never BAD_CHECKSUM.
  */
 uint32_t tcpcore_arrive_vouched(tcpcore_end *end, tcpcore_addr src, tcpcore_addr dst, const void *bytes, size_t length);
+
+/*
+ * The same, with the report of tcpcore_taken. Of version 5.
+ *   As tcpcore_arrive; never BAD_CHECKSUM.
+ */
 uint32_t tcpcore_taken_vouched(tcpcore_end *end, tcpcore_addr src, tcpcore_addr dst, const void *bytes, size_t length,
                                struct tcpcore_taken *taken);
 

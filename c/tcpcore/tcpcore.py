@@ -170,6 +170,13 @@ class Transmit(NamedTuple):
     text_count: int
 
 
+class Lent(NamedTuple):
+    """What is unread, as `peek` tells it: `ends` is whether the peer has closed, so that none comes after these bytes."""
+
+    text: bytes
+    ends: bool
+
+
 class Config(NamedTuple):
     """What an end is made from; `window_shift` is None where windows aren't scaled, and `limit` is the most bytes that it sends."""
 
@@ -270,6 +277,14 @@ class TransmitStruct(ctypes.Structure):
     ]
 
 
+class PieceStruct(ctypes.Structure):
+    _fields_ = [("at", ctypes.c_void_p), ("length", ctypes.c_size_t)]
+
+
+class LentStruct(ctypes.Structure):
+    _fields_ = [("first", PieceStruct), ("second", PieceStruct), ("ends", ctypes.c_uint32), ("reserved", ctypes.c_uint32 * 7)]
+
+
 class RestStruct(ctypes.Structure):
     _fields_ = [
         ("mark", ctypes.c_uint32),
@@ -308,7 +323,12 @@ CALLS = {
     "arrive": [END, AddrStruct, AddrStruct, ctypes.c_char_p, SIZE],
     "take": [END, AddrStruct, AddrStruct, ctypes.c_char_p, SIZE, ctypes.POINTER(ctypes.c_uint32)],
     "taken": [END, AddrStruct, AddrStruct, ctypes.c_char_p, SIZE, ctypes.POINTER(TakenStruct)],
+    "arrive_vouched": [END, AddrStruct, AddrStruct, ctypes.c_char_p, SIZE],
+    "taken_vouched": [END, AddrStruct, AddrStruct, ctypes.c_char_p, SIZE, ctypes.POINTER(TakenStruct)],
+    "peek": [END, ctypes.POINTER(LentStruct)],
+    "consume": [END, SIZE, OUT],
     "emit": [END, ctypes.c_char_p, SIZE, ctypes.POINTER(AddrStruct), OUT],
+    "emit_partial": [END, ctypes.c_char_p, SIZE, ctypes.POINTER(AddrStruct), OUT],
     "transmit": [END, ctypes.c_char_p, SIZE, ctypes.POINTER(TransmitStruct)],
     "next": [END, ctypes.POINTER(TransmitStruct)],
     "pending": [END, ctypes.POINTER(ctypes.c_uint32)],
@@ -327,6 +347,12 @@ CALLS = {
     "version": [],
 }
 RESULTS = {"room": SIZE, "strerror": ctypes.c_char_p}
+
+
+def taken_of(told: TakenStruct) -> Taken:
+    """The named fields of the struct."""
+    brought, is_duplicate, window_taken = Brought(told.brought), told.is_duplicate == 1, told.window_taken == 1
+    return Taken(told.at_once == 1, Rule(told.rule), told.acked, brought, is_duplicate, window_taken)
 
 
 def transmit_of(told: TransmitStruct) -> Transmit:
@@ -538,6 +564,22 @@ class End:
             raise Refused(answer)
         return ctypes.string_at(self.text, self.count.value)
 
+    def peek(self) -> Optional[Lent]:
+        """A copy of all that is unread, which stays so; b"" at the end of the stream, None where there is nothing yet."""
+        lent = LentStruct()
+        answer = self.calls["peek"](self.end, lent)
+        if answer in (NOTHING, END_OF_STREAM):
+            return Lent(b"", True) if answer == END_OF_STREAM else None
+        if answer != DONE:
+            raise Refused(answer)
+        text = b"".join(ctypes.string_at(piece.at, piece.length) for piece in (lent.first, lent.second) if piece.length > 0)
+        return Lent(text, lent.ends == 1)
+
+    def consume(self, count: int) -> int:
+        """Takes the first unread bytes away, at most so many: how many they were."""
+        self.ask("consume", number("the count", count, 8 * ctypes.sizeof(ctypes.c_size_t)), self.count)
+        return self.count.value
+
     def acknowledge(self) -> None:
         self.ask("acknowledge")
 
@@ -567,14 +609,19 @@ class End:
         source, destination, data = address(src), address(dst), octets(data)
         told = TakenStruct()
         answer = self.calls["taken"](self.end, source, destination, data, len(data), told)
-        return Answer(answer), Taken(
-            told.at_once == 1,
-            Rule(told.rule),
-            told.acked,
-            Brought(told.brought),
-            told.is_duplicate == 1,
-            told.window_taken == 1,
-        )
+        return Answer(answer), taken_of(told)
+
+    def arrive_vouched(self, src: Address, dst: Address, data: Buffer) -> Answer:
+        """What became of the segment, whose checksum something else has found right: it isn't looked at."""
+        source, destination, data = address(src), address(dst), octets(data)
+        return Answer(self.calls["arrive_vouched"](self.end, source, destination, data, len(data)))
+
+    def taken_vouched(self, src: Address, dst: Address, data: Buffer) -> tuple[Answer, Taken]:
+        """The same, and what it is to the end."""
+        source, destination, data = address(src), address(dst), octets(data)
+        told = TakenStruct()
+        answer = self.calls["taken_vouched"](self.end, source, destination, data, len(data), told)
+        return Answer(answer), taken_of(told)
 
     def pending(self) -> int:
         """The length of the segment that is due, 0 where none is."""
@@ -584,6 +631,12 @@ class End:
     def emit(self) -> Optional[tuple[bytes, bytes]]:
         """The address and the bytes of a segment, or None."""
         if self.calls["emit"](self.end, self.segment, EMIT_ROOM, self.to, self.count) != DONE:
+            return None
+        return bytes(self.to.byte), ctypes.string_at(self.segment, self.count.value)
+
+    def emit_partial(self) -> Optional[tuple[bytes, bytes]]:
+        """As `emit`, for a device that sums: the checksum field has the sum of the pseudo-header alone."""
+        if self.calls["emit_partial"](self.end, self.segment, EMIT_ROOM, self.to, self.count) != DONE:
             return None
         return bytes(self.to.byte), ctypes.string_at(self.segment, self.count.value)
 

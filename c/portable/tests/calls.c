@@ -139,13 +139,54 @@ static uint32_t transmit(struct side *side, struct kept *kept, size_t given, siz
     return answer;
 }
 
+/* All bytes of what is lent, one piece behind the other. */
+static size_t gather(unsigned char *out, const tcpcore_piece *first, const tcpcore_piece *second)
+{
+    if (first->length > 0)
+        memcpy(out, first->at, first->length);
+    if (second->length > 0)
+        memcpy(out + first->length, second->at, second->length);
+    mix(first->length), mix(second->length), mix(!first->at), mix(!second->at);
+    return first->length + second->length;
+}
+
+/* In parts, and said to be sent. */
+static uint32_t parts(struct side *side, struct kept *kept, size_t given, size_t *length)
+{
+    struct tcpcore_parts all;
+    uint32_t answer = tcpcore_parts(&side->end, kept->bytes, given, &all);
+    kept->to = all.to;
+    mix(all.header);
+    for (size_t i = 0; i < sizeof all.reserved / sizeof *all.reserved; i++)
+        mix(all.reserved[i]);
+    *length = all.header + gather(kept->bytes + all.header, &all.first, &all.second);
+    if (answer == TCPCORE_DONE || answer == TCPCORE_NOT_DUE)
+        told(tcpcore_sent(&side->end));
+    return answer;
+}
+
+/* For a device that sums: what it would sum is what is kept. */
+static uint32_t partial(struct side *side, struct kept *kept, size_t given, size_t *length)
+{
+    uint32_t answer = tcpcore_emit_partial(&side->end, kept->bytes, given, &kept->to, length);
+    mix(*length);
+    mix_bytes(kept->bytes, *length);
+    if (answer == TCPCORE_DONE) {
+        kept->length = *length;
+        sign(kept, side->addr);
+    }
+    return answer;
+}
+
 static void emit(struct side *side, int rests)
 {
     struct kept *kept = &side->kept[side->emitted % KEPT];
     size_t given = next(50) ? TCPCORE_EMIT_ROOM : next(TCPCORE_EMIT_ROOM), length;
-    uint32_t answer = rests                ? tcpcore_rest_emit(&side->rest, kept->bytes, given, &kept->to, &length)
-                      : side->emitted % 2 ? transmit(side, kept, given, &length)
-                                          : tcpcore_emit(&side->end, kept->bytes, given, &kept->to, &length);
+    uint32_t answer = rests                    ? tcpcore_rest_emit(&side->rest, kept->bytes, given, &kept->to, &length)
+                      : side->emitted % 4 == 1 ? transmit(side, kept, given, &length)
+                      : side->emitted % 4 == 2 ? partial(side, kept, given, &length)
+                      : side->emitted % 4 == 3 ? parts(side, kept, given, &length)
+                                               : tcpcore_emit(&side->end, kept->bytes, given, &kept->to, &length);
     if (told(answer) == TCPCORE_DONE) {
         kept->length = length;
         side->emitted++;
@@ -207,6 +248,10 @@ static void arrive(struct side *from, struct side *to)
         harm(&kept, from->addr);
     if (to->is_resting)
         told(tcpcore_rest_arrive(&to->rest, from->addr, kept.to, kept.bytes, kept.length));
+    else if (next(8) == 0)
+        told(tcpcore_arrive_vouched(&to->end, from->addr, kept.to, kept.bytes, kept.length));
+    else if (next(8) == 0)
+        told(tcpcore_taken_vouched(&to->end, from->addr, kept.to, kept.bytes, kept.length, &taken));
     else if (next(2))
         told(tcpcore_arrive(&to->end, from->addr, kept.to, kept.bytes, kept.length));
     else if (next(2))
@@ -258,9 +303,26 @@ static void send(struct side *side)
     mix(taken);
 }
 
+/* What is lent, and a part of it taken away. */
+static void read_lent(struct side *side)
+{
+    struct tcpcore_lent lent;
+    size_t count;
+    told(tcpcore_peek(&side->end, &lent)), mix(lent.ends);
+    for (size_t i = 0; i < sizeof lent.reserved / sizeof *lent.reserved; i++)
+        mix(lent.reserved[i]);
+    mix_bytes(room, gather(room, &lent.first, &lent.second));
+    told(tcpcore_consume(&side->end, next(next(2) ? 300 : TEXT), &count));
+    mix(count);
+}
+
 static void receive(struct side *side)
 {
     size_t count;
+    if (next(3) == 0) {
+        read_lent(side);
+        return;
+    }
     told(tcpcore_receive(&side->end, room, next(next(2) ? 300 : TEXT), &count));
     mix(count);
     mix_bytes(room, count);

@@ -9,7 +9,7 @@ import sys
 
 sys.path.insert(0, os.path.dirname(os.path.dirname(os.path.realpath(__file__))))
 import tcpcore  # noqa: E402
-from tcpcore import Answer, Brought, Config, End, Ending, Kind, Phase, Refused, Rest, Rule, Taken, Timer, Transmit  # noqa: E402
+from tcpcore import Answer, Brought, Config, End, Ending, Kind, Lent, Phase, Refused, Rest, Rule, Taken, Timer, Transmit  # noqa: E402
 
 A, B = "10.0.0.1", bytes([10, 0, 0, 2])
 GOOD = Config(A, 1, 1460, 7, 1000, 1000, None, True)
@@ -93,6 +93,41 @@ def buffers():
     check(a.arrive(B, A, b"x").text, "a segment of fewer than 20 bytes")
 
 
+def summed(data):
+    """The ones' complement sum (RFC 1071, 1)."""
+    words = data + bytes(len(data) % 2)
+    total = sum(words[i] << 8 | words[i + 1] for i in range(0, len(words), 2))
+    while total >> 16:
+        total = (total & 0xFFFF) + (total >> 16)
+    return total
+
+
+def lending():
+    """What is lent, and segments that a device sums."""
+    a, b = opened(bytes)
+    check((b.peek(), b.consume(3)), (None, 0))
+    a.send(b"hello")
+    to, segment = a.emit()
+    unsummed = segment[:16] + bytes(2) + segment[18:]
+    check(b.arrive(A, to, unsummed), Answer.BAD_CHECKSUM)
+    check(b.arrive_vouched(A, to, bytearray(unsummed)), Answer.DONE)
+    check((b.peek(), b.peek()), (Lent(b"hello", False), Lent(b"hello", False)))
+    check((b.consume(2), b.receive(), b.peek()), (2, b"llo", None))
+    a.send(b"world")
+    to, segment = a.emit_partial()
+    check(b.arrive(A, to, segment), Answer.BAD_CHECKSUM)
+    whole = segment[:16] + (summed(segment) ^ 0xFFFF).to_bytes(2, "big") + segment[18:]
+    check(summed(ipaddress.IPv4Address(A).packed + to + bytes([0, 6, 0, len(whole)]) + whole), 0xFFFF)
+    check(b.arrive(A, to, whole), Answer.DONE)
+    a.close()
+    to, segment = a.emit()
+    check(b.taken_vouched(A, to, segment), (Answer.DONE, Taken(True, Rule.TAKEN, 0, Brought.IN_ORDER, False, True)))
+    check((a.emit_partial(), b.peek(), b.consume(9), b.peek()), (None, Lent(b"world", True), 5, Lent(b"", True)))
+    check(raised(ValueError, b.consume, -1)[:15], "the count is -1")
+    check(raised(Refused, End(GOOD).peek), "not open yet")
+    check(raised(Refused, End(GOOD).consume, 1), "not open yet")
+
+
 def enums():
     a, b = opened(bytes)
     status = a.status()
@@ -115,7 +150,7 @@ def enums():
 
 
 def main():
-    for test in (ranges, refusals, copies, buffers, enums):
+    for test in (ranges, refusals, copies, buffers, lending, enums):
         test()
     print(f"calls.py: {checks} checks")
 

@@ -57,6 +57,7 @@ static void carry(tcpcore_end *from, tcpcore_addr src, tcpcore_end *to)
     static unsigned char segment[TCPCORE_EMIT_ROOM];
     struct tcpcore_transmit sent;
     struct tcpcore_taken taken;
+    struct tcpcore_parts parts;
     tcpcore_addr dst;
     size_t length;
     uint32_t answer;
@@ -70,6 +71,12 @@ static void carry(tcpcore_end *from, tcpcore_addr src, tcpcore_end *to)
             return;
         if (++count % 5 != 0)
             DEPTH(tcpcore_taken(to, src, sent.to, segment, (size_t)sent.length, &taken));
+        DEPTH(tcpcore_parts(from, segment, sizeof segment, &parts));
+        DEPTH(answer = tcpcore_emit_partial(from, segment, sizeof segment, &dst, &length));
+        if (answer == TCPCORE_DONE && ++count % 5 != 0)
+            DEPTH(count % 2 ? tcpcore_arrive_vouched(to, src, dst, segment, length)
+                            : tcpcore_taken_vouched(to, src, dst, segment, length, &taken));
+        DEPTH(tcpcore_sent(from));
     }
 }
 
@@ -77,6 +84,7 @@ int main(void)
 {
     static unsigned char text[4096];
     struct tcpcore_status status;
+    struct tcpcore_lent lent;
     size_t length;
     uint32_t due;
     make(&a, A);
@@ -88,6 +96,8 @@ int main(void)
         carry(&b, B, &a);
         DEPTH(tcpcore_send(&a, text, turn * 37 % sizeof text, &length));
         DEPTH(tcpcore_receive(&b, text, turn * 61 % sizeof text, &length));
+        DEPTH(tcpcore_peek(&b, &lent));
+        DEPTH(tcpcore_consume(&b, turn * 41 % sizeof text, &length));
         DEPTH(tcpcore_timers(&a, &due));
         DEPTH(tcpcore_status(&a, &status));
         for (uint32_t timer = TCPCORE_TIMER_RETRANSMIT; timer <= TCPCORE_TIMER_TIME_WAIT; timer++) {
