@@ -2,7 +2,7 @@
  * flow.h: one end with its times and its flow: congestion control, what goes out again paced, a loss found by duplicate
  * acknowledgements, and by silence, where the peer reports no blocks (RFC 5681, 3.2; RFC 6582; RFC 8985, 7), acknowledgements
  * delayed (RFC 9293, 3.8.6.3; RFC 5681, 4.2) and limited (RFC 5961, 7), and no silly windows (RFC 9293, 3.8.6.2): none is
- * told, and none is filled.
+ * advertised, and none is filled.
  *
  * This is C over tcpcore.h, timers.h, congestion.h and answers.h, tested and not proved. tcpcore_taken, tcpcore_send,
  * tcpcore_receive and tcpcore_transmit are called through it, and so is timers_run; all other calls are made as they are.
@@ -90,7 +90,7 @@ void flow_keep_alive(struct flow *flow, const struct flow_keep *keep);
 /*
  * tcpcore_take, and its answer. Of duplicate acknowledgements the third one without blocks means a loss: the end has to send
  * again. So it is by a SYN that comes again in SYN-RECEIVED, as the SYN,ACK was lost: it goes out in place of an acknowledgement,
- * at most once in ANSWERS_QUIET milliseconds. Sets is_urgent where that tells to answer at once.
+ * at most once in ANSWERS_QUIET milliseconds. Sets is_urgent where that wants an answer at once.
  */
 uint32_t flow_arrive(struct flow *flow, tcpcore_end *end, tcpcore_addr src, tcpcore_addr dst, const void *bytes,
                      size_t length, uint64_t now);

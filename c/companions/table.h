@@ -35,7 +35,7 @@ struct table {
 /* Sets a table of `count` slots, 2 to UINT32_MAX - 1, all free. `port` is its own port. */
 void table_init(struct table *table, struct table_slot *slots, uint32_t count, uint16_t port, const uint8_t secret[16]);
 
-/* The secret function of a connection, 64 bits: SipHash-2-4 of the peer's address, its port and the own one. */
+/* The secret function of a connection, 64 bits: SipHash-2-4 of the peer's address, its port and the table's port. */
 uint64_t table_secret(const struct table *table, tcpcore_addr peer, uint16_t port);
 
 /* The slot of a peer, or NULL. */

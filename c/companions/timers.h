@@ -71,7 +71,7 @@ void timers_init(struct timers *timers, const struct timers_rules *rules);
 /*
  * A segment was emitted, of which tcpcore_transmit reported this. New text is timed, one segment at a time; where anything is sent again
  * nothing is, since its acknowledgement wouldn't say which one it answers (Karn's rule: RFC 6298, 3), and reordering
- * is given a round trip more, in which the peer can tell that it came. In TIME-WAIT an emission answers the peer's FIN
+ * is given a round trip more, in which the peer can report that it came. In TIME-WAIT an emission answers the peer's FIN
  * and starts that time anew (RFC 9293, 3.10.7.4). Answers whether the segment was sent again.
  */
 int timers_sent(struct timers *timers, const struct tcpcore_transmit *sent, uint64_t now);

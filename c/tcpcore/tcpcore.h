@@ -18,7 +18,7 @@
  *      TCPCORE_NOT_DUE. Put each segment into an IPv4 packet (protocol 6) from the address of the config to the address
  *      that was told, and send it.
  *   3. Hand each TCP segment that arrives to tcpcore_arrive, without its IPv4 header, with the packet's two addresses; or to
- *      tcpcore_take, which tells where an answer may not wait for the rest of the batch.
+ *      tcpcore_take, which says where an answer may not wait for the rest of the batch.
  *   4. Call tcpcore_receive when you want bytes. What isn't read shuts the window. A window that grows by reading makes a
  *      segment due only where it stood at 0, and a peer that finds it too small waits for a timer of its own: read all that
  *      is there, or call tcpcore_acknowledge where the window has grown by the smaller of a segment and half the
@@ -36,8 +36,8 @@
  *                                                      again (RFC 9293, 3.10.7.4)
  *
  *      Retransmit runs while the peer's window is shut, too: it lets the end probe the window (RFC 9293, 3.8.6.1).
- *      A timer whose bit is clear stands still.
- *   6. Free the end: tcpcore_free. Where there are many, each can be freed in TIME-WAIT once all was read: tcpcore_rest tells what
+ *      A timer whose bit is clear is stopped.
+ *   6. Free the end: tcpcore_free. Where there are many, each can be freed in TIME-WAIT once all was read: tcpcore_rest reports what
  *      takes its place, 48 bytes that answer late segments as it would.
  *
  * WHICH END A SEGMENT IS FOR
@@ -50,17 +50,17 @@
  *   3. where there is neither, to tcpcore_stray_reset, which writes the reset that answers it.
  *   An end in LISTEN or CLOSED knows no peer. It takes segments from any source to its own address and port, and what
  *   isn't for it, but a reset, it answers by a reset (in LISTEN what has an ACK: RFC 9293, 3.10.7.1 and 3.10.7.2).
- *   So a segment of a connection that another end carries, handed to it, ends that connection: the peer takes the
+ *   So a segment of a connection that another end carries, passed to it, ends that connection: the peer takes the
  *   reset. Never try one end after the other until one doesn't answer TCPCORE_NOT_MINE.
  *
  * WHICH ADDRESSES ARE REFUSED
  *   None: no call looks at what an address means. Before tcpcore_connect and tcpcore_arrive the caller refuses what
  *   can't be a peer's (RFC 9293, 3.9.2.3): 0.0.0.0, a multicast address (224.0.0.0 to 239.255.255.255), a broadcast
- *   address (255.255.255.255, and that of the own network), and the own address together with the own port.
+ *   address (255.255.255.255, and that of its own network), and its own address together with its own port.
  *
  * MEMORY
  *   The library takes no memory from anywhere: an end lies in a block that the caller hands to tcpcore_new, all of it, and no
- *   call asks for more. Any block will do, static or from malloc, of any alignment. tcpcore_room tells how many bytes are
+ *   call asks for more. Any block will do, static or from malloc, of any alignment. tcpcore_room says how many bytes are
  *   enough, and TCPCORE_MEMORY(send, receive) the same as a constant: the two capacities, each in whole units of 16 bytes, what
  *   the end takes beside them, and 15 bytes for a block that doesn't begin at a multiple of 16. That these are enough is
  *   measured by the tests (tests/room.c), not proved. The linker is asked for memcpy, memmove and memset alone.
@@ -84,7 +84,7 @@
  *   Buffers belong to the caller; no call keeps a pointer to one.
  *   What tcpcore_peek and tcpcore_parts lend lies in the block: it may be read, never written, until the next call that changes the
  *   end (any but peek, parts, next, pending, timers, peer, status and rest).
- *   What rests in the place of an end, struct tcpcore_rest, is the caller's as a whole: nothing else belongs to it.
+ *   The record in the place of an end, struct tcpcore_rest, is the caller's as a whole: nothing else belongs to it.
  *
  * ANSWERS
  *   Each function answers one number of the table below. A refusal changes no end. What a call writes through a pointer
@@ -153,7 +153,7 @@ enum {
     TCPCORE_NO_REST = 39,   /* tcpcore_rest_..: no rest is in the struct: never told, or its bytes are no rest's */
     /* The call was made and found this. */
     TCPCORE_NOTHING = 51,       /* tcpcore_receive: nothing to read yet */
-    TCPCORE_END_OF_STREAM = 52, /* tcpcore_receive: the peer closed, and all its bytes were handed over */
+    TCPCORE_END_OF_STREAM = 52, /* tcpcore_receive: the peer closed, and all its bytes were delivered */
     TCPCORE_NOT_DUE = 53,       /* no segment is due; tcpcore_stray_reset: no reset answers the bytes */
     TCPCORE_NO_RULE = 54,       /* tcpcore_timer: the timer's bit was clear; nothing changed */
     TCPCORE_DROPPED = 55,       /* an arrival: the segment was passed over; an answer to it may be due */
@@ -180,7 +180,7 @@ enum {
 enum {
     TCPCORE_ENDING_NOT_ENDED = 0,
     TCPCORE_ENDING_ORDERLY = 1,  /* both sides closed, and knew it; what is unread can still be read */
-    TCPCORE_ENDING_RESET = 2,    /* the peer reset it; what was queued or unread is given up */
+    TCPCORE_ENDING_RESET = 2,    /* the peer reset it; what was queued or unread is discarded */
     TCPCORE_ENDING_ABORTED = 3   /* this side gave it up; so is what was queued or unread */
 };
 
@@ -229,17 +229,17 @@ typedef struct tcpcore_addr {
 
 /* What an end is made from. */
 typedef struct tcpcore_config {
-    tcpcore_addr addr;      /* the own address */
-    uint16_t port;          /* the own port */
-    uint16_t mss;           /* the own maximum segment size, 64 to 1,460 bytes (RFC 9293, 3.7.1) */
+    tcpcore_addr addr;      /* its own address */
+    uint16_t port;          /* its own port */
+    uint16_t mss;           /* its own maximum segment size, 64 to 1,460 bytes (RFC 9293, 3.7.1) */
     uint32_t isn;           /* the initial sequence number; choose it as RFC 9293, 3.4.1 says */
     unsigned int : 32;      /* unnamed: so that all machines have what follows at the same place */
     uint64_t send_capacity; /* the most bytes kept for the peer, 1 to 1,048,576 */
     uint64_t recv_capacity; /* the most bytes kept for the user, 1 to 1,048,576: the greatest receive window */
-    uint64_t limit;         /* the most bytes that the own direction carries, 1 to 2^62; past TCPCORE_LIMIT the network has to keep
+    uint64_t limit;         /* the most bytes that its own direction carries, 1 to 2^62; past TCPCORE_LIMIT the network has to keep
                                a lifetime of segments (RFC 9293, 3.4) */
-    uint8_t window_shift;   /* the shift of the windows that are told, 0 to 14 (RFC 7323, 2.2); not looked at where
-                               `scales` is 0. A window behind the SYN's is told in steps of 2^shift bytes, rounded
+    uint8_t window_shift;   /* the shift of the windows that are advertised, 0 to 14 (RFC 7323, 2.2); not looked at where
+                               `scales` is 0. A window behind the SYN's is advertised in steps of 2^shift bytes, rounded
                                down: with a recv_capacity below 2^shift it is always 0, and the peer sends nothing but
                                probes of a byte. Take the least shift with recv_capacity >> shift at most 65,535: 0
                                for 65,535 bytes, 1 for 65,536, 5 for 1,048,576 */
@@ -249,28 +249,28 @@ typedef struct tcpcore_config {
     unsigned int : 32;
 } tcpcore_config;
 
-/* What tcpcore_status tells. (The tag alone is a type: the name without `struct` is the function.) */
+/* What tcpcore_status reports. (The tag alone is a type: the name without `struct` is the function.) */
 struct tcpcore_status {
     uint32_t phase;    /* TCPCORE_PHASE_CLOSED .. TCPCORE_PHASE_TIME_WAIT */
     uint32_t ending;   /* TCPCORE_ENDING_NOT_ENDED .. TCPCORE_ENDING_ABORTED */
     uint64_t unread;   /* bytes that wait for tcpcore_receive */
     uint64_t released; /* sent bytes that the peer has acknowledged */
     uint64_t ordered;  /* received bytes up to now, read or not, in order */
-    uint64_t una;      /* SND.UNA as a position of the own direction: its SYN is at 0, byte i at 1 + i */
+    uint64_t una;      /* SND.UNA as a position of its own direction: its SYN is at 0, byte i at 1 + i */
     uint64_t next;     /* RCV.NXT as a position of the peer's direction: its SYN is at 0. It is 1 until that has come */
     uint64_t room;     /* bytes of a long text that tcpcore_send would take, by send_capacity and limit */
     uint64_t queued;   /* bytes that were taken and not released */
     uint64_t in_flight; /* those of them that were sent, at most `queued`; SYN and FIN aren't counted */
     uint32_t mss;      /* the most text bytes of a segment of this end, the smaller of both MSS; options take of it. This and
                           what follows, what the two SYNs agreed on, is 0 until the peer's SYN was taken */
-    uint8_t own_shift; /* the shift of the windows that this end tells; 0 where `scaling` is */
-    uint8_t peer_shift; /* the shift of the windows that the peer tells */
+    uint8_t own_shift; /* the shift of the windows that this end advertises; 0 where `scaling` is */
+    uint8_t peer_shift; /* the shift of the windows that the peer advertises */
     uint8_t scaling;   /* 1 where windows are scaled (RFC 7323, 2.2) */
     uint8_t sack;      /* 1 where selective acknowledgement is in use (RFC 2018, 2) */
     uint32_t snd_wnd;  /* SND.WND: the peer's window in bytes, scaled, as the segments told it that the end goes by (RFC 9293,
-                          3.3.1 and 3.10.7.4). It is 0 until the own SYN was acknowledged */
+                          3.3.1 and 3.10.7.4). It is 0 until its own SYN was acknowledged */
     uint32_t rcv_wnd;  /* RCV.WND in bytes: how much more this end takes (RFC 9293, 3.3.1) */
-    uint64_t nxt;      /* SND.NXT as a position of the own direction: what is sent next for the first time */
+    uint64_t nxt;      /* SND.NXT as a position of its own direction: what is sent next for the first time */
     uint32_t closing;  /* 1 once tcpcore_close was accepted */
     uint32_t finished; /* 1 once the peer's FIN was taken */
     uint32_t reserved[6]; /* 0. Fields of later versions take their place from here: the struct's size stays */
@@ -337,7 +337,7 @@ struct tcpcore_transmit {
     tcpcore_addr to;      /* the address that it goes to */
     uint32_t kind;        /* TCPCORE_KIND_NONE .. TCPCORE_KIND_ACKNOWLEDGEMENT */
     uint64_t length;      /* its length in bytes, with its header */
-    uint64_t position;    /* where it begins, as a position of the own direction: a SYN at 0, byte i at 1 + i, the FIN after the last
+    uint64_t position;    /* where it begins, as a position of its own direction: a SYN at 0, byte i at 1 + i, the FIN after the last
                              byte, an acknowledgement at SND.NXT; 0 of a reset */
     uint64_t count;       /* bytes of its text */
     uint32_t reserved[8]; /* 0, as of tcpcore_taken */
@@ -370,14 +370,14 @@ struct tcpcore_parts {
 };
 
 /*
- * What rests in the place of an end in TIME-WAIT, in 48 bytes, as tcpcore_rest tells it: a plain value, which may be copied,
+ * What is kept in the place of an end in TIME-WAIT, in 48 bytes, as tcpcore_rest reports it: a plain value, which may be copied,
  * moved and stored; a copy is another that rests there. All zero there is none. (The tag alone is a type, as of tcpcore_status.)
  */
 struct tcpcore_rest {
     uint32_t mark;           /* the library's word where there is one */
-    tcpcore_addr addr;       /* the own address */
+    tcpcore_addr addr;       /* its own address */
     tcpcore_addr peer_addr;  /* the peer's address */
-    uint16_t port;           /* the own port */
+    uint16_t port;           /* its own port */
     uint16_t peer_port;      /* the peer's port */
     uint32_t seq;            /* SND.NXT, as a number: all before it is acknowledged */
     uint32_t next;           /* RCV.NXT, as a number */
@@ -386,8 +386,8 @@ struct tcpcore_rest {
     uint32_t reset_seq;      /* its sequence number */
     uint32_t reset_ack;      /* what it acknowledges; not looked at where `reset` is 1 */
     uint16_t reset_port;     /* the port that it goes to */
-    uint8_t shift;           /* the shift by which the window is told, at most 14 */
-    uint8_t ack;             /* 1 where an acknowledgement is owed */
+    uint8_t shift;           /* the shift by which the window is advertised, at most 14 */
+    uint8_t ack;             /* 1 where an acknowledgement is pending */
     uint16_t reset;          /* 0 where no reset waits, 1 where one does that acknowledges nothing, 2 where it acknowledges */
     uint16_t ending;         /* TCPCORE_ENDING_NOT_ENDED .. TCPCORE_ENDING_ABORTED */
 };
@@ -433,9 +433,9 @@ uint32_t tcpcore_listen(tcpcore_end *end);
 uint32_t tcpcore_send(tcpcore_end *end, const void *text, size_t length, size_t *taken);
 
 /*
- * Hands over the front of what came in order, at most `room` bytes, at `out` (RFC 9293, 3.10.3). *count is its length; what
+ * Delivers the front of what came in order, at most `room` bytes, at `out` (RFC 9293, 3.10.3). *count is its length; what
  * lies behind it in `out` stays.
- * A reset that arrives gives up what is unread, in CLOSING, LAST-ACK and TIME-WAIT too, where all the peer's bytes
+ * A reset that arrives discards what is unread, in CLOSING, LAST-ACK and TIME-WAIT too, where all the peer's bytes
  * have come (RFC 9293, 3.10.7.4 has there only that the connection is deleted): read to END_OF_STREAM as soon as they
  * are there.
  *   DONE: *count bytes (0 only where room is 0); more may be there. NOTHING: nothing yet. END_OF_STREAM: nothing will come.
@@ -459,7 +459,7 @@ uint32_t tcpcore_peek(const tcpcore_end *end, struct tcpcore_lent *lent);
 uint32_t tcpcore_consume(tcpcore_end *end, size_t count, size_t *taken);
 
 /*
- * Makes an acknowledgement due, which tells the window as it is now: for a user who has read (4. above). In ESTABLISHED,
+ * Makes an acknowledgement due, which advertises the window as it is now: for a user who has read (4. above). In ESTABLISHED,
  * FIN-WAIT-1 and FIN-WAIT-2, where the peer may send; in any other phase nothing changes.
  *   DONE; NO_END; NULL; COPIED.
  */
@@ -494,7 +494,7 @@ uint32_t tcpcore_timer(tcpcore_end *end, uint32_t timer);
 uint32_t tcpcore_arrive(tcpcore_end *end, tcpcore_addr src, tcpcore_addr dst, const void *bytes, size_t length);
 
 /*
- * The same, and tells whether the segment has to be answered at once (RFC 5681, 4.2), by emitting what is due: *at_once is
+ * The same, and reports whether the segment has to be answered at once (RFC 5681, 4.2), by emitting what is due: *at_once is
  * 1 where it came out of order or filled all or part of a gap, had a SYN or a FIN, or wasn't taken and is answered all
  * the same. Where it is 0 an acknowledgement that is due may wait: for a second segment, and at most half a second.
  *   As tcpcore_arrive.
@@ -564,13 +564,13 @@ uint32_t tcpcore_sent(tcpcore_end *end);
 uint32_t tcpcore_transmit(tcpcore_end *end, void *out, size_t room, struct tcpcore_transmit *transmit);
 
 /*
- * Tells what tcpcore_transmit would report now, and writes no segment. Of version 5.
+ * Reports what tcpcore_transmit would report now, and writes no segment. Of version 5.
  *   DONE; NOT_DUE: no segment is due. NO_END; NULL; OVERLAP; COPIED.
  */
 uint32_t tcpcore_next(const tcpcore_end *end, struct tcpcore_transmit *next);
 
 /*
- * Tells the length of the segment that tcpcore_emit would write now, 0 where none is due.
+ * Reports the length of the segment that tcpcore_emit would write now, 0 where none is due.
  *   DONE; NO_END; NULL; OVERLAP; COPIED.
  */
 uint32_t tcpcore_pending(const tcpcore_end *end, uint32_t *due);
@@ -592,20 +592,20 @@ uint32_t tcpcore_stray_reset(tcpcore_addr src, tcpcore_addr dst, const void *byt
 uint32_t tcpcore_timers(const tcpcore_end *end, uint32_t *due);
 
 /*
- * Tells the peer's address and port: from tcpcore_connect on, or from the SYN on that came in LISTEN, and behind an end of
+ * Reports the peer's address and port: from tcpcore_connect on, or from the SYN on that came in LISTEN, and behind an end of
  * the connection too.
  *   DONE; NOT_CONNECTED before; NO_END; NULL; OVERLAP; COPIED.
  */
 uint32_t tcpcore_peer(const tcpcore_end *end, tcpcore_addr *addr, uint16_t *port);
 
 /*
- * Tells phase, ending, counts, and what the two SYNs agreed on.
+ * Reports phase, ending, counts, and what the two SYNs agreed on.
  *   DONE; NO_END; NULL; OVERLAP; COPIED.
  */
 uint32_t tcpcore_status(const tcpcore_end *end, struct tcpcore_status *status);
 
 /*
- * Tells what can take the end's place in TIME-WAIT, once nothing is unread: *rest takes no memory, and answers and emits as the
+ * Reports what can take the end's place in TIME-WAIT, once nothing is unread: *rest takes no memory, and answers and emits as the
  * end would, whatever comes. The end stays as it is, and only one of the two may answer: the caller frees the end, and hands the
  * segments of the connection to *rest.
  *   DONE; NOT_AT_REST: the end is in another phase, or bytes are unread; ask again later. NO_END; NULL; OVERLAP; COPIED.
@@ -613,7 +613,7 @@ uint32_t tcpcore_status(const tcpcore_end *end, struct tcpcore_status *status);
 uint32_t tcpcore_rest(const tcpcore_end *end, struct tcpcore_rest *rest);
 
 /*
- * A segment has come, for what rests, which answers it as the end would (RFC 9293, 3.10.7.4, and 3.10.7.1 once the connection has
+ * A segment has come, for such a record, which answers it as the end would (RFC 9293, 3.10.7.4, and 3.10.7.1 once the connection has
  * ended). Emit then what is due, and where anything was start TCPCORE_TIMER_TIME_WAIT anew.
  *   As tcpcore_arrive, with NO_REST in place of NO_END; never COPIED.
  */
@@ -633,7 +633,7 @@ uint32_t tcpcore_rest_timer(struct tcpcore_rest *rest, uint32_t timer);
 uint32_t tcpcore_rest_emit(struct tcpcore_rest *rest, void *out, size_t room, tcpcore_addr *to, size_t *length);
 
 /*
- * Tells the length of the segment that tcpcore_rest_emit would write now, TCPCORE_REST_ROOM, or 0 where none is due.
+ * Reports the length of the segment that tcpcore_rest_emit would write now, TCPCORE_REST_ROOM, or 0 where none is due.
  *   DONE; NO_REST; NULL; OVERLAP.
  */
 uint32_t tcpcore_rest_pending(const struct tcpcore_rest *rest, uint32_t *due);
@@ -645,7 +645,7 @@ uint32_t tcpcore_rest_pending(const struct tcpcore_rest *rest, uint32_t *due);
 uint32_t tcpcore_rest_abort(struct tcpcore_rest *rest);
 
 /*
- * Tells the phase, TIME-WAIT, or CLOSED once the connection has ended, and how it did. In CLOSED, once nothing is due, the struct
+ * Reports the phase, TIME-WAIT, or CLOSED once the connection has ended, and how it did. In CLOSED, once nothing is due, the struct
  * may be forgotten.
  *   DONE; NO_REST; NULL; OVERLAP.
  */

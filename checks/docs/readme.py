@@ -2,7 +2,7 @@
 
 - a block after a comment that names a file, as `<!-- crates/example_lossy_wire/src/wire.rt -->`, is consecutive lines of that file;
 - a table after a comment `<!-- SCRIPT beside REPORT -->` has in each row an event of the script and the line of the report for it;
-- no line has a phrase of words.txt beside this file;
+- no line has a phrase of words.txt beside this file, and no comment of a header in c/;
 - a path in backquotes that begins with a folder of the repository is there, and so is each `docs/NAME.md`;
 - no line but of a table or of what a program prints is longer than 120 characters;
 - README.md names the kit by the line that `rt version` prints;
@@ -49,6 +49,18 @@ def words_met(name, text):
     return found
 
 
+def header_words():
+    """Phrases of words.txt that are met in the comments of the headers."""
+    found = []
+    for header in sorted((TOP / "c").rglob("*.h")):
+        name = header.relative_to(TOP)
+        if not BUILT.search(str(name)):
+            # Each line stays where it is; all but comments goes, and so do the stars before a comment's lines.
+            text = re.sub(r"/\*.*?\*/|[^\n]", lambda part: part[0] if part[0].startswith("/*") else "", header.read_text(), flags=re.DOTALL)
+            found += words_met(name, re.sub(r"^ \*|/\*|\*/", "", text, flags=re.MULTILINE).replace("    ", " "))
+    return found
+
+
 def rows_wrong(name, script, report, table):
     """The rows of a table that aren't an event of the script and its line of the report."""
     events = [line for line in (TOP / script).read_text().split("\n") if line and not line.startswith(("#", "config", "tcpkit"))]
@@ -89,6 +101,7 @@ def main():
             for number, line in enumerate(text.split("\n"), 1)
             if len(line) > LONGEST and not line.startswith(("|", "    "))
         ]
+    wrong += header_words()
     newest = re.search(r"^## 0\.(\d+),", (TOP / "CHANGELOG.md").read_text(), re.MULTILINE)
     interface = re.search(r"#define TCPCORE_VERSION (\d+)", (TOP / "c/tcpcore/tcpcore.h").read_text())
     if not newest or not interface or newest[1] != interface[1]:
