@@ -56,17 +56,45 @@ public:
         if (answer != TCPCORE_NOTHING) done(answer);
         return count;
     }
+    // The unread bytes where they lie, until the next call that changes the end; nothing at the end of the stream.
+    std::optional<struct tcpcore_lent> peek() const
+    {
+        struct tcpcore_lent lent;
+        std::uint32_t answer = tcpcore_peek(raw(), &lent);
+        if (answer == TCPCORE_END_OF_STREAM) return std::nullopt;
+        if (answer != TCPCORE_NOTHING) done(answer);
+        return lent;
+    }
+    // How many of them were taken away.
+    std::size_t consume(std::size_t count)
+    {
+        std::size_t taken;
+        return done(tcpcore_consume(raw(), count, &taken)), taken;
+    }
     // The length of the segment that was due, 0 where none was.
     std::size_t emit(unsigned char (&out)[TCPCORE_EMIT_ROOM], tcpcore_addr &to)
     {
         std::size_t length;
         return tcpcore_emit(raw(), out, sizeof out, &to, &length), length;
     }
+    // The same, with a report: its length is 0 where none was.
+    struct tcpcore_transmit transmit(unsigned char (&out)[TCPCORE_EMIT_ROOM])
+    {
+        struct tcpcore_transmit told;
+        return tcpcore_transmit(raw(), out, sizeof out, &told), told;
+    }
     // What became of the segment: DONE, DROPPED, NOT_MINE, or why it is none; and whether it has to be answered at once.
     std::pair<std::uint32_t, bool> arrive(tcpcore_addr src, tcpcore_addr dst, const void *segment, std::size_t length)
     {
         std::uint32_t at_once, answer = tcpcore_take(raw(), src, dst, segment, length, &at_once);
         return {answer, at_once == 1};
+    }
+    // The same, with a report.
+    std::pair<std::uint32_t, struct tcpcore_taken> taken(tcpcore_addr src, tcpcore_addr dst, const void *segment, std::size_t length)
+    {
+        struct tcpcore_taken told;
+        std::uint32_t answer = tcpcore_taken(raw(), src, dst, segment, length, &told);
+        return {answer, told};
     }
     bool timer(std::uint32_t timer) { return tcpcore_timer(raw(), timer) == TCPCORE_DONE; }
     struct tcpcore_status status() const

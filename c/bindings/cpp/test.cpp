@@ -32,6 +32,61 @@ static std::size_t carry(tcpcore::end &from, tcpcore_addr src, tcpcore::end &to)
     return sent;
 }
 
+// Two ends, connected, of the same config each time.
+static void connect(tcpcore::end &a, tcpcore::end &b)
+{
+    unsigned char segment[TCPCORE_EMIT_ROOM];
+    tcpcore_addr dst;
+    b.listen();
+    a.connect(B, 7);
+    b.arrive(A, B, segment, a.emit(segment, dst));
+    a.arrive(B, A, segment, b.emit(segment, dst));
+    b.arrive(A, B, segment, a.emit(segment, dst));
+}
+
+// Of two pairs of ends one is used by the calls that report and lend: the same bytes and states.
+static void beside()
+{
+    tcpcore::end a(config(A, 7)), b(config(B, 7)), c(config(A, 7)), d(config(B, 7));
+    connect(a, b);
+    connect(c, d);
+    CHECK(d.peek()->first.length == 0 && d.consume(1) == 0);
+    std::string text(2500, 'y'), got;
+    for (std::size_t i = 0; i < text.size(); i++)
+        text[i] = static_cast<char>(i * 7);
+    CHECK(a.send(text.data(), text.size()) == text.size() && c.send(text.data(), text.size()) == text.size());
+    a.close();
+    c.close();
+    unsigned char one[TCPCORE_EMIT_ROOM], other[TCPCORE_EMIT_ROOM];
+    std::uint64_t position = 1;
+    tcpcore_addr dst;
+    while (std::size_t length = a.emit(one, dst)) {
+        struct tcpcore_transmit told = c.transmit(other);
+        CHECK(told.length == length && std::memcmp(one, other, length) == 0);
+        CHECK(told.kind == (told.count > 0 ? TCPCORE_KIND_NEW_TEXT : TCPCORE_KIND_FIN) && told.position == position);
+        position += told.count;
+        std::pair<std::uint32_t, bool> became = b.arrive(A, B, one, length);
+        std::pair<std::uint32_t, struct tcpcore_taken> report = d.taken(A, B, other, length);
+        CHECK(report.first == became.first && (report.second.at_once == 1) == became.second);
+        CHECK(report.second.rule == TCPCORE_RULE_TAKEN && report.second.brought == TCPCORE_BROUGHT_IN_ORDER);
+    }
+    CHECK(position == 1 + text.size() && c.transmit(other).length == 0);
+    char out[700];
+    for (std::optional<std::size_t> count; (count = b.receive(out, sizeof out));) {
+        std::optional<struct tcpcore_lent> lent = d.peek();
+        CHECK(lent && lent->ends == 1 && lent->second.length == 0 && std::memcmp(lent->first.at, out, *count) == 0);
+        CHECK(d.consume(sizeof out) == *count && d.status().unread == b.status().unread);
+        got.append(out, *count);
+    }
+    CHECK(got == text && !d.peek() && d.consume(1) == 0);
+    try {
+        tcpcore::end(config(A, 1)).peek();
+        CHECK(false);
+    } catch (const tcpcore::refused &found) {
+        CHECK(found.answer == TCPCORE_NOT_OPEN);
+    }
+}
+
 int main()
 {
     std::vector<tcpcore::end> ends;
@@ -73,6 +128,7 @@ int main()
     } catch (const tcpcore::refused &found) {
         CHECK(found.answer == TCPCORE_ALREADY_OPEN);
     }
+    beside();
     a = tcpcore::end(config(A, 9));
     CHECK(a.status().phase == TCPCORE_PHASE_CLOSED);
     std::printf("cpp: %d checks\n", checks);

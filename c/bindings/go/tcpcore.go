@@ -24,6 +24,25 @@ const (
 	TimeWait   = C.TCPCORE_TIMER_TIME_WAIT
 )
 
+// What a segment is that Transmit writes.
+const (
+	Reset           = C.TCPCORE_KIND_RESET
+	Syn             = C.TCPCORE_KIND_SYN
+	NewText         = C.TCPCORE_KIND_NEW_TEXT
+	TextAgain       = C.TCPCORE_KIND_TEXT_AGAIN
+	Fin             = C.TCPCORE_KIND_FIN
+	FinAgain        = C.TCPCORE_KIND_FIN_AGAIN
+	Acknowledgement = C.TCPCORE_KIND_ACKNOWLEDGEMENT
+)
+
+// What a segment brought of the peer's stream.
+const (
+	Nothing = C.TCPCORE_BROUGHT_NOTHING
+	InOrder = C.TCPCORE_BROUGHT_IN_ORDER
+	Held    = C.TCPCORE_BROUGHT_HELD
+	NotKept = C.TCPCORE_BROUGHT_NOT_KEPT
+)
+
 // Refused is a call's answer, other than that it was done.
 type Refused uint32
 
@@ -129,6 +148,32 @@ func (end *End) Receive(out []byte) (int, error) {
 	}
 }
 
+// Peek lends all unread bytes where they lie in C's memory, first and then second: to be read, and not written, until the next call that
+// changes the end. None where there are none yet, io.EOF at the end of the stream.
+func (end *End) Peek() (first, second []byte, err error) {
+	var lent C.struct_tcpcore_lent
+	switch answer := C.tcpcore_peek(end.raw, &lent); answer {
+	case C.TCPCORE_NOTHING:
+		return nil, nil, nil
+	case C.TCPCORE_END_OF_STREAM:
+		return nil, nil, io.EOF
+	default:
+		return piece(lent.first), piece(lent.second), done(answer)
+	}
+}
+
+func piece(it C.tcpcore_piece) []byte { return unsafe.Slice((*byte)(it.at), int(it.length)) }
+
+// Consume takes the first unread bytes away, at most count, and tells how many.
+func (end *End) Consume(count int) (int, error) {
+	if count < 0 {
+		count = 0
+	}
+	var taken C.size_t
+	err := done(C.tcpcore_consume(end.raw, C.size_t(count), &taken))
+	return int(taken), err
+}
+
 // Emit writes the segment that is due; 0 where none is.
 func (end *End) Emit(room *[EmitRoom]byte) (to Addr, length int) {
 	var count C.size_t
@@ -136,11 +181,44 @@ func (end *End) Emit(room *[EmitRoom]byte) (to Addr, length int) {
 	return to, int(count)
 }
 
+// Transmit is a segment that was emitted, by the fields of struct tcpcore_transmit; all 0 where none was due.
+type Transmit struct {
+	To            Addr
+	Kind          uint32
+	Length, Count int
+	Position      uint64
+}
+
+// Transmit is Emit with a report.
+func (end *End) Transmit(room *[EmitRoom]byte) Transmit {
+	var told C.struct_tcpcore_transmit
+	C.tcpcore_transmit(end.raw, unsafe.Pointer(room), EmitRoom, &told)
+	to := *(*Addr)(unsafe.Pointer(&told.to))
+	return Transmit{to, uint32(told.kind), int(told.length), int(told.count), uint64(told.position)}
+}
+
 // Arrive takes a segment: nil where it was taken, else what became of it; and whether it has to be answered at once.
 func (end *End) Arrive(src, dst Addr, segment []byte) (atOnce bool, err error) {
 	var found C.uint32_t
 	err = done(C.tcpcore_take(end.raw, src.c(), dst.c(), front(segment), C.size_t(len(segment)), &found))
 	return found == 1, err
+}
+
+// Taken is what an arrival was to the end, by the fields of struct tcpcore_taken; Rule has the header's number, TCPCORE_RULE_FOREIGN and
+// so on.
+type Taken struct {
+	AtOnce                   bool
+	Rule, Brought            uint32
+	Acked                    uint64
+	IsDuplicate, WindowTaken bool
+}
+
+// Taken is Arrive with a report.
+func (end *End) Taken(src, dst Addr, segment []byte) (Taken, error) {
+	var told C.struct_tcpcore_taken
+	err := done(C.tcpcore_taken(end.raw, src.c(), dst.c(), front(segment), C.size_t(len(segment)), &told))
+	return Taken{told.at_once == 1, uint32(told.rule), uint32(told.brought), uint64(told.acked), told.is_duplicate == 1,
+		told.window_taken == 1}, err
 }
 
 // Timer says that a timer has run out, and tells whether its rule was applied. Timers has bit 1 << t where timer t has to run.

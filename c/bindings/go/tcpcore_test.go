@@ -75,6 +75,105 @@ func TestText(t *testing.T) {
 	}
 }
 
+// connected is two ends, of the same config each time.
+func connected(t *testing.T) (one, other *End) {
+	one, other = made(t, a), made(t, b)
+	if other.Listen() != nil || one.Connect(b, 7) != nil {
+		t.Fatal("not open")
+	}
+	var room [EmitRoom]byte
+	ends, addrs := []*End{one, other}, []Addr{a, b}
+	for turn := 0; turn < 3; turn++ {
+		dst, length := ends[turn%2].Emit(&room)
+		ends[1-turn%2].Arrive(addrs[turn%2], dst, room[:length])
+	}
+	return
+}
+
+// transfer emits all that is due of one and of the end beside it: the same bytes. It tells where the next segment begins.
+func transfer(t *testing.T, one, other, third, fourth *End, position uint64) uint64 {
+	for {
+		var room, beside [EmitRoom]byte
+		dst, length := one.Emit(&room)
+		told := third.Transmit(&beside)
+		if told.To != dst || told.Length != length || room != beside {
+			t.Fatal(told, dst, length)
+		}
+		if length == 0 {
+			return position
+		}
+		kind := uint32(NewText)
+		if told.Count == 0 {
+			kind = Fin
+		}
+		if told.Kind != kind || told.Position != position {
+			t.Fatal(told)
+		}
+		position += uint64(told.Count)
+		atOnce, err := other.Arrive(a, dst, room[:length])
+		report, same := fourth.Taken(a, dst, beside[:length])
+		// Rule 18: all of it is taken.
+		if report != (Taken{AtOnce: atOnce, Rule: 18, Brought: InOrder, WindowTaken: true}) || same != err {
+			t.Fatal(report, err, same)
+		}
+	}
+}
+
+// Of two pairs of ends one is used by the calls that report and lend: the same bytes and states. Of each 3000 bytes 2800 are read at
+// once, so that those of the second time don't lie in one piece.
+func TestBeside(t *testing.T) {
+	one, other := connected(t)
+	third, fourth := connected(t)
+	for _, end := range []*End{one, other, third, fourth} {
+		defer end.Free()
+	}
+	text, got, position, inTwo := make([]byte, 6000), []byte{}, uint64(1), 0
+	for i := range text {
+		text[i] = byte(i*7 + i>>8)
+	}
+	if first, second, err := fourth.Peek(); len(first)+len(second) > 0 || err != nil {
+		t.Fatal(first, second, err)
+	}
+	for round := 0; round < 2; round++ {
+		for _, end := range []*End{one, third} {
+			if taken, err := end.Send(text[3000*round : 3000*round+3000]); taken != 3000 || err != nil {
+				t.Fatal(taken, err)
+			}
+			if round == 1 && end.Close() != nil {
+				t.Fatal("not closed")
+			}
+		}
+		position = transfer(t, one, other, third, fourth, position)
+		out := make([]byte, 700)
+		for i := 0; i < 4+2*round; i++ {
+			n, err := other.Receive(out)
+			first, second, same := fourth.Peek()
+			if err != same || !bytes.HasPrefix(append(append([]byte{}, first...), second...), out[:n]) {
+				t.Fatal(n, err, same)
+			}
+			if len(second) > 0 {
+				inTwo++
+			}
+			if taken, err := fourth.Consume(700); taken != n || err != nil {
+				t.Fatal(taken, err)
+			}
+			if got = append(got, out[:n]...); (err == io.EOF) != (i == 5) {
+				t.Fatal(i, err)
+			}
+		}
+		for _, ends := range [][2]*End{{other, one}, {fourth, third}} {
+			var room [EmitRoom]byte
+			dst, length := ends[0].Emit(&room)
+			if _, err := ends[1].Arrive(b, dst, room[:length]); err != nil {
+				t.Fatal(err)
+			}
+		}
+	}
+	if !bytes.Equal(got, text) || inTwo == 0 || fourth.Status() != other.Status() || third.Status() != one.Status() {
+		t.Fatal("other bytes")
+	}
+}
+
 func TestRefusals(t *testing.T) {
 	_, err := New(Config{Addr: a, MSS: 1, SendCapacity: 1, RecvCapacity: 1})
 	if err == nil || err.Error() != "the maximum segment size isn't from 64 to 1,460 bytes" {
@@ -87,6 +186,15 @@ func TestRefusals(t *testing.T) {
 	}
 	if _, err := end.Arrive(b, a, nil); !errors.Is(err, Refused(1)) {
 		t.Fatal(err)
+	}
+	if _, err := end.Taken(b, a, nil); !errors.Is(err, Refused(1)) {
+		t.Fatal(err)
+	}
+	if _, _, err := end.Peek(); !errors.Is(err, Refused(11)) {
+		t.Fatal(err)
+	}
+	if n, err := end.Consume(-1); n != 0 || !errors.Is(err, Refused(11)) {
+		t.Fatal(n, err)
 	}
 	if n, err := end.Receive(nil); n != 0 || !errors.Is(err, Refused(11)) {
 		t.Fatal(n, err)

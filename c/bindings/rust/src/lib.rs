@@ -41,7 +41,9 @@ mod answers;
 #[cfg(feature = "std")]
 mod boxed;
 mod config;
+mod lending;
 mod placed;
+mod reports;
 mod rest;
 mod sys;
 
@@ -49,7 +51,9 @@ pub use answers::{Agreed, Arrival, Ending, Error, Malformed, Phase, Received, St
 #[cfg(feature = "std")]
 pub use boxed::Boxed;
 pub use config::Config;
+pub use lending::{Lent, Parts, HEADER_ROOM};
 pub use placed::{memory, Placed};
+pub use reports::{Brought, Kind, Rule, Taken, Transmit};
 pub use rest::Rest;
 
 use answers::done;
@@ -168,6 +172,15 @@ impl End {
     pub fn emit<'r>(&mut self, room: &'r mut [u8; EMIT_ROOM]) -> Option<(Addr, &'r [u8])> {
         let (mut to, mut length) = (sys::Addr::default(), 0);
         let answer = unsafe { sys::tcpcore_emit(&mut self.raw, room.as_mut_ptr().cast(), EMIT_ROOM, &mut to, &mut length) };
+        (answer == 0).then(|| (to.byte, &room[..length]))
+    }
+
+    /// As [`End::emit`], for a device that sums segments: the checksum field has the ones' complement sum over the pseudo-header alone
+    /// (RFC 9293, 3.1; RFC 1071, 2), and no text is summed. The device adds up what was written, from the first byte on, and puts the
+    /// complement of that sum into the field, bytes 16 and 17: then the bytes are those of [`End::emit`].
+    pub fn emit_partial<'r>(&mut self, room: &'r mut [u8; EMIT_ROOM]) -> Option<(Addr, &'r [u8])> {
+        let (mut to, mut length) = (sys::Addr::default(), 0);
+        let answer = unsafe { sys::tcpcore_emit_partial(&mut self.raw, room.as_mut_ptr().cast(), EMIT_ROOM, &mut to, &mut length) };
         (answer == 0).then(|| (to.byte, &room[..length]))
     }
 

@@ -1,5 +1,6 @@
-//! tcpcore.h by hand: its structs, whose layouts tests/layout.rs compares with the C compiler's, and its calls.
+//! tcpcore.h by hand: its structs, whose layouts the tests below compare with the C compiler's, and its calls.
 use core::ffi::c_void;
+use core::ptr;
 
 pub(crate) const VERSION: u32 = 5;
 pub(crate) const END_SIZE: usize = 704;
@@ -60,6 +61,60 @@ pub struct Status {
 }
 
 #[repr(C)]
+#[derive(Clone, Copy, Default)]
+pub struct Taken {
+    pub at_once: u32,
+    pub rule: u32,
+    pub acked: u64,
+    pub brought: u32,
+    pub is_duplicate: u32,
+    pub window_taken: u32,
+    pub reserved: [u32; 9],
+}
+
+#[repr(C)]
+#[derive(Clone, Copy, Default)]
+pub struct Transmit {
+    pub to: Addr,
+    pub kind: u32,
+    pub length: u64,
+    pub position: u64,
+    pub count: u64,
+    pub reserved: [u32; 8],
+}
+
+#[repr(C)]
+pub struct Piece {
+    pub at: *const c_void,
+    pub length: usize,
+}
+
+impl Default for Piece {
+    fn default() -> Piece {
+        Piece { at: ptr::null(), length: 0 }
+    }
+}
+
+#[repr(C)]
+#[derive(Default)]
+pub struct Lent {
+    pub first: Piece,
+    pub second: Piece,
+    pub ends: u32,
+    pub reserved: [u32; 7],
+}
+
+#[repr(C)]
+#[derive(Default)]
+pub struct Parts {
+    pub to: Addr,
+    pub header: u32,
+    pub first: Piece,
+    pub second: Piece,
+    pub reserved: [u32; 6],
+}
+
+#[repr(C)]
 #[derive(Clone, Debug, Default, PartialEq, Eq)]
 pub struct Rest {
     pub mark: u32,
@@ -74,12 +129,21 @@ extern "C" {
     pub fn tcpcore_listen(end: *mut End) -> u32;
     pub fn tcpcore_send(end: *mut End, text: *const c_void, length: usize, taken: *mut usize) -> u32;
     pub fn tcpcore_receive(end: *mut End, out: *mut c_void, room: usize, count: *mut usize) -> u32;
+    pub fn tcpcore_peek(end: *const End, lent: *mut Lent) -> u32;
+    pub fn tcpcore_consume(end: *mut End, count: usize, taken: *mut usize) -> u32;
     pub fn tcpcore_acknowledge(end: *mut End) -> u32;
     pub fn tcpcore_close(end: *mut End) -> u32;
     pub fn tcpcore_abort(end: *mut End) -> u32;
     pub fn tcpcore_timer(end: *mut End, timer: u32) -> u32;
     pub fn tcpcore_take(end: *mut End, src: Addr, dst: Addr, bytes: *const c_void, length: usize, at_once: *mut u32) -> u32;
+    pub fn tcpcore_taken(end: *mut End, src: Addr, dst: Addr, bytes: *const c_void, length: usize, taken: *mut Taken) -> u32;
+    pub fn tcpcore_taken_vouched(end: *mut End, src: Addr, dst: Addr, bytes: *const c_void, length: usize, taken: *mut Taken) -> u32;
     pub fn tcpcore_emit(end: *mut End, out: *mut c_void, room: usize, to: *mut Addr, length: *mut usize) -> u32;
+    pub fn tcpcore_emit_partial(end: *mut End, out: *mut c_void, room: usize, to: *mut Addr, length: *mut usize) -> u32;
+    pub fn tcpcore_parts(end: *const End, header: *mut c_void, room: usize, parts: *mut Parts) -> u32;
+    pub fn tcpcore_sent(end: *mut End) -> u32;
+    pub fn tcpcore_transmit(end: *mut End, out: *mut c_void, room: usize, transmit: *mut Transmit) -> u32;
+    pub fn tcpcore_next(end: *const End, next: *mut Transmit) -> u32;
     pub fn tcpcore_pending(end: *const End, due: *mut u32) -> u32;
     pub fn tcpcore_stray_reset(
         src: Addr,
@@ -106,8 +170,9 @@ extern "C" {
 
 #[cfg(test)]
 mod tests {
-    //! The layouts are those that the C compiler gives.
+    //! Layouts and numbers are those that the C compiler gives.
     use super::*;
+    use crate::reports::{BROUGHT, KINDS, RULES};
     use std::mem::size_of;
     use std::path::PathBuf;
     use std::process::Command;
@@ -126,6 +191,28 @@ mod tests {
             )*
             (expressions, found)
         }};
+    }
+
+    /// The folders that the header may be in.
+    fn headers() -> [PathBuf; 2] {
+        ["csrc", "../../tcpcore"].map(|it| PathBuf::from(env!("CARGO_MANIFEST_DIR")).join(it))
+    }
+
+    /// The values that the C compiler gives to these expressions.
+    fn told(name: &str, expressions: &str) -> Vec<u64> {
+        let text = format!(
+            "#include \"tcpcore.h\"\n#include <stdio.h>\nint main(void) {{ unsigned long long all[] = {{ {expressions} }};\n\
+             for (unsigned i = 0; i < sizeof all / sizeof *all; i++) printf(\"%llu \", all[i]); }}\n"
+        );
+        let folder = std::env::temp_dir().join(format!("tcpcore-{name}-{}", std::process::id()));
+        std::fs::create_dir_all(&folder).unwrap();
+        let (file, program) = (folder.join("told.c"), folder.join("told"));
+        std::fs::write(&file, text).unwrap();
+        let headers = headers().map(|it| format!("-I{}", it.display()));
+        assert!(Command::new("cc").args(headers).arg("-o").arg(&program).arg(&file).status().unwrap().success());
+        let told = String::from_utf8(Command::new(&program).output().unwrap().stdout).unwrap();
+        std::fs::remove_dir_all(&folder).unwrap();
+        told.split_whitespace().map(|it| it.parse().unwrap()).collect()
     }
 
     #[test]
@@ -159,29 +246,48 @@ mod tests {
                 finished,
                 reserved
             ),
+            places!(Taken, "struct tcpcore_taken", at_once, rule, acked, brought, is_duplicate, window_taken, reserved),
+            places!(Transmit, "struct tcpcore_transmit", to, kind, length, position, count, reserved),
+            places!(Piece, "struct tcpcore_piece", at, length),
+            places!(Lent, "struct tcpcore_lent", first, second, ends, reserved),
+            places!(Parts, "struct tcpcore_parts", to, header, first, second, reserved),
             places!(Rest, "struct tcpcore_rest", mark),
         ];
         let (expressions, found): (Vec<_>, Vec<_>) = all.into_iter().unzip();
         let (expressions, found) = (expressions.concat(), found.concat());
-        let constants = "TCPCORE_EMIT_ROOM, TCPCORE_RESET_ROOM, TCPCORE_REST_ROOM, TCPCORE_MEMORY(17, 1), TCPCORE_LIMIT, TCPCORE_VERSION";
-        let text = format!(
-            "#include \"tcpcore.h\"\n#include <stdio.h>\nint main(void) {{ unsigned long long all[] = {{ {}, {constants} }};\n\
-             for (unsigned i = 0; i < sizeof all / sizeof *all; i++) printf(\"%llu \", all[i]); }}\n",
-            expressions.join(", ")
-        );
-        let folder = std::env::temp_dir().join(format!("tcpcore-layouts-{}", std::process::id()));
-        std::fs::create_dir_all(&folder).unwrap();
-        std::fs::write(folder.join("layouts.c"), text).unwrap();
-        let here = PathBuf::from(env!("CARGO_MANIFEST_DIR"));
-        let headers = ["csrc", "../../tcpcore"].map(|it| format!("-I{}", here.join(it).display()));
-        let program = folder.join("layouts");
-        assert!(Command::new("cc").args(headers).arg("-o").arg(&program).arg(folder.join("layouts.c")).status().unwrap().success());
-        let told = String::from_utf8(Command::new(&program).output().unwrap().stdout).unwrap();
-        std::fs::remove_dir_all(&folder).unwrap();
-        let told: Vec<u64> = told.split_whitespace().map(|it| it.parse().unwrap()).collect();
+        let constants = "TCPCORE_EMIT_ROOM, TCPCORE_HEADER_ROOM, TCPCORE_RESET_ROOM, TCPCORE_REST_ROOM, TCPCORE_MEMORY(17, 1), \
+                         TCPCORE_LIMIT, TCPCORE_VERSION";
         let memory = crate::memory(17, 1) - crate::placed::STRUCT_ROOM;
-        let constants = [crate::EMIT_ROOM, crate::RESET_ROOM, crate::RESET_ROOM, memory].map(|it| it as u64);
-        let wanted: Vec<u64> = found.into_iter().map(|it| it as u64).chain(constants).chain([crate::LIMIT, VERSION.into()]).collect();
-        assert_eq!(told, wanted);
+        let constants_found = [crate::EMIT_ROOM, crate::HEADER_ROOM, crate::RESET_ROOM, crate::RESET_ROOM, memory].map(|it| it as u64);
+        let wanted: Vec<u64> = found.into_iter().map(|it| it as u64).chain(constants_found).chain([crate::LIMIT, VERSION.into()]).collect();
+        assert_eq!(told("layouts", &format!("{}, {constants}", expressions.join(", "))), wanted);
+    }
+
+    /// The name of a C constant, by the name of Rust's: PeerOpens is PEER_OPENS.
+    fn name(kind: &str, value: &dyn std::fmt::Debug) -> String {
+        let mut found = format!("TCPCORE_{kind}");
+        for letter in format!("{value:?}").chars() {
+            if letter.is_uppercase() {
+                found.push('_');
+            }
+            found.push(letter.to_ascii_uppercase());
+        }
+        found
+    }
+
+    /// Rust's constants have C's numbers, and there are no others.
+    #[test]
+    fn numbers() {
+        let mut all = vec![];
+        all.extend(RULES.iter().map(|(it, _)| (name("RULE", it), *it as u64)));
+        all.extend(BROUGHT.iter().map(|(it, _)| (name("BROUGHT", it), *it as u64)));
+        all.extend(KINDS.iter().map(|(it, _)| (name("KIND", it), *it as u64)));
+        let (names, wanted): (Vec<_>, Vec<_>) = all.into_iter().unzip();
+        assert_eq!(told("numbers", &names.join(", ")), wanted);
+        let header = headers().iter().find_map(|it| std::fs::read_to_string(it.join("tcpcore.h")).ok()).unwrap();
+        let of_c = header.lines().filter_map(|it| it.trim().strip_prefix("TCPCORE_")?.split_once(' '));
+        let of_c = of_c.map(|(name, _)| name).filter(|it| ["RULE_", "BROUGHT_", "KIND_"].iter().any(|kind| it.starts_with(kind)));
+        // Two of C's stand for none.
+        assert_eq!(of_c.count(), wanted.len() + 2);
     }
 }
