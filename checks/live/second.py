@@ -95,4 +95,8 @@ class End:
             scaling=int(model.scaling),
             sack=int(model.sack),
             snd_wnd=model.snd_wnd,
+            rcv_wnd=model.window(),
+            nxt=(model.snd_nxt - model.iss) % SPACE,
+            closing=int(model.closing),
+            finished=int(model.fin_taken),
         )
