@@ -30,6 +30,7 @@ struct block {
 struct lent {
     uint64_t first, first_length, second, second_length;
     uint32_t ends;
+    uint32_t padding; /* where a number of 64 bits is aligned to 4 bytes, too */
 };
 
 struct parts {
