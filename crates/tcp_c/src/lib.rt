@@ -49,6 +49,23 @@
 //!     uint16_t reset, ending;
 //! } tcp_c_rest_record;
 //!
+//! typedef struct {
+//!     const uint8_t *first;
+//!     size_t first_length;
+//!     const uint8_t *second;
+//!     size_t second_length;
+//!     uint32_t ends;
+//! } tcp_c_lent_record;
+//!
+//! typedef struct {
+//!     tcp_c_addr to;
+//!     uint32_t header;
+//!     const uint8_t *first;
+//!     size_t first_length;
+//!     const uint8_t *second;
+//!     size_t second_length;
+//! } tcp_c_parts_record;
+//!
 //! typedef struct { void *at; size_t size; } tcp_c_block;
 //!
 //! uint32_t tcp_c_new(tcp_c_handle *handle, const tcp_c_config *config, tcp_c_block block);
@@ -58,6 +75,8 @@
 //! uint32_t tcp_c_listen(tcp_c_handle *handle);
 //! uint32_t tcp_c_send(tcp_c_handle *handle, const uint8_t *text, size_t text_length, size_t *taken);
 //! uint32_t tcp_c_receive(tcp_c_handle *handle, uint8_t *out, size_t out_length, size_t *count);
+//! uint32_t tcp_c_peek(tcp_c_handle *handle, tcp_c_lent_record *lent);
+//! uint32_t tcp_c_consume(tcp_c_handle *handle, size_t count, size_t *taken);
 //! uint32_t tcp_c_acknowledge(tcp_c_handle *handle);
 //! uint32_t tcp_c_close(tcp_c_handle *handle);
 //! uint32_t tcp_c_abort(tcp_c_handle *handle);
@@ -65,7 +84,12 @@
 //! uint32_t tcp_c_arrive(tcp_c_handle *handle, const tcp_c_addr *src, const tcp_c_addr *dst, const uint8_t *bytes, size_t bytes_length);
 //! uint32_t tcp_c_take(tcp_c_handle *handle, const tcp_c_addr *src, const tcp_c_addr *dst, const uint8_t *bytes, size_t bytes_length, uint32_t *at_once);
 //! uint32_t tcp_c_taken(tcp_c_handle *handle, const tcp_c_addr *src, const tcp_c_addr *dst, const uint8_t *bytes, size_t bytes_length, tcp_c_taken_record *taken);
+//! uint32_t tcp_c_arrive_vouched(tcp_c_handle *handle, const tcp_c_addr *src, const tcp_c_addr *dst, const uint8_t *bytes, size_t bytes_length);
+//! uint32_t tcp_c_taken_vouched(tcp_c_handle *handle, const tcp_c_addr *src, const tcp_c_addr *dst, const uint8_t *bytes, size_t bytes_length, tcp_c_taken_record *taken);
 //! uint32_t tcp_c_emit(tcp_c_handle *handle, uint8_t *out, size_t out_length, tcp_c_addr *to, size_t *count);
+//! uint32_t tcp_c_emit_partial(tcp_c_handle *handle, uint8_t *out, size_t out_length, tcp_c_addr *to, size_t *count);
+//! uint32_t tcp_c_parts(tcp_c_handle *handle, uint8_t *header, size_t header_length, tcp_c_parts_record *parts);
+//! uint32_t tcp_c_sent(tcp_c_handle *handle);
 //! uint32_t tcp_c_transmit(tcp_c_handle *handle, uint8_t *out, size_t out_length, tcp_c_transmit_record *transmit);
 //! uint32_t tcp_c_next(tcp_c_handle *handle, tcp_c_transmit_record *next);
 //! uint32_t tcp_c_timers(tcp_c_handle *handle, uint32_t *running);
@@ -92,6 +116,10 @@
 //! these functions alone, one call at a time, and a copy of it is never passed; it may go to another thread, ordered by
 //! a lock or by the thread's start or join. Any other bytes are a handle that holds no end, if their first word isn't
 //! [`MARK_OF_LIVE`].
+//!
+//! What `tcp_c_peek` and `tcp_c_parts` lend lies in the block of the end, at the pointers that they write; their contracts state how
+//! many bytes lie there, and not which: a contract of Rattle's says nothing of memory that its function doesn't own. Nobody writes
+//! them, and the next call that changes the end ends the loan.
 //!
 //! What rests in the place of an end is a plain value: a copy is another that rests there, and any bytes are one or none.
 //!
