@@ -33,7 +33,8 @@ LONG = {
     r"(make|cc|pkg-config)\b": "wants the library that 'rt lib' builds",
     r"(sudo|apt-get|ldconfig)\b": "installs",
     r"bench/": "takes minutes, and measures",
-    r"(apps/(web|usernet|tcpkit)|c/dist)/\w+\.sh\b": "builds over proofs",
+    r"(apps/(web|usernet|tcpkit)|c/(dist|portable))/\w+\.sh\b": "builds over proofs",
+    r"node apps/web/": "wants the module that 'apps/web/build.sh' builds",
     r"c/(tcpcore|companions)/test\.sh\b": "wants the library that 'rt lib' builds",
     r"checks/(live|behind|differential)\b": "wants the library that 'rt lib' builds, or the program",
 }
