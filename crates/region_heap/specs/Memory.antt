@@ -1,11 +1,11 @@
--- Memory that is handed in.
+-- Memory that a program passes to a region.
 use Rattle.std.specs.Prelude.{ℕ, ◌/◌}
 use Rattle.std.specs.Int.{next_multiple_of}
 use mir.Syntax.{Ty, w128, ty_int, ty_array}
 use base.Fml.{Fml}
 use denote.RawPtr.{Ptr, room_for}
 
--- n bytes, as units of 16 that are aligned to 16
+-- n bytes, as units of 16 bytes aligned to 16
 abbrev pub units_of : ℕ → Ty
 units_of n = ty_array (ty_int w128) (n / 16)
 

@@ -11,14 +11,14 @@ use std::alloc::{AllocError, Allocator};
 pub struct Block {
     /// Where its bytes are.
     pub memory: Memory,
-    /// How many there are: a multiple of [`UNIT`].
+    /// Its size in bytes: a multiple of [`UNIT`].
     pub size: usize,
     pub ghost whole: { (memory.size ≡ size) × (size % 16 ≡ 0) },
 }
 
 impl Block {
-    /// A block of an allocator, its size rounded up to a multiple of [`UNIT`]. It is never given back: this is for a program
-    /// that has its blocks as long as it runs.
+    /// A block of an allocator, its size rounded up to a multiple of [`UNIT`]. It is never freed: this is for a program
+    /// that keeps its blocks as long as it runs. An error where there is no memory.
     pub fn leaked<A: Allocator>(alloc: &A, size: usize) -> Result<Block, AllocError>
         ensures { IfOk result (λ b. b.size ≡ rounded size) }
     {
@@ -32,8 +32,8 @@ impl Block {
         }
     }
 
-    /// The front of the block, `size` bytes rounded up to a multiple of [`UNIT`] or all where it has no more, and the rest of
-    /// it.
+    /// The front of the block and the rest of it. The front has `size` bytes rounded up to a multiple of [`UNIT`], or
+    /// all where the block has no more.
     pub fn split(self, size: usize) -> (Block, Block)
         ensures front { result.0.size ≡ min (rounded size) self.size }
         ensures rest { result.1.size ≡ self.size - result.0.size }

@@ -1,8 +1,8 @@
-//! An allocator over memory that its user hands in: it asks nobody for any.
+//! An allocator over memory that its user passes to it: it requests none from anybody.
 //!
-//! A [`Block`] is the memory, a [`Region`] hands it out from its front, and takes nothing back: whoever handed the memory in
-//! has it again when all that was made in it is gone. [`Still`] is the allocator of what was made in a region and needs no
-//! more: it has no memory, and takes no space.
+//! A [`Block`] is the memory. A [`Region`] allocates from its front, and frees nothing: the user has the memory again
+//! when all that was made in it is gone. [`Still`] is the allocator of what was made in a region and needs no more: it
+//! has no memory, and its size is zero.
 #![tactic(auto)]
 
 mod block;

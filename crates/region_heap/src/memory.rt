@@ -1,4 +1,4 @@
-//! Memory, as the owner of its bytes.
+//! Memory, owned as bytes.
 ghost use Rattle.std.specs.Prelude.{◌≡◌, ℕ, ◌-◌, ◌≤◌, ◌<◌, ◌^◌, ◌%◌, IfSome};
 ghost use types.Logic.{sem};
 ghost use Rattle.region_heap.specs.Memory.{bytes_at};
@@ -6,15 +6,15 @@ ghost use Rattle.region_heap.specs.Memory.{bytes_at};
 use std::alloc::Allocator;
 use std::marker::Model;
 
-/// Memory is handed out in units of so many bytes, each aligned to as many.
+/// The unit of allocation in bytes, and its alignment.
 pub const UNIT: usize = 16;
 
-/// So many bytes, aligned to [`UNIT`], in which nothing lies.
+/// Uninitialized bytes, aligned to [`UNIT`].
 #[repr(C)]
 #[derive(Drop)]
 pub struct Memory {
     pub(crate) at: *mut u8,
-    /// How many bytes.
+    /// How many bytes there are.
     pub ghost size: { ℕ },
 }
 
@@ -22,11 +22,11 @@ impl Model for Memory {
     ghost also_owns = { λ m. bytes_at m.at m.size };
 }
 
-// It owns the bytes that it points to, and nothing lies in them.
+// It owns the bytes that it points to, and they are uninitialized.
 unsafe impl Send for Memory {}
 
 impl Memory {
-    /// So many bytes of an allocator, to which they are never given back.
+    /// `size` bytes of an allocator, which are never freed.
     pub(crate) fn leaked<A: Allocator>(alloc: &A, size: usize) -> Option<Memory>
         requires { (size % 16 ≡ 0) × (size < 2 ^ 63) }
         ensures { IfSome result (λ m. m.size ≡ size) }
@@ -37,7 +37,7 @@ impl Memory {
         }
     }
 
-    /// The first bytes, as many as `front` says, and those after them.
+    /// The first `front` bytes, and those after them.
     pub(crate) fn cut(self, front: usize) -> (Memory, Memory)
         requires { (front % 16 ≡ 0) × (front ≤ self.size) }
         ensures { (result.0.size ≡ front) × (result.1.size ≡ self.size - front) }

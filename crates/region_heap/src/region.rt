@@ -8,8 +8,8 @@ use crate::memory::{Memory, UNIT};
 use std::alloc::{AllocError, Allocator};
 use std::cell::Cell;
 
-/// Hands out the memory of a block from its front, each piece rounded up to a multiple of [`UNIT`]. What is given back isn't
-/// handed out again.
+/// Allocates from the front of a block, each piece rounded up to a multiple of [`UNIT`]. What is freed isn't allocated
+/// again.
 #[derive(Drop)]
 pub struct Region {
     free: Cell<Option<Block>>,
@@ -23,7 +23,7 @@ impl Region {
         }
     }
 
-    /// A piece from the front, if there is so much and `align` isn't greater than [`UNIT`].
+    /// A piece from the front, if there is enough and `align` isn't greater than [`UNIT`].
     fn take(&self, size: usize, align: usize) -> Option<Memory>
         ensures { IfSome result (λ m. (m.size ≡ rounded size) × (size < 2 ^ 63) × (align ≤ 16)) }
     {

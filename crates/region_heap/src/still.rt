@@ -3,7 +3,7 @@ ghost use base.Fml.{ftrue};
 
 use std::alloc::{AllocError, Allocator};
 
-/// An allocator that has no memory, for what was made in a region: it lets go of the memory of that, as the region does.
+/// An allocator that has no memory, for what was made in a region: it ignores what is freed, as the region does.
 #[repr(C)]
 #[derive(Clone, Copy, Drop)]
 pub struct Still {}

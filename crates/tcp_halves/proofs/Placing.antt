@@ -11,7 +11,7 @@ length-placed_by : (refused : Bool) (q : Inbox) (over : List (Option Cell)) → 
 length-placed_by true q over = omega arith
 length-placed_by false q over = length-append q.unread (bytes_in_order over) ∙ ap (λ n. length q.unread + n) (sym (advance_of-answer_for (length (bytes_in_order over))))
 
--- as many bytes more are unread as the answer says
+-- as many more bytes are unread as the answer says
 pub length_placed : (q : Inbox) (offset : ℤ) (text : List ℕ) → length (after_place q offset text).unread ≡ length q.unread + advance_of (place_answer q offset text)
 unfolding after_place place_answer
 length_placed q offset text = length-placed_by (is_refused q (piece offset text)) q (overlay_of q (piece offset text))
@@ -20,7 +20,7 @@ capacity-placed_by : (refused : Bool) (q : Inbox) (over : List (Option Cell)) �
 capacity-placed_by true q over = refl
 capacity-placed_by false q over = refl
 
--- the capacity stays
+-- the capacity is the same
 pub capacity_placed : (q : Inbox) (offset : ℤ) (text : List ℕ) → (after_place q offset text).capacity ≡ q.capacity
 unfolding after_place
 capacity_placed q offset text = capacity-placed_by (is_refused q (piece offset text)) q (overlay_of q (piece offset text))
@@ -29,7 +29,7 @@ pub capacity_read : (q : Inbox) (n : ℕ) → (after_read q n).capacity ≡ q.ca
 unfolding after_read
 capacity_read q n = refl
 
--- what is read leaves as many places in the window
+-- what is read adds as many offsets to the window
 pub whole_read : (q : Inbox) (n : ℕ) → length q.unread + length q.held ≡ q.capacity → length (after_read q n).unread + length (after_read q n).held ≡ q.capacity
 unfolding after_read
 whole_read q n whole =
@@ -38,12 +38,12 @@ whole_read q n whole =
     length-append q.held (replicate (min n (length q.unread)) None) ∙ ap (λ k. length q.held + k) (length-replicate (min n (length q.unread)) None) in
     omega (arith, read, more)
 
--- without held pieces the window is as long as before
+-- without what is out of order the window is as long as before
 pub whole_without_held : (q : Inbox) → length q.unread + length q.held ≡ q.capacity → length (without_held q).unread + length (without_held q).held ≡ q.capacity
 whole_without_held q whole =
     let free : length (without_held q).held ≡ q.capacity - length q.unread = length-replicate (window q) None in
     omega (arith, whole, free)
 
--- an empty inbox is all window
+-- an empty inbox is window alone
 pub whole_empty : (capacity : ℕ) → length (empty_inbox capacity).unread + length (empty_inbox capacity).held ≡ capacity
 whole_empty capacity = omega (arith, length-replicate {A = Option Cell} capacity None)

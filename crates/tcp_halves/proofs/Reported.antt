@@ -1,4 +1,4 @@
--- Blocks in turn.
+-- Blocks, one after another.
 use Rattle.std.proofs.Common.{◌≡◌, ℕ, List, [], ◌∷◌, ◌++◌, refl, sym, ◌∙◌, ap}
 use Rattle.tcp_wire.specs.Position.{position_of}
 use Rattle.tcp_wire.specs.Options.{OptionContent, Sack}

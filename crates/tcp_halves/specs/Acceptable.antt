@@ -1,11 +1,10 @@
--- Which segments are acceptable (RFC 9293, 3.10.7.4). Sequence numbers are read as the whole positions
--- that lie nearest to the next one that is wanted.
+-- Which segments are acceptable (RFC 9293, 3.10.7.4). A sequence number is read as the whole position nearest to RCV.NXT.
 use Rattle.std.specs.Prelude.{ℕ, ◌-◌, pos, ◌+ℤ◌, Bool, false, ◌||◌, ◌==◌, if◌then◌else◌}
 use Rattle.tcp_wire.specs.Position.{near, is_inside}
 use Rattle.tcp_reasm.specs.Reassembly.{window}
 
--- A segment without numbers of its own has to begin inside the window, or, where the window is shut, right
--- at the next position. One with numbers needs an open window that holds its first or its last.
+-- A segment with SEG.LEN = 0 has to begin inside the window, or, at a zero window, at RCV.NXT. One with SEG.LEN > 0 needs an
+-- open window that contains its first or its last number.
 unfoldable pub is_acceptable : ℕ → ℕ → ℕ → ℕ → Bool
 is_acceptable next window seq count =
     if count == 0

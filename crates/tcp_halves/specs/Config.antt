@@ -1,5 +1,5 @@
--- What an end can be made from, its faults in their order, want of memory last, and the numbers and texts under which they are
--- reported.
+-- What an end can be made from, its faults in the order in which they are looked for (no memory is the last), and the numbers
+-- and texts under which they are reported.
 use Rattle.std.specs.Prelude.{ℕ, true, List, length, ◌≡◌, ◌<◌, ◌≤◌, ◌^◌, unwrap_or, None, codes}
 use Rattle.tcp_wire.specs.Checksum.{AreBytes}
 use Rattle.tcp_sendq.specs.SendQueue.{max_capacity}
@@ -12,15 +12,15 @@ use Rattle.tcp_halves.specs.declared.config.ConfigError.TheVariants as configs
 abbrev pub min_mss : ℕ
 min_mss = 64
 
--- the greatest own maximum segment size
+-- the greatest maximum segment size that an end announces: what an Ethernet frame carries
 abbrev pub max_mss : ℕ
 max_mss = 1460
 
--- the greatest shift that is used (RFC 7323, 2.3)
+-- the greatest shift in use (RFC 7323, 2.3)
 abbrev pub max_shift : ℕ
 max_shift = 14
 
--- the greatest limit of a direction: it bounds each position of it
+-- the greatest limit of a direction: it bounds each of its positions
 abbrev pub stream_limit : ℕ
 stream_limit = 2 ^ 62
 
@@ -28,8 +28,7 @@ stream_limit = 2 ^ 62
 abbrev pub default_limit : ℕ
 default_limit = 2147483632
 
--- WHERE NOTHING ELSE IS SAID: text fills a frame of Ethernet, windows are not scaled, and selective acknowledgement is
--- permitted
+-- DEFAULTS: text fills an Ethernet frame, windows are not scaled, and selective acknowledgement is permitted
 abbrev pub default_config : Addr → ℕ → Seq → Config
 default_config addr port isn = record {
   addr = addr;
@@ -58,7 +57,7 @@ HasGoodMss c = (min_mss ≤ c.mss) × (c.mss ≤ max_mss)
 abbrev pub HasBadMss : Config → Type 0
 HasBadMss c = HasGoodCapacities c × ¬ HasGoodMss c
 
--- no shift is as good as one of 0
+-- no shift counts as a shift of 0
 abbrev pub HasGoodShift : Config → Type 0
 HasGoodShift c = unwrap_or c.window_shift 0 ≤ max_shift
 
@@ -75,7 +74,7 @@ HasBadLimit c = HasGoodCapacities c × HasGoodMss c × HasGoodShift c × ¬ HasG
 abbrev pub IsGoodConfig : Config → Type 0
 IsGoodConfig c = HasGoodCapacities c × HasGoodMss c × HasGoodShift c × HasGoodLimit c
 
--- what an end can be made from; the ranges of its types are said too
+-- what an end can be made from, with the ranges of its types
 pub record IsConfig (c : Config) : Type 0 where
   pub good : IsGoodConfig c
   pub addr : length c.addr.0 ≡ 4

@@ -1,5 +1,5 @@
--- What the half that sends emits next (RFC 9293, 3.7, 3.8 and 3.10): text or FIN again, new text, the own FIN, the first
--- of these that is due; what a segment carries of it, and the half after it.
+-- What the half that sends emits next (RFC 9293, 3.7, 3.8 and 3.10): text or FIN again, new text, this end's FIN, whichever
+-- is due first; what a segment carries of it, and the half after it.
 use Rattle.std.specs.Prelude.{ℕ, ◌-◌, Bool, false, ◌==◌, if◌then◌else◌, true, ◌&&◌, List, length, Option, Some, None, min, nat_lt, ◌<◌, ◌≤◌, ◌+◌, max, nat_le, take, drop}
 use Rattle.std.specs.Option.{option_or}
 use Rattle.std.specs.declared.ops.Range.{Range}
@@ -15,7 +15,7 @@ is_fin (Fin start) = true
 is_fin (ResentFin start) = true
 is_fin other = false
 
--- the position where it begins, SND.NXT for an acknowledgement alone
+-- the position where it begins: SND.NXT for an acknowledgement without text
 abbrev pub start_of : Sending → Due → ℕ
 start_of s (Reset reset) = 0
 start_of s Syn = 0
@@ -31,7 +31,7 @@ count_of (Resend start count) = count
 count_of (NewText start count) = count
 count_of other = 0
 
--- the position after it: text, SYN and FIN take numbers (RFC 9293, 3.4)
+-- the position after it: text, SYN and FIN take sequence numbers (RFC 9293, 3.4)
 abbrev pub end_of : Sending → Due → ℕ
 end_of s (Reset reset) = 0
 end_of s Syn = 1
@@ -41,7 +41,7 @@ end_of s (Fin start) = start + 1
 end_of s (ResentFin start) = start + 1
 end_of s Acknowledgement = s.nxt
 
--- RESEND: the first run of unmarked text of the range, as far as range and text limit allow; after all text the
+-- RESEND: the first run of unmarked text in the range, as far as the range and the text limit allow. After all text it is the
 -- FIN alone, where the range reaches past it
 abbrev pub resend_start : Sending → Range ℕ → ℕ
 resend_start s range = max range.start s.una
@@ -64,8 +64,8 @@ unfoldable pub resend_of : Sending → ℕ → Option (Range ℕ) → Option Due
 resend_of s limit None = None
 resend_of s limit (Some range) = resent_run s limit range (next_unmarked s.queue (place_of s (resend_start s range)))
 
--- NEW TEXT: as much as text limit, queue and the peer's window allow (RFC 9293, 3.8.6); where the window allows
--- none, one byte if a probe was granted (RFC 9293, 3.8.6.1)
+-- NEW TEXT: as much as the text limit, the queue and the peer's window allow (RFC 9293, 3.8.6). Where the window allows none,
+-- it is one byte if a probe was granted (RFC 9293, 3.8.6.1)
 abbrev pub usable_window : Sending → ℕ
 usable_window s = (s.una + s.wnd) - s.nxt
 
@@ -86,13 +86,13 @@ fin_of s closing = if closing && (s.nxt == end_of_text s) then Some (Fin s.nxt) 
 abbrev pub sending_due : Sending → ℕ → Bool → Bool → Option Due
 sending_due s limit probe closing = option_or (resend_of s limit s.resend) (option_or (new_text_of s limit probe) (fin_of s closing))
 
--- what is due lies within the queue, is no longer than this, and ends where a full direction does
+-- what is due lies within the queue, is no longer than this, and ends no later than a full direction does
 pub record Lies (s : Sending) (limit : ℕ) (due : Due) : Type 0 where
   pub inside : 0 < count_of due → place_of s (start_of s due) + count_of due ≤ length s.queue.bytes
   pub short : count_of due ≤ limit
   pub most : end_of s due ≤ 2 + stream_limit
 
--- what it carries: its text
+-- the text that it carries
 abbrev pub text_of : Sending → Due → List ℕ
 text_of s due = take (count_of due) (drop (place_of s (start_of s due)) s.queue.bytes)
 
@@ -103,7 +103,7 @@ pushes s due = if count_of due == 0 then false else place_of s (start_of s due) 
 abbrev pub flags_of : Sending → Due → ℕ
 flags_of s due = ack + (if pushes s due then psh else 0) + (if is_fin due then fin else 0)
 
--- AFTER IT WENT OUT: SND.NXT is at least the position after it, and what it sent again is done with
+-- AFTER ITS EMISSION: SND.NXT is at least the position after it, and what was sent again is taken off the range
 abbrev pub range_after : ℕ → Option (Range ℕ) → Option (Range ℕ)
 range_after start None = None
 range_after start (Some range) = Some (record range { start = start })

@@ -1,11 +1,11 @@
--- Marks (RFC 2018, 5): what the blocks that the peer reports do to the half that sends.
+-- Marks (RFC 2018, 5): what the blocks that the peer reports change in the half that sends.
 use Rattle.std.specs.Prelude.{ℕ, Bool, if◌then◌else◌, ◌&&◌, List, [], ◌∷◌, nat_lt, nat_le, ◌++◌}
 use Rattle.tcp_wire.specs.Options.{OptionContent, Nop, Mss, WindowScale, SackPermitted, Sack, Unknown}
 use Rattle.tcp_wire.specs.Position.{position_of}
 use Rattle.tcp_sendq.specs.SendQueue as queues
 use Rattle.tcp_halves.specs.Sender.{Sending, count_below, place_of}
 
--- the blocks that a segment reports, in turn (RFC 2018, 3)
+-- the blocks that a segment reports, in their order (RFC 2018, 3)
 abbrev pub reported_blocks : List OptionContent → List (ℕ × ℕ)
 reported_blocks [] = []
 reported_blocks (Sack blocks ∷ options) = blocks ++ reported_blocks options
@@ -15,7 +15,7 @@ reported_blocks (WindowScale shift ∷ options) = reported_blocks options
 reported_blocks (SackPermitted ∷ options) = reported_blocks options
 reported_blocks (Unknown kind body ∷ options) = reported_blocks options
 
--- a block of what was sent and isn't acknowledged. Its text is marked, never the FIN
+-- a block of what was sent and isn't acknowledged. It marks its text, never the FIN
 abbrev pub is_of_flight : Sending → ℕ → ℕ → Bool
 is_of_flight s left right = nat_lt s.una left && (nat_lt left right && nat_le right s.nxt)
 

@@ -6,11 +6,11 @@ use Rattle.tcp_halves.specs.declared.config.Config.{Config}
 use Rattle.tcp_halves.specs.declared.link.Link.{Link}
 use Rattle.tcp_halves.specs.Config.{max_shift, min_mss}
 
--- the maximum segment size without an option, and the least that is used
+-- the peer's maximum segment size where it announces none (RFC 9293, 3.7.1)
 abbrev pub default_mss : ℕ
 default_mss = 536
 
--- OPTIONS OF A SYN: of repeats the first counts
+-- OPTIONS OF A SYN: of repeated options the first counts
 abbrev pub mss_option : List OptionContent → Option ℕ
 mss_option [] = None
 mss_option (Mss size ∷ options) = Some size

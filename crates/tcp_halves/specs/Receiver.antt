@@ -10,13 +10,13 @@ pub record Receiving : Type 0 where
   pub opened : Bool
   -- RCV.NXT, a number
   pub next : ℕ
-  -- text bytes that came in order; it stays at its greatest value once there
+  -- the text bytes that came in order; the count stays at its maximum once it has reached it
   pub ordered : ℕ
   -- the peer's FIN was taken
   pub finished : Bool
   pub inbox : Inbox
 
--- the greatest count that is kept
+-- the maximum of that count
 abbrev pub max_ordered : ℕ
 max_ordered = 2 ^ 64 - 1
 
@@ -24,8 +24,8 @@ max_ordered = 2 ^ 64 - 1
 abbrev pub new_receiving : ℕ → Receiving
 new_receiving capacity = record { opened = false; next = 0; ordered = 0; finished = false; inbox = empty_inbox capacity }
 
--- the next position of the peer's direction that is wanted: after what came in order, and after the peer's FIN once it was
--- taken. It stays at its greatest value once there
+-- the next position of the peer's direction that is expected: after what came in order, and after the peer's FIN once that
+-- was taken. It stays at its maximum once it has reached it
 abbrev pub next_wanted : Receiving → ℕ
 next_wanted r = min max_ordered (1 + r.ordered + (if r.finished then 1 else 0))
 
@@ -33,7 +33,7 @@ next_wanted r = min max_ordered (1 + r.ordered + (if r.finished then 1 else 0))
 abbrev pub with_syn : Receiving → ℕ → Receiving
 with_syn r seq = record r { opened = true; next = number seq 1 }
 
--- the receiver once its inbox has become this one, by which n bytes more are in order
+-- the receiver with this inbox in place of its own, after n more bytes came in order
 abbrev pub with_inbox : Receiving → Inbox → ℕ → Receiving
 with_inbox r inbox n = record r {
   next = (r.next + n) % 2 ^ 32;
@@ -46,12 +46,11 @@ unfoldable pub after_text : Receiving → ℕ → List ℕ → Receiving
 after_text r seq text =
     with_inbox r (after_place r.inbox (offset r.next seq) text) (advance_of (place_answer r.inbox (offset r.next seq) text))
 
--- THE PEER'S FIN (RFC 9293, 3.10.7.4, eighth) is taken in its turn alone: its number is RCV.NXT, and the window
--- is open
+-- THE PEER'S FIN (RFC 9293, 3.10.7.4, eighth) is taken only in order: its number is RCV.NXT, and the window is open
 abbrev pub is_fin_due : Receiving → ℕ → Bool
 is_fin_due r number = (number == r.next) && nat_lt 0 (window r.inbox)
 
--- held pieces are given up
+-- what is kept out of order is discarded
 abbrev pub with_fin : Receiving → Receiving
 with_fin r = record r { next = number r.next 1; finished = true; inbox = without_held r.inbox }
 
@@ -59,11 +58,12 @@ with_fin r = record r { next = number r.next 1; finished = true; inbox = without
 abbrev pub after_handing : Receiving → ℕ → Receiving
 after_handing r n = record r { inbox = after_read r.inbox n }
 
--- what is unread and held is given up
+-- what is unread or kept out of order is discarded
 abbrev pub without_bytes : Receiving → Receiving
 without_bytes r = record r { inbox = empty_inbox r.inbox.capacity }
 
--- what is unread stays within the capacity together with the window, which has one place for each byte that is held or may come
+-- unread bytes and window together make the capacity: the window has one offset for each byte that is kept out of order or
+-- may come
 pub record HoldsWithin (capacity : ℕ) (inbox : Inbox) : Type 0 where
   pub size : inbox.capacity ≡ capacity
   pub received : length inbox.unread + length inbox.held ≡ capacity

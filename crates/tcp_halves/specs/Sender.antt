@@ -1,5 +1,5 @@
--- The half that sends (RFC 9293, 3.3.1, 3.8 and 3.10.7.4): what acknowledgements, windows, blocks and timers
--- do to it. Acknowledgements and edges of blocks are spoken of as positions here.
+-- The half that sends (RFC 9293, 3.3.1, 3.8 and 3.10.7.4): what acknowledgements, windows, blocks and timers change in it.
+-- Acknowledgements and edges of blocks are positions here.
 use Rattle.std.specs.Prelude.{ℕ, ◌-◌, Bool, ◌||◌, ◌==◌, if◌then◌else◌, ◌&&◌, List, length, ◌≡◌, Option, Some, None, min, nat_lt, take, ◌<◌, ◌≤◌, ◌^◌, ◌+◌, nat_le}
 use Rattle.std.specs.declared.ops.Range.{Range}
 use Rattle.tcp_wire.specs.Flags.{ack}
@@ -14,26 +14,26 @@ pub record Sending : Type 0 where
   -- SND.UNA and SND.NXT, as positions: the oldest that isn't acknowledged, and the next to be sent
   pub una : ℕ
   pub nxt : ℕ
-  -- text bytes that an acknowledgement has released
+  -- the text bytes that acknowledgements have released
   pub released : ℕ
-  -- the bytes that were accepted and are not released, with the peer's marks
+  -- the bytes that were accepted and aren't released, with the peer's marks
   pub queue : Queue
-  -- what a retransmission has still to send again
+  -- what a retransmission still has to send again
   pub resend : Option (Range ℕ)
   -- SND.WND, and the two numbers of the segment that it was taken from, SND.WL1 and SND.WL2
   pub wnd : ℕ
   pub wl1 : ℕ
   pub wl2 : ℕ
 
--- as many bytes as the direction has accepted from its user
+-- how many bytes the direction has accepted from its user
 abbrev pub accepted_count : Sending → ℕ
 accepted_count s = s.released + length s.queue.bytes
 
--- the place in the queue of the byte at a position
+-- the offset in the queue of the byte at a position
 abbrev pub place_of : Sending → ℕ → ℕ
 place_of s position = position - (1 + s.released)
 
--- the position of the byte at a place
+-- the position of the byte at an offset in the queue
 abbrev pub position_at : Sending → ℕ → ℕ
 position_at s place = 1 + s.released + place
 
@@ -41,7 +41,7 @@ position_at s place = 1 + s.released + place
 abbrev pub end_of_text : Sending → ℕ
 end_of_text s = 1 + accepted_count s
 
--- what nothing was asked of yet
+-- the half that sends before any call
 abbrev pub new_sending : ℕ → Sending
 new_sending capacity = record {
   una = 0;
@@ -58,15 +58,15 @@ new_sending capacity = record {
 abbrev pub with_syn_sent : Sending → Sending
 with_syn_sent s = record s { una = 0; nxt = 1 }
 
--- it is acknowledged
+-- the SYN is acknowledged
 abbrev pub with_syn_acked : Sending → Sending
 with_syn_acked s = record s { una = s.nxt }
 
--- it acknowledges what wasn't sent
+-- the acknowledgement is of what wasn't sent: SEG.ACK > SND.NXT
 abbrev pub acks_unsent : Sending → ℕ → Bool
 acks_unsent s ack = nat_lt s.nxt ack
 
--- it acknowledges something for the first time
+-- the acknowledgement is of something new: SND.UNA < SEG.ACK =< SND.NXT
 abbrev pub acks_more : Sending → ℕ → Bool
 acks_more s ack = nat_lt s.una ack && nat_le ack s.nxt
 
@@ -85,7 +85,7 @@ with_acked s ack = record s {
 unfoldable pub after_ack : Sending → ℕ → Sending
 after_ack s ack = if acks_more s ack then with_acked s ack else s
 
--- WINDOW UPDATE (RFC 9293, 3.10.7.4, fifth): not from a segment older than the last that was used
+-- WINDOW UPDATE (RFC 9293, 3.10.7.4, fifth): not from a segment older than the one that the window was taken from
 abbrev pub is_newer : Sending → ℕ → ℕ → Bool
 is_newer s seq ack = is_before s.wl1 seq || ((s.wl1 == seq) && (is_before s.wl2 ack || (s.wl2 == ack)))
 
@@ -95,19 +95,22 @@ with_window s seq ack window = record s { wnd = window; wl1 = seq; wl2 = ack }
 unfoldable pub after_window_update : Sending → ℕ → ℕ → ℕ → Sending
 after_window_update s seq ack window = if is_newer s seq ack then with_window s seq ack window else s
 
--- RETRANSMISSION TIMEOUT (RFC 9293, 3.8.1; RFC 2018, 5): all that is in flight goes out again, and every mark is
--- forgotten
+-- RETRANSMISSION TIMEOUT (RFC 9293, 3.8.1; RFC 2018, 5): all that is in flight is sent again, and every mark is forgotten
 abbrev pub is_in_flight : Sending → Bool
 is_in_flight s = nat_lt s.una s.nxt
 
 abbrev pub with_all_resent : Sending → Sending
 with_all_resent s = record s { resend = Some (record { start = s.una; end = s.nxt }); queue = queues.without_marks s.queue }
 
--- REORDERING TIMEOUT (RFC 2018, 5): what lies before the last mark goes out again
+-- FIRST SEGMENT AGAIN (RFC 5681, 3.2; RFC 6582, 3.2): of what is in flight, as much as one segment carries goes out again
+abbrev pub with_first_resent : Sending → ℕ → Sending
+with_first_resent s limit = record s { resend = Some (record { start = s.una; end = min s.nxt (s.una + limit) }) }
+
+-- REORDERING TIMEOUT (RFC 2018, 5): what lies before the end of the last mark is sent again
 abbrev pub with_gaps_resent : Sending → ℕ → Sending
 with_gaps_resent s end = record s { resend = Some (record { start = s.una; end = position_at s end }) }
 
--- how many bytes of a text a direction of this limit takes: the longest prefix that fits the queue and the limit
+-- how many bytes of a text the direction accepts: the longest prefix that fits the queue and the limit
 abbrev pub count_sendable : Sending → ℕ → List ℕ → ℕ
 count_sendable s limit text = min (queues.count_taken s.queue text) (limit - accepted_count s)
 
@@ -118,23 +121,23 @@ with_text s limit text = record s { queue = queues.after_offer s.queue (take (co
 abbrev pub count_unsent : Sending → ℕ
 count_unsent s = length s.queue.bytes - place_of s s.nxt
 
--- a probe is needed: nothing is in flight, text is unsent, and the window is shut (RFC 9293, 3.8.6.1)
+-- a probe is needed: nothing is in flight, text is unsent, and the peer's window is zero (RFC 9293, 3.8.6.1)
 abbrev pub is_probe_needed : Sending → Bool
 is_probe_needed s = (s.una == s.nxt) && (nat_lt 0 (count_unsent s) && (s.wnd == 0))
 
--- the own FIN was sent: SND.NXT is after the end of text
+-- this end's FIN was sent: SND.NXT is after the end of text
 abbrev pub is_fin_sent : Sending → Bool
 is_fin_sent s = nat_lt (end_of_text s) s.nxt
 
--- and all that was sent is acknowledged
+-- this end's FIN was sent, and all that was sent is acknowledged
 abbrev pub is_fin_acked : Sending → Bool
 is_fin_acked s = is_fin_sent s && (s.una == s.nxt)
 
--- the connection has ended: nothing goes out again
+-- after the end of the connection nothing is sent again
 abbrev pub without_resend : Sending → Sending
 without_resend s = record s { resend = None }
 
--- and what is queued is given up
+-- nor is anything left in the queue
 abbrev pub without_text : Sending → Sending
 without_text s = record s { resend = None; queue = queues.after_release s.queue (length s.queue.bytes) }
 
@@ -146,7 +149,7 @@ pub record IsSender (s : Sending) : Type 0 where
   pub wnd : s.wnd < 2 ^ 32
   pub queued : length s.queue.bytes ≤ s.queue.capacity
 
--- what is queued stays within the capacity that the Config says
+-- what is queued stays within the capacity that the Config sets
 pub record KeepsWithin (capacity : ℕ) (queue : Queue) : Type 0 where
   pub size : queue.capacity ≡ capacity
   pub queued : length queue.bytes ≤ capacity

@@ -7,8 +7,8 @@ use crate::receiver::Receiver;
 use std::alloc::Allocator;
 use tcp_wire::Seq;
 
-/// Whether a segment with so many numbers of its own is acceptable, where RCV.NXT and the window are these (RFC 9293,
-/// 3.10.7.4).
+/// Whether a segment that takes `count` sequence numbers (SEG.LEN) is acceptable, where `next` is RCV.NXT and `window`
+/// is RCV.WND in bytes (RFC 9293, 3.10.7.4).
 #[tactic(auto, using(tcp_wire::proofs::Lemmas::first_inside, tcp_wire::proofs::Lemmas::last_inside), unfolding(crate::specs::Acceptable::is_acceptable))]
 pub fn is_acceptable(next: Seq, window: u32, seq: Seq, count: u32) -> bool
     requires count { count ≤ max_text_len + 2 }
@@ -25,7 +25,7 @@ pub fn is_acceptable(next: Seq, window: u32, seq: Seq, count: u32) -> bool
 }
 
 impl<A: Allocator> Receiver<A> {
-    /// Whether a segment with so many numbers of its own is acceptable (RFC 9293, 3.10.7.4).
+    /// Whether a segment that takes `count` sequence numbers (SEG.LEN) is acceptable (RFC 9293, 3.10.7.4).
     pub fn is_acceptable(&self, seq: Seq, count: u32) -> bool
         requires { count ≤ max_text_len + 2 }
         ensures { result ≡ is_acceptable self.now.next (window self.now.inbox) seq.0 count }

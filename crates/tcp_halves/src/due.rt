@@ -10,27 +10,27 @@ use crate::sender::Sender;
 use std::alloc::Allocator;
 use tcp_wire::Flags;
 
-/// What one end emits next. A text is given by the position of its first byte and its length.
+/// What an end emits next. Text is given by the position of its first byte and its length in bytes.
 #[derive(Clone, Copy, Debug, PartialEq, Eq)]
 pub enum Due {
-    /// A reset that waited.
+    /// A waiting reset (RFC 9293, 3.5.2).
     Reset(WaitingReset),
-    /// The own SYN, with an acknowledgement of the peer's where that was taken.
+    /// This end's SYN, with an acknowledgement once the peer's SYN was taken (RFC 9293, 3.5).
     Syn,
-    /// Text that goes out again.
+    /// Text that is retransmitted (RFC 9293, 3.8.1).
     Resend(u64, usize),
-    /// Text that goes out for the first time.
+    /// Text that is sent for the first time (RFC 9293, 3.7).
     NewText(u64, usize),
-    /// The own FIN for the first time, at this position.
+    /// This end's FIN for the first time, at this position (RFC 9293, 3.6).
     Fin(u64),
-    /// The own FIN again.
+    /// This end's FIN, retransmitted.
     ResentFin(u64),
-    /// Nothing but an acknowledgement.
+    /// An acknowledgement without text (RFC 9293, 3.8.6.3).
     Acknowledgement,
 }
 
 impl Due {
-    /// The length of its text.
+    /// The length of its text in bytes; 0 where it has none.
     pub fn count(self) -> usize
         ensures { result ≡ count_of self }
     {
@@ -40,7 +40,7 @@ impl Due {
         }
     }
 
-    /// Whether it is the own FIN.
+    /// Whether it is this end's FIN.
     fn is_fin(self) -> bool
         ensures { result ≡ is_fin self }
     {
@@ -49,8 +49,8 @@ impl Due {
 }
 
 impl<A: Allocator> Sender<A> {
-    /// What is due, if anything: text or FIN again, new text, the own FIN, the first that applies. A text has at most
-    /// `limit` bytes; a probe was granted or not, and the user has closed or not.
+    /// What is due, if anything: text or FIN again, new text, this end's FIN, the first that applies. Text has at most
+    /// `limit` bytes. `probe` says that a probe was granted, `closing` that the user has closed.
     pub fn due(&self, limit: u16, probe: bool, closing: bool) -> Option<Due>
         ensures value { result ≡ sending_due self.now limit probe closing }
         ensures lies { IfSome result (Lies self.now limit) }
@@ -64,7 +64,8 @@ impl<A: Allocator> Sender<A> {
         self.fin_due(closing)
     }
 
-    /// What has to go out again, if any is left: text of at most `limit` bytes, or the own FIN (RFC 9293, 3.8.1; RFC 2018, 5).
+    /// What has to be sent again, if anything: text of at most `limit` bytes, or this end's FIN (RFC 9293, 3.8.1; RFC
+    /// 2018, 5).
     #[tactic(auto, unfolding(crate::specs::Due::resend_of))]
     fn resend_due(&self, limit: u16) -> Option<Due>
         ensures value { result ≡ resend_of self.now limit self.now.resend }
@@ -78,7 +79,7 @@ impl<A: Allocator> Sender<A> {
         }
     }
 
-    /// The text of a run of unmarked places, as far as the position `end` and the limit allow.
+    /// The text of a run of unmarked bytes, as far as the position `end` and the limit allow.
     fn resent_text(&self, limit: u16, end: u64, from: usize, to: usize) -> Option<Due>
         requires ordered { from < to }
         requires inside { to ≤ length self.now.queue.bytes }
@@ -93,12 +94,12 @@ impl<A: Allocator> Sender<A> {
         Some(Due::Resend(position, count as usize))
     }
 
-    /// The own FIN, where its position is from `start` on and before `end`.
+    /// This end's FIN, where its position is from `start` on and before `end`.
     fn resent_fin(&self, start: u64, end: u64) -> Option<Due>
         ensures value { (range : Range ℕ) → max range.start self.now.una ≡ start → range.end ≡ end → result ≡ resent_fin self.now range }
         ensures lies { (limit : ℕ) → IfSome result (Lies self.now limit) }
     {
-        // So that the proof knows what always holds of a sender.
+        // So that the proof knows the invariant of a sender.
         let _ = &self.una;
         let fin = self.end_of_text();
         if fin < end && start <= fin {
@@ -108,8 +109,8 @@ impl<A: Allocator> Sender<A> {
         }
     }
 
-    /// The text that can go out for the first time, if any: at most `limit` bytes, and no more than the peer's window allows;
-    /// past a shut window one byte, if a probe was granted (RFC 9293, 3.8.6 and 3.8.6.1).
+    /// The text that can be sent for the first time, if any: at most `limit` bytes, and no more than the peer's window
+    /// allows. At a zero window it is one byte, if a probe was granted (RFC 9293, 3.8.6 and 3.8.6.1).
     #[tactic(auto, unfolding(crate::specs::Due::new_text_of))]
     fn new_text_due(&self, limit: u16, probe: bool) -> Option<Due>
         ensures value { result ≡ new_text_of self.now limit probe }
@@ -128,7 +129,7 @@ impl<A: Allocator> Sender<A> {
         Some(Due::NewText(self.nxt, count as usize))
     }
 
-    /// The own FIN, once all text was sent (RFC 9293, 3.10.4).
+    /// This end's FIN, once all text was sent (RFC 9293, 3.10.4).
     fn fin_due(&self, closing: bool) -> Option<Due>
         ensures value { result ≡ fin_of self.now closing }
         ensures lies { (limit : ℕ) → IfSome result (Lies self.now limit) }
@@ -140,7 +141,7 @@ impl<A: Allocator> Sender<A> {
         }
     }
 
-    /// The position where it begins.
+    /// The position where it begins; 0 for a SYN and a reset, SND.NXT for an acknowledgement.
     pub fn start_of(&self, due: Due) -> u64
         ensures { result ≡ start_of self.now due }
     {
@@ -166,7 +167,7 @@ impl<A: Allocator> Sender<A> {
         }
     }
 
-    /// Whether the text ends with the last byte of the queue.
+    /// Whether its text ends with the last byte of the queue.
     fn pushes(&self, due: Due) -> bool
         requires { Lies self.now max_mss due }
         ensures { result ≡ pushes self.now due }
@@ -196,7 +197,7 @@ impl<A: Allocator> Sender<A> {
         }
     }
 
-    /// Copies the text of what is due.
+    /// Copies the text of what is due into `out`, which has exactly its length.
     pub fn copy(&self, due: Due, out: &mut [u8])
         requires lies { Lies self.now max_mss due }
         requires len { length out.old ≡ count_of due }
@@ -209,7 +210,8 @@ impl<A: Allocator> Sender<A> {
         }
     }
 
-    /// What was due has gone out: SND.NXT is at least the position after it, and what it sent again is done with.
+    /// What was due was emitted: SND.NXT is at least the position after it, and what was sent again is taken off the
+    /// range.
     pub fn mark_sent(&mut self, due: Due)
         requires { Lies self.old max_mss due }
         ensures state { self.new ≡ sending_after self.old due }

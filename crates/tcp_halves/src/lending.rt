@@ -1,4 +1,4 @@
-//! What both halves lend of their buffers, and what is taken away without a copy.
+//! What both halves lend of their buffers, and how bytes are consumed without a copy.
 ghost use Rattle.std.specs.Prelude.{◌≡◌, ◌+◌, ◌<◌, ◌++◌, length, min};
 ghost use Rattle.tcp_wire.specs.Checksum.{AreBytes};
 ghost use Rattle.tcp_halves.specs.Config.{max_mss};
@@ -11,7 +11,7 @@ use crate::sender::Sender;
 use std::alloc::Allocator;
 
 impl<A: Allocator> Receiver<A> {
-    /// Takes the first unread bytes away, at most so many, and answers their count.
+    /// Removes the first unread bytes, at most `most` of them, and returns how many.
     #[tactic(auto, using(crate::proofs::Placing::whole_read, crate::proofs::Placing::capacity_read))]
     pub fn consume(&mut self, most: usize) -> usize
         ensures count { result ≡ min most (length self.old.inbox.unread) }
@@ -23,7 +23,7 @@ impl<A: Allocator> Receiver<A> {
     }
 }
 
-/// Two slices are bytes together, as callers learn; it does nothing when it runs.
+/// Two slices hold bytes, also one after the other. It does nothing when it runs: callers learn the fact.
 fn are_bytes(first: &[u8], second: &[u8])
     ensures { AreBytes (first.now ++ second.now) }
 {
@@ -32,7 +32,8 @@ fn are_bytes(first: &[u8], second: &[u8])
 }
 
 impl<A: Allocator> Sender<A> {
-    /// The text of what is due where it lies in the queue, in two parts, of which the first is empty only where there is no text.
+    /// The text of what is due, where it lies in the queue, in two parts. The first is empty only where there is no
+    /// text.
     pub fn text(&self, due: Due) -> (&[u8], &[u8])
         requires lies { Lies self.now max_mss due }
         ensures text { result.0.now ++ result.1.now ≡ text_of self.now due }

@@ -1,7 +1,7 @@
-//! The two halves of an end of a TCP connection (RFC 9293, 3.3.1), and what both are told.
+//! The two halves of an end of a TCP connection (RFC 9293, 3.3.1), and what both depend on.
 //!
-//! - [`Sender`]: SND.UNA, SND.NXT, SND.WND, the queue, and what has to be sent again; [`Due`] says what goes out next.
-//! - [`Receiver`]: RCV.NXT, what came, and the peer's FIN.
+//! - [`Sender`]: SND.UNA, SND.NXT, SND.WND, the queue, and what has to be sent again; [`Due`] is what is emitted next.
+//! - [`Receiver`]: RCV.NXT, what came in order and out of order, and the peer's FIN.
 //! - [`Config`] is what an end is made from, [`Link`] what both SYNs agreed on, [`Peer`] the other end.
 //!
 //! The end itself, with its phases, calls, arrivals and emissions, is in `tcp_conn`.

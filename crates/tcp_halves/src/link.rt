@@ -1,6 +1,6 @@
 use tcp_wire::{Addr, Seq};
 
-/// The other end of a connection: where its segments come from.
+/// The other end of a connection (RFC 9293, 3.10.6, foreign socket).
 #[derive(Clone, Copy, Debug, PartialEq, Eq, Hash)]
 pub struct Peer {
     /// Its address.
@@ -12,7 +12,7 @@ pub struct Peer {
 /// What the two SYNs agreed on (RFC 9293, 3.7.1; RFC 7323, 2.2; RFC 2018, 2).
 #[derive(Clone, Copy, Debug, PartialEq, Eq)]
 pub struct Link {
-    /// The greatest text of a segment that the peer takes, in bytes; at least 64.
+    /// The most text bytes of a segment that the peer accepts, at least 64.
     pub peer_mss: u16,
     /// Whether both SYNs offered to scale windows.
     pub scaling: bool,
@@ -22,8 +22,7 @@ pub struct Link {
     pub sack: bool,
 }
 
-/// A reset that waits to be emitted (RFC 9293, 3.10.7.1): whom it goes to, its number, and what it acknowledges,
-/// if anything.
+/// A reset that waits to be emitted (RFC 9293, 3.10.7.1).
 #[derive(Clone, Copy, Debug, PartialEq, Eq)]
 pub struct WaitingReset {
     /// Whom it goes to.

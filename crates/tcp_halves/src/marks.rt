@@ -1,4 +1,4 @@
-//! Marks (RFC 2018, 5): what the blocks that the peer reports do to the half that sends.
+//! Marks (RFC 2018, 5): what the blocks that the peer reports change in the half that sends.
 ghost use Rattle.std.specs.Prelude.{◌≡◌, ◌≤◌, length, map};
 ghost use Rattle.tcp_wire.specs.Position.{position_of};
 ghost use Rattle.tcp_wire.specs.View.{block};
@@ -9,14 +9,14 @@ use std::alloc::Allocator;
 use tcp_wire::{OptionsLeft, Seq, TcpOption};
 
 impl<A: Allocator> Sender<A> {
-    /// The position that a number means: the nearest to SND.UNA (RFC 9293, 3.4).
+    /// The position that a number is read as: the nearest to SND.UNA (RFC 9293, 3.4).
     fn position_of(&self, iss: Seq, number: Seq) -> u64
         ensures { result ≡ position_of iss.0 self.now.una number.0 }
     {
         number.position(iss, self.una)
     }
 
-    /// Marks the text of a block of what is in flight (RFC 2018, 5). The FIN is never marked.
+    /// Marks the text of a block of what is in flight (RFC 2018, 5), never the FIN.
     #[tactic(auto, unfolding(crate::specs::Marks::after_block, tcp_sendq::specs::SendQueue::after_mark))]
     fn mark(&mut self, left: u64, right: u64)
         ensures state { self.new ≡ after_block self.old left right }
@@ -40,7 +40,7 @@ impl<A: Allocator> Sender<A> {
     {
         match blocks {
             [] => {
-                // So that the proof knows what always holds of a sender.
+                // So that the proof knows the invariant of a sender.
                 let _ = &self.una;
             }
             [first, rest @ ..] => {
@@ -52,13 +52,13 @@ impl<A: Allocator> Sender<A> {
         }
     }
 
-    /// The blocks of all options.
+    /// Marks the text of the blocks of all options (RFC 2018, 5). `iss` is ISS.
     pub fn mark_reported(&mut self, iss: Seq, options: OptionsLeft<'_>)
         ensures state { self.new ≡ after_blocks iss.0 self.old (reported_blocks options.entry) }
         ensures capacity { self.new.queue.capacity ≡ self.old.queue.capacity }
         ensures queued { length self.new.queue.bytes ≤ self.new.queue.capacity }
     {
-        // So that the proof knows what always holds of a sender.
+        // So that the proof knows the invariant of a sender.
         let _ = &self.una;
         let mut left = options;
         while let Some(option) = left.next() {

@@ -7,15 +7,15 @@ use crate::config::{Config, MAX_SHIFT, MIN_MSS};
 use crate::link::Link;
 use tcp_wire::{OptionsLeft, TcpOption};
 
-/// The MSS of a peer that gives none (RFC 9293, 3.7.1).
+/// The MSS of a peer that announces none, in bytes (RFC 9293, 3.7.1).
 pub const DEFAULT_MSS: u16 = 536;
 
-/// What the options of a SYN offer; of repeats the first counts.
+/// What the options of a SYN offer; of repeated options the first counts.
 #[derive(Drop)]
 struct Offer {
     /// The maximum segment size (RFC 9293, 3.7.1).
     mss: Option<u16>,
-    /// The shift (RFC 7323, 2.2).
+    /// The window shift (RFC 7323, 2.2).
     shift: Option<u8>,
     /// Whether selective acknowledgement is permitted (RFC 2018, 2).
     sack: bool,
@@ -42,7 +42,8 @@ fn offer_of(options: OptionsLeft<'_>) -> Offer
     Offer { mss, shift, sack }
 }
 
-/// What the own Config and the options of the peer's SYN agree on.
+/// What the Config of this end and the options of the peer's SYN agree on (RFC 9293, 3.7.1; RFC 7323, 2.2; RFC 2018,
+/// 2).
 #[tactic(auto, unfolding(crate::specs::Options::link_of))]
 pub fn link_of(config: &Config, options: OptionsLeft<'_>) -> Link
     ensures value { result ≡ link_of config.now options.entry }

@@ -12,19 +12,18 @@ use std::marker::Model;
 use tcp_reasm::{Placed, ReasmError, Reassembly};
 use tcp_wire::Seq;
 
-/// The half of an end that receives (RFC 9293, 3.3.1). Its fields can be read from above, and whatever changes them
-/// keeps what always holds of it.
+/// The half of an end that receives (RFC 9293, 3.3.1). Its fields are public to read; its methods keep its invariant.
 #[derive(Debug, Drop)]
 pub struct Receiver<A: Allocator = Global> {
     /// Whether the peer's SYN was taken.
     pub opened: bool,
     /// RCV.NXT, once the peer's SYN was taken.
     pub next: Seq,
-    /// The text bytes that came in order; it stays at its greatest value once there.
+    /// The text bytes that came in order; the count stays at its maximum once it has reached it.
     pub ordered: u64,
     /// Whether the peer's FIN was taken.
     pub finished: bool,
-    /// What came, in order and early.
+    /// What came, in order and out of order.
     pub inbox: Reassembly<A>,
 }
 
@@ -40,7 +39,8 @@ impl<A: Allocator> Model for Receiver<A> {
 }
 
 impl<A: Allocator> Receiver<A> {
-    /// A receiver that waits for the peer's SYN.
+    /// A receiver before the peer's SYN; its buffer has memory of `alloc`. An error where the capacity is out of range,
+    /// or there is no memory.
     pub fn new_in(alloc: A, config: &Config) -> Result<Self, ReasmError>
         ensures ok { IfOk result (λ r. r ≡ new_receiving config.now.recv_capacity) }
         ensures bad_capacity { (result ≡ Err ReasmError.BadCapacity) ↔ ((config.now.recv_capacity < 1) ⊎ (max_capacity < config.now.recv_capacity)) }
@@ -58,7 +58,7 @@ impl<A: Allocator> Receiver<A> {
 }
 
 impl<A: Allocator> Receiver<A> {
-    /// RCV.WND.
+    /// RCV.WND in bytes.
     pub(crate) fn window(&self) -> u32
         ensures value { result ≡ window self.now.inbox }
         ensures most { result ≤ max_capacity }
@@ -76,7 +76,7 @@ impl<A: Allocator> Receiver<A> {
         self.next = seq.plus(1);
     }
 
-    /// How far ahead of RCV.NXT a number lies; below 0 where it comes before it.
+    /// How far ahead of RCV.NXT a number is; negative where it is before it.
     #[tactic(auto, using(tcp_wire::proofs::Lemmas::offset_ahead, tcp_wire::proofs::Lemmas::offset_behind))]
     fn offset_of(&self, seq: Seq) -> i64
         ensures value { result ≡ offset self.now.next seq.0 }
@@ -91,7 +91,7 @@ impl<A: Allocator> Receiver<A> {
         }
     }
 
-    /// Places text whose first byte has this number, and answers what became of it (RFC 9293, 3.10.7.4, seventh).
+    /// Takes the text that begins at this number, and reports what became of it (RFC 9293, 3.10.7.4, seventh).
     #[tactic(auto, using(crate::proofs::Placing::length_placed, crate::proofs::Placing::capacity_placed), unfolding(crate::specs::Receiver::after_text))]
     pub fn place(&mut self, seq: Seq, text: &[u8]) -> Placed
         requires { length text.now ≤ max_text_len }
@@ -109,14 +109,14 @@ impl<A: Allocator> Receiver<A> {
         placed
     }
 
-    /// Whether a FIN with this number is the next to come, and the window is open (RFC 9293, 3.10.7.4, eighth).
+    /// Whether a FIN with this number is the next in order, and the window is open (RFC 9293, 3.10.7.4, eighth).
     pub fn is_fin_due(&self, number: Seq) -> bool
         ensures { result ≡ is_fin_due self.now number.0 }
     {
         number == self.next && self.window() > 0
     }
 
-    /// Takes the peer's FIN, and gives up what is held.
+    /// Takes the peer's FIN, and discards what is kept out of order (RFC 9293, 3.10.7.4, eighth).
     #[tactic(auto, using(crate::proofs::Placing::whole_without_held))]
     pub fn take_fin(&mut self)
         ensures state { self.new ≡ with_fin self.old }
@@ -128,7 +128,8 @@ impl<A: Allocator> Receiver<A> {
         self.inbox.clear_held();
     }
 
-    /// Hands over the longest prefix of the unread bytes that fits `out`, and answers its length.
+    /// Copies the longest prefix of the unread bytes that fits `out` to its start, and returns its length (RFC 9293,
+    /// 3.10.3).
     #[tactic(auto, using(crate::proofs::Placing::whole_read, crate::proofs::Placing::capacity_read))]
     pub fn read(&mut self, out: &mut [u8]) -> usize
         ensures count { result ≡ min (length out.old) (length self.old.inbox.unread) }
@@ -140,7 +141,7 @@ impl<A: Allocator> Receiver<A> {
         self.inbox.read(out)
     }
 
-    /// The connection has ended by a reset or an abort: what is unread and held is given up.
+    /// Discards what is unread or kept out of order: the connection has ended by a reset or an abort.
     #[tactic(auto, using(crate::proofs::Placing::whole_empty))]
     pub fn give_up(&mut self)
         ensures state { self.new ≡ without_bytes self.old }

@@ -2,7 +2,7 @@ ghost use Rattle.std.specs.Prelude.{◌≡◌, ◌<◌, ◌≤◌, ◌+◌, ◌-
 ghost use Rattle.tcp_sendq.specs.SendQueue.{max_capacity, room};
 ghost use Rattle.tcp_halves.specs.Sender.{Sending, accepted_count, place_of, end_of_text};
 ghost use Rattle.tcp_halves.specs.Config.{stream_limit};
-ghost use Rattle.tcp_halves.specs.Sender.{new_sending, with_syn_sent, with_syn_acked, acks_unsent, count_below, after_ack, with_window, is_newer, after_window_update, with_all_resent, with_gaps_resent, count_sendable, with_text, count_unsent, is_probe_needed, is_fin_acked, without_text, IsSender};
+ghost use Rattle.tcp_halves.specs.Sender.{new_sending, with_syn_sent, with_syn_acked, acks_unsent, count_below, after_ack, with_window, is_newer, after_window_update, with_all_resent, with_first_resent, with_gaps_resent, count_sendable, with_text, count_unsent, is_probe_needed, is_fin_acked, without_text, IsSender};
 
 use crate::config::Config;
 use std::alloc::{Allocator, Global};
@@ -11,24 +11,23 @@ use std::ops::Range;
 use tcp_sendq::{QueueError, SendQueue};
 use tcp_wire::Seq;
 
-/// The half of an end that sends (RFC 9293, 3.3.1). Positions count from the SYN, which is at 0; byte i of
-/// the queue is at `1 + released + i`, the FIN after the last byte. Its fields can be read from above, and whatever
-/// changes them keeps what always holds of it.
+/// The half of an end that sends (RFC 9293, 3.3.1). Positions count from the SYN, which is at 0; byte i of the queue is
+/// at `1 + released + i`, the FIN after the last byte. Its fields are public to read; its methods keep its invariant.
 #[derive(Debug, Drop)]
 pub struct Sender<A: Allocator = Global> {
     /// SND.UNA, the oldest position that isn't acknowledged; at most `nxt`.
     pub una: u64,
-    /// SND.NXT, the next position to be sent; at most that after the FIN of a full direction.
+    /// SND.NXT, the next position to be sent; at most the one after the FIN of a full direction.
     pub nxt: u64,
-    /// The text bytes that were released by acknowledgement.
+    /// The text bytes that acknowledgements have released.
     pub released: u64,
-    /// The text after them.
+    /// The text after those: accepted, and not released.
     pub queue: SendQueue<A>,
-    /// What a retransmission has still to send again.
+    /// What a retransmission still has to send again, as positions.
     pub resend: Option<Range<u64>>,
     /// SND.WND, in bytes.
     pub wnd: u32,
-    /// SND.WL1 and SND.WL2, the numbers of the segment that the window was taken from.
+    /// SND.WL1 and SND.WL2, SEG.SEQ and SEG.ACK of the segment that the window was taken from.
     pub wl1: Seq,
     pub wl2: Seq,
 }
@@ -46,7 +45,8 @@ impl<A: Allocator> Model for Sender<A> {
 }
 
 impl<A: Allocator> Sender<A> {
-    /// A sender of which nothing was asked yet.
+    /// A sender before any call; its queue has memory of `alloc`. An error where the capacity is out of range, or there
+    /// is no memory.
     pub fn new_in(alloc: A, config: &Config) -> Result<Self, QueueError>
         ensures ok { IfOk result (λ s. s ≡ new_sending config.now.send_capacity) }
         ensures bad_capacity { (result ≡ Err QueueError.BadCapacity) ↔ ((config.now.send_capacity < 1) ⊎ (max_capacity < config.now.send_capacity)) }
@@ -81,7 +81,7 @@ impl<A: Allocator> Sender<A> {
         1 + self.accepted_count()
     }
 
-    /// The place in the queue of the byte at a position.
+    /// The offset in the queue of the byte at a position.
     pub(crate) fn place_of(&self, position: u64) -> u64
         ensures { result ≡ place_of self.now position }
     {
@@ -95,7 +95,7 @@ impl<A: Allocator> Sender<A> {
         self.place_of(position).min(self.queue.len() as u64) as usize
     }
 
-    /// The own SYN is sent (RFC 9293, 3.10.1).
+    /// This end's SYN is sent (RFC 9293, 3.10.1).
     pub fn send_syn(&mut self)
         ensures state { self.new ≡ with_syn_sent self.old }
         ensures capacity { self.new.queue.capacity ≡ self.old.queue.capacity }
@@ -105,7 +105,7 @@ impl<A: Allocator> Sender<A> {
         self.nxt = 1;
     }
 
-    /// The own SYN is acknowledged, by a segment that advertises a window (RFC 9293, 3.10.7.3 and 3.10.7.4).
+    /// This end's SYN is acknowledged, by a segment that advertises a window (RFC 9293, 3.10.7.3 and 3.10.7.4).
     pub fn take_syn_ack(&mut self, seq: Seq, ack: Seq, window: u32)
         ensures state { self.new ≡ with_window (with_syn_acked self.old) seq.0 ack.0 window }
         ensures capacity { self.new.queue.capacity ≡ self.old.queue.capacity }
@@ -117,14 +117,15 @@ impl<A: Allocator> Sender<A> {
         self.wl2 = ack;
     }
 
-    /// Whether it acknowledges what wasn't sent.
+    /// Whether an acknowledgement is of what wasn't sent (RFC 9293, 3.10.7.4, fifth).
     pub fn acks_unsent(&self, ack: u64) -> bool
         ensures { result ≡ acks_unsent self.now ack }
     {
         self.nxt < ack
     }
 
-    /// Releases the text below an acknowledgement of what was sent and not acknowledged before (RFC 9293, 3.10.7.4).
+    /// Releases the text below an acknowledgement that is after SND.UNA and up to SND.NXT; else nothing changes (RFC
+    /// 9293, 3.10.7.4, fifth).
     #[tactic(auto, unfolding(crate::specs::Sender::after_ack))]
     pub fn take_ack(&mut self, ack: u64)
         ensures state { self.new ≡ after_ack self.old ack }
@@ -139,7 +140,8 @@ impl<A: Allocator> Sender<A> {
         }
     }
 
-    /// Takes a window, unless the last was taken from a newer segment, and answers whether it did (RFC 9293, 3.10.7.4).
+    /// Takes a window in bytes, unless the last was taken from a newer segment; returns whether it did (RFC 9293,
+    /// 3.10.7.4, fifth).
     #[tactic(auto, unfolding(crate::specs::Sender::after_window_update))]
     pub fn update_window(&mut self, seq: Seq, ack: Seq, window: u32) -> bool
         ensures answer { result ≡ is_newer self.old seq.0 ack.0 }
@@ -157,7 +159,8 @@ impl<A: Allocator> Sender<A> {
         is_newer
     }
 
-    /// Sends all that is in flight again, and forgets what the peer reported of it (RFC 9293, 3.8.1; RFC 2018, 5).
+    /// Marks all that is in flight to be sent again, and forgets what the peer reported of it (RFC 9293, 3.8.1; RFC
+    /// 2018, 5).
     #[tactic(auto, unfolding(tcp_sendq::specs::SendQueue::without_marks))]
     pub fn resend_all(&mut self)
         ensures state { self.new ≡ with_all_resent self.old }
@@ -168,7 +171,17 @@ impl<A: Allocator> Sender<A> {
         self.resend = Some(self.una..self.nxt);
     }
 
-    /// Sends what lies before the place `end` again (RFC 2018, 5).
+    /// Sends the first segment of what is in flight again, with at most `limit` bytes of data, and nothing else of it
+    /// (RFC 5681, 3.2; RFC 6582, 3.2).
+    pub fn resend_first(&mut self, limit: u16)
+        ensures state { self.new ≡ with_first_resent self.old limit }
+        ensures capacity { self.new.queue.capacity ≡ self.old.queue.capacity }
+        ensures queued { length self.new.queue.bytes ≤ self.new.queue.capacity }
+    {
+        self.resend = Some(self.una..self.nxt.min(self.una + u64::from(limit)));
+    }
+
+    /// What lies before the offset `end` in the queue has to be sent again (RFC 2018, 5).
     pub fn resend_gaps(&mut self, end: usize)
         requires { end ≤ length self.old.queue.bytes }
         ensures state { self.new ≡ with_gaps_resent self.old end }
@@ -178,7 +191,8 @@ impl<A: Allocator> Sender<A> {
         self.resend = Some(self.una..1 + self.released + end as u64);
     }
 
-    /// Whether a probe is needed: nothing is in flight, text is unsent, and the window is shut (RFC 9293, 3.8.6.1).
+    /// Whether a probe is needed: nothing is in flight, text is unsent, and the peer's window is zero (RFC 9293,
+    /// 3.8.6.1).
     pub fn is_probe_needed(&self) -> bool
         ensures { result ≡ is_probe_needed self.now }
     {
@@ -193,7 +207,8 @@ impl<A: Allocator> Sender<A> {
         (self.queue.room() as u64).min(left) as usize
     }
 
-    /// Takes the longest prefix of `text` that fits the queue and the limit of the direction, and answers its length.
+    /// Accepts the longest prefix of `text` that fits the queue and the limit of the direction, and returns its length
+    /// (RFC 9293, 3.10.2).
     pub fn send(&mut self, limit: u64, text: &[u8]) -> usize
         requires { limit ≤ stream_limit }
         ensures count { result ≡ count_sendable self.old limit text.now }
@@ -213,14 +228,14 @@ impl<A: Allocator> Sender<A> {
         (self.queue.len() as u64).saturating_sub(self.place_of(self.nxt))
     }
 
-    /// Whether the own FIN was sent, and all that was sent is acknowledged.
+    /// Whether this end's FIN was sent, and all that was sent is acknowledged (RFC 9293, 3.10.7.4, fifth).
     pub fn is_fin_acked(&self) -> bool
         ensures { result ≡ is_fin_acked self.now }
     {
         self.end_of_text() < self.nxt && self.una == self.nxt
     }
 
-    /// It has ended by a reset or an abort: what is queued is given up.
+    /// Discards what is queued: the connection has ended by a reset or an abort.
     pub fn give_up(&mut self)
         ensures state { self.new ≡ without_text self.old }
         ensures capacity { self.new.queue.capacity ≡ self.old.queue.capacity }

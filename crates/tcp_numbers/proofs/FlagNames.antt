@@ -1,4 +1,4 @@
--- Names that are written one behind another come to the list of the set ones.
+-- Names that are written one after another come to the list of the set ones.
 use Rattle.std.proofs.Common.{arith, refl, ℕ, Bool, true, false, List, [], ◌∷◌, ◌++◌, ◌≡◌, codes, if◌then◌else◌}
 use Rattle.std.proofs.lemmas.Grind.{common_steps}
 use Rattle.std.specs.List.{join_by, flat_map}

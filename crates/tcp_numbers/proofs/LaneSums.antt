@@ -158,7 +158,7 @@ no_words : (xs : List ℕ) → length xs ≡ 0 → word_sum xs ≡ 0
 no_words [] h = refl
 no_words (x ∷ xs) h = absurd (omega arith)
 
--- the lanes and what stands behind all loads
+-- the lanes and what follows all loads
 pub all_taken : (whole : ℕ) (ms ls rest bytes behind : List ℕ) → whole ≤ length bytes → whole % 32 ≡ 0 → behind ≡ take (length bytes - whole) (drop whole bytes)
     → length rest < 32 → Taken 32 ms ls rest (take whole bytes) → held ms ls + word_sum behind ≡ word_sum bytes
 all_taken whole ms ls rest bytes behind inside even is short taken =

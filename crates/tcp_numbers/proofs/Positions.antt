@@ -68,7 +68,7 @@ natural_of-minus m n =
           ap natural_of difference
     ]
 
--- the position that a number means, where it lies at or ahead of the expected one,
+-- the position that a number is read as, where it is at or ahead of the expected one,
 pub position_of_ahead : (iss una w : ℕ) → iss < 2 ^ 32 → w < 2 ^ 32 → distance (number iss una) w < 2 ^ 31
     → position_of iss una w ≡ una + distance (number iss una) w
 unfolding position_of
@@ -76,7 +76,7 @@ position_of_ahead iss una w fits small close =
     let same = distance_from iss una w fits small in
     ap natural_of (near_ahead una (distance iss w) (omega (arith, same, close))) ∙ ap (λ d. una + d) same
 
--- where it lies behind it,
+-- where it is behind it,
 pub position_of_behind : (iss una w : ℕ) → iss < 2 ^ 32 → w < 2 ^ 32 → 2 ^ 31 ≤ distance (number iss una) w
     → position_of iss una w ≡ una + distance (number iss una) w - 2 ^ 32
 unfolding position_of
@@ -93,7 +93,7 @@ position_of_number iss una p fits above behind =
     let whole : iss % 2 ^ 32 ≡ iss = omega arith in
     ap (λ n. natural_of (near una (distance n (number iss p)))) (sym whole) ∙ ap natural_of (near_number una p iss above behind)
 
--- where no initial number is taken off: the position that a number means near one that is a number too
+-- where no initial number is taken off: the position that a number is read as, near one that is a number too
 near_self : (n : ℕ) → n < 2 ^ 32 → n % 2 ^ 32 ≡ n
 near_self n fits = omega arith
 
@@ -107,7 +107,7 @@ near_number_behind n w fits far =
     let e = near_self n fits in
     near_behind n w (subst (λ (m : ℕ). 2 ^ 31 ≤ distance m w) (sym e) far) ∙ ap (λ m. pos (n + distance m w) -ℤ pos (2 ^ 32)) e
 
--- ---- what an acknowledgement's number tells, by distance and by position
+-- ---- what the number of an acknowledgement is read as, by distance and by position
 
 later_close : (una d : ℕ) → d < 2 ^ 31 → nat_lt una (una + d) ≡ (nat_lt 0 d && nat_lt d (2 ^ 31))
 later_close una d close = grind (arith, nat_tests)
@@ -121,14 +121,14 @@ beyond_close una nxt d order close = grind (arith, nat_tests)
 beyond_far : (una nxt d : ℕ) → una ≤ nxt → 2 ^ 31 ≤ d → d < 2 ^ 32 → nat_lt nxt (una + d - 2 ^ 32) ≡ (nat_lt d (2 ^ 31) && nat_lt (nxt - una) d)
 beyond_far una nxt d order far fits = grind (arith, nat_tests)
 
--- a number comes behind that of the expected position where it means a later position
+-- a number comes after that of the expected position where it is read as a later position
 pub position_of_later : (iss una w : ℕ) → iss < 2 ^ 32 → w < 2 ^ 32 → nat_lt una (position_of iss una w) ≡ is_before (number iss una) w
 position_of_later iss una w fits small = ⊎_elim
     (λ close. ap (nat_lt una) (position_of_ahead iss una w fits small close) ∙ later_close una (distance (number iss una) w) close)
     (λ far. ap (nat_lt una) (position_of_behind iss una w fits small far) ∙ later_far una (distance (number iss una) w) far (omega arith))
     (cases_lt (distance (number iss una) w) (2 ^ 31))
 
--- and it means one beyond nxt where its distance says so
+-- and it is read as one beyond nxt where its distance says so
 pub position_of_beyond : (iss una nxt w : ℕ) → iss < 2 ^ 32 → w < 2 ^ 32 → una ≤ nxt
     → nat_lt nxt (position_of iss una w) ≡ (nat_lt (distance (number iss una) w) (2 ^ 31) && nat_lt (nxt - una) (distance (number iss una) w))
 position_of_beyond iss una nxt w fits small order = ⊎_elim

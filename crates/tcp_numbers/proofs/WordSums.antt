@@ -84,7 +84,7 @@ pub same_length : (sent got : List ℕ) → DiffersInOnePlace sent got → lengt
 same_length sent got d =
     rw (d.sent_is, d.got_is) (omega (arith, length-append d.front (d.was ∷ d.rest), length-append d.front (d.became ∷ d.rest)))
 
--- of two segments that differ in one place only one checks
+-- of two segments that differ in one byte only one checks
 pub one_place : (src dst sent got : List ℕ) → DiffersInOnePlace sent got → Checks src dst sent → Checks src dst got → ⊥
 one_place src dst sent got d cs cg =
     let len = same_length sent got d in
@@ -108,7 +108,7 @@ word_sum_bound (a ∷ b ∷ xs) fits =
     let rest = word_sum_bound xs (λ i. fits (suc (suc i))) in
     omega (arith, rest)
 
--- an even front and what stands behind it
+-- an even front and what follows it
 pub word_sum-split : (half n : ℕ) (xs : List ℕ) → n ≡ half + half → n ≤ length xs → word_sum xs ≡ word_sum (take n xs) + word_sum (drop n xs)
 word_sum-split half n xs even inside =
     ap word_sum (sym (take-append-drop n xs)) ∙ word_sum-append half (take n xs) (drop n xs) (length-take-le n xs inside ∙ even)
@@ -123,7 +123,7 @@ word_sum-without_field bytes long =
     let zero_word = word_sum-append 8 (take 16 bytes) (0 ∷ 0 ∷ drop 18 bytes) (length-take-le 16 bytes (omega arith)) in
     omega (arith, front, words, zero_word)
 
--- the field, by a number that is the sum over all bytes modulo 65535, less the field that stands there
+-- the field, by a number that is the sum over all bytes modulo 65535, less the field that is there
 pub field_is : (src dst bytes : List ℕ) (sum own : ℕ) → 20 ≤ length bytes → own < 65536
     → sum % 65535 ≡ (word_sum (pseudo_header src dst (length bytes)) + word_sum bytes) % 65535
     → own ≡ big_from 0 2 (take (length bytes - 16) (drop 16 bytes)) → completion (sum + 65535 - own) ≡ field src dst bytes
@@ -137,7 +137,7 @@ field_is src dst bytes sum own long low sum_is own_is =
     omega (arith, low, sum_is, own', pseudo, word_sum-without_field bytes (omega arith)) in
     ap (λ (n : ℕ). (65535 - n) % 65535) same
 
--- ---- of slices that lie one behind the other
+-- ---- of slices that lie one after the other
 
 pub word_sum_joined_even : (first second : List ℕ) → length first % 2 ≡ 0 → word_sum (first ++ second) ≡ word_sum first + word_sum second
 word_sum_joined_even first second even = word_sum-append (length first / 2) first second (omega arith)

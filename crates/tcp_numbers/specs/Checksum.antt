@@ -1,11 +1,11 @@
 -- The checksum of a segment (RFC 9293, 3.1).
 use Rattle.std.specs.Prelude.{◌≡◌, ℕ, ◌+◌, ◌-◌, ◌*◌, ◌/◌, ◌%◌, ◌<◌, ◌≢◌, List, [], ◌∷◌, ◌++◌, length, take, drop, slice_index}
 
--- the bytes of the fixed header
+-- the length in bytes of the fixed header
 abbrev pub header_len : ℕ
 header_len = 20
 
--- the bytes of the longest segment: what an IPv4 packet holds after its own header
+-- the length in bytes of the longest segment: what an IPv4 packet carries after its own header
 abbrev pub max_len : ℕ
 max_len = 65515
 
@@ -35,15 +35,15 @@ Checks src dst bytes = segment_sum src dst bytes % 65535 ≡ 0
 abbrev pub without_field : List ℕ → List ℕ
 without_field bytes = take 16 bytes ++ 0 ∷ 0 ∷ drop 18 bytes
 
--- the field that makes a segment check whose sum without it is this
+-- the field that makes a segment check, where this is its sum without the field
 abbrev pub completion : ℕ → ℕ
 completion sum = (65535 - sum % 65535) % 65535
 
--- the checksum field that makes the bytes check, their own field taken as zero
+-- the checksum field that makes the bytes check, with their own field taken as zero
 abbrev pub field : List ℕ → List ℕ → List ℕ → ℕ
 field src dst bytes = completion (segment_sum src dst (without_field bytes))
 
--- two segments are alike but for one byte
+-- two segments are equal but for one byte
 pub record DiffersInOnePlace (sent got : List ℕ) : Type 0 where
   pub front : List ℕ
   pub was : ℕ

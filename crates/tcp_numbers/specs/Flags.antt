@@ -1,31 +1,31 @@
 -- The control bits of a segment, each as its value in the byte of flags (RFC 9293, 3.1).
 use Rattle.std.specs.Prelude.{ℕ, ◌/◌, ◌%◌, ◌==◌, Bool}
 
--- no more text from the sender
+-- FIN: no more data from the sender
 abbrev pub fin : ℕ
 fin = 1
 
--- synchronize sequence numbers
+-- SYN: synchronize sequence numbers
 abbrev pub syn : ℕ
 syn = 2
 
--- reset the connection
+-- RST: reset the connection
 abbrev pub rst : ℕ
 rst = 4
 
--- push
+-- PSH: push function
 abbrev pub psh : ℕ
 psh = 8
 
--- the acknowledgement number counts
+-- ACK: the acknowledgement number is significant
 abbrev pub ack : ℕ
 ack = 16
 
--- the urgent pointer counts
+-- URG: the urgent pointer is significant
 abbrev pub urg : ℕ
 urg = 32
 
--- echo of a congestion mark (RFC 3168, 6.1)
+-- ECE: ECN echo (RFC 3168, 6.1)
 abbrev pub ece : ℕ
 ece = 64
 

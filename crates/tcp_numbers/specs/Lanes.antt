@@ -1,5 +1,5 @@
--- What two vectors of lanes of 16 bits hold, of which the one wraps: the sums of words' high halves with 256 times those of their low
--- halves, and the sums of the low halves alone.
+-- The content of two vectors of lanes of 16 bits, of which the first wraps: the sums of words' high halves with 256 times
+-- those of their low halves, and the sums of the low halves alone.
 use Rattle.std.specs.Prelude.{ℕ, ◌+◌, ◌*◌, ◌%◌, ◌≤◌, List, [], ◌∷◌}
 
 -- the sum of high halves in a lane: 256 times that of low ones is taken from it

@@ -1,4 +1,4 @@
--- What a reader can believe of `near` and `offset` apart from how they are computed (RFC 9293, 3.4).
+-- Laws of `near` and `offset`, apart from how they are computed (RFC 9293, 3.4).
 use Rattle.std.specs.Prelude.{◌≡◌, ℕ, ◌%◌, ◌^◌, ◌<◌, ℤ, pos, ◌+ℤ◌, ◌-ℤ◌, ◌*ℤ◌, ◌≤ℤ◌, ◌<ℤ◌}
 use Rattle.tcp_numbers.specs.Position.{near, offset}
 

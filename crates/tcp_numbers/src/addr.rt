@@ -1,6 +1,6 @@
 use std::fmt;
 
-/// An IPv4 address, its bytes in network order. It is displayed as four numbers joined by dots.
+/// An IPv4 address, its bytes in network order. `Display` writes four decimal numbers joined by dots.
 #[derive(Clone, Copy, Debug, Default, PartialEq, Eq, PartialOrd, Ord, Hash)]
 pub struct Addr(pub [u8; 4]);
 

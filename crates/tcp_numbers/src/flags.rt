@@ -4,27 +4,27 @@ ghost use Rattle.tcp_numbers.specs.Texts.{flag_table};
 
 use std::fmt;
 
-/// The control bits of a segment (RFC 9293, 3.1). The names of the set ones are displayed in the header's order, joined by
-/// commas, such as `ACK,SYN`, or `-` where none is set.
+/// The control bits of a segment (RFC 9293, 3.1). `Display` writes the names of the set ones in the header's order,
+/// joined by commas, such as `ACK,SYN`, or `-` where none is set.
 #[derive(Clone, Copy, Debug, Default, PartialEq, Eq, Hash)]
 pub struct Flags(pub u8);
 
 impl Flags {
-    /// Congestion window reduced.
+    /// Congestion window reduced (RFC 3168, 6.1).
     pub const CWR: Flags = Flags(128);
-    /// Echo of a congestion mark.
+    /// ECN echo (RFC 3168, 6.1).
     pub const ECE: Flags = Flags(64);
-    /// The urgent pointer counts.
+    /// The urgent pointer is significant.
     pub const URG: Flags = Flags(32);
-    /// The acknowledgement number counts.
+    /// The acknowledgement number is significant.
     pub const ACK: Flags = Flags(16);
-    /// Push.
+    /// Push function.
     pub const PSH: Flags = Flags(8);
     /// Reset the connection.
     pub const RST: Flags = Flags(4);
     /// Synchronize sequence numbers.
     pub const SYN: Flags = Flags(2);
-    /// No more text from the sender.
+    /// No more data from the sender.
     pub const FIN: Flags = Flags(1);
 
     /// Whether each bit of `bits` is set.
@@ -48,28 +48,28 @@ impl Flags {
         self.0 >> 7 & 1 == 1
     }
 
-    /// Whether a congestion mark is echoed (RFC 3168, 6.1).
+    /// Whether congestion is echoed (RFC 3168, 6.1).
     pub fn is_ece(self) -> bool
         ensures { result ≡ has ece self.0 }
     {
         self.0 >> 6 & 1 == 1
     }
 
-    /// Whether the urgent pointer counts.
+    /// Whether the urgent pointer is significant.
     pub fn is_urg(self) -> bool
         ensures { result ≡ has urg self.0 }
     {
         self.0 >> 5 & 1 == 1
     }
 
-    /// Whether the acknowledgement number counts.
+    /// Whether the acknowledgement number is significant.
     pub fn is_ack(self) -> bool
         ensures { result ≡ has ack self.0 }
     {
         self.0 >> 4 & 1 == 1
     }
 
-    /// Whether the text is to be pushed to the receiving user.
+    /// Whether the data has to be pushed to the receiving user.
     pub fn is_psh(self) -> bool
         ensures { result ≡ has psh self.0 }
     {
@@ -90,7 +90,7 @@ impl Flags {
         self.0 >> 1 & 1 == 1
     }
 
-    /// Whether the sender has no more text.
+    /// Whether the sender has no more data.
     pub fn is_fin(self) -> bool
         ensures { result ≡ has fin self.0 }
     {

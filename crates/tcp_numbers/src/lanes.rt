@@ -1,20 +1,21 @@
-//! Sums of words over lanes, a word in each lane of 16 bits: 32 bytes at a time of what is long, 16 of what is short.
+//! Sums of words over lanes, a word in each lane of 16 bits: 32 bytes at a time of a long input, 16 of a short one.
 ghost use Rattle.std.specs.Prelude.{◌≡◌, ◌+◌, ◌≤◌, ◌<◌, ℕ, length, take};
 ghost use Rattle.tcp_numbers.specs.Checksum.{word_sum};
 ghost use Rattle.tcp_numbers.specs.Lanes.{held, AtMost};
 
 use std::simd::prelude::*;
 
-/// The bytes of a load over sixteen lanes, and over eight.
+/// The length in bytes of a load over sixteen lanes, and below that over eight.
 const LOAD: usize = 32;
 
 const SHORT_LOAD: usize = 16;
 
-/// The bytes that sixteen lanes can take: 256 loads of at most 255 in each half of a word.
+/// The most bytes that sixteen lanes can sum: 256 loads of at most 255 in each half of a word.
 const BLOCK: usize = 8192;
 
-/// Adds 32 bytes. A lane is read with its lowest byte first, so that its low byte is the high half of a word. The sums of the lanes
-/// wrap; the sums of the low halves don't, and 256 times those taken from the lanes leave the sums of the high ones.
+/// Adds 32 bytes. A lane is read with its lowest byte first, so that its low byte is the high half of a word. The sums
+/// of the lanes wrap; the sums of the low halves don't, and 256 times those taken from the lanes leave the sums of the
+/// high ones.
 #[inline(always)]
 fn add_load(mixed: u16x16, lows: u16x16, bytes: &[u8]) -> (u16x16, u16x16)
     requires room { 32 ≤ length bytes.now }
@@ -26,7 +27,7 @@ fn add_load(mixed: u16x16, lows: u16x16, bytes: &[u8]) -> (u16x16, u16x16)
     (mixed + lanes, lows + (lanes >> u16x16::splat(8)))
 }
 
-/// Adds 16 bytes so.
+/// Adds 16 bytes to eight lanes, as `add_load` adds 32 to sixteen.
 #[inline(always)]
 fn add_short_load(mixed: u16x8, lows: u16x8, bytes: &[u8]) -> (u16x8, u16x8)
     requires room { 16 ≤ length bytes.now }
@@ -38,7 +39,7 @@ fn add_short_load(mixed: u16x8, lows: u16x8, bytes: &[u8]) -> (u16x8, u16x8)
     (mixed + lanes, lows + (lanes >> u16x8::splat(8)))
 }
 
-/// The words that sixteen lanes hold.
+/// The sum of the words in sixteen lanes.
 #[inline(always)]
 fn weigh(mixed: u16x16, lows: u16x16) -> u32
     ensures { result ≡ held mixed lows }
@@ -48,7 +49,7 @@ fn weigh(mixed: u16x16, lows: u16x16) -> u32
     words.reduce_sum()
 }
 
-/// The words that eight lanes hold.
+/// The sum of the words in eight lanes.
 #[inline(always)]
 fn weigh_short(mixed: u16x8, lows: u16x8) -> u32
     ensures { result ≡ held mixed lows }
@@ -58,7 +59,7 @@ fn weigh_short(mixed: u16x8, lows: u16x8) -> u32
     words.reduce_sum()
 }
 
-/// The sum of the words in front of few bytes, as many loads as there are, and the bytes behind them.
+/// The sum of the words of as many whole loads as there are in a short input, and the bytes after them.
 #[inline(always)]
 pub(crate) fn short_lane_sum(bytes: &[u8]) -> (u32, &[u8])
     requires { length bytes.now < 4096 }
@@ -75,7 +76,7 @@ pub(crate) fn short_lane_sum(bytes: &[u8]) -> (u32, &[u8])
     (weigh_short(mixed, lows), rest)
 }
 
-/// The sum of the words in front, as many loads as there are and lanes can take, and the bytes behind them.
+/// The sum of the words of as many whole loads as there are and the lanes can sum, and the bytes after them.
 #[inline(always)]
 pub(crate) fn lane_sum(bytes: &[u8]) -> (u32, &[u8])
     requires { 32 ≤ length bytes.now }

@@ -1,12 +1,14 @@
 //! The numbers of TCP (RFC 9293, 3.1 and 3.4), below the segments that carry them.
 //!
-//! - [`Seq`]: a sequence number, with the arithmetic and the order modulo 2^32; `position` leads back to a place in a stream.
+//! - [`Seq`]: a sequence number, with the arithmetic and the order modulo 2^32; `position` gives the position in a
+//!   stream.
 //! - [`Addr`] and [`Flags`]: an IPv4 address, and the eight control bits with their names.
-//! - [`word_sum`], [`checksum`] and [`checks`]: the sum of the words over lanes, and the field that makes a segment check;
-//!   [`checksum_in_parts`] where it lies in parts, [`partial_checksum`] for a device that sums it.
+//! - [`word_sum`], [`checksum`] and [`checks`]: the sum of the words over lanes, and the field that makes a segment
+//!   check. [`checksum_in_parts`] is for a segment in parts, [`partial_checksum`] for a device that computes the
+//!   checksum.
 //! - [`laws`]: the position near another is the only one with its number; offsets depend on numbers alone.
 //!
-//! It knows no form of a segment: that is `tcp_wire`'s, which passes all of this on.
+//! It knows no form of a segment: that is `tcp_wire`'s, which exports all of this again.
 #![tactic(auto)]
 
 mod addr;

@@ -1,4 +1,4 @@
-//! The sum of a segment that lies in parts, and the part of it that is left to a device.
+//! The checksum of a segment in parts, and the partial sum that a device completes.
 ghost use Rattle.std.specs.Prelude.{◌≡◌, ◌+◌, ◌*◌, ◌%◌, ◌<◌, ◌≤◌, ◌++◌, length};
 ghost use Rattle.tcp_numbers.specs.Checksum.{completion, max_len, segment_sum, word_sum};
 ghost use Rattle.tcp_numbers.specs.Partial.{partial_field};
@@ -6,7 +6,7 @@ ghost use Rattle.tcp_numbers.specs.Partial.{partial_field};
 use crate::addr::Addr;
 use crate::sums::{pseudo_sum, word_sum};
 
-/// The sum of the words of two slices, one behind the other.
+/// The sum of the words of two slices, one after the other.
 #[tactic(auto, using(crate::proofs::WordSums::word_sum_joined_even, crate::proofs::WordSums::word_sum_joined_none, crate::proofs::WordSums::word_sum_joined_odd))]
 fn joined_sum(first: &[u8], second: &[u8]) -> u32
     requires { length first.now + length second.now ≤ max_len }
@@ -16,14 +16,14 @@ fn joined_sum(first: &[u8], second: &[u8]) -> u32
     if first.len() % 2 == 0 || second.is_empty() {
         return word_sum(first) + word_sum(second);
     }
-    // A word lies over the end of the first.
+    // A word lies across the end of the first.
     let last = first.len() - 1;
     let over = 256 * u32::from(first[last]) + u32::from(second[0]);
     word_sum(&first[..last]) + over + word_sum(&second[1..])
 }
 
-/// The checksum field of a segment that lies in three parts, one behind the other, and whose own field is zero (RFC 9293, 3.1).
-/// The front has a whole number of words.
+/// The checksum field of a segment in three parts, one after the other, whose own field is zero (RFC 9293, 3.1). The
+/// length of the front is even.
 pub fn checksum_in_parts(src: Addr, dst: Addr, front: &[u8], first: &[u8], second: &[u8]) -> u16
     requires words { length front.now % 2 ≡ 0 }
     requires most { length front.now + (length first.now + length second.now) ≤ max_len }
@@ -34,8 +34,8 @@ pub fn checksum_in_parts(src: Addr, dst: Addr, front: &[u8], first: &[u8], secon
     ((65535 - sum % 65535) % 65535) as u16
 }
 
-/// The ones' complement sum over the pseudo-header of a segment of so many bytes, which a device that sums the segment finds in its
-/// checksum field (RFC 9293, 3.1; RFC 1071, 2). It is never 0.
+/// The ones' complement sum of the pseudo-header of a segment of `len` bytes. A device that computes the checksum finds
+/// it in the checksum field (RFC 9293, 3.1; RFC 1071, 2). It is never 0.
 pub fn partial_checksum(src: Addr, dst: Addr, len: usize) -> u16
     requires { len ≤ max_len }
     ensures value { result ≡ partial_field src.0 dst.0 len }

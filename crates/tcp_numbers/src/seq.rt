@@ -6,21 +6,21 @@ ghost use Rattle.tcp_numbers.specs.Position.{distance, is_before, position_of};
 pub struct Seq(pub u32);
 
 impl Seq {
-    /// The number `count` places after this one, modulo 2^32.
+    /// The number `count` after this one, modulo 2^32.
     pub fn plus(self, count: u32) -> Seq
         ensures { result.0 ≡ (self.0 + count) % 2 ^ 32 }
     {
         Seq(self.0.wrapping_add(count))
     }
 
-    /// How far this number lies ahead of `other`, modulo 2^32.
+    /// How far this number is ahead of `other`, modulo 2^32.
     pub fn minus(self, other: Seq) -> u32
         ensures { result ≡ distance other.0 self.0 }
     {
         self.0.wrapping_sub(other.0)
     }
 
-    /// Whether `other` lies 1 to 2^31 - 1 ahead of this number.
+    /// Whether `other` is 1 to 2^31 - 1 ahead of this number.
     pub fn before(self, other: Seq) -> bool
         ensures { result ≡ is_before self.0 other.0 }
     {
@@ -35,8 +35,8 @@ impl Seq {
         self.minus(next) < size
     }
 
-    /// The position that this number means in a direction with the initial number `initial`: the nearest to `expected`, from
-    /// 2^31 behind it up to 2^31 - 1 ahead, and 0 where that lies before the first (RFC 9293, 3.4).
+    /// The position that this number is read as in a direction with the initial number `initial` (RFC 9293, 3.4). It is
+    /// the nearest to `expected`, from 2^31 behind it up to 2^31 - 1 ahead, and 0 where that is before the first.
     #[tactic(auto, using(crate::proofs::Positions::position_of_ahead, crate::proofs::Positions::position_of_behind))]
     pub fn position(self, initial: Seq, expected: u64) -> u64
         requires { expected < 2 ^ 63 }

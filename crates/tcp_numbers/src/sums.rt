@@ -6,10 +6,10 @@ use crate::addr::Addr;
 use crate::lanes::{lane_sum, short_lane_sum};
 use byteorder::{BigEndian, ByteOrder};
 
-/// Fewer bytes than this are summed over eight lanes: more lanes take longer to be put together at the end.
+/// Inputs of fewer bytes than this are summed over eight lanes: more lanes take longer to combine at the end.
 const LONG: usize = 256;
 
-/// The sum of four words in front, where there are as many, and the bytes behind them.
+/// The sum of the first four words, where there are as many, and the bytes after them.
 #[inline(always)]
 #[tactic(auto, using(crate::proofs::WordSums::word_sum_four))]
 fn sum_eight(bytes: &[u8]) -> (u32, &[u8])
@@ -27,7 +27,7 @@ fn sum_eight(bytes: &[u8]) -> (u32, &[u8])
     ((outer + inner) as u32, &bytes[8..])
 }
 
-/// The sum of two words in front, where there are as many, and the bytes behind them.
+/// The sum of the first two words, where there are as many, and the bytes after them.
 #[inline(always)]
 #[tactic(auto, using(crate::proofs::WordSums::word_sum_two))]
 fn sum_four(bytes: &[u8]) -> (u32, &[u8])
@@ -43,7 +43,7 @@ fn sum_four(bytes: &[u8]) -> (u32, &[u8])
     (two / (1 << 16) + two % (1 << 16), &bytes[4..])
 }
 
-/// The sum of a word in front, where there is one, and the bytes behind it.
+/// The sum of the first word, where there is one, and the bytes after it.
 #[inline(always)]
 #[tactic(auto, using(crate::proofs::WordSums::word_sum_more))]
 fn sum_two(bytes: &[u8]) -> (u32, &[u8])
@@ -58,7 +58,7 @@ fn sum_two(bytes: &[u8]) -> (u32, &[u8])
     (u32::from(BigEndian::read_u16(bytes)), &bytes[2..])
 }
 
-/// The sum of the words of few bytes.
+/// The sum of the words of a short input.
 #[inline(always)]
 fn short_sum(bytes: &[u8]) -> u32
     requires { length bytes.now < 4096 }
@@ -75,7 +75,7 @@ fn short_sum(bytes: &[u8]) -> u32
     sum
 }
 
-/// The sum of the words of many bytes. Not inlined, so that short segments don't pay for it.
+/// The sum of the words of a long input. Not inlined, so that short segments don't pay for it.
 #[inline(never)]
 fn long_sum(bytes: &[u8]) -> u32
     requires { length bytes.now ≤ max_len }
@@ -91,8 +91,8 @@ fn long_sum(bytes: &[u8]) -> u32
     sum + short_sum(rest)
 }
 
-/// The whole-number sum of the 16-bit words in network order, an odd last byte being a high half. There are at most
-/// 65515 bytes, and no bytes give 0.
+/// The whole-number sum of the 16-bit words in network order, where an odd last byte is a high half (RFC 9293, 3.1).
+/// There are at most 65515 bytes, and no bytes give 0.
 #[inline(always)]
 pub fn word_sum(bytes: &[u8]) -> u32
     requires { length bytes.now ≤ max_len }
@@ -115,7 +115,7 @@ fn addr_sum(addr: Addr) -> u32
     u32::from(BigEndian::read_u16(&addr.0)) + u32::from(BigEndian::read_u16(&addr.0[2..]))
 }
 
-/// The sum over the pseudo-header: addresses, the protocol's number 6, and the segment's length.
+/// The sum of the pseudo-header: addresses, the protocol's number 6, and the segment's length (RFC 9293, 3.1).
 #[tactic(auto, using(crate::proofs::WordSums::pseudo_parts))]
 pub(crate) fn pseudo_sum(src: Addr, dst: Addr, len: usize) -> u32
     requires { len ≤ max_len }
@@ -126,7 +126,7 @@ pub(crate) fn pseudo_sum(src: Addr, dst: Addr, len: usize) -> u32
     addr_sum(src) + addr_sum(dst) + 6 + len as u32
 }
 
-/// The checksum field that makes `bytes` check, their own field taken as zero (RFC 9293, 3.1).
+/// The checksum field that makes `bytes` check, with their own field taken as zero (RFC 9293, 3.1).
 pub fn checksum(src: Addr, dst: Addr, bytes: &[u8]) -> u16
     requires least { header_len ≤ length bytes.now }
     requires most { length bytes.now ≤ max_len }
@@ -137,12 +137,12 @@ pub fn checksum(src: Addr, dst: Addr, bytes: &[u8]) -> u16
     ((65535 - sum % 65535) % 65535) as u16
 }
 
-/// Whether the sum over pseudo-header and segment is a multiple of 65535 (RFC 9293, 3.1).
+/// Whether the sum of pseudo-header and segment is a multiple of 65535 (RFC 9293, 3.1).
 pub fn checks(src: Addr, dst: Addr, bytes: &[u8]) -> bool
     requires least { header_len ≤ length bytes.now }
     requires most { length bytes.now ≤ max_len }
     ensures exact { IsTrue result ↔ Checks src.0 dst.0 bytes.now }
-    // One changed byte never checks.
+    // A segment with one changed byte never checks.
     ensures one_place { IsTrue result → (other : List ℕ) → DiffersInOnePlace bytes.now other → ¬ Checks src.0 dst.0 other }
 {
     (word_sum(bytes) + pseudo_sum(src, dst, bytes.len())) % 65535 == 0

@@ -1,5 +1,5 @@
--- What is held stays in agreement with the peer's stream, call by call: the layer above needs no more of a
--- reassembly than this to hand its user a beginning of the stream.
+-- What is kept out of order agrees with the peer's stream, call by call. The layer above needs no more of a reassembly to
+-- deliver a prefix of the stream to its user.
 use Rattle.std.proofs.Common.{◌≡◌, ℕ, zero, suc, ◌≤◌, List, [], ◌∷◌, ◌++◌, length, take, drop, refl, sym, ◌∙◌, ap, arith, length-drop, append-nil}
 use lib.Seq.{drop-nil}
 use Rattle.std.specs.Prelude.{ℤ, pos, negsuc, true, false, min, replicate, Option, Some, None, if◌then◌else◌}
@@ -7,7 +7,7 @@ use Rattle.tcp_reasm.specs.declared.placed.Placed.TheVariants.{NotKept}
 use Rattle.tcp_reasm.specs.Reassembly.{Cell, Inbox, Run, piece, empty_inbox, without_held, window, overlay, bytes_in_order, with_ranks, with_ranks_from, runs, is_refused, overlay_of, with_overlay, greatest_stamp, answer_for, after_place, place_answer, after_read}
 use Rattle.tcp_reasm.specs.Agreement.{Agrees, LiesAt, advance_of, Advances}
 
--- places that are not held agree with anything
+-- offsets without a byte agree with anything
 pub Agrees-replicate : (n : ℕ) (rest : List ℕ) → Agrees (replicate n None) rest
 Agrees-replicate zero rest = tt
 Agrees-replicate (suc n) [] = Agrees-replicate n []
@@ -20,7 +20,7 @@ Agrees-append (None ∷ places) n (byte ∷ rest) h = Agrees-append places n res
 Agrees-append (Some cell ∷ places) n [] h = h
 Agrees-append (Some cell ∷ places) n (byte ∷ rest) h = (h.0, Agrees-append places n rest h.1)
 
--- stamps are not spoken of
+-- stamps don't matter
 with_ranks_from-agrees : (all : List Run) (place : ℕ) (held : List (Option Cell)) (rest : List ℕ) → Agrees held rest → Agrees (with_ranks_from all place held) rest
 with_ranks_from-agrees all place [] rest h = tt
 with_ranks_from-agrees all place (None ∷ places) [] h = with_ranks_from-agrees all (suc place) places [] h
@@ -45,7 +45,7 @@ overlay-agrees (suc start) text stamp (None ∷ places) (b ∷ rest) h lies = ov
 overlay-agrees (suc start) text stamp (Some cell ∷ places) [] h lies = h
 overlay-agrees (suc start) text stamp (Some cell ∷ places) (b ∷ rest) h lies = (h.0, overlay-agrees start text stamp places rest h.1 lies)
 
--- what is in order is the stream's beginning, and what is held behind it agrees with the rest
+-- what is in order is the stream's beginning, and what is kept after it agrees with the rest
 record InOrder (over : List (Option Cell)) (rest : List ℕ) (count : ℕ) : Type 0 where
   within : count ≤ length rest
   front : bytes_in_order over ≡ take count rest
@@ -97,7 +97,7 @@ pub after_read-agrees : (q : Inbox) (n : ℕ) (rest : List ℕ) → Agrees q.hel
 unfolding after_read
 after_read-agrees q n rest h = Agrees-append q.held (min n (length q.unread)) rest h
 
--- giving up what is held
+-- discarding what is out of order
 pub without_held-agrees : (q : Inbox) (rest : List ℕ) → Agrees (without_held q).held rest
 without_held-agrees q rest = Agrees-replicate (window q) rest
 

@@ -1,4 +1,4 @@
--- There are as many runs as held places with none held before them.
+-- There are as many runs as kept bytes with none kept right before them.
 use Rattle.std.proofs.Common.{◌≡◌, ℕ, zero, suc, ◌+◌, ◌≤◌, List, [], ◌∷◌, length, drop, refl, sym, ◌∙◌, ap, arith}
 use Rattle.std.specs.Prelude.{Bool, true, false, not, max, Option, Some, None, is_some, ◌==◌, ◌&&◌, if◌then◌else◌}
 use Rattle.std.proofs.lemmas.Bool.Decides.{nat_tests}
@@ -51,7 +51,7 @@ later-begins_not : (place : ℕ) (others : List Run) → BeginFrom (suc place) o
 later-begins_not place [] h = refl
 later-begins_not place (run ∷ others) h = eq_above run.from place h
 
--- the first run begins at the first place exactly where that is held
+-- the first run begins at the first place exactly where that has a byte
 pub begins_at-runs_from : (place : ℕ) (places : List (Option Cell)) → begins_at place (runs_from place places) ≡ is_held_first places
 begins_at-runs_from place [] = refl
 begins_at-runs_from place (None ∷ places) = later-begins_not place (runs_from (suc place) places) (runs_from-from (suc place) places)
@@ -83,7 +83,7 @@ beginnings-step before None places = omega arith
 beginnings-step true (Some cell) places = omega arith
 beginnings-step false (Some cell) places = omega arith
 
--- what is left from a place on has no more runs
+-- from a later place on there are no more runs
 beginnings-weaken : (places : List (Option Cell)) → beginnings true places ≤ beginnings false places
 beginnings-weaken [] = omega arith
 beginnings-weaken (None ∷ places) = omega arith

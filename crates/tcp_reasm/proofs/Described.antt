@@ -1,5 +1,5 @@
--- What a table says of places: runs that don't touch, with strictly falling stamps, each of which is the greatest
--- stamp in its run, are the runs of the places, the newest first, and their order gives the ranks.
+-- The places of a table: runs that don't touch, with strictly falling stamps, each the greatest stamp in its run, are the
+-- runs of the places. They are newest first, and their order gives the ranks.
 use Rattle.std.proofs.Common.{◌≡◌, ℕ, zero, suc, ◌+◌, ◌-◌, ◌<◌, ◌≤◌, ◌⊎◌, inl, inr, List, [], ◌∷◌, length, refl, sym, ◌∙◌, ap, subst, arith}
 use Rattle.std.specs.Prelude.{true, nat_lt, nat_le, ◌&&◌, if◌then◌else◌, Option, Some, None, is_some}
 use Rattle.std.specs.List.{AllByRecursion}

@@ -1,4 +1,4 @@
--- How far what is held reaches from a place of a text on, and how far the gap behind it reaches.
+-- How far what is kept reaches from a place of a text on, and how far the gap after it reaches.
 use Rattle.std.proofs.Common.{◌≡◌, ℕ, ◌<◌, ◌≤◌, inl, inr, List, [], ◌∷◌, refl, sym, subst, arith}
 use Rattle.std.specs.Prelude.{true, false, min, if◌then◌else◌}
 use Rattle.std.proofs.lemmas.Bool.{cases_lt}

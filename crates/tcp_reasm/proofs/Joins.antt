@@ -330,7 +330,7 @@ top_moved stamps count run low top =
       newest = (top.newest.0 - count, omega (arith, top.newest.1), omega (arith, top.newest.1, top.newest.2), ap stamps same ∙ top.newest.3);
     }
 
--- runs behind one that begins at the first place
+-- runs after one that begins at the first place
 pub after_first : (union : Run) (rest : List Run) (count : ℕ) → union.from ≡ 0 → union.to ≡ count → AllByRecursion (Away union) rest → AllByRecursion (λ (run : Run). count < run.from) rest
 after_first union rest count from to away =
     all_map (Away union) (λ run. count < run.from) rest (λ run h. elim h [ inl k ↦ omega arith | inr k ↦ absurd (omega arith) ]) away
@@ -406,9 +406,9 @@ ranked_moved start end n m count all =
     ∙ ap (map (moved count)) (ranked_rest start end n m all)
     ∙ sym (ranked_map count (rest_of (piece_of start end m) all))
 
--- ---- what always holds of a table
+-- ---- the invariant of a table
 
--- the places of a table that stands as it always does
+-- the places of a table under its invariant
 pub kept_described : (size : ℕ) (all : List Run) → AllByRecursion (IsInside size) all → AreAway all → Described (stamp_of_run (ranked all)) size (ranked all)
 kept_described size all inside away =
     let before = ranked all in
@@ -445,7 +445,7 @@ joined_inside window piece all own inside =
 pub joined_are_away : (window : ℕ) (piece : Run) (all : List Run) → AllByRecursion (IsInside window) all → AreAway all → AreAway (union_of piece piece all ∷ rest_of piece all)
 joined_are_away window piece all inside away = (joined_away window piece all inside away, away_rest piece all away)
 
--- the rest behind a piece that begins at the next byte
+-- the rest after a piece that begins at the next byte
 rest_after : (window : ℕ) (piece : Run) (all : List Run) → piece.from ≡ 0 → AllByRecursion (IsInside window) all → AreAway all → AllByRecursion (λ (run : Run). (union_of piece piece all).to < run.from) (rest_of piece all)
 rest_after window piece all from inside away =
     after_first (union_of piece piece all) (rest_of piece all) (union_of piece piece all).to (omega (arith, (union_wraps piece piece all).0)) refl (joined_away window piece all inside away)

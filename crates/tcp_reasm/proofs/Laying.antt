@@ -128,7 +128,7 @@ greatest_cells (run ∷ others) bytes h =
     let least : stamps run.from ≤ greatest_stamp (cells stamps 0 bytes) = greatest_least stamps 0 run.from run.from bytes (omega arith) (omega (arith, h.0.1, h.0.2)) in
     omega (arith, greatest_most stamps (suc (length others)) 0 bytes (λ i. ranked_most (run ∷ others) i), first, least)
 
--- ---- nothing held
+-- ---- nothing kept
 
 pub cells_none : (stamps : ℕ → ℕ) (place : ℕ) (bytes : List ℕ) → ((i : ℕ) → place ≤ i → stamps i ≡ 0) → cells stamps place bytes ≡ replicate (length bytes) None
 cells_none stamps place [] none = refl
@@ -141,7 +141,7 @@ cells_append stamps place from [] others e = let same : place ≡ from = omega a
 cells_append stamps place from (byte ∷ bytes) others e =
     ap (λ (rest : List (Option Cell)). cell_of (stamps place) byte ∷ rest) (cells_append stamps (suc place) from bytes others (omega arith))
 
--- beyond the window nothing is held
+-- beyond the window nothing is kept
 none_beyond : (window i : ℕ) (all : List Run) → AllByRecursion (IsInside window) all → window ≤ i → SomeCovers all i → ⊥
 none_beyond window i [] h beyond c = c
 none_beyond window i (run ∷ others) h beyond (inl c) = omega (arith, h.0.2, c.1)

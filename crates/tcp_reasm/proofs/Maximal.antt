@@ -1,4 +1,4 @@
--- The runs are the maximal intervals of held places.
+-- The runs are the maximal intervals of kept bytes.
 use Rattle.std.proofs.Common.{◌≡◌, ℕ, zero, suc, ◌+◌, ◌<◌, ◌≤◌, ◌≢◌, ◌⊎◌, inl, inr, List, [], ◌∷◌, refl, sym, ◌∙◌, ap, arith}
 use Rattle.std.specs.Prelude.{Bool, true, false, max, Option, Some, None, is_some, ◌==◌, if◌then◌else◌}
 use Rattle.std.specs.List.{AllByRecursion}
@@ -8,7 +8,7 @@ use Rattle.tcp_reasm.specs.Reassembly.{Cell, Run, runs, runs_from, with_place, s
 use Rattle.tcp_reasm.specs.Laws.{cell_at, IsMaximal, SomeCovers, StandApart, RunsAreMaximal, RunsCover, RunsStandApart}
 use Rattle.tcp_reasm.proofs.Beginnings.{begins_at, is_held_first, begins_at-runs_from}
 
--- what is held at a place, of places that begin at another
+-- the cell at a place, of places that begin at another
 abbrev cell_from : ℕ → List (Option Cell) → ℕ → Option Cell
 cell_from first [] place = None
 cell_from first (cell ∷ places) place = if place == first then cell else cell_from (suc first) places place
@@ -86,7 +86,7 @@ record Maximal (first : ℕ) (places : List (Option Cell)) (run : Run) : Type 0 
 begins_from : (first : ℕ) (places : List (Option Cell)) (run : Run) → Maximal first places run → first ≤ run.from
 begins_from first places run m = held_from first places run.from (m.inside run.from (omega arith) m.some)
 
--- a run behind the first place is as maximal with that place before it, where that place isn't held or doesn't touch
+-- a run after the first place is as maximal with that place before it, where that place has no byte or doesn't touch
 goes_on : (first : ℕ) (cell : Option Cell) (places : List (Option Cell)) (run : Run) → Maximal (suc first) places run → ((is_some cell ≡ true) → suc first < run.from) → Maximal first (cell ∷ places) run
 goes_on first cell places run m apart =
     let from : suc first ≤ run.from = begins_from (suc first) places run m in
@@ -128,7 +128,7 @@ newest_joined first cell places run m next =
       )
     ]
 
--- the first place joined to the run that begins right behind it
+-- the first place joined to the run that begins right after it
 joined : (first : ℕ) (cell : Cell) (places : List (Option Cell)) (run : Run) → Maximal (suc first) places run → run.from ≡ suc first → Maximal first (Some cell ∷ places) (record { from = first; to = run.to; stamp = max cell.stamp run.stamp })
 joined first cell places run m next = record {
   some = omega (arith, m.some);
@@ -147,7 +147,7 @@ joined first cell places run m next = record {
   newest = newest_joined first cell places run m next;
 }
 
--- runs that stand apart, each maximal
+-- runs that don't touch, each maximal
 record Listed (first : ℕ) (places : List (Option Cell)) (all : List Run) : Type 0 where
   maximal : AllByRecursion (Maximal first places) all
   apart : StandApart all
@@ -217,7 +217,7 @@ runs_are_maximal_lem held = maximal_at held (runs held) (listed 0 held).maximal
 pub runs_stand_apart_lem : RunsStandApart
 runs_stand_apart_lem held = (listed 0 held).apart
 
--- each held place lies in a run
+-- each kept byte is in a run
 covers_choice : (first : ℕ) (cell : Cell) (run : Run) (others : List Run) (place : ℕ) (b : Bool) → (run.from == suc first) ≡ b → run.from < run.to → (place ≡ first) ⊎ SomeCovers (run ∷ others) place → SomeCovers (if b then record { from = first; to = run.to; stamp = max cell.stamp run.stamp } ∷ others else record { from = first; to = suc first; stamp = cell.stamp } ∷ run ∷ others) place
 covers_choice first cell run others place true e some (inl same) =
     let next : run.from ≡ suc first = eq_from run.from (suc first) e in

@@ -1,4 +1,5 @@
--- What placing does, place by place: bytes that are there stay, those of the piece come, and other places are as they were.
+-- The effect of placing, place by place: bytes that are there stay, those of the piece come, and other places are as they
+-- were.
 use Rattle.std.proofs.Common.{◌≡◌, ◌≢◌, ◌⊎◌, ℕ, zero, suc, ◌+◌, ◌-◌, ◌<◌, ◌≤◌, List, [], ◌∷◌, ◌++◌, length, get_or, drop, refl, sym, ◌∙◌, ap, inl, inr, arith, append_assoc}
 use Rattle.std.specs.Prelude.{ℤ, true, false, map, slice_get, Option, Some, None, if◌then◌else◌}
 use Rattle.std.proofs.lemmas.Bool.{cases_lt}
@@ -27,7 +28,7 @@ bytes_of-with_ranks : (held : List (Option Cell)) → held_bytes (with_ranks hel
 unfolding with_ranks
 bytes_of-with_ranks held = bytes_of-with_ranks_from (runs held) 0 held
 
--- what is in order, and what is behind it
+-- what is in order, and what is after it
 bytes_split : (over : List (Option Cell)) → read_bytes (bytes_in_order over) ++ held_bytes (drop (length (bytes_in_order over)) over) ≡ held_bytes over
 bytes_split [] = refl
 bytes_split (None ∷ places) = refl
@@ -73,7 +74,7 @@ overlay_leaves (suc start) text stamp (place ∷ places) zero outside = refl
 overlay_leaves (suc start) text stamp (place ∷ places) (suc k) (inl before) = overlay_leaves start text stamp places k (inl (omega arith))
 overlay_leaves (suc start) text stamp (place ∷ places) (suc k) (inr behind) = overlay_leaves start text stamp places k (inr (omega arith))
 
--- ---- behind the unread bytes
+-- ---- after the unread bytes
 
 length-read_bytes : (bytes : List ℕ) → length (read_bytes bytes) ≡ length bytes
 length-read_bytes bytes = length-map bytes (λ (byte : ℕ). Some byte)

@@ -1,4 +1,4 @@
--- Renumbered stamps change no block: only the order of stamps is ever seen.
+-- Renumbered stamps change no block: only the order of stamps matters.
 use Rattle.std.proofs.Common.{◌≡◌, ℕ, zero, suc, ◌+◌, ◌<◌, ◌≤◌, inl, inr, List, [], ◌∷◌, refl, sym, ◌∙◌, ap, subst, arith}
 use Rattle.std.specs.Prelude.{Bool, true, false, max, take, map, nat_lt, nat_le, ◌==◌, if◌then◌else◌, Option, Some, None, IsSome}
 use Rattle.std.specs.List.{AllByRecursion}
@@ -10,7 +10,7 @@ use Rattle.tcp_reasm.proofs.Maximal.{runs_are_maximal_lem, runs_cover_lem}
 use Rattle.tcp_reasm.proofs.Sorting.{count_cons, Among, all_among}
 use Rattle.tcp_reasm.proofs.Described.{covering, stamp_maximal}
 
--- ---- a run with the rank of the run that its first place lies in
+-- ---- a run with the rank of the run that its first place is in
 
 abbrev first_rank : List Run → Run → Run
 first_rank all run = record run { stamp = rank_in all (stamp_of_run all run.from) }
@@ -38,7 +38,7 @@ begins_from place [] = tt
 begins_from place (None ∷ rest) = begins_weaken place (runs_from (suc place) rest) (begins_from (suc place) rest)
 begins_from place (Some cell ∷ rest) = begins_with_place place cell.stamp (runs_from (suc place) rest)
 
--- where the first of some runs begins right after a place, both lie in one run of all
+-- where the first of some runs begins right after a place, both are in one run of all
 abbrev Joins : List Run → ℕ → List Run → Type 0
 Joins all place [] = Unit {0}
 Joins all place (run ∷ others) = run.from ≡ suc place → stamp_of_run all place ≡ stamp_of_run all (suc place)
@@ -69,7 +69,7 @@ ranked_place : (all : List Run) (place stamp rank : ℕ) (some : List Run) → r
 ranked_place all place stamp rank [] e joins = ap (λ (n : ℕ). record { from = place; to = suc place; stamp = n } ∷ []) e
 ranked_place all place stamp rank (run ∷ others) e joins = ranked_choice all place stamp rank run others (run.from == suc place) refl e joins
 
--- each held place lies in one run with the held place right after it
+-- each kept byte is in one run with the kept byte right after it
 abbrev AreEven : List Run → ℕ → List (Option Cell) → Type 0
 AreEven all place [] = Unit {0}
 AreEven all place (None ∷ rest) = AreEven all (suc place) rest
@@ -83,7 +83,7 @@ ranked_runs all place (Some cell ∷ rest) even =
     ap (with_place place (rank_in all (stamp_of_run all place))) (ranked_runs all (suc place) rest even.1)
     ∙ ranked_place all place cell.stamp (rank_in all (stamp_of_run all place)) (runs_from (suc place) rest) refl even.0
 
--- ---- two held places, one right after the other, lie in one run
+-- ---- two kept bytes, one right after the other, are in one run
 
 below_end : (i to : ℕ) → i < to → (suc i ≡ to → ⊥) → suc i < to
 below_end i to h ne = omega arith

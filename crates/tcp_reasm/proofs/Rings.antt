@@ -52,7 +52,7 @@ put_append zero (suc room) [] (byte ∷ bytes) others e = ap (λ rest. byte ∷ 
 put_append zero (suc room) (new ∷ text) (byte ∷ bytes) others e = ap (λ rest. new ∷ rest) (put_append zero room text bytes others (omega arith))
 put_append (suc start) room text (byte ∷ bytes) others e = ap (λ rest. byte ∷ rest) (put_append start room text bytes others (omega arith))
 
--- behind a list
+-- after a list
 pub put_after : (start at : ℕ) (text bytes others : List ℕ) → length bytes + at ≡ start → put start text (bytes ++ others) ≡ bytes ++ put at text others
 put_after start at text [] others e = let same : start ≡ at = omega arith in ap (λ n. put n text others) same
 put_after zero at text (byte ∷ bytes) others e = absurd (omega arith)
@@ -122,7 +122,7 @@ turned_put_split start place room text block middle after e starts fits m a =
     ∙ ap (λ (front : List ℕ). put place (take room text) (drop start block) ++ put 0 (drop room text) front) (take_put start (start + place) (take room text) block (omega arith))
     ∙ sym (put_append place room text (drop start block) (take start block) (omega (arith, length-drop start block)))
 
--- a text that begins behind the block's end
+-- a text that begins after the block's end
 pub turned_put_after : (start place at : ℕ) (text block after : List ℕ) → (length block - start) + at ≡ place → start ≤ length block → place + length text ≤ length block →
     after ≡ put at text block → turned start after ≡ put place text (turned start block)
 turned_put_after start place at text block after e starts fits a =
@@ -134,7 +134,7 @@ turned_put_after start place at text block after e starts fits a =
 
 -- ---- laying stretch by stretch
 
--- a stretch where nothing is held
+-- a stretch where nothing is kept
 pub laid_free : (stamps : ℕ → ℕ) (place start at : ℕ) (front rest bytes : List ℕ) → start + length front ≡ at → ((i : ℕ) → place + start ≤ i → i < place + at → stamps i ≡ 0) →
     laid stamps place at rest (put start front bytes) ≡ laid stamps place start (front ++ rest) bytes
 laid_free stamps place start at front rest [] e free = refl
@@ -152,7 +152,7 @@ held_byte : (stamp new old : ℕ) → 0 < stamp → fresh_byte stamp new old ≡
 held_byte zero new old h = absurd (omega arith)
 held_byte (suc n) new old h = refl
 
--- a stretch that is held
+-- a stretch that is kept
 pub laid_held : (stamps : ℕ → ℕ) (place start at : ℕ) (front rest bytes : List ℕ) → start + length front ≡ at → ((i : ℕ) → place + start ≤ i → i < place + at → 0 < stamps i) →
     laid stamps place at rest bytes ≡ laid stamps place start (front ++ rest) bytes
 laid_held stamps place start at front rest [] e held = refl
@@ -238,7 +238,7 @@ further_on start count capacity further block size starts fits (inl h) =
 further_on start count capacity further block size starts fits (inr h) =
     turned_over start count further block (omega (arith, h.0, h.1)) (omega (arith, h.0, h.1)) (omega arith)
 
--- ---- zeros behind what was written
+-- ---- zeros after what was written
 
 pub length_filled : (size : ℕ) (bytes : List ℕ) → length bytes ≤ size → length (filled size bytes) ≡ size
 length_filled size bytes h = omega (arith, length-append bytes (replicate (size - length bytes) 0), length-replicate {A = ℕ} (size - length bytes) 0)
@@ -248,7 +248,7 @@ put_within : (size at : ℕ) (text before after : List ℕ) → filled size afte
 put_within size at text before after e h =
     omega (arith, length-append after (replicate (size - length after) 0), ap length e, length_put at text (filled size before), length_filled size before h)
 
--- what always holds of a ring, afterwards
+-- the invariant of a ring, afterwards
 pub ring_written : (room larger capacity start at : ℕ) (text before after : List ℕ) → IsRing room capacity start before → room ≤ larger → filled capacity after ≡ put at text (filled capacity before) → IsRing larger capacity start after
 ring_written room larger capacity start at text before after ring more e = record {
   within = put_within capacity at text before after e ring.within;
@@ -295,7 +295,7 @@ pub length_reached : (start : ℕ) (bytes : List ℕ) → length (take start byt
 length_reached start bytes =
     omega (arith, length-append (take start bytes) (replicate (start - length bytes) 0), length-take start bytes, length-replicate {A = ℕ} (start - length bytes) 0)
 
--- over the end of what was written, or behind it
+-- over the end of what was written, or after it
 pub filled_behind : (size start : ℕ) (text bytes : List ℕ) → length bytes ≤ start + length text → start + length text ≤ size →
     filled size ((take start bytes ++ replicate (start - length bytes) 0) ++ text) ≡ put start text (filled size bytes)
 filled_behind size start text bytes over fits =
@@ -314,19 +314,19 @@ filled_behind size start text bytes over fits =
     ∙ ap (λ (x : List ℕ). x ++ (text ++ drop end whole)) (first_filled start (size - length bytes) bytes (omega arith))
     ∙ put_is start text whole end refl (omega (arith, length_filled_least size bytes))
 
--- reading over the end of what was written, or behind it
+-- reading over the end of what was written, or after it
 pub read_filled : (count left start size : ℕ) (bytes : List ℕ) → left ≡ count - (length bytes - start) → start + count ≤ size →
     take count (drop start bytes) ++ replicate left 0 ≡ take count (drop start (filled size bytes))
 read_filled count left start size bytes l fits =
     ap (λ n. take count (drop start bytes) ++ replicate n 0) l ∙ read_from count start (size - length bytes) bytes (omega arith)
 
--- a part of what is left behind a place
+-- a part of what is left after a place
 pub split_drop : (n m k : ℕ) (bytes : List ℕ) → n + m ≡ k → take m (drop n bytes) ++ drop k bytes ≡ drop n bytes
 split_drop n m k bytes e =
     ap (λ (x : List ℕ). take m (drop n bytes) ++ x) (ap (λ j. drop j bytes) (sym e) ∙ sym (drop-drop m n bytes))
     ∙ take-append-drop m (drop n bytes)
 
--- where nothing is held, a text is laid as it is written
+-- where nothing is kept, a text is laid as it is written
 put_laid_from : (stamps : ℕ → ℕ) (from start : ℕ) (text bytes : List ℕ) → ((i : ℕ) → stamps i ≡ 0) → put start text bytes ≡ laid stamps from start text bytes
 put_laid_from stamps from start text [] none = refl
 put_laid_from stamps from zero [] (byte ∷ bytes) none = refl

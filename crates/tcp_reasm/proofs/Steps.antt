@@ -6,7 +6,7 @@ use Rattle.tcp_reasm.specs.declared.table.Run.{Run as Entry}
 use Rattle.tcp_reasm.specs.Reassembly.{Run, is_within}
 use Rattle.tcp_reasm.specs.Store.{run_of, runs_in, touches, joined, union_of, rest_of, moved, held_to, gap_before, gap_to}
 
--- what is left from a run on is that run and what is left behind it
+-- what is left from a run on is that run and what is left after it
 pub runs_drop : (table : List Entry) (i : ℕ) (d : Entry) → i < length table → drop i (runs_in table) ≡ run_of (get_or table i d) ∷ drop (i + 1) (runs_in table)
 runs_drop table i d h = drop-map run_of i table ∙ ap runs_in (drop_more table i d h) ∙ ap (λ rest. run_of (get_or table i d) ∷ rest) (sym (drop-map run_of (i + 1) table))
 
@@ -36,7 +36,7 @@ rest_untouched table i d piece h e =
     ap (rest_of piece) (runs_drop table i d h)
     ∙ ap (λ b. if b then rest_of piece (drop (i + 1) (runs_in table)) else run_of (get_or table i d) ∷ rest_of piece (drop (i + 1) (runs_in table))) e
 
--- how far is held
+-- how far bytes are kept
 pub held_here : (table : List Entry) (i place : ℕ) (d : Entry) → i < length table → is_within place (run_of (get_or table i d)) ≡ true → held_to (drop i (runs_in table)) place ≡ (get_or table i d).to
 held_here table i place d h e =
     ap (λ rs. held_to rs place) (runs_drop table i d h)
@@ -47,7 +47,7 @@ held_elsewhere table i place d h e =
     ap (λ rs. held_to rs place) (runs_drop table i d h)
     ∙ ap (λ b. if b then (get_or table i d).to else held_to (drop (i + 1) (runs_in table)) place) e
 
--- how far nothing is
+-- how far none is
 pub gap_step : (table : List Entry) (i place end : ℕ) (d : Entry) → i < length table → gap_to (drop i (runs_in table)) place end ≡ gap_to (drop (i + 1) (runs_in table)) place (gap_before (run_of (get_or table i d)) place end)
 gap_step table i place end d h = ap (λ rs. gap_to rs place end) (runs_drop table i d h)
 

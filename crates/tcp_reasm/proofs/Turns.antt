@@ -1,4 +1,4 @@
--- A turn over a text that is laid: what is held is passed over, and the gap behind it is written.
+-- A turn over a text that is laid: what is kept is skipped, and the gap after it is written.
 use Rattle.std.proofs.Common.{◌≡◌, ℕ, ◌+◌, ◌-◌, ◌<◌, ◌≤◌, List, ◌++◌, length, take, drop, refl, ◌∙◌, ap, arith, length-drop, length-take}
 use Rattle.std.specs.Prelude.{min}
 use Rattle.tcp_reasm.specs.Reassembly.{Run, stamp_of_run}

@@ -1,4 +1,4 @@
--- What a call makes of the ring and the table is seen as what the definitions make of an inbox.
+-- The ring and the table after a call are seen as the definitions make an inbox.
 use Rattle.std.proofs.Common.{◌≡◌, ℕ, suc, ◌+◌, ◌-◌, ◌<◌, ◌≤◌, inl, inr, List, [], ◌∷◌, ◌++◌, length, take, drop, refl, sym, ◌∙◌, ap, arith, length-drop, length-take, append-nil}
 use Rattle.std.specs.Prelude.{min, map, replicate, Option, Some, None}
 use Rattle.std.specs.List.{AllByRecursion}
@@ -29,7 +29,7 @@ described_over bytes text start end all e some fits inside away =
     let piece = piece_of start end (suc (length all)) in
     rw length_laid (joined_described (length bytes) start end (length all) all some fits refl inside away)
 
--- so many runs there are with it
+-- the number of runs with it
 pub count_over : (bytes text : List ℕ) (start end n : ℕ) (all : List Run) → start + length text ≡ end → start < end → end ≤ length bytes → AllByRecursion (IsInside (length bytes)) all → AreAway all →
     let held = cells (stamp_of_run (ranked all)) 0 bytes in
     length (runs (overlay start text (suc (greatest_stamp held)) held)) ≡ suc (length (rest_of (piece_of start end n) all))
@@ -40,7 +40,7 @@ count_over bytes text start end n all e some fits inside away =
     ∙ described_count (stamp_of_run (piece ∷ ranked all)) after (union_of piece piece (ranked all) ∷ rest_of piece (ranked all)) (described_over bytes text start end all e some fits inside away)
     ∙ ap suc (length_rest start end (suc (length all)) n all)
 
--- a piece behind a gap: nothing is in order
+-- a piece after a gap: nothing is in order
 held_over : (bytes text : List ℕ) (start end : ℕ) (all : List Run) → 0 < start → start + length text ≡ end → AllByRecursion (IsInside (length bytes)) all →
     let held = cells (stamp_of_run (ranked all)) 0 bytes in
     bytes_in_order (overlay start text (suc (greatest_stamp held)) held) ≡ []
@@ -69,7 +69,7 @@ inbox_parts : (capacity other : ℕ) (unread others : List ℕ) (held places : L
 inbox_parts capacity other unread others held places c u h =
     ap (λ n. inbox n unread held) c ∙ ap (λ (bytes : List ℕ). inbox other bytes held) u ∙ ap (λ (ps : List (Option Cell)). inbox other others ps) h
 
--- a piece that is held
+-- a piece that is kept out of order
 pub held_view : (ring after : List ℕ) (unread : ℕ) (table table' : List Entry) (place end n : ℕ) (text : List ℕ) → 0 < place → place + length text ≡ end → place < end → unread ≤ length ring → end ≤ length ring - unread →
     AllByRecursion (IsInside (length ring - unread)) (runs_in table) → AreAway (runs_in table) →
     length after ≡ length ring → take unread after ≡ take unread ring →
@@ -206,7 +206,7 @@ pub length_held : (ring : List ℕ) (unread : ℕ) (table : List Entry) → leng
 length_held ring unread table =
     length_cells (stamp_of_run (ranked (runs_in table))) 0 (drop unread ring) ∙ length-drop unread ring
 
--- nothing held
+-- nothing kept out of order
 pub bare_view : (ring : List ℕ) (unread : ℕ) → (inbox_of ring unread []).held ≡ replicate (length ring - unread) None
 bare_view ring unread =
     cells_none (stamp_of_run []) 0 (drop unread ring) (λ i h. refl)
@@ -227,7 +227,7 @@ none_moved (run ∷ others) =
     ∙ ap (λ n. record { from = run.from; to = n; stamp = run.stamp } ∷ map (moved 0) others) to
     ∙ ap (λ rs. run ∷ rs) (none_moved others)
 
--- a piece behind a gap: nothing comes in order with it
+-- a piece after a gap: nothing comes in order with it
 pub none_view : (ring : List ℕ) (unread : ℕ) (table : List Entry) (q : Inbox) (place end : ℕ) (text : List ℕ) → inbox_of ring unread table ≡ q → 0 < place → place + length text ≡ end →
     AllByRecursion (IsInside (length ring - unread)) (runs_in table) → bytes_in_order (overlay_at q place text) ≡ []
 none_view ring unread table q place end text seen gap e inside =
@@ -249,7 +249,7 @@ runs_view ring unread table q place end n text seen e some fits inside away =
 pub empty_view : (ring : List ℕ) → inbox_of ring 0 [] ≡ empty_inbox (length ring)
 empty_view ring = ap (λ (places : List (Option Cell)). inbox (length ring) [] places) (bare_view ring 0 ∙ ap (λ n. replicate n None) (omega arith))
 
--- where nothing is left the bytes tell nothing
+-- where nothing is left the bytes don't matter
 bare_same : (ring after : List ℕ) (left : ℕ) (table : List Entry) → length after ≡ length ring → left ≡ 0 → length table ≡ 0 → inbox_of after left table ≡ inbox_of ring left table
 bare_same ring after left [] size none bare =
     ap (λ n. inbox_of after n []) none ∙ empty_view after ∙ ap empty_inbox size ∙ sym (empty_view ring) ∙ ap (λ n. inbox_of ring n []) (sym none)
@@ -291,7 +291,7 @@ read_view ring after unread count n table c fits inside on =
     ∙ read_places ring unread count table (omega arith) fits inside
     ∙ ap (λ k. (inbox_of ring unread table).held ++ replicate k None) is_count)
 
--- all is taken, and nothing is held
+-- all is consumed, and nothing is kept out of order
 pub emptied_view : (ring after : List ℕ) (unread count n : ℕ) (table : List Entry) → count ≡ min n unread → unread ≤ length ring → AllByRecursion (IsInside (length ring - unread)) (runs_in table) →
     length after ≡ length ring → unread - count ≡ 0 → length table ≡ 0 → inbox_of after (unread - count) table ≡ after_read (inbox_of ring unread table) n
 emptied_view ring after unread count n table c fits inside size none bare =
@@ -323,7 +323,7 @@ blocks_are ring unread count table c inside away =
     ∙ take-map edges_of max_blocks (ranked (runs_in table))
     ∙ ap (λ (rs : List Run). map edges_of (take max_blocks rs)) (sym (blocks_view ring unread table inside away))
 
--- ---- what always holds, afterwards
+-- ---- the invariant, afterwards
 
 pub advanced_kept : (ring after : List ℕ) (unread count end n : ℕ) (table table' : List Entry) → IsKept ring unread (runs_in table) → length after ≡ length ring → 0 < end → end ≤ length ring - unread →
     (let piece = piece_of 0 end n in count ≡ (union_of piece piece (runs_in table)).to) →
@@ -365,7 +365,7 @@ held_kept ring after unread place end n table table' kept size gap some fits joi
 pub seen_held : (ring : List ℕ) (unread : ℕ) (table : List Entry) (q : Inbox) → inbox_of ring unread table ≡ q → length q.held ≡ length ring - unread
 seen_held ring unread table q e = ap (λ (p : Inbox). length p.held) (sym e) ∙ length_held ring unread table
 
--- ---- what always holds
+-- ---- the invariant
 
 inside_more : (low high : ℕ) (all : List Run) → low ≤ high → AllByRecursion (IsInside low) all → AllByRecursion (IsInside high) all
 inside_more low high [] h inside = tt

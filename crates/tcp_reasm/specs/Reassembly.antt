@@ -1,12 +1,12 @@
--- What one end has of its peer's text (RFC 9293, 3.4 and 3.10.7.4): the bytes that came in order and are
--- not read yet, and a map from place to byte and stamp for those that came early. Place 0 is the next byte
--- in order. The map is a list as long as the window, so that what lies beyond the window has no place.
+-- What one end has of its peer's text (RFC 9293, 3.4 and 3.10.7.4): the bytes that came in order and aren't read yet, and a
+-- map from place to byte and stamp for those that came out of order (`held`). A place is an offset from RCV.NXT, which is at
+-- 0. The map is a list as long as the window, so that there is no place beyond the window.
 use Rattle.std.specs.Prelude.{◌≡◌, ◌≤◌, ◌+◌, ℕ, zero, suc, ◌-◌, min, max, ℤ, pos, negsuc, Bool, ◌&&◌, ◌||◌, ◌==◌, nat_lt, nat_le, if◌then◌else◌, List, [], ◌∷◌, ◌++◌, length, take, drop, map, replicate, Option, Some, None}
 use Rattle.std.specs.List.{count_by}
 use Rattle.tcp_reasm.specs.declared.placed.Placed.{Placed}
 use Rattle.tcp_reasm.specs.declared.placed.Placed.TheVariants.{Advanced, Held, NotKept}
 
--- a byte that came early; of two stamps the greater belongs to the run that had news later
+-- a byte that came out of order; of two stamps the greater is that of the run that received data later
 pub record Cell : Type 0 where
   pub byte : ℕ
   pub stamp : ℕ
@@ -28,8 +28,8 @@ window q = q.capacity - length q.unread
 abbrev pub empty_inbox : ℕ → Inbox
 empty_inbox capacity = record { capacity = capacity; unread = []; held = replicate capacity None }
 
--- THE PIECE: what is left of a text at an offset when the bytes before place 0 are cut off. The window's
--- end cuts by itself, since no place lies beyond it.
+-- THE PIECE: what is left of a text at an offset when the bytes before place 0 are cut off. The window's end cuts by itself,
+-- since there is no place beyond it.
 pub record Piece : Type 0 where
   pub start : ℕ
   pub text : List ℕ
@@ -38,16 +38,16 @@ abbrev pub piece : ℤ → List ℕ → Piece
 piece (pos start) text = record { start = start; text = text }
 piece (negsuc n) text = record { start = 0; text = drop (suc n) text }
 
--- whether no byte of it has a place
+-- whether no byte of it is inside the window
 abbrev pub is_empty : Piece → List (Option Cell) → Bool
 is_empty p held = (length p.text == 0) || nat_le (length held) p.start
 
--- a byte that is held already stays
+-- a byte that is kept already stays
 abbrev pub first_byte : Option Cell → ℕ → ℕ
 first_byte None byte = byte
 first_byte (Some cell) byte = cell.byte
 
--- the piece laid over what is held: each of its places takes the stamp
+-- the piece laid over what is kept: each of its places takes the stamp
 abbrev pub overlay : ℕ → List ℕ → ℕ → List (Option Cell) → List (Option Cell)
 overlay start text stamp [] = []
 overlay zero [] stamp (place ∷ places) = place ∷ places
@@ -63,14 +63,13 @@ abbrev pub greatest_stamp : List (Option Cell) → ℕ
 greatest_stamp [] = 0
 greatest_stamp (place ∷ places) = max (stamp_at place) (greatest_stamp places)
 
--- RUNS: the maximal intervals of held places, each with its first place, the place after its last, and
--- its greatest stamp
+-- RUNS: the maximal intervals of kept bytes, each with its first place, the place after its last, and its greatest stamp
 pub record Run : Type 0 where
   pub from : ℕ
   pub to : ℕ
   pub stamp : ℕ
 
--- a held place before some runs begins a run of its own, or joins the one that begins right after it
+-- a kept byte before some runs begins a run of its own, or joins the one that begins right after it
 abbrev pub with_place : ℕ → ℕ → List Run → List Run
 with_place place stamp [] = record { from = place; to = suc place; stamp = stamp } ∷ []
 with_place place stamp (run ∷ runs) =
@@ -97,14 +96,14 @@ bytes_in_order [] = []
 bytes_in_order (None ∷ places) = []
 bytes_in_order (Some cell ∷ places) = cell.byte ∷ bytes_in_order places
 
--- how many runs had no news after this one, itself among them
+-- how many runs received no data after this one, itself among them
 abbrev pub rank_in : List Run → ℕ → ℕ
 rank_in others stamp = count_by (λ run. nat_le run.stamp stamp) others
 
 abbrev pub is_within : ℕ → Run → Bool
 is_within place run = nat_le run.from place && nat_lt place run.to
 
--- the greatest stamp of the run that a place lies in
+-- the greatest stamp of the run that a place is in
 abbrev pub stamp_of_run : List Run → ℕ → ℕ
 stamp_of_run [] place = 0
 stamp_of_run (run ∷ others) place = if is_within place run then run.stamp else stamp_of_run others place
@@ -115,7 +114,7 @@ with_ranks_from all place (None ∷ places) = None ∷ with_ranks_from all (suc 
 with_ranks_from all place (Some cell ∷ places) =
     Some (record cell { stamp = rank_in all (stamp_of_run all place) }) ∷ with_ranks_from all (suc place) places
 
--- Only the order of stamps is ever seen: each place takes the rank of its run, the oldest run's being 1.
+-- Only the order of stamps matters: each place takes the rank of its run, the oldest run's being 1.
 unfoldable pub with_ranks : List (Option Cell) → List (Option Cell)
 with_ranks held = with_ranks_from (runs held) 0 held
 
@@ -129,7 +128,7 @@ with_overlay q over = record q {
 abbrev pub overlay_of : Inbox → Piece → List (Option Cell)
 overlay_of q p = overlay p.start p.text (suc (greatest_stamp q.held)) q.held
 
--- nothing has a place, or a piece that isn't in order would make too many runs
+-- no byte is inside the window, or a piece that isn't in order would make too many runs
 abbrev pub is_refused : Inbox → Piece → Bool
 is_refused q p = is_empty p q.held || (nat_lt 0 p.start && nat_lt max_runs (length (runs (overlay_of q p))))
 
@@ -137,11 +136,11 @@ abbrev pub answer_for : ℕ → Placed
 answer_for zero = Held
 answer_for (suc n) = Advanced (suc n)
 
--- the longest text of a segment, in bytes (RFC 9293, 3.1: what an IPv4 packet holds after both headers)
+-- the longest text of a segment, in bytes (RFC 9293, 3.1: what an IPv4 packet carries after both headers)
 abbrev pub max_text_len : ℕ
 max_text_len = 65495
 
--- PLACING (RFC 9293, 3.10.7.4): a text whose first byte lies at this offset from the next byte in order
+-- PLACING (RFC 9293, 3.10.7.4): a text whose first byte is at this offset from RCV.NXT
 unfoldable pub after_place : Inbox → ℤ → List ℕ → Inbox
 after_place q offset text = if is_refused q (piece offset text) then q else with_overlay q (overlay_of q (piece offset text))
 
@@ -149,7 +148,7 @@ unfoldable pub place_answer : Inbox → ℤ → List ℕ → Placed
 place_answer q offset text =
     if is_refused q (piece offset text) then NotKept else answer_for (length (bytes_in_order (overlay_of q (piece offset text))))
 
--- the user takes n unread bytes, and as many places come into the window
+-- the user reads n bytes, and the window grows by as many places
 unfoldable pub after_read : Inbox → ℕ → Inbox
 after_read q n = record q {
   unread = drop n q.unread;
@@ -175,7 +174,8 @@ max_blocks = 4
 unfoldable pub blocks : Inbox → List (ℕ × ℕ)
 blocks q = map (λ (run : Run). (run.from, run.to)) (take max_blocks (runs_newest_first (runs q.held)))
 
--- WHAT ALWAYS HOLDS: what is unread and the window make up the capacity, at most sixteen runs are held, and place 0 is missing
+-- THE INVARIANT: what is unread and the window make up the capacity, at most sixteen runs are kept, and the byte at place 0
+-- is missing
 pub record IsInbox (q : Inbox) : Type 0 where
   pub least : 1 ≤ q.capacity
   pub most : q.capacity ≤ max_capacity

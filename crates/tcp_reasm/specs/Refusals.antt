@@ -1,4 +1,4 @@
--- The numbers and texts of the refusals.
+-- The numbers and texts of the refusals of a new reassembly.
 use Rattle.std.specs.Prelude.{ℕ, List, codes}
 use Rattle.tcp_reasm.specs.declared.error.ReasmError.{ReasmError}
 use Rattle.tcp_reasm.specs.declared.error.ReasmError.TheVariants.{BadCapacity, NoMemory}

@@ -1,4 +1,4 @@
--- How the store is seen (RFC 9293, 3.10.7.4; RFC 2018, 4), what always holds of it, and what the private steps do.
+-- The view of the store (RFC 9293, 3.10.7.4; RFC 2018, 4), its invariant, and what the private steps do.
 use Rattle.std.specs.Prelude.{ℕ, zero, suc, min, max, ◌-◌, ◌<◌, ◌≤◌, ◌⊎◌, Bool, List, [], ◌∷◌, ◌++◌, length, map, take, drop, replicate, Option, Some, None, nat_lt, nat_le, ◌&&◌, if◌then◌else◌}
 use Rattle.std.specs.List.{AllByRecursion}
 use Rattle.tcp_reasm.specs.declared.table.Run.{Run as Entry}
@@ -6,15 +6,15 @@ use Rattle.tcp_reasm.specs.Reassembly.{Cell, Inbox, Run, is_within, stamp_of_run
 
 -- ---- the view
 
--- a block of bytes seen from one of its places on, over its end
+-- a block of bytes seen from one of its offsets on, over its end
 abbrev pub turned : ℕ → List ℕ → List ℕ
 turned start bytes = drop start bytes ++ take start bytes
 
--- the bytes that were written, and as many times 0 behind them as there is room for
+-- the bytes that were written, and zeros after them up to this size
 abbrev pub filled : ℕ → List ℕ → List ℕ
 filled size bytes = bytes ++ replicate (size - length bytes) 0
 
--- how many places from a start on lie in what was written of a block: all of them once it is full
+-- how many bytes from a start on lie in what was written of a block: all of them once it is full
 abbrev pub ready_from : ℕ → ℕ → ℕ → ℕ
 ready_from start capacity written = if nat_lt written capacity then written - start else capacity
 
@@ -29,12 +29,12 @@ run_of entry = record { from = entry.from; to = entry.to; stamp = 0 }
 abbrev pub runs_in : List Entry → List Run
 runs_in table = map run_of table
 
--- Runs that stand by their latest news, the newest first: each takes its rank as its stamp, the oldest 1.
+-- Runs by the time of their latest data, the newest first: each takes its rank as its stamp, the oldest 1.
 abbrev pub ranked : List Run → List Run
 ranked [] = []
 ranked (run ∷ older) = record run { stamp = suc (length older) } ∷ ranked older
 
--- what is held at a place, by its stamp and the byte that stands there: nothing at stamp 0
+-- the cell at a place, by its stamp and the byte there: none at stamp 0
 abbrev pub cell_of : ℕ → ℕ → Option Cell
 cell_of zero byte = None
 cell_of (suc n) byte = Some (record { byte = byte; stamp = suc n })
@@ -44,7 +44,7 @@ abbrev pub cells : (ℕ → ℕ) → ℕ → List ℕ → List (Option Cell)
 cells stamps place [] = []
 cells stamps place (byte ∷ bytes) = cell_of (stamps place) byte ∷ cells stamps (suc place) bytes
 
--- the unread bytes stand first in the ring, and the window's places after them
+-- the unread bytes are first in the ring, and the window's places after them
 abbrev pub inbox_of : List ℕ → ℕ → List Entry → Inbox
 inbox_of ring unread table = record {
   capacity = length ring;
@@ -52,9 +52,9 @@ inbox_of ring unread table = record {
   held = cells (stamp_of_run (ranked (runs_in table))) 0 (drop unread ring);
 }
 
--- ---- what always holds
+-- ---- the invariant
 
--- a run of some places, none of them the next byte's, within the window
+-- a run that isn't empty, within the window, and without place 0
 abbrev pub IsInside : ℕ → Run → Type 0
 IsInside window run = (0 < run.from) × (run.from < run.to) × (run.to ≤ window)
 
@@ -66,7 +66,7 @@ abbrev pub AreAway : List Run → Type 0
 AreAway [] = Unit {0}
 AreAway (run ∷ others) = AllByRecursion (Away run) others × AreAway others
 
--- of a block with so much room: no more was written than there are bytes, and all of them have their room
+-- of a block with this room: no more was written than there are bytes, and there is room for all of them
 pub record IsRing (room capacity start : ℕ) (written : List ℕ) : Type 0 where
   pub within : length written ≤ capacity
   pub fits : capacity ≤ room
@@ -100,20 +100,20 @@ abbrev pub union_of : Run → Run → List Run → Run
 union_of union piece [] = union
 union_of union piece (run ∷ others) = union_of (if touches piece run then joined union run else union) piece others
 
--- a run after so many bytes came in order
+-- a run after this many bytes came in order
 abbrev pub moved : ℕ → Run → Run
 moved count run = record run { from = run.from - count; to = run.to - count }
 
--- where the run that a place lies in ends, or the place where none is held
+-- where the run that a place is in ends, or the place itself where no byte is kept
 abbrev pub held_to : List Run → ℕ → ℕ
 held_to [] place = place
 held_to (run ∷ others) place = if is_within place run then run.to else held_to others place
 
--- how far nothing of a run is held from a place on, up to an end
+-- how far no byte of a run is kept from a place on, up to an end
 abbrev pub gap_before : Run → ℕ → ℕ → ℕ
 gap_before run place end = if nat_lt place run.from then min run.from end else if nat_lt place run.to then place else end
 
--- how far nothing is held from a place on, up to an end
+-- how far no byte is kept from a place on, up to an end
 abbrev pub gap_to : List Run → ℕ → ℕ → ℕ
 gap_to [] place end = end
 gap_to (run ∷ others) place end = gap_to others place (gap_before run place end)
@@ -125,19 +125,19 @@ put zero [] (byte ∷ bytes) = byte ∷ bytes
 put zero (new ∷ text) (byte ∷ bytes) = new ∷ put zero text bytes
 put (suc start) text (byte ∷ bytes) = byte ∷ put start text bytes
 
--- the new byte where the stamp says that none is held
+-- the new byte where the stamp says that none is kept
 abbrev pub fresh_byte : ℕ → ℕ → ℕ → ℕ
 fresh_byte zero new old = new
 fresh_byte (suc n) new old = old
 
--- a text laid over bytes, from `start` places after the first of them on. What is held stays.
+-- a text laid over bytes, from the offset `start` on. What is kept stays.
 abbrev pub laid : (ℕ → ℕ) → ℕ → ℕ → List ℕ → List ℕ → List ℕ
 laid stamps place start text [] = []
 laid stamps place zero [] (byte ∷ bytes) = byte ∷ bytes
 laid stamps place zero (new ∷ text) (byte ∷ bytes) = fresh_byte (stamps place) new byte ∷ laid stamps (suc place) zero text bytes
 laid stamps place (suc start) text (byte ∷ bytes) = byte ∷ laid stamps (suc place) start text bytes
 
--- a piece laid over what is held, with the stamp above all others
+-- a piece laid over what is kept, with the stamp above all others
 abbrev pub overlay_at : Inbox → ℕ → List ℕ → List (Option Cell)
 overlay_at q start text = overlay start text (suc (greatest_stamp q.held)) q.held
 

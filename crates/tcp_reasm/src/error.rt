@@ -4,17 +4,17 @@ ghost use Rattle.tcp_reasm.specs.Refusals.{reasm_error_number, reasm_error_text}
 use std::error::Error;
 use std::fmt;
 
-/// Why there is no reassembly.
+/// Why a reassembly can't be made.
 #[derive(Clone, Copy, Debug, PartialEq, Eq)]
 pub enum ReasmError {
     /// The capacity isn't from 1 to 1,048,576 bytes.
     BadCapacity,
-    /// Memory for the capacity was refused.
+    /// There is no memory for the capacity.
     NoMemory,
 }
 
 impl ReasmError {
-    /// The number under which the refusal is reported.
+    /// The number under which the refusal is reported, 21 or 22.
     pub fn number(self) -> u8
         ensures { result ≡ reasm_error_number self }
     {

@@ -6,8 +6,8 @@ use crate::ring::Ring;
 use crate::table::{Run, gap_to, held_to};
 use std::alloc::Allocator;
 
-/// Lays a text over the window of a ring, from a place of it on. Only the gaps between the runs are written, so a
-/// byte that is held already stays.
+/// Lays a text over the window of a ring, from the offset `place` on. Only the gaps between the runs are written, so a
+/// byte that is kept already stays.
 pub(crate) fn lay<A: Allocator>(
     ring: &mut Ring<A>,
     unread: usize,
@@ -23,7 +23,7 @@ pub(crate) fn lay<A: Allocator>(
     ensures window { drop unread ring.new.bytes
         ≡ laid (stamp_of_run (ranked (runs_in table.now))) 0 place text.now (drop unread ring.old.bytes) }
 {
-    // Most texts find nothing held.
+    // Mostly nothing is kept out of order.
     if table.is_empty() {
         ring.write(unread + place, text);
         return;

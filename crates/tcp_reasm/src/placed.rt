@@ -1,10 +1,10 @@
-/// What became of a piece of text.
+/// What became of a piece of text (RFC 9293, 3.10.7.4).
 #[derive(Clone, Copy, Debug, PartialEq, Eq)]
 pub enum Placed {
-    /// So many bytes, at least one, came in order: those of the piece, and what was held after them.
+    /// As many bytes, at least one, came in order: those of the piece, and what was kept after them.
     Advanced(usize),
-    /// The piece is held until the bytes before it come.
+    /// The piece came out of order, and is kept until the bytes before it come.
     Held,
-    /// Nothing changed: no byte of it lies in the window, or it would have made a seventeenth held run.
+    /// Nothing changed: no byte of it is inside the window, or it would have made a seventeenth run out of order.
     NotKept,
 }

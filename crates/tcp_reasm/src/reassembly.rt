@@ -15,20 +15,21 @@ use std::marker::Model;
 /// The greatest capacity, in bytes.
 pub const MAX_CAPACITY: usize = 1_048_576;
 
-/// The greatest number of blocks that are reported at once.
+/// The greatest number of blocks that are reported at once (RFC 2018, 3).
 const MAX_BLOCKS: usize = 4;
 
-/// A peer's text: the bytes that came in order and wait for the user, and those that came early and are held until
-/// the bytes before them come. Only `new` takes memory, one block of the capacity, which isn't touched before bytes
-/// come: it is a ring, in which a byte is written once, at its place, and isn't moved when it comes in order.
+/// A peer's text: the bytes that came in order and wait for the user, and those that came out of order and are kept
+/// until the bytes before them come (RFC 9293, 3.10.7.4). Only `new` allocates: one block of the capacity, which isn't
+/// touched before bytes come. It is a ring, in which a byte is written once, at its offset, and isn't moved when it
+/// comes in order.
 #[derive(Debug, Drop)]
 pub struct Reassembly<A: Allocator = Global> {
-    /// As many bytes as are unread or have a place in the window, from 1 to [`MAX_CAPACITY`]: the unread bytes stand
-    /// first, and the window's after them.
+    /// As many bytes as are unread or inside the window, from 1 to [`MAX_CAPACITY`]: the unread bytes are first, and
+    /// the window's after them.
     ring: Ring<A>,
-    /// How many bytes came in order and weren't read yet.
+    /// How many bytes came in order and aren't read yet.
     unread: usize,
-    /// The runs of the window that are held, the newest first. None of them touch.
+    /// The runs that are kept out of order, the newest first. No two of them touch.
     table: ArrayVec<Run, 16>,
 }
 
@@ -41,7 +42,8 @@ impl<A: Allocator> Model for Reassembly<A> {
 }
 
 impl Reassembly {
-    /// An empty reassembly of so many bytes, on the global allocator.
+    /// An empty reassembly of `capacity` bytes, on the global allocator. An error where the capacity is out of range,
+    /// or there is no memory.
     pub fn new(alloc: Global, capacity: usize) -> Result<Self, ReasmError>
         ensures ok { IfOk result (λ q. q ≡ empty_inbox capacity) }
         ensures sound { IfOk result IsInbox }
@@ -52,7 +54,8 @@ impl Reassembly {
 }
 
 impl<A: Allocator> Reassembly<A> {
-    /// An empty reassembly of so many bytes.
+    /// An empty reassembly of `capacity` bytes, in memory of `alloc`. An error where the capacity is out of range, or
+    /// there is no memory.
     pub fn new_in(alloc: A, capacity: usize) -> Result<Self, ReasmError>
         ensures ok { IfOk result (λ q. q ≡ empty_inbox capacity) }
         ensures sound { IfOk result IsInbox }
@@ -73,7 +76,7 @@ impl<A: Allocator> Reassembly<A> {
 }
 
 impl<A: Allocator> Reassembly<A> {
-    /// How many bytes may be unread or held.
+    /// The most bytes that are unread or kept out of order.
     pub fn capacity(&self) -> usize
         ensures value { result ≡ self.now.capacity }
         ensures sound { IsInbox self.now }
@@ -93,7 +96,7 @@ impl<A: Allocator> Reassembly<A> {
         self.unread
     }
 
-    /// The receive window: how many bytes after the unread ones would be taken or held (RFC 9293, 3.3.1).
+    /// The receive window in bytes: how many after the unread ones are accepted (RFC 9293, 3.3.1).
     pub fn window(&self) -> u32
         ensures value { result ≡ window self.now }
         ensures sound { IsInbox self.now }
@@ -104,8 +107,8 @@ impl<A: Allocator> Reassembly<A> {
         (self.ring.len() - self.unread) as u32
     }
 
-    /// Places a text whose first byte lies at `offset` from the next byte in order. What lies before that byte or
-    /// beyond the window is cut off; a byte that is held already stays (RFC 9293, 3.10.7.4).
+    /// Takes a text whose first byte is at `offset` from RCV.NXT, and reports what became of it (RFC 9293, 3.10.7.4).
+    /// What is before RCV.NXT or beyond the window is cut off; a byte that is kept already stays.
     pub fn place(&mut self, offset: i64, text: &[u8]) -> Placed
         requires from { negsuc 2147483647 ≤ℤ offset }
         requires below { offset <ℤ pos 2147483648 }
@@ -118,7 +121,7 @@ impl<A: Allocator> Reassembly<A> {
         ensures some { (n : ℕ) → result ≡ Placed.Advanced n → 0 < n }
         ensures grown { (n : ℕ) → result ≡ Placed.Advanced n → length self.new.unread ≡ length self.old.unread + n }
         ensures front { take (length self.old.unread) self.new.unread ≡ self.old.unread }
-        // Place by place, counted from the first unread byte.
+        // Byte by byte, counted from the first unread one.
         ensures kept { KeepsBytes self.old self.new }
         ensures taken { result ≢ Placed.NotKept → TakesPiece self.old self.new (piece offset text.now) }
         ensures others { LeavesOthers self.old self.new (piece offset text.now) }
@@ -133,7 +136,7 @@ impl<A: Allocator> Reassembly<A> {
         self.keep(start, text)
     }
 
-    /// Takes or holds a text that lies in the window.
+    /// Takes a text inside the window, in order or out of order.
     fn keep(&mut self, start: usize, text: &[u8]) -> Placed
         requires some { 0 < length text.now }
         requires within { start + length text.now + length self.old.unread ≤ self.old.capacity }
@@ -153,7 +156,7 @@ impl<A: Allocator> Reassembly<A> {
         }
     }
 
-    /// Takes a text that begins at the next byte, and answers how many bytes came in order with it.
+    /// Takes a text that begins at RCV.NXT, and returns how many bytes came in order with it.
     fn advance(&mut self, text: &[u8]) -> usize
         requires some { 0 < length text.now }
         requires within { length text.now + length self.old.unread ≤ self.old.capacity }
@@ -175,8 +178,7 @@ impl<A: Allocator> Reassembly<A> {
         count as usize
     }
 
-    /// Holds a text that begins after the next byte. A seventeenth run isn't kept: that is tested before a byte is
-    /// written.
+    /// Keeps a text that begins after RCV.NXT. A seventeenth run isn't kept: that is tested before a byte is written.
     fn hold(&mut self, start: usize, text: &[u8]) -> bool
         requires gap { 0 < start }
         requires some { 0 < length text.now }
@@ -202,7 +204,8 @@ impl<A: Allocator> Reassembly<A> {
         true
     }
 
-    /// Hands over the first unread bytes, as many as there are and as `out` has room for, and answers their count.
+    /// Copies the first unread bytes, as many as there are and as `out` has room for, to its start, and returns their
+    /// count (RFC 9293, 3.10.3).
     pub fn read(&mut self, out: &mut [u8]) -> usize
         ensures count { result ≡ min (length out.old) (length self.old.unread) }
         ensures bytes { out.new ≡ take result self.old.unread ++ drop result out.old }
@@ -214,7 +217,8 @@ impl<A: Allocator> Reassembly<A> {
         self.consume(out.len())
     }
 
-    /// The unread bytes where they lie, in two parts: first the front, then the back. The front is empty only where none is unread.
+    /// The unread bytes where they lie, in two parts: first the front, then the back. The front is empty only where
+    /// none is unread.
     pub fn peek(&self) -> (&[u8], &[u8])
         ensures bytes { result.0.now ++ result.1.now ≡ self.now.unread }
         ensures front { 0 < length self.now.unread → 0 < length result.0.now }
@@ -222,7 +226,7 @@ impl<A: Allocator> Reassembly<A> {
         self.ring.lend(self.unread)
     }
 
-    /// Takes the first unread bytes away, at most so many, and answers their count.
+    /// Removes the first unread bytes, at most `most` of them, and returns their count.
     #[inline(always)]
     pub fn consume(&mut self, most: usize) -> usize
         ensures count { result ≡ min most (length self.old.unread) }
@@ -231,7 +235,7 @@ impl<A: Allocator> Reassembly<A> {
     {
         let count = most.min(self.unread);
         self.unread -= count;
-        // Where nothing is left the next byte goes to the block's first place: for a user who keeps up, little of the
+        // Where nothing is left the next byte goes to the start of the block: for a user who keeps up, little of the
         // block is touched, however much comes.
         if self.unread == 0 && self.table.is_empty() {
             self.ring.rewind();
@@ -241,13 +245,13 @@ impl<A: Allocator> Reassembly<A> {
         count
     }
 
-    /// The held runs by their latest news, the newest first and at most four, each as its first place and the place
-    /// after its last, counted from the next byte in order (RFC 2018, 4).
+    /// The runs that are kept out of order, the most recent first and at most four (RFC 2018, 4). Each has the offset
+    /// of its first byte and that after its last, counted from RCV.NXT.
     pub fn blocks(&self) -> ArrayVec<(u32, u32), 4>
         ensures value { result.items ≡ blocks self.now }
         ensures sound { IsInbox self.now }
 
-        // So many runs are held at most, and none at the next byte in order.
+        // At most this many runs are kept, and none begins at RCV.NXT.
         ensures few { length (runs self.now.held) ≤ max_runs }
         ensures missing { cell_at self.now.held 0 ≡ None }
     {
@@ -255,7 +259,7 @@ impl<A: Allocator> Reassembly<A> {
         edges_of(&self.table.as_slice()[..count])
     }
 
-    /// How many blocks there are: the held runs, at most four (RFC 2018, 4).
+    /// How many blocks there are: the runs that are kept out of order, at most four (RFC 2018, 4).
     pub fn block_count(&self) -> usize
         ensures value { result ≡ length (blocks self.now) }
         ensures few { result ≤ max_blocks }
@@ -263,14 +267,14 @@ impl<A: Allocator> Reassembly<A> {
         MAX_BLOCKS.min(self.table.len())
     }
 
-    /// How many runs are held, at most 16.
+    /// How many runs are kept out of order, at most 16.
     pub fn held_runs(&self) -> usize
         ensures { result ≡ length (runs self.now.held) }
     {
         self.table.len()
     }
 
-    /// Gives up what is unread and what is held, and leaves the whole window, as a reset and an abort do (RFC 9293,
+    /// Discards what is unread or kept out of order, and leaves the whole window, as a reset and an abort do (RFC 9293,
     /// 3.10.5 and 3.10.7.4).
     pub fn clear(&mut self)
         ensures state { self.new ≡ empty_inbox self.old.capacity }
@@ -280,7 +284,7 @@ impl<A: Allocator> Reassembly<A> {
         self.clear_held();
     }
 
-    /// Gives up what is held. Unread bytes stay.
+    /// Discards what is kept out of order. Unread bytes stay.
     pub fn clear_held(&mut self)
         ensures state { self.new ≡ without_held self.old }
         ensures sound { IsInbox self.new }

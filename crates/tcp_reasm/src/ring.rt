@@ -1,4 +1,4 @@
-//! A ring of bytes in one block: its places are counted from a start on, over the block's end.
+//! A ring of bytes in one block: its offsets count from a start on, over the block's end.
 ghost use Rattle.std.specs.Prelude.{◌≡◌, ℕ, ◌+◌, ◌<◌, ◌≤◌, ◌++◌, length, List, take, drop, vec_capacity, IfOk};
 ghost use Rattle.tcp_reasm.specs.Reassembly.{max_capacity};
 ghost use Rattle.tcp_reasm.specs.Store.{turned, filled, put, ready_from, IsRing, Turned};
@@ -9,11 +9,11 @@ use std::marker::Model;
 /// As many bytes as its capacity, each of them 0 until it is written. Memory that nothing was written to isn't touched.
 #[derive(Debug, Drop)]
 pub(crate) struct Ring<A: Allocator = Global> {
-    /// The bytes of the block up to the last that was written. Those behind it, up to the capacity, are 0.
+    /// The bytes of the block up to the last that was written. Those after it, up to the capacity, are 0.
     block: Vec<u8, A>,
     /// How many bytes there are, at most [`MAX_CAPACITY`](crate::MAX_CAPACITY).
     capacity: u32,
-    /// Where the first byte stands in the block. The others follow it, over the block's end.
+    /// The index in the block of the first byte. The others follow it, over the block's end.
     start: u32,
 }
 
@@ -26,7 +26,7 @@ impl<A: Allocator> Model for Ring<A> {
 }
 
 impl<A: Allocator> Ring<A> {
-    /// So many bytes. Their memory is taken now, and isn't touched.
+    /// A ring of `capacity` bytes. It is allocated now, and isn't touched.
     pub(crate) fn new_in(alloc: A, capacity: usize) -> Result<Self, AllocError>
         requires { capacity ≤ max_capacity }
         ensures { IfOk result (λ ring. length ring.bytes ≡ capacity) }
@@ -46,7 +46,7 @@ impl<A: Allocator> Ring<A> {
         self.capacity as usize
     }
 
-    /// Writes a text over the bytes from a place on.
+    /// Writes a text over the bytes from the offset `place` on.
     #[inline(always)]
     pub(crate) fn write(&mut self, place: usize, text: &[u8])
         requires { place + length text.now ≤ length self.old.bytes }
@@ -66,7 +66,7 @@ impl<A: Allocator> Ring<A> {
         }
     }
 
-    /// Copies the first bytes, as many as there is room for.
+    /// Copies the first bytes, as many as `out` has room for.
     pub(crate) fn copy(&self, out: &mut [u8])
         requires { length out.old ≤ length self.now.bytes }
         ensures { out.new ≡ take (length out.old) self.now.bytes }
@@ -82,7 +82,7 @@ impl<A: Allocator> Ring<A> {
         }
     }
 
-    /// Puts the first bytes behind the others.
+    /// Moves the first bytes to the end.
     pub(crate) fn advance(&mut self, count: usize)
         requires { count ≤ length self.old.bytes }
         ensures bytes { self.new.bytes ≡ drop count self.old.bytes ++ take count self.old.bytes }
@@ -96,14 +96,14 @@ impl<A: Allocator> Ring<A> {
         };
     }
 
-    /// Puts the first byte where the block begins. Nothing is said of what the bytes are then.
+    /// Moves the first byte to the start of the block. What the bytes are then isn't said.
     pub(crate) fn rewind(&mut self)
         ensures { length self.new.bytes ≡ length self.old.bytes }
     {
         self.start = 0;
     }
 
-    /// Sees to it that the first bytes can be lent, whether they were written or not.
+    /// Makes the first bytes ready to be lent, whether they were written or not.
     #[inline(always)]
     pub(crate) fn reach(&mut self, count: usize)
         requires { count ≤ length self.old.bytes }
@@ -116,7 +116,8 @@ impl<A: Allocator> Ring<A> {
         }
     }
 
-    /// The first bytes as they lie: up to the block's end, and from its beginning on. Where there are any, the first part has some.
+    /// The first bytes as they lie: up to the block's end, and from its beginning on. Where there are any, the first
+    /// part has some.
     pub(crate) fn lend(&self, count: usize) -> (&[u8], &[u8])
         requires ready { count ≤ self.now.ready }
         requires inside { count ≤ length self.now.bytes }
@@ -138,8 +139,8 @@ impl<A: Allocator> Ring<A> {
     }
 }
 
-/// Writes a text over the bytes of a block from an index on. The block grows where the text ends behind it: it has
-/// the room, so that no memory is taken.
+/// Writes a text over the bytes of a block from an index on. The block grows where the text ends after it: it has the
+/// room, so that nothing is allocated.
 fn write_at<A: Allocator>(block: &mut Vec<u8, A>, at: usize, text: &[u8])
     requires { at + length text.now ≤ vec_capacity block.old }
     ensures capacity { vec_capacity block.old ≤ vec_capacity block.new }
@@ -155,7 +156,7 @@ fn write_at<A: Allocator>(block: &mut Vec<u8, A>, at: usize, text: &[u8])
     }
 }
 
-/// Writes a text that ends behind a block's end.
+/// Writes a text that ends after a block's end.
 #[cold]
 #[inline(never)]
 fn grow<A: Allocator>(block: &mut Vec<u8, A>, at: usize, text: &[u8])
@@ -170,7 +171,7 @@ fn grow<A: Allocator>(block: &mut Vec<u8, A>, at: usize, text: &[u8])
     let _ = block.extend_from_slice(text);
 }
 
-/// Fills `out` with the bytes of a block from an index on, and with 0 behind its end.
+/// Fills `out` with the bytes of a block from an index on, and with 0 after its end.
 fn copy_at(block: &[u8], at: usize, out: &mut [u8])
     requires { at + length out.old ≤ max_capacity }
     ensures { (n : ℕ) → at + length out.old ≤ n → out.new ≡ take (length out.old) (drop at (filled n block.now)) }
@@ -183,7 +184,7 @@ fn copy_at(block: &[u8], at: usize, out: &mut [u8])
     }
 }
 
-/// Does so where what is asked for ends behind the block's end.
+/// Does so where the bytes end after the block's end.
 #[cold]
 #[inline(never)]
 fn copy_behind(block: &[u8], at: usize, out: &mut [u8])

@@ -1,19 +1,19 @@
-//! The held runs: a table of intervals that don't touch, the newest first.
+//! The runs that are kept out of order: a table of intervals that don't touch, the newest first.
 ghost use Rattle.std.specs.Prelude.{◌≡◌, ℕ, ◌≤◌, length, map};
 ghost use Rattle.tcp_reasm.specs.Reassembly.{Run as Interval, max_runs, max_blocks};
 ghost use Rattle.tcp_reasm.specs.Store.{run_of, runs_in, touches as touches_run, rest_of as others_of, joined as joined_with, union_of as whole_of, moved, held_to as held_up_to, gap_before, gap_to as gap_up_to};
 
 use arrayvec::ArrayVec;
 
-/// The greatest number of runs that are held apart.
+/// The greatest number of runs that are kept apart.
 pub(crate) const MAX_RUNS: usize = 16;
 
-/// An interval of places, counted from the next byte in order.
+/// An interval of offsets, counted from RCV.NXT.
 #[derive(Clone, Copy, Debug, Default)]
 pub(crate) struct Run {
-    /// Its first place.
+    /// The offset of its first byte.
     pub(crate) from: u32,
-    /// The place after its last.
+    /// The offset after its last byte.
     pub(crate) to: u32,
 }
 
@@ -24,7 +24,7 @@ fn touches(piece: Run, run: Run) -> bool
     run.from <= piece.to && piece.from <= run.to
 }
 
-/// The interval from the first place of both to the last.
+/// The interval from the first byte of both to the last.
 fn joined(union: Run, run: Run) -> Run
     ensures { run_of result ≡ joined_with (run_of union) (run_of run) }
 {
@@ -47,7 +47,7 @@ pub(crate) fn union_of(table: &[Run], piece: Run) -> Run
     union
 }
 
-/// The runs that a piece leaves as they are, after so many bytes came in order.
+/// The runs that a piece doesn't touch, now `count` bytes nearer to RCV.NXT.
 pub(crate) fn rest_of(table: &[Run], piece: Run, count: u32) -> ArrayVec<Run, 16>
     requires { length table.now ≤ max_runs }
     ensures items { runs_in result.items ≡ map (moved count) (others_of (run_of piece) (runs_in table.now)) }
@@ -65,8 +65,8 @@ pub(crate) fn rest_of(table: &[Run], piece: Run, count: u32) -> ArrayVec<Run, 16
     rest
 }
 
-/// Leaves the runs that a piece doesn't touch, after so many bytes came in order. Most texts find none held: no table is
-/// moved for them.
+/// Leaves the runs that a piece doesn't touch, now `count` bytes nearer to RCV.NXT. Mostly none is kept: no table is
+/// moved then.
 pub(crate) fn leave_rest(table: &mut ArrayVec<Run, 16>, piece: Run, count: u32)
     requires { length table.old.items ≤ max_runs }
     ensures items { runs_in table.new.items ≡ map (moved count) (others_of (run_of piece) (runs_in table.old.items)) }
@@ -77,7 +77,7 @@ pub(crate) fn leave_rest(table: &mut ArrayVec<Run, 16>, piece: Run, count: u32)
     }
 }
 
-/// Where the run that a place lies in ends, or the place where none is held.
+/// Where the run that an offset is in ends, or the offset itself where no byte is kept.
 pub(crate) fn held_to(table: &[Run], place: usize) -> usize
     ensures value { result ≡ held_up_to (runs_in table.now) place }
     ensures least { place ≤ result }
@@ -90,7 +90,7 @@ pub(crate) fn held_to(table: &[Run], place: usize) -> usize
     place
 }
 
-/// How far nothing is held from a place on, up to an end.
+/// How far no byte is kept from an offset on, up to an end.
 pub(crate) fn gap_to(table: &[Run], place: usize, end: usize) -> usize
     requires { place ≤ end }
     ensures value { result ≡ gap_up_to (runs_in table.now) place end }
@@ -104,7 +104,7 @@ pub(crate) fn gap_to(table: &[Run], place: usize, end: usize) -> usize
     to
 }
 
-/// How far nothing of a run is held from a place on, up to an end.
+/// How far no byte of a run is kept from an offset on, up to an end.
 fn before_run(run: Run, place: usize, end: usize) -> usize
     requires { place ≤ end }
     ensures value { result ≡ gap_before (run_of run) place end }
@@ -120,7 +120,7 @@ fn before_run(run: Run, place: usize, end: usize) -> usize
     }
 }
 
-/// Each run as its first place and the place after its last.
+/// Each run as the offset of its first byte and that after its last.
 pub(crate) fn edges_of(runs: &[Run]) -> ArrayVec<(u32, u32), 4>
     requires { length runs.now ≤ max_blocks }
     ensures { result.items ≡ map (λ (run : Interval). (run.from, run.to)) (runs_in runs.now) }

@@ -1,4 +1,4 @@
--- What each call leaves, of a queue whose marks a table gives.
+-- The queue after each call, where a table gives the marks.
 use Rattle.std.proofs.Common.{◌≡◌, ℕ, ◌+◌, ◌-◌, ◌<◌, ◌≤◌, Bool, true, false, if◌then◌else◌, nat_le, List, [], ◌++◌, length, take, drop, replicate, refl, inl, inr, sym, ap, subst, ◌∙◌, arith, length-append, length-take, length-drop}
 use Rattle.std.proofs.lemmas.Bool.{cases_lt, leb-true, le-leb}
 use Rattle.std.specs.Prelude.{Option, Some, None, unwrap_or, ◌↔◌, ◌⊎◌, IsTrue, IsNone, IfSome, slice_get}
@@ -11,7 +11,7 @@ use Rattle.tcp_sendq.specs.Marks.{interval, marks_of, queue_of, IsTable, IsKept,
 use Rattle.tcp_sendq.proofs.Intervals.{marks_of-more, marks_of-moved_down, marks_of-joined, IsTableFrom-wider, IsTableFrom-moved_down, IsTableFrom-joined, count_runs-marks_of}
 use Rattle.tcp_sendq.proofs.Kept.{IsQueue-after_offer, IsQueue-after_release, IsQueue-after_mark, IsQueue-without_marks}
 
--- a call leaves this queue, and it is kept
+-- after a call the queue is this one, and its invariant holds
 pub record Leaves (after : Queue) (capacity : ℕ) (bytes : List ℕ) (table : List Interval) : Type 0 where
   pub state : queue_of capacity bytes table ≡ after
   pub kept : IsKept capacity bytes table
@@ -86,7 +86,7 @@ marked {capacity} {bytes} {table} from to few ordered within old is =
     ap (λ b. record { capacity = capacity; bytes = bytes; marks = if b then marks_with from to q.marks else q.marks }) can in
     marked_cases capacity bytes table from to few (after_mark q from to) ordered within old sound after
 
--- ---- what the calls answer
+-- ---- what the calls return
 
 pub marked_runs : (q : Queue) (from to : ℕ) (few : Bool) → few ≡ can_mark q from to → IsTrue few ↔ (runs_begun (marks_with from to q.marks) ≤ max_runs)
 unfolding can_mark

@@ -15,7 +15,7 @@ use Rattle.tcp_sendq.proofs.Places.{marks_with-below, marks_with-inside, marks_w
 use Rattle.tcp_sendq.specs.declared.marks.Interval.{Interval}
 use Rattle.tcp_sendq.specs.Marks.{interval, has_place, covers, marks_of, IsTableFrom, IsTable, moved_down, union, joined, joined_front, count_before}
 
--- what a `retain` leaves that moves each interval down and drops those that are empty then
+-- the table after a `retain` that moves each interval down and drops those that are empty then
 pub moved_down-from_retain : {F : Type 0} (R : F → Interval → Bool → F → Interval → Type 0) (f : F) (n : ℕ)
     → ((x : Interval) (b : Bool) (t : F) (y : Interval) → R f x b t y → (b ≡ nat_lt 0 (x.end - n)) × (t ≡ f) × (y ≡ interval (x.start - n) (x.end - n)))
     → (xs ys : List Interval) → RetainsInTurn R f xs ys → ys ≡ moved_down n xs
@@ -25,7 +25,7 @@ moved_down-from_retain R f n says (x ∷ xs) ys (b, t, y, called, zs, rest, is) 
     let later : zs ≡ moved_down n xs = moved_down-from_retain R f n says xs zs (subst (λ g. RetainsInTurn R g xs zs) s.1 rest) in
     cc (is, s.0, s.2, later)
 
--- ---- the places of one interval
+-- ---- the offsets of one interval
 
 pub has_place-inside : (one : Interval) (p : ℕ) → one.start ≤ p → p < one.end → has_place one p ≡ true
 has_place-inside one p low high = grind (arith, nat_tests)
@@ -49,7 +49,7 @@ or_swap : (a b c : Bool) → (a || (b || c)) ≡ (b || (a || c))
 or_swap true b c = sym (or-true b)
 or_swap false b c = refl
 
--- ---- the places of a table
+-- ---- the offsets of a table
 
 -- a table that begins later, or ends earlier, is one that begins earlier and ends later
 pub IsTableFrom-wider : (low high low' high' : ℕ) (table : List Interval) → low' ≤ low → high ≤ high' → IsTableFrom low high table → IsTableFrom low' high' table
@@ -195,7 +195,7 @@ IsTableFrom-joined low high one (next ∷ rest) from_low some to_high h = elim (
   | inr behind ↦ subst (IsTableFrom low high) (sym (joined-behind one next rest behind)) (IsTableFrom-joined_front low high one (next ∷ rest) from_low some to_high h)
 ]
 
--- the intervals before the place, then what is joined with those behind it
+-- the intervals before the offset, then what is joined with those after it
 joined_at : (one : Interval) (table : List Interval) → joined one table ≡ take (count_before one.start table) table ++ joined_front one (drop (count_before one.start table) table)
 joined_at one [] = refl
 joined_at one (next ∷ rest) = elim (cases_lt next.end one.start) [
@@ -210,7 +210,7 @@ joined_at one (next ∷ rest) = elim (cases_lt next.end one.start) [
       joined-behind one next rest behind ∙ sym (ap (λ n. take n (next ∷ rest) ++ joined_front one (drop n (next ∷ rest))) count)
 ]
 
--- what an insert leaves once the intervals at the place were joined with this one
+-- the table after an insert, once the intervals at the index were joined with this one
 pub joined-from_insert : (one run : Interval) (place : ℕ) (old now : List Interval) → place ≡ count_before one.start old → take place now ≡ take place old → joined_front one (drop place old) ≡ run ∷ drop place now
     → joined one old ≡ insert now place run
 joined-from_insert one run place old now is front rest =
@@ -260,7 +260,7 @@ map-range_with_len-flag : (flag : Bool) (from n : ℕ) → map (λ p. flag) (ran
 map-range_with_len-flag flag from zero = refl
 map-range_with_len-flag flag from (suc n) = ap (λ marks. flag ∷ marks) (map-range_with_len-flag flag (from + 1) n)
 
--- the marks from a place on begin with those before the first interval, and then its own
+-- the marks from an offset on begin with those before the first interval, and then its own
 marks_from : (from low high : ℕ) (one : Interval) (rest : List Interval) → from ≤ low → IsTableFrom low high (one ∷ rest)
     → map (covers (one ∷ rest)) (range_with_len from (high - from))
     ≡ replicate (one.start - from) false ++ replicate (one.end - one.start) true ++ map (covers rest) (range_with_len one.end (high - one.end))

@@ -22,7 +22,7 @@ or_parts : (a b : Bool) → (a || b) ≡ false → (a ≡ false) × (b ≡ false
 or_parts true b h = absurd (false≢true (sym h))
 or_parts false b h = (refl, h)
 
--- ---- the first place that isn't covered
+-- ---- the first offset that isn't covered
 
 record IsFirstUncovered (table : List Interval) (high at first : ℕ) : Type 0 where
   from_at : at ≤ first
@@ -68,7 +68,7 @@ uncovered_first table count at h =
     let is : IsFirstUncovered table count at (first_uncovered at table) = is_first_uncovered at 0 count table h in
     is.uncovered
 
--- it is where the marked places from `at` on end
+-- it is where the marked bytes from `at` on end
 pub first_unmarked_is : (table : List Interval) (count at : ℕ) → IsTable count table → at + count_leading true (drop at (marks_of table count)) ≡ first_uncovered at table
 first_unmarked_is table count at h =
     let marks : List Bool = marks_of table count in
@@ -95,7 +95,7 @@ first_unmarked_is table count at h =
       ]
     ]
 
--- ---- the next place that is covered
+-- ---- the next offset that is covered
 
 record IsNextStart (table : List Interval) (high from next : ℕ) : Type 0 where
   behind : from < next
@@ -132,7 +132,7 @@ is_next_start from low high (one ∷ rest) h within uncovered = elim (cases_lt f
       })
 ]
 
--- it is where the unmarked places from `from` on end
+-- it is where the unmarked bytes from `from` on end
 pub next_start_is : (table : List Interval) (count from : ℕ) → IsTable count table → from < count → covers table from ≡ false
     → from + count_leading false (drop from (marks_of table count)) ≡ unwrap_or (next_start from table) count
 next_start_is table count from h within uncovered =
@@ -155,7 +155,7 @@ next_start_is table count from h within uncovered =
           cc
     ]
 
--- ---- the last place that is covered
+-- ---- the last offset that is covered
 
 record IsLastEnd (table : List Interval) (high end : ℕ) : Type 0 where
   positive : 0 < end

@@ -1,4 +1,4 @@
--- Lemmas on marked places.
+-- Lemmas on marked bytes.
 use Rattle.std.proofs.Common.{◌≡◌, ℕ, zero, suc, ◌+◌, ◌-◌, ◌<◌, ◌≤◌, ◌⊎◌, Bool, true, false, not, List, [], ◌∷◌, ◌++◌, length, take, drop, replicate, Some, None, slice_get, refl, sym, ap, subst, ◌∙◌, inl, inr, arith, length-append, length-drop, length-take}
 use Rattle.std.proofs.lemmas.List.{length-replicate}
 use Rattle.std.proofs.lemmas.Bool.Decides.{nat_tests}
@@ -140,7 +140,7 @@ count_leading-positive true (false ∷ marks) h = cc
 count_leading-positive false (true ∷ marks) h = cc
 count_leading-positive false (false ∷ marks) h = omega arith
 
--- the same from a place on
+-- as count_leading, from an offset on
 pub count_leading_between : (flag : Bool) (marks : List Bool) (at place : ℕ) → at ≤ place → place < at + count_leading flag (drop at marks) → slice_get marks place ≡ Some flag
 count_leading_between flag marks at place low high =
     let e : at + (place - at) ≡ place = omega arith in
@@ -153,7 +153,7 @@ count_leading_then flag marks at h =
 pub count_leading_within : (flag : Bool) (marks : List Bool) (at : ℕ) → at ≤ length marks → at + count_leading flag (drop at marks) ≤ length marks
 count_leading_within flag marks at h = omega (arith, count_leading-le flag (drop at marks), length-drop at marks)
 
--- ---- the next unmarked place
+-- ---- the next unmarked byte
 
 pub next_some : (q : Queue) (at : ℕ) → first_unmarked q at < length q.marks → next_unmarked q at ≡ Some (first_unmarked q at, first_unmarked q at + count_leading false (drop (first_unmarked q at) q.marks))
 unfolding next_unmarked

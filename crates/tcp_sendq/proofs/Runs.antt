@@ -1,11 +1,11 @@
--- Lemmas on runs of marked places.
+-- Lemmas on runs of marked bytes.
 use Rattle.std.proofs.Common.{◌≡◌, ℕ, zero, suc, ◌+◌, ◌<◌, ◌≤◌, Bool, true, false, not, ◌&&◌, if◌then◌else◌, List, [], ◌∷◌, ◌++◌, length, drop, replicate, get_or, count_by, refl, sym, ap, ◌∙◌, arith, add-one}
 use Rattle.std.specs.List.{range_with_len}
 use Rattle.std.proofs.lemmas.List.{get_or-drop, drop-drop}
 use Rattle.std.proofs.lemmas.List.Sums.{sum_by-cons}
 use Rattle.tcp_sendq.specs.SendQueue.{count_runs, follows_mark, begins_run, runs_begun}
 
--- the flag that stands last once a list has passed, where `before` stood before it
+-- the last flag of a list, where `before` is the flag before it
 abbrev pub flag_after : Bool → List Bool → Bool
 flag_after before [] = before
 flag_after before (marked ∷ marks) = flag_after marked marks
@@ -14,7 +14,7 @@ pub count_runs-append : (before : Bool) (front rest : List Bool) → count_runs 
 count_runs-append before [] rest = omega arith
 count_runs-append before (marked ∷ front) rest = omega (arith, count_runs-append marked front rest)
 
--- unmarked places add no run
+-- unmarked bytes add no run
 pub count_runs-unmarked : (before : Bool) (n : ℕ) → count_runs before (replicate n false) ≡ 0
 count_runs-unmarked before zero = refl
 count_runs-unmarked before (suc n) = omega (arith, count_runs-unmarked false n)
@@ -49,13 +49,13 @@ pub flag_after-append : (before : Bool) (front rest : List Bool) → flag_after 
 flag_after-append before [] rest = refl
 flag_after-append before (marked ∷ front) rest = flag_after-append marked front rest
 
--- a part that is marked is a run of its own, unless it goes on with one
+-- a part that is marked is a run of its own, unless it continues one
 pub count_runs-part : (before : Bool) (n : ℕ) → 0 < n → count_runs before (replicate n true) ≡ (if before then 0 else 1)
 count_runs-part before zero h = absurd (omega arith)
 count_runs-part true (suc n) h = count_runs-marked (suc n)
 count_runs-part false (suc n) h = omega (arith, count_runs-marked n)
 
--- A list of flags from a place on: its runs are the places of it that begin one.
+-- A list of flags from an offset on: its runs are the offsets of it that begin one.
 runs_from : (marks rest : List Bool) (at : ℕ) → drop at marks ≡ rest → count_runs (follows_mark marks at) rest ≡ count_by (begins_run marks) (range_with_len at (length rest))
 runs_from marks [] at e = refl
 runs_from marks (marked ∷ rest) at e =
@@ -71,6 +71,6 @@ runs_from marks (marked ∷ rest) at e =
     ap (λ flag. (if flag then 1 else 0) + count_runs marked rest) (sym begins) ∙ ap (λ n. (if begins_run marks at then 1 else 0) + n) later
     ∙ sym (sum_by-cons (λ place. if begins_run marks place then 1 else 0) at (range_with_len (at + 1) (length rest)))
 
--- the runs counted one by one are the places that begin one
+-- the runs counted one by one are the offsets that begin one
 pub runs_begun_is : (marks : List Bool) → count_runs false marks ≡ runs_begun marks
 runs_begun_is marks = runs_from marks marks 0 refl

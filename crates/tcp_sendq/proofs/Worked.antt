@@ -1,4 +1,4 @@
--- The definitions at worked calls: they compute to what the calls are to answer.
+-- The definitions at worked calls: they compute to what the calls must return.
 use Rattle.std.proofs.Common.{◌≡◌, ℕ, Bool, true, false, List, [], ◌∷◌, ◌++◌, replicate, Some, None, refl}
 use Rattle.tcp_sendq.specs.SendQueue.{Queue, empty_queue, room, count_taken, after_offer, after_release, can_mark, after_mark, without_marks, next_unmarked, last_mark_end, count_runs, runs_begun}
 
@@ -19,7 +19,7 @@ no_room_left = refl
 refilled : (after_offer (after_release full 3) (120 ∷ 121 ∷ 122 ∷ [])).bytes ≡ 100 ∷ 120 ∷ 121 ∷ 122 ∷ []
 refilled = refl
 
--- ten bytes, of which the peer tells to hold those at 2 and 3, and then the one at 4
+-- ten bytes, of which the peer reports those at 2 and 3 as received, and then the one at 4
 abbrev ten : Queue
 ten = record { capacity = 16; bytes = replicate 10 0; marks = replicate 10 false }
 
@@ -55,7 +55,7 @@ forgotten_end : last_mark_end (without_marks told) ≡ None
 unfolding told after_mark can_mark without_marks last_mark_end
 forgotten_end = refl
 
--- sixteen runs of one byte each, with a gap behind each
+-- sixteen runs of one byte each, with a gap after each
 abbrev sixteen : List Bool
 sixteen = true ∷ false ∷ true ∷ false ∷ true ∷ false ∷ true ∷ false ∷ true ∷ false ∷ true ∷ false ∷ true ∷ false ∷ true ∷ false
     ∷ true ∷ false ∷ true ∷ false ∷ true ∷ false ∷ true ∷ false ∷ true ∷ false ∷ true ∷ false ∷ true ∷ false ∷ true ∷ false ∷ []
@@ -69,7 +69,7 @@ sixteen_begun = refl
 abbrev crowded : Queue
 crowded = record { capacity = 40; bytes = replicate 36 0; marks = sixteen ++ replicate 4 false }
 
--- a 17th can't be kept, one that goes on with another can
+-- a 17th can't be kept, one that continues another can
 no_seventeenth : can_mark crowded 33 35 ≡ false
 unfolding can_mark
 no_seventeenth = refl

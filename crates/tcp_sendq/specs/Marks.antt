@@ -1,4 +1,4 @@
--- The marked places of a queue (RFC 2018, 5) as a table of intervals: its view, and what the private calls on the table do.
+-- The marked bytes of a queue (RFC 2018, 5) as a table of intervals: its view, and what the private calls on the table do.
 use Rattle.std.specs.Prelude.{ℕ, suc, ◌+◌, ◌-◌, ◌<◌, ◌≤◌, min, max, Bool, false, ◌&&◌, ◌||◌, nat_lt, nat_le, if◌then◌else◌, List, [], ◌∷◌, map, length, slice_get, Option, Some, None}
 use Rattle.std.specs.Option.{option_map}
 use Rattle.std.specs.List.{range_with_len}
@@ -11,27 +11,27 @@ interval start end = record { start = start; end = end }
 abbrev pub has_place : Interval → ℕ → Bool
 has_place one place = nat_le one.start place && nat_lt place one.end
 
--- whether some interval has the place
+-- whether some interval has the offset
 abbrev pub covers : List Interval → ℕ → Bool
 covers [] place = false
 covers (one ∷ rest) place = has_place one place || covers rest place
 
--- the marks that a table gives the first `count` places
+-- the marks that a table gives the first `count` bytes
 abbrev pub marks_of : List Interval → ℕ → List Bool
 marks_of table count = map (covers table) (range_with_len 0 count)
 
--- The intervals lie in order between two places, and between any two of them is a place that neither has.
+-- The intervals are in order between two offsets, and between any two of them is an offset that neither has.
 abbrev pub IsTableFrom : ℕ → ℕ → List Interval → Type 0
 IsTableFrom low high [] = Unit {0}
 IsTableFrom low high (one ∷ rest) = (low ≤ one.start) × (one.start < one.end) × (one.end ≤ high) × IsTableFrom (one.end + 1) high rest
 
--- a table of marks of the first `count` places
+-- a table of marks of the first `count` bytes
 abbrev pub IsTable : ℕ → List Interval → Type 0
 IsTable count table = IsTableFrom 0 count table
 
--- ---- what the calls leave
+-- ---- the table after the calls
 
--- without the first n places: what lies after them moves down
+-- without the first n bytes: what follows them moves down
 abbrev pub moved_down : ℕ → List Interval → List Interval
 moved_down n [] = []
 moved_down n (one ∷ rest) =
@@ -53,19 +53,19 @@ joined one [] = one ∷ []
 joined one (next ∷ rest) =
     if nat_lt next.end one.start then next ∷ joined one rest else joined_front one (next ∷ rest)
 
--- how many intervals at the front end before the place
+-- how many intervals at the front end before the offset
 abbrev pub count_before : ℕ → List Interval → ℕ
 count_before place [] = 0
 count_before place (one ∷ rest) = if nat_lt one.end place then suc (count_before place rest) else 0
 
--- ---- what the calls answer
+-- ---- what the calls return
 
--- the first place from this one on that no interval has
+-- the first offset from this one on that no interval has
 abbrev pub first_uncovered : ℕ → List Interval → ℕ
 first_uncovered at [] = at
 first_uncovered at (one ∷ rest) = if has_place one at then one.end else first_uncovered at rest
 
--- the first start of an interval after the place
+-- the first start of an interval after the offset
 abbrev pub next_start : ℕ → List Interval → Option ℕ
 next_start from [] = None
 next_start from (one ∷ rest) = if nat_lt from one.start then Some one.start else next_start from rest

@@ -1,4 +1,4 @@
--- The numbers and texts of the refusals.
+-- The numbers and texts of the refusals of a new queue.
 use Rattle.std.specs.Prelude.{ℕ, List, codes}
 use Rattle.tcp_sendq.specs.declared.error.QueueError.{QueueError}
 use Rattle.tcp_sendq.specs.declared.error.QueueError.TheVariants.{BadCapacity, NoMemory}

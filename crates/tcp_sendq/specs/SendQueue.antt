@@ -1,11 +1,11 @@
--- The bytes that one end still keeps for its peer (RFC 9293, 3.3.1): a list of bytes, the oldest first,
--- and the set of those that the peer has told to hold (RFC 2018, 4 and 5), as one flag for each byte.
+-- The bytes that one end still keeps for its peer (RFC 9293, 3.3.1): a list of bytes, the oldest first, and for each byte a
+-- flag, whether the peer has reported it as received (RFC 2018, 4 and 5). A place is the offset of a byte from the oldest.
 use Rattle.std.specs.Prelude.{◌≡◌, ℕ, zero, suc, ◌+◌, ◌-◌, ◌<◌, ◌≤◌, ◌⊎◌, min, Bool, true, false, not, ◌&&◌, ◌||◌, nat_lt, nat_le, if◌then◌else◌, List, [], ◌∷◌, ◌++◌, length, take, drop, replicate, slice_get, slice_index_or, count_by, Option, Some, None}
 use Rattle.std.specs.List.{range_with_len}
 
 pub record Queue : Type 0 where
   pub capacity : ℕ
-  -- offered and not yet released
+  -- accepted and not yet released
   pub bytes : List ℕ
   -- for each byte, whether it is marked
   pub marks : List Bool
@@ -16,7 +16,7 @@ empty_queue capacity = record { capacity = capacity; bytes = []; marks = [] }
 abbrev pub room : Queue → ℕ
 room q = q.capacity - length q.bytes
 
--- how many bytes of a text the queue takes: the front that fits
+-- how many bytes of a text the queue accepts: the longest prefix that fits
 abbrev pub count_taken : Queue → List ℕ → ℕ
 count_taken q text = min (room q) (length text)
 
@@ -32,34 +32,34 @@ after_release q n = record q { bytes = drop n q.bytes; marks = drop n q.marks }
 
 -- ---- marks
 
--- the place holds a byte, and it is marked
+-- a byte is at this place, and it is marked
 abbrev pub IsMarked : Queue → ℕ → Type 0
 IsMarked q place = slice_get q.marks place ≡ Some true
 
--- the place holds a byte, and it isn't marked
+-- a byte is at this place, and it isn't marked
 abbrev pub IsUnmarked : Queue → ℕ → Type 0
 IsUnmarked q place = slice_get q.marks place ≡ Some false
 
--- every place from the first number on and below the second is marked
+-- every byte from the first place on and before the second is marked
 abbrev pub marks_with : ℕ → ℕ → List Bool → List Bool
 marks_with from to marks = take from marks ++ replicate (to - from) true ++ drop to marks
 
--- How many runs there are, a run being a maximal interval of marked places: each has one place that is
--- marked while the place before it isn't. The first argument tells of the place before the list.
+-- How many runs there are, a run being a maximal interval of marked bytes: each has one byte that is marked while the byte
+-- before it isn't. The first argument is whether the byte before the list is marked.
 abbrev pub count_runs : Bool → List Bool → ℕ
 count_runs before [] = 0
 count_runs before (marked ∷ marks) = (if marked && not before then 1 else 0) + count_runs marked marks
 
--- The same without a recursion. Whether a place is marked:
+-- The count of runs without a recursion. Whether the byte at a place is marked:
 abbrev pub is_marked : List Bool → ℕ → Bool
 is_marked marks place = slice_index_or marks place false
 
--- whether the place before it is, which the first place lacks;
+-- whether the byte before it is; the first has none before it;
 abbrev pub follows_mark : List Bool → ℕ → Bool
 follows_mark marks zero = false
 follows_mark marks (suc place) = is_marked marks place
 
--- whether a maximal interval of marked places begins there;
+-- whether a maximal interval of marked bytes begins there;
 abbrev pub begins_run : List Bool → ℕ → Bool
 begins_run marks place = is_marked marks place && not (follows_mark marks place)
 
@@ -75,11 +75,11 @@ max_runs = 16
 unfoldable pub can_mark : Queue → ℕ → ℕ → Bool
 can_mark q from to = nat_le (count_runs false (marks_with from to q.marks)) max_runs
 
--- the peer told that it holds these bytes (RFC 2018, 5); what would make too many runs changes nothing
+-- the peer reported these bytes as received (RFC 2018, 5); what would make too many runs changes nothing
 unfoldable pub after_mark : Queue → ℕ → ℕ → Queue
 after_mark q from to = record q { marks = if can_mark q from to then marks_with from to q.marks else q.marks }
 
--- a retransmission timeout forgets what the peer told (RFC 2018, 5)
+-- a retransmission timeout forgets what the peer reported (RFC 2018, 5)
 unfoldable pub without_marks : Queue → Queue
 without_marks q = record q { marks = replicate (length q.bytes) false }
 
@@ -91,30 +91,30 @@ count_leading true (false ∷ marks) = 0
 count_leading false (true ∷ marks) = 0
 count_leading false (false ∷ marks) = suc (count_leading false marks)
 
--- the first unmarked place from at on, if there is one
+-- the first unmarked byte from at on, if there is one
 abbrev pub first_unmarked : Queue → ℕ → ℕ
 first_unmarked q at = at + count_leading true (drop at q.marks)
 
--- that place, and the end of its run of unmarked places
+-- that byte, and the end of its run of unmarked bytes
 unfoldable pub next_unmarked : Queue → ℕ → Option (ℕ × ℕ)
 next_unmarked q at =
     if nat_lt (first_unmarked q at) (length q.marks) then Some (first_unmarked q at, first_unmarked q at + count_leading false (drop (first_unmarked q at) q.marks)) else None
 
--- the same as a relation: `run` is the first unmarked place from `at` on, and the end of its run
+-- next_unmarked as a relation: `run` is the first unmarked byte from `at` on, and the end of its run
 pub record IsNextUnmarked (q : Queue) (at : ℕ) (run : ℕ × ℕ) : Type 0 where
   pub from_at : at ≤ run.0
   pub ordered : run.0 < run.1
   pub within : run.1 ≤ length q.bytes
   pub passed_over : (place : ℕ) → at ≤ place → place < run.0 → IsMarked q place
   pub unmarked_run : (place : ℕ) → run.0 ≤ place → place < run.1 → IsUnmarked q place
-  -- the run is maximal: the queue ends there, or a marked place follows
+  -- the run is maximal: the queue ends there, or a marked byte follows
   pub maximal : (run.1 ≡ length q.bytes) ⊎ IsMarked q run.1
 
--- no unmarked place is left from `at` on
+-- no unmarked byte is left from `at` on
 abbrev pub AllMarkedFrom : Queue → ℕ → Type 0
 AllMarkedFrom q at = (place : ℕ) → at ≤ place → place < length q.bytes → IsMarked q place
 
--- the place after the greatest that is marked
+-- the place after the last marked byte
 abbrev pub end_of_marks : List Bool → ℕ
 end_of_marks [] = 0
 end_of_marks (marked ∷ marks) = if nat_lt 0 (end_of_marks marks) || marked then suc (end_of_marks marks) else 0
@@ -122,18 +122,18 @@ end_of_marks (marked ∷ marks) = if nat_lt 0 (end_of_marks marks) || marked the
 unfoldable pub last_mark_end : Queue → Option ℕ
 last_mark_end q = if nat_lt 0 (end_of_marks q.marks) then Some (end_of_marks q.marks) else None
 
--- no place from this one on is marked
+-- no byte from this place on is marked
 abbrev pub NoneMarkedFrom : Queue → ℕ → Type 0
 NoneMarkedFrom q from = (place : ℕ) → from ≤ place → place < length q.bytes → IsUnmarked q place
 
--- the same as a relation: the place before `end` is marked, and none from `end` on is
+-- last_mark_end as a relation: the byte before `end` is marked, and none from `end` on is
 pub record IsLastMarkEnd (q : Queue) (end : ℕ) : Type 0 where
   pub within : end ≤ length q.bytes
   pub positive : 0 < end
   pub last_marked : IsMarked q (end - 1)
   pub none_beyond : NoneMarkedFrom q end
 
--- ---- what holds of every queue
+-- ---- the invariant of a queue
 
 -- the greatest capacity, in bytes
 abbrev pub max_capacity : ℕ

@@ -10,12 +10,12 @@ use std::fmt;
 pub enum QueueError {
     /// The capacity isn't from 1 to [`MAX_CAPACITY`](crate::MAX_CAPACITY).
     BadCapacity,
-    /// Memory for the capacity was refused.
+    /// There is no memory for the capacity.
     NoMemory,
 }
 
 impl QueueError {
-    /// The number under which the refusal is reported.
+    /// The number under which the refusal is reported, 21 or 22.
     pub fn number(self) -> u8
         ensures { result ≡ queue_error_number self }
     {

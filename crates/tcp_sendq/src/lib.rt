@@ -1,9 +1,10 @@
-//! The bytes that one end of a TCP connection still keeps for its peer: those that were sent or wait to be
-//! sent, until an acknowledgement releases them (RFC 9293, 3.3.1), and which of them the peer has told to
-//! hold by selective acknowledgement (RFC 2018, 4 and 5).
+//! The bytes that one end of a TCP connection still keeps for its peer: those that were sent or wait to be sent, until
+//! an acknowledgement releases them (RFC 9293, 3.3.1). It also has which of them the peer has reported as received by
+//! selective acknowledgement (RFC 2018, 4 and 5).
 //!
-//! [`SendQueue`] is a list of at most [`MAX_CAPACITY`] bytes with a set of marked places; `new` takes its memory, and only that
-//! can fail ([`QueueError`]). It knows places from the front, not sequence numbers, and not what was sent: that is `tcp_halves`'.
+//! [`SendQueue`] is a list of at most [`MAX_CAPACITY`] bytes, of which some are marked. Only `new` allocates, and only
+//! that can fail ([`QueueError`]). It knows offsets from the front, not sequence numbers, and not what was sent: that
+//! is `tcp_halves`'.
 #![tactic(auto)]
 
 mod error;

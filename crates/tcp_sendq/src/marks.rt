@@ -1,4 +1,4 @@
-//! The marked places of a queue, as a table of intervals.
+//! The marked bytes of a queue, as a table of intervals.
 ghost use Rattle.std.specs.Prelude.{◌≡◌, ◌≤◌, [], ◌∷◌, take, drop, length, nat_le, if◌then◌else◌};
 ghost use Rattle.tcp_sendq.specs.SendQueue.{max_runs};
 ghost use Rattle.tcp_sendq.specs.Marks.{interval, moved_down, union, joined, joined_front, count_before, first_uncovered, next_start, last_end};
@@ -8,17 +8,17 @@ use arrayvec::ArrayVec;
 /// The greatest number of runs of marked bytes that are kept apart.
 const MAX_RUNS: usize = 16;
 
-/// A run of marked places.
+/// A run of marked bytes.
 #[derive(Clone, Copy, Debug, Default)]
 struct Interval {
-    /// Its first place.
+    /// The offset of its first byte.
     start: usize,
-    /// The place after its last.
+    /// The offset after its last byte.
     end: usize,
 }
 
 impl Interval {
-    /// The places of both, which overlap or touch.
+    /// The run of both, which overlap or touch.
     fn union(self, other: Interval) -> Interval
         ensures { result ≡ union self other }
     {
@@ -29,15 +29,15 @@ impl Interval {
     }
 }
 
-/// The marked places of a queue.
+/// The marked bytes of a queue.
 #[derive(Debug, Drop)]
 pub(crate) struct Marks {
-    /// The runs in order, none of them empty; between any two is a place that isn't marked.
+    /// The runs in order, none of them empty; between any two is a byte that isn't marked.
     table: ArrayVec<Interval, MAX_RUNS>,
 }
 
 impl Marks {
-    /// No place is marked.
+    /// No byte is marked.
     pub(crate) fn new() -> Self
         ensures { result.table.items ≡ [] }
     {
@@ -46,14 +46,14 @@ impl Marks {
         }
     }
 
-    /// Takes every mark away.
+    /// Removes every mark.
     pub(crate) fn clear(&mut self)
         ensures { self.new.table.items ≡ [] }
     {
         self.table.clear();
     }
 
-    /// Takes the first `n` places away, so that the others move down.
+    /// Removes the first `n` bytes, so that the others move down.
     pub(crate) fn release(&mut self, n: usize)
         ensures { self.new.table.items ≡ moved_down n self.old.table.items }
     {
@@ -64,8 +64,8 @@ impl Marks {
         });
     }
 
-    /// Marks the places from `from` on and below `to`, unless that makes one run too many: false, with nothing
-    /// changed.
+    /// Marks the bytes from the offset `from` on and before `to`, unless that makes one run too many: then it returns
+    /// false, and nothing changes.
     pub(crate) fn mark(&mut self, from: usize, to: usize) -> bool
         ensures value { result ≡ nat_le (length (joined (interval from to) self.old.table.items)) max_runs }
         ensures state { self.new.table.items ≡ (if result then joined (interval from to) self.old.table.items else self.old.table.items) }
@@ -81,7 +81,7 @@ impl Marks {
         self.table.try_insert(place, run).is_ok()
     }
 
-    /// How many runs end before the place `from`.
+    /// How many runs end before the offset `from`.
     fn count_before(&self, from: usize) -> usize
         ensures value { result ≡ count_before from self.now.table.items }
         ensures within { result ≤ length self.now.table.items }
@@ -96,7 +96,7 @@ impl Marks {
         runs.len()
     }
 
-    /// Takes the runs from the one at `place` on away that `run` overlaps or touches, and answers it joined with them.
+    /// Removes the runs from the index `place` on that `run` overlaps or touches, and returns it joined with them.
     fn absorb(&mut self, place: usize, mut run: Interval) -> Interval
         requires { place ≤ length self.old.table.items }
         ensures front { take place self.new.table.items ≡ take place self.old.table.items }
@@ -110,7 +110,7 @@ impl Marks {
         run
     }
 
-    /// The first place from `at` on that isn't marked.
+    /// The first offset from `at` on that isn't marked.
     pub(crate) fn first_unmarked(&self, at: usize) -> usize
         ensures { result ≡ first_uncovered at self.now.table.items }
     {
@@ -122,7 +122,7 @@ impl Marks {
         at
     }
 
-    /// Where the first run after the place `from` begins.
+    /// Where the first run after the offset `from` begins.
     pub(crate) fn next_start(&self, from: usize) -> Option<usize>
         ensures { result ≡ next_start from self.now.table.items }
     {
@@ -134,7 +134,7 @@ impl Marks {
         None
     }
 
-    /// The place after the last that is marked.
+    /// The offset after the last marked byte.
     pub(crate) fn last_end(&self) -> Option<usize>
         ensures { result ≡ last_end self.now.table.items }
     {

@@ -1,4 +1,4 @@
-//! The send queue.
+//! The send queue (RFC 9293, 3.3.1).
 ghost use Rattle.std.specs.Prelude.{◌≡◌, ℕ, ◌+◌, ◌<◌, ◌≤◌, ◌++◌, ◌↔◌, ◌⊎◌, length, take, drop, IsTrue, IsFalse, IsNone, IfSome, IfOk};
 ghost use Rattle.tcp_sendq.specs.SendQueue.{Queue, IsQueue, IsMarked, empty_queue, room, count_taken, after_offer, after_release, marks_with, runs_begun, max_runs, max_capacity, can_mark, after_mark, without_marks, next_unmarked, IsNextUnmarked, AllMarkedFrom, last_mark_end, IsLastMarkEnd, NoneMarkedFrom};
 ghost use Rattle.tcp_sendq.specs.Marks.{queue_of, IsKept};
@@ -13,13 +13,13 @@ use std::marker::Model;
 /// The greatest capacity of a queue, in bytes.
 pub const MAX_CAPACITY: usize = 1_048_576;
 
-/// The bytes offered and not yet released, oldest first, of which some are marked: the peer has told to
-/// hold them. A place is counted from the oldest byte, which stands at 0.
+/// The bytes that were accepted and not yet released, oldest first, of which some are marked: the peer has reported
+/// them as received (RFC 2018, 5). Offsets count from the oldest byte, which is at 0.
 #[derive(Debug, Drop)]
 pub struct SendQueue<A: Allocator = Global> {
     /// A ring, whose capacity is the queue's: from 1 to [`MAX_CAPACITY`].
     bytes: HeapCircularBuffer<u8, A>,
-    /// The runs of marked places among those of `bytes`.
+    /// The runs of marked bytes.
     marks: Marks,
 }
 
@@ -32,7 +32,8 @@ impl<A: Allocator> Model for SendQueue<A> {
 }
 
 impl SendQueue {
-    /// An empty queue of `capacity` bytes, whose memory is taken now: no later call takes any.
+    /// An empty queue of `capacity` bytes. It allocates now, and no later call does. An error where the capacity is out
+    /// of range, or there is no memory.
     pub fn new(alloc: Global, capacity: usize) -> Result<Self, QueueError>
         ensures empty { IfOk result (λ q. q ≡ empty_queue capacity) }
         ensures sound { IfOk result IsQueue }
@@ -43,7 +44,8 @@ impl SendQueue {
 }
 
 impl<A: Allocator> SendQueue<A> {
-    /// An empty queue of `capacity` bytes, whose memory is taken from `alloc` now: no later call takes any.
+    /// An empty queue of `capacity` bytes, in memory of `alloc`. It allocates now, and no later call does. An error
+    /// where the capacity is out of range, or there is no memory.
     pub fn new_in(alloc: A, capacity: usize) -> Result<Self, QueueError>
         ensures empty { IfOk result (λ q. q ≡ empty_queue capacity) }
         ensures sound { IfOk result IsQueue }
@@ -87,7 +89,7 @@ impl<A: Allocator> SendQueue<A> {
         self.bytes.capacity()
     }
 
-    /// How many more bytes the queue takes.
+    /// How many more bytes the queue accepts.
     pub fn room(&self) -> usize
         ensures value { result ≡ room self.now }
         ensures sound { IsQueue self.now }
@@ -95,7 +97,7 @@ impl<A: Allocator> SendQueue<A> {
         self.bytes.capacity() - self.bytes.len()
     }
 
-    /// Appends the front of `text` that fits, unmarked, and answers its length.
+    /// Appends the longest prefix of `text` that fits, unmarked, and returns its length.
     pub fn offer(&mut self, text: &[u8]) -> usize
         ensures count { result ≡ count_taken self.old text.now }
         ensures state { self.new ≡ after_offer self.old text.now }
@@ -104,7 +106,7 @@ impl<A: Allocator> SendQueue<A> {
         self.bytes.fill_from_slice(text)
     }
 
-    /// Takes the oldest `n` bytes and their marks away (RFC 9293, 3.10.7.4).
+    /// Removes the oldest `n` bytes and their marks (RFC 9293, 3.10.7.4).
     pub fn release(&mut self, n: usize)
         requires { n ≤ length self.old.bytes }
         ensures state { self.new ≡ after_release self.old n }
@@ -115,7 +117,7 @@ impl<A: Allocator> SendQueue<A> {
         self.marks.release(n);
     }
 
-    /// Fills `out` with the bytes from the place `at` on.
+    /// Fills `out` with the bytes from the offset `at` on.
     pub fn copy(&self, at: usize, out: &mut [u8])
         requires { at + length out.old ≤ length self.now.bytes }
         ensures { out.new ≡ take (length out.old) (drop at self.now.bytes) }
@@ -124,8 +126,8 @@ impl<A: Allocator> SendQueue<A> {
         ring::copy_from(front, back, at, out);
     }
 
-    /// The bytes from the place `at` on where they lie: `count` of them, in two parts, of which the first is empty only where the
-    /// count is 0.
+    /// The `count` bytes from the offset `at` on where they lie, in two parts. The first is empty only where `count` is
+    /// 0.
     pub fn lend(&self, at: usize, count: usize) -> (&[u8], &[u8])
         requires { at + count ≤ length self.now.bytes }
         ensures bytes { result.0.now ++ result.1.now ≡ take count (drop at self.now.bytes) }
@@ -135,8 +137,8 @@ impl<A: Allocator> SendQueue<A> {
         ring::lend_from(front, back, at, count)
     }
 
-    /// Marks the places from `from` on and below `to`, unless more than 16 runs would then be marked:
-    /// false, with nothing changed (RFC 2018, 5).
+    /// Marks the bytes from the offset `from` on and before `to` (RFC 2018, 5). Where more than 16 runs would then be
+    /// marked it returns false, and nothing changes.
     pub fn mark(&mut self, from: usize, to: usize) -> bool
         requires ordered { from < to }
         requires within { to ≤ length self.old.bytes }
@@ -150,7 +152,7 @@ impl<A: Allocator> SendQueue<A> {
         self.marks.mark(from, to)
     }
 
-    /// Takes every mark away (RFC 2018, 5).
+    /// Removes every mark (RFC 2018, 5).
     pub fn forget_marks(&mut self)
         ensures state { self.new ≡ without_marks self.old }
         ensures sound { IsQueue self.new }
@@ -158,8 +160,8 @@ impl<A: Allocator> SendQueue<A> {
         self.marks.clear();
     }
 
-    /// The first unmarked place from `at` on, and the end of its run of unmarked places; none where every
-    /// place from `at` on is marked.
+    /// The offset of the first unmarked byte from `at` on, and the end of its run of unmarked bytes; `None` where every
+    /// byte from `at` on is marked.
     pub fn next_unmarked(&self, at: usize) -> Option<(usize, usize)>
         ensures value { result ≡ next_unmarked self.now at }
         ensures first { IfSome result (IsNextUnmarked self.now at) }
@@ -174,7 +176,7 @@ impl<A: Allocator> SendQueue<A> {
         Some((from, self.marks.next_start(from).unwrap_or(len)))
     }
 
-    /// The place after the last that is marked; none where no place is.
+    /// The offset after the last marked byte; `None` where no byte is marked.
     pub fn last_mark_end(&self) -> Option<usize>
         ensures value { result ≡ last_mark_end self.now }
         ensures last { IfSome result (IsLastMarkEnd self.now) }

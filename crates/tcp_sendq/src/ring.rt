@@ -1,14 +1,14 @@
-//! Reading what a ring holds in two slices.
+//! Reads the content of a ring in two slices.
 ghost use Rattle.std.specs.Prelude.{◌≡◌, ◌+◌, ◌<◌, ◌≤◌, ◌++◌, length, take, drop};
 
-/// Fills `out` with the bytes from the place `at` on of those in `front`, which go on in `back`.
+/// Fills `out` with the bytes from the offset `at` on of `front`, which `back` continues.
 #[inline(always)]
 #[tactic(auto, using(crate::proofs::Joined::joined, crate::proofs::Joined::inside))]
 pub(crate) fn copy_from(front: &[u8], back: &[u8], at: usize, out: &mut [u8])
     requires { at + length out.old ≤ length front.now + length back.now }
     ensures { out.new ≡ take (length out.old) (drop at (front.now ++ back.now)) }
 {
-    // Most texts stand in one piece.
+    // Most texts lie in one piece.
     let end = at + out.len();
     if end <= front.len() {
         out.copy_from_slice(&front[at..end]);
@@ -17,7 +17,7 @@ pub(crate) fn copy_from(front: &[u8], back: &[u8], at: usize, out: &mut [u8])
     }
 }
 
-/// Does so where they go on in `back`.
+/// Does so where they end in `back`.
 #[cold]
 #[inline(never)]
 #[tactic(auto, using(crate::proofs::Joined::joined, std::proofs::lemmas::List::drop_min, std::proofs::lemmas::List::take_min))]
@@ -33,8 +33,8 @@ fn copy_over_end(front: &[u8], back: &[u8], at: usize, out: &mut [u8])
     out[count..].copy_from_slice(&second[..rest]);
 }
 
-/// The bytes from the place `at` on of those in `front`, which go on in `back`, where they lie: so many, in two parts. The first is
-/// empty only where there are none.
+/// The `count` bytes from the offset `at` on of `front`, which `back` continues, where they lie, in two parts. The
+/// first is empty only where there are none.
 #[inline(always)]
 #[tactic(auto, using(crate::proofs::Joined::joined, crate::proofs::Joined::inside))]
 pub(crate) fn lend_from<'a>(

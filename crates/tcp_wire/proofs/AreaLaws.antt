@@ -1,4 +1,4 @@
--- Options and padding: what is read is spelled so, what is spelled is read, and each fault is the first.
+-- Options and padding: what is read has this spelling, what is spelled is read, and each fault is the first.
 use Rattle.std.proofs.Common.{◌≡◌, ◌≢◌, ℕ, zero, suc, ◌+◌, ◌-◌, ◌<◌, ◌≤◌, true, false, eqb, List, [], ◌∷◌, ◌++◌, length, drop, get_or, replicate, Option, Some, None, Result, Ok, Err, refl, sym, ap, subst, ◌∙◌, ◌⊎◌, inl, inr, length-append, append_assoc, arith}
 use Rattle.std.proofs.lemmas.Bool.Decides.{nat_tests}
 use Rattle.std.proofs.lemmas.List.{length-replicate, append-nil, drop_more, drop_all}
@@ -46,7 +46,7 @@ is_same a b h = grind (arith, nat_tests)
 isn't_same : (a b : ℕ) → a < b → eqb a b ≡ false
 isn't_same a b h = grind (arith, nat_tests)
 
--- ---- what an outcome says of an area
+-- ---- the statement of an outcome about an area
 
 abbrev pub Describes : ℕ → List ℕ → Result (List OptionContent × ℕ) DecodeError → Type 0
 Describes start area (Ok read) = (area ≡ spellings read.0 ++ replicate {A = ℕ} read.1 0) × AreSpellable read.0
@@ -138,7 +138,7 @@ unfolding option_at
 nothing_left [] short = refl
 nothing_left (b ∷ area) short = absurd (omega arith)
 
--- what is read of an area is what stands there
+-- what is read of an area is what is there
 pub options_described : (n start : ℕ) (area : List ℕ) → AreBytes area → length area ≤ n → length area ≤ 40 → Describes start area (options_in n start area)
 unfolding options_in
 options_described zero start area fits short small = padding_described start area (nothing_left area short)
@@ -151,9 +151,9 @@ options_described (suc n) start area fits short small =
     described_after start found.0 area found.1 (options_in n (start + length (spelling found.0)) found.1) t
     (options_described n (start + length (spelling found.0)) found.1 (bytes_after area found.1 found.0 t fits) (omega arith) (omega arith)))
 
--- ---- and what stands there is what is read
+-- ---- and what is there is what is read
 
--- options in front of what was read behind them
+-- options in front of what was read after them
 pub with_all : List OptionContent → Read → Read
 with_all os (Ok read) = Ok (os ++ read.0, read.1)
 with_all os (Err e) = Err e
@@ -173,7 +173,7 @@ unfolding with_all
 with_all-push os o (Ok read) = ap (λ (xs : List OptionContent). Ok (xs, read.1)) (sym (append_assoc os (o ∷ []) read.0))
 with_all-push os o (Err e) = refl
 
--- behind spelled options the reading goes on at the rest
+-- after spelled options the reading continues at the rest
 options_in_front : (n start : ℕ) (os : List OptionContent) (rest : List ℕ) → AreSpellable os → length os ≤ n
     → options_in n start (spellings os ++ rest) ≡ with_all os (options_in (n - length os) (start + length (spellings os)) rest)
 unfolding options_in
@@ -198,7 +198,7 @@ pub options_few : (os : List OptionContent) → length os ≤ length (spellings 
 options_few [] = omega arith
 options_few (o ∷ os) = omega (arith, options_few os, spelling_length o, length-append (spelling o) (spellings os))
 
--- where no option stands in front, the rest is padding or a fault
+-- where no option is in front, the rest is padding or a fault
 pub options_in_none : (n place : ℕ) (rest : List ℕ) → option_at rest ≡ None → options_in n place rest ≡ padding_at place rest
 unfolding options_in
 options_in_none zero place rest none = refl
@@ -286,7 +286,7 @@ bad_padding_read n start area place short bad =
     ∙ ap (with_all bad.before) (options_in_none (n - length bad.before) (start + length (spellings bad.before)) rest (none_from bad.zeros (bad.first ∷ bad.rest) bad.some_zeros) ∙ padding_from (start + length (spellings bad.before)) bad.zeros bad.first bad.rest bad.some_zeros bad.not_zero)
     ∙ ap (λ (k : ℕ). Err (BadPadding k)) (sym bad.place_is)
 
--- ---- as the code finds it: by the place of the first other byte
+-- ---- as the code finds it: by the offset of the first other byte
 
 pub zeros_more : (bytes : List ℕ) (i : ℕ) → i < length bytes → get_or bytes i 0 ≡ 0 → i + count_zeros (drop i bytes) ≡ count_zeros bytes → i + 1 + count_zeros (drop (i + 1) bytes) ≡ count_zeros bytes
 zeros_more bytes i inside none before =

@@ -1,4 +1,4 @@
--- Lists of bytes, and the bytes of a number at its place.
+-- Lists of bytes, and the bytes of a number at its offset.
 use Rattle.std.proofs.Common.{◌≡◌, ℕ, zero, suc, ◌+◌, ◌*◌, ◌/◌, ◌%◌, ◌<◌, ◌≤◌, List, [], ◌∷◌, ◌++◌, length, take, drop, get_or, replicate, refl, ap, ◌∙◌, inl, inr, arith}
 use Rattle.std.proofs.lemmas.Bool.{cases_lt}
 use Rattle.std.proofs.lemmas.List.{drop_more, get_or-drop, get_or-take, get_or_past, length-take}
@@ -49,7 +49,7 @@ bytes_four n xs h =
 at_place : (bytes : List ℕ) (i j : ℕ) → i ≡ j → get_or bytes i 0 ≡ get_or bytes j 0
 at_place bytes i j e = ap (λ (k : ℕ). get_or bytes k 0) e
 
--- the bytes of a number that is read at a place stand there
+-- the bytes of a number that is read at an offset are there
 pub next_two : (i : ℕ) (bytes : List ℕ) (x : ℕ) → AreBytes bytes → i + 2 ≤ length bytes → x ≡ big_from i 2 bytes → drop i bytes ≡ big_bytes 2 x ++ drop (i + 2) bytes
 next_two i bytes x fits inside is =
     let a = drop_more bytes i 0 (omega arith) in

@@ -10,7 +10,7 @@ use Rattle.tcp_wire.specs.View.{listed_or_none, options_of}
 use Rattle.tcp_wire.proofs.OptionLaws.{option_length, spelling_length}
 use Rattle.tcp_wire.proofs.AreaLaws.{options_in_none}
 
--- no option stands in front
+-- no option is in front
 pub first_none : (n : ℕ) (bytes : List ℕ) → option_at bytes ≡ None → first_options n bytes ≡ []
 unfolding first_options
 first_none zero bytes none = refl
@@ -30,7 +30,7 @@ enough (suc n) bytes (Some (o, behind)) found few =
     ∙ ap (λ (os : List OptionContent). o ∷ os) (enough n behind (option_at behind) refl (omega (arith, option_length bytes o behind found, spelling_length o)))
     ∙ sym (first_some n bytes behind o found)
 
--- an option, and those behind it
+-- an option, and those after it
 pub first_more : (n : ℕ) (bytes behind : List ℕ) (o : OptionContent) → length bytes ≤ suc n → option_at bytes ≡ Some (o, behind)
     → first_options (suc n) bytes ≡ o ∷ first_options (suc n) behind
 first_more n bytes behind o few found =

@@ -1,4 +1,4 @@
--- One option: what is read is spelled so, and what is spelled is read again.
+-- One option: what is read has this spelling, and what is spelled is read again.
 use Rattle.std.proofs.Common.{◌≡◌, ℕ, zero, suc, ◌+◌, ◌-◌, ◌*◌, ◌/◌, ◌^◌, ◌<◌, ◌≤◌, Bool, true, false, cond, ltb, eqb, ◌&&◌, ◌||◌, List, [], ◌∷◌, ◌++◌, length, take, drop, map, get_or, Some, None, refl, sym, ap, subst, ◌∙◌, ◌⊎◌, inl, inr, length-append, append_assoc, arith}
 use Rattle.std.specs.List.{flat_map, AllByRecursion}
 use Rattle.std.proofs.lemmas.Bool.{le-ltb, ltb-false}
@@ -313,7 +313,7 @@ pub all_push : {A : Type 0} (P : A → Type 0) (xs : List A) (y : A) → AllByRe
 all_push P [] y all py = (py, tt)
 all_push P (x ∷ xs) y all py = (all.0, all_push P xs y all.1 py)
 
--- the item at a place of a list that is mapped
+-- the item at an index of a list that is mapped
 pub all_at : {A B : Type 0} (P : B → Type 0) (f : A → B) (xs : List A) (i : ℕ) (d : A) → AllByRecursion P (map f xs) → i < length xs → P (f (get_or xs i d))
 all_at P f [] i d all inside = absurd (omega arith)
 all_at P f (x ∷ xs) zero d all inside = all.0
@@ -327,7 +327,7 @@ pub blocks_push : (bs : List (ℕ × ℕ)) (b : ℕ × ℕ) → flat_map block_b
 blocks_push [] b = refl
 blocks_push (x ∷ bs) b = ap (λ (xs : List ℕ). block_bytes x ++ xs) (blocks_push bs b) ∙ sym (append_assoc (block_bytes x) (flat_map block_bytes bs) (block_bytes b))
 
--- what is spelled up to a place and at it is no more than the whole
+-- what is spelled up to an index and at it is no more than the whole
 pub spellings_room : {A : Type 0} (f : A → OptionContent) (xs : List A) (i : ℕ) (d : A) → i < length xs
     → length (spellings (map f (take i xs))) + length (spelling (f (get_or xs i d))) ≤ length (spellings (map f xs))
 spellings_room f [] i d inside = absurd (omega arith)

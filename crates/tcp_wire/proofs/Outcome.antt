@@ -1,4 +1,4 @@
--- What `decode` and `parse` answer, from what their function computes. `says` is what a value of the code says.
+-- What `decode` and `parse` return, from what their function computes. `says` is the content of a value of the code.
 use Rattle.std.proofs.Common.{◌≡◌, ℕ, ◌≤◌, List, length, Result, Ok, Err, sym, ap, subst, ◌∙◌, arith, length-append, length-drop}
 use Rattle.std.specs.Prelude.{◌↔◌, MatchResult, IfOk, IsOkAnd}
 use Rattle.tcp_wire.specs.declared.fault.DecodeError.{DecodeError}
@@ -54,7 +54,7 @@ damaged_of says src dst v sent bytes (Ok s) read w d =
 damaged_of says src dst v sent bytes (Err e) read w d =
     ap (λ (x : DecodeError). Err x) (same_fault e BadChecksum (sym read ∙ damaged src dst v sent bytes w d))
 
--- behind the header there is room for so much text
+-- after the header there is room for text of this length
 pub text_fits : (src dst : List ℕ) (v : Content) (bytes : List ℕ) → IsWire src dst v bytes → length v.text ≤ max_text_len
 text_fits src dst v bytes w =
     omega (arith, w.least, w.most, ap length w.behind, length-append (option_bytes v) v.text, length-drop 20 bytes)

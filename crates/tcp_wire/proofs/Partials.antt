@@ -13,7 +13,7 @@ use Rattle.tcp_wire.proofs.Places.{field_written, drop_put}
 use Rattle.tcp_wire.proofs.Writing.{length_segment_bytes, sum_with_field, segment_bytes_are_bytes, option_bytes_fit}
 use borrow.Rule.Slice.PartMut.{put_mid}
 
--- the field that stands there doesn't matter
+-- the field that was there doesn't matter
 with_field_again : (v : Content) (f g : ℕ) → with_field (segment_bytes v f) g ≡ segment_bytes v g
 with_field_again v f g = refl
 
@@ -52,7 +52,7 @@ partial_completes src dst v f n rest out part k valid len is field_is some small
     ap completed (ap (take n) (field_written v f rest out part k is klen part_is) ∙ take_at (segment_bytes v f) rest n (length_segment_bytes v f ∙ sym len))
     ∙ completed_partial src dst v f valid (field_is ∙ ap (partial_field src dst) len) some small
 
--- what was written around the text, over what stood there before the text was put
+-- what was written around the text, over what was there before the text was put
 pub partial_over : (src dst : List ℕ) (v w : Content) (at n k : ℕ) (new old part : List ℕ) → at + n ≤ length old → k ≡ n → length part ≡ n → wire_length w ≡ at + n → v ≡ w
     → new ≡ with_partial_sum src dst (encoded_bytes src dst v) ++ drop (wire_length v) (put_mid at k old part)
     → new ≡ with_partial_sum src dst (encoded_bytes src dst w) ++ drop (wire_length w) old

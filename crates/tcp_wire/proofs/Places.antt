@@ -1,4 +1,4 @@
--- What stands in `out` after a write behind what was written before.
+-- What is in `out` after a write that follows what was written before.
 use Rattle.std.proofs.Common.{◌≡◌, ℕ, ◌+◌, ◌-◌, ◌≤◌, List, [], ◌++◌, length, map, take, drop, refl, sym, append_assoc, length-append, ap, ◌∙◌, arith}
 use Rattle.std.proofs.lemmas.List.{take_at, drop_at, drop-drop, take_rest, drop_all, append-nil, length-drop, length-take-le, take-append-drop}
 use Rattle.byteorder.specs.Endian.{big_bytes}
@@ -10,11 +10,11 @@ use Rattle.tcp_wire.specs.View.{option_content, content_of, text_offset, around}
 use Rattle.tcp_wire.proofs.Writing.{length_segment_bytes}
 use borrow.Rule.Slice.PartMut.{put_mid}
 
--- a part behind a front
+-- a part after a front
 pub put_after : (a k : ℕ) (front old out part : List ℕ) → out ≡ front ++ old → length front ≡ a → put_mid a k out part ≡ front ++ (part ++ drop k old)
 put_after a k front old out part is len = rw (is, take_at front old a len, drop_at front old a len) refl
 
--- a part that ends in what stood there, behind a front of what is written
+-- a part that ends in what was there, after a front of what is written
 pub written_after : (a k n : ℕ) (front old out part X : List ℕ) → out ≡ front ++ drop a old → length front ≡ a → k ≡ length out - a
     → part ≡ X ++ drop n (take k (drop a out)) → put_mid a k out part ≡ (front ++ X) ++ drop (a + n) old
 written_after a k n front old out part X is len klen part_is =
@@ -27,7 +27,7 @@ written_after a k n front old out part X is len klen part_is =
     ∙ ap (λ (xs : List ℕ). front ++ xs) (append-nil part ∙ part')
     ∙ sym (append_assoc front X (drop (a + n) old))
 
--- a part of n places that is put behind the first `at`
+-- a part of n bytes that is put after the first `at`
 put_is : (at n k : ℕ) (old part : List ℕ) → at + n ≤ length old → k ≡ n → put_mid at k old part ≡ take at old ++ (part ++ drop n (drop at old))
 put_is at n k old part room k_is =
     ap (λ (m : ℕ). put_mid at m old part) k_is ∙ put_after at n (take at old) (drop at old) old part (sym (take-append-drop at old)) (length-take-le at old (omega arith))
@@ -41,7 +41,7 @@ pub drop_put : (at n k : ℕ) (old part : List ℕ) → at + n ≤ length old �
 drop_put at n k old part room k_is len =
     ap (drop at) (put_is at n k old part room k_is) ∙ drop_at (take at old) (part ++ drop n (drop at old)) at (length-take-le at old (omega arith))
 
--- a header around text that is put to its place says what the two say
+-- a header around text that is put at its offset has the content of the two
 pub around_put : (header : Header) (options : List TcpOption) (pad at n k : ℕ) (old part text : List ℕ) (v : Content) → at ≡ text_offset (map option_content options) pad → at + n ≤ length old
     → k ≡ n → length text ≡ n → part ≡ text → content_of header (map option_content options) pad text ≡ v → around header options pad n (put_mid at k old part) ≡ v
 around_put header options pad at n k old part text v at_is room k_is len part_is is =
@@ -50,7 +50,7 @@ around_put header options pad at n k old part text v at_is room k_is len part_is
     ap (take n) (drop_put at n k old part room k_is part_len) ∙ take_at part (drop n (drop at old)) n part_len ∙ part_is in
     ap (λ (m : ℕ). content_of header (map option_content options) pad (take n (drop m (put_mid at k old part)))) (sym at_is) ∙ ap (content_of header (map option_content options) pad) stands ∙ is
 
--- what was written around the text, over what stood there before the text was put
+-- what was written around the text, over what was there before the text was put
 pub encoded_over : (src dst : List ℕ) (v w : Content) (at n k : ℕ) (new old part : List ℕ) → at + n ≤ length old → k ≡ n → length part ≡ n → wire_length w ≡ at + n → v ≡ w
     → new ≡ encoded_bytes src dst v ++ drop (wire_length v) (put_mid at k old part) → new ≡ encoded_bytes src dst w ++ drop (wire_length w) old
 encoded_over src dst v w at n k new old part room k_is part_len whole same is =
@@ -61,12 +61,12 @@ encoded_over src dst v w at n k new old part room k_is part_len whole same is =
     ∙ ap (λ (m : ℕ). encoded_bytes src dst w ++ drop m out) whole ∙ ap (λ (xs : List ℕ). encoded_bytes src dst w ++ xs) behind
     ∙ ap (λ (m : ℕ). encoded_bytes src dst w ++ drop m old) (sym whole)
 
--- the length of the whole, by where its text stands
+-- the length of the whole, by the offset of its text
 pub length_around : (header : Header) (options : List TcpOption) (pad at n : ℕ) (text : List ℕ) (v : Content) → at ≡ text_offset (map option_content options) pad → length text ≡ n
     → content_of header (map option_content options) pad text ≡ v → wire_length v ≡ at + n
 length_around header options pad at n text v at_is len is = omega (arith, ap wire_length is)
 
--- a text was put to its place in `old`, and what stands around it there says v
+-- text was put at its offset in `old`, and together with what is around it there it is v
 pub record IsAround (v : Content) (header : Header) (options : List TcpOption) (pad at n k : ℕ) (old part : List ℕ) : Type 0 where
   pub whole : wire_length v ≡ at + n
   pub room : at + n ≤ length old

@@ -1,4 +1,4 @@
--- Options, read one behind the other.
+-- Options, read one after another.
 use Rattle.std.specs.Prelude.{option_map, Bool, true, false, ◌||◌}
 use Rattle.std.proofs.lemmas.Bool.{le-ltb}
 use Rattle.std.proofs.lemmas.Bool.Decides.{nat_tests}
@@ -95,7 +95,7 @@ read_up_to_start start options none =
     let place : start.1 ≡ start.1 + length (spellings (map option_content options)) = omega (arith, ap (λ (os : List TcpOption). length (spellings (map option_content os))) none) in
     (subst (λ (os : List TcpOption). BodiesLie start os) (sym none) tt, ap (λ (n : ℕ). (start.0, n)) place)
 
--- ---- the same without a list
+-- ---- without a list
 
 pub checked_none : (at : ℕ) (bytes : List ℕ) → options_in 0 at bytes ≡ padding_at at bytes
 unfolding options_in

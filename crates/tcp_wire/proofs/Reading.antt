@@ -39,7 +39,7 @@ is_same a b h = grind (arith, nat_tests)
 isn't_same : (a b : ℕ) → (a ≡ b → ⊥) → eqb a b ≡ false
 isn't_same a b h = grind (arith, nat_tests)
 
--- ---- what an outcome says of the bytes
+-- ---- the statement of an outcome about the bytes
 
 abbrev pub Explains : List ℕ → List ℕ → List ℕ → Result Content DecodeError → Type 0
 Explains src dst bytes (Ok v) = IsWire src dst v bytes
@@ -152,7 +152,7 @@ layout_of_by_offset bytes has =
     let past : ltb (length bytes) (4 * data_offset bytes) ≡ false = le-ltb _ _ has.1 in
     rw (small, past) refl
 
--- no byte behind the fixed header is no option and no zero
+-- no byte after the fixed header is no option and no zero
 pub no_options : options_in 40 20 [] ≡ Ok ([], 0)
 unfolding options_in option_at padding_at
 no_options = refl

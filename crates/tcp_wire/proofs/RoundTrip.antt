@@ -40,7 +40,7 @@ decoded_valid src dst v bytes fits read = IsWire_valid src dst v bytes (wire_fro
 pub decoded_damaged : (src dst : List ℕ) (v : Content) (sent bytes : List ℕ) → IsWire src dst v sent → DiffersInOnePlace sent bytes → decode_answer src dst bytes ≡ Err BadChecksum
 decoded_damaged src dst v sent bytes wire differs = damaged src dst v sent bytes wire differs
 
--- a write of another byte is a change in one place
+-- a write of another byte is a change of one byte
 pub differs_set : (bytes : List ℕ) (place byte : ℕ) → AreBytes bytes → place < length bytes → byte < 256 → get_or bytes place 0 ≢ byte → DiffersInOnePlace bytes (set bytes place byte)
 differs_set bytes place byte fits inside small other = record {
   front = take place bytes;

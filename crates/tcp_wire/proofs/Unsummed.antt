@@ -1,4 +1,4 @@
--- What is read of a segment doesn't depend on its checksum field, once that makes it check.
+-- What is read of a segment doesn't depend on its checksum field, once that is right.
 use Rattle.std.proofs.Common.{◌≡◌, ℕ, ◌+◌, ◌-◌, ◌*◌, ◌/◌, ◌<◌, ◌≤◌, List, ◌∷◌, ◌++◌, length, take, drop, get_or, refl, sym, ap, ◌∙◌, cond, ltb, ◌||◌, Bool, true, false, Ok, Err, Result, length-append, arith}
 use Rattle.std.proofs.lemmas.List.{drop-drop, length-take, length-take-le, length-drop, get_or-take, get_or-drop, take_at, drop_at}
 use Rattle.std.proofs.lemmas.Bool.{ltb-false}
@@ -83,7 +83,7 @@ same_layout xs ys d =
     same_read xs ys (options_in 40 20 (option_area xs)) d (ltb-false _ _ (left_of _ _ good))
     ∙ ap (λ (area : List ℕ). with_options ys (options_in 40 20 area)) (same_area xs ys d))
 
--- ---- with the field that makes it check
+-- ---- with the checksum field that is right
 
 bytes_vouched : (src dst bytes : List ℕ) → AreBytes bytes → AreBytes (with_right_sum src dst bytes)
 unfolding with_right_sum

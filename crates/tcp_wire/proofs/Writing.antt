@@ -16,7 +16,7 @@ completion_checks sum = omega arith
 pub completion_below : (sum : ℕ) → completion sum < 65535
 completion_below sum = omega arith
 
--- a field that makes the sum check is the completion, or stands beside a completion of 0
+-- a field that makes the sum check is the completion, or ffff where the completion is 0
 completion_only : (sum found : ℕ) → found < 65536 → (sum + found) % 65535 ≡ 0 → (found ≡ completion sum) ⊎ ((completion sum ≡ 0) × (found ≡ 65535))
 completion_only sum found fits checks = grind arith
 

@@ -1,4 +1,4 @@
--- Options and blocks, written one behind the other.
+-- Options and blocks, written one after another.
 use Rattle.std.proofs.Common.{◌≡◌, ℕ, ◌+◌, ◌-◌, ◌*◌, ◌/◌, ◌<◌, ◌≤◌, List, ◌++◌, length, take, drop, map, get_or, sym, ap, ◌∙◌, length-append, append_assoc, arith}
 use Rattle.std.specs.List.{flat_map}
 use Rattle.std.proofs.lemmas.List.{map_more, length-map, length-take-le, length-drop, take-append-drop, drop_at, drop-drop}
@@ -42,7 +42,7 @@ options_written options i at k n o old out part inside is len n_is part_is befor
       omega (arith, before.1, n_is, ap length more, length-append front (spelling (option_content o))),
     )
 
--- the whole segment: options and padding, then the header in front of them, around the text that stands there
+-- the whole segment: options and padding, then the header in front of them, around the text that is there
 pub around_written : (v : Content) (len k n offset : ℕ) (old one area two : List ℕ) → k ≡ length old - 20 → offset ≡ 5 + length (option_bytes v) / 4 → len ≡ length (option_bytes v) → v.text ≡ take n (drop (20 + len) old)
     → 20 + len + n ≤ length old → area ≡ option_bytes v ++ drop (length (option_bytes v)) (take k (drop 20 old)) → one ≡ put_mid 20 k old area
     → two ≡ number_bytes v ++ (control_bytes v offset 0 ++ drop 20 one) → two ≡ segment_bytes v 0 ++ drop (wire_length v) old

@@ -7,7 +7,7 @@ use Rattle.tcp_numbers.specs.Checksum.{segment_sum}
 use Rattle.tcp_wire.specs.Options.{OptionContent, Nop, Mss, WindowScale, SackPermitted, Sack, Unknown, spelling, has_own_length}
 use Rattle.tcp_wire.specs.Wire.{Content, header_len, max_len, data_offset, option_area}
 
--- the header's fields at their places, with these options and this padding
+-- the header's fields at their offsets, with these options and this padding
 abbrev pub content_at : List ℕ → List OptionContent → ℕ → Content
 content_at bytes options pad = record {
   src_port = big_from 0 2 bytes;
@@ -23,7 +23,7 @@ content_at bytes options pad = record {
   text = drop (4 * data_offset bytes) bytes;
 }
 
--- one value or another, by whether there is one
+-- one value where there is none, else another made from what there is
 abbrev pub with_option : {A B : Type 0} → Option A → B → (A → B) → B
 with_option None none some = none
 with_option (Some x) none some = some x
@@ -62,7 +62,7 @@ count_zeros [] = 0
 count_zeros (zero ∷ rest) = suc (count_zeros rest)
 count_zeros (suc b ∷ rest) = 0
 
--- what stands where no further option is spelled, in bytes that begin at this place: padding, or a fault
+-- what follows where no further option is spelled, in bytes that begin at this offset: padding, or a fault
 unfoldable pub padding_at : ℕ → List ℕ → Result (List OptionContent × ℕ) DecodeError
 padding_at place [] = Ok ([], 0)
 padding_at place (zero ∷ rest) =
@@ -75,7 +75,7 @@ abbrev pub with_first : OptionContent → Result (List OptionContent × ℕ) Dec
 with_first option (Ok read) = Ok (option ∷ read.0, read.1)
 with_first option (Err e) = Err e
 
--- up to this many options in bytes that begin at this place, and the count of zeros after them
+-- up to this many options in bytes that begin at this offset, and the count of zeros after them
 unfoldable pub options_in : ℕ → ℕ → List ℕ → Result (List OptionContent × ℕ) DecodeError
 options_in zero place bytes = padding_at place bytes
 options_in (suc n) place bytes =
@@ -86,14 +86,14 @@ abbrev pub with_options : List ℕ → Result (List OptionContent × ℕ) Decode
 with_options bytes (Ok read) = Ok (content_at bytes read.0 read.1)
 with_options bytes (Err e) = Err e
 
--- After the length and the checksum: the data offset, then options and padding, then what the segment
--- says. An option takes a byte or more, and there are at most 40.
+-- After the length and the checksum: the data offset, then options and padding, then the content. An option takes a byte or
+-- more, and there are at most 40.
 unfoldable pub layout_of : List ℕ → Result Content DecodeError
 layout_of bytes =
     if nat_lt (data_offset bytes) 5 || nat_lt (length bytes) (4 * data_offset bytes) then Err BadOffset
     else with_options bytes (options_in 40 header_len (option_area bytes))
 
--- what the bytes say between these addresses, or why they are no segment
+-- the content of the bytes as a segment between these addresses, or why they are none
 unfoldable pub decode_answer : List ℕ → List ℕ → List ℕ → Result Content DecodeError
 decode_answer src dst bytes =
     if nat_lt (length bytes) header_len then Err TooShort

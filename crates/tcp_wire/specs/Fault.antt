@@ -1,5 +1,5 @@
--- Why bytes are no segment: the first fault that applies, in the order of the refusals' numbers (RFC
--- 9293, 3.1; where it names no order or refusal, that of docs/FORMATS.md).
+-- Why bytes are no segment: the first fault that applies, in the order of the faults' numbers (RFC 9293, 3.1; where it names
+-- no order or fault, that of docs/FORMATS.md).
 use Rattle.std.specs.Prelude.{◌≡◌, ◌≢◌, ◌⊎◌, ℕ, ◌+◌, ◌*◌, ◌<◌, ◌≤◌, List, ◌∷◌, ◌++◌, length, replicate}
 use Rattle.tcp_wire.specs.declared.fault.DecodeError.{DecodeError}
 use Rattle.tcp_wire.specs.declared.fault.DecodeError.TheVariants.{TooShort, TooLong, BadChecksum, BadOffset, BadOption, BadPadding}
@@ -11,12 +11,12 @@ use Rattle.tcp_wire.specs.Wire.{header_len, max_len, data_offset, option_area}
 abbrev pub IsSized : List ℕ → Type 0
 IsSized bytes = (header_len ≤ length bytes) × (length bytes ≤ max_len)
 
--- the data offset is at least 5 words, and doesn't pass the end
+-- the data offset is at least 5 words, and is within the segment
 abbrev pub HasOffset : List ℕ → Type 0
 HasOffset bytes = (5 ≤ data_offset bytes) × (4 * data_offset bytes ≤ length bytes)
 
--- In an area that begins at byte `start`, some options are spelled up to this place, the byte there
--- isn't zero, and no prefix of what remains there is the spelling of an option.
+-- In an area that begins at byte `start`, some options are spelled up to this offset, the byte there isn't zero, and no
+-- prefix of what remains there is the spelling of an option.
 pub record IsBadOption (start : ℕ) (area : List ℕ) (place : ℕ) : Type 0 where
   pub before : List OptionContent
   pub first : ℕ
@@ -27,8 +27,8 @@ pub record IsBadOption (start : ℕ) (area : List ℕ) (place : ℕ) : Type 0 wh
   pub not_zero : first ≢ 0
   pub none : (option : OptionContent) (behind : List ℕ) → IsSpellable option → first ∷ rest ≢ spelling option ++ behind
 
--- In an area that begins at byte `start`, some options are spelled, zeros stand from there up to this
--- place, and the byte there isn't zero.
+-- In an area that begins at byte `start`, some options are spelled, zeros follow up to this offset, and the byte there isn't
+-- zero.
 pub record IsBadPadding (start : ℕ) (area : List ℕ) (place : ℕ) : Type 0 where
   pub before : List OptionContent
   pub zeros : ℕ

@@ -4,7 +4,7 @@ use Rattle.std.specs.List.{flat_map, AllByRecursion}
 use Rattle.byteorder.specs.Endian.{big_bytes}
 use Rattle.tcp_numbers.specs.Checksum.{AreBytes}
 
--- what one option says; a block is its left edge and the number after its last one
+-- the content of one option; a block is its left edge and the number after its last one
 pub data OptionContent : Type 0 where
   Nop : OptionContent
   Mss : ℕ → OptionContent
@@ -30,7 +30,7 @@ spelling (Unknown kind body) = kind ∷ (length body + 2) ∷ body
 abbrev pub spellings : List OptionContent → List ℕ
 spellings options = flat_map spelling options
 
--- the kind is known, and the length byte is its own: 4, 3, 2, or 2 and 8 for each of 1 to 4 blocks
+-- the kind is known, and this is its length byte: 4, 3, 2, or 2 and 8 for each of 1 to 4 blocks
 abbrev pub has_own_length : ℕ → ℕ → Bool
 has_own_length kind len =
     (kind == 2 && len == 4) || (kind == 3 && len == 3) || (kind == 4 && len == 2)
@@ -40,8 +40,8 @@ has_own_length kind len =
 abbrev pub IsBlock : ℕ × ℕ → Type 0
 IsBlock block = (block.0 < 2 ^ 32) × (block.1 < 2 ^ 32)
 
--- the option has a spelling: its parts are in their ranges, a Sack has 1 to 4 blocks, and an Unknown
--- option is of no length that its kind has as a known one
+-- the option has a spelling: its parts are in their ranges, a Sack has 1 to 4 blocks, and an Unknown option doesn't have the
+-- length of a known kind
 abbrev pub IsSpellable : OptionContent → Type 0
 IsSpellable Nop = Unit {0}
 IsSpellable (Mss size) = size < 2 ^ 16

@@ -1,4 +1,4 @@
--- What a segment of the code says (RFC 9293, 3.1).
+-- The content of a segment in the code (RFC 9293, 3.1).
 use Rattle.std.specs.Prelude.{◌≡◌, ℕ, ◌+◌, List, [], ◌∷◌, length, map, take, drop, Result, Ok, Err}
 use Rattle.tcp_numbers.specs.declared.seq.Seq.{Seq}
 use Rattle.tcp_wire.specs.declared.option.TcpOption.{TcpOption}
@@ -23,7 +23,7 @@ option_content code.SackPermitted = SackPermitted
 option_content (code.Sack blocks) = Sack (map block blocks.items)
 option_content (code.Unknown kind body) = Unknown kind body.now
 
--- what a segment says with this fixed header, these options, this many zeros after them and this text
+-- the content of a segment with this fixed header, these options, this many zeros after them and this text
 abbrev pub content_of : Header → List OptionContent → ℕ → List ℕ → Content
 content_of header options pad text = record {
   src_port = header.src_port;
@@ -51,7 +51,7 @@ listed_or_none (Err e) = ([], 0)
 abbrev pub options_of : List ℕ → List OptionContent × ℕ
 options_of area = listed_or_none (options_in 40 header_len area)
 
--- what a segment says whose options stand in its area
+-- the content of a segment whose options are in its area
 abbrev pub raw_content : RawSegment → Content
 raw_content segment =
     content_of segment.header (options_of segment.area.now).0 (options_of segment.area.now).1 segment.text.now
@@ -60,7 +60,7 @@ raw_content segment =
 abbrev pub text_offset : List OptionContent → ℕ → ℕ
 text_offset options pad = header_len + length (area_bytes options pad)
 
--- a segment with the text that stands in `out` at its place
+-- a segment with the text that is in `out` at its offset
 abbrev pub around : Header → List TcpOption → ℕ → ℕ → List ℕ → Content
 around header options pad text_len out =
     content_of header (map option_content options) pad (take text_len (drop (text_offset (map option_content options) pad) out))
@@ -74,8 +74,7 @@ BodyIs address code.SackPermitted = Unit {0}
 BodyIs address (code.Sack blocks) = Unit {0}
 BodyIs address (code.Unknown kind body) = body.ref_ptr ≡ address
 
--- the bodies of options that are spelled from this address on are slices at their places: each lies
--- after its kind and length byte
+-- the bodies of options that are spelled from this address on are slices there: each lies after its kind and length byte
 abbrev pub BodiesLie : ℕ × ℕ → List TcpOption → Type 0
 BodiesLie address [] = Unit {0}
 BodiesLie address (option ∷ options) =

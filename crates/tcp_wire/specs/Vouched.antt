@@ -7,6 +7,6 @@ use Rattle.tcp_numbers.specs.Checksum.{field}
 abbrev pub with_field : List ℕ → ℕ → List ℕ
 with_field bytes sum = take 16 bytes ++ (big_bytes 2 sum ++ drop 18 bytes)
 
--- the same with the checksum field that makes them check between these addresses
+-- these bytes with the checksum field that is right between these addresses
 unfoldable pub with_right_sum : List ℕ → List ℕ → List ℕ → List ℕ
 with_right_sum src dst bytes = with_field bytes (field src dst bytes)

@@ -5,7 +5,7 @@ use Rattle.tcp_numbers.specs.Checksum.{AreBytes, Checks, field}
 pub use Rattle.tcp_numbers.specs.Checksum.{header_len, max_len}
 use Rattle.tcp_wire.specs.Options.{OptionContent, spellings, AreSpellable}
 
--- what a segment says, its checksum aside
+-- the content of a segment, without its checksum
 pub record Content : Type 0 where
   pub src_port : ℕ
   pub dst_port : ℕ
@@ -19,7 +19,7 @@ pub record Content : Type 0 where
   pub pad : ℕ
   pub text : List ℕ
 
--- the bytes of the longest text
+-- the length in bytes of the longest text
 abbrev pub max_text_len : ℕ
 max_text_len = 65495
 
@@ -46,7 +46,7 @@ data_offset bytes = slice_index bytes 12 / 16
 abbrev pub option_area : List ℕ → List ℕ
 option_area bytes = take (4 * data_offset bytes - header_len) (drop header_len bytes)
 
--- the fields of the fixed header stand in their places
+-- the fields of the fixed header are at their offsets
 pub record HasHeader (v : Content) (bytes : List ℕ) : Type 0 where
   pub src_port : v.src_port ≡ big_from 0 2 bytes
   pub dst_port : v.dst_port ≡ big_from 2 2 bytes
@@ -57,8 +57,8 @@ pub record HasHeader (v : Content) (bytes : List ℕ) : Type 0 where
   pub window : v.window ≡ big_from 14 2 bytes
   pub urgent : v.urgent ≡ big_from 18 2 bytes
 
--- The grammar: these bytes are a segment between these addresses, and v is what it says. The data
--- offset is 5 and a quarter of the option bytes; after the fixed header come options, zeros, text.
+-- The grammar: these bytes are a segment between these addresses, and v is its content. The data offset is 5 and a quarter of
+-- the length of the option bytes; after the fixed header come options, zeros, text.
 pub record IsWire (src dst : List ℕ) (v : Content) (bytes : List ℕ) : Type 0 where
   pub are_bytes : AreBytes bytes
   pub least : header_len ≤ length bytes
@@ -69,8 +69,8 @@ pub record IsWire (src dst : List ℕ) (v : Content) (bytes : List ℕ) : Type 0
   pub options : AreSpellable v.options
   pub behind : drop header_len bytes ≡ option_bytes v ++ v.text
 
--- v can be written: each field is in its range, each option has a spelling, spellings and padding
--- fill whole words and at most ten of them, and the whole is no longer than a segment may be
+-- v can be written: each field is in its range, each option has a spelling, spellings and padding fill whole words, at most
+-- ten, and the whole is no longer than a segment may be
 pub record IsValid (v : Content) : Type 0 where
   pub src_port : v.src_port < 2 ^ 16
   pub dst_port : v.dst_port < 2 ^ 16
@@ -103,11 +103,11 @@ header v checksum = number_bytes v ++ control_bytes v (5 + length (option_bytes 
 abbrev pub segment_bytes : Content → ℕ → List ℕ
 segment_bytes v checksum = header v checksum ++ (option_bytes v ++ v.text)
 
--- the bytes that are written for v: the checksum field is the one that makes them check
+-- the bytes that are written for v: the checksum field is the right one
 unfoldable pub encoded_bytes : List ℕ → List ℕ → Content → List ℕ
 encoded_bytes src dst v = segment_bytes v (field src dst (segment_bytes v 0))
 
--- two segments are alike but for the checksum field, 0000 in the first and ffff in the other
+-- two segments are equal but for the checksum field, 0000 in the first and ffff in the other
 pub record HasOtherZero (written other : List ℕ) : Type 0 where
   pub front : List ℕ
   pub rest : List ℕ

@@ -14,7 +14,7 @@ use crate::segment::{HEADER_LEN, MAX_LEN, MAX_OPTIONS, Segment};
 use byteorder::{BigEndian, ByteOrder};
 use tcp_numbers::{Addr, Flags, Seq, checks};
 
-/// The fields of the fixed header, and what stands after it up to `offset` and from there on.
+/// The fields of the fixed header, and the bytes after it up to `offset` and from there on.
 #[inline(always)]
 fn fields_of(bytes: &[u8], offset: usize) -> RawSegment<'_>
     requires header { header_len ≤ offset }
@@ -42,7 +42,7 @@ fn fields_of(bytes: &[u8], offset: usize) -> RawSegment<'_>
     }
 }
 
-/// What the bytes say, their length and checksum being right.
+/// The content of the bytes, whose length and checksum are right.
 #[inline(always)]
 #[tactic(auto, using(crate::proofs::Reading::no_options), unfolding(crate::specs::Decoded::layout_of))]
 pub(crate) fn lay_out(bytes: &[u8]) -> Result<RawSegment<'_>, DecodeError>
@@ -63,7 +63,7 @@ pub(crate) fn lay_out(bytes: &[u8]) -> Result<RawSegment<'_>, DecodeError>
     Ok(fields_of(bytes, offset))
 }
 
-/// What the bytes say, or the first of their faults.
+/// The content of the bytes, or the first of their faults.
 #[inline(always)]
 #[tactic(auto, unfolding(crate::specs::Decoded::decode_answer))]
 fn read_raw(src: Addr, dst: Addr, bytes: &[u8]) -> Result<RawSegment<'_>, DecodeError>
@@ -83,7 +83,7 @@ fn read_raw(src: Addr, dst: Addr, bytes: &[u8]) -> Result<RawSegment<'_>, Decode
     lay_out(bytes)
 }
 
-/// The same with the options listed.
+/// The content of the bytes with the options listed, or the first of their faults.
 #[inline(always)]
 fn read_segment(src: Addr, dst: Addr, bytes: &[u8]) -> Result<Segment<'_>, DecodeError>
     ensures computed { MatchResult result (λ s. decode_answer src.0 dst.0 bytes.now ≡ Ok (content s)) (λ e. decode_answer src.0 dst.0 bytes.now ≡ Err e) }
@@ -97,10 +97,11 @@ fn read_segment(src: Addr, dst: Addr, bytes: &[u8]) -> Result<Segment<'_>, Decod
 }
 
 impl<'a> RawSegment<'a> {
-    /// Reads a segment that came from `src` to `dst`, as [`decode`] does, and leaves its options where they stand.
+    /// Reads a segment that came from `src` to `dst` as [`decode`] does, and leaves its options where they are (RFC
+    /// 9293, 3.1).
     #[inline(always)]
     pub fn parse(src: Addr, dst: Addr, bytes: &'a [u8]) -> Result<RawSegment<'a>, DecodeError>
-        // Ok exactly on the grammar, with what the segment says.
+        // Ok exactly on the grammar, with the segment's content.
         ensures value { (v : Content) → (IsOkAnd result (λ s. raw_content s ≡ v)) ↔ IsWire src.0 dst.0 v bytes.now }
         // Each refusal exactly where it is the first fault.
         ensures fault { (e : DecodeError) → (result ≡ Err e) ↔ FirstFault src.0 dst.0 bytes.now e }
@@ -115,11 +116,11 @@ impl<'a> RawSegment<'a> {
     }
 }
 
-/// Reads a segment that came from `src` to `dst` (RFC 9293, 3.1). Text and the bodies of `Unknown`
-/// options are the slices of the input at their places.
+/// Reads a segment that came from `src` to `dst`, or finds the first fault (RFC 9293, 3.1). Text and the bodies of
+/// `Unknown` options are slices of the input.
 #[inline(always)]
 pub fn decode(src: Addr, dst: Addr, bytes: &[u8]) -> Result<Segment<'_>, DecodeError>
-    // Ok exactly on the grammar, with what the segment says.
+    // Ok exactly on the grammar, with the segment's content.
     ensures value { (v : Content) → (IsOkAnd result (λ s. content s ≡ v)) ↔ IsWire src.0 dst.0 v bytes.now }
     // Each refusal exactly where it is the first fault.
     ensures fault { (e : DecodeError) → (result ≡ Err e) ↔ FirstFault src.0 dst.0 bytes.now e }

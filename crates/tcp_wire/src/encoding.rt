@@ -46,7 +46,7 @@ fn write_header(header: &Header, offset: u8, out: &mut [u8])
     write_controls(header, offset, &mut out[12..]);
 }
 
-/// Writes options and padding, and answers their length.
+/// Writes options and padding, and returns their length.
 fn write_area(options: &[TcpOption<'_>], pad: u8, out: &mut [u8]) -> usize
     requires spellable { AreSpellable (map option_content options.now) }
     requires room { length (area_bytes (map option_content options.now) pad) ≤ length out.old }
@@ -59,7 +59,7 @@ fn write_area(options: &[TcpOption<'_>], pad: u8, out: &mut [u8]) -> usize
     len
 }
 
-/// Writes all but the text, with a checksum field of zero, and answers the length of the whole.
+/// Writes all but the text, with a checksum field of zero, and returns the length of the whole.
 pub(crate) fn write_unsummed(
     header: &Header,
     options: &[TcpOption<'_>],
@@ -77,8 +77,8 @@ pub(crate) fn write_unsummed(
     offset + text_len
 }
 
-/// Writes header, options, padding and checksum around the text of a segment, which stands in `out` already, from byte
-/// `text_offset` on. Answers the length of the whole segment. The rest of `out` stays.
+/// Writes header, options, padding and checksum around the text of a segment, which is in `out` already, from byte
+/// `text_offset` on (RFC 9293, 3.1). Returns the length of the whole segment in bytes. The rest of `out` is unchanged.
 #[inline(always)]
 pub fn write_around(
     header: &Header,
@@ -103,8 +103,8 @@ pub fn write_around(
     len
 }
 
-/// Writes the segment from byte 0 of `out` on, as it goes from `src` to `dst`, and answers its length. The rest of `out`
-/// stays.
+/// Writes the segment from byte 0 of `out` on, as it goes from `src` to `dst`, and returns its length in bytes (RFC
+/// 9293, 3.1). The rest of `out` is unchanged.
 pub fn encode(segment: &Segment<'_>, src: Addr, dst: Addr, out: &mut [u8]) -> usize
     requires valid { IsValid (content segment.now) }
     requires room { wire_length (content segment.now) ≤ length out.old }

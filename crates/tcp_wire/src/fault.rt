@@ -4,25 +4,25 @@ ghost use Rattle.tcp_wire.specs.Refusals.{decode_error_number, decode_error_text
 use std::error::Error;
 use std::fmt;
 
-/// Why bytes are no segment: the first fault that applies, in the order of the numbers.
+/// Why bytes are no segment: the first fault that applies, in the order of the numbers (RFC 9293, 3.1).
 #[derive(Clone, Copy, Debug, PartialEq, Eq)]
 pub enum DecodeError {
-    /// Below 20 bytes.
+    /// There are fewer than 20 bytes.
     TooShort,
-    /// Above 65515 bytes.
+    /// There are more than 65515 bytes.
     TooLong,
-    /// The sum over pseudo-header and segment is no multiple of 65535 (RFC 9293, 3.1).
+    /// The sum of pseudo-header and segment is no multiple of 65535 (RFC 9293, 3.1).
     BadChecksum,
-    /// The data offset is below 5 words, or passes the end of the segment.
+    /// The data offset is below 5 words, or beyond the end of the segment.
     BadOffset,
-    /// No option begins with the byte at this place, counted from the segment's first byte.
+    /// No option begins with the byte at this offset from the segment's first byte.
     BadOption { at: usize },
-    /// The byte at this place, after the end of the options, isn't zero.
+    /// The byte at this offset from the segment's first byte, after the end of the options, isn't zero.
     BadPadding { at: usize },
 }
 
 impl DecodeError {
-    /// The refusal's number, 1 to 6.
+    /// The number of the fault, from 1 to 6.
     pub fn number(self) -> u8
         ensures { result ≡ decode_error_number self }
     {

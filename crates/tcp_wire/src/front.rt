@@ -1,4 +1,4 @@
-//! A segment is written in front of text that lies elsewhere, in two parts.
+//! Writes a segment in front of text that lies elsewhere, in two parts.
 ghost use Rattle.std.specs.Prelude.{◌≡◌, ◌≤◌, ◌++◌, length, map, take, drop};
 ghost use Rattle.tcp_wire.specs.Wire.{IsValid, encoded_bytes};
 ghost use Rattle.tcp_wire.specs.View.{content_of, option_content, text_offset};
@@ -9,8 +9,8 @@ use crate::option::TcpOption;
 use byteorder::{BigEndian, ByteOrder};
 use tcp_numbers::{Addr, checksum_in_parts};
 
-/// Writes header, options, padding and checksum of a segment whose text is `first` and then `second`, and answers their length,
-/// after which the text would stand. The rest of `out` stays.
+/// Writes header, options, padding and checksum of a segment whose text is `first` and then `second` (RFC 9293, 3.1).
+/// Returns their length in bytes, after which the text would follow. The rest of `out` is unchanged.
 #[inline(always)]
 pub fn write_front(
     header: &Header,

@@ -1,13 +1,15 @@
-//! TCP segments over IPv4 as bytes (RFC 9293, 3.1): read against their grammar, and written.
+//! TCP segments over IPv4 as bytes (RFC 9293, 3.1): read by their grammar, and written.
 //!
-//! - [`decode`] reads bytes as a [`Segment`], or answers the first fault, a [`DecodeError`]; [`encode`] writes one.
-//! - [`RawSegment`] is a segment whose options stand where they came, for who lists none; [`OptionsLeft`] takes them in turn, as
-//!   [`TcpOption`]s. `parse_vouched` reads one whose checksum a device has checked.
-//! - [`Header`] is the fixed header's fields; [`write_around`] writes a segment around text that is in its place already,
-//!   [`write_around_partial`] does so for a device that sums it, and [`write_front`] in front of text that stays elsewhere.
+//! - [`decode`] reads bytes as a [`Segment`], or returns the first fault, a [`DecodeError`]; [`encode`] writes one.
+//! - [`RawSegment`] is a segment whose options stay where they came, for callers that need no list; [`OptionsLeft`]
+//!   goes over them, as [`TcpOption`]s. `parse_vouched` reads one whose checksum a device has checked.
+//! - [`Header`] is the fixed header's fields. [`write_around`] writes a segment around text that is at its offset
+//!   already, [`write_around_partial`] does so for a device that computes the checksum, and [`write_front`] in front of
+//!   text elsewhere.
 //! - [`Seq`], [`Addr`], [`Flags`], the sums and [`laws`] are `tcp_numbers`'.
 //!
-//! It keeps no state and takes no memory. Left out: IP's own header, options' meaning, and what a connection makes of a segment.
+//! It keeps no state and allocates nothing. Left out: IP's own header, options' meaning, and what a connection does
+//! with a segment.
 #![tactic(auto)]
 
 mod decoding;

@@ -11,7 +11,7 @@ use tcp_numbers::Seq;
 /// zeros after it are `Segment::pad`.
 #[derive(Clone, Debug, Default, PartialEq, Eq, Drop)]
 pub enum TcpOption<'a> {
-    /// No operation.
+    /// No operation: one byte of padding between options.
     #[default]
     Nop,
     /// Maximum segment size, in bytes.
@@ -20,15 +20,15 @@ pub enum TcpOption<'a> {
     WindowScale(u8),
     /// Selective acknowledgement is permitted (RFC 2018, 2).
     SackPermitted,
-    /// Blocks of held text, each as its left edge and the number after its last (RFC 2018, 3). From
+    /// Blocks that were received out of order, each as its left edge and the number after its last (RFC 2018, 3). From
     /// 1 to 4 blocks can be written.
     Sack(ArrayVec<(Seq, Seq), 4>),
-    /// Another kind, or a known kind with a length that isn't its own. `body` is what follows the
-    /// length byte, at most 38 bytes.
+    /// Another kind, or a known kind with another length than its own. `body` is what follows the length byte, at most
+    /// 38 bytes.
     Unknown { kind: u8, body: &'a [u8] },
 }
 
-/// Whether the kind is a known one with a length byte, and this is its own.
+/// Whether the kind is a known one with a length byte, and `len` is its length.
 pub(crate) fn has_own_length(kind: u8, len: usize) -> bool
     ensures { result ≡ has_own_length kind len }
 {
@@ -41,7 +41,7 @@ pub(crate) fn has_own_length(kind: u8, len: usize) -> bool
     }
 }
 
-/// The bytes of these blocks.
+/// The length in bytes of these blocks.
 fn blocks_len(blocks: &[(Seq, Seq)]) -> usize
     requires { length blocks.now ≤ 4 }
     ensures len { result ≡ 8 * length blocks.now }
@@ -56,7 +56,7 @@ fn blocks_len(blocks: &[(Seq, Seq)]) -> usize
     len
 }
 
-/// The bytes of an option of this kind, where it can be written.
+/// The length in bytes of an option of this kind, where it can be written.
 fn unknown_len(kind: u8, body: &[u8]) -> Option<usize>
     ensures some { IsSome result ↔ IsSpellable (Unknown kind body.now) }
     ensures len { IfSome result (λ n. n ≡ length body.now + 2) }
@@ -69,7 +69,7 @@ fn unknown_len(kind: u8, body: &[u8]) -> Option<usize>
 }
 
 impl TcpOption<'_> {
-    /// The count of bytes that the option takes, where it can be written.
+    /// The length in bytes of the option, where it can be written.
     pub(crate) fn spelled_len(&self) -> Option<usize>
         ensures some { IsSome result ↔ IsSpellable (option_content self.now) }
         ensures len { IfSome result (λ n. n ≡ length (spelling (option_content self.now))) }

@@ -67,7 +67,7 @@ pub(crate) fn read_option(bytes: &[u8]) -> Option<(TcpOption<'_>, &[u8])>
     }
 }
 
-/// How many bytes the option takes whose spelling begins these bytes. No option is made.
+/// The length in bytes of the option whose spelling begins these bytes. No option is made.
 #[tactic(auto, using(crate::proofs::ReadOptions::no_first, crate::proofs::ReadOptions::nop_first, crate::proofs::ReadOptions::long_first, crate::proofs::ReadOptions::short_first))]
 fn first_len(bytes: &[u8]) -> Option<usize>
     requires { length bytes.now ≤ 40 }
@@ -91,8 +91,7 @@ fn first_len(bytes: &[u8]) -> Option<usize>
     Some(len)
 }
 
-/// How many zeros these bytes are, which stand from place `at` of the segment on; a fault where they
-/// aren't zeros.
+/// How many zeros these bytes are, which begin at the offset `at` of the segment; a fault where they aren't zeros.
 fn read_padding(bytes: &[u8], at: usize) -> Result<u8, DecodeError>
     requires most { length bytes.now ≤ 40 }
     requires low { at ≤ 60 }
@@ -124,7 +123,7 @@ fn check_padding(bytes: &[u8], at: usize) -> Result<(), DecodeError>
 /// What is still to be read.
 struct Unread<'a>(&'a [u8]);
 
-/// The options in this area, which begins after the fixed header, and the count of zeros after them.
+/// The options in this area, which follows the fixed header, and the count of zeros after them.
 pub(crate) fn read_options(area: &[u8]) -> Result<(ArrayVec<TcpOption<'_>, 40>, u8), DecodeError>
     requires { length area.now ≤ 40 }
     ensures value { MatchResult result (λ r. options_in 40 header_len area.now ≡ Ok (map option_content r.0.items, r.1)) (λ e. options_in 40 header_len area.now ≡ Err e) }
@@ -141,8 +140,8 @@ pub(crate) fn read_options(area: &[u8]) -> Result<(ArrayVec<TcpOption<'_>, 40>, 
     Ok((options, pad))
 }
 
-/// Whether at most `left` options stand in these bytes, which begin at place `at` of the segment, and zeros alone after
-/// them. No list is made.
+/// Whether these bytes, which begin at the offset `at` of the segment, are at most `left` options, and zeros alone
+/// after them. No list is made.
 pub(crate) fn check_options(bytes: &[u8], at: usize, left: usize) -> Result<(), DecodeError>
     requires short { length bytes.now ≤ 40 }
     requires place { at + length bytes.now ≤ 60 }

@@ -16,7 +16,7 @@ fn write_block(edges: (Seq, Seq), out: &mut [u8])
     BigEndian::write_u32(&mut out[4..], edges.1.0);
 }
 
-/// Writes blocks in turn.
+/// Writes blocks one after another.
 fn write_blocks(blocks: &[(Seq, Seq)], out: &mut [u8])
     requires few { length blocks.now ≤ 4 }
     requires room { 8 * length blocks.now ≤ length out.old }
@@ -27,7 +27,7 @@ fn write_blocks(blocks: &[(Seq, Seq)], out: &mut [u8])
     }
 }
 
-/// Writes one option, and answers its length.
+/// Writes one option, and returns its length.
 fn write_option(option: &TcpOption<'_>, out: &mut [u8]) -> usize
     requires spellable { IsSpellable (option_content option.now) }
     requires room { length (spelling (option_content option.now)) ≤ length out.old }
@@ -73,7 +73,7 @@ fn write_option(option: &TcpOption<'_>, out: &mut [u8]) -> usize
     }
 }
 
-/// Writes options in turn, and answers the length of all.
+/// Writes options one after another, and returns the length of all.
 pub(crate) fn write_options(options: &[TcpOption<'_>], out: &mut [u8]) -> usize
     requires spellable { AreSpellable (map option_content options.now) }
     requires room { length (spellings (map option_content options.now)) ≤ length out.old }

@@ -5,8 +5,8 @@ use crate::option::TcpOption;
 use crate::option_reading::read_option;
 use std::marker::Model;
 
-/// The options of a segment that weren't taken yet, in their order, where they stand (RFC 9293, 3.1). A clause sees them as
-/// the list of what they say.
+/// The options of a segment that weren't taken yet, in their order, where they are (RFC 9293, 3.1). A clause sees them
+/// as the list of their contents.
 #[derive(Debug, Drop)]
 pub struct OptionsLeft<'a> {
     /// Their bytes, and the zeros after them.
@@ -31,7 +31,7 @@ impl<'a> OptionsLeft<'a> {
     ghost use Rattle.tcp_wire.specs.Wire.{max_area_len};
     ghost use Rattle.tcp_wire.specs.Listed.{first_options};
 
-    /// Those that are spelled one behind the other from the first of these bytes on.
+    /// The options that are spelled one after another from the first of these bytes on.
     pub(crate) fn of(bytes: &'a [u8]) -> Self
         requires { length bytes.now ≤ max_area_len }
         ensures { result ≡ first_options max_area_len bytes.now }
@@ -39,7 +39,7 @@ impl<'a> OptionsLeft<'a> {
         OptionsLeft { rest: bytes }
     }
 
-    /// Takes the next option; none where all were taken.
+    /// Takes the next option; `None` where all were taken.
     pub fn next(&mut self) -> Option<TcpOption<'a>>
         ensures some { IfSome result (λ option. self.old ≡ option_content option ∷ self.new) }
         ensures none { IsNone result ↔ (self.old ≡ []) }

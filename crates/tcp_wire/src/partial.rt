@@ -1,4 +1,4 @@
-//! A segment is written for a device that sums it.
+//! Writes a segment for a device that computes its checksum.
 ghost use Rattle.std.specs.Prelude.{◌≡◌, ◌+◌, ◌++◌, ◌≤◌, length, map, take, drop};
 ghost use Rattle.tcp_wire.specs.Wire.{IsValid, encoded_bytes, wire_length};
 ghost use Rattle.tcp_wire.specs.View.{around, option_content, text_offset};
@@ -10,9 +10,9 @@ use crate::option::TcpOption;
 use byteorder::{BigEndian, ByteOrder};
 use tcp_numbers::{Addr, partial_checksum};
 
-/// As [`write_around`](crate::write_around), for a device that sums the segment: the checksum field has the ones' complement sum over
-/// the pseudo-header alone (RFC 9293, 3.1), and the text isn't summed. Completed by the device, the bytes are those that `write_around`
-/// writes.
+/// Writes as [`write_around`](crate::write_around) does, for a device that computes the checksum. The checksum field
+/// has the ones' complement sum of the pseudo-header alone (RFC 9293, 3.1; RFC 1071, 2), and the text isn't summed.
+/// Once the device has completed the field, the bytes are those of `write_around`.
 #[inline(always)]
 pub fn write_around_partial(
     header: &Header,

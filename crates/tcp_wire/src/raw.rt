@@ -8,15 +8,15 @@ use crate::options_left::OptionsLeft;
 use crate::segment::{HEADER_LEN, MAX_OPTIONS, Segment};
 use arrayvec::ArrayVec;
 
-/// A segment as it arrived (RFC 9293, 3.1): its header by value, its options and its text as the slices of what arrived. It
-/// holds no room for options, as `Segment` does, so it is cheap to make and to lend.
+/// A segment as it arrived (RFC 9293, 3.1): its header by value, its options and its text as slices of what arrived. It
+/// has no room for a list of options, as `Segment` has, so it is cheap to make and to lend.
 #[derive(Clone, Copy, Debug)]
 pub struct RawSegment<'a> {
     /// The fields of the fixed header.
     pub header: Header,
     /// The bytes of the options and of the zeros after them.
     pub area: &'a [u8],
-    /// The bytes of the stream that it carries.
+    /// The data that it carries.
     pub text: &'a [u8],
     pub ghost area_fits: { length area.now ≤ max_area_len },
     pub ghost text_fits: { length text.now ≤ max_text_len },
@@ -26,7 +26,7 @@ impl<'a> RawSegment<'a> {
     ghost use Rattle.std.specs.Prelude.{◌↔◌, false, [], map};
     ghost use Rattle.tcp_wire.specs.View.{option_content, content, raw_content, options_of, BodiesLie};
 
-    /// Whether bytes stand between the fixed header and the text; where none do, there are no options.
+    /// Whether there are bytes between the fixed header and the text; where there are none, there are no options.
     #[inline(always)]
     pub fn has_area(&self) -> bool
         ensures area { (result ≡ false) ↔ (self.now.area.now ≡ []) }
@@ -55,7 +55,7 @@ impl<'a> RawSegment<'a> {
         self.list().0
     }
 
-    /// The same one by one, without a list.
+    /// The options one by one, without a list; none where the area can't be read.
     #[tactic(auto, using(crate::proofs::Listed::first_listed, crate::proofs::Listed::none_listed))]
     pub fn options_left(&self) -> OptionsLeft<'a>
         ensures { result ≡ (raw_content self.now).options }
@@ -82,7 +82,7 @@ impl<'a> RawSegment<'a> {
         self.with_options(options, pad)
     }
 
-    /// The segment with these options and so many zeros after them.
+    /// The segment with these options and `pad` zeros after them.
     #[inline(always)]
     fn with_options(&self, options: ArrayVec<TcpOption<'a>, 40>, pad: u8) -> Segment<'a>
         requires options { map option_content options.items ≡ (options_of self.now.area.now).0 }

@@ -8,14 +8,14 @@ use crate::header::Header;
 use crate::option::TcpOption;
 use arrayvec::ArrayVec;
 
-/// The bytes of the fixed header.
+/// The length in bytes of the fixed header.
 pub(crate) const HEADER_LEN: usize = 20;
 /// The most options of a segment: one for each byte of their area.
 pub(crate) const MAX_OPTIONS: usize = 40;
-/// The bytes of the longest segment: what an IPv4 packet holds after its own header.
+/// The length in bytes of the longest segment: what an IPv4 packet carries after its own header.
 pub(crate) const MAX_LEN: usize = 65515;
 
-/// A segment (RFC 9293, 3.1), its checksum aside.
+/// A segment (RFC 9293, 3.1), without its checksum.
 #[derive(Clone, Debug, PartialEq, Eq, Drop)]
 pub struct Segment<'a> {
     /// The fields of the fixed header.
@@ -24,11 +24,11 @@ pub struct Segment<'a> {
     pub options: ArrayVec<TcpOption<'a>, 40>,
     /// The count of zero bytes after the options, from the end of their list (kind 0) on.
     pub pad: u8,
-    /// The bytes of the stream that it carries.
+    /// The data that it carries.
     pub text: &'a [u8],
 }
 
-/// The bytes of these options and this padding, where each option can be written.
+/// The length in bytes of these options and this padding, where each option can be written.
 pub(crate) fn area_len(options: &[TcpOption<'_>], pad: u8) -> Option<usize>
     requires { length options.now ≤ max_area_len }
     ensures some { IsSome result ↔ AreSpellable (map option_content options.now) }
@@ -42,7 +42,7 @@ pub(crate) fn area_len(options: &[TcpOption<'_>], pad: u8) -> Option<usize>
     Some(len)
 }
 
-/// Whether a text and `before` bytes before it make no more than the longest segment.
+/// Whether a text and `before` bytes before it are no longer than the longest segment.
 fn fits_after(before: usize, text: &[u8]) -> bool
     requires { before ≤ 60 }
     ensures exact { IsTrue result ↔ (before + length text.now ≤ max_len) }
@@ -52,10 +52,9 @@ fn fits_after(before: usize, text: &[u8]) -> bool
 }
 
 impl Segment<'_> {
-    /// Whether the segment can be written: `reserved` is at most 15; each option has a spelling (a
-    /// `Sack` has 1 to 4 blocks; an `Unknown` has a kind of at least 2 and a body of at most 38 bytes,
-    /// and its length isn't the own one of a known kind); options and padding are a multiple of 4
-    /// bytes, and at most 40; the whole is at most 65515 bytes.
+    /// Whether the segment can be written. `reserved` is at most 15. Each option has a spelling: a `Sack` has 1 to 4
+    /// blocks, and an `Unknown` has a kind of at least 2, a body of at most 38 bytes, and not the length of a known
+    /// kind. Options and padding are a multiple of 4 bytes, and at most 40. The whole is at most 65515 bytes.
     pub fn is_valid(&self) -> bool
         ensures { IsTrue result ↔ IsValid (content self.now) }
     {
@@ -72,7 +71,7 @@ impl Segment<'_> {
         fits_after(HEADER_LEN + area, self.text)
     }
 
-    /// The length of the whole in bytes, where the segment is valid, and else 0.
+    /// The length of the whole in bytes, where the segment is valid, else 0.
     pub fn wire_len(&self) -> usize
         ensures valid { IsValid (content self.now) → result ≡ wire_length (content self.now) }
         ensures invalid { ¬ IsValid (content self.now) → result ≡ 0 }

@@ -14,9 +14,9 @@ use crate::segment::{HEADER_LEN, MAX_LEN};
 use tcp_numbers::Addr;
 
 impl<'a> RawSegment<'a> {
-    /// Reads a segment whose checksum a device has found right (RFC 9293, 3.1), without summing it: whatever the bytes are, the
-    /// answer is [`parse`](RawSegment::parse)'s on the same bytes with the checksum field that makes them check. So it is never
-    /// `BadChecksum`, and that a changed byte is refused isn't promised.
+    /// Reads a segment whose checksum a device has found right (RFC 9293, 3.1), and doesn't sum it. Whatever the bytes
+    /// are, the answer is that of [`parse`](RawSegment::parse) for the same bytes with the checksum field that is right
+    /// for them. So it is never `BadChecksum`, and it isn't promised that a changed byte is refused.
     #[inline(always)]
     pub fn parse_vouched(
         src: Addr,
@@ -34,7 +34,7 @@ impl<'a> RawSegment<'a> {
     }
 }
 
-/// What the bytes say apart from their checksum field, or the first of their faults.
+/// The content of the bytes apart from their checksum field, or the first of their faults.
 #[inline(always)]
 fn read_vouched(src: Addr, dst: Addr, bytes: &[u8]) -> Result<RawSegment<'_>, DecodeError>
     ensures computed { let read = decode_answer src.0 dst.0 (with_right_sum src.0 dst.0 bytes.now) in MatchResult result (λ s. read ≡ Ok (raw_content s)) (λ e. read ≡ Err e) }

@@ -1,4 +1,4 @@
--- Nothing lies in the bytes, so they say the same to every thread.
+-- The bytes are uninitialized, so they are the same for every thread.
 use base.Shift.{Keyless}
 use denote.RawPtr.{Ptr, block_ptr, null_ptr}
 use denote.Param.Send.{IsSend, owning_send, sendable}

@@ -1,4 +1,4 @@
--- `leaked` keeps the bytes and lets the right to give them back go. Assumes `Logic`.
+-- `leaked` keeps the bytes and drops the right to free them. Assumes `Logic`.
 use Rattle.std.proofs.Common.{◌≡◌, ◌*◌, ◌/◌, ◌%◌, ◌^◌, ◌<◌, List, [], ◌∷◌, ◌++◌, refl, ◌∙◌, arith, lit<, w64, Some, None}
 use mir.Syntax.{Ty, Fn, Args, a_type, dcons, dnil}
 use mir.Val.{Val, vint, vptr, vcons, vnil}

@@ -1,4 +1,4 @@
--- `allocate` answers `Err`. Assumes `Logic`.
+-- `allocate` returns `Err`. Assumes `Logic`.
 use Rattle.std.proofs.Common.{false, List, [], ◌∷◌, ◌++◌, refl, w64, Err}
 use mir.Syntax.{Fn}
 use mir.Val.{Val, vint, vptr}
