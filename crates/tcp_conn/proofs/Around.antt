@@ -14,7 +14,7 @@ use Rattle.tcp_conn.specs.Blocks.{blocks_to_report, sack_options}
 use Rattle.tcp_conn.specs.Forms.{text_of, plain_segment}
 use Rattle.tcp_conn.proofs.Segments.{plain_segment_short, text_as_long}
 
--- the text that is due was put into `old` at its place: what lies around it is the segment that is due
+-- the text that is due was put into `old` at its offset: with what is written around it, it is the segment that is due
 pub is_due_around : (s : State) (due : Due) (header : Header) (options : List TcpOption) (at n : ℕ) (old part : List ℕ) → Lies s.sending max_mss due
     → map option_content options ≡ sack_options (blocks_to_report s) → content_of header (sack_options (blocks_to_report s)) 0 (text_of s.sending due) ≡ plain_segment s due
     → at ≡ text_offset (sack_options (blocks_to_report s)) 0 → n ≡ count_of due → part ≡ text_of s.sending due → EMIT_ROOM ≤ length old

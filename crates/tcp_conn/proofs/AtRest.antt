@@ -1,4 +1,4 @@
--- What holds of an end at rest in TIME-WAIT, and goes on to hold.
+-- The invariant of an end in TIME-WAIT whose place a TIME-WAIT record can take, and that it is kept.
 use Rattle.std.proofs.Common.{◌≡◌, ℕ, ◌-◌, ◌^◌, ◌<◌, zero, suc, List, [], ◌∷◌, length, replicate, refl, sym, ap, subst, ◌∙◌, arith}
 use Rattle.std.specs.Prelude.{Bool, true, false, ◌&&◌, ◌==◌, not, nat_lt, None}
 use Rattle.std.proofs.lemmas.Bool.Decides.{Decides-eqb, nat_tests}
@@ -16,7 +16,7 @@ use Rattle.tcp_conn.specs.Rest.{Resting, as_state, can_rest, phase_at_rest, rest
 use Rattle.tcp_conn.specs.State.{State, with_ack_owed}
 use Rattle.tcp_conn.proofs.Rests.{its-ack, kept, news-keep, taken, taken-shut, taking, with-ack}
 
--- WHAT HOLDS AT REST, in TIME-WAIT and once the connection has ended
+-- THE INVARIANT, in TIME-WAIT and once the connection has ended
 pub record IsAtRest (s : State) : Type 0 where
   pub isn : s.config.isn.0 < 2 ^ 32
   pub phase : s.phase ≡ phase_at_rest s.ending
@@ -25,7 +25,7 @@ pub record IsAtRest (s : State) : Type 0 where
   pub none_held : runs s.receiving.inbox.held ≡ []
   pub no_syn : s.owed.syn ≡ false
 
--- it holds of what it stands for,
+-- it holds of the end of a record,
 no-runs : (place n : ℕ) → runs_from place (replicate n None) ≡ []
 no-runs place zero = refl
 no-runs place (suc n) = no-runs (suc place) n
@@ -43,7 +43,7 @@ at-rest s = record {
   no_syn = refl;
 }
 
--- and of an end that can rest
+-- and of an end whose place a record can take
 and-left : (a b : Bool) → (a && b) ≡ true → a ≡ true
 and-left true b e = refl
 and-left false b e = e
@@ -98,7 +98,7 @@ begins s fits e =
       no_syn = not-so s.owed.syn (and-right _ _ settled);
     }
 
--- WHAT RESTS AFTER AN EVENT, and it holds still
+-- THE RECORD AFTER AN EVENT is this one, and the invariant still holds
 pub record Goes (s : State) (r : Resting) : Type 0 where
   pub rests : resting s ≡ r
   pub at_rest : IsAtRest s

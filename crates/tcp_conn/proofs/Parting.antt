@@ -17,7 +17,7 @@ use Rattle.tcp_conn.specs.Blocks.{blocks_to_report, sack_options}
 use Rattle.tcp_conn.specs.Forms.{text_of, plain_segment}
 use Rattle.tcp_conn.proofs.Segments.{plain_segment_valid, text_as_long, offset_of_report, report_options_short}
 
--- header, options and lent text say the segment that is due
+-- header, options and lent text are those of the segment that is due
 pub says_due : (s : State) (due : Due) (header : Header) (options : List TcpOption) (text : List ℕ) → map option_content options ≡ sack_options (blocks_to_report s)
     → text ≡ text_of s.sending due → content_of header (sack_options (blocks_to_report s)) 0 (text_of s.sending due) ≡ plain_segment s due
     → content_of header (map option_content options) 0 text ≡ plain_segment s due

@@ -1,4 +1,4 @@
--- The table of the states of a connection, row by row: each computes.
+-- The table of the states of a connection, row by row: each row is computed.
 use Rattle.std.proofs.Common.{◌≡◌, refl}
 use Rattle.std.specs.Prelude.{Bool, true, false}
 use Rattle.tcp_conn.specs.declared.phase.Phase.{Phase}
@@ -16,7 +16,7 @@ by_timer P retransmit reorder time_wait timers.Retransmit = retransmit
 by_timer P retransmit reorder time_wait timers.Reorder = reorder
 by_timer P retransmit reorder time_wait timers.TimeWait = time_wait
 
--- what a row says of the rule of a timer, and of the state after it
+-- the claim of a row for the rule of a timer, and for the state after it
 abbrev Applies : (Timer → Bool) → State → Phase → Bool → Timer → Type 0
 Applies may_apply s phase closing timer = may_apply timer ≡ false → timer_answer (in_phase s phase closing) timer ≡ false
 

@@ -1,4 +1,4 @@
--- An arrival at an end at rest: the judgement and its effect are told by what rests.
+-- An arrival at an end in TIME-WAIT: the judgement and its effect depend only on the TIME-WAIT record.
 use Rattle.std.proofs.Common.{◌≡◌, ℕ, List, refl, sym, ap, subst, ◌∙◌}
 use Rattle.std.specs.Prelude.{Bool, true, false, ◌||◌, ◌&&◌, ◌==◌, not, if◌then◌else◌, bytes_eq, Result, Ok, Err}
 use Rattle.tcp_wire.specs.Flags.{ack, has, rst, syn}
@@ -21,7 +21,7 @@ use Rattle.tcp_conn.specs.State.{State}
 use Rattle.tcp_conn.proofs.Rests.{unsent-number, with-ack}
 use Rattle.tcp_conn.proofs.AtRest.{Goes, IsAtRest, ends, owes, recorded, takes, takes-shut}
 
--- THE JUDGEMENT, by what rests
+-- THE JUDGEMENT, from the record
 ack-judged : Resting → Content → Judgement → Judgement
 ack-judged r v good = if is_before r.seq v.ack then judgements.AcksUnsent else good
 
@@ -75,7 +75,7 @@ unfolding judgement is_foreign judged is-other
 judgement-is s src dst v h =
     rw (phase-is s v s.ending h.phase h, h.phase) refl
 
--- WHAT A JUDGEMENT DOES to what rests
+-- THE EFFECT OF A JUDGEMENT on the record
 abbrev effect : Judgement → Resting → List ℕ → Content → Resting
 effect judgements.Stray r src v = record r { reset = first_reset r.reset (reset_of_stray src v) }
 effect judgements.PeerResets r src v = record r { ending = endings.Reset; ack = false }

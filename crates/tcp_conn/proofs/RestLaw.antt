@@ -1,5 +1,5 @@
--- An end in TIME-WAIT and what rests in its place can't be told apart: whatever is seen of an end at rest, and what rests
--- after an event, are told by what rests before it.
+-- An end in TIME-WAIT and the TIME-WAIT record in its place can't be distinguished: what is observed at an event, and the
+-- record after it, depend only on the record before it.
 use Rattle.std.proofs.Common.{◌≡◌, ℕ, List, [], ◌∷◌, refl, sym, ap, subst, ◌∙◌, arith}
 use Rattle.std.specs.Prelude.{Bool, true, false, if◌then◌else◌, max, drop, ◌++◌, Option, Some, None, option_map, Result, Ok, Err}
 use Rattle.std.specs.Option.{option_or}
@@ -188,7 +188,7 @@ emission-goes s h =
     subst (λ d. Goes (after_due s d) (due-effect (resting s) (due-at-rest (resting s)))) (sym (due-is s h))
     (by-due (λ d. Goes (after_due s d) (due-effect (resting s) d)) (stays s h) (λ reset. reset-goes s reset h) (acknowledgement-goes s h) (resting s))
 
--- GIVING UP
+-- AN ABORT
 abbrev abort-at-rest : Ending → Result (Unit {0}) CallError
 abort-at-rest endings.NotEnded = Ok tt
 abort-at-rest ending = Err (Ended ending)
@@ -257,7 +257,7 @@ seen-is s event h =
     ∙ ap (λ pending. seen-as (phase_at_rest s.ending) s.ending pending (answer_to s event)) (pending-is s h)
     ∙ ap (λ answer. seen-as (phase_at_rest s.ending) s.ending (pending-at-rest (resting s)) answer) (answer-is s event h)
 
--- AND ANY NUMBER OF THEM
+-- ANY NUMBER OF EVENTS
 alike : (s : State) (events : List Event) → IsAtRest s → seen_of_rest (resting s) events ≡ seen_of_end s events
 alike s [] h = refl
 alike s (event ∷ events) h =

@@ -1,4 +1,4 @@
--- What rests in the place of an end in TIME-WAIT does as the end does.
+-- The TIME-WAIT record in the place of an end does as the end does.
 use Rattle.std.proofs.Common.{◌≡◌, ℕ, ◌-◌, ◌%◌, ◌^◌, ◌<◌, List, [], ◌∷◌, refl, ap, ◌∙◌, arith}
 use Rattle.std.specs.Prelude.{Bool, true, false, ◌||◌, ◌&&◌, not, if◌then◌else◌, nat_lt, nat_le}
 use Rattle.std.proofs.lemmas.Bool.Decides.{nat_tests}
@@ -27,7 +27,8 @@ window-kept n = omega arith
 pub kept : (r : Resting) → r.seq < 2 ^ 32 → resting (as_state r) ≡ r
 kept r fits = rw (number-kept r.seq fits, window-kept r.window) refl
 
--- where all that was sent is acknowledged, an acknowledgement is of what wasn't sent where its number comes behind that of SND.NXT
+-- where all that was sent is acknowledged, an acknowledgement is of what wasn't sent exactly where its number is after
+-- SND.NXT
 pub unsent-number : (iss nxt w : ℕ) → iss < 2 ^ 32 → nat_lt nxt (position_of iss nxt w) ≡ is_before (number iss nxt) w
 unfolding position_of
 unsent-number iss nxt w fits =
@@ -39,7 +40,7 @@ unsent-number iss nxt w fits =
 pub unsent : (r : Resting) (v : Content) → r.seq < 2 ^ 32 → acks_unsent (as_state r).sending (position_near (as_state r) v.ack) ≡ is_before r.seq v.ack
 unsent r v fits = unsent-number r.seq 0 v.ack fits ∙ ap (λ n. is_before n v.ack) (number-kept r.seq fits)
 
--- AN ACKNOWLEDGEMENT IN TIME-WAIT changes nothing that is kept
+-- AN ACKNOWLEDGEMENT IN TIME-WAIT changes nothing that the record keeps
 pub if-same : {A : Type 0} (b : Bool) (x : A) → (if b then x else x) ≡ x
 if-same true x = refl
 if-same false x = refl
@@ -52,7 +53,7 @@ and-true : (b : Bool) → b && true ≡ b
 and-true true = refl
 and-true false = refl
 
--- the numbers that the sending half keeps
+-- the positions that the sending half keeps
 abbrev pub Keeps : Sending → Sending → Type 0
 Keeps s s' = (s'.una ≡ s.una) × (s'.nxt ≡ s.nxt)
 
@@ -147,7 +148,7 @@ taken-shut s v waits acked =
     ∙ ap (λ b. record (resting (after_news s v)) { ack = b }) (ap (λ phase. (after_news s v).owed.ack || not (is_closed phase)) (news-phase s v ∙ waits) ∙ or-true (after_news s v).owed.ack)
     ∙ ap with-ack (news-rest s v)
 
--- and so it is of what rests
+-- and so it is of the record
 pub taken_at_rest : (r : Resting) (v : Content) → r.seq < 2 ^ 32 → r.ending ≡ NotEnded → resting (after_taking (as_state r) v) ≡ r
 taken_at_rest r v fits goes = taken (as_state r) v (ap phase_at_rest goes) refl ∙ kept r fits
 

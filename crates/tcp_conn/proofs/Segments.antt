@@ -41,7 +41,7 @@ pub blocks_to_report-are_blocks : (s : State) → AllByRecursion IsBlock (blocks
 blocks_to_report-are_blocks s = cond_both s.link.sack (map (block_numbers s.receiving.next) (blocks s.receiving.inbox)) [] (λ bs. AllByRecursion IsBlock bs)
     (λ _. numbers-are_blocks s.receiving.next (blocks s.receiving.inbox)) (λ _. tt)
 
--- OPTIONS that tell them
+-- OPTIONS that report them
 sack-spellable : (bs : List (ℕ × ℕ)) → length bs ≤ 4 → AllByRecursion IsBlock bs → AreSpellable (sack_options bs)
 sack-spellable [] few fits = tt
 sack-spellable (b ∷ bs) few fits = (tt, (tt, ((omega arith, few, fits), tt)))
@@ -104,7 +104,7 @@ text-as_long queue place count inside = ⊎_elim
     (λ some. length-take-le count (drop place queue) (omega (arith, inside some, length-drop place queue)))
     (cases_lt count 1)
 
--- a text that is due is as long as it is told
+-- the text of what is due is as long as its count
 pub text_as_long : (s : Sending) (due : Due) → Lies s max_mss due → length (text_of s due) ≡ count_of due
 text_as_long s due lies = text-as_long s.queue.bytes (place_of s (start_of s due)) (count_of due) lies.inside
 

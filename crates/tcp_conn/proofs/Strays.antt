@@ -1,4 +1,4 @@
--- An end in CLOSED answers a segment by the bytes that answer it where no end is.
+-- An end in CLOSED answers a segment by the bytes that answer it where there is no end.
 use Rattle.std.proofs.Common.{◌≡◌, ℕ, List, refl, ap}
 use Rattle.std.specs.Prelude.{Bool, true, false, if◌then◌else◌, Ok}
 use Rattle.std.proofs.lemmas.Bool.Decides.{Decides-eqb}
@@ -16,7 +16,7 @@ use Rattle.tcp_conn.specs.NewEnd.{new_end}
 use Rattle.tcp_conn.specs.Stray.{AnswersAsClosed, bytes_for_stray, stray_reset}
 use Rattle.tcp_conn.specs.Writing.{bytes_of}
 
--- it is for this end
+-- the segment is for this end
 own : (c : Config) (src : List ℕ) (v : Content) → v.dst_port ≡ c.port → is_foreign (new_end c) src c.addr.0 v ≡ false
 unfolding is_foreign
 own c src v port = rw (port, (bytes_eq-Decides c.addr.0 c.addr.0).1 refl, (Decides-eqb c.port c.port).1 refl) refl

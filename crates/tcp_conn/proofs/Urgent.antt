@@ -50,7 +50,7 @@ owed-due s e =
     )
     (with-text (is_some s.owed.reset) s.owed.syn (is_some (text_due s)) s.owed.ack e)
 
--- WHAT OWES
+-- SOMETHING IS PENDING
 or-right : (b : Bool) → b || true ≡ true
 or-right true = refl
 or-right false = refl

@@ -1,4 +1,4 @@
--- A segment arrives (RFC 9293, 3.10.7): what each judgement does.
+-- A segment arrives (RFC 9293, 3.10.7): the effect of each judgement.
 use Rattle.std.specs.Prelude.{ℕ, Bool, false, ◌||◌, ◌==◌, if◌then◌else◌, true, not, ◌&&◌, List, [], length, Option, Some, None, Result, Ok, Err, nat_le}
 use Rattle.tcp_wire.specs.Decoded.{decode_answer}
 use Rattle.tcp_wire.specs.Flags.{fin, ack, has}
@@ -36,11 +36,11 @@ with_reset s reset = record s { owed = record s.owed { reset = first_reset s.owe
 abbrev pub source_of : List ℕ → Content → Peer
 source_of src v = record { addr = record { 0 = src }; port = v.src_port }
 
--- at the number that the segment acknowledges
+-- a reset at SEG.ACK
 abbrev pub reset_at_ack : List ℕ → Content → WaitingReset
 reset_at_ack src v = record { to = source_of src v; seq = record { 0 = v.ack }; ack = None }
 
--- of a segment without acknowledgement all is acknowledged
+-- of a segment without ACK all is acknowledged
 abbrev pub reset_of_stray : List ℕ → Content → WaitingReset
 reset_of_stray src v = record {
   to = source_of src v;
@@ -48,7 +48,7 @@ reset_of_stray src v = record {
   ack = if has ack v.flags then None else Some (record { 0 = number v.seq (count_numbers v) });
 }
 
--- PEER OPENS: a SYN in LISTEN (3.10.7.2, third). Text and FIN that come with it are not kept.
+-- PEER OPENS: a SYN in LISTEN (3.10.7.2, third). Text and FIN that come with it are dropped.
 unfoldable pub after_peer_opens : State → List ℕ → Content → State
 after_peer_opens s src v = record s {
   phase = phases.SynReceived;
@@ -59,7 +59,7 @@ after_peer_opens s src v = record s {
   owed = record s.owed { syn = true };
 }
 
--- PEER ACCEPTS: a SYN with acknowledgement in SYN-SENT (3.10.7.3, fourth). The window of a SYN is never scaled.
+-- PEER ACCEPTS: a SYN with ACK in SYN-SENT (3.10.7.3, fourth). The window of a SYN is never scaled.
 unfoldable pub after_peer_accepts : State → Content → State
 after_peer_accepts s v = record s {
   phase = phases.Established;
@@ -69,7 +69,7 @@ after_peer_accepts s v = record s {
   owed = record s.owed { syn = false; ack = true };
 }
 
--- ACKNOWLEDGEMENT of the own SYN in SYN-RECEIVED (3.10.7.4, fifth): the window is taken, and a waiting close acts
+-- THIS END'S SYN ACKNOWLEDGED in SYN-RECEIVED (3.10.7.4, fifth): the window is taken, and a waiting close takes effect
 abbrev pub phase_after_own_syn : Phase → Bool → Phase
 phase_after_own_syn phase closing =
     if is_syn_received phase then (if closing then phases.FinWait1 else phases.Established) else phase
@@ -85,11 +85,11 @@ after_own_syn s v = record s {
 unfoldable pub after_acked_text : State → Content → State
 after_acked_text s v = record s { sending = after_ack s.sending (position_near s v.ack) }
 
--- the blocks of all options (RFC 2018, 3 and 5)
+-- the blocks of all options mark text (RFC 2018, 3 and 5)
 abbrev pub after_reported_blocks : State → Content → State
 after_reported_blocks s v = record s { sending = after_blocks s.config.isn.0 s.sending (reported_blocks v.options) }
 
--- the blocks that count, where selective acknowledgement is in use (RFC 2018, 2)
+-- the blocks that are read: those of all options, where selective acknowledgement is in use (RFC 2018, 2)
 abbrev pub blocks_used : State → Content → List (ℕ × ℕ)
 blocks_used s v = if s.link.sack then reported_blocks v.options else []
 
@@ -98,15 +98,15 @@ abbrev pub with_news : State → Content → Sending
 with_news s v =
     after_blocks s.config.isn.0 (after_window_update s.sending v.seq v.ack (window_from s.link v.window)) (blocks_used s v)
 
--- its acknowledgement isn't older than SND.UNA: SND.UNA =< SEG.ACK
+-- the acknowledgement isn't older than SND.UNA: SND.UNA =< SEG.ACK
 abbrev pub is_current : State → Content → Bool
 is_current s v = nat_le s.sending.una (position_near s v.ack)
 
--- neither is taken from an older acknowledgement
+-- from an older acknowledgement neither window nor blocks are taken
 unfoldable pub after_news : State → Content → State
 after_news s v = record s { sending = if is_current s v then with_news s v else s.sending }
 
--- OWN FIN ACKNOWLEDGED (3.10.7.4, fifth)
+-- THIS END'S FIN ACKNOWLEDGED (3.10.7.4, fifth)
 unfoldable pub after_own_fin : State → State
 after_own_fin s =
     if is_fin_acked s.sending
@@ -116,7 +116,7 @@ after_own_fin s =
 unfoldable pub after_its_ack : State → Content → State
 after_its_ack s v = after_own_fin (after_news (after_acked_text (after_own_syn s v) v) v)
 
--- TEXT (3.10.7.4, seventh): it is placed, and an acknowledgement is owed for it
+-- TEXT (3.10.7.4, seventh) is placed, and an acknowledgement is pending for it
 abbrev pub takes_text_of : State → Content → Bool
 takes_text_of s v = takes_text s.phase && not (length v.text == 0)
 
@@ -126,7 +126,7 @@ after_its_text s v = record s {
   owed = record s.owed { ack = s.owed.ack || takes_text_of s v };
 }
 
--- THE PEER'S FIN (3.10.7.4, eighth) is acknowledged, and taken where its number is the next one
+-- THE PEER'S FIN (3.10.7.4, eighth) is acknowledged, and taken where its number is RCV.NXT
 abbrev pub has_fin : State → Content → Bool
 has_fin s v = takes_text s.phase && has fin v.flags
 
@@ -140,18 +140,18 @@ after_fin s v = record s {
   owed = record s.owed { ack = s.owed.ack || has_fin s v };
 }
 
--- TAKEN
+-- TAKEN (3.10.7.4, fifth to eighth)
 unfoldable pub after_taking : State → Content → State
 after_taking s v = after_fin (after_its_text (after_its_ack s v) v) v
 
--- TAKEN WHILE THE WINDOW IS SHUT: an acknowledgement shows where the window lies
+-- TAKEN AT A ZERO WINDOW: an acknowledgement shows where the window lies
 abbrev pub with_ack_owed_unless_closed : State → State
 with_ack_owed_unless_closed s = record s { owed = record s.owed { ack = s.owed.ack || not (is_closed s.phase) } }
 
 unfoldable pub after_taking_shut : State → Content → State
 after_taking_shut s v = with_ack_owed_unless_closed (after_its_ack s v)
 
--- AND WHAT IT DOES
+-- THE EFFECT OF EACH JUDGEMENT
 abbrev pub after_judgement : Judgement → State → List ℕ → Content → State
 after_judgement Foreign s src v = s
 after_judgement ResetIgnored s src v = s
@@ -173,7 +173,7 @@ after_judgement HandshakeRefusedShut s src v = with_ack_owed (with_reset s (rese
 after_judgement Taken s src v = after_taking s v
 after_judgement TakenShut s src v = after_taking_shut s v
 
--- ARRIVAL: any bytes
+-- ARRIVAL of any bytes
 abbrev pub answer_to_reading : State → List ℕ → List ℕ → Result Content DecodeError → Arrival
 answer_to_reading s src dst (Ok v) = answer_of (judgement s src dst v)
 answer_to_reading s src dst (Err fault) = Malformed fault

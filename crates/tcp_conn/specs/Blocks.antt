@@ -1,5 +1,5 @@
--- Blocks (RFC 2018, 3 and 4): those that an end reports of what it holds. What those that its peer reports do to the half
--- that sends is in Marks.
+-- Blocks (RFC 2018, 3 and 4) that an end reports of what it keeps out of order. The blocks that its peer reports are in
+-- Marks, with what they change in the half that sends.
 use Rattle.std.specs.Prelude.{ℕ, if◌then◌else◌, List, [], ◌∷◌, length, ◌+◌, ◌*◌, map}
 use Rattle.tcp_wire.specs.Options.{OptionContent, Nop, Sack}
 use Rattle.tcp_wire.specs.Position.{number}
@@ -8,7 +8,7 @@ use Rattle.tcp_conn.specs.State.{State}
 pub use Rattle.tcp_halves.specs.Marks.{reported_blocks, is_of_flight, marks_text, with_marks, after_blocks}
 unfoldable pub use Rattle.tcp_halves.specs.Marks.{after_block}
 
--- BLOCKS: while a run is held and selective acknowledgement is in use (RFC 2018, 4), as numbers
+-- BLOCKS are reported while a run is kept out of order and selective acknowledgement is in use (RFC 2018, 4), as numbers
 abbrev pub block_numbers : ℕ → ℕ × ℕ → ℕ × ℕ
 block_numbers next block = (number next block.0, number next block.1)
 
@@ -19,7 +19,7 @@ abbrev pub sack_options : List (ℕ × ℕ) → List OptionContent
 sack_options [] = []
 sack_options (block ∷ blocks) = Nop ∷ Nop ∷ Sack (block ∷ blocks) ∷ []
 
--- the bytes that they take: two Nops, kind and length byte, and eight for each block
+-- their length in bytes among the options: two Nops, kind and length byte, and eight for each block
 abbrev pub sack_length : List (ℕ × ℕ) → ℕ
 sack_length [] = 0
 sack_length (block ∷ blocks) = 4 + 8 * length (block ∷ blocks)

@@ -1,4 +1,4 @@
--- The user's calls (RFC 9293, 3.10.1 to 3.10.5): what each answers, and the end after it.
+-- The user's calls (RFC 9293, 3.10.1 to 3.10.5): the answer of each, and the end after it.
 use Rattle.std.specs.Prelude.{ℕ, Bool, false, ◌||◌, ◌==◌, if◌then◌else◌, true, not, ◌&&◌, List, [], length, Option, Some, None, Result, Ok, Err, min, nat_lt, nat_le, take}
 use Rattle.std.specs.Option.{option_or}
 use Rattle.tcp_wire.specs.Position.{number}
@@ -20,7 +20,7 @@ use Rattle.tcp_halves.specs.Sender.{with_syn_sent, count_sendable, with_text}
 use Rattle.tcp_halves.specs.Receiver.{after_handing}
 use Rattle.tcp_conn.specs.Endings.{after_giving_up}
 
--- REFUSALS: what a call answers where it is refused, and the end as it was then
+-- REFUSALS: a refused call answers an error, and the end is as it was
 abbrev pub answer_unless : {A : Type 0} → Option CallError → A → Result A CallError
 answer_unless None value = Ok value
 answer_unless (Some error) value = Err error
@@ -72,8 +72,8 @@ send_answer s text = answer_unless (send_refusal s text) (count_sendable s.sendi
 unfoldable pub after_send : State → List ℕ → State
 after_send s text = state_unless (send_refusal s text) s (record s { sending = with_text s.sending s.config.limit text })
 
--- RECEIVE (RFC 9293, 3.10.3) into a buffer of this length. After an orderly end what is unread is still handed
--- over, and then the end of the stream.
+-- RECEIVE (RFC 9293, 3.10.3) into a buffer of this length. After an orderly end the unread bytes are still delivered, and
+-- then the end of the stream.
 abbrev pub receive_refusal : State → Option CallError
 receive_refusal s =
     option_or (refusal_if (gives_up s.ending) (Ended s.ending)) (refusal_if (is_closed s.phase && not (is_ended s.ending)) NotOpen)
@@ -86,7 +86,7 @@ received_value s room =
 abbrev pub receive_answer : State → ℕ → Result Received CallError
 receive_answer s room = answer_unless (receive_refusal s) (received_value s room)
 
--- the bytes that it puts out
+-- the bytes that it delivers
 abbrev pub bytes_unless : Option CallError → List ℕ → List ℕ
 bytes_unless None bytes = bytes
 bytes_unless (Some error) bytes = []
@@ -94,7 +94,7 @@ bytes_unless (Some error) bytes = []
 abbrev pub received_bytes : State → ℕ → List ℕ
 received_bytes s room = bytes_unless (receive_refusal s) (take (min room (length s.receiving.inbox.unread)) s.receiving.inbox.unread)
 
--- reading opens a window that was advertised as shut (RFC 9293, 3.8.6.2)
+-- reading opens a window that was advertised as zero (RFC 9293, 3.8.6.2)
 abbrev pub opens_window : State → ℕ → Bool
 opens_window s room =
     takes_text s.phase && ((advertised_window s s.receiving.inbox == 0) && nat_lt 0 (advertised_window s (after_read s.receiving.inbox room)))
@@ -108,8 +108,8 @@ with_bytes_received s room = record s {
 unfoldable pub after_receive : State → ℕ → State
 after_receive s room = state_unless (receive_refusal s) s (with_bytes_received s room)
 
--- ACKNOWLEDGE: a user who has read has the window told now, where the peer's text is taken (RFC 9293, 3.8.6.2.2). In any other phase
--- the peer has nothing to send, and nothing changes
+-- ACKNOWLEDGE: an acknowledgement is pending, which advertises the window, where the peer's text is taken (RFC 9293,
+-- 3.8.6.2.2). In any other phase the peer has nothing to send, and nothing changes
 unfoldable pub after_acknowledge : State → State
 after_acknowledge s = record s { owed = record s.owed { ack = s.owed.ack || takes_text s.phase } }
 
@@ -120,13 +120,13 @@ close_refusal s = option_or (open_refusal s) (refusal_if s.closing Closing)
 abbrev pub close_answer : State → Result (Unit {0}) CallError
 close_answer s = answer_unless (close_refusal s) tt
 
--- before the handshake has an answer there is nothing to close in order
+-- before the peer's SYN there is nothing to close in order
 abbrev pub is_unanswered : Phase → Bool
 is_unanswered phases.Listen = true
 is_unanswered phases.SynSent = true
 is_unanswered other = false
 
--- SYN-RECEIVED waits for the handshake
+-- in SYN-RECEIVED the close waits for the end of the handshake
 abbrev pub phase_after_close : Phase → Phase
 phase_after_close phases.Established = phases.FinWait1
 phase_after_close phases.CloseWait = phases.LastAck
@@ -141,7 +141,7 @@ after_closing s = if is_unanswered s.phase then record (after_giving_up s Aborte
 unfoldable pub after_close : State → State
 after_close s = state_unless (close_refusal s) s (after_closing s)
 
--- ABORT (RFC 9293, 3.10.5): a reset goes to a peer that may know of the connection, in place of one that waited
+-- ABORT (RFC 9293, 3.10.5): a reset is sent to a peer that may know of the connection, in place of one that waited
 abbrev pub abort_answer : State → Result (Unit {0}) CallError
 abort_answer s = answer_unless (open_refusal s) tt
 

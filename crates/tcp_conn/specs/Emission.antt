@@ -1,11 +1,11 @@
--- What an emission answers, and the end after it (RFC 9293, 3.3.1, 3.4 and 3.8).
+-- What an emission returns, and the end after it (RFC 9293, 3.3.1, 3.4 and 3.8).
 use Rattle.std.specs.Prelude.{ℕ, Bool, false, not, ◌&&◌, List, Option, Some, None, ◌++◌, drop, option_map}
 use Rattle.tcp_wire.specs.Wire.{wire_length}
 use Rattle.tcp_halves.specs.declared.due.Due.{Due}
 use Rattle.tcp_halves.specs.declared.due.Due.TheVariants.{Reset, Syn, NewText}
 use Rattle.tcp_conn.specs.declared.owed.Owed.{Owed}
 use Rattle.tcp_conn.specs.State.{State}
-use Rattle.tcp_conn.specs.Due.{due_of}
+use Rattle.tcp_conn.specs.Due.{due_of, ack_alone}
 pub use Rattle.tcp_halves.specs.Due.{range_after, resend_after, sending_after}
 use Rattle.tcp_conn.specs.Forms.{segment_of}
 use Rattle.tcp_conn.specs.Writing.{bytes_of, destination_of}
@@ -13,8 +13,8 @@ use Rattle.tcp_conn.specs.Writing.{bytes_of, destination_of}
 unfoldable pub emitted_bytes : State → Option (List ℕ)
 emitted_bytes s = option_map (bytes_of s) (due_of s)
 
--- AFTER AN EMISSION: what was emitted waits and is owed no more, SND.NXT is at least the position after it,
--- and a segment with an acknowledgement settles the one that is owed
+-- AFTER AN EMISSION: what was emitted is no longer pending, SND.NXT is at least the position after it, and a segment with ACK
+-- settles a pending acknowledgement
 abbrev pub owed_after : Bool → Owed → Due → Owed
 owed_after opened o (Reset reset) = record o { reset = None }
 owed_after opened o Syn = record o { syn = false; ack = o.ack && not opened }
@@ -31,7 +31,7 @@ after_due s (Some due) = state_after s due
 unfoldable pub after_emission : State → State
 after_emission s = after_due s (due_of s)
 
--- what a buffer holds after an emission: the segment, and after it what was there
+-- what a buffer contains after an emission: the segment, and after it the bytes that were there
 abbrev pub buffer_with : State → Option Due → List ℕ → List ℕ
 buffer_with s None out = out
 buffer_with s (Some due) out = bytes_of s due ++ drop (wire_length (segment_of s due)) out
@@ -39,9 +39,26 @@ buffer_with s (Some due) out = bytes_of s due ++ drop (wire_length (segment_of s
 unfoldable pub buffer_after : State → List ℕ → List ℕ
 buffer_after s out = buffer_with s (due_of s) out
 
+-- THE ACKNOWLEDGEMENT ALONE goes out as what is due does
+unfoldable pub ack_alone_bytes : State → Option (List ℕ)
+ack_alone_bytes s = option_map (bytes_of s) (ack_alone s)
+
+unfoldable pub after_ack_alone : State → State
+after_ack_alone s = after_due s (ack_alone s)
+
+unfoldable pub buffer_after_ack_alone : State → List ℕ → List ℕ
+buffer_after_ack_alone s out = buffer_with s (ack_alone s) out
+
 -- the length of the segment that is due, and where it goes
 unfoldable pub pending_length : State → Option ℕ
 pending_length s = option_map (λ due. wire_length (segment_of s due)) (due_of s)
 
 unfoldable pub destination : State → Option (List ℕ)
 destination s = option_map (λ due. (destination_of s due).addr.0) (due_of s)
+
+-- those of the acknowledgement alone
+unfoldable pub ack_alone_length : State → Option ℕ
+ack_alone_length s = option_map (λ due. wire_length (segment_of s due)) (ack_alone s)
+
+unfoldable pub ack_alone_destination : State → Option (List ℕ)
+ack_alone_destination s = option_map (λ due. (destination_of s due).addr.0) (ack_alone s)

@@ -1,4 +1,4 @@
--- How a connection ends (RFC 9293, 3.10.4, 3.10.5 and 3.10.7): any end clears all that is owed but a waiting reset.
+-- How a connection ends (RFC 9293, 3.10.4, 3.10.5 and 3.10.7): any end clears all that is pending but a waiting reset.
 use Rattle.tcp_conn.specs.declared.phase.Ending.{Ending}
 use Rattle.tcp_conn.specs.declared.phase.Ending.TheVariants.{Orderly}
 use Rattle.tcp_conn.specs.declared.phase.Phase.TheVariants as phases
@@ -17,7 +17,7 @@ after_orderly_end s = record s {
   owed = only_reset_owed s.owed;
 }
 
--- A RESET OR AN ABORT: what is queued, held and unread is given up
+-- A RESET OR AN ABORT: what is queued, unread or kept out of order is discarded
 abbrev pub after_giving_up : State → Ending → State
 after_giving_up s ending = record s {
   phase = phases.Closed;

@@ -9,7 +9,7 @@ use Rattle.tcp_halves.specs.Receiver.{max_ordered}
 use Rattle.tcp_halves.specs.Sender.{IsSender}
 use Rattle.tcp_conn.specs.State.{IsWithin, KeepsWithin, State, HoldsWithin}
 
--- its segments fit the room that it asks for, its fields their places, and what it keeps its capacities
+-- its segments fit the room that it asks for, its numbers fit their fields, and its buffers keep to their capacities
 pub record IsEndpoint (c : Config) (link : Link) (queue : Queue) (inbox : Inbox) : Type 0 where
   pub mss : c.mss ≤ max_mss
   pub port : c.port < 2 ^ 16
@@ -28,8 +28,8 @@ pub record FitsFields (s : State) : Type 0 where
   pub mss : s.config.mss ≤ max_mss
   pub shift : unwrap_or s.config.window_shift 0 ≤ max_shift
 
--- what can be believed of every end, whatever was done to it: it keeps within its capacities, its two halves are sound, RCV.NXT
--- is a number, and the count of what came in order one of 64 bits
+-- the invariant of every end, whatever was done to it: it keeps to its capacities, its two halves are sound, RCV.NXT is a
+-- number of 32 bits, and the count of what came in order one of 64 bits
 pub record AlwaysHolds (s : State) : Type 0 where
   pub within : IsWithin s
   pub sends : IsSender s.sending

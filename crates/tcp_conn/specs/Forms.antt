@@ -39,8 +39,8 @@ abbrev pub reset_segment : State → WaitingReset → Content
 reset_segment s r = reset_from s.config.port r
 
 -- A SYN, and after the peer's SYN its acknowledgement (RFC 9293, 3.10.1 and 3.10.7.2). It offers scaling and selective
--- acknowledgement as the Config says, and in an answer only where the peer did (RFC 7323, 2.2; RFC 2018, 2); its own
--- window is never scaled.
+-- acknowledgement as the Config says, and in an answer only where the peer did (RFC 7323, 2.2; RFC 2018, 2). The window of a
+-- SYN is never scaled.
 abbrev pub shift_offered : State → Option ℕ
 shift_offered s = if s.receiving.opened && not s.link.scaling then None else s.config.window_shift
 

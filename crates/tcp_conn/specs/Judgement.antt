@@ -1,5 +1,5 @@
--- Which rule applies to a segment that arrives (RFC 9293, 3.10.7), each test once, and what it is answered by; what a
--- rule does is in Arrival.
+-- Which rule applies to a segment that arrives (RFC 9293, 3.10.7), each test once, and the answer. The effect of a rule is in
+-- Arrival.
 use Rattle.std.specs.Prelude.{ℕ, Bool, ◌||◌, ◌==◌, if◌then◌else◌, not, ◌&&◌, List, length, ◌+◌, bytes_eq}
 use Rattle.tcp_wire.specs.Flags.{fin, ack, has, syn, rst}
 use Rattle.tcp_wire.specs.Position.{position_of}
@@ -14,7 +14,7 @@ use Rattle.tcp_conn.specs.Phase.{is_listening, is_syn_received, is_closed, is_sy
 use Rattle.tcp_conn.specs.State.{State}
 use Rattle.tcp_halves.specs.Sender.{acks_unsent}
 
--- the position that an acknowledgement number means: the nearest to SND.UNA
+-- the position that an acknowledgement number is read as: the nearest to SND.UNA
 abbrev pub position_near : State → ℕ → ℕ
 position_near s w = position_of s.config.isn.0 s.sending.una w
 
@@ -22,7 +22,7 @@ position_near s w = position_of s.config.isn.0 s.sending.una w
 abbrev pub count_numbers : Content → ℕ
 count_numbers v = length v.text + (if has syn v.flags then 1 else 0) + (if has fin v.flags then 1 else 0)
 
--- FOREIGN (RFC 9293, 3.10.7): for another end; or, where the peer is known, from another
+-- FOREIGN (RFC 9293, 3.10.7): for another end, or, where the peer is known, from another source
 abbrev pub is_for_other : State → List ℕ → Content → Bool
 is_for_other s dst v = not (bytes_eq dst s.config.addr.0) || not (v.dst_port == s.config.port)
 
@@ -44,7 +44,7 @@ listen_judgement v =
     else (if has syn v.flags then PeerOpens
     else OpensNothing))
 
--- it acknowledges the own SYN, and nothing else was sent
+-- it acknowledges this end's SYN, and nothing else was sent
 abbrev pub acks_syn : State → Content → Bool
 acks_syn s v = position_near s v.ack == s.sending.nxt
 
@@ -60,14 +60,14 @@ syn_sent_judgement s v =
 abbrev pub is_acceptable_segment : State → Content → Bool
 is_acceptable_segment s v = is_acceptable s.receiving.next (window s.receiving.inbox) v.seq (count_numbers v)
 
--- ACKNOWLEDGEMENT (3.10.7.4, fifth): of the own SYN in SYN-RECEIVED, of nothing that wasn't sent
+-- ACKNOWLEDGEMENT (3.10.7.4, fifth): of this end's SYN in SYN-RECEIVED, else of nothing that wasn't sent
 unfoldable pub ack_judgement : State → Content → Judgement → Judgement → Judgement
 ack_judgement s v good refused =
     if is_syn_received s.phase then (if acks_syn s v then good else refused)
     else (if acks_unsent s.sending (position_near s v.ack) then AcksUnsent else good)
 
--- THE ALLOWANCE AT WINDOW 0 (3.10.7.4, first): acknowledgement, window and own FIN are taken from a segment whose
--- text is not
+-- THE ALLOWANCE AT WINDOW 0 (3.10.7.4, first): acknowledgement, window and blocks are taken from a segment whose text and
+-- FIN are not
 abbrev pub is_allowed_shut : State → Content → Bool
 is_allowed_shut s v = (window s.receiving.inbox == 0) && (has ack v.flags && not (has syn v.flags))
 
@@ -99,7 +99,7 @@ phase_judgement s v =
 unfoldable pub judgement : State → List ℕ → List ℕ → Content → Judgement
 judgement s src dst v = if is_foreign s src dst v then Foreign else phase_judgement s v
 
--- WHAT EACH JUDGEMENT ANSWERS
+-- THE ANSWER OF EACH JUDGEMENT
 abbrev pub answer_of : Judgement → Arrival
 answer_of Foreign = NotMine
 answer_of ResetIgnored = Dropped

@@ -1,4 +1,4 @@
--- The unread bytes lent where they lie, and taken away (RFC 9293, 3.10.3).
+-- The unread bytes, lent where they lie and then consumed (RFC 9293, 3.10.3).
 use Rattle.std.specs.Prelude.{ℕ, length, Result, min}
 use Rattle.tcp_conn.specs.declared.outcome.CallError.{CallError}
 use Rattle.tcp_conn.specs.State.{State}

@@ -10,7 +10,7 @@ use Rattle.tcp_conn.specs.State.{State}
 use Rattle.tcp_halves.specs.Sender.{new_sending}
 use Rattle.tcp_halves.specs.Receiver.{new_receiving}
 
--- CLOSED, empty, nothing owed
+-- CLOSED, empty, nothing pending
 abbrev pub new_end : Config → State
 new_end c = record {
   config = c;

@@ -1,4 +1,4 @@
--- Who the other end is, and what an end owes to the wire (RFC 9293, 3.3.1 and 3.8.6).
+-- What an end has pending (RFC 9293, 3.3.1 and 3.8.6), and the address of no peer.
 use Rattle.std.specs.Prelude.{false, [], ◌∷◌, None}
 use Rattle.tcp_conn.specs.declared.owed.Owed.{Owed}
 use Rattle.tcp_halves.specs.declared.link.Peer.{Peer}
@@ -10,6 +10,6 @@ no_peer = record { addr = record { 0 = 0 ∷ 0 ∷ 0 ∷ 0 ∷ [] }; port = 0 }
 abbrev pub nothing_owed : Owed
 nothing_owed = record { syn = false; ack = false; probe = false; reset = None }
 
--- once the connection has ended nothing is owed but a waiting reset
+-- once the connection has ended nothing is pending but a waiting reset
 abbrev pub only_reset_owed : Owed → Owed
 only_reset_owed o = record o { syn = false; ack = false; probe = false }

@@ -33,7 +33,7 @@ abbrev pub is_time_wait : Phase → Bool
 is_time_wait TimeWait = true
 is_time_wait other = false
 
--- the own SYN waits for its acknowledgement
+-- this end's SYN waits for its acknowledgement
 abbrev pub is_handshake : Phase → Bool
 is_handshake SynSent = true
 is_handshake SynReceived = true
@@ -46,7 +46,7 @@ takes_text FinWait1 = true
 takes_text FinWait2 = true
 takes_text other = false
 
--- text and FIN go out
+-- text and FIN can be sent
 abbrev pub sends_text : Phase → Bool
 sends_text Established = true
 sends_text FinWait1 = true
@@ -55,7 +55,7 @@ sends_text Closing = true
 sends_text LastAck = true
 sends_text other = false
 
--- a reset is due to the peer when the user gives the connection up (RFC 9293, 3.10.5)
+-- an abort sends the peer a reset (RFC 9293, 3.10.5)
 abbrev pub resets_on_abort : Phase → Bool
 resets_on_abort SynReceived = true
 resets_on_abort Established = true
@@ -64,18 +64,18 @@ resets_on_abort FinWait2 = true
 resets_on_abort CloseWait = true
 resets_on_abort other = false
 
--- the connection has ended, by whatever
+-- the connection has ended, in any way
 abbrev pub is_ended : Ending → Bool
 is_ended NotEnded = false
 is_ended other = true
 
--- a reset or an abort gives up what is queued, held and unread
+-- a reset or an abort discards what is queued, unread or kept out of order
 abbrev pub gives_up : Ending → Bool
 gives_up Reset = true
 gives_up Aborted = true
 gives_up other = false
 
--- the phase after the own FIN's acknowledgement (RFC 9293, 3.10.7.4, fifth)
+-- the phase after the acknowledgement of this end's FIN (RFC 9293, 3.10.7.4, fifth)
 abbrev pub phase_after_own_fin : Phase → Phase
 phase_after_own_fin FinWait1 = FinWait2
 phase_after_own_fin Closing = TimeWait

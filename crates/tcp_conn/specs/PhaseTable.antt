@@ -13,14 +13,14 @@ use Rattle.tcp_conn.specs.State.{State}
 use Rattle.tcp_conn.specs.Calls.{close_answer, after_close, abort_answer, after_abort, own_reset}
 use Rattle.tcp_conn.specs.Timers.{timer_answer, after_timer}
 
--- a cell: a call is refused; or it leads to a state; or the connection ends as aborted, with a reset that waits or without
+-- a cell: a call is refused; or it leads to a state; or the connection ends as aborted, without a new reset or with one
 pub data Cell : Type 0 where
   Refused : CallError → Cell
   LeadsTo : Phase → Cell
   Aborts : Cell
   AbortsByReset : Cell
 
--- what a cell says of the end `s`, of a call's answer and of the end after it
+-- the claim of a cell for the end `s`, the answer of a call and the end after it
 abbrev pub Does : Cell → State → Result (Unit {0}) CallError → State → Type 0
 Does (Refused error) s answer after = (answer ≡ Err error) × (after ≡ s)
 Does (LeadsTo phase) s answer after = (answer ≡ Ok tt) × (after.phase ≡ phase) × (after.ending ≡ NotEnded)
@@ -72,5 +72,5 @@ pub record PhaseTable : Type 0 where
   pub both_closing : Row phases.Closing true (Refused Closing) Aborts retransmit_and_reorder
   pub last_ack : Row phases.LastAck true (Refused Closing) Aborts retransmit_and_reorder
   pub time_wait : Row phases.TimeWait true (Refused Closing) Aborts time_wait_alone
-  -- once the connection has ended, in whatever state and by whatever
+  -- once the connection has ended, in whatever state and way
   pub ended : (s : State) → is_ended s.ending ≡ true → (close_answer s ≡ Err (Ended s.ending)) × (abort_answer s ≡ Err (Ended s.ending))

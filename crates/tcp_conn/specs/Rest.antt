@@ -1,5 +1,5 @@
--- A SMALL TIME-WAIT (RFC 9293, 3.3.2 and 3.10.7.4): what is kept of an end that only answers late segments, in place of the
--- end and its buffers.
+-- A TIME-WAIT RECORD (RFC 9293, 3.3.2 and 3.10.7.4): what is kept of an end that only answers late segments, without the end
+-- and its buffers.
 use Rattle.std.specs.Prelude.{ℕ, ◌≡◌, ◌<◌, ◌^◌, Bool, true, not, ◌&&◌, ◌==◌, nat_le, List, [], ◌∷◌, length, Option, Some, Result}
 use Rattle.tcp_wire.specs.Position.{number}
 use Rattle.tcp_numbers.specs.declared.addr.Addr.{Addr}
@@ -28,7 +28,7 @@ use Rattle.tcp_conn.specs.Timers.{timer_answer, after_timer}
 use Rattle.tcp_conn.specs.Windows.{own_shift}
 use Rattle.tcp_conn.specs.declared.rest_fields.RestFields.{RestFields}
 
--- what is kept
+-- the record
 pub record Resting : Type 0 where
   pub addr : Addr
   pub port : ℕ
@@ -39,7 +39,7 @@ pub record Resting : Type 0 where
   -- RCV.WND, and the shift by which it is advertised
   pub window : ℕ
   pub shift : ℕ
-  -- what is owed to the wire
+  -- what is pending
   pub ack : Bool
   pub reset : Option WaitingReset
   pub ending : Ending
@@ -49,7 +49,8 @@ abbrev pub phase_at_rest : Ending → Phase
 phase_at_rest NotEnded = TimeWait
 phase_at_rest other = Closed
 
--- AN END CAN REST in TIME-WAIT, where nothing is unread or held, and all that was sent is acknowledged
+-- A RECORD CAN TAKE THE PLACE of an end in TIME-WAIT where nothing is unread or kept out of order, and all that was sent is
+-- acknowledged
 abbrev pub can_rest : State → Bool
 can_rest s =
     (is_time_wait s.phase && not (is_ended s.ending)) && ((length s.receiving.inbox.unread == 0) && not (has_gap s))
@@ -69,8 +70,8 @@ resting s = record {
   ending = s.ending;
 }
 
--- THE SAME FIELD BY FIELD, where each can be anything: what can be kept, with a window and a shift that an end may have
--- (RFC 7323, 2.3), and what is kept then
+-- THE RECORD FIELD BY FIELD, each of any value: which fields make a record, with a window and a shift that an end may have
+-- (RFC 7323, 2.3), and the record then
 abbrev pub can_be_kept : RestFields → Bool
 can_be_kept f = nat_le f.window max_capacity && nat_le f.shift max_shift
 
@@ -88,7 +89,7 @@ kept_of f = record {
   ending = f.ending;
 }
 
--- THE END THAT IT STANDS FOR: nothing queued, in flight, unread or held, the own positions counted from SND.NXT
+-- THE END OF A RECORD: nothing queued, in flight, unread or out of order, this end's positions counted from SND.NXT
 abbrev pub as_state : Resting → State
 as_state r = record {
   config = record (default_config r.addr r.port (record { 0 = r.seq })) { window_shift = Some r.shift };
@@ -102,8 +103,8 @@ as_state r = record {
   owed = record nothing_owed { ack = r.ack; reset = r.reset };
 }
 
--- WHAT CAN HAPPEN to an end in TIME-WAIT: bytes arrive from an address at another, a timer runs out, what is due is written into
--- a buffer, the user gives up
+-- AN EVENT of an end in TIME-WAIT: bytes arrive from an address at another, a timer expires, what is due is written into a
+-- buffer, the user aborts
 pub data Event : Type 0 where
   Arrives : List ℕ → List ℕ → List ℕ → Event
   RunsOut : Timer → Event
@@ -116,7 +117,7 @@ after_event s (RunsOut timer) = after_timer s timer
 after_event s (Emits out) = after_emission s
 after_event s Aborts = after_abort s
 
--- and what it answers; an emission by whom it goes to, and what the buffer holds then
+-- the answer to an event; of an emission, whom it goes to and what the buffer contains then
 pub data Answer : Type 0 where
   Arrived : Arrival → Answer
   Applied : Bool → Answer
@@ -129,7 +130,7 @@ answer_to s (RunsOut timer) = Applied (timer_answer s timer)
 answer_to s (Emits out) = Emitted (destination s) (buffer_after s out)
 answer_to s Aborts = Aborted (abort_answer s)
 
--- what is seen of an end when something happens to it
+-- what is observed of an end at an event
 pub record Seen : Type 0 where
   pub phase : Phase
   pub ending : Ending
@@ -139,7 +140,7 @@ pub record Seen : Type 0 where
 abbrev pub seen_at : State → Event → Seen
 seen_at s event = record { phase = s.phase; ending = s.ending; pending = pending_length s; answer = answer_to s event }
 
--- of an end, and of what rests in its place, which does as the end that it stands for
+-- of an end, and of the record in its place, which behaves as the end of that record
 abbrev pub seen_of_end : State → List Event → List Seen
 seen_of_end s [] = []
 seen_of_end s (event ∷ events) = seen_at s event ∷ seen_of_end (after_event s event) events
@@ -148,7 +149,7 @@ abbrev pub seen_of_rest : Resting → List Event → List Seen
 seen_of_rest r [] = []
 seen_of_rest r (event ∷ events) = seen_at (as_state r) event ∷ seen_of_rest (resting (after_event (as_state r) event)) events
 
--- NOBODY CAN TELL THEM APART, whatever happens and however often
+-- NO DIFFERENCE IS OBSERVED between the two, whatever happens and however often
 abbrev pub RestIsTheEnd : Type 0
 RestIsTheEnd =
     (s : State) (events : List Event) → s.config.isn.0 < 2 ^ 32 → can_rest s ≡ true

@@ -1,5 +1,5 @@
--- What one end is: data alone (RFC 9293, 3.3.1). Positions count from the first number of a direction: the
--- SYN is at 0, byte i of the stream at 1 + i, the FIN after the last byte.
+-- The state of one end: data alone (RFC 9293, 3.3.1). Positions count from the first number of a direction: the SYN is at 0,
+-- byte i of the stream at 1 + i, the FIN after the last byte.
 use Rattle.std.specs.Prelude.{Bool, true}
 use Rattle.tcp_halves.specs.declared.config.Config.{Config}
 use Rattle.tcp_halves.specs.declared.link.Link.{Link}
@@ -22,7 +22,7 @@ pub record State : Type 0 where
   pub link : Link
   pub sending : Sending
   pub receiving : Receiving
-  -- what is owed to the wire
+  -- what is pending
   pub owed : Owed
 
 -- an end keeps no more than its Config allows

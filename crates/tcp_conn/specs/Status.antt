@@ -1,5 +1,5 @@
--- What an end tells of itself (RFC 9293, 3.10.6, the STATUS call): its peer, what the two SYNs agreed on, and what it keeps for
--- its peer.
+-- What an end reports of itself (RFC 9293, 3.10.6, the STATUS call): its peer, what the two SYNs agreed on, and what it keeps
+-- for its peer.
 use Rattle.std.specs.Prelude.{ℕ, ◌-◌, if◌then◌else◌, length, min, nat_lt, Option, Some, None}
 use Rattle.tcp_sendq.specs.SendQueue.{room}
 use Rattle.tcp_conn.specs.declared.status.Negotiated.{Negotiated}
@@ -9,8 +9,8 @@ use Rattle.tcp_halves.specs.Sender.{count_below}
 use Rattle.tcp_conn.specs.State.{State, accepted_count}
 use Rattle.tcp_conn.specs.Windows.{own_shift}
 
--- THE PEER is known from `connect` on, or from the SYN on that came in LISTEN: once the own SYN is sent, SND.NXT lies after it.
--- It stays known past an end
+-- THE PEER is known from `connect` on, or from the SYN that came in LISTEN on: once this end's SYN is sent, SND.NXT is after
+-- it. It stays known after the connection has ended
 abbrev pub peer_of : State → Option Peer
 peer_of s = if nat_lt 0 s.sending.nxt then Some s.peer else None
 
@@ -27,11 +27,11 @@ agreed_of s = record {
 abbrev pub negotiated_of : State → Option Negotiated
 negotiated_of s = if s.receiving.opened then Some (agreed_of s) else None
 
--- ROOM: the longest text that `send` takes whole, by what the queue has room for and what the direction may still carry
+-- ROOM: the longest text that `send` accepts whole, by the room of the queue and what the direction may still carry
 abbrev pub room_of : State → ℕ
 room_of s = min (room s.sending.queue) (s.config.limit - accepted_count s.sending)
 
--- QUEUED: the bytes that `send` took and no acknowledgement has released
+-- QUEUED: the bytes that `send` accepted and no acknowledgement has released
 abbrev pub queued_of : State → ℕ
 queued_of s = length s.sending.queue.bytes
 

@@ -1,4 +1,4 @@
--- A segment that comes to an address and a port where no end is (RFC 9293, 3.10.7.1).
+-- A segment that comes to an address and a port of no end (RFC 9293, 3.10.7.1).
 use Rattle.std.specs.Prelude.{ℕ, ◌≡◌, if◌then◌else◌, List, ◌++◌, drop, Option, Some, None, option_map, Result, Ok, Err}
 use Rattle.tcp_wire.specs.Decoded.{decode_answer}
 use Rattle.tcp_wire.specs.Flags.{has, rst}
@@ -23,12 +23,12 @@ bytes_for_stray src dst (Err fault) = None
 unfoldable pub stray_reset : List ℕ → List ℕ → List ℕ → Option (List ℕ)
 stray_reset src dst bytes = bytes_for_stray src dst (decode_answer src dst bytes)
 
--- what a buffer holds once they are written: they, and after them what was there
+-- what a buffer contains once they are written: they, and after them the bytes that were there
 abbrev pub with_front : Option (List ℕ) → List ℕ → List ℕ
 with_front None out = out
 with_front (Some reset) out = reset ++ drop header_len out
 
--- THE SAME AS IN CLOSED: a new end that was made for the segment's address and port emits these bytes after its arrival
+-- AS IN CLOSED: a new end that was made for the segment's address and port emits these bytes after its arrival
 abbrev pub AnswersAsClosed : Type 0
 AnswersAsClosed =
     (c : Config) (src bytes : List ℕ) (v : Content) → decode_answer src c.addr.0 bytes ≡ Ok v → v.dst_port ≡ c.port

@@ -1,5 +1,5 @@
--- What is reported of bytes that arrive at an end `s` (RFC 9293, 3.10.7.4; RFC 5681, 2): the rule that applied to them, the text
--- that they acknowledged, whether they are a duplicate acknowledgement, whether their window was taken, and what they brought.
+-- What is reported of bytes that arrive at an end `s` (RFC 9293, 3.10.7.4; RFC 5681, 2): the rule that applied, the text that
+-- they acknowledged, whether they are a duplicate acknowledgement, whether their window was taken, and what they brought.
 use Rattle.std.specs.Prelude.{ℕ, ◌-◌, Bool, false, true, not, ◌&&◌, ◌||◌, ◌==◌, if◌then◌else◌, nat_lt, List, length, Option, Some, None, Result, Ok, Err}
 use Rattle.tcp_wire.specs.Decoded.{decode_answer}
 use Rattle.tcp_wire.specs.Flags.{fin, has, syn}
@@ -28,7 +28,7 @@ rule_of_reading s src dst (Err fault) = None
 unfoldable pub rule_of : State → List ℕ → List ℕ → List ℕ → Option Judgement
 rule_of s src dst bytes = rule_of_reading s src dst (decode_answer src dst bytes)
 
--- TEXT ACKNOWLEDGED (RFC 9293, 3.10.7.4, fifth): the bytes of text that the end has released afterwards, and hadn't before
+-- TEXT ACKNOWLEDGED (RFC 9293, 3.10.7.4, fifth): the text bytes that are released after it, and weren't before
 abbrev pub bytes_acked : State → State → ℕ
 bytes_acked s after = after.sending.released - s.sending.released
 
@@ -55,8 +55,8 @@ is_duplicate_reading s src dst (Err fault) = false
 unfoldable pub is_duplicate : State → List ℕ → List ℕ → List ℕ → Bool
 is_duplicate s src dst bytes = is_duplicate_reading s src dst (decode_answer src dst bytes)
 
--- ITS WINDOW IS TAKEN (RFC 9293, 3.10.7.4, fifth): its acknowledgement isn't older than SND.UNA, and the last window wasn't taken
--- from a newer segment, by SND.WL1 and SND.WL2
+-- ITS WINDOW IS TAKEN (RFC 9293, 3.10.7.4, fifth): its acknowledgement isn't older than SND.UNA, and by SND.WL1 and SND.WL2
+-- the last window wasn't taken from a newer segment
 abbrev pub is_window_news : State → Content → Bool
 is_window_news s v = is_current s v && is_newer s.sending v.seq v.ack
 
@@ -64,7 +64,7 @@ is_window_news s v = is_current s v && is_newer s.sending v.seq v.ack
 abbrev pub takes_window : State → Content → Bool
 takes_window s v = is_window_news (after_acked_text (after_own_syn s v) v) v
 
--- the SYN that answers the own one has the first window (RFC 9293, 3.10.7.3, fourth)
+-- the SYN that answers this end's has the first window (RFC 9293, 3.10.7.3, fourth)
 abbrev pub takes_window_by : Judgement → State → Content → Bool
 takes_window_by PeerAccepts s v = true
 takes_window_by Taken s v = takes_window s v
@@ -78,7 +78,8 @@ takes_window_reading s src dst (Err fault) = false
 unfoldable pub is_window_taken : State → List ℕ → List ℕ → List ℕ → Bool
 is_window_taken s src dst bytes = takes_window_reading s src dst (decode_answer src dst bytes)
 
--- WHAT IT BROUGHT (RFC 9293, 3.10.7.4, seventh and eighth): text or FIN that moved RCV.NXT, text that is held, or none that is kept
+-- WHAT IT BROUGHT (RFC 9293, 3.10.7.4, seventh and eighth): text or FIN that moved RCV.NXT, text that is kept out of order,
+-- or nothing that is kept
 abbrev pub brought_as : Placed → Brought
 brought_as (placed.Advanced count) = InOrder
 brought_as placed.Held = Held

@@ -5,11 +5,12 @@ use Rattle.tcp_conn.specs.declared.phase.Timer.{Timer}
 use Rattle.tcp_conn.specs.declared.phase.Timer.TheVariants as timers
 use Rattle.tcp_conn.specs.Phase.{is_time_wait, is_handshake, sends_text}
 use Rattle.tcp_conn.specs.State.{Sending, State}
-use Rattle.tcp_halves.specs.Sender.{is_probe_needed, with_gaps_resent, with_all_resent, is_in_flight}
+use Rattle.tcp_conn.specs.Due.{text_limit}
+use Rattle.tcp_halves.specs.Sender.{is_probe_needed, with_first_resent, with_gaps_resent, with_all_resent, is_in_flight}
 use Rattle.tcp_conn.specs.Endings.{after_orderly_end}
 
--- RETRANSMISSION TIMEOUT: the SYN is owed again; what is in flight goes out again; or, where nothing is, text is
--- unsent and the window is shut, a probe is granted (RFC 9293, 3.8.1 and 3.8.6.1)
+-- RETRANSMISSION TIMEOUT (RFC 9293, 3.8.1 and 3.8.6.1): the SYN is pending again; or what is in flight is sent again; or,
+-- where nothing is, text is unsent and the peer's window is zero, a probe is granted
 abbrev pub sends_again : State → Bool
 sends_again s = sends_text s.phase && is_in_flight s.sending
 
@@ -22,7 +23,11 @@ after_retransmit s = record s {
   owed = record s.owed { syn = s.owed.syn || is_handshake s.phase; probe = s.owed.probe || needs_probe s };
 }
 
--- REORDERING TIMEOUT: what lies before the last mark goes out again (RFC 2018, 5)
+-- FIRST SEGMENT AGAIN (RFC 5681, 3.2; RFC 6582, 3.2): of what is in flight, one segment's part goes out again
+unfoldable pub after_resend_first : State → State
+after_resend_first s = record s { sending = if sends_again s then with_first_resent s.sending (text_limit s) else s.sending }
+
+-- REORDERING TIMEOUT: what lies before the end of the last mark is sent again (RFC 2018, 5)
 abbrev pub marks_end : State → Option ℕ
 marks_end s = if sends_text s.phase then last_mark_end s.sending.queue else None
 

@@ -22,8 +22,8 @@ kind_of dues.Acknowledgement = Acknowledgement
 unfoldable pub kind_due : State → Option Kind
 kind_due s = option_map kind_of (due_of s)
 
--- WHERE IT BEGINS, as a position of the own direction: text and FIN at their own, a SYN at 0, an acknowledgement at SND.NXT. A
--- reset, which has the number that it answers, is counted at 0
+-- WHERE IT BEGINS, as a position of this end's direction: text and FIN at their own, a SYN at 0, an acknowledgement at
+-- SND.NXT. A reset, which has a number of the segment that it answers, is counted at 0
 unfoldable pub position_due : State → Option ℕ
 position_due s = option_map (start_of s.sending) (due_of s)
 

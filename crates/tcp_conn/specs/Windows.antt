@@ -13,7 +13,7 @@ max_window = 65535
 abbrev pub own_shift : Config → Link → ℕ
 own_shift c link = if link.scaling then unwrap_or c.window_shift 0 else 0
 
--- the window that a field of the peer advertises (RFC 7323, 2.3)
+-- the window that the peer advertises by a field (RFC 7323, 2.3)
 abbrev pub window_from : Link → ℕ → ℕ
 window_from link field = field * 2 ^ link.peer_shift
 

@@ -1,4 +1,4 @@
--- What is written of a segment that is due, and where it goes (RFC 9293, 3.1 and 3.8).
+-- The bytes of a segment that is due, and where it goes (RFC 9293, 3.1 and 3.8).
 use Rattle.std.specs.Prelude.{ℕ, List}
 use Rattle.tcp_wire.specs.Wire.{encoded_bytes}
 use Rattle.tcp_halves.specs.declared.due.Due.{Due}

@@ -1,4 +1,4 @@
-//! What an arrival does (RFC 9293, 3.10.7): each judgement's effect, a method for each rule.
+//! The effect of each judgement on an arrival (RFC 9293, 3.10.7), a method for each rule.
 ghost use Rattle.std.specs.Prelude.{◌≡◌};
 ghost use Rattle.tcp_wire.specs.View.{raw_content};
 ghost use Rattle.tcp_conn.specs.Arrival.{after_acked_text, after_arrival, after_fin, after_its_ack, after_its_text, after_judgement, after_news, after_own_fin, after_own_syn, after_peer_accepts, after_peer_opens, after_reported_blocks, after_taking, after_taking_shut, arrival_answer, reset_at_ack, reset_of_stray, takes_fin, with_reset};
@@ -16,7 +16,7 @@ use std::alloc::Allocator;
 use tcp_halves::{Peer, WaitingReset, link_of};
 use tcp_wire::{Addr, RawSegment, Seq};
 
-/// A reset at the number that a segment acknowledges (RFC 9293, 3.10.7.1).
+/// A reset at SEG.ACK (RFC 9293, 3.10.7.1).
 fn reset_at_ack(src: Addr, segment: &RawSegment<'_>) -> WaitingReset
     ensures { result ≡ reset_at_ack src.0 (raw_content segment.now) }
 {
@@ -30,7 +30,7 @@ fn reset_at_ack(src: Addr, segment: &RawSegment<'_>) -> WaitingReset
     }
 }
 
-/// The reset that answers a segment which comes to no connection (RFC 9293, 3.10.7.1).
+/// The reset that answers a segment for which there is no connection (RFC 9293, 3.10.7.1).
 pub(crate) fn reset_of_stray(src: Addr, segment: &RawSegment<'_>) -> WaitingReset
     ensures { result ≡ reset_of_stray src.0 (raw_content segment.now) }
 {
@@ -48,7 +48,8 @@ pub(crate) fn reset_of_stray(src: Addr, segment: &RawSegment<'_>) -> WaitingRese
 }
 
 impl<A: Allocator> Endpoint<A> {
-    /// Takes bytes that came from `src` to `dst`, whatever they are (RFC 9293, 3.10.7).
+    /// Takes bytes that came from `src` to `dst`, whatever they are (RFC 9293, 3.10.7), and reports what became of
+    /// them.
     #[tactic(auto, unfolding(crate::specs::Arrival::arrival_answer, crate::specs::Arrival::after_arrival))]
     pub fn arrive(&mut self, src: Addr, dst: Addr, bytes: &[u8]) -> Arrival
         ensures answer { result ≡ arrival_answer self.old src.0 dst.0 bytes.now }
@@ -63,12 +64,12 @@ impl<A: Allocator> Endpoint<A> {
             }
             Err(fault) => Arrival::Malformed(fault),
         };
-        // So that the proof knows what always holds of an end.
+        // So that the proof knows the invariant of an end.
         let _ = &self.config;
         arrival
     }
 
-    /// What a judgement does.
+    /// The effect of a judgement.
     pub(crate) fn follow(&mut self, judgement: Judgement, src: Addr, segment: &RawSegment<'_>)
         ensures { self.new ≡ after_judgement judgement self.old src.0 (raw_content segment.now) }
     {
@@ -110,7 +111,7 @@ impl<A: Allocator> Endpoint<A> {
         }
     }
 
-    /// The peer opens by a SYN in LISTEN (RFC 9293, 3.10.7.2, third).
+    /// A SYN in LISTEN: the peer opens (RFC 9293, 3.10.7.2, third).
     #[inline(never)]
     #[tactic(auto, unfolding(crate::specs::Arrival::after_peer_opens))]
     fn peer_opens(&mut self, src: Addr, segment: &RawSegment<'_>)
@@ -127,7 +128,7 @@ impl<A: Allocator> Endpoint<A> {
         self.owed.syn = true;
     }
 
-    /// The peer accepts by a SYN with an acknowledgement in SYN-SENT; its window isn't scaled (RFC 9293, 3.10.7.3, fourth).
+    /// A SYN with ACK in SYN-SENT: the peer accepts, and its window isn't scaled (RFC 9293, 3.10.7.3, fourth).
     #[inline(never)]
     #[tactic(auto, unfolding(crate::specs::Arrival::after_peer_accepts))]
     fn peer_accepts(&mut self, segment: &RawSegment<'_>)
@@ -145,7 +146,7 @@ impl<A: Allocator> Endpoint<A> {
         self.owed.ack = true;
     }
 
-    /// All of a segment is taken (RFC 9293, 3.10.7.4, fifth to eighth), and what is reported of it.
+    /// Takes all of a segment (RFC 9293, 3.10.7.4, fifth to eighth), and returns what is reported of it.
     #[inline(always)]
     #[tactic(auto, unfolding(crate::specs::Arrival::after_taking))]
     pub(crate) fn take_all(&mut self, segment: &RawSegment<'_>) -> News
@@ -168,8 +169,8 @@ impl<A: Allocator> Endpoint<A> {
         }
     }
 
-    /// The window is shut: text and FIN are dropped, and an acknowledgement shows where the window lies. Whether the peer's window
-    /// is taken.
+    /// At a zero window: text and FIN are dropped, and an acknowledgement shows where the window lies (RFC 9293,
+    /// 3.10.7.4, first). Whether the peer's window is taken.
     #[inline(always)]
     #[tactic(auto, unfolding(crate::specs::Arrival::after_taking_shut))]
     pub(crate) fn take_shut(&mut self, segment: &RawSegment<'_>) -> bool
@@ -181,7 +182,7 @@ impl<A: Allocator> Endpoint<A> {
         window_taken
     }
 
-    /// Its acknowledgement, window and blocks (RFC 9293, 3.10.7.4, fifth). Whether the window is taken.
+    /// Takes acknowledgement, window and blocks (RFC 9293, 3.10.7.4, fifth). Whether the window is taken.
     #[inline(always)]
     #[tactic(auto, unfolding(crate::specs::Arrival::after_its_ack))]
     fn take_its_ack(&mut self, segment: &RawSegment<'_>) -> bool
@@ -195,7 +196,7 @@ impl<A: Allocator> Endpoint<A> {
         window_taken
     }
 
-    /// The own SYN is acknowledged in SYN-RECEIVED; a waiting close acts (RFC 9293, 3.10.7.4, fifth).
+    /// This end's SYN is acknowledged in SYN-RECEIVED; a waiting close takes effect (RFC 9293, 3.10.7.4, fifth).
     #[tactic(auto, unfolding(crate::specs::Arrival::after_own_syn))]
     fn take_own_syn(&mut self, segment: &RawSegment<'_>)
         ensures { self.new ≡ after_own_syn self.old (raw_content segment.now) }
@@ -223,8 +224,8 @@ impl<A: Allocator> Endpoint<A> {
         self.sender.take_ack(ack);
     }
 
-    /// Window update, then each block: not from an acknowledgement that is older than SND.UNA (RFC 9293, 3.10.7.4, fifth;
-    /// RFC 2018, 5). Whether the window is taken.
+    /// Takes the window, then each block, but not from an acknowledgement that is older than SND.UNA (RFC 9293,
+    /// 3.10.7.4, fifth; RFC 2018, 5). Whether the window is taken.
     #[tactic(auto, unfolding(crate::specs::Arrival::after_news))]
     fn take_news(&mut self, segment: &RawSegment<'_>) -> bool
         ensures state { self.new ≡ after_news self.old (raw_content segment.now) }
@@ -245,8 +246,8 @@ impl<A: Allocator> Endpoint<A> {
         is_taken
     }
 
-    /// The blocks of all options (RFC 2018, 5). It is a function of its own, as `peer_opens` and `peer_accepts` are: an option
-    /// among the locals of a plain arrival would be zeroed each time.
+    /// Marks the text of the blocks of all options (RFC 2018, 5). It is a separate function, as `peer_opens` and
+    /// `peer_accepts` are: an option among the locals of a plain arrival would be zeroed each time.
     #[inline(never)]
     fn take_blocks(&mut self, segment: &RawSegment<'_>)
         ensures { self.new ≡ after_reported_blocks self.old (raw_content segment.now) }
@@ -255,7 +256,7 @@ impl<A: Allocator> Endpoint<A> {
         self.sender.mark_reported(iss, segment.options_left());
     }
 
-    /// The own FIN is acknowledged (RFC 9293, 3.10.7.4, fifth).
+    /// This end's FIN is acknowledged (RFC 9293, 3.10.7.4, fifth).
     #[tactic(auto, unfolding(crate::specs::Arrival::after_own_fin))]
     fn take_own_fin(&mut self)
         ensures { self.new ≡ after_own_fin self.old }
@@ -271,8 +272,8 @@ impl<A: Allocator> Endpoint<A> {
         }
     }
 
-    /// Its text is placed, where there is any, and an acknowledgement is owed for it (RFC 9293, 3.10.7.4, seventh). What became of
-    /// it.
+    /// Places its text, if any; an acknowledgement is then pending for it (RFC 9293, 3.10.7.4, seventh). Returns what
+    /// became of it.
     #[tactic(auto, unfolding(crate::specs::Arrival::after_its_text))]
     fn take_its_text(&mut self, segment: &RawSegment<'_>) -> Brought
         ensures state { self.new ≡ after_its_text self.old (raw_content segment.now) }
@@ -286,8 +287,8 @@ impl<A: Allocator> Endpoint<A> {
         Brought::text(placed)
     }
 
-    /// The peer's FIN is acknowledged, and taken where its number is the next one (RFC 9293, 3.10.7.4, eighth). Whether it is
-    /// taken.
+    /// Acknowledges the peer's FIN, and takes it where its number is RCV.NXT (RFC 9293, 3.10.7.4, eighth). Whether it
+    /// is taken.
     #[tactic(auto, unfolding(crate::specs::Arrival::after_fin))]
     fn take_fin(&mut self, segment: &RawSegment<'_>) -> bool
         ensures state { self.new ≡ after_fin self.old (raw_content segment.now) }

@@ -1,4 +1,4 @@
-//! Blocks (RFC 2018, 3 and 4): what an end reports of what it holds.
+//! Blocks (RFC 2018, 3 and 4) that an end reports of what it keeps out of order.
 ghost use Rattle.std.specs.Prelude.{◌≡◌, ◌≤◌, length, map};
 ghost use Rattle.tcp_wire.specs.View.{block, option_content};
 ghost use Rattle.tcp_reasm.specs.Reassembly.{blocks};
@@ -9,7 +9,7 @@ use arrayvec::ArrayVec;
 use std::alloc::Allocator;
 use tcp_wire::{Seq, TcpOption};
 
-/// The sequence numbers of blocks that are counted from the next byte in order.
+/// The sequence numbers of blocks that are counted from RCV.NXT.
 fn block_numbers(next: Seq, blocks: &[(u32, u32)]) -> ArrayVec<(Seq, Seq), 4>
     requires { length blocks.now ≤ 4 }
     ensures { map block result.items ≡ map (block_numbers next.0) blocks.now }
@@ -35,7 +35,8 @@ pub(crate) fn sack_options<'a>(blocks: ArrayVec<(Seq, Seq), 4>) -> ArrayVec<TcpO
 }
 
 impl<A: Allocator> Endpoint<A> {
-    /// The blocks that a segment would report: while a run is held and selective acknowledgement is in use (RFC 2018, 4).
+    /// The blocks that a segment would report: while a run is kept out of order and selective acknowledgement is in use
+    /// (RFC 2018, 4).
     pub(crate) fn blocks_to_report(&self) -> ArrayVec<(Seq, Seq), 4>
         ensures { map block result.items ≡ blocks_to_report self.now }
     {
@@ -46,8 +47,8 @@ impl<A: Allocator> Endpoint<A> {
         block_numbers(self.receiver.next, blocks.as_slice())
     }
 
-    /// The bytes that they take among the options: two Nops, kind and length byte, and eight for each block. No block is made
-    /// for that.
+    /// Their length in bytes among the options: two Nops, kind and length byte, and eight for each block. No block is
+    /// made for that.
     pub(crate) fn report_len(&self) -> u16
         ensures value { result ≡ sack_length (blocks_to_report self.now) }
         ensures most { result ≤ 36 }

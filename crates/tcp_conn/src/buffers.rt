@@ -1,4 +1,4 @@
-//! What the two buffers of an end hold, beyond how much: windows, blocks, and what the peer reported.
+//! What is in the two buffers of an end, beside lengths: windows, blocks, and what the peer reported.
 ghost use Rattle.std.specs.Prelude.{◌≡◌, IfSome};
 ghost use Rattle.tcp_sendq.specs.SendQueue.{next_unmarked, IsNextUnmarked};
 ghost use Rattle.tcp_reasm.specs.Reassembly.{blocks, window};
@@ -8,7 +8,8 @@ use arrayvec::ArrayVec;
 use std::alloc::Allocator;
 
 impl<A: Allocator> Endpoint<A> {
-    /// RCV.WND and SND.WND (RFC 9293, 3.3.1) in bytes: how much more this end takes, and how much the peer advertised last.
+    /// RCV.WND and SND.WND in bytes: how much more this end takes, and how much the peer advertised last (RFC 9293,
+    /// 3.3.1).
     #[must_use]
     pub fn windows(&self) -> (u32, u32)
         ensures own { result.0 ≡ window self.now.receiving.inbox }
@@ -17,8 +18,9 @@ impl<A: Allocator> Endpoint<A> {
         (self.receiver.inbox.window(), self.sender.wnd)
     }
 
-    /// The runs that came early and are held, by their latest news, the newest first and at most four, counted from RCV.NXT
-    /// (RFC 2018, 4): what a segment would report where selective acknowledgement is in use.
+    /// The runs that are kept out of order, each by its start and end in bytes from RCV.NXT on. The most recent is
+    /// first, and there are at most four (RFC 2018, 4). A segment reports these where selective acknowledgement is in
+    /// use.
     #[must_use]
     pub fn held_blocks(&self) -> ArrayVec<(u32, u32), 4>
         ensures { result.items ≡ blocks self.now.receiving.inbox }
@@ -26,8 +28,8 @@ impl<A: Allocator> Endpoint<A> {
         self.receiver.inbox.blocks()
     }
 
-    /// The first byte of the send queue from the place `at` on that the peer hasn't reported to hold, and the end of its run
-    /// of such bytes (RFC 2018, 5). Place 0 is the oldest byte that isn't acknowledged.
+    /// The first byte of the send queue, from the offset `at` on, that the peer hasn't reported as received, and the
+    /// end of its run of such bytes (RFC 2018, 5). Offset 0 is the oldest byte that isn't acknowledged.
     #[must_use]
     pub fn next_unmarked(&self, at: usize) -> Option<(usize, usize)>
         ensures value { result ≡ next_unmarked self.now.sending.queue at }

@@ -19,7 +19,7 @@ impl<A: Allocator> Endpoint<A> {
         ensures state { self.new ≡ after_connect self.old (record { addr = addr; port = port }) }
         ensures within { IsWithin self.new }
     {
-        // So that the proof knows what always holds of an end.
+        // So that the proof knows the invariant of an end.
         let _ = &self.config;
         if let Some(refusal) = self.opening_refusal() {
             return Err(refusal);
@@ -38,7 +38,7 @@ impl<A: Allocator> Endpoint<A> {
         ensures state { self.new ≡ after_listen self.old }
         ensures within { IsWithin self.new }
     {
-        // So that the proof knows what always holds of an end.
+        // So that the proof knows the invariant of an end.
         let _ = &self.config;
         if let Some(refusal) = self.opening_refusal() {
             return Err(refusal);
@@ -73,17 +73,17 @@ impl<A: Allocator> Endpoint<A> {
         None
     }
 
-    /// Takes the longest prefix of `text` that fits the send queue and the limit of the direction, and answers its length; before
-    /// ESTABLISHED the bytes wait (RFC 9293, 3.10.2). `Ended` or `NotOpen` where there is no connection, `NotConnected` in
-    /// LISTEN, `Closing` after a `close`, and `StreamFull` where the direction has carried as many bytes as the limit of
-    /// the [`Config`](crate::Config) says and `text` isn't empty.
+    /// Accepts the longest prefix of `text` that fits the send queue and the limit of the direction, and returns its
+    /// length; before ESTABLISHED the bytes wait (RFC 9293, 3.10.2). `Ended` or `NotOpen` where there is no connection,
+    /// `NotConnected` in LISTEN, `Closing` after a `close`. `StreamFull` where the direction has accepted as many bytes
+    /// as the limit of the [`Config`](crate::Config) allows and `text` isn't empty.
     #[tactic(auto, unfolding(crate::specs::Calls::after_send))]
     pub fn send(&mut self, text: &[u8]) -> Result<usize, CallError>
         ensures answer { result ≡ send_answer self.old text.now }
         ensures state { self.new ≡ after_send self.old text.now }
         ensures within { IsWithin self.new }
     {
-        // So that the proof knows what always holds of an end.
+        // So that the proof knows the invariant of an end.
         let _ = &self.config;
         if let Some(refusal) = self.send_refusal(text) {
             return Err(refusal);
@@ -110,9 +110,9 @@ impl<A: Allocator> Endpoint<A> {
         None
     }
 
-    /// Hands over the longest prefix of the unread bytes that fits `out`, at the start of `out`; the rest of `out` stays
-    /// (RFC 9293, 3.10.3). `EndOfStream` after all bytes of a peer that closed, as often as asked, `Nothing` before. `Ended`
-    /// after a reset or an abort, `NotOpen` where nothing was opened.
+    /// Delivers the longest prefix of the unread bytes that fits `out`, at its start; the rest of `out` is unchanged
+    /// (RFC 9293, 3.10.3). Where none is unread: `EndOfStream` if the peer has closed, as often as asked, else
+    /// `Nothing`. `Ended` after a reset or an abort, `NotOpen` where nothing was opened.
     #[tactic(auto, unfolding(crate::specs::Calls::after_receive))]
     pub fn receive(&mut self, out: &mut [u8]) -> Result<Received, CallError>
         ensures answer { result ≡ receive_answer self.old (length out.old) }
@@ -120,7 +120,7 @@ impl<A: Allocator> Endpoint<A> {
         ensures state { self.new ≡ after_receive self.old (length out.old) }
         ensures within { IsWithin self.new }
     {
-        // So that the proof knows what always holds of an end.
+        // So that the proof knows the invariant of an end.
         let _ = &self.config;
         if let Some(refusal) = self.receive_refusal() {
             return Err(refusal);
@@ -153,28 +153,29 @@ impl<A: Allocator> Endpoint<A> {
         None
     }
 
-    /// Makes an acknowledgement due, which tells the window as it is now: for a user who has read, and thinks that the window
-    /// has grown by enough (RFC 9293, 3.8.6.2.2). In ESTABLISHED, FIN-WAIT-1 and FIN-WAIT-2, where the peer's text is taken;
-    /// in any other phase nothing changes.
+    /// Makes an acknowledgement pending, which advertises the window as it is now. It is for a user who has read, and
+    /// decides that the window has grown by enough (RFC 9293, 3.8.6.2.2). This is in ESTABLISHED, FIN-WAIT-1 and
+    /// FIN-WAIT-2, where the peer's text is taken; in any other phase nothing changes.
     #[tactic(auto, unfolding(crate::specs::Calls::after_acknowledge))]
     pub fn acknowledge(&mut self)
         ensures state { self.new ≡ after_acknowledge self.old }
         ensures within { IsWithin self.new }
     {
-        // So that the proof knows what always holds of an end.
+        // So that the proof knows the invariant of an end.
         let _ = &self.config;
         self.owed.ack = self.owed.ack || takes_text(self.phase);
     }
 
-    /// The user has no more to send (RFC 9293, 3.10.4). Before the handshake has an answer the connection ends as aborted; in
-    /// SYN-RECEIVED the close waits. `Ended` or `NotOpen` where there is no connection, `Closing` after an earlier `close`.
+    /// The user has no more to send (RFC 9293, 3.10.4). In LISTEN and SYN-SENT the connection ends as aborted; in
+    /// SYN-RECEIVED the close waits. `Ended` or `NotOpen` where there is no connection, `Closing` after an earlier
+    /// `close`.
     #[tactic(auto, unfolding(crate::specs::Calls::after_close))]
     pub fn close(&mut self) -> Result<(), CallError>
         ensures answer { result ≡ close_answer self.old }
         ensures state { self.new ≡ after_close self.old }
         ensures within { IsWithin self.new }
     {
-        // So that the proof knows what always holds of an end.
+        // So that the proof knows the invariant of an end.
         let _ = &self.config;
         if let Some(refusal) = self.close_refusal() {
             return Err(refusal);
@@ -196,7 +197,7 @@ impl<A: Allocator> Endpoint<A> {
         None
     }
 
-    /// Closes in the phase that it is in.
+    /// Closes in the phase that the end is in.
     fn take_close(&mut self)
         ensures { self.new ≡ after_closing self.old }
     {
@@ -209,15 +210,15 @@ impl<A: Allocator> Endpoint<A> {
         }
     }
 
-    /// Gives the connection up, with a reset to a peer that may know of it (RFC 9293, 3.10.5). `Ended` or `NotOpen` where there is
-    /// no connection.
+    /// Aborts the connection, with a reset to a peer that may know of it (RFC 9293, 3.10.5). `Ended` or `NotOpen` where
+    /// there is no connection.
     #[tactic(auto, unfolding(crate::specs::Calls::after_abort))]
     pub fn abort(&mut self) -> Result<(), CallError>
         ensures answer { result ≡ abort_answer self.old }
         ensures state { self.new ≡ after_abort self.old }
         ensures within { IsWithin self.new }
     {
-        // So that the proof knows what always holds of an end.
+        // So that the proof knows the invariant of an end.
         let _ = &self.config;
         if let Some(refusal) = self.open_refusal() {
             return Err(refusal);
@@ -226,7 +227,7 @@ impl<A: Allocator> Endpoint<A> {
         Ok(())
     }
 
-    /// Aborts in the phase that it is in.
+    /// Aborts in the phase that the end is in.
     fn take_abort(&mut self)
         ensures { self.new ≡ with_abort self.old }
     {

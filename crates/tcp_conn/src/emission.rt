@@ -13,11 +13,11 @@ use std::alloc::Allocator;
 use tcp_halves::Due;
 use tcp_wire::Addr;
 
-/// The bytes that `emit` asks room for: more than the longest segment that an end writes.
+/// The room that `emit` requires, in bytes: more than the longest segment that an end writes.
 pub const EMIT_ROOM: usize = 1520;
 
 impl<A: Allocator> Endpoint<A> {
-    /// The length of a segment with text.
+    /// The length in bytes of a segment that may have text.
     #[tactic(auto, using(crate::proofs::Segments::plain_segment_due))]
     fn length_of_plain(&self, due: Due) -> usize
         requires { Lies self.now.sending max_mss due }
@@ -27,7 +27,7 @@ impl<A: Allocator> Endpoint<A> {
         HEADER_LEN + usize::from(self.report_len()) + due.count()
     }
 
-    /// The length of the segment that is due.
+    /// The length in bytes of the segment that is due.
     #[tactic(auto, using(crate::proofs::Segments::length_syn_segment), unfolding(crate::specs::Forms::segment_of))]
     pub(crate) fn length_of(&self, due: Due) -> usize
         requires lies { Lies self.now.sending max_mss due }
@@ -50,7 +50,7 @@ impl<A: Allocator> Endpoint<A> {
         }
     }
 
-    /// The length in bytes of the segment that `emit` would write now, if one is due.
+    /// The length in bytes of the segment that `emit` would write now; `None` where none is due.
     #[must_use]
     #[tactic(auto, unfolding(crate::specs::Emission::pending_length))]
     pub fn pending(&self) -> Option<usize>
@@ -62,7 +62,7 @@ impl<A: Allocator> Endpoint<A> {
         Some(self.length_of(due))
     }
 
-    /// What was due has gone out.
+    /// What was due was emitted.
     pub(crate) fn mark_sent(&mut self, due: Due)
         requires { Lies self.old.sending max_mss due }
         ensures { self.new ≡ state_after self.old due }
@@ -82,8 +82,9 @@ impl<A: Allocator> Endpoint<A> {
         }
     }
 
-    /// Writes the segment that is due at the start of `out`, which has room for [`EMIT_ROOM`] bytes, and answers where it
-    /// goes and its length, at most that (RFC 9293, 3.7, 3.8 and 3.10). `None`, and nothing changes, exactly where none is due.
+    /// Writes the segment that is due at the start of `out`, which has room for [`EMIT_ROOM`] bytes. Returns where it
+    /// goes and its length, at most that (RFC 9293, 3.7, 3.8 and 3.10). `None`, and nothing changes, exactly where none
+    /// is due.
     #[must_use]
     pub fn emit(&mut self, out: &mut [u8]) -> Option<(Addr, usize)>
         requires { EMIT_ROOM ≤ length out.old }

@@ -7,7 +7,7 @@ use crate::owed::Owed;
 use crate::phase::{Ending, Phase};
 use std::alloc::Allocator;
 
-/// Nothing is owed but a waiting reset.
+/// Nothing is pending but a waiting reset.
 fn keep_only_reset(owed: &mut Owed)
     ensures { owed.new ≡ only_reset_owed owed.old }
 {
@@ -17,8 +17,8 @@ fn keep_only_reset(owed: &mut Owed)
 }
 
 impl<A: Allocator> Endpoint<A> {
-    /// The connection ends by a reset or an abort: what is queued, held and unread is given up, and nothing is owed but a waiting
-    /// reset.
+    /// The connection ends by a reset or an abort: what is queued, unread or kept out of order is discarded, and
+    /// nothing is pending but a waiting reset.
     pub(crate) fn end_by(&mut self, ending: Ending)
         ensures { self.new ≡ after_giving_up self.old ending }
     {

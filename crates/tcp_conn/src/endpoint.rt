@@ -8,14 +8,14 @@ use std::alloc::{Allocator, Global};
 use std::marker::Model;
 use tcp_halves::{Config, Link, Peer, Receiver, Sender};
 
-/// One end of a TCP connection (RFC 9293, 3.3). After it was made no call of it takes memory.
+/// One end of a TCP connection (RFC 9293, 3.3). No call of it allocates memory once it is made.
 #[derive(Debug, Drop)]
 pub struct Endpoint<A: Allocator = Global> {
     /// What it was made from.
     pub(crate) config: Config,
     pub(crate) phase: Phase,
     pub(crate) ending: Ending,
-    /// Whether a `close` was answered Ok.
+    /// Whether a `close` was accepted.
     pub(crate) closing: bool,
     /// The other end, from `connect` or the peer's SYN on.
     pub(crate) peer: Peer,
@@ -23,7 +23,7 @@ pub struct Endpoint<A: Allocator = Global> {
     pub(crate) link: Link,
     pub(crate) sender: Sender<A>,
     pub(crate) receiver: Receiver<A>,
-    /// What it owes to the wire.
+    /// What is pending.
     pub(crate) owed: Owed,
 }
 
@@ -56,7 +56,7 @@ impl<A: Allocator> Endpoint<A> {
         self.ending
     }
 
-    /// What it was made from.
+    /// The [`Config`] that it was made from.
     #[must_use]
     pub fn config(&self) -> Config
         ensures { result ≡ self.now.config }
@@ -64,7 +64,7 @@ impl<A: Allocator> Endpoint<A> {
         self.config
     }
 
-    /// The bytes that came in order and wait for the user.
+    /// The count of bytes that came in order and wait for the user.
     #[must_use]
     pub fn unread(&self) -> usize
         ensures { result ≡ length self.now.receiving.inbox.unread }
@@ -72,8 +72,8 @@ impl<A: Allocator> Endpoint<A> {
         self.receiver.inbox.unread()
     }
 
-    /// SND.UNA (RFC 9293, 3.3.1) as a position of the own direction: the oldest that isn't acknowledged. The SYN is at 0, byte
-    /// i of the stream at 1 + i, the FIN after the last byte. 0 where no SYN was sent.
+    /// SND.UNA (RFC 9293, 3.3.1) as a position of this end's direction: the oldest that isn't acknowledged. The SYN is
+    /// at 0, byte i of the stream at 1 + i, the FIN after the last byte. 0 where no SYN was sent.
     #[must_use]
     pub fn una(&self) -> u64
         ensures value { result ≡ self.now.sending.una }
@@ -82,8 +82,8 @@ impl<A: Allocator> Endpoint<A> {
         self.sender.una
     }
 
-    /// SND.NXT (RFC 9293, 3.3.1) as a position of the own direction: the next to be sent for the first time. 0 where no SYN was
-    /// sent.
+    /// SND.NXT (RFC 9293, 3.3.1) as a position of this end's direction: the next to be sent for the first time. 0 where
+    /// no SYN was sent.
     #[must_use]
     pub fn nxt(&self) -> u64
         ensures value { result ≡ self.now.sending.nxt }
@@ -92,8 +92,8 @@ impl<A: Allocator> Endpoint<A> {
         self.sender.nxt
     }
 
-    /// RCV.NXT (RFC 9293, 3.3.1) as a position of the peer's direction: 1 and the bytes that came in order, and 1 more once the
-    /// peer's FIN was taken. It stays at 2^64 - 1 once there.
+    /// RCV.NXT (RFC 9293, 3.3.1) as a position of the peer's direction: 1 and the bytes that came in order, and 1 more
+    /// once the peer's FIN was taken. It stays at 2^64 - 1 once it has reached that.
     #[must_use]
     pub fn next(&self) -> u64
         ensures { result ≡ next_wanted self.now.receiving }
@@ -120,7 +120,7 @@ impl<A: Allocator> Endpoint<A> {
         self.receiver.finished
     }
 
-    /// The text bytes that acknowledgements have released.
+    /// The count of text bytes that acknowledgements have released.
     #[must_use]
     pub fn released(&self) -> u64
         ensures { result ≡ self.now.sending.released }
@@ -128,7 +128,8 @@ impl<A: Allocator> Endpoint<A> {
         self.sender.released
     }
 
-    /// The text bytes that came in order up to now, also past an end; it stays at its greatest value once there.
+    /// The count of text bytes that came in order, also after the connection has ended. It stays at 2^64 - 1 once it
+    /// has reached that.
     #[must_use]
     pub fn ordered(&self) -> u64
         ensures { result ≡ self.now.receiving.ordered }

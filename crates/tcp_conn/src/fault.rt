@@ -1,4 +1,4 @@
-//! Which Configs an end can't be made from.
+//! The faults of a Config from which no end can be made.
 ghost use Rattle.std.specs.Prelude.{◌≡◌, ◌↔◌, IsTrue, Some};
 ghost use Rattle.tcp_halves.specs.Config.{HasGoodCapacities, HasBadCapacity, HasGoodMss, HasBadMss, HasGoodShift, HasBadShift, HasGoodLimit, HasBadLimit, IsGoodConfig};
 

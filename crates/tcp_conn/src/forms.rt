@@ -15,10 +15,10 @@ use std::alloc::Allocator;
 use tcp_halves::{Due, WaitingReset};
 use tcp_wire::{Flags, Header, Seq, TcpOption};
 
-/// The bytes of a segment without options and text (RFC 9293, 3.1).
+/// The length in bytes of a segment without options and text (RFC 9293, 3.1).
 pub(crate) const HEADER_LEN: usize = 20;
 
-/// Appends the offer of a shift, if there is one (RFC 7323, 2.2).
+/// Appends the offer of a window shift, if there is one (RFC 7323, 2.2).
 fn push_scale(options: &mut ArrayVec<TcpOption<'_>, 6>, shift: Option<u8>)
     requires { length options.old.items ≤ 1 }
     ensures items { map option_content options.new.items ≡ map option_content options.old.items ++ scale_options shift }
@@ -42,7 +42,7 @@ fn push_permission(options: &mut ArrayVec<TcpOption<'_>, 6>, permitted: bool)
     }
 }
 
-/// The fixed header of a reset that is sent from this port, which has no options (RFC 9293, 3.10.7.1).
+/// The fixed header of a reset from this port; it has no options (RFC 9293, 3.10.7.1).
 pub(crate) fn reset_from(port: u16, reset: WaitingReset) -> Header
     ensures value { content_of result [] 0 [] ≡ reset_from port reset }
     ensures valid { IsValid (content_of result [] 0 []) }
@@ -64,7 +64,7 @@ pub(crate) fn reset_from(port: u16, reset: WaitingReset) -> Header
 }
 
 impl<A: Allocator> Endpoint<A> {
-    /// The sequence number of a position of the own direction (RFC 9293, 3.4).
+    /// The sequence number of a position of this end's direction (RFC 9293, 3.4).
     pub(crate) fn number_of(&self, position: u64) -> Seq
         ensures { result.0 ≡ number self.now.config.isn.0 position }
     {
@@ -93,7 +93,7 @@ impl<A: Allocator> Endpoint<A> {
         }
     }
 
-    /// The options of the own SYN.
+    /// The options of this end's SYN.
     pub(crate) fn syn_options<'a>(&self) -> ArrayVec<TcpOption<'a>, 6>
         ensures { map option_content result.items ≡ syn_options self.now }
     {
@@ -104,7 +104,7 @@ impl<A: Allocator> Endpoint<A> {
         options
     }
 
-    /// The fixed header of the own SYN (RFC 9293, 3.10.1 and 3.10.7.2). Its window is never scaled.
+    /// The fixed header of this end's SYN (RFC 9293, 3.10.1 and 3.10.7.2). Its window is never scaled.
     pub(crate) fn syn_header(&self) -> Header
         ensures { content_of result (syn_options self.now) 0 [] ≡ syn_segment self.now }
     {

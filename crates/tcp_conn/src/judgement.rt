@@ -1,4 +1,4 @@
-//! Which rule applies to a segment that arrives: the tests of an arrival, once each (RFC 9293, 3.10.7).
+//! Which rule applies to a segment that arrives (RFC 9293, 3.10.7); each test is made once.
 ghost use Rattle.std.specs.Prelude.{◌≡◌, ◌≤◌, ◌+◌};
 ghost use Rattle.tcp_wire.specs.Position.{number};
 ghost use Rattle.tcp_wire.specs.View.{raw_content};
@@ -12,52 +12,55 @@ use crate::phases::{has_peer, is_syn_received};
 use std::alloc::Allocator;
 use tcp_wire::{Addr, RawSegment, Seq};
 
-/// Which rule applies to a segment that arrives (RFC 9293, 3.10.7): one case for each, also where two do the same.
+/// Which rule applies to a segment that arrives (RFC 9293, 3.10.7): a case for each rule, also where two have the same
+/// effect.
 #[derive(Clone, Copy, Debug, PartialEq, Eq)]
 pub enum Judgement {
-    /// It is for another end, or from another peer (RFC 9293, 3.10.7).
+    /// The segment is for another end, or from another source than the peer (RFC 9293, 3.10.7).
     Foreign,
-    /// A reset that nothing follows from (RFC 9293, 3.10.7.1 to 3.10.7.3), or one outside the window (3.10.7.4, first).
+    /// A reset that has no effect (RFC 9293, 3.10.7.1 to 3.10.7.3), or one outside the window (3.10.7.4, first).
     ResetIgnored,
-    /// It comes to no connection, and a reset answers it (RFC 9293, 3.10.7.1).
+    /// A segment for which there is no connection: a reset answers it (RFC 9293, 3.10.7.1).
     Stray,
-    /// LISTEN has sent nothing that could be acknowledged: a reset answers it (RFC 9293, 3.10.7.2, second).
+    /// An acknowledgement in LISTEN, where nothing was sent: a reset answers it (RFC 9293, 3.10.7.2, second).
     AckOfListen,
-    /// In LISTEN and SYN-SENT: nothing follows from it, as from a SYN without an acknowledgement in SYN-SENT (RFC 9293,
-    /// 3.10.7.2, fourth, and 3.10.7.3, fifth).
+    /// A segment in LISTEN or SYN-SENT that has no effect, also a SYN without ACK in SYN-SENT (RFC 9293, 3.10.7.2,
+    /// fourth, and 3.10.7.3, fifth).
     OpensNothing,
     /// A SYN in LISTEN (RFC 9293, 3.10.7.2, third).
     PeerOpens,
-    /// In SYN-SENT it acknowledges something else than the SYN: a reset answers it (RFC 9293, 3.10.7.3, first).
+    /// An acknowledgement in SYN-SENT that isn't of the SYN: a reset answers it (RFC 9293, 3.10.7.3, first).
     AckOfNoSyn,
-    /// A reset in answer to the SYN (RFC 9293, 3.10.7.3, second).
+    /// A reset in SYN-SENT that acknowledges the SYN (RFC 9293, 3.10.7.3, second).
     PeerRefuses,
-    /// The SYN is answered by a SYN (RFC 9293, 3.10.7.3, fourth).
+    /// A SYN in SYN-SENT that acknowledges this end's SYN (RFC 9293, 3.10.7.3, fourth).
     PeerAccepts,
-    /// It lies outside the window: an acknowledgement shows where that lies (RFC 9293, 3.10.7.4, first).
+    /// A segment outside the window: an acknowledgement shows where the window lies (RFC 9293, 3.10.7.4, first).
     Unacceptable,
     /// A reset at exactly RCV.NXT (RFC 9293, 3.10.7.4, second).
     PeerResets,
-    /// A reset elsewhere in the window: an acknowledgement asks for the exact one (RFC 9293, 3.10.7.4, second).
+    /// A reset elsewhere in the window: an acknowledgement asks for one at RCV.NXT (RFC 9293, 3.10.7.4, second).
     ResetElsewhere,
     /// A SYN in the window: an acknowledgement answers it (RFC 9293, 3.10.7.4, fourth).
     SynInWindow,
-    /// It acknowledges nothing, and nothing of it counts (RFC 9293, 3.10.7.4, fifth).
+    /// A segment without ACK: all of it is dropped (RFC 9293, 3.10.7.4, fifth).
     NoAck,
-    /// It acknowledges what wasn't sent: an acknowledgement answers it (RFC 9293, 3.10.7.4, fifth).
+    /// An acknowledgement of what wasn't sent: an acknowledgement answers it (RFC 9293, 3.10.7.4, fifth).
     AcksUnsent,
-    /// In SYN-RECEIVED it acknowledges something else than the SYN: a reset answers it (RFC 9293, 3.10.7.4, fifth).
+    /// An acknowledgement in SYN-RECEIVED that isn't of the SYN: a reset answers it (RFC 9293, 3.10.7.4, fifth).
     HandshakeRefused,
-    /// The same while the window is 0.
+    /// An unacceptable acknowledgement in SYN-RECEIVED at a zero window that isn't of the SYN: a reset answers it (RFC
+    /// 9293, 3.10.7.4, first and fifth).
     HandshakeRefusedShut,
-    /// All of it is taken (RFC 9293, 3.10.7.4, fifth to eighth).
+    /// A segment of which all is taken (RFC 9293, 3.10.7.4, fifth to eighth).
     Taken,
-    /// The window is 0: its acknowledgement, window and blocks are taken, its text and FIN are not (RFC 9293, 3.10.7.4, first).
+    /// An unacceptable segment at a zero window: its acknowledgement, window and blocks are taken, its text and FIN
+    /// dropped (RFC 9293, 3.10.7.4, first).
     TakenShut,
 }
 
 impl Judgement {
-    /// What `arrive` answers.
+    /// What `arrive` returns.
     pub(crate) fn answer(self) -> Arrival
         ensures { result ≡ answer_of self }
     {
@@ -85,7 +88,7 @@ impl Judgement {
     }
 }
 
-/// How many numbers a segment takes: SYN and FIN take one each (RFC 9293, 3.4).
+/// How many sequence numbers a segment takes, SEG.LEN: SYN and FIN take one each (RFC 9293, 3.4).
 pub(crate) fn count_numbers(segment: &RawSegment<'_>) -> u32
     ensures value { result ≡ count_numbers (raw_content segment.now) }
     ensures most { result ≤ max_text_len + 2 }
@@ -135,7 +138,7 @@ impl<A: Allocator> Endpoint<A> {
         self.judge_by_phase(segment)
     }
 
-    /// Foreign: for another end; or, where the peer is known, from another (RFC 9293, 3.10.7).
+    /// Whether the segment is for another end, or, where the peer is known, from another source (RFC 9293, 3.10.7).
     #[tactic(auto, unfolding(crate::specs::Judgement::is_foreign))]
     fn is_foreign(&self, src: Addr, dst: Addr, segment: &RawSegment<'_>) -> bool
         ensures { result ≡ is_foreign self.now src.0 dst.0 (raw_content segment.now) }
@@ -158,14 +161,14 @@ impl<A: Allocator> Endpoint<A> {
         }
     }
 
-    /// The position that a number means: the nearest to SND.UNA (RFC 9293, 3.4).
+    /// The position that a number is read as: the nearest to SND.UNA (RFC 9293, 3.4).
     pub(crate) fn position_near(&self, number: Seq) -> u64
         ensures { result ≡ position_near self.now number.0 }
     {
         number.position(self.config.isn, self.sender.una)
     }
 
-    /// Whether it acknowledges the own SYN, and nothing else was sent.
+    /// Whether it acknowledges this end's SYN, and nothing else was sent.
     fn acks_syn(&self, segment: &RawSegment<'_>) -> bool
         ensures { result ≡ acks_syn self.now (raw_content segment.now) }
     {
@@ -234,7 +237,7 @@ impl<A: Allocator> Endpoint<A> {
         self.judge_ack(segment, Judgement::Taken, Judgement::HandshakeRefused)
     }
 
-    /// Outside the window: with the window shut an acknowledgement still counts (RFC 9293, 3.10.7.4, first).
+    /// Outside the window: at a zero window an acknowledgement is still taken (RFC 9293, 3.10.7.4, first).
     #[tactic(auto, unfolding(crate::specs::Judgement::unacceptable_judgement))]
     fn judge_unacceptable(&self, segment: &RawSegment<'_>) -> Judgement
         ensures { result ≡ unacceptable_judgement self.now (raw_content segment.now) }
@@ -253,7 +256,8 @@ impl<A: Allocator> Endpoint<A> {
         Judgement::Unacceptable
     }
 
-    /// The acknowledgement: of the own SYN in SYN-RECEIVED, of nothing that wasn't sent (RFC 9293, 3.10.7.4, fifth).
+    /// The acknowledgement: of this end's SYN in SYN-RECEIVED, else of nothing that wasn't sent (RFC 9293, 3.10.7.4,
+    /// fifth).
     #[tactic(auto, unfolding(crate::specs::Judgement::ack_judgement))]
     fn judge_ack(&self, segment: &RawSegment<'_>, good: Judgement, refused: Judgement) -> Judgement
         ensures { result ≡ ack_judgement self.now (raw_content segment.now) good refused }

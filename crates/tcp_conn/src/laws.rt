@@ -1,5 +1,5 @@
-//! What a reader can believe of an end apart from how it is computed. These do nothing when they run: each is there for
-//! the law that it ensures.
+//! Laws of every end, apart from how it is computed. These functions do nothing when they run: each carries the law
+//! that it ensures.
 ghost use Rattle.tcp_conn.specs.AtOnce.{UrgentIsDue};
 ghost use Rattle.tcp_conn.specs.Endpoint.{AlwaysHolds};
 ghost use Rattle.tcp_conn.specs.PhaseTable.{PhaseTable};
@@ -9,13 +9,13 @@ ghost use Rattle.tcp_conn.specs.Stray.{AnswersAsClosed};
 use crate::endpoint::Endpoint;
 use std::alloc::Allocator;
 
-/// What `close`, `abort` and the timers answer in each state of a connection, and the state that they lead to (RFC 9293,
+/// What `close`, `abort` and the timers return in each state of a connection, and the state that follows (RFC 9293,
 /// 3.10.4, 3.10.5 and 3.10.8).
 pub fn phase_table()
     ensures { PhaseTable }
 {}
 
-/// Where no end is, a segment is answered by the bytes that an end in CLOSED emits (RFC 9293, 3.10.7.1).
+/// A segment for no end is answered by the bytes that an end in CLOSED emits (RFC 9293, 3.10.7.1).
 pub fn strays_answered_as_in_closed()
     ensures { AnswersAsClosed }
 {}
@@ -25,18 +25,19 @@ pub fn what_is_urgent_is_due()
     ensures { UrgentIsDue }
 {}
 
-/// An end in TIME-WAIT and what rests in its place ([`crate::Rest`]) can't be told apart, whatever arrives, runs out, is emitted
-/// or given up: the same answers, the same bytes, the same phases, as often as any of it happens.
+/// An end in TIME-WAIT and the TIME-WAIT record in its place ([`crate::Rest`]) can't be distinguished: the same
+/// answers, bytes and phases, whatever arrives, expires, is emitted or aborted, and however often (RFC 9293, 3.10.7.4).
 pub fn rest_is_the_end()
     ensures { RestIsTheEnd }
 {}
 
-/// What can be believed of every end, whatever was done to it (RFC 9293, 3.3.1): what it has queued, unread and held stays within
-/// its capacities, SND.UNA is at most SND.NXT, RCV.NXT is a number, and what came in order is counted by 64 bits.
+/// The invariant of every end, whatever was done to it (RFC 9293, 3.3.1). What it has queued, unread and out of order
+/// keeps to its capacities, SND.UNA is at most SND.NXT, RCV.NXT is a number of 32 bits, and the count of what came in
+/// order is one of 64 bits.
 pub fn what_always_holds<A: Allocator>(endpoint: &Endpoint<A>)
     ensures { AlwaysHolds endpoint.now }
 {
-    // So that the proof knows what always holds of an end and of its halves.
+    // So that the proof knows the invariants of an end and of its halves.
     let _ = &endpoint.config;
     let _ = &endpoint.sender.una;
     let _ = &endpoint.receiver.next;

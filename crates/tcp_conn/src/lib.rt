@@ -1,20 +1,26 @@
-//! One end of a TCP connection as a plain value (RFC 9293, 3.3 to 3.10): user calls, timers and arriving
-//! bytes go in, segments and bytes for the user come out.
+//! One end of a TCP connection as a plain value (RFC 9293, 3.3 to 3.10): user calls, timers and arriving bytes go in,
+//! segments and bytes for the user come out.
 //!
-//! - [`Endpoint`] is made from a [`Config`]. The user calls `connect`, `listen`, `send`, `receive`, `close`, `abort`; `arrive` takes
-//!   any bytes, `emit` writes the segment that is due, and `timers` and `timer` are the caller's clock. Nothing but `new` takes memory.
-//! - `take` is `arrive` with a report, [`Taken`]: the rule that applied ([`Judgement`]), what was acknowledged, what it brought.
-//!   `transmit` is `emit` with one, [`Transmit`]: what the segment is, where it begins, how much text it has.
-//! - Fewer copies and sums: `peek` lends what is unread ([`Lent`]) and `consume` takes it away, `parts` lends the text of the segment
-//!   that is due ([`Parts`]) and `sent` says that it went out, `arrive_vouched` takes what a device has summed, and
-//!   `emit_partial` leaves the sum to it.
-//! - [`Rest`] stands in the place of an end in TIME-WAIT, without buffers.
+//! - [`Endpoint`] is made from a [`Config`]. The user calls `connect`, `listen`, `send`, `receive`, `close`, `abort`.
+//!   `arrive` takes any bytes, `emit` writes the segment that is due, `timers` and `timer` are for the caller's clock.
+//!   Nothing but `new` allocates.
+//! - `take` is `arrive` with a report, [`Taken`]: the rule that applied ([`Judgement`]), what was acknowledged, what it
+//!   brought. `transmit` is `emit` with one, [`Transmit`]: the kind of the segment, where it begins, and the length of
+//!   its text.
+//! - For senders that pace what they send again: `emit_acknowledgement` writes an acknowledgement without data, and
+//!   `resend_first` sends the first segment in flight again in place of all of them.
+//! - Fewer copies and sums: `peek` lends what is unread ([`Lent`]) and `consume` removes it. `parts` lends the text of
+//!   the segment that is due ([`Parts`]) and `sent` reports its emission. `arrive_vouched` takes what a device has
+//!   checked, and `emit_partial` leaves the checksum to it.
+//! - [`Rest`] is the TIME-WAIT record: it takes the place of an end in TIME-WAIT, without buffers.
 //! - [`stray_reset`] answers a segment for which there is no end (RFC 9293, 3.10.7.1).
-//! - [`laws`]: what always holds of an end, what close, abort and timers do in each phase, that what rests is the end.
+//! - [`laws`]: the invariant of an end, what close, abort and timers do in each phase, and that a TIME-WAIT record acts
+//!   as its end.
 //!
 //! Left out: any clock, congestion control, urgent data, timestamps, simultaneous open and reopening.
 #![tactic(auto)]
 
+mod acknowledgement;
 mod arrival;
 mod blocks;
 mod buffers;

@@ -6,7 +6,7 @@ impl Phase {
     ghost use Rattle.std.specs.Prelude.{◌≡◌};
     ghost use Rattle.tcp_conn.specs.Names.{phase_name};
 
-    /// The state as RFC 9293, 3.3.2 writes it, such as `SYN-SENT`. It is displayed so.
+    /// The state as RFC 9293, 3.3.2 writes it, such as `SYN-SENT`; `Display` writes the same.
     #[must_use]
     pub fn name(self) -> &'static str
         ensures { result.now ≡ phase_name self }
@@ -42,7 +42,7 @@ impl Ending {
     ghost use Rattle.std.specs.Prelude.{◌≡◌};
     ghost use Rattle.tcp_conn.specs.Names.{ending_name};
 
-    /// `not-ended`, `orderly`, `reset` or `aborted`. It is displayed so.
+    /// `not-ended`, `orderly`, `reset` or `aborted`; `Display` writes the same.
     #[must_use]
     pub fn name(self) -> &'static str
         ensures { result.now ≡ ending_name self }
@@ -71,10 +71,10 @@ impl Timer {
     ghost use Rattle.std.specs.Prelude.{◌≡◌};
     ghost use Rattle.tcp_conn.specs.Names.{timer_name};
 
-    /// All timers, in the order in which `Endpoint::timers` answers for them.
+    /// All timers, in the order of the answers of `Endpoint::timers`.
     pub const ALL: [Timer; 3] = [Timer::Retransmit, Timer::Reorder, Timer::TimeWait];
 
-    /// `retransmit`, `reorder` or `timewait`. It is displayed so.
+    /// `retransmit`, `reorder` or `timewait`; `Display` writes the same.
     #[must_use]
     pub fn name(self) -> &'static str
         ensures { result.now ≡ timer_name self }

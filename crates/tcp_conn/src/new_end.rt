@@ -14,7 +14,8 @@ use tcp_halves::{Config, ConfigError, DEFAULT_MSS, Link, Peer, Receiver, Sender}
 use tcp_wire::Addr;
 
 impl Endpoint {
-    /// A new end: CLOSED, empty, with nothing owed. Its memory is taken now.
+    /// A new end: CLOSED, empty, with nothing pending (RFC 9293, 3.3.2). It allocates its two buffers now. An error for
+    /// a `config` out of range, or where there is no memory.
     pub fn new(alloc: Global, config: Config) -> Result<Self, ConfigError>
         ensures new { IfOk result (λ e. e ≡ new_end config) }
         ensures bad_capacity { (result ≡ Err ConfigError.BadCapacity) ↔ HasBadCapacity config }
@@ -30,7 +31,7 @@ impl Endpoint {
 }
 
 impl<A: Allocator + Copy> Endpoint<A> {
-    /// The same with memory of this allocator.
+    /// A new end as of [`new`](Endpoint::new), with memory of this allocator.
     pub fn new_in(alloc: A, config: Config) -> Result<Self, ConfigError>
         ensures new { IfOk result (λ e. e ≡ new_end config) }
         ensures bad_capacity { (result ≡ Err ConfigError.BadCapacity) ↔ HasBadCapacity config }
@@ -46,8 +47,8 @@ impl<A: Allocator + Copy> Endpoint<A> {
 }
 
 impl<A: Allocator> Endpoint<A> {
-    /// The same where each buffer has an allocator of its own: `send` that of the bytes kept for the peer, `recv` that of those
-    /// kept for the user.
+    /// A new end as of [`new`](Endpoint::new), where each buffer has an allocator of its own: `send` for the bytes that
+    /// are kept for the peer, `recv` for those kept for the user.
     pub fn new_of(send: A, recv: A, config: Config) -> Result<Self, ConfigError>
         ensures new { IfOk result (λ e. e ≡ new_end config) }
         ensures bad_capacity { (result ≡ Err ConfigError.BadCapacity) ↔ HasBadCapacity config }
@@ -71,7 +72,7 @@ impl<A: Allocator> Endpoint<A> {
         Ok(Self::closed(config, sender, receiver))
     }
 
-    /// CLOSED, of these two halves: a function of its own, so that no way out of `new_of` has an end to drop.
+    /// CLOSED, of these two halves. It is a separate function, so that no exit of `new_of` has an end to drop.
     fn closed(config: Config, sender: Sender<A>, receiver: Receiver<A>) -> Self
         requires good { IsGoodConfig config }
         requires sending { sender ≡ new_sending config.send_capacity }

@@ -6,20 +6,20 @@ use std::error::Error;
 use std::fmt;
 use tcp_wire::DecodeError;
 
-/// Why a user call is refused. After a refusal the end is as it was.
+/// Why a user call is refused (RFC 9293, 3.10.1 to 3.10.5). After a refusal the end is as it was.
 #[derive(Clone, Copy, Debug, PartialEq, Eq)]
 pub enum CallError {
     /// The end is CLOSED and was never opened.
     NotOpen,
-    /// The end was opened already.
+    /// The end was opened already (RFC 9293, 3.10.1).
     AlreadyOpen,
-    /// A `close` was accepted already.
+    /// A `close` was accepted already (RFC 9293, 3.10.2 and 3.10.4).
     Closing,
     /// The connection has ended, in this way.
     Ended(Ending),
-    /// The direction has carried as many bytes as it may.
+    /// The direction has accepted as many bytes as its limit allows.
     StreamFull,
-    /// No peer is known yet.
+    /// No peer is known yet: the end is in LISTEN.
     NotConnected,
 }
 
@@ -56,25 +56,25 @@ impl fmt::Display for CallError {
 
 impl Error for CallError {}
 
-/// What `receive` handed over.
+/// What `receive` delivered (RFC 9293, 3.10.3).
 #[derive(Clone, Copy, Debug, PartialEq, Eq)]
 pub enum Received {
     /// So many bytes, at the start of the caller's buffer.
     Bytes(usize),
     /// No byte is unread, and more may come.
     Nothing,
-    /// The peer closed, and all its bytes were handed over.
+    /// The peer closed, and all its bytes were delivered.
     EndOfStream,
 }
 
-/// What became of bytes that arrived.
+/// What became of bytes that arrived (RFC 9293, 3.10.7).
 #[derive(Clone, Copy, Debug, PartialEq, Eq)]
 pub enum Arrival {
-    /// They are no segment. Nothing changed.
+    /// The bytes are no segment. Nothing changed.
     Malformed(DecodeError),
     /// The segment is for another end, or from another peer. Nothing changed.
     NotMine,
-    /// The segment was passed over; an acknowledgement may be owed for it.
+    /// The segment was dropped; an answer may be pending.
     Dropped,
     /// The segment was taken.
     Processed,

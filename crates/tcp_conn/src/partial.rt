@@ -1,4 +1,4 @@
-//! An emission for a device that sums segments (RFC 9293, 3.1; RFC 1071).
+//! An emission for a device that computes the checksum (RFC 9293, 3.1; RFC 1071).
 ghost use Rattle.std.specs.Prelude.{◌≡◌, ◌≤◌, ◌+◌, ◌++◌, take, drop, length, map, option_map, IfSome};
 ghost use Rattle.tcp_wire.specs.Partial.{completed, with_partial_sum};
 ghost use Rattle.tcp_wire.specs.View.{option_content};
@@ -20,7 +20,7 @@ use tcp_halves::{Due, WaitingReset};
 use tcp_wire::{Addr, TcpOption, write_around_partial};
 
 impl<A: Allocator> Endpoint<A> {
-    /// Writes the own SYN at the start of `out`, and answers its length.
+    /// Writes this end's SYN at the start of `out`, and returns its length.
     #[inline(never)]
     #[tactic(auto, using(crate::proofs::Segments::length_syn_segment))]
     fn write_syn_partial(&self, out: &mut [u8]) -> usize
@@ -44,7 +44,7 @@ impl<A: Allocator> Endpoint<A> {
         )
     }
 
-    /// Writes a waiting reset at the start of `out`, and answers its length.
+    /// Writes a waiting reset at the start of `out`, and returns its length.
     #[inline(never)]
     fn write_reset_partial(&self, reset: WaitingReset, out: &mut [u8]) -> usize
         requires { EMIT_ROOM ≤ length out.old }
@@ -57,7 +57,7 @@ impl<A: Allocator> Endpoint<A> {
         write_around_partial(&header, &[], 0, 0, self.config.addr, reset.to.addr, out)
     }
 
-    /// Writes a segment with text and these options at the start of `out`, and answers its length.
+    /// Writes a segment that may have text, with these options, at the start of `out`, and returns its length.
     #[inline(always)]
     fn write_text_partial(&self, due: Due, options: &[TcpOption<'_>], out: &mut [u8]) -> usize
         requires lies { Lies self.now.sending max_mss due }
@@ -84,7 +84,7 @@ impl<A: Allocator> Endpoint<A> {
         )
     }
 
-    /// Does so with the options that report blocks, where there are any.
+    /// Writes such a segment with the options that report blocks, where there are any.
     #[tactic(auto, using(crate::proofs::Segments::none_reported))]
     fn write_plain_partial(&self, due: Due, out: &mut [u8]) -> usize
         requires lies { Lies self.now.sending max_mss due }
@@ -101,7 +101,7 @@ impl<A: Allocator> Endpoint<A> {
         self.write_text_partial(due, options.as_slice(), out)
     }
 
-    /// Writes what is due at the start of `out`, and answers its length.
+    /// Writes what is due at the start of `out`, and returns its length.
     #[tactic(auto, unfolding(crate::specs::Forms::segment_of, crate::specs::Writing::bytes_of, crate::specs::Partial::partial_of))]
     fn write_partial(&self, due: Due, out: &mut [u8]) -> usize
         requires lies { Lies self.now.sending max_mss due }
@@ -122,9 +122,10 @@ impl<A: Allocator> Endpoint<A> {
         }
     }
 
-    /// As [`emit`](Endpoint::emit), for a device that sums segments: the checksum field has the ones' complement sum over the
-    /// pseudo-header alone (RFC 9293, 3.1; RFC 1071, 2), and no text is summed. The device adds up all that was written from the first
-    /// byte on, and puts the complement of the ones' complement sum into the field: then the bytes are those of `emit`.
+    /// Emits as [`emit`](Endpoint::emit) does, for a device that computes the checksum. The checksum field has the
+    /// ones' complement sum of the pseudo-header alone (RFC 9293, 3.1; RFC 1071, 2), and no text is summed. The device
+    /// sums all that was written, and puts the complement of the ones' complement sum into the field: then the bytes
+    /// are those of `emit`.
     #[must_use]
     #[tactic(auto, unfolding(crate::specs::Emission::pending_length, crate::specs::Emission::destination, crate::specs::Emission::emitted_bytes, crate::specs::Emission::after_emission, crate::specs::Partial::partial_after))]
     pub fn emit_partial(&mut self, out: &mut [u8]) -> Option<(Addr, usize)>
@@ -138,13 +139,13 @@ impl<A: Allocator> Endpoint<A> {
         ensures state { self.new ≡ after_emission self.old }
         ensures within { IsWithin self.new }
     {
-        // So that the proof knows what always holds of an end.
+        // So that the proof knows the invariant of an end.
         let _ = &self.config;
         let due = self.due()?;
         let len = self.write_partial(due, out);
         let to = self.destination(due);
         self.mark_sent(due);
-        // So that the proof knows what always holds of an end.
+        // So that the proof knows the invariant of an end.
         let _ = &self.config;
         Some((to, len))
     }

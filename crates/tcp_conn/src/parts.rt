@@ -16,7 +16,7 @@ use std::alloc::Allocator;
 use tcp_halves::Due;
 use tcp_wire::{Addr, TcpOption, write_front};
 
-/// The bytes that `parts` asks room for: those of the longest header, options and all (RFC 9293, 3.1).
+/// The room that `parts` requires, in bytes: the length of the longest header with options (RFC 9293, 3.1).
 pub const HEADER_ROOM: usize = 60;
 
 /// A segment that is due: its header, which was written, then all of `first`, then all of `second`.
@@ -24,15 +24,15 @@ pub const HEADER_ROOM: usize = 60;
 pub struct Parts<'a> {
     /// Where it goes.
     pub to: Addr,
-    /// The length of its header in bytes, options and all, at most [`HEADER_ROOM`].
+    /// The length of its header in bytes with options, at most [`HEADER_ROOM`].
     pub header: usize,
     /// The first bytes of its text, where they lie in the queue.
     pub first: &'a [u8],
-    /// Those after them.
+    /// The bytes after those.
     pub second: &'a [u8],
 }
 
-/// A segment without text, of which so many bytes were written.
+/// A segment without text, of which `header` bytes were written.
 fn without_text<'a>(to: Addr, header: usize) -> Parts<'a>
     ensures to { result.to ≡ to }
     ensures header { result.header ≡ header }
@@ -48,7 +48,8 @@ fn without_text<'a>(to: Addr, header: usize) -> Parts<'a>
 }
 
 impl<A: Allocator> Endpoint<A> {
-    /// Writes the header of a segment with text and these options at the start of `header`, and lends its text.
+    /// Writes the header of a segment that may have text, with these options, at the start of `header`, and lends its
+    /// text.
     #[inline(always)]
     fn front_of_text(&self, due: Due, options: &[TcpOption<'_>], header: &mut [u8]) -> Parts<'_>
         requires lies { Lies self.now.sending max_mss due }
@@ -80,7 +81,7 @@ impl<A: Allocator> Endpoint<A> {
         }
     }
 
-    /// Does so with the options that report blocks, where there are any.
+    /// Writes such a header with the options that report blocks, where there are any.
     #[tactic(auto, using(crate::proofs::Segments::none_reported))]
     fn front_of_plain(&self, due: Due, header: &mut [u8]) -> Parts<'_>
         requires lies { Lies self.now.sending max_mss due }
@@ -124,10 +125,10 @@ impl<A: Allocator> Endpoint<A> {
         }
     }
 
-    /// Writes the header of the segment that is due at the start of `header`, which has room for [`HEADER_ROOM`] bytes, and lends its
-    /// text where it lies in the queue, in two parts: header, `first` and `second` are together what [`emit`](Endpoint::emit) would
-    /// write, and it goes where that would go. The rest of `header` stays. `None`, and `header` stays, exactly where none is due.
-    /// Nothing changes in the end: once the segment has gone out, [`sent`](Endpoint::sent) says so.
+    /// Writes the header of the segment that is due at the start of `header`, which has room for [`HEADER_ROOM`] bytes.
+    /// Its text is lent where it lies in the queue, in two parts: header, `first` and `second` together are what
+    /// [`emit`](Endpoint::emit) would write. The rest of `header` is unchanged. `None`, and `header` is unchanged,
+    /// exactly where none is due. Nothing changes in the end: once the segment was sent, call [`sent`](Endpoint::sent).
     #[must_use]
     #[tactic(auto, unfolding(crate::specs::Emission::destination, crate::specs::Emission::emitted_bytes))]
     pub fn parts(&self, header: &mut [u8]) -> Option<Parts<'_>>
@@ -142,20 +143,20 @@ impl<A: Allocator> Endpoint<A> {
         Some(self.front_of(due, header))
     }
 
-    /// The segment that is due has gone out: the end is as after an [`emit`](Endpoint::emit). For use right after the segment that
-    /// [`parts`](Endpoint::parts) gave was sent: a call, an arrival or a timer in between may make another segment due, which then
-    /// counts as sent. Nothing changes where none is due.
+    /// Counts the segment that is due as sent: the end is as after an [`emit`](Endpoint::emit). Call it right after the
+    /// segment of [`parts`](Endpoint::parts) was sent: a call, an arrival or a timer in between may make another
+    /// segment due, which then counts as sent. Nothing changes where none is due.
     #[tactic(auto, unfolding(crate::specs::Emission::after_emission))]
     pub fn sent(&mut self)
         ensures state { self.new ≡ after_emission self.old }
         ensures within { IsWithin self.new }
     {
-        // So that the proof knows what always holds of an end.
+        // So that the proof knows the invariant of an end.
         let _ = &self.config;
         if let Some(due) = self.due() {
             self.mark_sent(due);
         }
-        // So that the proof knows what always holds of an end.
+        // So that the proof knows the invariant of an end.
         let _ = &self.config;
     }
 }

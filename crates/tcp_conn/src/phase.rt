@@ -1,49 +1,49 @@
 /// The states of a connection (RFC 9293, 3.3.2).
 #[derive(Clone, Copy, Debug, PartialEq, Eq, Hash)]
 pub enum Phase {
-    /// No connection.
+    /// CLOSED: no connection.
     Closed,
-    /// Waits for a peer's SYN.
+    /// LISTEN: waits for a peer's SYN.
     Listen,
-    /// The own SYN is sent; the peer's is waited for.
+    /// SYN-SENT: this end's SYN is sent, and the peer's is awaited.
     SynSent,
-    /// Both SYNs are sent; the own one's acknowledgement is waited for.
+    /// SYN-RECEIVED: both SYNs are sent, and the acknowledgement of this end's is awaited.
     SynReceived,
-    /// Text goes both ways.
+    /// ESTABLISHED: text goes both ways.
     Established,
-    /// This side has closed; its FIN isn't acknowledged.
+    /// FIN-WAIT-1: this end has closed, and its FIN isn't acknowledged.
     FinWait1,
-    /// This side has closed, and the peer knows.
+    /// FIN-WAIT-2: this end has closed, and its FIN is acknowledged.
     FinWait2,
-    /// The peer has closed.
+    /// CLOSE-WAIT: the peer has closed.
     CloseWait,
-    /// Both sides have closed; the own FIN isn't acknowledged.
+    /// CLOSING: both ends have closed, and this end's FIN isn't acknowledged.
     Closing,
-    /// The peer has closed first, and then this side; the own FIN isn't acknowledged.
+    /// LAST-ACK: the peer has closed first, then this end, whose FIN isn't acknowledged.
     LastAck,
-    /// Both sides have closed, and know; segments may still be about.
+    /// TIME-WAIT: both ends have closed, and this end's FIN is acknowledged; late segments may still come.
     TimeWait,
 }
 
-/// How a connection ended, if it did.
+/// How a connection ended, if it did (RFC 9293, 3.10.4, 3.10.5 and 3.10.7).
 #[derive(Clone, Copy, Debug, PartialEq, Eq, Hash)]
 pub enum Ending {
-    /// It hasn't.
+    /// It hasn't ended.
     NotEnded,
-    /// Both sides closed, and both knew it.
+    /// Both ends closed, and this end's FIN was acknowledged.
     Orderly,
     /// The peer reset it.
     Reset,
-    /// The user gave it up.
+    /// The user aborted it.
     Aborted,
 }
 
-/// The timers of one end. The caller keeps the times and says when one runs out.
+/// The timers of one end. The caller keeps the times, and reports when one expires.
 #[derive(Clone, Copy, Debug, PartialEq, Eq, Hash)]
 pub enum Timer {
     /// The retransmission timeout (RFC 9293, 3.8.1).
     Retransmit,
-    /// The time after which bytes that were passed over are taken for lost.
+    /// The reordering timeout: after it, bytes before a reported block are taken for lost (RFC 2018, 5).
     Reorder,
     /// The TIME-WAIT timeout (RFC 9293, 3.10.8).
     TimeWait,

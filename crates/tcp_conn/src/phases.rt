@@ -25,21 +25,21 @@ pub(crate) fn has_peer(phase: Phase) -> bool
     !is_closed(phase) && !is_listening(phase)
 }
 
-/// Whether the own answer to the peer's SYN waits for its acknowledgement.
+/// Whether this end's SYN, which answers the peer's, waits for its acknowledgement.
 pub(crate) fn is_syn_received(phase: Phase) -> bool
     ensures { result ≡ is_syn_received phase }
 {
     matches!(phase, Phase::SynReceived)
 }
 
-/// Whether both sides closed, and segments may still be about.
+/// Whether both ends closed, and late segments may still come.
 pub(crate) fn is_time_wait(phase: Phase) -> bool
     ensures { result ≡ is_time_wait phase }
 {
     matches!(phase, Phase::TimeWait)
 }
 
-/// Whether the own SYN waits for its acknowledgement.
+/// Whether this end's SYN waits for its acknowledgement.
 pub(crate) fn is_handshake(phase: Phase) -> bool
     ensures { result ≡ is_handshake phase }
 {
@@ -56,7 +56,7 @@ pub(crate) fn takes_text(phase: Phase) -> bool
     )
 }
 
-/// Whether an abort owes the peer a reset (RFC 9293, 3.10.5).
+/// Whether an abort sends the peer a reset (RFC 9293, 3.10.5).
 pub(crate) fn resets_on_abort(phase: Phase) -> bool
     ensures { result ≡ resets_on_abort phase }
 {
@@ -82,7 +82,7 @@ pub(crate) fn phase_after_fin(phase: Phase) -> Phase
     }
 }
 
-/// Whether text and FIN go out.
+/// Whether text and FIN can be sent.
 pub(crate) fn sends_text(phase: Phase) -> bool
     ensures { result ≡ sends_text phase }
 {
@@ -99,7 +99,7 @@ pub(crate) fn is_ended(ending: Ending) -> bool
     !matches!(ending, Ending::NotEnded)
 }
 
-/// Whether what was queued, held and unread was given up.
+/// Whether what was queued, unread or kept out of order was discarded.
 pub(crate) fn gives_up(ending: Ending) -> bool
     ensures { result ≡ gives_up ending }
 {

@@ -1,4 +1,4 @@
-//! A small TIME-WAIT: what stands in the place of an end that only answers late segments (RFC 9293, 3.10.7.4), without its
+//! The TIME-WAIT record: it takes the place of an end that only answers late segments (RFC 9293, 3.10.7.4), without its
 //! buffers.
 ghost use Rattle.std.specs.Prelude.{◌≡◌, ◌≤◌, if◌then◌else◌, length, option_map, IfSome, Some, None, false, []};
 ghost use Rattle.tcp_wire.specs.View.{content_of, raw_content};
@@ -28,14 +28,14 @@ use std::marker::Model;
 use tcp_halves::{Peer, WaitingReset, is_acceptable};
 use tcp_wire::{Addr, Flags, Header, RawSegment, Seq, write_around};
 
-/// The bytes of each segment that a [`Rest`] emits.
+/// The length in bytes of each segment that a [`Rest`] emits.
 pub const REST_LEN: usize = 20;
 
-/// What stands in the place of an end in TIME-WAIT (RFC 9293, 3.3.2), and takes no memory: it answers late segments as the end
-/// would, until the TIME-WAIT timeout, a reset or `abort` closes it. At most 64 bytes.
+/// A TIME-WAIT record: it takes the place of an end in TIME-WAIT (RFC 9293, 3.3.2), and allocates nothing. It answers
+/// late segments as the end would, until the TIME-WAIT timeout, a reset or `abort` closes it. At most 64 bytes.
 #[derive(Clone, Copy, Debug, PartialEq, Eq)]
 pub struct Rest {
-    /// The own address and port.
+    /// The address and port of this end.
     pub(crate) addr: Addr,
     pub(crate) port: u16,
     pub(crate) peer: Peer,
@@ -46,7 +46,7 @@ pub struct Rest {
     /// RCV.WND, and the shift by which it is advertised.
     pub(crate) window: u32,
     pub(crate) shift: u8,
-    /// Whether it owes an acknowledgement.
+    /// Whether an acknowledgement is pending.
     pub(crate) ack: bool,
     /// A reset that waits.
     pub(crate) reset: Option<WaitingReset>,
@@ -69,8 +69,9 @@ impl Model for Rest {
 }
 
 impl<A: Allocator> Endpoint<A> {
-    /// What can take this end's place, in TIME-WAIT with nothing unread: it answers and emits as the end would. `None`
-    /// in any other phase, and while bytes are unread.
+    /// The TIME-WAIT record of this end: it answers and emits as the end would (RFC 9293, 3.10.7.4). `None` in any
+    /// phase but TIME-WAIT, while bytes are unread or kept out of order, and while anything that was sent isn't
+    /// acknowledged.
     #[must_use]
     pub fn rest(&self) -> Option<Rest>
         ensures { result ≡ (if can_rest self.now then Some (resting self.now) else None) }
@@ -92,7 +93,7 @@ impl<A: Allocator> Endpoint<A> {
         })
     }
 
-    /// Whether it is in TIME-WAIT, nothing is unread or held, and all that was sent is acknowledged.
+    /// Whether it is in TIME-WAIT, nothing is unread or kept out of order, and all that was sent is acknowledged.
     fn can_rest(&self) -> bool
         ensures { result ≡ can_rest self.now }
     {
@@ -130,7 +131,7 @@ impl Rest {
         ensures answer { result ≡ arrival_answer (as_state self.old) src.0 dst.0 bytes.now }
         ensures state { self.new ≡ resting (after_arrival (as_state self.old) src.0 dst.0 bytes.now) }
     {
-        // So that the proof knows what always holds of it.
+        // So that the proof knows the invariant of the record.
         let _ = &self.seq;
         let segment = match RawSegment::parse(src, dst, bytes) {
             Ok(segment) => segment,
@@ -146,7 +147,7 @@ impl Rest {
         }
     }
 
-    /// Whether it is for another end, or, in TIME-WAIT, from another than the peer (RFC 9293, 3.10.7).
+    /// Whether the segment is for another end, or, in TIME-WAIT, from another source than the peer (RFC 9293, 3.10.7).
     #[tactic(auto, unfolding(crate::specs::Judgement::is_foreign))]
     fn is_foreign(&self, src: Addr, dst: Addr, segment: &RawSegment<'_>) -> bool
         ensures { result ≡ is_foreign (as_state self.now) src.0 dst.0 (raw_content segment.now) }
@@ -183,7 +184,8 @@ impl Rest {
         }
     }
 
-    /// Reset check, SYN check, then the acknowledgement, from which nothing follows (RFC 9293, 3.10.7.4, second, fourth and fifth).
+    /// Reset check, SYN check, then the acknowledgement, which changes nothing (RFC 9293, 3.10.7.4, second, fourth and
+    /// fifth).
     #[tactic(auto, using(crate::proofs::Rests::kept, crate::proofs::Rests::taken_at_rest), unfolding(crate::specs::Judgement::acceptable_judgement, crate::specs::Judgement::ack_judgement))]
     fn take_acceptable(&mut self, src: Addr, segment: &RawSegment<'_>) -> Arrival
         requires { self.old.ending ≡ NotEnded }
@@ -209,14 +211,14 @@ impl Rest {
         Arrival::Processed
     }
 
-    /// Outside the window (RFC 9293, 3.10.7.4, first), as a FIN that comes again: an acknowledgement answers it.
+    /// Outside the window, as a retransmitted FIN is: an acknowledgement answers it (RFC 9293, 3.10.7.4, first).
     #[tactic(auto, using(crate::proofs::Rests::kept, crate::proofs::Rests::taken_shut_at_rest), unfolding(crate::specs::Judgement::unacceptable_judgement, crate::specs::Judgement::ack_judgement))]
     fn take_unacceptable(&mut self, src: Addr, segment: &RawSegment<'_>) -> Arrival
         requires { self.old.ending ≡ NotEnded }
         ensures answer { result ≡ answer_of (unacceptable_judgement (as_state self.old) (raw_content segment.now)) }
         ensures state { self.new ≡ resting (after_judgement (unacceptable_judgement (as_state self.old) (raw_content segment.now)) (as_state self.old) src.0 (raw_content segment.now)) }
     {
-        // So that the proof knows what always holds of it.
+        // So that the proof knows the invariant of the record.
         let _ = &self.seq;
         let flags = segment.header.flags;
         if flags.is_rst() {
@@ -237,7 +239,7 @@ impl Rest {
         self.seq.before(segment.header.ack)
     }
 
-    /// The connection ends, and nothing is owed but a waiting reset.
+    /// The connection ends, and nothing is pending but a waiting reset.
     fn end_by(&mut self, ending: Ending)
         ensures { self.new ≡ record self.old { ending = ending; ack = false } }
     {
@@ -245,8 +247,8 @@ impl Rest {
         self.ack = false;
     }
 
-    /// A timer has run out (RFC 9293, 3.10.8): whether its rule applies. TimeWait ends the connection in order; any other changes
-    /// nothing.
+    /// A timer has expired (RFC 9293, 3.10.8): whether its rule applies. TimeWait ends the connection in order; any
+    /// other changes nothing.
     #[tactic(auto, using(crate::proofs::Rests::kept), unfolding(crate::specs::Timers::after_retransmit, crate::specs::Timers::after_reorder, crate::specs::Timers::after_time_wait))]
     pub fn timer(&mut self, timer: Timer) -> bool
         ensures answer { result ≡ timer_answer (as_state self.old) timer }
@@ -259,7 +261,7 @@ impl Rest {
         true
     }
 
-    /// Gives the connection up; no reset goes out in TIME-WAIT (RFC 9293, 3.10.5). `Ended` where it has ended.
+    /// Aborts the connection; no reset is sent in TIME-WAIT (RFC 9293, 3.10.5). `Ended` where it has ended.
     #[tactic(auto, using(crate::proofs::Rests::kept), unfolding(crate::specs::Calls::after_abort))]
     pub fn abort(&mut self) -> Result<(), CallError>
         ensures answer { result ≡ abort_answer (as_state self.old) }
@@ -272,7 +274,7 @@ impl Rest {
         Ok(())
     }
 
-    /// The length in bytes of the segment that `emit` would write now, [`REST_LEN`], if one is due.
+    /// The length in bytes of the segment that `emit` would write now, [`REST_LEN`]; `None` where none is due.
     #[must_use]
     #[tactic(auto, unfolding(crate::specs::Emission::pending_length, crate::specs::Due::due_of, crate::specs::Forms::segment_of))]
     pub fn pending(&self) -> Option<usize>
@@ -312,8 +314,9 @@ impl Rest {
         }
     }
 
-    /// Writes the segment that is due, a reset that waited or an acknowledgement, at the start of `out`, which has room for
-    /// [`REST_LEN`] bytes, and answers where it goes and its length, that. `None`, and nothing changes, exactly where none is due.
+    /// Writes the segment that is due, a waiting reset or an acknowledgement, at the start of `out`, which has room for
+    /// [`REST_LEN`] bytes. Returns where it goes and its length, [`REST_LEN`]. `None`, and nothing changes, exactly
+    /// where none is due.
     #[must_use]
     #[tactic(auto, using(crate::proofs::Rests::kept), unfolding(crate::specs::Emission::pending_length, crate::specs::Emission::destination, crate::specs::Emission::buffer_after, crate::specs::Emission::after_emission, crate::specs::Due::due_of, crate::specs::Forms::segment_of, crate::specs::Writing::bytes_of))]
     pub fn emit(&mut self, out: &mut [u8]) -> Option<(Addr, usize)>

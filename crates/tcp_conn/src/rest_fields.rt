@@ -1,4 +1,4 @@
-//! What rests in the place of an end, field by field: to be stored, or handed over a boundary.
+//! A TIME-WAIT record field by field: to be stored, or passed across an interface.
 ghost use Rattle.std.specs.Prelude.{◌≡◌, if◌then◌else◌, Some, None, IsTrue};
 ghost use Rattle.tcp_conn.specs.Rest.{can_be_kept, kept_of};
 
@@ -8,12 +8,12 @@ use tcp_halves::{MAX_SHIFT, Peer, WaitingReset};
 use tcp_sendq::MAX_CAPACITY;
 use tcp_wire::{Addr, Seq};
 
-/// What a [`Rest`] keeps. Any bytes can be made into one by [`Rest::of`], which refuses those that no rest keeps.
+/// The fields of a [`Rest`]. Any values can be given to [`Rest::of`], which refuses those of no record.
 #[derive(Clone, Copy, Debug, PartialEq, Eq)]
 pub struct RestFields {
-    /// The own address.
+    /// The address of this end.
     pub addr: Addr,
-    /// The own port.
+    /// The port of this end.
     pub port: u16,
     /// The other end.
     pub peer: Peer,
@@ -25,7 +25,7 @@ pub struct RestFields {
     pub window: u32,
     /// The shift by which the window is advertised, at most 14.
     pub shift: u8,
-    /// Whether an acknowledgement is owed.
+    /// Whether an acknowledgement is pending.
     pub ack: bool,
     /// A reset that waits.
     pub reset: Option<WaitingReset>,
@@ -34,7 +34,7 @@ pub struct RestFields {
 }
 
 impl Rest {
-    /// What it keeps: [`Rest::of`] makes the same rest of it.
+    /// Its fields: [`Rest::of`] makes an equal record of them.
     #[must_use]
     pub fn fields(&self) -> RestFields
         ensures value { kept_of result ≡ self.now }
@@ -54,7 +54,8 @@ impl Rest {
         }
     }
 
-    /// The rest that keeps this. `None` exactly where none does: with a window above 1,048,576 bytes, or a shift above 14.
+    /// The record of these fields. `None` exactly where there is none: with a window above 1,048,576 bytes, or a shift
+    /// above 14.
     #[must_use]
     pub fn of(fields: RestFields) -> Option<Rest>
         ensures { result ≡ (if can_be_kept fields then Some (kept_of fields) else None) }

@@ -1,4 +1,5 @@
-//! What an end tells of itself (RFC 9293, 3.10.6): its peer, what the two SYNs agreed on, and what it keeps for its peer.
+//! What an end reports of itself (RFC 9293, 3.10.6): its peer, what the two SYNs agreed on, and what it keeps for its
+//! peer.
 ghost use Rattle.std.specs.Prelude.{◌≡◌, ◌≤◌};
 ghost use Rattle.tcp_halves.specs.Config.{max_mss};
 ghost use Rattle.tcp_conn.specs.Due.{mss_in_use};
@@ -11,8 +12,8 @@ use tcp_halves::Peer;
 /// What the two SYNs agreed on, as it is in use (RFC 9293, 3.7.1; RFC 7323, 2.2 and 2.3; RFC 2018, 2).
 #[derive(Clone, Copy, Debug, PartialEq, Eq, Hash)]
 pub struct Negotiated {
-    /// The most text bytes of a segment that this end emits, the smaller of both maximum segment sizes: 64 to 1,460. Options take
-    /// of it.
+    /// The most text bytes of a segment that this end emits, from 64 to 1460: the smaller of both maximum segment sizes
+    /// (RFC 9293, 3.7.1). Options reduce it.
     pub mss: u16,
     /// Whether windows are scaled.
     pub scaling: bool,
@@ -25,8 +26,8 @@ pub struct Negotiated {
 }
 
 impl<A: Allocator> Endpoint<A> {
-    /// The peer's address and port: from `connect` on, or from the SYN on that came in LISTEN, and past an end too. `None`
-    /// before (RFC 9293, 3.10.6, foreign socket).
+    /// The peer's address and port: from `connect` on, or from the SYN that came in LISTEN on, also after the
+    /// connection has ended. `None` before (RFC 9293, 3.10.6, foreign socket).
     #[must_use]
     pub fn peer(&self) -> Option<Peer>
         ensures { result ≡ peer_of self.now }
@@ -37,7 +38,7 @@ impl<A: Allocator> Endpoint<A> {
         Some(self.peer)
     }
 
-    /// The MSS in use: the smaller of the peer's and the own maximum segment size (RFC 9293, 3.7.1).
+    /// The MSS in use in bytes: the smaller of the peer's and this end's maximum segment size (RFC 9293, 3.7.1).
     pub(crate) fn mss_in_use(&self) -> u16
         ensures value { result ≡ mss_in_use self.now }
         ensures most { result ≤ max_mss }
@@ -62,8 +63,8 @@ impl<A: Allocator> Endpoint<A> {
         })
     }
 
-    /// How many bytes of a long text `send` would take now: as many as the send queue has room for, and at most what the
-    /// direction may still carry.
+    /// How many bytes of a long text `send` would accept now: as many as the send queue has room for, and at most what
+    /// the direction may still carry.
     #[must_use]
     pub fn room(&self) -> usize
         ensures { result ≡ room_of self.now }
@@ -71,7 +72,7 @@ impl<A: Allocator> Endpoint<A> {
         self.sender.room(self.config.limit)
     }
 
-    /// The bytes that `send` took and no acknowledgement has released.
+    /// The count of bytes that `send` accepted and no acknowledgement has released.
     #[must_use]
     pub fn queued(&self) -> usize
         ensures { result ≡ queued_of self.now }
@@ -79,8 +80,8 @@ impl<A: Allocator> Endpoint<A> {
         self.sender.queue.len()
     }
 
-    /// The text bytes that were sent and aren't acknowledged, at most [`queued`](Self::queued): the text between SND.UNA and
-    /// SND.NXT (RFC 9293, 3.3.1). SYN and FIN aren't counted.
+    /// The count of text bytes that were sent and aren't acknowledged, those between SND.UNA and SND.NXT; at most
+    /// [`queued`](Self::queued) (RFC 9293, 3.3.1). SYN and FIN aren't counted.
     #[must_use]
     pub fn in_flight(&self) -> usize
         ensures { result ≡ in_flight_of self.now }

@@ -1,4 +1,4 @@
-//! A segment that comes to an address and a port where no end is.
+//! A segment that comes to an address and a port of no end (RFC 9293, 3.10.7.1).
 ghost use Rattle.std.specs.Prelude.{◌≡◌, ◌≤◌, length, option_map};
 ghost use Rattle.tcp_conn.specs.Stray.{stray_reset, with_front};
 
@@ -6,12 +6,12 @@ use crate::arrival::reset_of_stray;
 use crate::forms::reset_from;
 use tcp_wire::{Addr, RawSegment, write_around};
 
-/// The bytes of a reset.
+/// The length of a reset in bytes.
 pub const RESET_LEN: usize = 20;
 
-/// Writes the reset that answers bytes which came from `src` to `dst`, where no end has that address and port, at the start
-/// of `out`, and answers its length, [`RESET_LEN`]; it goes from `dst` to `src` (RFC 9293, 3.10.7.1). `None`, and `out`
-/// stays, where the bytes are no segment, or a reset.
+/// Writes the reset that answers bytes from `src` to `dst`, where no end has that address and port, at the start of
+/// `out`. Returns its length, [`RESET_LEN`]; it goes from `dst` to `src` (RFC 9293, 3.10.7.1). `None`, and `out` is
+/// unchanged, where the bytes are no segment, or a reset.
 #[must_use]
 #[tactic(auto, unfolding(crate::specs::Stray::stray_reset))]
 pub fn stray_reset(src: Addr, dst: Addr, bytes: &[u8], out: &mut [u8]) -> Option<usize>

@@ -1,4 +1,4 @@
-//! What is reported of bytes that arrive (RFC 9293, 3.10.7.4; RFC 5681, 2 and 4.2), beside what they do.
+//! What is reported of bytes that arrive (RFC 9293, 3.10.7.4; RFC 5681, 2 and 4.2), beside their effect.
 ghost use Rattle.std.specs.Prelude.{◌≡◌, Some, length, nat_lt};
 ghost use Rattle.tcp_reasm.specs.Reassembly.{runs};
 ghost use Rattle.tcp_wire.specs.View.{raw_content};
@@ -22,7 +22,7 @@ pub enum Brought {
     Nothing,
     /// Text or a FIN that came in order: RCV.NXT was moved.
     InOrder,
-    /// Text that came out of order, and is held until what is missing before it comes.
+    /// Text that came out of order, and is kept until what is missing before it comes.
     Held,
     /// Text or a FIN of which nothing is kept: it came before, lies outside the window, or wasn't taken.
     NotKept,
@@ -33,20 +33,20 @@ pub enum Brought {
 pub struct Taken {
     /// What became of them.
     pub arrival: Arrival,
-    /// Whether they have to be answered at once, by emitting what is due: the segment came out of order or filled all or part
-    /// of a gap, had a SYN or a FIN, or wasn't taken and is answered all the same. Where it is false an acknowledgement that
-    /// is due may wait for the next segment (RFC 5681, 4.2).
+    /// Whether they have to be answered at once, by emitting what is due (RFC 5681, 4.2). The segment came out of order
+    /// or filled all or part of a gap, had a SYN or a FIN, or wasn't taken and has an answer. Where it is false, an
+    /// acknowledgement that is due may wait for the next segment.
     pub at_once: bool,
     /// The rule that applied to the segment (RFC 9293, 3.10.7); `None` where the bytes are no segment.
     pub rule: Option<Judgement>,
-    /// How many bytes of text its acknowledgement has released (RFC 9293, 3.10.7.4, fifth); SYN and FIN aren't counted.
+    /// How many text bytes its acknowledgement has released (RFC 9293, 3.10.7.4, fifth); SYN and FIN aren't counted.
     pub acked: u64,
-    /// Whether it is a duplicate acknowledgement (RFC 5681, 2): text was in flight, it has no text, no SYN and no FIN, it
-    /// acknowledges up to SND.UNA, and its window is the last one.
+    /// Whether it is a duplicate acknowledgement (RFC 5681, 2): text was in flight, it has no text, no SYN and no FIN,
+    /// it acknowledges up to SND.UNA, and its window is SND.WND.
     pub is_duplicate: bool,
     /// Whether SND.WND was taken from it, by the rule of SND.WL1 and SND.WL2 (RFC 9293, 3.10.7.4, fifth).
     pub window_taken: bool,
-    /// What it brought of the peer's stream.
+    /// What it brought of the peer's stream (RFC 9293, 3.10.7.4, seventh and eighth).
     pub brought: Brought,
 }
 
@@ -71,7 +71,7 @@ impl Brought {
         }
     }
 
-    /// Of a segment of which nothing is kept.
+    /// What a segment brought of which nothing is kept.
     pub(crate) fn in_vain(segment: &RawSegment<'_>) -> Brought
         ensures { result ≡ brought_in_vain (raw_content segment.now) }
     {
@@ -91,7 +91,8 @@ pub(crate) fn brings(segment: &RawSegment<'_>) -> bool
 }
 
 impl<A: Allocator> Endpoint<A> {
-    /// The rule by which bytes are judged that come from `src` to `dst` now (RFC 9293, 3.10.7); `None` where they are no segment.
+    /// The rule that applies now to bytes that come from `src` to `dst` (RFC 9293, 3.10.7); `None` where they are no
+    /// segment. Nothing changes.
     #[must_use]
     #[tactic(auto, unfolding(crate::specs::Taking::rule_of))]
     pub fn rule(&self, src: Addr, dst: Addr, bytes: &[u8]) -> Option<Judgement>
@@ -105,9 +106,9 @@ impl<A: Allocator> Endpoint<A> {
 }
 
 impl<A: Allocator> Endpoint<A> {
-    /// As [`arrive`](Self::arrive), with a report: whether the segment has to be answered at once (RFC 5681, 4.2), the rule that
-    /// applied, the text that it acknowledged, whether it is a duplicate acknowledgement (RFC 5681, 2), whether its window was
-    /// taken, and what it brought.
+    /// Takes bytes as [`arrive`](Self::arrive) does, with a report. It has whether the segment has to be answered at
+    /// once (RFC 5681, 4.2), the rule that applied, the text that was acknowledged, whether it is a duplicate
+    /// acknowledgement (RFC 5681, 2), whether its window was taken, and what it brought.
     #[must_use]
     #[tactic(auto, unfolding(crate::specs::Arrival::arrival_answer, crate::specs::Arrival::after_arrival, crate::specs::AtOnce::answers_at_once, crate::specs::Taking::rule_of, crate::specs::Taking::is_duplicate, crate::specs::Taking::is_window_taken, crate::specs::Taking::brought))]
     pub fn take(&mut self, src: Addr, dst: Addr, bytes: &[u8]) -> Taken
@@ -136,12 +137,12 @@ impl<A: Allocator> Endpoint<A> {
                 brought: Brought::Nothing,
             },
         };
-        // So that the proof knows what always holds of an end.
+        // So that the proof knows the invariant of an end.
         let _ = &self.config;
         taken
     }
 
-    /// A segment by the rule that applies to it, and the report.
+    /// Takes a segment by the rule that applies to it, and reports on it.
     #[inline(always)]
     pub(crate) fn take_by(&mut self, rule: Judgement, src: Addr, segment: &RawSegment<'_>) -> Taken
         ensures answer { result.arrival ≡ answer_of rule }
@@ -168,7 +169,7 @@ impl<A: Allocator> Endpoint<A> {
         }
     }
 
-    /// What a judgement does, and what is reported of it.
+    /// The effect of a judgement, and what is reported of it.
     #[inline(always)]
     fn follow_told(&mut self, rule: Judgement, src: Addr, segment: &RawSegment<'_>) -> News
         ensures state { self.new ≡ after_judgement rule self.old src.0 (raw_content segment.now) }
@@ -201,7 +202,7 @@ impl<A: Allocator> Endpoint<A> {
         }
     }
 
-    /// The five conditions (RFC 5681, 2).
+    /// The five conditions of a duplicate acknowledgement (RFC 5681, 2).
     fn is_duplicate_ack(&self, segment: &RawSegment<'_>) -> bool
         ensures { result ≡ is_duplicate_ack self.now (raw_content segment.now) }
     {
@@ -229,7 +230,7 @@ impl<A: Allocator> Endpoint<A> {
         }
     }
 
-    /// Whether a run is held, so that something before it is missing.
+    /// Whether a run is kept out of order, so that something before it is missing.
     pub(crate) fn has_gap(&self) -> bool
         ensures { result ≡ nat_lt 0 (length (runs self.now.receiving.inbox.held)) }
     {

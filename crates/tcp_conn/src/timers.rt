@@ -1,6 +1,6 @@
 ghost use Rattle.std.specs.Prelude.{◌≡◌};
 ghost use Rattle.tcp_conn.specs.State.{IsWithin};
-ghost use Rattle.tcp_conn.specs.Timers.{after_reorder, after_retransmit, after_time_wait, after_timer, needs_probe, sends_again, timer_answer};
+ghost use Rattle.tcp_conn.specs.Timers.{after_reorder, after_resend_first, after_retransmit, after_time_wait, after_timer, needs_probe, sends_again, timer_answer};
 ghost use Rattle.tcp_conn.specs.declared.phase.Timer.TheVariants.{Reorder, Retransmit, TimeWait};
 
 use crate::endpoint::Endpoint;
@@ -9,7 +9,7 @@ use crate::phases::{is_handshake, is_time_wait, sends_text};
 use std::alloc::Allocator;
 
 impl<A: Allocator> Endpoint<A> {
-    /// A timer has run out (RFC 9293, 3.10.8): whether its rule applies. Where it doesn't, nothing changes.
+    /// A timer has expired (RFC 9293, 3.10.8): whether its rule applies. Where it doesn't, nothing changes.
     pub fn timer(&mut self, timer: Timer) -> bool
         ensures answer { result ≡ timer_answer self.old timer }
         ensures state { self.new ≡ after_timer self.old timer }
@@ -20,12 +20,13 @@ impl<A: Allocator> Endpoint<A> {
             Timer::Reorder => self.reorder(),
             Timer::TimeWait => self.leave_time_wait(),
         };
-        // So that the proof knows what always holds of an end.
+        // So that the proof knows the invariant of an end.
         let _ = &self.config;
         applies
     }
 
-    /// Whether `timer` would answer true now, for Retransmit, Reorder and TimeWait: which timers have to run.
+    /// Whether `timer` would return true now, for Retransmit, Reorder and TimeWait: which timers have to run (RFC 9293,
+    /// 3.10.8).
     #[must_use]
     pub fn timers(&self) -> (bool, bool, bool)
         ensures { result ≡ (timer_answer self.now Retransmit, timer_answer self.now Reorder, timer_answer self.now TimeWait) }
@@ -35,14 +36,14 @@ impl<A: Allocator> Endpoint<A> {
         (retransmit, reorder, is_time_wait(self.phase))
     }
 
-    /// Whether something in flight is to go out again at the retransmission timeout.
+    /// Whether something in flight has to be sent again at the retransmission timeout.
     fn sends_again(&self) -> bool
         ensures { result ≡ sends_again self.now }
     {
         sends_text(self.phase) && self.sender.una < self.sender.nxt
     }
 
-    /// Whether a probe is to be granted at the retransmission timeout.
+    /// Whether a probe has to be granted at the retransmission timeout.
     fn needs_probe(&self) -> bool
         ensures { result ≡ needs_probe self.now }
     {
@@ -66,7 +67,26 @@ impl<A: Allocator> Endpoint<A> {
         handshake || again || probe
     }
 
-    /// The reordering timeout: what lies before the last mark is taken for lost (RFC 2018, 5).
+    /// Of what is in flight, the first segment alone is to go out again, and then new data, as after three duplicate
+    /// acknowledgements or an acknowledgement of a part of it (RFC 5681, 3.2; RFC 6582, 3.2): whether anything is in flight.
+    /// Where nothing is, nothing changes.
+    #[tactic(auto, unfolding(crate::specs::Timers::after_resend_first))]
+    pub fn resend_first(&mut self) -> bool
+        ensures answer { result ≡ sends_again self.old }
+        ensures state { self.new ≡ after_resend_first self.old }
+        ensures within { IsWithin self.new }
+    {
+        let again = self.sends_again();
+        if again {
+            let limit = self.text_limit();
+            self.sender.resend_first(limit);
+        }
+        // So that the proof knows what always holds of an end.
+        let _ = &self.config;
+        again
+    }
+
+    /// The reordering timeout: what lies before the end of the last mark is taken for lost (RFC 2018, 5).
     #[tactic(auto, unfolding(crate::specs::Timers::after_reorder))]
     fn reorder(&mut self) -> bool
         ensures answer { result ≡ timer_answer self.old Reorder }

@@ -12,20 +12,20 @@ use std::alloc::Allocator;
 use tcp_halves::Due;
 use tcp_wire::Addr;
 
-/// What a segment is that an end emits.
+/// The kind of a segment that an end emits.
 #[derive(Clone, Copy, Debug, PartialEq, Eq)]
 pub enum Kind {
     /// A reset (RFC 9293, 3.5.2).
     Reset,
-    /// The own SYN, for the first time or again, with an acknowledgement once the peer's was taken (RFC 9293, 3.5).
+    /// This end's SYN, for the first time or again, with an acknowledgement once the peer's was taken (RFC 9293, 3.5).
     Syn,
-    /// Text that goes out for the first time, also a byte that probes a window of 0 (RFC 9293, 3.8.6.1).
+    /// Text that is sent for the first time, also the byte of a zero-window probe (RFC 9293, 3.8.6.1).
     NewText,
     /// Text that is retransmitted (RFC 9293, 3.8.1).
     TextAgain,
-    /// The own FIN for the first time (RFC 9293, 3.6).
+    /// This end's FIN for the first time (RFC 9293, 3.6).
     Fin,
-    /// The own FIN, retransmitted.
+    /// This end's FIN, retransmitted (RFC 9293, 3.8.1).
     FinAgain,
     /// An acknowledgement without text (RFC 9293, 3.8.6.3).
     Acknowledgement,
@@ -40,14 +40,14 @@ pub struct Transmit {
     pub len: usize,
     /// What it is.
     pub kind: Kind,
-    /// Where it begins, as a position of the own direction: the SYN is at 0, byte i of the stream at 1 + i, the FIN after the
-    /// last byte, an acknowledgement at SND.NXT. 0 of a reset.
+    /// Where it begins, as a position of this end's direction: the SYN is at 0, byte i of the stream at 1 + i, the FIN
+    /// after the last byte, an acknowledgement at SND.NXT. It is 0 for a reset.
     pub position: u64,
-    /// The bytes of its text.
+    /// The length of its text in bytes.
     pub count: usize,
 }
 
-/// What is due as it is reported.
+/// The kind of what is due.
 fn kind_of(due: Due) -> Kind
     ensures { result ≡ kind_of due }
 {
@@ -81,7 +81,8 @@ impl<A: Allocator> Endpoint<A> {
         }
     }
 
-    /// As [`emit`](Self::emit), and reports what the segment is, the position where it begins, and the bytes of its text.
+    /// Emits as [`emit`](Self::emit) does, and reports what the segment is, the position where it begins, and the
+    /// length of its text.
     #[must_use]
     #[inline(always)]
     #[tactic(auto, unfolding(crate::specs::Emission::pending_length, crate::specs::Emission::destination, crate::specs::Emission::buffer_after, crate::specs::Emission::after_emission, crate::specs::Transmission::kind_due, crate::specs::Transmission::position_due, crate::specs::Transmission::count_due))]
@@ -108,7 +109,7 @@ impl<A: Allocator> Endpoint<A> {
         Some(sent)
     }
 
-    /// What `transmit` would report now; nothing is written, and nothing changes.
+    /// What `transmit` would report now; nothing is written, and nothing changes. `None` where nothing is due.
     #[must_use]
     #[tactic(auto, unfolding(crate::specs::Emission::pending_length, crate::specs::Emission::destination, crate::specs::Transmission::kind_due, crate::specs::Transmission::position_due, crate::specs::Transmission::count_due))]
     pub fn next_transmit(&self) -> Option<Transmit>

@@ -1,4 +1,4 @@
-//! An arrival whose checksum a device has checked.
+//! An arrival whose checksum a device has checked (RFC 9293, 3.1).
 ghost use Rattle.std.specs.Prelude.{◌≡◌};
 ghost use Rattle.tcp_wire.specs.Vouched.{with_right_sum};
 ghost use Rattle.tcp_conn.specs.Arrival.{after_arrival, arrival_answer};
@@ -13,9 +13,9 @@ use std::alloc::Allocator;
 use tcp_wire::{Addr, RawSegment};
 
 impl<A: Allocator> Endpoint<A> {
-    /// Takes bytes whose checksum a device has found right, without summing them: whatever they are, answer and end are those of
-    /// [`arrive`](Endpoint::arrive) on the same bytes with the checksum field that makes them check (RFC 9293, 3.1 and 3.10.7). So the
-    /// caller has to drop what the device found wrong: a changed byte isn't noticed here.
+    /// Takes bytes whose checksum a device has found right, and doesn't sum them. Whatever they are, answer and end are
+    /// those of [`arrive`](Endpoint::arrive) for the same bytes with the checksum field that is right for them (RFC
+    /// 9293, 3.1 and 3.10.7). So the caller has to drop what the device found wrong: a changed byte isn't noticed here.
     #[tactic(auto, unfolding(crate::specs::Arrival::arrival_answer, crate::specs::Arrival::after_arrival))]
     pub fn arrive_vouched(&mut self, src: Addr, dst: Addr, bytes: &[u8]) -> Arrival
         ensures answer { result ≡ arrival_answer self.old src.0 dst.0 (with_right_sum src.0 dst.0 bytes.now) }
@@ -30,12 +30,12 @@ impl<A: Allocator> Endpoint<A> {
             }
             Err(fault) => Arrival::Malformed(fault),
         };
-        // So that the proof knows what always holds of an end.
+        // So that the proof knows the invariant of an end.
         let _ = &self.config;
         arrival
     }
 
-    /// As [`arrive_vouched`](Endpoint::arrive_vouched), with the report of [`take`](Endpoint::take).
+    /// Takes bytes as [`arrive_vouched`](Endpoint::arrive_vouched) does, with the report of [`take`](Endpoint::take).
     #[must_use]
     #[tactic(auto, unfolding(crate::specs::Arrival::arrival_answer, crate::specs::Arrival::after_arrival, crate::specs::AtOnce::answers_at_once, crate::specs::Taking::rule_of, crate::specs::Taking::is_duplicate, crate::specs::Taking::is_window_taken, crate::specs::Taking::brought))]
     pub fn take_vouched(&mut self, src: Addr, dst: Addr, bytes: &[u8]) -> Taken
@@ -64,7 +64,7 @@ impl<A: Allocator> Endpoint<A> {
                 brought: Brought::Nothing,
             },
         };
-        // So that the proof knows what always holds of an end.
+        // So that the proof knows the invariant of an end.
         let _ = &self.config;
         taken
     }

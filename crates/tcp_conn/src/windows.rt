@@ -9,7 +9,7 @@ use std::alloc::Allocator;
 pub(crate) const MAX_WINDOW: u32 = 65_535;
 
 impl<A: Allocator> Endpoint<A> {
-    /// The shift of the windows that this end advertises: none where scaling isn't in use (RFC 7323, 2.3).
+    /// The shift of the windows that this end advertises; 0 where scaling isn't in use (RFC 7323, 2.3).
     pub(crate) fn own_shift(&self) -> u8
         ensures value { result ≡ own_shift self.now.config self.now.link }
         ensures most { result ≤ max_shift }
@@ -28,7 +28,7 @@ impl<A: Allocator> Endpoint<A> {
         (self.receiver.inbox.window() >> self.own_shift()).min(MAX_WINDOW) as u16
     }
 
-    /// The window that a field of the peer advertises (RFC 7323, 2.3).
+    /// The window in bytes that the peer advertises by a field (RFC 7323, 2.3).
     pub(crate) fn window_from(&self, field: u16) -> u32
         ensures { result ≡ window_from self.now.link field }
     {

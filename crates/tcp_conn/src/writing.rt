@@ -1,4 +1,4 @@
-//! A segment that is due is written.
+//! Writes a segment that is due.
 ghost use Rattle.std.specs.Prelude.{◌≡◌, ◌≤◌, ◌+◌, ◌++◌, drop, length, map};
 ghost use Rattle.tcp_wire.specs.View.{option_content, text_offset};
 ghost use Rattle.tcp_wire.specs.Wire.{header_len, max_area_len, encoded_bytes, wire_length};
@@ -19,7 +19,7 @@ use tcp_halves::{Due, WaitingReset};
 use tcp_wire::{Addr, TcpOption, write_around};
 
 impl<A: Allocator> Endpoint<A> {
-    /// Each of its numbers fits its field of a segment, as callers learn; it does nothing when it runs.
+    /// Each of its numbers fits its field of a segment. It does nothing when it runs: callers learn the fact.
     pub(crate) fn fits_fields(&self)
         ensures { FitsFields self.now }
     {
@@ -27,7 +27,7 @@ impl<A: Allocator> Endpoint<A> {
         let _next = self.receiver.next;
     }
 
-    /// Writes the own SYN at the start of `out`, and answers its length.
+    /// Writes this end's SYN at the start of `out`, and returns its length.
     #[inline(never)]
     #[tactic(auto, using(crate::proofs::Segments::length_syn_segment))]
     pub(crate) fn write_syn(&self, out: &mut [u8]) -> usize
@@ -50,7 +50,7 @@ impl<A: Allocator> Endpoint<A> {
         )
     }
 
-    /// Where the text of such a segment begins, after the options that report blocks (RFC 9293, 3.1, Data Offset).
+    /// Where the text of a segment begins, after the options that report blocks (RFC 9293, 3.1, Data Offset).
     #[tactic(auto, using(crate::proofs::Segments::offset_of_report))]
     pub(crate) fn text_start(&self) -> usize
         ensures offset { result ≡ text_offset (sack_options (blocks_to_report self.now)) 0 }
@@ -59,8 +59,8 @@ impl<A: Allocator> Endpoint<A> {
         HEADER_LEN + usize::from(self.report_len())
     }
 
-    /// Writes a segment with text and these options at the start of `out`, and answers its length. The text goes from the
-    /// queue to its place in `out`, and the rest is written around it.
+    /// Writes a segment that may have text, with these options, at the start of `out`, and returns its length. The text
+    /// goes from the queue to its offset in `out`, and the rest is written around it.
     #[inline(always)]
     fn write_text(&self, due: Due, options: &[TcpOption<'_>], out: &mut [u8]) -> usize
         requires lies { Lies self.now.sending max_mss due }
@@ -86,8 +86,8 @@ impl<A: Allocator> Endpoint<A> {
         )
     }
 
-    /// Writes a segment with text and the options that report blocks. It is a function of its own, as the writing of a SYN and
-    /// a reset is, so that a plain segment has no blocks among its locals.
+    /// Writes a segment that may have text, with the options that report blocks. It is a separate function, as the
+    /// writing of a SYN and a reset is, so that a plain segment has no blocks among its locals.
     #[inline(never)]
     fn write_blocks(&self, due: Due, out: &mut [u8]) -> usize
         requires lies { Lies self.now.sending max_mss due }
@@ -100,7 +100,7 @@ impl<A: Allocator> Endpoint<A> {
         self.write_text(due, options.as_slice(), out)
     }
 
-    /// Writes a segment with text at the start of `out`, and answers its length.
+    /// Writes a segment that may have text at the start of `out`, and returns its length.
     #[tactic(auto, using(crate::proofs::Segments::none_reported))]
     fn write_plain(&self, due: Due, out: &mut [u8]) -> usize
         requires lies { Lies self.now.sending max_mss due }
@@ -115,7 +115,7 @@ impl<A: Allocator> Endpoint<A> {
         self.write_blocks(due, out)
     }
 
-    /// Writes a waiting reset at the start of `out`, and answers its length.
+    /// Writes a waiting reset at the start of `out`, and returns its length.
     #[inline(never)]
     pub(crate) fn write_reset(&self, reset: WaitingReset, out: &mut [u8]) -> usize
         requires { HEADER_ROOM ≤ length out.old }
@@ -127,7 +127,7 @@ impl<A: Allocator> Endpoint<A> {
         write_around(&header, &[], 0, 0, self.config.addr, reset.to.addr, out)
     }
 
-    /// Writes what is due at the start of `out`, and answers its length.
+    /// Writes what is due at the start of `out`, and returns its length.
     #[tactic(auto, unfolding(crate::specs::Forms::segment_of, crate::specs::Writing::bytes_of))]
     pub(crate) fn write(&self, due: Due, out: &mut [u8]) -> usize
         requires lies { Lies self.now.sending max_mss due }
@@ -147,7 +147,7 @@ impl<A: Allocator> Endpoint<A> {
         }
     }
 
-    /// Whom what is due goes to.
+    /// The address to which what is due goes.
     pub(crate) fn destination(&self, due: Due) -> Addr
         ensures { result ≡ (destination_of self.now due).addr }
     {
