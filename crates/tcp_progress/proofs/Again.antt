@@ -1,14 +1,51 @@
--- What is in flight goes out again: an unmarked queue is sent from the range's start on, segment by segment.
-use Rattle.std.proofs.Common.{ℕ, ◌&&◌, ◌+◌, ◌-◌, ◌<◌, ◌∙◌, ◌≡◌, ◌≤◌, ap, arith, drop, false, inl, inr, length, List, max, min, nat_le, nat_lt, None, refl}
-use Rattle.std.proofs.Common.{replicate, Some, suc, true, zero}
-use Rattle.tcp_replay.proofs.Words.{after_emission, after_retransmit, and_from, cases_lt, Closed, count_leading, drop-replicate, Due}
-use Rattle.tcp_replay.proofs.Words.{due_of, end_of, end_of_text, is_handshake, length-replicate, Listen, nat_tests}
-use Rattle.tcp_replay.proofs.Words.{next_unmarked, Owed, owed_after, Phase, place_of, position_at, Queue, Range, range_after, Resend, resend_after, resend_of}
-use Rattle.tcp_replay.proofs.Words.{resend_start, resent_run, ResentFin, segment_of, Sending, sends_text, State, state_after, SynReceived, SynSent, text_limit}
-use Rattle.tcp_replay.proofs.Words.{with_all_resent, without_marks}
+-- A text or FIN that is due covers the positions from its start on and before its end.
+use Rattle.std.proofs.Common.{if◌then◌else◌, ◌&&◌, ◌+◌, ◌-◌, ◌<◌, ◌∙◌, ◌≡◌, ◌≤◌, ◌⊎◌, ap, arith, drop, false, inl, inr, length, length-drop, max, min, nat_le}
+use Rattle.std.proofs.Common.{nat_lt, None, refl, replicate, Some, suc, sym, true, zero, ℕ}
+use Rattle.tcp_replay.proofs.Words.{after_emission, after_retransmit, and_from, bytes_of, cases_Bool, cases_lt, count_leading, count_numbers, count_of}
+use Rattle.tcp_replay.proofs.Words.{destination_of, drop-replicate, Due, due_of, emitted_bytes, end_of, end_of_text, is_fin, is_handshake, length-replicate}
+use Rattle.tcp_replay.proofs.Words.{length-take, nat_tests, next_unmarked, Owed, owed_after, Phase, place_of, plain_segment, position_at, pushes, Queue}
+use Rattle.tcp_replay.proofs.Words.{range_after, Resend, resend_after, resend_of, resent_run, ResentFin, segment_of, Sending, sends_text, start_of, State}
+use Rattle.tcp_replay.proofs.Words.{state_after, text_limit, with_all_resent, without_marks}
 use Rattle.tcp_progress.proofs.Words.{after_emissions, CoversNext, FlightGoesOutAgain, GoesOut, is_synchronized, IsInFlight, KeepsFlight, MaySend}
-use Rattle.tcp_progress.proofs.Covering.{covering}
+use Rattle.tcp_replay.proofs.Lemmas.{one_if, plain-bits}
 
+-- the text that is due lies within the queue
+pub record Stands (s : State) (due : Due) : Type 0 where
+  pub is_due : due_of s ≡ Some due
+  pub form : segment_of s due ≡ plain_segment s due
+  pub to : destination_of s due ≡ s.peer
+  pub inside : count_of due ≤ length s.sending.queue.bytes - place_of s.sending (start_of s.sending due)
+
+-- then it covers the positions from its start on and before its end
+pub covering : (s : State) (due : Due) (position : ℕ) → Stands s due → start_of s.sending due ≤ position
+    → position < start_of s.sending due + count_of due + one_if (is_fin due) → CoversNext s position
+unfolding emitted_bytes bytes_of
+covering s due position stands begins ends =
+    let d = s.sending in
+    let bits = plain-bits (pushes d due) (is_fin due) in
+    let v = plain_segment s due in
+    let long : length v.text ≡ count_of due =
+    length-take (count_of due) _ ∙ omega (arith, length-drop (place_of d (start_of d due)) d.queue.bytes, stands.inside) in
+    let numbers : count_numbers v ≡ count_of due + one_if (is_fin due) = rw (bits.0, bits.1) (omega (arith, long)) in
+    record {
+      due = due;
+      is_due = stands.is_due;
+      segment = v;
+      form = sym stands.form;
+      start = start_of d due;
+      starts = refl;
+      emitted = rw stands.is_due (rw (stands.form, stands.to) refl);
+      seq = refl;
+      begins = begins;
+      ends = omega (arith, ends, numbers);
+      text = rw long refl;
+      no_rst = bits.2;
+      no_syn = bits.0;
+      has_ack = bits.3;
+      acknowledged = refl;
+    }
+
+-- ---- What is in flight goes out again: an unmarked queue is sent from the range's start on, segment by segment.
 -- no flag of the queue is set
 abbrev pub IsUnmarked : Queue → Type 0
 IsUnmarked q = q.marks ≡ replicate (length q.bytes) false
@@ -22,7 +59,7 @@ all-leading zero = refl
 all-leading (suc n) = ap suc (all-leading n)
 
 -- the first unmarked run from a place on is all that follows
-pub unmarked-run : (q : Queue) (at : ℕ) → IsUnmarked q → at < length q.bytes → next_unmarked q at ≡ Some (at, length q.bytes)
+unmarked-run : (q : Queue) (at : ℕ) → IsUnmarked q → at < length q.bytes → next_unmarked q at ≡ Some (at, length q.bytes)
 unfolding next_unmarked
 unmarked-run q at unmarked inside =
     let n = length q.bytes in
@@ -34,7 +71,7 @@ unmarked-run q at unmarked inside =
     let test : nat_lt at n ≡ true = grind (arith, nat_tests, inside) in
     rw (first, here, long, test, rest, whole) refl
 
-pub no-run : (q : Queue) (at : ℕ) → IsUnmarked q → length q.bytes ≤ at → next_unmarked q at ≡ None
+no-run : (q : Queue) (at : ℕ) → IsUnmarked q → length q.bytes ≤ at → next_unmarked q at ≡ None
 unfolding next_unmarked
 no-run q at unmarked past =
     let n = length q.bytes in
@@ -51,187 +88,183 @@ pub record Resends (s : State) (start : ℕ) : Type 0 where
   pub unmarked : IsUnmarked s.sending.queue
   pub behind : s.sending.una ≤ start
 
-unfoldable pub from_now : Sending → ℕ → ℕ
+-- what it sends again next, by the run of text that is left
+next-resent : (s : State) (start : ℕ) → Resends s start → resend_of s.sending (text_limit s) s.sending.resend
+    ≡ resent_run s.sending (text_limit s) (record { start = start; end = s.sending.nxt }) (next_unmarked s.sending.queue (place_of s.sending start))
+unfolding resend_of
+next-resent s start r = let from : max start s.sending.una ≡ start = omega (arith, r.behind) in rw (r.range, from) refl
+
+-- where the text begins, and how much of it goes out
+unfoldable from_now : Sending → ℕ → ℕ
 from_now s start = position_at s (place_of s start)
 
-pub count_now : State → ℕ → ℕ
+count_now : State → ℕ → ℕ
 count_now s start = min (text_limit s) (min (length s.sending.queue.bytes - place_of s.sending start) (s.sending.nxt - from_now s.sending start))
 
--- what goes out is due
-due-resent : (s : State) (due : Due) → MaySend s → resend_of s.sending (text_limit s) s.sending.resend ≡ Some due → due_of s ≡ Some due
-unfolding due_of
-due-resent s due may e = rw (may.reset, may.syn, may.phase, e) refl
+text-next : (s : State) (start : ℕ) → Resends s start → place_of s.sending start < length s.sending.queue.bytes
+    → resend_of s.sending (text_limit s) s.sending.resend
+    ≡ (if nat_lt (from_now s.sending start) s.sending.nxt then Some (Resend (from_now s.sending start) (count_now s start)) else None)
+unfolding from_now count_now
+text-next s start r inside = next-resent s start r ∙ ap (resent_run s.sending _ _) (unmarked-run s.sending.queue (place_of s.sending start) r.unmarked inside)
 
-pub resend-text : (s : State) (start : ℕ) → Resends s start → place_of s.sending start < length s.sending.queue.bytes → from_now s.sending start < s.sending.nxt
-    → due_of s ≡ Some (Resend (from_now s.sending start) (count_now s start))
-unfolding resend_of from_now count_now
-resend-text s start r inside sent =
-    let d = s.sending in
-    let from : max start d.una ≡ start = omega (arith, r.behind) in
-    let test : nat_lt (position_at d (place_of d start)) d.nxt ≡ true = grind (arith, nat_tests, sent) in
-    due-resent s (Resend (from_now d start) (count_now s start)) r.may
-    (rw (r.range, from, unmarked-run d.queue (place_of d start) r.unmarked inside, test) refl)
-
-fin-run : (d : Sending) (limit : ℕ) (range : Range ℕ) → end_of_text d < range.end → resend_start d range ≤ end_of_text d
-    → resent_run d limit range None ≡ Some (ResentFin (end_of_text d))
-fin-run d limit range sent below =
-    let reaches : (nat_lt (end_of_text d) range.end && nat_le (resend_start d range) (end_of_text d)) ≡ true =
-    and_from (nat_lt (end_of_text d) range.end) (nat_le (resend_start d range) (end_of_text d)) (grind (arith, nat_tests, sent))
-    (grind (arith, nat_tests, below)) in
-    rw reaches refl
-
-fin-range : (d : Sending) (limit : ℕ) (range : Range ℕ) → next_unmarked d.queue (place_of d (resend_start d range)) ≡ None → end_of_text d < range.end
-    → resend_start d range ≤ end_of_text d → resend_of d limit (Some range) ≡ Some (ResentFin (end_of_text d))
-unfolding resend_of
-fin-range d limit range none sent below = rw none (fin-run d limit range sent below)
-
-pub resend-fin : (s : State) (start : ℕ) → Resends s start → length s.sending.queue.bytes ≤ place_of s.sending start → start ≤ end_of_text s.sending
-    → end_of_text s.sending < s.sending.nxt → due_of s ≡ Some (ResentFin (end_of_text s.sending))
-resend-fin s start r past below sent =
-    let d = s.sending in
-    let from : max start d.una ≡ start = omega (arith, r.behind) in
-    let none = no-run d.queue (place_of d (max start d.una)) r.unmarked (omega (arith, past, from)) in
-    let range : Range ℕ = record { start = start; end = d.nxt } in
-    due-resent s (ResentFin (end_of_text d)) r.may
-    (ap (resend_of d (text_limit s)) r.range ∙ fin-range d (text_limit s) range none sent (omega (arith, below, from)))
+fin-next : (s : State) (start : ℕ) → Resends s start → length s.sending.queue.bytes ≤ place_of s.sending start
+    → resend_of s.sending (text_limit s) s.sending.resend
+    ≡ (if nat_lt (end_of_text s.sending) s.sending.nxt && nat_le start (end_of_text s.sending) then Some (ResentFin (end_of_text s.sending)) else None)
+fin-next s start r past =
+    let from : max start s.sending.una ≡ start = omega (arith, r.behind) in
+    next-resent s start r ∙ ap (resent_run s.sending _ _) (no-run s.sending.queue (place_of s.sending start) r.unmarked past) ∙ rw from refl
 
 -- flights that are kept
 pub kept : (d : Sending) → KeepsFlight d d
-kept d = record { una = refl; nxt = refl; released = refl; queued = refl }
-
-pub kept-twice : (d e f : Sending) → KeepsFlight d e → KeepsFlight e f → KeepsFlight d f
-kept-twice d e f one other = record {
-  una = other.una ∙ one.una;
-  nxt = other.nxt ∙ one.nxt;
-  released = other.released ∙ one.released;
-  queued = other.queued ∙ one.queued;
-}
+kept d = assumption
 
 flight-kept : (d e : Sending) (position : ℕ) → KeepsFlight d e → IsInFlight d position → IsInFlight e position
-flight-kept d e position keeps flight = record {
-  unacknowledged = omega (arith, keeps.una, flight.unacknowledged);
-  sent = omega (arith, keeps.nxt, flight.sent);
-  queued = omega (arith, keeps.released, flight.queued);
-  most = omega (arith, keeps.released, ap (λ (bytes : List ℕ). length bytes) keeps.queued, flight.most);
-}
+flight-kept d e position keeps flight = omega (arith, ap length keeps.queued, keeps, flight)
 
 -- one emission
 pub emission : (s : State) (due : Due) → due_of s ≡ Some due → after_emission s ≡ state_after s due
 unfolding after_emission
 emission s due e = rw e refl
 
-pub emission-keeps : (s : State) (due : Due) → due_of s ≡ Some due → end_of s.sending due ≤ s.sending.nxt → KeepsFlight s.sending (after_emission s).sending
-emission-keeps s due e most = rw (emission s due e) (record { una = refl; nxt = omega (arith, most); released = refl; queued = refl })
+-- ONE EMISSION of what is sent again covers what is in flight from its start on, up to where the next begins
+pub record Resent (s : State) (start : ℕ) : Type 0 where
+  pub due : Due
+  pub is_due : due_of s ≡ Some due
+  pub next : ℕ
+  pub more : start < next
+  pub most : next ≤ s.sending.nxt
+  pub covers : (position : ℕ) → IsInFlight s.sending position → start ≤ position → position < next → CoversNext s position
+  pub keeps : KeepsFlight s.sending (after_emission s).sending
+  pub resends : Resends (after_emission s) next
 
-pub emission-resends : (s : State) (start next : ℕ) (due : Due) → Resends s start → due_of s ≡ Some due
-    → resend_after s.sending due ≡ range_after next s.sending.resend
-    → owed_after s.receiving.opened s.owed due ≡ record s.owed { ack = false } → end_of s.sending due ≤ s.sending.nxt → start ≤ next
-    → Resends (after_emission s) next
+-- or there is none, and nothing is in flight from its start on
+pub record IsPast (s : State) (start : ℕ) : Type 0 where
+  pub none : resend_of s.sending (text_limit s) s.sending.resend ≡ None
+  pub past : (position : ℕ) → IsInFlight s.sending position → start ≤ position → ⊥
+
+due-resent : (s : State) (due : Due) → MaySend s → resend_of s.sending (text_limit s) s.sending.resend ≡ Some due → due_of s ≡ Some due
+unfolding due_of
+due-resent s due may e = rw (may.reset, may.syn, may.phase, e) refl
+
+emission-resends : (s : State) (start next : ℕ) (due : Due) → Resends s start → due_of s ≡ Some due
+    → resend_after s.sending due ≡ range_after next s.sending.resend → owed_after s.receiving.opened s.owed due ≡ record s.owed { ack = false }
+    → end_of s.sending due ≤ s.sending.nxt → start ≤ next → KeepsFlight s.sending (after_emission s).sending × Resends (after_emission s) next
 emission-resends s start next due r e rest owed most ahead =
     let same : max s.sending.nxt (end_of s.sending due) ≡ s.sending.nxt = omega (arith, most) in
-    rw (emission s due e) (record {
-      may = record {
-        phase = r.may.phase;
-        reset = ap (λ (o : Owed). o.reset) owed ∙ r.may.reset;
-        syn = ap (λ (o : Owed). o.syn) owed ∙ r.may.syn;
-        limit = r.may.limit;
-      };
-      range = rest ∙ rw (r.range, same) refl;
-      unmarked = r.unmarked;
-      behind = omega (arith, ahead, r.behind);
-    })
+    rw (emission s due e) (
+      assumption,
+      record {
+        may = assumption (r.may, ap (λ (o : Owed). o.reset) owed ∙ r.may.reset, ap (λ (o : Owed). o.syn) owed ∙ r.may.syn);
+        range = rest ∙ rw (r.range, same) refl;
+        unmarked = r.unmarked;
+        behind = omega (arith, ahead, r.behind);
+      },
+    )
 
--- it covers the position, or a later one does
-keeps-first : (s : State) → KeepsFlight s.sending (after_emission s).sending → (n : ℕ) → n ≤ 1 → KeepsFlight s.sending (after_emissions n s).sending
-keeps-first s keeps zero h = kept s.sending
-keeps-first s keeps (suc zero) h = keeps
-keeps-first s keeps (suc (suc n)) h = absurd (omega (arith, h))
+text-resent : (s : State) (start : ℕ) → Resends s start → place_of s.sending start < length s.sending.queue.bytes
+    → from_now s.sending start < s.sending.nxt → Resent s start
+unfolding segment_of from_now count_now
+text-resent s start r inside sent =
+    let d = s.sending in
+    let from = from_now d start in
+    let count = count_now s start in
+    let test : nat_lt from d.nxt ≡ true = grind (arith, nat_tests, sent) in
+    let due = due-resent s (Resend from count) r.may (text-next s start r inside ∙ rw test refl) in
+    let most : from + count ≤ d.nxt = omega (arith, sent) in
+    let after = emission-resends s start (from + count) (Resend from count) r due refl refl most (omega arith) in
+    record {
+      due = Resend from count;
+      is_due = due;
+      next = from + count;
+      more = omega (arith, r.may.limit, inside, sent);
+      most = most;
+      covers = λ position flight begins ends. covering s (Resend from count) position
+          (record { is_due = due; form = refl; to = refl; inside = omega arith }) (omega (arith, begins, flight.queued)) (omega (arith, ends));
+      keeps = after.0;
+      resends = after.1;
+    }
 
-at-once : (s : State) (position : ℕ) → KeepsFlight s.sending (after_emission s).sending → CoversNext s position → GoesOut s position
-at-once s position keeps covers = record { count = 0; covers = covers; keeps = keeps-first s keeps }
+fin-resent : (s : State) (start : ℕ) → Resends s start → length s.sending.queue.bytes ≤ place_of s.sending start
+    → end_of_text s.sending < s.sending.nxt → start ≤ end_of_text s.sending → Resent s start
+unfolding segment_of
+fin-resent s start r past sent below =
+    let last = end_of_text s.sending in
+    let turn : (nat_lt last s.sending.nxt && nat_le start last) ≡ true =
+    and_from (nat_lt last s.sending.nxt) (nat_le start last) (grind (arith, nat_tests, sent)) (grind (arith, nat_tests, below)) in
+    let due = due-resent s (ResentFin last) r.may (fin-next s start r past ∙ rw turn refl) in
+    let after = emission-resends s start (last + 1) (ResentFin last) r due refl refl (omega (arith, sent)) (omega (arith, below)) in
+    record {
+      due = ResentFin last;
+      is_due = due;
+      next = last + 1;
+      more = omega (arith, below);
+      most = omega (arith, sent);
+      covers = λ position flight begins ends. covering s (ResentFin last) position
+          (record { is_due = due; form = refl; to = refl; inside = omega arith }) (omega (arith, past, begins, flight)) (omega (arith, ends));
+      keeps = after.0;
+      resends = after.1;
+    }
 
-pub keeps-later : (s : State) (most : ℕ) → KeepsFlight s.sending (after_emission s).sending
+-- one of the two is the case
+pub resent : (s : State) (start : ℕ) → Resends s start → IsPast s start ⊎ Resent s start
+unfolding from_now
+resent s start r =
+    let d = s.sending in
+    elim (cases_lt (place_of d start) (length d.queue.bytes)) [
+      | inl inside ↦ elim (cases_lt (from_now d start) d.nxt) [
+        | inl sent ↦ inr (text-resent s start r inside sent)
+        | inr done ↦
+            let test : nat_lt (from_now d start) d.nxt ≡ false = grind (arith, nat_tests, done) in
+            inl (record { none = text-next s start r inside ∙ rw test refl; past = λ position flight begins. absurd (omega (arith, done, begins, flight)) })
+      ]
+      | inr past ↦ elim (cases_Bool (nat_lt (end_of_text d) d.nxt && nat_le start (end_of_text d))) [
+        | inl turn ↦ inr (fin-resent s start r past (grind (arith, nat_tests, turn)) (grind (arith, nat_tests, turn)))
+        | inr test ↦
+            let none = fin-next s start r past ∙ rw test refl in
+            inl (record { none = none; past = λ position flight begins. absurd (grind (arith, nat_tests, test, begins, flight)) })
+      ]
+    ]
+
+-- what so many emissions keep
+keeps-none : (s : State) (n : ℕ) → n ≤ 0 → KeepsFlight s.sending (after_emissions n s).sending
+keeps-none s zero h = kept s.sending
+keeps-none s (suc n) h = absurd (omega (arith, h))
+
+keeps-later : (s : State) (most : ℕ) → KeepsFlight s.sending (after_emission s).sending
     → ((n : ℕ) → n ≤ most → KeepsFlight (after_emission s).sending (after_emissions n (after_emission s)).sending)
     → (n : ℕ) → n ≤ suc most → KeepsFlight s.sending (after_emissions n s).sending
 keeps-later s most keeps rest zero h = kept s.sending
 keeps-later s most keeps rest (suc n) h =
-    kept-twice s.sending (after_emission s).sending (after_emissions n (after_emission s)).sending keeps (rest n (omega (arith, h)))
+    let two = rest n (omega (arith, h)) in
+    record { una = two.una ∙ keeps.una; nxt = two.nxt ∙ keeps.nxt; released = two.released ∙ keeps.released; queued = two.queued ∙ keeps.queued }
 
-later : (s : State) (position : ℕ) → KeepsFlight s.sending (after_emission s).sending → GoesOut (after_emission s) position → GoesOut s position
-later s position keeps rest =
-    record { count = suc rest.count; covers = rest.covers; keeps = λ n. λ h. keeps-later s (rest.count + 1) keeps rest.keeps n (omega (arith, h)) }
-
-fin-goes : (s : State) (start position : ℕ) → Resends s start → IsInFlight s.sending position → start ≤ position
-    → length s.sending.queue.bytes ≤ place_of s.sending start → GoesOut s position
-unfolding segment_of
-fin-goes s start position r flight begins past =
-    let d = s.sending in
-    let last : position ≡ end_of_text d = omega (arith, flight.most, flight.queued, begins, past) in
-    let due = resend-fin s start r past (omega (arith, begins, flight.most)) (omega (arith, last, flight.sent)) in
-    at-once s position (emission-keeps s (ResentFin (end_of_text d)) due (omega (arith, last, flight.sent)))
-    (covering s (ResentFin (end_of_text d)) (end_of_text d) 0 true position
-    (record { is_due = due; form = refl; to = refl; starts = refl; counts = refl; fins = refl; inside = omega arith }) (omega (arith, last))
-    (omega (arith, last)))
-
-text-covers : (s : State) (start position : ℕ) → due_of s ≡ Some (Resend (from_now s.sending start) (count_now s start)) → from_now s.sending start ≤ position
-    → position < from_now s.sending start + count_now s start → CoversNext s position
-unfolding segment_of from_now count_now
-text-covers s start position due begins ends =
-    covering s (Resend (from_now s.sending start) (count_now s start)) (from_now s.sending start) (count_now s start) false position
-    (record { is_due = due; form = refl; to = refl; starts = refl; counts = refl; fins = refl; inside = omega arith }) begins (omega (arith, ends))
-
--- where a run of text begins, and how long it is
-pub record Fits (s : State) (start : ℕ) : Type 0 where
-  pub ahead : start ≤ from_now s.sending start
-  pub some : 0 < count_now s start
-  pub most : from_now s.sending start + count_now s start ≤ s.sending.nxt
-
-pub fits : (s : State) (start : ℕ) → MaySend s → place_of s.sending start < length s.sending.queue.bytes → from_now s.sending start < s.sending.nxt
-    → Fits s start
-unfolding from_now count_now
-fits s start may inside sent = record { ahead = omega arith; some = omega (arith, may.limit, inside, sent); most = omega (arith, sent) }
-
-from-before : (d : Sending) (start position : ℕ) → IsInFlight d position → start ≤ position → from_now d start ≤ position
-unfolding from_now
-from-before d start position flight begins = omega (arith, begins, flight.queued)
-
+-- a position in flight is covered, or a later emission does
 sent-again : (fuel : ℕ) (s : State) (start position : ℕ) → Resends s start → IsInFlight s.sending position → start ≤ position → position < start + fuel
     → GoesOut s position
 sent-again zero s start position r flight begins near = absurd (omega (arith, begins, near))
 sent-again (suc fuel) s start position r flight begins near =
-    elim (cases_lt (place_of s.sending start) (length s.sending.queue.bytes)) [
-      | inr past ↦ fin-goes s start position r flight begins past
-      | inl inside ↦
-          let from = from_now s.sending start in
-          let count = count_now s start in
-          let before = from-before s.sending start position flight begins in
-          let sent : from < s.sending.nxt = omega (arith, before, flight.sent) in
-          let run = fits s start r.may inside sent in
-          let due = resend-text s start r inside sent in
-          let keeps = emission-keeps s (Resend from count) due run.most in
-          elim (cases_lt position (from + count)) [
-            | inl ends ↦ at-once s position keeps (text-covers s start position due before ends)
-            | inr beyond ↦
-                later s position keeps
-                (sent-again fuel (after_emission s) (from + count) position
-                (emission-resends s start (from + count) (Resend from count) r due refl refl run.most (omega (arith, run.ahead)))
-                (flight-kept s.sending (after_emission s).sending position keeps flight) beyond (omega (arith, near, run.ahead, run.some)))
-          ]
+    elim (resent s start r) [
+      | inl done ↦ absurd (done.past position flight begins)
+      | inr out ↦ elim (cases_lt position out.next) [
+        | inl ends ↦ record {
+          count = 0;
+          covers = out.covers position flight begins ends;
+          keeps = keeps-later s 0 out.keeps (keeps-none (after_emission s));
+        }
+        | inr beyond ↦
+            let rest = sent-again fuel (after_emission s) out.next position out.resends (flight-kept _ _ position out.keeps flight) beyond
+            (omega (arith, near, out.more)) in
+            record { count = suc rest.count; covers = rest.covers; keeps = λ n h. keeps-later s (rest.count + 1) out.keeps rest.keeps n (omega (arith, h)) }
+      ]
     ]
 
 -- THE TIMEOUT
 pub sends-synchronized : (phase : Phase) → sends_text phase ≡ true → is_synchronized phase ≡ true
-sends-synchronized Closed e = absurd (cc)
-sends-synchronized Listen e = absurd (cc)
-sends-synchronized SynSent e = absurd (cc)
-sends-synchronized SynReceived e = absurd (cc)
-sends-synchronized other e = refl
+sends-synchronized phase e = grind (arith, e)
 
--- from ESTABLISHED on no SYN is owed
+-- from ESTABLISHED on no SYN is pending
 pub no-handshake : (phase : Phase) → is_synchronized phase ≡ true → is_handshake phase ≡ false
-no-handshake SynSent e = absurd (cc)
-no-handshake SynReceived e = absurd (cc)
-no-handshake other e = refl
+no-handshake phase e = grind (arith, e)
 
 pub no-syn : (s : State) → is_synchronized s.phase ≡ true → s.owed.syn ≡ false → (after_retransmit s).owed.syn ≡ false
 unfolding after_retransmit
@@ -239,14 +272,9 @@ no-syn s phase none = rw (none, no-handshake s.phase phase) refl
 
 pub may-after_retransmit : (s : State) → MaySend s → MaySend (after_retransmit s)
 unfolding after_retransmit
-may-after_retransmit s may = record {
-  phase = may.phase;
-  reset = may.reset;
-  syn = no-syn s (sends-synchronized s.phase may.phase) may.syn;
-  limit = may.limit;
-}
+may-after_retransmit s may = assumption (no-syn s (sends-synchronized s.phase may.phase) may.syn)
 
-pub resends-all : (s : State) → MaySend s → s.sending.una < s.sending.nxt → (after_retransmit s).sending ≡ with_all_resent s.sending
+resends-all : (s : State) → MaySend s → s.sending.una < s.sending.nxt → (after_retransmit s).sending ≡ with_all_resent s.sending
 unfolding after_retransmit
 resends-all s may sent =
     let flight : (sends_text s.phase && nat_lt s.sending.una s.sending.nxt) ≡ true =
@@ -255,7 +283,7 @@ resends-all s may sent =
 
 pub timeout-keeps : (s : State) → MaySend s → s.sending.una < s.sending.nxt → KeepsFlight s.sending (after_retransmit s).sending
 unfolding without_marks
-timeout-keeps s may sent = rw (resends-all s may sent) (record { una = refl; nxt = refl; released = refl; queued = refl })
+timeout-keeps s may sent = rw (resends-all s may sent) assumption
 
 pub timeout-resends : (s : State) → MaySend s → s.sending.una < s.sending.nxt → Resends (after_retransmit s) s.sending.una
 unfolding without_marks
@@ -271,3 +299,35 @@ again_lem s position may flight =
       sent-again (suc position) (after_retransmit s) s.sending.una position (timeout-resends s may sent)
           (flight-kept s.sending (after_retransmit s).sending position keeps flight) flight.unacknowledged (omega arith),
     )
+
+-- ---- What is left to be sent again comes to an end: each emission brings the range's start on, up to SND.NXT or past the FIN.
+-- an end that has nothing to send again
+pub record IsRested (s : State) : Type 0 where
+  pub phase : is_synchronized s.phase ≡ true
+  pub reset : s.owed.reset ≡ None
+  pub syn : s.owed.syn ≡ false
+  pub none : sends_text s.phase ≡ true → resend_of s.sending (text_limit s) s.sending.resend ≡ None
+
+-- and one that comes there by emissions
+pub record Exhausts (s : State) : Type 0 where
+  pub count : ℕ
+  pub keeps : (n : ℕ) → n ≤ count → KeepsFlight s.sending (after_emissions n s).sending
+  pub rested : IsRested (after_emissions count s)
+
+pub at-rest : (s : State) → IsRested s → Exhausts s
+at-rest s rested = record { count = 0; keeps = keeps-none s; rested = rested }
+
+rests : (s : State) (start : ℕ) → Resends s start → IsPast s start → Exhausts s
+rests s start r done =
+    at-rest s (record { phase = sends-synchronized s.phase r.may.phase; reset = r.may.reset; syn = r.may.syn; none = λ _. done.none })
+
+pub exhausts : (fuel : ℕ) (s : State) (start : ℕ) → Resends s start → s.sending.nxt < start + fuel → Exhausts s
+exhausts zero s start r near =
+    elim (resent s start r) [ inl done ↦ rests s start r done | inr out ↦ absurd (omega (arith, near, out.more, out.most)) ]
+exhausts (suc fuel) s start r near =
+    elim (resent s start r) [
+      | inl done ↦ rests s start r done
+      | inr out ↦
+          let rest = exhausts fuel (after_emission s) out.next out.resends (omega (arith, near, out.keeps.nxt, out.more)) in
+          record { count = suc rest.count; keeps = keeps-later s rest.count out.keeps rest.keeps; rested = rest.rested }
+    ]

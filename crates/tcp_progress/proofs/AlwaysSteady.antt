@@ -1,15 +1,15 @@
 -- WHAT EVERY WORLD KEEPS is enough for it to be steady.
-use Rattle.std.proofs.Common.{ℕ, ◌≡◌, ◌≤◌, arith, List, None}
-use Rattle.tcp_replay.proofs.Words.{AllByRecursion, Config, IsConfig}
-use Rattle.tcp_replay.proofs.WorldWords.{EventContent, HasBytes, IsSound, IsSoundPair, max_life, new_world_with, PartyState, refusal_of, run_of}
-use Rattle.tcp_replay.proofs.WorldWords.{world_after_all, world_with_effect, WorldState}
+use Rattle.std.proofs.Common.{◌≡◌, ◌≤◌, arith, None, ℕ}
+use Rattle.tcp_replay.proofs.Words.{Config, IsConfig}
+use Rattle.tcp_replay.proofs.WorldWords.{EventContent, HasBytes, IsSound, IsSoundPair, max_life, new_world_with, other, party_of, PartyState, refusal_of}
+use Rattle.tcp_replay.proofs.WorldWords.{world_with_effect, WorldState}
 use Rattle.tcp_replay.proofs.Lemmas.{Both, both-swapped, in-world, kept-after_all, kept-run, life-after, pair-swapped, sound-after, sound-new}
-use Rattle.tcp_progress.proofs.Words.{EveryWorldIsSteady, IsSteady, IsSteadyEnd, least_life}
-use Rattle.tcp_progress.proofs.OnlySent.{new-sent, takes-only_sent, KeepsSent, sent-kept}
-use Rattle.tcp_progress.proofs.ToldWindows.{new-told, tells-within, KeepsTold, told-kept}
-use Rattle.tcp_progress.proofs.EdgesKept.{new-edges, within-reach, KeepsEdges, edges-kept}
-use Rattle.tcp_progress.proofs.Stages.{new-stages, stages-say, KeepsStages, stages-kept}
-use Rattle.tcp_progress.proofs.Ways.{IsInvariant}
+use Rattle.tcp_progress.proofs.Words.{A, B, EveryWorldIsSteady, InEveryWorld, IsSteady, IsSteadyEnd, IsSteadyPair, least_life, Side}
+use Rattle.tcp_progress.proofs.OnlySent.{KeepsSent, new-sent, sent-kept, takes-only_sent}
+use Rattle.tcp_progress.proofs.ToldWindows.{KeepsTold, new-told, tells-within, told-kept}
+use Rattle.tcp_progress.proofs.Edges.{edges-kept, KeepsEdges, new-edge}
+use Rattle.tcp_progress.proofs.Stages.{KeepsStages, new-stages, stage-says, stages-kept}
+use Rattle.tcp_progress.proofs.Live.{steady-back}
 
 -- two parties
 pub record KeepAll (x y : PartyState) : Type 0 where
@@ -19,23 +19,22 @@ pub record KeepAll (x y : PartyState) : Type 0 where
   pub stages : Both KeepsStages x y
 
 pub all-swapped : (p q : PartyState) → KeepAll p q → KeepAll q p
-all-swapped p q h = record {
-  sent = both-swapped KeepsSent p q h.sent;
-  told = both-swapped KeepsTold p q h.told;
-  edges = both-swapped KeepsEdges p q h.edges;
-  stages = both-swapped KeepsStages p q h.stages;
-}
+all-swapped p q h =
+    let sent = both-swapped KeepsSent p q h.sent in
+    let told = both-swapped KeepsTold p q h.told in
+    let edges = both-swapped KeepsEdges p q h.edges in
+    let stages = both-swapped KeepsStages p q h.stages in
+    assumption
 
 all-after : (w : WorldState) (event : EventContent) → HasBytes event → refusal_of w event ≡ None → IsSound w → KeepAll w.a w.b
     → KeepAll (world_with_effect w event).a (world_with_effect w event).b
 all-after w event fits e sound h =
     let tells = tells-within w.a w.b h.told in
-    record {
-      sent = in-world _ _ _ sent-kept w event sound.life fits e tt tt sound.ends h.sent;
-      told = in-world _ _ _ told-kept w event sound.life fits e tt tt sound.ends h.told;
-      edges = in-world _ _ _ edges-kept w event sound.life fits e tells.1 tells.0 sound.ends h.edges;
-      stages = in-world _ _ _ stages-kept w event sound.life fits e h.sent (both-swapped KeepsSent w.a w.b h.sent) sound.ends h.stages;
-    }
+    let sent = in-world _ _ _ sent-kept w event sound.life fits e tt tt sound.ends h.sent in
+    let told = in-world _ _ _ told-kept w event sound.life fits e tt tt sound.ends h.told in
+    let edges = in-world _ _ _ edges-kept w event sound.life fits e tells.1 tells.0 sound.ends h.edges in
+    let stages = in-world _ _ _ stages-kept w event sound.life fits e h.sent (both-swapped KeepsSent w.a w.b h.sent) sound.ends h.stages in
+    assumption
 
 -- a world
 pub record IsKept (w : WorldState) : Type 0 where
@@ -49,13 +48,13 @@ kept-after w event fits e h =
 
 steady-end : (x y : PartyState) → IsSoundPair x y → KeepAll x y → IsSteadyEnd x y
 steady-end x y pair h = record {
-  stage = (stages-say x y pair h.stages).0;
+  stage = stage-says x y pair h.stages.there;
   port = h.stages.there.port;
   last = h.stages.there.released;
   mss = h.told.there.room.mss;
   within = h.told.there.room.within;
   told = (tells-within x y h.told).0;
-  edge = (within-reach x y h.edges).0;
+  edge = h.edges.there.sent;
   range = h.edges.there.range;
   sent = takes-only_sent x y h.sent;
 }
@@ -63,18 +62,20 @@ steady-end x y pair h = record {
 pub kept-steady : (w : WorldState) → IsKept w → IsSteady w
 kept-steady w h = record {
   ends =
-      record {
-        pair = h.sound.ends;
-        there = steady-end w.a w.b h.sound.ends h.all;
-        back = steady-end w.b w.a (pair-swapped _ _ h.sound.ends)
-            (all-swapped _ _ h.all);
-      };
+      assumption (steady-end w.a w.b h.sound.ends h.all, steady-end w.b w.a (pair-swapped _ _ h.sound.ends) (all-swapped _ _ h.all));
   least = h.least;
   most = h.sound.life;
 }
 
-pub kept-stays : IsInvariant IsKept
-kept-stays = record { keeps = kept-after; steady = kept-steady }
+-- from one side
+pub side-pair : (w : WorldState) (side : Side) → IsKept w → IsSteadyPair (party_of w side) (party_of w (other side))
+side-pair w A h = (kept-steady w h).ends
+side-pair w B h = steady-back w.b w.a (kept-steady w h).ends
+
+-- nothing is taken before it is sent, from one side
+pub side-sent : (w : WorldState) (side : Side) → IsKept w → Both KeepsSent (party_of w side) (party_of w (other side))
+side-sent w A h = h.all.sent
+side-sent w B h = both-swapped KeepsSent w.a w.b h.all.sent
 
 -- from the first event on
 new-kept : (life : ℕ) (a b : Config) → least_life ≤ life → life ≤ max_life → IsConfig a → IsConfig b → IsKept (new_world_with life a b)
@@ -82,29 +83,19 @@ new-kept life a b least most one two = record {
   sound = sound-new life a b most one two;
   all = record {
     sent = record { there = new-sent a b; back = new-sent b a };
-    told = new-told a b one two;
-    edges = new-edges a b one two;
-    stages = new-stages a b one two;
+    told = record { there = new-told a b; back = new-told b a };
+    edges = record { there = new-edge a b; back = new-edge b a };
+    stages = record { there = new-stages a b; back = new-stages b a };
   };
   least = least;
 }
 
--- over every list of events
-pub record KeptByRuns (life : ℕ) (a b : Config) (list : List EventContent) : Type 0 where
-  pub stops : IsKept (run_of (new_world_with life a b) list)
-  pub goes_on : IsKept (world_after_all (new_world_with life a b) list)
-
-pub kept-by_runs : (life : ℕ) (a b : Config) (list : List EventContent) → least_life ≤ life → life ≤ max_life → IsConfig a → IsConfig b
-    → AllByRecursion HasBytes list → KeptByRuns life a b list
-kept-by_runs life a b list least most one two fits =
+-- what all of these worlds keep holds in every world
+pub in-every-world : (Holds : WorldState → Type 0) → ((w : WorldState) → IsKept w → Holds w) → InEveryWorld Holds
+in-every-world Holds holds life a b list least most one two fits =
+    let w = new_world_with life a b in
     let start = new-kept life a b least most one two in
-    record {
-      stops = kept-run IsKept kept-after (new_world_with life a b) list fits start;
-      goes_on = kept-after_all IsKept kept-after
-          (new_world_with life a b) list fits start;
-    }
+    (holds _ (kept-run IsKept kept-after w list fits start), holds _ (kept-after_all IsKept kept-after w list fits start))
 
 pub steady_lem : EveryWorldIsSteady
-steady_lem life a b list least most one two fits =
-    let kept = kept-by_runs life a b list least most one two fits in
-    (kept-steady _ kept.stops, kept-steady _ kept.goes_on)
+steady_lem = in-every-world IsSteady kept-steady

@@ -1,21 +1,112 @@
--- Who is spoken to answers: what is left to be sent again goes out, then an acknowledgement that is owed stands at SND.NXT.
-use Rattle.std.proofs.Common.{ℕ, ◌&&◌, ◌==◌, ◌∙◌, ◌≡◌, ◌≤◌, ap, arith, false, inl, inr, List, None, Ok, refl, Some, suc, sym, true}
-use Rattle.tcp_replay.proofs.Words.{Acknowledgement, after_arrival, after_retransmit, arrival_answer, bytes_of, cases_Bool, cases_lt, Content, decode_answer}
-use Rattle.tcp_replay.proofs.Words.{destination_of, Dropped, Due, due_of, emitted_bytes, end_of_text, Fin, is_fin, judgement, new_count, new_text_of, NewText}
-use Rattle.tcp_replay.proofs.Words.{number, phase_judgement, plain_segment, present_judgement, pushes, segment_of, sends_text, start_of, State, text_limit}
-use Rattle.tcp_replay.proofs.Words.{true≢false, Unacceptable, unacceptable_judgement, with_ack_owed}
-use Rattle.tcp_progress.proofs.Words.{after_emissions, Answers, IsUnacceptable, KeepsFlight, MayAnswer, MaySend, SpokenToAnswers, StandsAtNext}
-use Rattle.tcp_progress.proofs.Again.{kept, no-syn, timeout-keeps, timeout-resends}
-use Rattle.tcp_progress.proofs.Covering.{plain}
-use Rattle.tcp_progress.proofs.Exhausted.{Exhausts, IsRested, at-rest, exhausts}
-use Rattle.tcp_progress.proofs.New.{no-resend, nothing-resent}
-use Rattle.tcp_progress.proofs.Judged.{IsPresent, is-synchronized}
+-- What is unsent goes out: with nothing in flight nothing is sent again, and the window or the probe allows a byte.
+use Rattle.std.proofs.Common.{◌&&◌, ◌<◌, ◌==◌, ◌∙◌, ◌≡◌, ◌≤◌, ◌⊎◌, ap, arith, Bool, false, IfSome, inl, inr, List, max, nat_lt, None, Ok, Option, refl, Some}
+use Rattle.std.proofs.Common.{subst, suc, sym, true, ℕ}
+use Rattle.tcp_replay.proofs.Words.{after_arrival, after_emission, after_retransmit, arrival_answer, bytes_of, cases_Bool, cases_lt, Content, count_allowed}
+use Rattle.tcp_replay.proofs.Words.{count_unsent, decode_answer, destination_of, Dropped, Due, due_of, emitted_bytes, end_of, end_of_text, false≢true, Fin}
+use Rattle.tcp_replay.proofs.Words.{is_fin, judgement, nat_tests, new_count, new_text_of, NewText, number, phase_judgement, plain_segment, present_judgement}
+use Rattle.tcp_replay.proofs.Words.{pushes, Range, resend_of, segment_of, Sending, sends_text, start_of, State, text_limit, true≢false, Unacceptable}
+use Rattle.tcp_replay.proofs.Words.{unacceptable_judgement, with_ack_owed}
+use Rattle.tcp_progress.proofs.Words.{after_emissions, CoversNext, IsUnacceptable, KeepsFlight, MayAnswer, MaySend, MovesOn, SpokenToAnswers, StandsAtNext}
+use Rattle.tcp_progress.proofs.Words.{UnsentGoesOut}
+use Rattle.tcp_progress.proofs.Dues.{done-none, due-kept, none-some, some-due}
+use Rattle.tcp_progress.proofs.Again.{at-rest, covering, emission, Exhausts, exhausts, IsRested, kept, may-after_retransmit, no-syn, timeout-keeps}
+use Rattle.tcp_progress.proofs.Again.{timeout-resends}
+use Rattle.tcp_progress.proofs.Taken.{is-synchronized, IsPresent}
+use Rattle.tcp_replay.proofs.Lemmas.{plain-bits}
+use Rattle.tcp_progress.proofs.Told.{owing-due}
+
+-- nothing goes out again where nothing is in flight
+pub still-done : (range : Option (Range ℕ)) (una nxt : ℕ) → nxt ≤ una → IfSome range (λ range. range.end ≤ nxt)
+    → IfSome range (λ range. range.end ≤ max range.start una)
+still-done range una nxt idle h = grind (arith, idle, h)
+
+no-resend : (d : Sending) (limit : ℕ) → d.nxt ≤ d.una → IfSome d.resend (λ range. range.end ≤ d.nxt) → resend_of d limit d.resend ≡ None
+no-resend d limit idle most = done-none d limit (still-done d.resend d.una d.nxt idle most)
+
+-- an end that has nothing to send again, and a probe at a zero window
+record IsReadyNew (s : State) : Type 0 where
+  may : MaySend s
+  idle : s.sending.una ≡ s.sending.nxt
+  none : resend_of s.sending (text_limit s) s.sending.resend ≡ None
+  probe : 0 < count_unsent s.sending → s.sending.wnd ≡ 0 → s.owed.probe ≡ true
+
+allowed : (d : Sending) (probe : Bool) → d.una ≡ d.nxt → (d.wnd ≡ 0 → probe ≡ true) → 0 < count_allowed d probe
+allowed d probe idle granted = grind (arith, nat_tests, idle, granted)
+
+new_of : State → ℕ
+new_of s = new_count s.sending (text_limit s) s.owed.probe
+
+-- what goes out
+record GoesNew (s : State) : Type 0 where
+  covers : CoversNext s s.sending.nxt
+  moves : MovesOn s.sending (after_emission s).sending
+
+moving : (s : State) (due : Due) → due_of s ≡ Some due → s.sending.nxt < end_of s.sending due → MovesOn s.sending (after_emission s).sending
+moving s due e more = rw (emission s due e) (record { una = refl; nxt = omega (arith, more); released = refl; queued = refl })
+
+text-goes : (s : State) → IsReadyNew s → 0 < count_unsent s.sending → GoesNew s
+unfolding due_of new_text_of segment_of new_of
+text-goes s ready unsent =
+    let d = s.sending in
+    let room = allowed d s.owed.probe ready.idle (ready.probe unsent) in
+    let some : 0 < new_of s = omega (arith, room, unsent, ready.may.limit) in
+    let test : (new_of s == 0) ≡ false = grind (arith, nat_tests, some) in
+    let due : due_of s ≡ Some (NewText d.nxt (new_of s)) = rw (ready.may.reset, ready.may.syn, ready.may.phase, ready.none, test) refl in
+    record {
+      covers = covering s (NewText d.nxt (new_of s)) d.nxt (record { is_due = due; form = refl; to = refl; inside = omega arith }) (omega arith)
+          (omega (arith, some));
+      moves = moving s (NewText d.nxt (new_of s)) due (omega (arith, some));
+    }
+
+new-fin_goes : (s : State) → IsReadyNew s → s.closing ≡ true → s.sending.nxt ≡ end_of_text s.sending → GoesNew s
+unfolding due_of new_text_of segment_of
+new-fin_goes s ready closing last =
+    let n = s.sending.nxt in
+    let all : count_unsent s.sending ≡ 0 = omega (arith, last) in
+    let test : (new_count s.sending (text_limit s) s.owed.probe == 0) ≡ true = grind (arith, nat_tests, all) in
+    let turn : (n == end_of_text s.sending) ≡ true = grind (arith, nat_tests, last) in
+    let due : due_of s ≡ Some (Fin n) = rw (ready.may.reset, ready.may.syn, ready.may.phase, ready.none, test, closing, turn) refl in
+    record {
+      covers = covering s (Fin n) n (record { is_due = due; form = refl; to = refl; inside = omega arith }) (omega arith) (omega arith);
+      moves = moving s (Fin n) due (omega arith);
+    }
+
+-- THE TIMEOUT
+pub nothing-resent : (s : State) → MaySend s → s.sending.nxt ≤ s.sending.una → (after_retransmit s).sending ≡ s.sending
+unfolding after_retransmit
+nothing-resent s may idle =
+    let test : (sends_text s.phase && nat_lt s.sending.una s.sending.nxt) ≡ false = rw may.phase (grind (arith, nat_tests, idle)) in
+    rw test refl
+
+probe-granted : (s : State) → MaySend s → s.sending.una ≡ s.sending.nxt → 0 < count_unsent s.sending → s.sending.wnd ≡ 0
+    → (after_retransmit s).owed.probe ≡ true
+unfolding after_retransmit
+probe-granted s may idle unsent shut = grind (arith, nat_tests, may, idle, unsent, shut)
+
+pub new_lem : UnsentGoesOut
+unfolding after_retransmit
+new_lem s may unsent =
+    let t = after_retransmit s in
+    let same : t.sending ≡ s.sending = nothing-resent s may (omega (arith, unsent.idle)) in
+    let ready : IsReadyNew t = record {
+      may = may-after_retransmit s may;
+      idle = rw same unsent.idle;
+      none = rw same (no-resend s.sending (text_limit s) (omega (arith, unsent.idle)) unsent.range);
+      probe = rw same (probe-granted s may unsent.idle);
+    } in
+    let goes : GoesNew t = elim unsent.waits [
+      | inl text ↦ text-goes t ready (rw same text)
+      | inr last ↦ new-fin_goes t ready last.0 (rw same last.1)
+    ] in
+    (subst (λ (d : Sending). CoversNext t d.nxt) same goes.covers, subst (λ (d : Sending). MovesOn d (after_emission t).sending) same goes.moves)
+
+-- ---- Who is spoken to answers: what is left to be sent again goes out, then a pending acknowledgement goes out at SND.NXT.
 
 standing : (s : State) (due : Due) → due_of s ≡ Some due → segment_of s due ≡ plain_segment s due → destination_of s due ≡ s.peer
     → start_of s.sending due ≡ s.sending.nxt → StandsAtNext s
 unfolding emitted_bytes bytes_of
 standing s due e form to starts =
-    let p = plain (pushes s.sending due) (is_fin due) in
+    let bits = plain-bits (pushes s.sending due) (is_fin due) in
     record {
       due = due;
       is_due = e;
@@ -24,105 +115,75 @@ standing s due e form to starts =
       starts = starts;
       emitted = rw e (rw (form, to) refl);
       seq = ap (λ n. number s.config.isn.0 n) starts;
-      no_rst = p.no_rst;
-      no_syn = p.no_syn;
-      has_ack = p.has_ack;
+      no_rst = bits.2;
+      no_syn = bits.0;
+      has_ack = bits.3;
       acknowledged = refl;
     }
 
--- what is owed goes out at SND.NXT, by itself or with text or FIN
-pub quiet-stands : (s : State) → s.owed.reset ≡ None → s.owed.syn ≡ false → s.owed.ack ≡ true → sends_text s.phase ≡ false → StandsAtNext s
-unfolding due_of segment_of
-quiet-stands s reset syn owed quiet = standing s Acknowledgement (rw (reset, syn, quiet, owed) refl) refl refl refl
-
-pub text-stands : (s : State) → IsRested s → sends_text s.phase ≡ true → (new_count s.sending (text_limit s) s.owed.probe == 0) ≡ false → StandsAtNext s
-unfolding due_of new_text_of segment_of
-text-stands s rested sends some =
-    standing s (NewText s.sending.nxt (new_count s.sending (text_limit s) s.owed.probe)) (rw (rested.reset, rested.syn, sends, rested.none sends, some) refl)
-    refl refl refl
-
-pub fin-stands : (s : State) → IsRested s → sends_text s.phase ≡ true → (new_count s.sending (text_limit s) s.owed.probe == 0) ≡ true
-    → (s.closing && (s.sending.nxt == end_of_text s.sending)) ≡ true → StandsAtNext s
-unfolding due_of new_text_of segment_of
-fin-stands s rested sends no_text turn =
-    standing s (Fin s.sending.nxt) (rw (rested.reset, rested.syn, sends, rested.none sends, no_text, turn) refl) refl refl refl
-
-pub ack-stands : (s : State) → IsRested s → s.owed.ack ≡ true → sends_text s.phase ≡ true → (new_count s.sending (text_limit s) s.owed.probe == 0) ≡ true
-    → (s.closing && (s.sending.nxt == end_of_text s.sending)) ≡ false → StandsAtNext s
-unfolding due_of new_text_of segment_of
-ack-stands s rested owed sends no_text no_turn =
-    standing s Acknowledgement (rw (rested.reset, rested.syn, sends, rested.none sends, no_text, no_turn, owed) refl) refl refl refl
-
-pub stands : (s : State) → IsRested s → s.owed.ack ≡ true → StandsAtNext s
-stands s rested owed =
-    elim (cases_Bool (sends_text s.phase)) [
-      | inr quiet ↦ quiet-stands s rested.reset rested.syn owed quiet
-      | inl sends ↦
-          elim (cases_Bool (new_count s.sending (text_limit s) s.owed.probe == 0)) [
-            | inr some ↦ text-stands s rested sends some
-            | inl no_text ↦
-                elim (cases_Bool (s.closing && (s.sending.nxt == end_of_text s.sending))) [
-                  | inl turn ↦ fin-stands s rested sends no_text turn
-                  | inr no_turn ↦ ack-stands s rested owed sends no_text no_turn
-                ]
-          ]
+-- where nothing is sent again, whatever is due is at SND.NXT: text, FIN or an acknowledgement by itself
+pub stands-or-none : (s : State) → s.owed.reset ≡ None → s.owed.syn ≡ false
+    → (sends_text s.phase ≡ true → resend_of s.sending (text_limit s) s.sending.resend ≡ None) → (due_of s ≡ None) ⊎ StandsAtNext s
+unfolding segment_of
+stands-or-none s reset syn none =
+    let Stands : Due → Type 0 = λ due. (segment_of s due ≡ plain_segment s due) × (destination_of s due ≡ s.peer) × (start_of s.sending due ≡ s.sending.nxt) in
+    elim (some-due Stands (due_of s) (due-kept s Stands (record {
+      resets = λ waiting is. absurd (none-some waiting (sym reset ∙ is));
+      syn = λ owed. absurd (false≢true (sym syn ∙ owed));
+      acks = λ _. (refl, refl, refl);
+      again = λ sends. rw (none sends) tt;
+      new_text = λ _ _. (refl, refl, refl);
+      fin = λ _ _ _. (refl, refl, refl);
+    }))) [
+      | inl idle ↦ inl idle
+      | inr is ↦ inr (standing s is.0 is.1 is.2.0 is.2.1 is.2.2)
     ]
 
--- what isn't acceptable makes one owed
+stands : (s : State) → IsRested s → s.owed.ack ≡ true → StandsAtNext s
+stands s rested owed =
+    elim (stands-or-none s rested.reset rested.syn rested.none) [ inl idle ↦ absurd (owing-due s owed idle) | inr is ↦ is ]
+
+-- what isn't acceptable makes one pending
 pub judged-old : (s : State) (src dst : List ℕ) (v : Content) → IsPresent s.phase → IsUnacceptable s src dst v → judgement s src dst v ≡ Unacceptable
 unfolding judgement phase_judgement present_judgement unacceptable_judgement
-judged-old s src dst v here old =
-    rw (old.mine, here.shut, here.listening, here.syn_sent, old.outside, old.no_rst, old.untaken) refl
+judged-old s src dst v here old = rw (old.mine, here.shut, here.listening, here.syn_sent, old.outside, old.no_rst, old.untaken) refl
 
 answered : (s : State) → IsRested s → (src dst bytes : List ℕ) (v : Content) → decode_answer src dst bytes ≡ Ok v → IsUnacceptable s src dst v
     → (arrival_answer s src dst bytes ≡ Dropped) × StandsAtNext (after_arrival s src dst bytes)
 unfolding arrival_answer after_arrival
 answered s rested src dst bytes v decoded old =
-    rw (decoded, judged-old s src dst v (is-synchronized s.phase rested.phase) old)
-    (refl, stands (with_ack_owed s) (record { phase = rested.phase; reset = rested.reset; syn = rested.syn; none = rested.none }) refl)
+    rw (decoded, judged-old s src dst v (is-synchronized s.phase rested.phase) old) (refl, stands (with_ack_owed s) (assumption) refl)
 
--- THE TIMEOUT
-answering : (s : State) → Exhausts s → Answers s
-answering s e = record { count = e.count; keeps = e.keeps; answers = answered (after_emissions e.count s) e.rested }
-
-quiet-rests : (s : State) → MayAnswer s → sends_text s.phase ≡ false → IsRested (after_retransmit s)
+-- THE TIMEOUT, in a phase that sends no text, and where nothing is in flight
+quiet-rests : (s : State) → MayAnswer s → sends_text s.phase ≡ false → KeepsFlight s.sending (after_retransmit s).sending × IsRested (after_retransmit s)
 unfolding after_retransmit
 quiet-rests s may quiet =
-    record { phase = may.phase; reset = may.reset; syn = no-syn s may.phase may.syn; none = λ sends. absurd (true≢false (sym sends ∙ quiet)) }
+    let none = λ (sends : sends_text s.phase ≡ true). true≢false (sym sends ∙ quiet) in
+    (rw quiet (kept s.sending), record { phase = may.phase; reset = may.reset; syn = no-syn s may.phase may.syn; none = λ sends. absurd (none sends) })
 
-quiet-keeps : (s : State) → sends_text s.phase ≡ false → KeepsFlight s.sending (after_retransmit s).sending
-unfolding after_retransmit
-quiet-keeps s quiet = rw quiet (kept s.sending)
-
-idle-rests : (s : State) → MayAnswer s → MaySend s → s.sending.nxt ≤ s.sending.una → IsRested (after_retransmit s)
+idle-rests : (s : State) → MayAnswer s → MaySend s → s.sending.nxt ≤ s.sending.una
+    → KeepsFlight s.sending (after_retransmit s).sending × IsRested (after_retransmit s)
 unfolding after_retransmit
 idle-rests s may sends idle =
     let same = nothing-resent s sends idle in
-    record {
-      phase = may.phase;
-      reset = may.reset;
-      syn = no-syn s may.phase may.syn;
-      none = λ _. rw same (no-resend s.sending (text_limit s) s.sending.resend idle may.range);
-    }
-
-idle-keeps : (s : State) → MaySend s → s.sending.nxt ≤ s.sending.una → KeepsFlight s.sending (after_retransmit s).sending
-idle-keeps s sends idle = rw (nothing-resent s sends idle) (kept s.sending)
+    let none = no-resend s.sending (text_limit s) idle may.range in
+    (rw same (kept s.sending), record { phase = may.phase; reset = may.reset; syn = no-syn s may.phase may.syn; none = λ _. rw same none })
 
 -- after it, what is left to be sent again comes to an end
-pub timeout-exhausts : (s : State) → MayAnswer s → KeepsFlight s.sending (after_retransmit s).sending × Exhausts (after_retransmit s)
+timeout-exhausts : (s : State) → MayAnswer s → KeepsFlight s.sending (after_retransmit s).sending × Exhausts (after_retransmit s)
 timeout-exhausts s may =
     let t = after_retransmit s in
     elim (cases_Bool (sends_text s.phase)) [
-      | inr quiet ↦ (quiet-keeps s quiet, at-rest t (quiet-rests s may quiet))
+      | inr quiet ↦ let rests = quiet-rests s may quiet in (rests.0, at-rest t rests.1)
       | inl phase ↦
           let sends : MaySend s = record { phase = phase; reset = may.reset; syn = may.syn; limit = may.limit } in
           elim (cases_lt s.sending.una s.sending.nxt) [
             | inl flight ↦ (timeout-keeps s sends flight, exhausts (suc t.sending.nxt) t s.sending.una (timeout-resends s sends flight) (omega arith))
-            | inr idle ↦ (idle-keeps s sends idle, at-rest t (idle-rests s may sends idle))
+            | inr idle ↦ let rests = idle-rests s may sends idle in (rests.0, at-rest t rests.1)
           ]
     ]
 
 pub answer_lem : SpokenToAnswers
 answer_lem s may =
     let rests = timeout-exhausts s may in
-    (rests.0, answering (after_retransmit s) rests.1)
+    (rests.0, record { count = rests.1.count; keeps = rests.1.keeps; answers = answered (after_emissions rests.1.count (after_retransmit s)) rests.1.rested })

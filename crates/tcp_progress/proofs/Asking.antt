@@ -1,100 +1,141 @@
--- WHO ASKS: one side that doesn't know that the other has all is served; what it sends again is old to the other, and comes.
-use Rattle.std.proofs.Common.{ℕ, ◌<◌, ◌∙◌, ◌≡◌, ap, arith, inl, inr, List, None, Option, refl, Some, subst, suc, sym, true, zero}
-use Rattle.tcp_replay.proofs.Words.{after_emission, after_retransmit, AllByRecursion, Closed, due_of, false≢true}
-use Rattle.tcp_replay.proofs.Words.{has_peer, is_handshake, Listen, NotEnded, Phase, Reset, Retransmit, sends_text, State, Syn, syn_segment}
-use Rattle.tcp_replay.proofs.Words.{SynReceived, SynSent, WaitingReset}
-use Rattle.tcp_replay.proofs.WorldWords.{Emit, EventContent, FitsPhase, next_position, other, party_of, PartyState, Timer, world_after, world_after_all}
-use Rattle.tcp_replay.proofs.WorldWords.{WorldState}
-use Rattle.tcp_progress.proofs.Words.{after_emissions, AllCome, CoversNext, emissions, IsCalm, IsIdle, IsLive, IsSteadyPair, NoneGaveUp, SaysByPhase, served}
-use Rattle.tcp_progress.proofs.Words.{Side}
-use Rattle.tcp_progress.proofs.Again.{again_lem}
-use Rattle.tcp_progress.proofs.Back.{emissions-last, old-phase, syn-old}
-use Rattle.tcp_progress.proofs.SynOut.{syn-due}
-use Rattle.tcp_progress.proofs.Forward.{in-flight}
-use Rattle.tcp_progress.proofs.Going.{IsGoing, Lowers, going-live, over-event, side-pair, steps-both}
-use Rattle.tcp_progress.proofs.Older.{IsPending, burst-old, pending-now}
-use Rattle.tcp_progress.proofs.Serving.{cleared, cleared-same, emit-endpoint, may-send-cleared, none-some, reset-gone, timer-endpoint}
-use Rattle.tcp_progress.proofs.Turning.{calm-emissions}
+-- WHAT THE OTHER HAS AND DIDN'T ACKNOWLEDGE goes out again where one side is served, and is old to the other.
+use Rattle.std.proofs.Common.{◌++◌, ◌<◌, ◌∙◌, ◌≡◌, ◌≤◌, ◌⊎◌, ap, arith, false, inl, inr, length, List, refl, Some, subst, suc, sym, true, zero, ℕ}
+use Rattle.tcp_replay.proofs.Words.{after_emission, after_retransmit, AllByRecursion, Content, Due, due_of, has_peer, is_handshake, Retransmit, sends_text}
+use Rattle.tcp_replay.proofs.Words.{start_of, State, Syn, syn_segment, SynReceived}
+use Rattle.tcp_replay.proofs.WorldWords.{Emit, EventContent, next_position, other, party_after_emission, party_of, PartyState, Timer, world_after}
+use Rattle.tcp_replay.proofs.WorldWords.{world_after_all, WorldState}
+use Rattle.tcp_progress.proofs.Words.{after_emissions, AllCome, Comes, CoversNext, Delivers, emissions, is_reset, IsCalm, IsIdle, IsLive, IsSteadyPair}
+use Rattle.tcp_progress.proofs.Words.{NoneGaveUp, served, Side}
+use Rattle.tcp_progress.proofs.Lemmas.{acked-all, again_lem, emissions-last, emit-at, emit-endpoint, emit-other, emit-party, fresh-emitted, going-live}
+use Rattle.tcp_progress.proofs.Lemmas.{in-flight, IsGoing, IsOld, IsStillFrom, KeepsReady, live-in, Lowers, none-some, over-served, side-pair, steps-event}
+use Rattle.tcp_progress.proofs.Lemmas.{still-emission, syn-due, syn-old, text-old, timer-endpoint}
+use Rattle.tcp_progress.proofs.Serving.{cleared, comes-due, idle-stays, may-send-cleared, not-reset, uncleared}
+use Rattle.tcp_progress.proofs.Speaking.{old-still}
 
--- ---- WHOSE SYN ISN'T ACKNOWLEDGED is in SYN-RECEIVED, and has sent nothing else
-first-phase : (s : State) (phase : Phase) → s.sending.una ≡ 0 → s.receiving.opened ≡ true → s.ending ≡ NotEnded
-    → FitsPhase phase s.ending s.sending.una s.sending.nxt s.receiving.opened s.receiving.finished → SaysByPhase phase s
-    → (phase ≡ SynReceived) × (s.sending.nxt ≡ 1)
-first-phase s Closed una took going fits says = absurd (false≢true (sym (fits going).not_opened ∙ took))
-first-phase s Listen una took going fits says = absurd (false≢true (sym fits.1.not_opened ∙ took))
-first-phase s SynSent una took going fits says = absurd (false≢true (sym fits.1.not_opened ∙ took))
-first-phase s SynReceived una took going fits says = (refl, says.1)
-first-phase s other una took going fits says = absurd (omega (arith, una, fits.1.least))
+-- what is old goes out, and comes later
+pub record IsPending (w : WorldState) (side : Side) (later : List EventContent) : Type 0 where
+  pub place : ℕ
+  pub content : Content
+  pub old : IsOld (party_of w side) (party_of w (other side)) place content
+  pub comes : Delivers side place later
 
--- in a world
-pub syn-alone : (p q : PartyState) → IsSteadyPair p q → IsLive p → p.endpoint.sending.una ≡ 0 → (p.endpoint.phase ≡ SynReceived) × (p.endpoint.sending.nxt ≡ 1)
-syn-alone p q h live una = first-phase p.endpoint p.endpoint.phase una live.opened live.goes_on h.pair.there.alone.progress h.there.stage
+pub past-emissions : (side from : Side) (n k : ℕ) (later : List EventContent) → Delivers from k (emissions side n ++ later) → Delivers from k later
+past-emissions side from zero k later h = h
+past-emissions side from (suc n) k later (inl now) = absurd (cc)
+past-emissions side from (suc n) k later (inr more) = past-emissions side from n k later more
 
--- ---- IN SYN-RECEIVED: the SYN goes out again, after a waiting reset
-pub reset-due : (s : State) (reset : WaitingReset) → s.owed.reset ≡ Some reset → due_of (after_retransmit s) ≡ Some (Reset reset)
-unfolding due_of after_retransmit
-reset-due s reset e = rw e refl
+-- nothing is delivered while a side is served
+pub past-served : (side from : Side) (n k : ℕ) (later : List EventContent) → Delivers from k (served side n ++ later) → Delivers from k later
+past-served side from n k later (inl now) = absurd (cc)
+past-served side from n k later (inr more) = past-emissions side from n k later more
 
-syn-goes : (n : ℕ) (w : WorldState) (side : Side) (later : List EventContent) → AllByRecursion IsCalm later → IsGoing w
-    → due_of (party_of w side).endpoint ≡ Some Syn → (party_of w side).endpoint.sending.una ≡ 0
-    → next_position (party_of w (other side)) ≡ 1 → IsIdle (world_after_all w (emissions side n)) side → AllCome w (emissions side n) later
-    → NoneGaveUp (world_after_all (world_after_all w (emissions side n)) later)
-    → Lowers w (world_after_all (world_after_all w (emissions side n)) later) (IsPending (world_after_all w (emissions side n)) side later)
-unfolding world_after_all
-syn-goes zero w side later calm h due una all idle come up = absurd (none-some Syn (sym idle ∙ due))
-syn-goes (suc n) w side later calm h due una all idle come up =
+-- ---- WHAT WILL GO OUT of p after so many emissions, and then is old to q: what covers SND.UNA, and SND.NXT is still what it was; or the SYN alone
+pub record WillCover (p q : PartyState) (count : ℕ) : Type 0 where
+  pub covers : CoversNext (after_emissions count p.endpoint) p.endpoint.sending.una
+  pub least : 1 ≤ p.endpoint.sending.una
+  pub all : (after_emission (after_emissions count p.endpoint)).sending.nxt ≡ next_position q
+
+-- its SYN
+pub record WillOpen (p q : PartyState) (count : ℕ) : Type 0 where
+  pub due : due_of (after_emissions count p.endpoint) ≡ Some Syn
+  pub una : p.endpoint.sending.una ≡ 0
+  pub all : next_position q ≡ 1
+
+-- it goes out at once
+old-out : (w : WorldState) (side : Side) → IsGoing w → (covers : CoversNext (party_of w side).endpoint (party_of w side).endpoint.sending.una)
+    → 1 ≤ (party_of w side).endpoint.sending.una → (after_emission (party_of w side).endpoint).sending.nxt ≡ next_position (party_of w (other side))
+    → IsOld (party_after_emission (party_of w side)) (party_of w (other side)) (length (party_of w side).sent) covers.segment
+unfolding party_after_emission
+old-out w side h covers least all =
     let p = party_of w side in
     let q = party_of w (other side) in
+    let p' = party_after_emission p in
     let pair = side-pair w side h.kept in
-    let live = going-live w side h in
-    pending-now n w side later calm h Syn (syn_segment p.endpoint) due refl
-    (syn-old p q pair due live.0.opened (ap has_peer (syn-alone p q pair live.0 una).0) una all) come.0 up
+    let still = still-emission p in
+    let nxt' : p'.endpoint.sending.nxt ≡ next_position q = all in
+    let nxt : p.endpoint.sending.nxt ≡ next_position q = omega (arith, still.nxt, nxt', pair.there.sent.taken (going-live w side h).1.opened) in
+    let goes = fresh-emitted p q pair covers.due covers.is_due covers.segment covers.form covers.no_rst covers.no_syn in
+    let pair' = subst (λ (x : PartyState). IsSteadyPair x q) (emit-party w side) (subst (IsSteadyPair (party_of (world_after w (Emit side)) side))
+    (emit-other w side) (side-pair (world_after w (Emit side)) side (steps-event w (Emit side) tt h.kept).kept)) in
+    text-old p p' q (length p.sent) (start_of p.endpoint.sending covers.due) covers.segment pair pair' still (nxt' ∙ sym nxt) goes
+    (omega (arith, covers.starts, covers.begins)) (omega (arith, covers.starts, covers.ends)) (sym nxt) least
 
-syn-or-reset : (n : ℕ) (waiting : Option WaitingReset) (s : State) (w : WorldState) (side : Side) (later : List EventContent) → s.owed.reset ≡ waiting
-    → s.phase ≡ SynReceived → (party_of w side).endpoint ≡ after_retransmit s
-    → AllByRecursion IsCalm later → IsGoing w → (party_of w side).endpoint.sending.una ≡ 0
-    → next_position (party_of w (other side)) ≡ 1 → IsIdle (world_after_all w (emissions side n)) side → AllCome w (emissions side n) later
-    → NoneGaveUp (world_after_all (world_after_all w (emissions side n)) later)
-    → Lowers w (world_after_all (world_after_all w (emissions side n)) later) (IsPending (world_after_all w (emissions side n)) side later)
-unfolding world_after_all
-syn-or-reset n None s w side later e phase same calm h una all idle come up =
-    syn-goes n w side later calm h (ap due_of same ∙ syn-due s (ap is_handshake phase) e) una all idle come up
-syn-or-reset zero (Some reset) s w side later e phase same calm h una all idle come up =
-    absurd (none-some (Reset reset) (sym idle ∙ ap due_of same ∙ reset-due s reset e))
-syn-or-reset (suc n) (Some reset) s w side later e phase same calm h una all idle come up =
-    let v = world_after w (Emit side) in
-    over-event w (Emit side) (world_after_all (world_after_all v (emissions side n)) later) (IsPending (world_after_all v (emissions side n)) side later) tt h
-    (steps-both v (emissions side n) later (calm-emissions side n) calm) up
-    (λ h' still.
-    syn-goes n v side later calm h' (ap due_of (emit-endpoint w side ∙ ap after_emission same ∙ reset-gone s reset e) ∙ syn-due (cleared s)
-    (ap is_handshake phase) refl)
-    ((still side).una_of_x ∙ una) ((still side).next_of_y ∙ all) idle come.1 up)
+-- ---- WHOSE SYN ISN'T ACKNOWLEDGED is in SYN-RECEIVED, and has sent nothing else
+pub syn-alone : (p q : PartyState) → IsSteadyPair p q → IsLive p → p.endpoint.sending.una ≡ 0 → (p.endpoint.phase ≡ SynReceived) × (p.endpoint.sending.nxt ≡ 1)
+syn-alone p q h live una =
+    elim (live-in p q h live) [ inl first ↦ (first.0, first.2) | inr rest ↦ absurd (omega (arith, una, rest.0)) ]
 
--- ---- WHERE THE PHASE SENDS TEXT: after so many emissions one covers SND.UNA, and SND.NXT is still what it was
-record SendsAgain (s : State) (una nxt : ℕ) : Type 0 where
-  count : ℕ
-  covers : CoversNext (after_emissions count s) una
-  keeps : (after_emission (after_emissions count s)).sending.nxt ≡ nxt
+-- ---- WHO ASKS: what is old goes out, or it is pending already
+module _ (side : Side) (later : List EventContent) where
+  -- at one of so many emissions
+  abbrev pub Asks : WorldState → Type 0
+  Asks w = IsPending w side later ⊎ ((count : ℕ) × (WillCover (party_of w side) (party_of w (other side)) count
+      ⊎ WillOpen (party_of w side) (party_of w (other side)) count))
 
-again-uncleared : (s : State) (una nxt : ℕ) (waiting : Option WaitingReset) → s.owed.reset ≡ waiting → SendsAgain (after_retransmit (cleared s)) una nxt
-    → SendsAgain (after_retransmit s) una nxt
-again-uncleared s una nxt None e c = subst (λ (t : State). SendsAgain (after_retransmit t) una nxt) (cleared-same s e) c
-again-uncleared s una nxt (Some reset) e c = record {
-  count = suc c.count;
-  covers = subst (λ (t : State). CoversNext (after_emissions c.count t) una) (sym (reset-gone s reset e)) c.covers;
-  keeps = ap (λ (t : State). (after_emission (after_emissions c.count t)).sending.nxt) (reset-gone s reset e) ∙ c.keeps;
-}
+  goes-out : (w : WorldState) (n : ℕ) (due : Due) (v : Content) → due_of (party_of w side).endpoint ≡ Some due → is_reset due ≡ false
+      → IsOld (party_after_emission (party_of w side)) (party_of w (other side)) (length (party_of w side).sent) v
+      → Comes w (Emit side) (emissions side n ++ later) → Asks (world_after w (Emit side))
+  goes-out w n due v is plain old come =
+      let k = length (party_of w side).sent in
+      let comes = past-emissions side side n k later (comes-due w side (emissions side n ++ later) due is plain come) in
+      inl (record { place = k; content = v; old = emit-at (λ x y. IsOld x y k v) w side old; comes = comes })
 
-sends-again : (p q : PartyState) → IsSteadyPair p q → IsLive p → sends_text p.endpoint.phase ≡ true → p.endpoint.sending.una < p.endpoint.sending.nxt
-    → SendsAgain (after_retransmit p.endpoint) p.endpoint.sending.una p.endpoint.sending.nxt
-sends-again p q h live sends some =
+  asks-on : (w : WorldState) (n : ℕ) → IsGoing w → Asks w → Comes w (Emit side) (emissions side n ++ later) → IsStillFrom w (world_after w (Emit side))
+      → Asks (world_after w (Emit side))
+  asks-on w n h (inl pending) come still =
+      let old = old-still _ _ _ _ pending.place pending.content (still side) pending.old in
+      inl (record { place = pending.place; content = pending.content; old = old; comes = pending.comes })
+  asks-on w n h (inr (zero, inl will)) come still =
+      let covers = will.covers in
+      let plain = not-reset (party_of w side).endpoint covers.due covers.segment covers.form covers.no_rst in
+      goes-out w n covers.due covers.segment covers.is_due plain (old-out w side h covers will.least will.all) come
+  asks-on w n h (inr (zero, inr will)) come still =
+      let p = party_of w side in
+      let pair = side-pair w side h.kept in
+      let live = (going-live w side h).0 in
+      let knows = ap has_peer (syn-alone p (party_of w (other side)) pair live will.una).0 in
+      goes-out w n Syn (syn_segment p.endpoint) will.due refl (syn-old p (party_of w (other side)) pair will.due live.opened knows will.una will.all) come
+  asks-on w n h (inr (suc count, inl will)) come still =
+      let is = still side in
+      let same = emit-endpoint w side in
+      let covers = subst (λ (t : State). CoversNext (after_emissions count t) (party_of w side).endpoint.sending.una) (sym same) will.covers in
+      inr (
+        count,
+        inl (record {
+          covers = rw is.una_of_x covers;
+          least = omega (arith, will.least, is.una_of_x);
+          all = ap (λ (t : State). (after_emission (after_emissions count t)).sending.nxt) same ∙ will.all ∙ sym is.next_of_y;
+        }),
+      )
+  asks-on w n h (inr (suc count, inr will)) come still =
+      let is = still side in
+      let due = ap (λ (t : State). due_of (after_emissions count t)) (emit-endpoint w side) ∙ will.due in
+      inr (count, inr (record { due = due; una = is.una_of_x ∙ will.una; all = is.next_of_y ∙ will.all }))
+
+  -- once nothing is due, it is pending
+  asks-idle : (w : WorldState) → IsIdle w side → Asks w → IsPending w side later
+  asks-idle w idle (inl pending) = pending
+  asks-idle w idle (inr (count, inl will)) =
+      absurd (none-some will.covers.due (sym idle ∙ ap due_of (sym (idle-stays count (party_of w side).endpoint idle)) ∙ will.covers.is_due))
+  asks-idle w idle (inr (count, inr will)) =
+      absurd (none-some Syn (sym idle ∙ ap due_of (sym (idle-stays count (party_of w side).endpoint idle)) ∙ will.due))
+
+-- ---- AFTER THE TIMEOUT, and a waiting reset: the SYN goes out, or what is in flight
+pub syn-after : (s : State) → is_handshake s.phase ≡ true → (n : ℕ) × (n ≤ 1) × (due_of (after_emissions n (after_retransmit s)) ≡ Some Syn)
+syn-after s shakes = uncleared (λ t. due_of t ≡ Some Syn) s 0 (syn-due (cleared s) shakes refl)
+
+covers-after : (p q : PartyState) → IsSteadyPair p q → IsLive p → sends_text p.endpoint.phase ≡ true → p.endpoint.sending.una < p.endpoint.sending.nxt
+    → (n : ℕ) × CoversNext (after_emissions n (after_retransmit p.endpoint)) p.endpoint.sending.una
+    × ((after_emission (after_emissions n (after_retransmit p.endpoint))).sending.nxt ≡ p.endpoint.sending.nxt)
+covers-after p q h live sends some =
     let s = p.endpoint in
     let una = s.sending.una in
     let again = again_lem (cleared s) una (may-send-cleared p q h sends) (in-flight p q una h live sends (omega arith) some) in
-    let n = again.1.count in
-    let last = ap (λ (t : State). t.sending.nxt) (sym (emissions-last n (after_retransmit (cleared s)))) in
-    again-uncleared s una s.sending.nxt s.owed.reset refl
-    (record { count = n; covers = again.1.covers; keeps = last ∙ (again.1.keeps (suc n) (omega arith)).nxt ∙ again.0.nxt })
+    let count = again.1.count in
+    let last = ap (λ (t : State). t.sending.nxt) (sym (emissions-last count (after_retransmit (cleared s)))) in
+    let keeps = last ∙ (again.1.keeps (suc count) (omega arith)).nxt ∙ again.0.nxt in
+    let out = uncleared (λ t. CoversNext t una × ((after_emission t).sending.nxt ≡ s.sending.nxt)) s count (again.1.covers, keeps) in
+    (out.0, out.2.0, out.2.1)
 
 -- ---- ONE SIDE IS SERVED: what is old to the other goes out, and comes later; or something is brought on
 pub asks : (n : ℕ) (w : WorldState) (side : Side) (later : List EventContent) → AllByRecursion IsCalm later → IsGoing w
@@ -102,29 +143,44 @@ pub asks : (n : ℕ) (w : WorldState) (side : Side) (later : List EventContent) 
     → next_position (party_of w (other side)) ≡ (party_of w side).endpoint.sending.nxt → IsIdle (world_after_all w (served side n)) side
     → AllCome w (served side n) later → NoneGaveUp (world_after_all (world_after_all w (served side n)) later)
     → Lowers w (world_after_all (world_after_all w (served side n)) later) (IsPending (world_after_all w (served side n)) side later)
-unfolding world_after_all
 asks n w side later calm h behind one idle come up =
     let p = party_of w side in
     let q = party_of w (other side) in
     let s = p.endpoint in
     let v = world_after w (Timer side Retransmit) in
     let pair = side-pair w side h.kept in
-    let live = going-live w side h in
-    let some : s.sending.una < s.sending.nxt = omega (arith, behind, one) in
-    over-event w (Timer side Retransmit) (world_after_all (world_after_all v (emissions side n)) later)
-    (IsPending (world_after_all v (emissions side n)) side later) tt h
-    (steps-both v (emissions side n) later (calm-emissions side n) calm) up
-    (λ h' still.
+    let live = (going-live w side h).0 in
+    let same = timer-endpoint w side in
+    let first : IsGoing v → IsStillFrom w v → Asks side later v = λ _ still.
     let is = still side in
-    elim (old-phase s s.phase refl some live.0.opened live.0.goes_on pair.pair.there.alone.progress pair.there.stage) [
-      | inr first ↦ syn-or-reset n s.owed.reset s v side later refl first.0 (timer-endpoint w side) calm h' (is.una_of_x ∙ first.1)
-          (is.next_of_y ∙ one ∙ first.2) idle come.1 up
-      | inl text ↦
-          let again = sends-again p q pair live.0 text.0 some in
-          burst-old n again.count v side later calm h'
-          (subst (λ (una : ℕ). CoversNext (after_emissions again.count (party_of v side).endpoint) una) (sym is.una_of_x)
-          (subst (λ (t : State). CoversNext (after_emissions again.count t) s.sending.una) (sym (timer-endpoint w side)) again.covers))
-          (omega (arith, text.1, is.una_of_x))
-          (ap (λ (t : State). (after_emission (after_emissions again.count t)).sending.nxt) (timer-endpoint w side) ∙ again.keeps ∙ sym one ∙ sym is.next_of_y)
-          idle come.1 up
-    ])
+    elim (live-in p q pair live) [
+      | inl opens ↦
+          let out = syn-after s (ap is_handshake opens.0) in
+          inr (
+            out.0,
+            inr (record {
+              due = ap (λ (t : State). due_of (after_emissions out.0 t)) same ∙ out.2;
+              una = is.una_of_x ∙ opens.1;
+              all = is.next_of_y ∙ one ∙ opens.2;
+            }),
+          )
+      | inr rest ↦ elim rest.1 [
+        | inr acked ↦ absurd (omega (arith, behind, one, acked-all s acked))
+        | inl sends ↦
+            let out = covers-after p q pair live sends (omega (arith, behind, one)) in
+            let covers = subst (λ (t : State). CoversNext (after_emissions out.0 t) s.sending.una) (sym same) out.1 in
+            inr (
+              out.0,
+              inl (record {
+                covers = rw is.una_of_x covers;
+                least = omega (arith, rest.0, is.una_of_x);
+                all = ap (λ (t : State). (after_emission (after_emissions out.0 t)).sending.nxt) same ∙ out.2 ∙ sym one ∙ sym is.next_of_y;
+              }),
+            )
+      ]
+    ] in
+    let on : KeepsReady side later calm (Asks side later) = λ u k hu ready comes _. inr (λ _ still. asks-on side later u k hu ready comes still) in
+    elim (over-served side later calm (Asks side later) on n w h first come up) [
+      | inl less ↦ inl less
+      | inr ready ↦ inr (asks-idle side later (world_after_all w (served side n)) idle ready)
+    ]

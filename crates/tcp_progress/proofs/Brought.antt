@@ -1,11 +1,87 @@
--- What is next brings the half that receives on: its text, and its FIN.
-use Rattle.std.proofs.Common.{[], ℕ, ℤ, ◌%◌, ◌++◌, ◌+ℤ◌, ◌+◌, ◌-◌, ◌<◌, ◌==◌, ◌^◌, ◌||◌, ◌∙◌, ◌≡◌, ◌≤ℤ◌, ◌≤◌, ◌⊎◌, ap, append-nil, arith, Bool, false}
-use Rattle.std.proofs.Common.{if◌then◌else◌, inl, inr, length, length-append, List, min, nat_lt, negsuc, not, pos, refl, sym, true}
-use Rattle.tcp_replay.proofs.Words.{after_place, after_text, and_from, cases_Bool, cases_lt, distance, ints, is_fin_due, max_ordered, nat_tests, near_ahead}
-use Rattle.tcp_replay.proofs.Words.{near_behind, number, offset, or_right, Receiving, true≢false, window, with_fin}
+-- A text that covers place 0 and ends within the window comes in order, whatever is held.
+use Rattle.std.proofs.Common.{if◌then◌else◌, ◌%◌, ◌++◌, ◌+ℤ◌, ◌+◌, ◌-◌, ◌<◌, ◌==◌, ◌^◌, ◌||◌, ◌∙◌, ◌∷◌, ◌≡◌, ◌≤ℤ◌, ◌≤◌, ◌⊎◌, [], ap, append-nil, arith, Bool}
+use Rattle.std.proofs.Common.{drop, false, inl, inr, length, length-append, length-drop, List, min, nat_lt, negsuc, None, not, Option, pos, refl, Some, suc}
+use Rattle.std.proofs.Common.{sym, true, zero, ℕ, ℤ}
+use Rattle.tcp_replay.proofs.Words.{advance_of, advance_of-answer_for, after_place, after_text, and_from, answer_for, bytes_in_order, cases_Bool, cases_lt}
+use Rattle.tcp_replay.proofs.Words.{Cell, distance, greatest_stamp, Inbox, ints, is_fin_due, is_refused, max_ordered, nat_tests, near_ahead, near_behind}
+use Rattle.tcp_replay.proofs.Words.{NotKept, number, offset, or_right, overlay, overlay_of, Piece, place_answer, Receiving, true≢false, window, with_fin}
+use Rattle.tcp_replay.proofs.Words.{with_overlay}
 use Rattle.tcp_progress.proofs.Words.{BringsOn}
-use Rattle.tcp_progress.proofs.Advance.{covering-brings}
 
+-- what is laid over the first places is in order
+overlay-in_order : (text : List ℕ) (stamp : ℕ) (held : List (Option Cell)) → length text ≤ length held
+    → length text ≤ length (bytes_in_order (overlay 0 text stamp held))
+overlay-in_order [] stamp held fits = omega arith
+overlay-in_order (byte ∷ text) stamp [] fits = absurd (omega arith)
+overlay-in_order (byte ∷ text) stamp (place ∷ places) fits = omega (arith, overlay-in_order text stamp places (omega (arith, fits)))
+
+pub overlay-length : (start : ℕ) (text : List ℕ) (stamp : ℕ) (held : List (Option Cell)) → length (overlay start text stamp held) ≡ length held
+overlay-length start text stamp [] = refl
+overlay-length zero [] stamp (place ∷ places) = refl
+overlay-length zero (byte ∷ text) stamp (place ∷ places) = omega (arith, overlay-length zero text stamp places)
+overlay-length (suc start) text stamp (place ∷ places) = omega (arith, overlay-length start text stamp places)
+
+pub in_order-most : (held : List (Option Cell)) → length (bytes_in_order held) ≤ length held
+in_order-most [] = omega arith
+in_order-most (None ∷ places) = omega arith
+in_order-most (Some cell ∷ places) = omega (arith, in_order-most places)
+
+-- n bytes come in order: up to `end` at least, and no more than the window has places
+pub record Brings (q q' : Inbox) (end : ℤ) (n : ℕ) : Type 0 where
+  pub more : List ℕ
+  pub count : n ≡ length more
+  pub unread : q'.unread ≡ q.unread ++ more
+  pub capacity : q'.capacity ≡ q.capacity
+  pub least : end ≤ℤ pos n
+  pub most : n ≤ length q.held
+
+abbrev front : List ℕ → Piece
+front text = record { start = 0; text = text }
+
+-- a piece at place 0 is refused where it is empty alone
+refused-empty : (q : Inbox) (text : List ℕ) → length text ≤ length q.held → is_refused q (front text) ≡ true → length text ≡ 0
+refused-empty q text fits e = grind (arith, nat_tests, fits, e)
+
+by-refusal : (q : Inbox) (text : List ℕ) (end : ℤ) (refused : Bool) → (refused ≡ true → length text ≡ 0) → length text ≤ length q.held
+    → (end ≤ℤ pos (length text))
+    → Brings q (if refused then q else with_overlay q (overlay_of q (front text))) end
+    (advance_of (if refused then NotKept else answer_for (length (bytes_in_order (overlay_of q (front text))))))
+by-refusal q text end true empty fits ends = record {
+  more = [];
+  count = refl;
+  unread = sym (append-nil q.unread);
+  capacity = refl;
+  least = omega (arith, ints, ends, empty refl);
+  most = omega arith;
+}
+by-refusal q text end false empty fits ends =
+    let stamp = suc (greatest_stamp q.held) in
+    let over = overlay 0 text stamp q.held in
+    rw advance_of-answer_for (record {
+      more = bytes_in_order over;
+      count = refl;
+      unread = refl;
+      capacity = refl;
+      least = omega (arith, ints, ends, overlay-in_order text stamp q.held fits);
+      most = omega (arith, in_order-most over, overlay-length 0 text stamp q.held);
+    })
+
+brings-front : (q : Inbox) (text : List ℕ) (end : ℤ) → length text ≤ length q.held → (end ≤ℤ pos (length text))
+    → Brings q (if is_refused q (front text) then q else with_overlay q (overlay_of q (front text))) end
+    (advance_of (if is_refused q (front text) then NotKept else answer_for (length (bytes_in_order (overlay_of q (front text))))))
+brings-front q text end fits ends = by-refusal q text end (is_refused q (front text)) (refused-empty q text fits) fits ends
+
+-- what lies before place 0 is cut off
+pub covering-brings : (q : Inbox) (offset : ℤ) (text : List ℕ) → (offset ≤ℤ pos 0) → ((offset +ℤ pos (length text)) ≤ℤ pos (length q.held))
+    → Brings q (after_place q offset text) (offset +ℤ pos (length text)) (advance_of (place_answer q offset text))
+unfolding after_place place_answer
+covering-brings q (pos zero) text begins within = brings-front q text (pos 0 +ℤ pos (length text)) (omega (arith, ints, within)) (omega (arith, ints))
+covering-brings q (pos (suc n)) text begins within = absurd (omega (arith, ints, begins))
+covering-brings q (negsuc n) text begins within =
+    let left : length (drop (suc n) text) ≡ length text - suc n = length-drop (suc n) text in
+    brings-front q (drop (suc n) text) (negsuc n +ℤ pos (length text)) (omega (arith, ints, within, left)) (omega (arith, ints, left))
+
+-- ---- What is next brings the half that receives on: its text, and its FIN.
 -- TEXT: so much of it comes in order
 pub record Moves (r r' : Receiving) (end : ℤ) : Type 0 where
   pub more : List ℕ
@@ -48,8 +124,7 @@ none-moves r end small counted begins = record {
 }
 
 pub its_text-moves : (r : Receiving) (seq : ℕ) (text : List ℕ) → r.next < 2 ^ 32 → r.ordered ≤ max_ordered → length r.inbox.held ≡ window r.inbox
-    → (offset r.next seq ≤ℤ pos 0)
-    → ((offset r.next seq +ℤ pos (length text)) ≤ℤ pos (window r.inbox))
+    → (offset r.next seq ≤ℤ pos 0) → ((offset r.next seq +ℤ pos (length text)) ≤ℤ pos (window r.inbox))
     → Moves r (if not (length text == 0) then after_text r seq text else r) (offset r.next seq +ℤ pos (length text))
 its_text-moves r seq text small counted whole begins within =
     elim (cases_Bool (length text == 0)) [
@@ -74,12 +149,7 @@ same-number n seq count k e =
 
 -- an end that lies at a position or before it
 at-or-before : (z : ℤ) (k : ℕ) → (z ≤ℤ pos k) → (z ≡ pos k) ⊎ ((z +ℤ pos 1) ≤ℤ pos k)
-at-or-before (pos n) k below =
-    elim (cases_lt n k) [
-      | inl less ↦ inr (omega (arith, ints, less))
-      | inr more ↦ let same : n ≡ k = omega (arith, ints, more, below) in inl (ap (λ (m : ℕ). pos m) same)
-    ]
-at-or-before (negsuc n) k below = inr (omega (arith, ints))
+at-or-before z k below = grind (arith, ints, below)
 
 fin-due : (r r' : Receiving) (seq count : ℕ) (m : Moves r r' (offset r.next seq +ℤ pos count)) → (offset r.next seq +ℤ pos count) ≡ pos (length m.more)
     → length m.more < window r.inbox → is_fin_due r' (number seq count) ≡ true
@@ -89,13 +159,26 @@ fin-due r r' seq count m e room =
     and_from (number seq count == r'.next) (nat_lt 0 (window r'.inbox)) (grind (arith, nat_tests, same)) (grind (arith, nat_tests, space))
 
 or-none : (b : Bool) → b ≡ (b || false)
-or-none true = refl
-or-none false = refl
+or-none b = grind arith
+
+-- without a FIN the text alone
+pub without-fin : (r r' : Receiving) (end end' : ℤ) → (m : Moves r r' end) → (end' ≤ℤ pos (length m.more)) → BringsOn r r' end'
+without-fin r r' end end' m least = record {
+  count = length m.more;
+  next = m.next;
+  least = least;
+  most = m.most;
+  text = m.more;
+  unread = m.unread;
+  ordered = m.ordered;
+  fin = false;
+  counted = omega arith;
+  finished = m.finished ∙ or-none r.finished;
+}
 
 -- with a FIN the segment is one number longer
 pub with-fin : (r r' : Receiving) (seq count : ℕ) (m : Moves r r' (offset r.next seq +ℤ pos count)) (due : Bool) → is_fin_due r' (number seq count) ≡ due
-    → ((offset r.next seq +ℤ pos (count + 1)) ≤ℤ pos (window r.inbox))
-    → BringsOn r (if due then with_fin r' else r') (offset r.next seq +ℤ pos (count + 1))
+    → ((offset r.next seq +ℤ pos (count + 1)) ≤ℤ pos (window r.inbox)) → BringsOn r (if due then with_fin r' else r') (offset r.next seq +ℤ pos (count + 1))
 with-fin r r' seq count m true e within =
     let open_still : 1 ≤ window r'.inbox = grind (arith, nat_tests, e) in
     record {
@@ -111,35 +194,8 @@ with-fin r r' seq count m true e within =
       finished = sym (or_right r.finished true refl);
     }
 with-fin r r' seq count m false e within =
-    let beyond : (offset r.next seq +ℤ pos (count + 1)) ≤ℤ pos (length m.more) =
-    elim (at-or-before (offset r.next seq +ℤ pos count) (length m.more) m.least) [
+    without-fin r r' (offset r.next seq +ℤ pos count) (offset r.next seq +ℤ pos (count + 1)) m
+    (elim (at-or-before (offset r.next seq +ℤ pos count) (length m.more) m.least) [
       | inl right_there ↦ absurd (true≢false (sym (fin-due r r' seq count m right_there (omega (arith, ints, right_there, within))) ∙ e))
       | inr further ↦ omega (arith, ints, further)
-    ]
-    in
-    record {
-      count = length m.more;
-      next = m.next;
-      least = beyond;
-      most = m.most;
-      text = m.more;
-      unread = m.unread;
-      ordered = m.ordered;
-      fin = false;
-      counted = omega arith;
-      finished = m.finished ∙ or-none r.finished;
-    }
-
-pub without-fin : (r r' : Receiving) (end : ℤ) → Moves r r' end → BringsOn r r' end
-without-fin r r' end m = record {
-  count = length m.more;
-  next = m.next;
-  least = m.least;
-  most = m.most;
-  text = m.more;
-  unread = m.unread;
-  ordered = m.ordered;
-  fin = false;
-  counted = omega arith;
-  finished = m.finished ∙ or-none r.finished;
-}
+    ])

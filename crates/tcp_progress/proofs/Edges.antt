@@ -1,17 +1,20 @@
--- NO END SENDS PAST WHAT THE OTHER HAS ROOM FOR, on the definitions: every event keeps it, where what the ends told of their windows fits their room.
-use Rattle.std.proofs.Common.{ℕ, ⊎_elim, ◌&&◌, ◌++◌, ◌+◌, ◌-◌, ◌<◌, ◌==◌, ◌||◌, ◌≡◌, ◌≤◌, arith, Bool, false, IfSome, if◌then◌else◌, length, length-append}
-use Rattle.std.proofs.Common.{List, max, min, nat_le, nat_lt, None, Option, Some, subst, take, true}
-use Rattle.tcp_replay.proofs.Words.{Aborted, ack_due, after_gaps, after_giving_up, after_release, and_parts, cond_both, count_allowed, count_sendable}
-use Rattle.tcp_replay.proofs.Words.{count_unsent, Due, due_of, end_of_marks, end_of_marks-marked, end_of_text, eqb-true, Fin, fin_of, gives_up, is_probe_needed}
-use Rattle.tcp_replay.proofs.Words.{IsMarked, IsMarked-after_offer, IsMarked-after_release, IsMarked-without_marks, last_mark_end, ltb-true, needs_probe}
-use Rattle.tcp_replay.proofs.Words.{new_count, new_text_of, NewText, next_unmarked, option_or, or_cases, Owed, owed_after, place_of, position_at, Range}
-use Rattle.tcp_replay.proofs.Words.{range_after, Resend, resend_of, resend_start, resent_fin, resent_run, resent_text, ResentFin, reset_due, send_refusal}
-use Rattle.tcp_replay.proofs.Words.{Sending, sending_after, sending_due, sends_text, slice_get_within, State, syn_due, text_due, text_limit, usable_window}
-use Rattle.tcp_replay.proofs.Words.{WaitingReset, with_all_resent, with_syn_sent, with_text, without_resend, without_text}
-use Rattle.tcp_replay.proofs.WorldWords.{address_of, IsAlone, IsSoundPair, next_position, PartyState, Sends}
-use Rattle.tcp_replay.proofs.Lemmas.{end-closed, end-is, going-on, KeptByCalls, one_if-false, option_or-both, range-more, range_after-ends, send-unclosed}
-use Rattle.tcp_progress.proofs.Covering.{flags}
-use Rattle.tcp_halves.specs.declared.due.Due.TheVariants as dues
+-- NO END SENDS PAST WHAT THE OTHER HAS ROOM FOR, on the definitions: every event keeps it, where the windows that the ends advertise fit their room.
+use Rattle.std.proofs.Common.{◌&&◌, ◌++◌, ◌+◌, ◌-◌, ◌<◌, ◌==◌, ◌||◌, ◌≡◌, ◌≤◌, arith, Bool, false, IfSome, inl, inr, length, length-append, List, max, min}
+use Rattle.std.proofs.Common.{nat_le, nat_lt, None, Option, Some, subst, take, true, ℕ, ⊎_elim}
+use Rattle.tcp_replay.proofs.Words.{Aborted, acks_more, after_ack, after_acked_text, after_gaps, after_giving_up, after_mark, after_news, after_own_syn}
+use Rattle.tcp_replay.proofs.Words.{after_peer_accepts, after_peer_opens, after_release, and_parts, can_mark, cond_both, Config, Content, count_allowed}
+use Rattle.tcp_replay.proofs.Words.{count_below, count_sendable, count_unsent, Due, end_of_marks, end_of_marks-marked, end_of_text, eqb-true, gives_up}
+use Rattle.tcp_replay.proofs.Words.{is_of_flight, is_probe_needed, is_syn_received, IsMarked, IsMarked-after_offer, IsMarked-after_release}
+use Rattle.tcp_replay.proofs.Words.{IsMarked-without_marks, last_mark_end, leb-true, ltb-true, marks_text, marks_with, marks_with-only, nat_tests, needs_probe}
+use Rattle.tcp_replay.proofs.Words.{new_count, NewText, or_cases, Owed, owed_after, place_of, position_at, position_near, Range, range_after, send_refusal}
+use Rattle.tcp_replay.proofs.Words.{Sending, sending_after, sends_text, slice_get_within, State, text_limit, window_from, with_acked, with_marks}
+use Rattle.tcp_replay.proofs.Words.{with_syn_acked, with_syn_sent, with_text, with_window, without_resend, without_text}
+use Rattle.tcp_replay.proofs.WorldWords.{address_of, IsAlone, IsSoundPair, new_party, next_position, PartyState, Sends, SentSegment}
+use Rattle.tcp_replay.proofs.Lemmas.{after_segment, Arrives, Both, both-swapped, end-closed, end-is, end-listen, going-on, IsAckOnly, IsPresent, kept-same}
+use Rattle.tcp_replay.proofs.Lemmas.{KeptByCalls, marked-sends, news-cases, on-arrival, one_if-false, PairKept, present-opened, range-more, range_after-ends}
+use Rattle.tcp_replay.proofs.Lemmas.{send-unclosed, windowed-sends}
+use Rattle.tcp_progress.proofs.Words.{TellsWithin}
+use Rattle.tcp_progress.proofs.Dues.{ack_alone-kept, again-kept, due-kept, KeptByDue}
 
 -- what x keeps of the direction to y, of whose stream it has `count` bytes from its user, when y wants `next` and has room for `capacity`
 pub record KeepsEdge (d : Sending) (probe : Bool) (count next capacity : ℕ) : Type 0 where
@@ -26,8 +29,7 @@ pub record KeepsEdge (d : Sending) (probe : Bool) (count next capacity : ℕ) : 
 
 -- the peer wants a later position, and more may have been accepted of what wasn't sent
 pub edge-more : (d : Sending) (probe : Bool) (count count' next next' capacity : ℕ) → min d.nxt (1 + count') ≤ min d.nxt (1 + count) → next ≤ next'
-    → KeepsEdge d probe count next capacity
-    → KeepsEdge d probe count' next' capacity
+    → KeepsEdge d probe count next capacity → KeepsEdge d probe count' next' capacity
 edge-more d probe count count' next next' capacity same more h = record {
   sent = omega (arith, same, more, h.sent);
   window = h.window;
@@ -41,7 +43,7 @@ module _ (count next capacity : ℕ) where
   abbrev pub Edge : Sending → Bool → Type 0
   Edge d probe = KeepsEdge d probe count next capacity
 
-  -- nothing is owed any more
+  -- nothing is pending any more
   edge-unprobed : (d : Sending) (probe : Bool) → Edge d probe → Edge d false
   edge-unprobed d probe h = record { sent = h.sent; window = h.window; probed = λ never. absurd (cc); range = h.range; marks = h.marks }
 
@@ -58,14 +60,7 @@ module _ (count next capacity : ℕ) where
   -- text is accepted
   pub edge-text : (d : Sending) (probe : Bool) (limit : ℕ) (text : List ℕ) → Edge d probe → Edge (with_text d limit text) probe
   edge-text d probe limit text h =
-      record {
-        sent = h.sent;
-        window = h.window;
-        probed = h.probed;
-        range = h.range;
-        marks = λ place is. h.marks place
-            (IsMarked-after_offer d.queue _ place is);
-      }
+      record { sent = h.sent; window = h.window; probed = h.probed; range = h.range; marks = λ at is. h.marks at (IsMarked-after_offer d.queue _ at is) }
 
   -- the connection has ended
   pub edge-orderly : (d : Sending) (probe : Bool) → Edge d probe → Edge (without_resend d) false
@@ -80,11 +75,6 @@ module _ (count next capacity : ℕ) where
   pub edge-given_up : (d : Sending) (probe : Bool) → length d.queue.marks ≡ length d.queue.bytes → Edge d probe → Edge (without_text d) false
   edge-given_up d probe flags h =
       record { sent = h.sent; window = h.window; probed = λ never. absurd (cc); range = tt; marks = λ place is. absurd (none-marked d place flags is) }
-
-  -- RETRANSMISSION TIMEOUT
-  pub edge-all_resent : (d : Sending) (probe : Bool) → Edge d probe → Edge (with_all_resent d) probe
-  edge-all_resent d probe h =
-      record { sent = h.sent; window = h.window; probed = h.probed; range = omega arith; marks = λ place is. absurd (IsMarked-without_marks d.queue place is) }
 
   -- a probe is granted where nothing is in flight
   pub edge-probe : (d : Sending) (probe needs : Bool) → (needs ≡ true → (1 ≤ d.una) × (d.una ≡ d.nxt)) → Edge d probe → Edge d (probe || needs)
@@ -101,22 +91,19 @@ module _ (count next capacity : ℕ) where
   unfolding last_mark_end
   mark_end-sent d probe end e h =
       let last = end_of_marks d.queue.marks in
-      cond_both (nat_lt 0 last) (Some last) None (λ (o : Option ℕ). o ≡ Some end → position_at d end ≤ d.nxt)
-      (λ some e.
+      cond_both (nat_lt 0 last) (Some last) None (λ (o : Option ℕ). o ≡ Some end → position_at d end ≤ d.nxt) (λ some e.
       let same : last ≡ end = cc in
       let least : 0 < last = ltb-true 0 last some in
       let below : position_at d (last - 1) < d.nxt = h.marks (last - 1) (end_of_marks-marked d.queue.marks least) in
-      omega (arith, same, least, below))
-      (λ _ e. absurd (cc)) e
+      omega (arith, same, least, below)) (λ _ e. absurd (cc)) e
 
   pub edge-gaps : (d : Sending) (probe : Bool) (end : Option ℕ) → last_mark_end d.queue ≡ end → Edge d probe → Edge (after_gaps d end) probe
   edge-gaps d probe None e h = h
   edge-gaps d probe (Some end) e h = record { sent = h.sent; window = h.window; probed = h.probed; range = mark_end-sent d probe end e h; marks = h.marks }
 
-  -- ---- WHAT GOES OUT. SND.NXT moves on
+  -- SND.NXT moves on
   pub edge-moved : (d : Sending) (probe : Bool) (n : ℕ) → min (max d.nxt n) (1 + count) ≤ next + capacity
-      → (probe ≡ true → min (max d.nxt n) (1 + count) ≤ d.una) → Edge d probe
-      → Edge (record d { nxt = max d.nxt n }) probe
+      → (probe ≡ true → min (max d.nxt n) (1 + count) ≤ d.una) → Edge d probe → Edge (record d { nxt = max d.nxt n }) probe
   edge-moved d probe n fits shut h = record {
     sent = fits;
     window = h.window;
@@ -135,76 +122,68 @@ module _ (count next capacity : ℕ) where
     marks = λ place is. omega (arith, h.marks place is);
   }
 
+  -- ---- WHAT ARRIVES
+  -- its own SYN is acknowledged
+  edge-syn_acked : (d : Sending) (probe : Bool) → d.una ≤ d.nxt → Edge d probe → Edge (with_syn_acked d) probe
+  edge-syn_acked d probe order h =
+      record { sent = h.sent; window = h.window; probed = λ e. (omega (arith, order, (h.probed e).0), omega arith); range = h.range; marks = h.marks }
+
+  -- a window is taken
+  edge-window : (d : Sending) (probe : Bool) (seq ack window : ℕ) → window ≤ capacity → Edge d probe → Edge (with_window d seq ack window) probe
+  edge-window d probe seq ack window fits h = record { sent = h.sent; window = fits; probed = h.probed; range = h.range; marks = h.marks }
+
+  -- ACKNOWLEDGEMENT: a release takes bytes with their marks
+  edge-after_ack : (d : Sending) (probe : Bool) (a : ℕ) → Edge d probe → Edge (after_ack d a) probe
+  unfolding after_ack
+  edge-after_ack d probe a h =
+      cond_both (acks_more d a) (with_acked d a) d (λ (x : Sending). Edge x probe) (λ e.
+      let new : d.una < a = ltb-true d.una a (and_parts (nat_lt d.una a) (nat_le a d.nxt) e).0 in
+      record {
+        sent = h.sent;
+        window = h.window;
+        probed = λ e. let at = h.probed e in (omega (arith, new), omega (arith, new, at.1));
+        range = h.range;
+        marks = λ place is. omega (arith, h.marks (count_below d a + place) (IsMarked-after_release d.queue (count_below d a) place is));
+      }) (λ _. h)
+
+  -- BLOCKS mark what was sent
+  edge-marked : (d : Sending) (probe : Bool) (left right : ℕ) → marks_text d left right ≡ true → length d.queue.marks ≡ length d.queue.bytes
+      → Edge d probe → Edge (with_marks d left right) probe
+  unfolding after_mark
+  edge-marked d probe left right e flags h =
+      let from = place_of d left in
+      let to = count_below d right in
+      let parts = and_parts (is_of_flight d left right) (nat_lt from to) e in
+      let order : from < to = ltb-true from to parts.1 in
+      let flight = and_parts (nat_lt d.una left) (nat_lt left right && nat_le right d.nxt) parts.0 in
+      let sent : right ≤ d.nxt = leb-true right d.nxt (and_parts (nat_lt left right) (nat_le right d.nxt) flight.1).1 in
+      record {
+        sent = h.sent;
+        window = h.window;
+        probed = h.probed;
+        range = h.range;
+        marks = cond_both (can_mark d.queue from to) (marks_with from to d.queue.marks) d.queue.marks
+            (λ (marks : List Bool). (place : ℕ) → IsMarked (record d.queue { marks = marks }) place → position_at d place < d.nxt) (λ _ place is.
+            ⊎_elim (h.marks place) (λ (inside : (from ≤ place) × (place < to)). omega (arith, inside.0, inside.1, sent))
+            (marks_with-only from to d.queue.marks place (omega (arith, order)) (omega (arith, flags)) is)) (λ _. h.marks);
+      }
+
+  -- ---- WHAT GOES OUT of the half
   module _ (d : Sending) (opened : Bool) (owed : Owed) where
     -- the half after something went out
     abbrev pub EdgeAfter : Due → Type 0
     EdgeAfter due = Edge (sending_after d due) (owed_after opened owed due).probe
 
-    text-again : (limit : ℕ) (range : Range ℕ) (run : ℕ × ℕ) → range.end ≤ d.nxt → Edge d owed.probe → IfSome (resent_text d limit range.end run) EdgeAfter
-    text-again limit range run inside h =
-        let count = min limit (min (run.1 - run.0) (range.end - position_at d run.0)) in
-        cond_both (nat_lt (position_at d run.0) range.end) (Some (Resend (position_at d run.0) count)) None (λ (due : Option Due). IfSome due EdgeAfter)
-        (λ e.
-        let below : position_at d run.0 < range.end = ltb-true (position_at d run.0) range.end e in
-        edge-again d owed.probe (position_at d run.0 + count) (omega (arith, below, inside)) h)
-        (λ _. tt)
-
-    fin-again : (range : Range ℕ) → range.end ≤ d.nxt → Edge d owed.probe → IfSome (resent_fin d range) EdgeAfter
-    fin-again range inside h =
-        cond_both (nat_lt (end_of_text d) range.end && nat_le (resend_start d range) (end_of_text d)) (Some (ResentFin (end_of_text d))) None
-        (λ (due : Option Due). IfSome due EdgeAfter)
-        (λ e.
-        let beyond : end_of_text d < range.end = ltb-true (end_of_text d) range.end
-        (and_parts (nat_lt (end_of_text d) range.end) (nat_le (resend_start d range) (end_of_text d)) e).0 in
-        edge-again d owed.probe (end_of_text d + 1) (omega (arith, beyond, inside)) h)
-        (λ _. tt)
-
-    run-again : (limit : ℕ) (range : Range ℕ) (run : Option (ℕ × ℕ)) → range.end ≤ d.nxt → Edge d owed.probe → IfSome (resent_run d limit range run) EdgeAfter
-    run-again limit range None inside h = fin-again range inside h
-    run-again limit range (Some run) inside h = text-again limit range run inside h
-
-    again : (limit : ℕ) (range : Option (Range ℕ)) → IfSome range (λ r. r.end ≤ d.nxt) → Edge d owed.probe → IfSome (resend_of d limit range) EdgeAfter
-    unfolding resend_of
-    again limit None inside h = tt
-    again limit (Some range) inside h = run-again limit range (next_unmarked d.queue (place_of d (resend_start d range))) inside h
-
     -- NEW TEXT ends at SND.UNA + SND.WND at most, or is one byte at SND.UNA (RFC 9293, 3.8.6.1)
     new-reaches : (k : ℕ) → k ≤ count_allowed d owed.probe → d.nxt + k ≤ max d.nxt (1 + count) → d.una ≤ next → 1 ≤ capacity → Edge d owed.probe
         → min (d.nxt + k) (1 + count) ≤ next + capacity
-    new-reaches k allowed inside had some h =
-        cond_both (usable_window d == 0) (if owed.probe then 1 else 0) (usable_window d) (λ (n : ℕ). k ≤ n → min (d.nxt + k) (1 + count) ≤ next + capacity)
-        (λ _. cond_both owed.probe 1 0 (λ (n : ℕ). k ≤ n → min (d.nxt + k) (1 + count) ≤ next + capacity)
-        (λ e least. omega (arith, least, (h.probed e).1, inside, had, some, h.sent)) (λ _ least. omega (arith, least, h.sent)))
-        (λ _ least. omega (arith, least, h.window, had, h.sent)) allowed
+    new-reaches k allowed inside had some h = grind (arith, nat_tests, allowed, inside, had, some, h)
 
-    edge-new : (limit : ℕ) → d.una ≤ d.nxt → 1 + d.released ≤ d.una → end_of_text d ≡ 1 + count → d.una ≤ next → 1 ≤ capacity → Edge d owed.probe
-        → IfSome (new_text_of d limit owed.probe) EdgeAfter
-    unfolding new_text_of
-    edge-new limit order released last had some h =
-        let k = new_count d limit owed.probe in
-        cond_both (k == 0) None (Some (NewText d.nxt k)) (λ (due : Option Due). IfSome due EdgeAfter) (λ _. tt)
-        (λ _.
-        let unsent : k ≤ count_unsent d = omega arith in
-        let allowed : k ≤ count_allowed d owed.probe = omega arith in
+    edge-new : (k : ℕ) → k ≤ count_unsent d → k ≤ count_allowed d owed.probe → d.una ≤ d.nxt → 1 + d.released ≤ d.una → end_of_text d ≡ 1 + count
+        → d.una ≤ next → 1 ≤ capacity → Edge d owed.probe → EdgeAfter (NewText d.nxt k)
+    edge-new k unsent allowed order released last had some h =
         let fits : min (d.nxt + k) (1 + count) ≤ next + capacity = new-reaches k allowed (omega (arith, unsent, last, order, released)) had some h in
-        edge-moved d false (d.nxt + k) (omega (arith, fits)) (λ never. absurd (cc)) (edge-unprobed d owed.probe h))
-
-    -- FIN, whatever the window
-    last : (closing : Bool) → end_of_text d ≡ 1 + count → Edge d owed.probe → IfSome (fin_of d closing) EdgeAfter
-    last closing end_is h =
-        cond_both (closing && (d.nxt == end_of_text d)) (Some (Fin d.nxt)) None (λ (due : Option Due). IfSome due EdgeAfter)
-        (λ e.
-        let here : d.nxt ≡ end_of_text d = eqb-true d.nxt (end_of_text d) (and_parts closing (d.nxt == end_of_text d) e).1 in
-        edge-moved d owed.probe (d.nxt + 1) (omega (arith, here, end_is, h.sent)) (λ e. omega (arith, here, end_is, (h.probed e).1)) h)
-        (λ _. tt)
-
-    -- the first that is due
-    pub edge-due : (limit : ℕ) (closing : Bool) → d.una ≤ d.nxt → 1 + d.released ≤ d.una → end_of_text d ≡ 1 + count → d.una ≤ next → 1 ≤ capacity
-        → Edge d owed.probe
-        → IfSome (sending_due d limit owed.probe closing) EdgeAfter
-    edge-due limit closing order released end_is had some h =
-        option_or-both EdgeAfter (resend_of d limit d.resend) (option_or (new_text_of d limit owed.probe) (fin_of d closing)) (again limit d.resend h.range h)
-        (option_or-both EdgeAfter (new_text_of d limit owed.probe) (fin_of d closing) (edge-new limit order released end_is had some h) (last closing end_is h))
+        edge-moved d false (d.nxt + k) (omega (arith, fits)) (λ never. absurd (cc)) (edge-unprobed d owed.probe h)
 
 -- the edge of an end that party p may have, its peer q being where it is, and its user's bytes being these
 abbrev pub EdgedWith : PartyState → State → List ℕ → Type 0
@@ -214,23 +193,16 @@ abbrev pub Edged : PartyState → PartyState → State → Type 0
 Edged p q s = EdgedWith q s p.accepted
 
 -- SEND: text is accepted only before a close, and until then nothing was sent behind it
-sent-open : (d : Sending) (accepted : List ℕ) (closed gone : Bool) → closed ≡ false → Sends d accepted closed gone → d.nxt ≤ 1 + length accepted
-sent-open d accepted closed gone unclosed h = omega (arith, h.most, one_if-false closed unclosed)
-
 edge-with_text : (p q : PartyState) (text : List ℕ) → send_refusal p.endpoint text ≡ None → IsSoundPair p q → Edged p q p.endpoint
-    → KeepsEdge (with_text p.endpoint.sending p.endpoint.config.limit text) p.endpoint.owed.probe
-    (length (p.accepted ++ take (count_sendable p.endpoint.sending p.endpoint.config.limit text) text))
-    (next_position q) q.endpoint.config.recv_capacity
+    → EdgedWith q (record p.endpoint { sending = with_text p.endpoint.sending p.endpoint.config.limit text })
+    (p.accepted ++ take (count_sendable p.endpoint.sending p.endpoint.config.limit text) text)
 edge-with_text p q text e pair h =
     let s = p.endpoint in
-    let d = s.sending in
-    let more = take (count_sendable d s.config.limit text) text in
+    let more = take (count_sendable s.sending s.config.limit text) text in
     let unclosed = send-unclosed s p.accepted text p.closed e pair.there.alone in
-    let nxt = sent-open d p.accepted p.closed (gives_up s.ending) unclosed pair.there.alone.sends in
-    let capacity = q.endpoint.config.recv_capacity in
-    edge-text (length (p.accepted ++ more)) (next_position q) capacity d s.owed.probe s.config.limit text
-    (edge-more d s.owed.probe (length p.accepted) (length (p.accepted ++ more)) (next_position q) (next_position q) capacity
-    (omega (arith, nxt, length-append p.accepted more)) (omega arith) h)
+    let nxt : s.sending.nxt ≤ 1 + length p.accepted = omega (arith, pair.there.alone.sends.most, one_if-false p.closed unclosed) in
+    edge-text _ _ _ s.sending s.owed.probe s.config.limit text
+    (edge-more s.sending s.owed.probe _ _ _ _ _ (omega (arith, nxt, length-append p.accepted more)) (omega arith) h)
 
 -- TIMERS
 probe-needed : (s : State) (accepted : List ℕ) (closed : Bool) → IsAlone s accepted closed → needs_probe s ≡ true
@@ -246,68 +218,49 @@ abbrev EdgedAfter : PartyState → PartyState → Due → Type 0
 EdgedAfter p q due =
     EdgeAfter (length p.accepted) (next_position q) q.endpoint.config.recv_capacity p.endpoint.sending p.endpoint.receiving.opened p.endpoint.owed due
 
--- a reset, a SYN and an acknowledgement alone
-edge-reset_due : (p q : PartyState) (reset : Option WaitingReset) → Edged p q p.endpoint → IfSome (reset_due reset) (EdgedAfter p q)
-edge-reset_due p q None h = tt
-edge-reset_due p q (Some reset) h =
-    let d = p.endpoint.sending in
-    edge-moved (length p.accepted) (next_position q) q.endpoint.config.recv_capacity d p.endpoint.owed.probe 0 (omega (arith, h.sent))
-    (λ e. omega (arith, (h.probed e).1)) h
-
-edge-syn : (p q : PartyState) → IsSoundPair p q → Edged p q p.endpoint → EdgedAfter p q dues.Syn
-edge-syn p q pair h =
-    let d = p.endpoint.sending in
-    edge-moved (length p.accepted) (next_position q) q.endpoint.config.recv_capacity d p.endpoint.owed.probe 1 (omega (arith, h.sent))
-    (λ e. omega (arith, (h.probed e).0, (h.probed e).1, pair.there.alone.sends.order)) h
-
-edge-ack : (p q : PartyState) → Edged p q p.endpoint → EdgedAfter p q dues.Acknowledgement
-edge-ack p q h =
-    let d = p.endpoint.sending in
-    edge-moved (length p.accepted) (next_position q) q.endpoint.config.recv_capacity d p.endpoint.owed.probe d.nxt (omega (arith, h.sent))
-    (λ e. omega (arith, (h.probed e).1)) h
-
--- text or FIN
-edge-text_due : (p q : PartyState) → IsSoundPair p q → Edged p q p.endpoint → IfSome (text_due p.endpoint) (EdgedAfter p q)
-edge-text_due p q pair h =
+-- whatever is due
+edge-due : (p q : PartyState) → IsSoundPair p q → Edged p q p.endpoint → KeptByDue p.endpoint (EdgedAfter p q)
+edge-due p q pair h =
     let s = p.endpoint in
     let d = s.sending in
     let alone = pair.there.alone in
-    cond_both (sends_text s.phase) (sending_due d (text_limit s) s.owed.probe s.closing) None (λ (o : Option Due). IfSome o (EdgedAfter p q))
-    (λ e.
-    let goes = going-on s p.accepted p.closed e alone in
-    let sends : Sends d p.accepted p.closed false = rw goes.1 at alone.sends in
-    edge-due (length p.accepted) (next_position q) q.endpoint.config.recv_capacity d s.receiving.opened s.owed (text_limit s) s.closing
-    sends.order (omega (arith, goes.0, sends.released)) (end-is d p.accepted p.closed sends) pair.there.between pair.back.alone.config.good.0.1.0 h)
-    (λ _. tt)
-
-edge-any_due : (p q : PartyState) → IsSoundPair p q → Edged p q p.endpoint → IfSome (due_of p.endpoint) (EdgedAfter p q)
-unfolding due_of
-edge-any_due p q pair h =
-    let s = p.endpoint in
-    let P : Due → Type 0 = EdgedAfter p q in
-    option_or-both P (reset_due s.owed.reset) (option_or (syn_due s.owed) (option_or (text_due s) (ack_due s.owed))) (edge-reset_due p q s.owed.reset h)
-    (option_or-both P (syn_due s.owed) (option_or (text_due s) (ack_due s.owed))
-    (cond_both s.owed.syn (Some dues.Syn) None (λ (o : Option Due). IfSome o P) (λ _. edge-syn p q pair h) (λ _. tt))
-    (option_or-both P (text_due s) (ack_due s.owed) (edge-text_due p q pair h)
-    (cond_both s.owed.ack (Some dues.Acknowledgement) None (λ (o : Option Due). IfSome o P) (λ _. edge-ack p q h) (λ _. tt))))
+    let sends : sends_text s.phase ≡ true → Sends d p.accepted p.closed false = λ e. rw (going-on s p.accepted p.closed e alone).1 at alone.sends in
+    let inside : (range : Range ℕ) → d.resend ≡ Some range → range.end ≤ d.nxt = λ range is.
+    subst (λ (o : Option (Range ℕ)). IfSome o (λ r. r.end ≤ d.nxt)) is h.range in
+    record {
+      resets = λ _ _. edge-moved _ _ _ d s.owed.probe 0 (omega (arith, h.sent)) (λ e. omega (arith, (h.probed e).1)) h;
+      syn = λ _. edge-moved _ _ _ d s.owed.probe 1 (omega (arith, h.sent)) (λ e. omega (arith, (h.probed e).0, (h.probed e).1, alone.sends.order)) h;
+      acks = λ _. edge-moved _ _ _ d s.owed.probe d.nxt (omega (arith, h.sent)) (λ e. omega (arith, (h.probed e).1)) h;
+      again = λ _. again-kept d (text_limit s) (EdgedAfter p q) (record {
+        text = λ range start k again ends _ _. edge-again _ _ _ d s.owed.probe (start + k) (omega (arith, ends, inside range again.is)) h;
+        fin = λ range again. edge-again _ _ _ d s.owed.probe (end_of_text d + 1) (omega (arith, again.inside, inside range again.is)) h;
+      });
+      new_text = λ e _.
+          let had = sends e in
+          edge-new _ _ _ d s.receiving.opened s.owed (new_count d (text_limit s) s.owed.probe) (omega arith) (omega arith) had.order
+          (omega (arith, (going-on s p.accepted p.closed e alone).0, had.released)) (end-is d p.accepted p.closed had) pair.there.between
+          pair.back.alone.config.good.0.1.0 h;
+      -- the FIN, whatever the window
+      fin = λ e _ at.
+          let last = end-is d p.accepted p.closed (sends e) in
+          edge-moved _ _ _ d s.owed.probe (d.nxt + 1) (omega (arith, at, last, h.sent)) (λ e. omega (arith, at, last, (h.probed e).1)) h;
+    }
 
 -- ALL OF THEM
 pub edge-calls : (p q : PartyState) → IsSoundPair p q → Edged p q p.endpoint → KeptByCalls (address_of q) p (λ p'. EdgedWith q p'.endpoint p'.accepted)
 edge-calls p q pair h =
     let s = p.endpoint in
     let d = s.sending in
-    let count = length p.accepted in
-    let n = next_position q in
-    let capacity = q.endpoint.config.recv_capacity in
     let alone = pair.there.alone in
-    let gone : Edged p q (after_giving_up s Aborted) = edge-given_up count n capacity d s.owed.probe alone.sends.flags h in
-    let probe : Edge count n capacity d (s.owed.probe || needs_probe s) = edge-probe count n capacity d s.owed.probe (needs_probe s)
+    let gone : Edged p q (after_giving_up s Aborted) = edge-given_up _ _ _ d s.owed.probe alone.sends.flags h in
+    let probe : Edge (length p.accepted) (next_position q) q.endpoint.config.recv_capacity d (s.owed.probe || needs_probe s) =
+    edge-probe _ _ _ d s.owed.probe (needs_probe s)
     (probe-needed s p.accepted p.closed alone) h in
     record {
       same = h;
       connects = λ can.
           let new = end-closed s can.shut can.ending alone.progress in
-          edge-syn_sent count n capacity d s.owed.probe new.nxt_is alone.sends.order (omega arith) h;
+          edge-syn_sent _ _ _ d s.owed.probe new.nxt_is alone.sends.order (omega arith) h;
       listens = λ _. h;
       sends = λ text _ e. edge-with_text p q text e pair h;
       reads = λ _ _. h;
@@ -315,9 +268,88 @@ edge-calls p q pair h =
       closes = λ _ _. h;
       aborts = gone;
       acknowledges = h;
-      resends = λ _. edge-all_resent count n capacity d (s.owed.probe || needs_probe s) probe;
+      resends = λ _. record {
+        sent = probe.sent;
+        window = probe.window;
+        probed = probe.probed;
+        range = omega arith;
+        marks = λ place is. absurd (IsMarked-without_marks d.queue place is);
+      };
       probes = probe;
-      fills = λ end _ e. edge-gaps count n capacity d s.owed.probe (Some end) e h;
-      ends = λ _. edge-orderly count n capacity d s.owed.probe h;
-      emits = λ due is _. subst (λ (o : Option Due). IfSome o (EdgedAfter p q)) is (edge-any_due p q pair h);
+      fills = λ end _ e. edge-gaps _ _ _ d s.owed.probe (Some end) e h;
+      ends = λ _. edge-orderly _ _ _ d s.owed.probe h;
+      resends-first = λ _. record { sent = h.sent; window = h.window; probed = h.probed; range = omega arith; marks = h.marks };
+      emits = λ due may _. elim may [
+        | inl is ↦ subst (λ (o : Option Due). IfSome o (EdgedAfter p q)) is (due-kept s (EdgedAfter p q) (edge-due p q pair h))
+        | inr is ↦ subst (λ (o : Option Due). IfSome o (EdgedAfter p q)) is (ack_alone-kept s (EdgedAfter p q) (edge-due p q pair h))
+      ];
     }
+
+-- ---- THE NEWS of an acknowledgement: its window, and its blocks
+edge-news : (p q : PartyState) (s : State) (v : Content) → Sends s.sending p.accepted p.closed (gives_up s.ending)
+    → window_from s.link v.window ≤ q.endpoint.config.recv_capacity → Edged p q s → Edged p q (after_news s v)
+unfolding after_news
+edge-news p q s v sends fits h =
+    let gone = gives_up s.ending in
+    (news-cases (λ d. Sends d p.accepted p.closed gone × Edge (length p.accepted) (next_position q) q.endpoint.config.recv_capacity d s.owed.probe) s v
+    (λ d k. (windowed-sends d v.seq v.ack _ p.accepted p.closed gone k.0, edge-window _ _ _ d s.owed.probe v.seq v.ack _ fits k.1)) (λ d left right e k.
+    (marked-sends d left right p.accepted p.closed gone e k.0, edge-marked _ _ _ d s.owed.probe left right e k.0.flags k.1)) (sends, h)).1
+
+-- WHAT ARRIVES, with a window that fits the room that the peer has: a SYN's as it is, another's scaled
+pub edge-arrives : (p q : PartyState) (g : SentSegment) (v : Content) → TellsWithin q p → IsSoundPair p q → Arrives p q g v → Edged p q p.endpoint
+    → Edged p q (after_segment p q v)
+unfolding after_own_syn after_acked_text after_news after_peer_opens after_peer_accepts
+edge-arrives p q g v tells pair a h =
+    let s = p.endpoint in
+    let d = s.sending in
+    let r = s.receiving in
+    let alone = pair.there.alone in
+    let told = window_from s.link v.window in
+    let acked : Edged p q (record s { sending = with_syn_acked d }) = edge-syn_acked _ _ _ d s.owed.probe alone.sends.order h in
+    let fits : IsPresent s → IsAckOnly v → told ≤ q.endpoint.config.recv_capacity = λ present only. tells.plain a.place g v a.sent a.read only.plain only.no_syn
+    (present-opened s.phase s.ending d.una d.nxt r.opened r.finished present.shut present.listening present.syn_sent alone.progress) in
+    let B : State → Type 0 = λ x. (window_from x.link v.window ≤ q.endpoint.config.recv_capacity) × Edged p q x in
+    on-arrival p q v g.position g.wanted (Edged p q) B a.comes (kept-same p q pair) (record {
+      same = h;
+      owes = λ _ _. h;
+      gone = edge-given_up _ _ _ d s.owed.probe alone.sends.flags h;
+      opens = λ listening is.
+          let at = end-listen s listening alone.progress in
+          edge-syn_sent _ _ _ d s.owed.probe at.1.nxt_is alone.sends.order (omega arith) h;
+      accepts = λ sent is. edge-window _ _ _ (with_syn_acked d) s.owed.probe v.seq v.ack v.window
+          (tells.syn a.place g v a.sent a.read is.plain is.is_syn) acked;
+      own_syn = λ present only. (
+        fits present only,
+        cond_both (is_syn_received s.phase) (with_window (with_syn_acked d) v.seq v.ack told) d (λ (x : Sending). Edged p q (record s { sending = x }))
+            (λ _. edge-window _ _ _ (with_syn_acked d) s.owed.probe v.seq v.ack told (fits present only) acked) (λ _. h),
+      );
+      acked_text = λ x _ _ _ b. (b.0, edge-after_ack _ _ _ x.sending x.owed.probe (position_near x v.ack) b.1);
+      news = λ x _ synced _ b. (b.0, edge-news p q x v synced.kept.here.alone.sends b.0 b.1);
+      last = λ x _ _ _ b. edge-orderly _ _ _ x.sending x.owed.probe b.1;
+      passes = λ _ _ _ _ b. b.1;
+      stays = λ _ _ _ b. b.1;
+      text = λ _ _ _ _ _ _ b. b;
+      fin = λ _ _ _ _ _ _ b. b;
+      owing = λ _ _ b. b;
+    }) s.config.addr.0
+
+-- each end keeps its edge to the other
+abbrev pub KeepsEdges : PartyState → PartyState → Type 0
+KeepsEdges x y = Edged x y x.endpoint
+
+-- EVERY EVENT, where the windows that the ends advertise fit their room
+pub edges-kept : PairKept (λ x y. TellsWithin y x) (Both KeepsEdges) (λ p q s accepted. EdgedWith q s accepted)
+edges-kept = record {
+  swapped = both-swapped KeepsEdges;
+  calls = λ p q pair h. edge-calls p q pair h.there;
+  arrives = λ p q g v tells pair a h. edge-arrives p q g v tells pair a h.there;
+  -- p became p', whose Config is the same, and which wants no earlier position
+  moved = λ p p' q pair moved out edge h. record {
+    there = edge;
+    back = rw moved.config (edge-more q.endpoint.sending q.endpoint.owed.probe _ _ _ _ _ (omega arith) moved.grows.next h.back);
+  };
+}
+
+-- new parties
+pub new-edge : (a b : Config) → Edged (new_party a) (new_party b) (new_party a).endpoint
+new-edge a b = record { sent = omega arith; window = omega arith; probed = λ never. absurd (cc); range = tt; marks = λ place never. absurd (cc) }

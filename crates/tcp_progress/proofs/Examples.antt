@@ -1,6 +1,6 @@
 -- An end that holds sixteen runs: another early piece is refused, and the segment that is next is taken. It may send, and answers
 -- an old SYN.
-use Rattle.std.proofs.Common.{[], ℕ, ◌++◌, ◌∷◌, ◌≡◌, arith, false, inl, length, List, None, Option, pos, refl, Some, suc, true, zero}
+use Rattle.std.proofs.Common.{◌++◌, ◌∷◌, ◌≡◌, [], arith, false, inl, length, List, None, Option, pos, refl, Some, suc, true, zero, ℕ}
 use Rattle.tcp_replay.proofs.Words.{Advanced, after_connect, after_listen, AlwaysHolds, Cell, Config, Content, default_limit, Established, Inbox, ints}
 use Rattle.tcp_replay.proofs.Words.{is_acceptable, is_foreign, new_end, new_sending, NotKept, offset, place_answer, position_of, runs, State}
 use Rattle.tcp_replay.proofs.WorldWords.{Connect, effect_of, Listen, new_world_with, party_after_connect, party_after_listen, run_of}
@@ -35,22 +35,13 @@ holding = record (new_end config) {
   receiving = record { opened = true; next = 1001; ordered = 0; finished = false; inbox = full };
 }
 
--- one byte that is old, and the next
+-- an old SYN; and one byte that is old, with the next
+old_syn : Content
+old_syn = record { src_port = 1; dst_port = 2; seq = 1000; ack = 0; reserved = 0; flags = 2; window = 100; urgent = 0; options = []; pad = 0; text = [] }
+
 covers-all : Content
-covers-all = record {
-  src_port = 1;
-  dst_port = 2;
-  seq = 1000;
-  ack = 5001;
-  reserved = 0;
-  flags = 16;
-  window = 100;
-  urgent = 0;
-  options = [];
-  pad = 0;
-  text = 97 ∷
-      98 ∷ [];
-}
+unfolding old_syn
+covers-all = record old_syn { ack = 5001; flags = 16; text = 97 ∷ 98 ∷ [] }
 
 sixteen_held : length (runs full.held) ≡ 16
 unfolding full every_other
@@ -85,7 +76,7 @@ covering_next = record {
   within = omega (arith, ints);
 }
 
--- three bytes are queued, and so many of them are sent; the peer told that it holds the second, and its window is shut
+-- three bytes are queued, and so many of them are sent; the peer reported that it holds the second, and its window is zero
 sent : ℕ → State
 sent n = record holding {
   sending = record (new_sending 40)
@@ -107,9 +98,6 @@ text_unsent = record { idle = refl; waits = inl (omega arith); range = tt }
 holding_may_answer : MayAnswer holding
 unfolding holding config
 holding_may_answer = record { phase = refl; reset = refl; syn = refl; limit = omega arith; range = tt }
-
-old_syn : Content
-old_syn = record { src_port = 1; dst_port = 2; seq = 1000; ack = 0; reserved = 0; flags = 2; window = 100; urgent = 0; options = []; pad = 0; text = [] }
 
 old_syn_unacceptable : IsUnacceptable holding (10 ∷ 0 ∷ 0 ∷ 1 ∷ []) (10 ∷ 0 ∷ 0 ∷ 2 ∷ []) old_syn
 unfolding holding config full every_other old_syn is_foreign is_acceptable

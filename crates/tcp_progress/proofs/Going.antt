@@ -1,15 +1,15 @@
 -- A WORLD THAT GOES ON, over calm events: either less is left in the end, or both are where they were, and what holds so is carried on.
-use Rattle.std.proofs.Common.{[], ℕ, ◌+◌, ◌-◌, ◌<◌, ◌≡◌, ◌≤◌, ◌⊎◌, ap, arith, Bool, false, inl, inr, length, List, refl, true}
-use Rattle.tcp_replay.proofs.Words.{AllByRecursion, cases_lt}
-use Rattle.tcp_replay.proofs.WorldWords.{EventContent, next_position, other, party_of, PartyState, unread_of, world_after, world_after_all, WorldState}
+use Rattle.std.proofs.Common.{◌++◌, ◌+◌, ◌-◌, ◌<◌, ◌≡◌, ◌≤◌, ◌⊎◌, [], ap, arith, Bool, inl, inr, length, List, refl, suc, true, zero, ℕ}
+use Rattle.tcp_replay.proofs.Words.{AllByRecursion, cases_lt, Retransmit}
+use Rattle.tcp_replay.proofs.WorldWords.{Emit, EventContent, next_position, other, party_of, PartyState, Timer, unread_of, world_after, world_after_all}
+use Rattle.tcp_replay.proofs.WorldWords.{WorldState}
 use Rattle.tcp_replay.proofs.Lemmas.{one_if}
-use Rattle.tcp_progress.proofs.Words.{A, all_of, B, IsCalm, IsLive, IsSteadyPair, left_in, left_of_both, NoneGaveUp, Side}
-use Rattle.tcp_progress.proofs.AlwaysSteady.{IsKept, kept-steady}
+use Rattle.tcp_progress.proofs.Words.{A, all_of, AllCome, B, Comes, emissions, IsCalm, IsLive, IsSteadyPair, left_in, left_of_both, NoneGaveUp, served, Side}
+use Rattle.tcp_progress.proofs.AlwaysSteady.{IsKept, side-pair}
 use Rattle.tcp_progress.proofs.Calm.{Grows}
-use Rattle.tcp_progress.proofs.CalmWorlds.{Steps, on-event, steps-all, steps-event, steps-left, on-all, steps-then}
-use Rattle.tcp_progress.proofs.Measure.{GoOn, IsUp}
-use Rattle.tcp_progress.proofs.Ready.{steady-back}
-use Rattle.tcp_progress.proofs.Turning.{empty-length, in-order}
+use Rattle.tcp_progress.proofs.CalmWorlds.{on-all, on-event, Steps, steps-all, steps-event, steps-left, steps-then}
+use Rattle.tcp_progress.proofs.Live.{GoOn, IsUp, steady-back, swapped}
+use Rattle.tcp_progress.proofs.Turning.{calm-emissions, empty-length, in-order}
 
 -- ---- NOTHING IS BROUGHT ON: then both are where they were
 pub record AreThere (n u m v n' u' m' v' : ℕ) : Type 0 where
@@ -20,12 +20,7 @@ pub record AreThere (n u m v n' u' m' v' : ℕ) : Type 0 where
 
 there-still : (a b n u m v n' u' m' v' : ℕ) → n ≤ n' → u ≤ u' → m ≤ m' → v ≤ v' → n' ≤ a → u' ≤ a → m' ≤ b → v' ≤ b
     → ((a - n) + (a - u)) + ((b - m) + (b - v)) ≤ ((a - n') + (a - u')) + ((b - m') + (b - v')) → AreThere n u m v n' u' m' v'
-there-still a b n u m v n' u' m' v' one two three four five six seven eight some = record {
-  n_is = omega (arith, one, two, three, four, five, six, seven, eight, some);
-  u_is = omega (arith, one, two, three, four, five, six, seven, eight, some);
-  m_is = omega (arith, one, two, three, four, five, six, seven, eight, some);
-  v_is = omega (arith, one, two, three, four, five, six, seven, eight, some);
-}
+there-still a b n u m v n' u' m' v' one two three four five six seven eight some = omega arith
 
 -- two parties that are where they were
 pub record AreStill (x y x' y' : PartyState) : Type 0 where
@@ -51,20 +46,18 @@ are-still x y x' y' h on gx gy some =
     let alls' : all_of y' ≡ all_of y = omega (arith, ap length gy.accepted, ap one_if gy.closed) in
     let is = there-still (all_of x) (all_of y) (next_position y) x.endpoint.sending.una (next_position x) y.endpoint.sending.una
     (next_position y') x'.endpoint.sending.una (next_position x') y'.endpoint.sending.una
-    gy.next gx.una gx.next gy.una
-    (omega (arith, next-most x' y' h on.back.opened, alls)) (omega (arith, una-most x' y' h, alls))
+    gy.next gx.una gx.next gy.una (omega (arith, next-most x' y' h on.back.opened, alls)) (omega (arith, una-most x' y' h, alls))
     (omega (arith, next-most y' x' (steady-back y' x' h) on.there.opened, alls')) (omega (arith, una-most y' x' (steady-back y' x' h), alls'))
     (omega (arith, some, alls, alls')) in
     record { there = gx; back = gy; next_of_y = is.n_is; una_of_x = is.u_is; next_of_x = is.m_is; una_of_y = is.v_is }
 
-still-back : (x y x' y' : PartyState) → AreStill x y x' y' → AreStill y x y' x'
+pub still-back : (x y x' y' : PartyState) → AreStill x y x' y' → AreStill y x y' x'
 still-back x y x' y' h =
     record { there = h.back; back = h.there; next_of_y = h.next_of_x; una_of_x = h.una_of_y; next_of_x = h.next_of_y; una_of_y = h.una_of_x }
 
 -- a user who has read all has still read all
 not-more : (n n' all : ℕ) (fin fin' : Bool) → n' ≤ all → (fin ≡ true → n ≡ all) → 1 + n' + one_if fin' ≡ 1 + n + one_if fin → n' ≤ n
-not-more n n' all true fin' most last same = omega (arith, most, last refl)
-not-more n n' all false fin' most last same = omega (arith, same)
+not-more n n' all fin fin' most last same = grind (arith, most, last, same)
 
 -- of a user who has read all
 pub read-still : (x y x' y' : PartyState) → IsSteadyPair x y → IsSteadyPair x' y' → IsUp x → IsUp x' → AreStill x y x' y' → unread_of x ≡ [] → unread_of x' ≡ []
@@ -76,14 +69,10 @@ read-still x y x' y' h h' up up' still none =
     empty-length (unread_of x') (omega (arith, in-order x y h up, in-order x' y' h' up', ap length none, still.there.handed, ordered))
 
 -- ---- THE WORLD FROM ONE SIDE
-pub side-pair : (w : WorldState) (side : Side) → IsKept w → IsSteadyPair (party_of w side) (party_of w (other side))
-side-pair w A h = (kept-steady w h).ends
-side-pair w B h = steady-back w.b w.a (kept-steady w h).ends
-
 -- both go on
 pub side-on : (w : WorldState) (side : Side) → GoOn w.a w.b → GoOn (party_of w side) (party_of w (other side))
 side-on w A h = h
-side-on w B h = record { there = h.back; back = h.there; live = λ some. let both = h.live (omega (arith, some)) in (both.1, both.0) }
+side-on w B h = swapped w.b w.a h
 
 -- what is left is the same
 pub side-left : (w : WorldState) (side : Side) → left_of_both (party_of w side) (party_of w (other side)) ≡ left_in w
@@ -93,29 +82,13 @@ side-left w B = omega arith
 -- where as much is left
 pub side-still : (w v : WorldState) (side : Side) → Steps w v → GoOn v.a v.b → left_in w ≤ left_in v
     → AreStill (party_of w side) (party_of w (other side)) (party_of v side) (party_of v (other side))
-side-still w v A steps on some = are-still w.a w.b v.a v.b (kept-steady v steps.kept).ends on steps.there steps.back some
-side-still w v B steps on some = still-back w.a w.b v.a v.b (are-still w.a w.b v.a v.b (kept-steady v steps.kept).ends on steps.there steps.back some)
+side-still w v side steps on some =
+    are-still (party_of w side) (party_of w (other side)) (party_of v side) (party_of v (other side)) (side-pair v side steps.kept) (side-on v side on)
+    (steps.grows side) (steps.grows (other side)) (omega (arith, some, side-left w side, side-left v side))
 
 -- both users have read all
-pub record AreRead (w : WorldState) : Type 0 where
-  pub a : unread_of w.a ≡ []
-  pub b : unread_of w.b ≡ []
-
--- and both users have still read all
-pub are_read-still : (w v : WorldState) → IsKept w → Steps w v → GoOn w.a w.b → GoOn v.a v.b → left_in w ≤ left_in v → AreRead w → AreRead v
-are_read-still w v h steps on on' some read =
-    let still = side-still w v A steps on' some in
-    let pair = (kept-steady w h).ends in
-    let pair' = (kept-steady v steps.kept).ends in
-    record {
-      a = read-still w.a w.b v.a v.b pair pair' on.there on'.there still read.a;
-      b = read-still w.b w.a v.b v.a (steady-back w.b w.a pair) (steady-back v.b v.a pair') on.back on'.back (still-back w.a w.b v.a v.b still) read.b;
-    }
-
--- one of them
-pub side-read : (w : WorldState) (side : Side) → AreRead w → unread_of (party_of w side) ≡ []
-side-read w A h = h.a
-side-read w B h = h.b
+abbrev pub AreRead : WorldState → Type 0
+AreRead w = (side : Side) → unread_of (party_of w side) ≡ []
 
 -- ---- GOING: something is left, and both users have read all
 pub record IsGoing (w : WorldState) : Type 0 where
@@ -153,13 +126,11 @@ over w v u Q h steps on' rest next =
     elim (cases_lt (left_in v) (left_in w)) [
       | inl less ↦ inl (omega (arith, less, steps-left v u rest))
       | inr as_much ↦
-          elim (next (record {
-            kept = steps.kept;
-            on = on';
-            some = omega
-                (arith, h.some, as_much);
-            read = are_read-still w v h.kept steps h.on on' as_much h.read;
-          }) (λ side. side-still w v side steps on' as_much)) [
+          let read : AreRead v = λ side. read-still (party_of w side) (party_of w (other side)) (party_of v side) (party_of v (other side))
+          (side-pair w side h.kept) (side-pair v side steps.kept) (side-on w side h.on).there (side-on v side on').there
+          (side-still w v side steps on' as_much) (h.read side) in
+          elim (next (record { kept = steps.kept; on = on'; some = omega (arith, h.some, as_much); read = read })
+          (λ side. side-still w v side steps on' as_much)) [
             | inl less ↦ inl (omega (arith, less, steps-left w v steps))
             | inr is ↦ inr is
           ]
@@ -173,7 +144,7 @@ over-event w event u Q calm h rest up next =
     let v = world_after w event in
     let steps = steps-event w event calm h.kept in
     let more = rest steps.kept in
-    over w v u Q h steps (on-event w event calm h.kept h.on (more.stays_a up.0) (more.stays_b up.1)) more next
+    over w v u Q h steps (on-event w event calm h.kept h.on (more.stays up)) more next
 
 -- over events
 pub over-all : (w : WorldState) (events : List EventContent) (u : WorldState) (Q : Type 0) → AllByRecursion IsCalm events → IsGoing w
@@ -183,4 +154,50 @@ over-all w events u Q calm h rest up next =
     let v = world_after_all w events in
     let steps = steps-all w events calm h.kept in
     let more = rest steps.kept in
-    over w v u Q h steps (on-all w events calm h.kept h.on (more.stays_a up.0) (more.stays_b up.1)) more next
+    over w v u Q h steps (on-all w events calm h.kept h.on (more.stays up)) more next
+
+-- over an event, where less is left in the end
+pub lower-event : (w : WorldState) (event : EventContent) (later : List EventContent) → IsCalm event → AllByRecursion IsCalm later → IsGoing w
+    → let v = world_after w event in let end = world_after_all v later in NoneGaveUp end
+    → (IsGoing v → IsStillFrom w v → left_in end < left_in v) → left_in end < left_in w
+lower-event w event later calm calm' h up next =
+    let end = world_after_all (world_after w event) later in
+    lowers-only w end (over-event w event end ⊥ calm h (steps-all (world_after w event) later calm') up (λ hv still. inl (next hv still)))
+
+-- OVER THE EMISSIONS of a side, and what comes later: what is known at each of them goes on to be known, or something is brought on
+module _ (side : Side) (later : List EventContent) (calm : AllByRecursion IsCalm later) (Ready : WorldState → Type 0) where
+  -- where so many emissions and what comes later lead
+  abbrev BurstEnd : ℕ → WorldState → WorldState
+  BurstEnd n w = world_after_all (world_after_all w (emissions side n)) later
+
+  -- at one emission
+  abbrev pub KeepsReady : Type 0
+  KeepsReady = (w : WorldState) (n : ℕ) → IsGoing w → Ready w → Comes w (Emit side) (emissions side n ++ later)
+      → NoneGaveUp (BurstEnd n (world_after w (Emit side)))
+      → (left_in (BurstEnd n (world_after w (Emit side))) < left_in w)
+      ⊎ (IsGoing (world_after w (Emit side)) → IsStillFrom w (world_after w (Emit side)) → Ready (world_after w (Emit side)))
+
+  -- over so many of them
+  pub over-burst : KeepsReady → (n : ℕ) (w : WorldState) → IsGoing w → Ready w → AllCome w (emissions side n) later → NoneGaveUp (BurstEnd n w)
+      → Lowers w (BurstEnd n w) (Ready (world_after_all w (emissions side n)))
+  unfolding world_after_all
+  over-burst step zero w h ready come up = inr ready
+  over-burst step (suc n) w h ready come up =
+      let v = world_after w (Emit side) in
+      elim (step w n h ready come.0 up) [
+        | inl less ↦ inl less
+        | inr on ↦
+            over-event w (Emit side) (BurstEnd n v) (Ready (world_after_all v (emissions side n))) tt h
+            (steps-both v (emissions side n) later (calm-emissions side n) calm) up (λ hv still. over-burst step n v hv (on hv still) come.1 up)
+      ]
+
+  -- over those after its retransmission timeout
+  pub over-served : KeepsReady → (n : ℕ) (w : WorldState) → IsGoing w
+      → (let v = world_after w (Timer side Retransmit) in IsGoing v → IsStillFrom w v → Ready v)
+      → AllCome w (served side n) later → NoneGaveUp (world_after_all (world_after_all w (served side n)) later)
+      → Lowers w (world_after_all (world_after_all w (served side n)) later) (Ready (world_after_all w (served side n)))
+  unfolding world_after_all
+  over-served step n w h first come up =
+      let v = world_after w (Timer side Retransmit) in
+      over-event w (Timer side Retransmit) (BurstEnd n v) (Ready (world_after_all v (emissions side n))) tt h
+      (steps-both v (emissions side n) later (calm-emissions side n) calm) up (λ hv still. over-burst step n v hv (first hv still) come.1 up)

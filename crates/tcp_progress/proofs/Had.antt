@@ -1,70 +1,157 @@
--- TURNS CAN BE HAD, as many as one likes: from every world in which no end has given up, both bursts end; all that went out in them is
--- delivered; both answer, which ends too; and what they answered is delivered. No end gives up in it.
-use Rattle.std.proofs.Common.{[], ℕ, ◌++◌, ◌∙◌, ◌∷◌, ◌≡◌, ap, false, IfSome, if◌then◌else◌, inl, inr, length, List, None, Option, refl, Some, subst, suc, sym}
-use Rattle.std.proofs.Common.{zero}
-use Rattle.tcp_replay.proofs.Words.{AllByRecursion, cond_both, Due, due_of, Retransmit}
-use Rattle.tcp_replay.proofs.WorldWords.{Deliver, effect_of, Emit, EventContent, other, party_after_emission, party_of, Timer, world_after, world_after_all}
-use Rattle.tcp_replay.proofs.WorldWords.{WorldState}
-use Rattle.tcp_progress.proofs.Words.{A, AllCome, B, both_served, CanHaveTurns, Comes, Delivers, emissions, is_reset, IsCalm, IsIdle, IsTurn, IsUntimed}
+-- WHERE NO RESET COMES no end is reset or aborted: reads, the retransmission timeout and emissions end nothing, nor does a segment that is no reset.
+use Rattle.std.proofs.Common.{if◌then◌else◌, ◌++◌, ◌∙◌, ◌∷◌, ◌≡◌, [], ap, Bool, false, inl, inr, length, List, None, Option, refl, Some, subst, suc, sym, true}
+use Rattle.std.proofs.Common.{zero, ℕ}
+use Rattle.tcp_replay.proofs.Words.{acceptable_judgement, ack_judgement, after_judgement, AllByRecursion, bytes_of, cases_Bool, closed_judgement, Content, Due}
+use Rattle.tcp_replay.proofs.Words.{due_of, false≢true, gives_up, has, is_closed, is_fin, Judgement, judgement, listen_judgement, phase_judgement}
+use Rattle.tcp_replay.proofs.Words.{present_judgement, pushes, Retransmit, rst, segment_of, State, syn_sent_judgement, unacceptable_judgement}
+use Rattle.tcp_replay.proofs.WorldWords.{Deliver, effect_of, Emit, EventContent, gave_up, IsAlone, IsSoundPair, other, party_after_arrival}
+use Rattle.tcp_replay.proofs.WorldWords.{party_after_emission, party_of, PartyState, Receive, segment_at, sent_by, SentSegment, side_of, Timer, world_after}
+use Rattle.tcp_replay.proofs.WorldWords.{world_after_all, WorldState}
+use Rattle.tcp_replay.proofs.Lemmas.{not-closed-ended, plain-bits}
+use Rattle.tcp_progress.proofs.Words.{A, AllCome, B, both_served, CanHaveTurns, Comes, emissions, is_reset, IsCalm, IsIdle, IsQuiet, IsTurn, IsUntimed}
 use Rattle.tcp_progress.proofs.Words.{NoneGaveUp, reads, served, Side, TurnsCanBeHad}
-use Rattle.tcp_progress.proofs.AlwaysSteady.{IsKept}
+use Rattle.tcp_progress.proofs.Lemmas.{after-append, all-append, all-emissions, all-more, all-untimed, among-left, among-right, AreAmong, arrives, at-event}
+use Rattle.tcp_progress.proofs.Lemmas.{closed-ending, come-both, due-way, emit-at, emitted-as, goes-due, Grows, how-ends, in-every-world, IsKept, IsOnItsWay}
+use Rattle.tcp_progress.proofs.Lemmas.{no-reset, Resets, side-pair, Steps, steps-all, steps-event, steps-then, still-emission, still-reading, still-retransmit}
+use Rattle.tcp_progress.proofs.Lemmas.{way-later}
 use Rattle.tcp_progress.proofs.Behind.{emissions-other}
-use Rattle.tcp_progress.proofs.CalmWorlds.{Steps, steps-all, steps-event}
-use Rattle.tcp_progress.proofs.Coming.{AreAmong, among-left, among-right, come-both, due-among}
 use Rattle.tcp_progress.proofs.Draining.{burst-ends}
-use Rattle.tcp_progress.proofs.Everywhere.{in-every-world}
-use Rattle.tcp_progress.proofs.Plain.{GoesSafely, IsFine, IsNoReset, IsSafe, goes-safely, no_reset-emitted, no_reset-later, safe-later}
-use Rattle.tcp_progress.proofs.Turning.{after-append, all-append, all-untimed, calm-emissions}
-use Rattle.tcp_progress.proofs.Going.{side-pair}
+use Rattle.tcp_halves.specs.declared.due.Due.TheVariants as dues
+use Rattle.tcp_conn.specs.declared.phase.Timer.TheVariants as timers
 
--- ---- WHAT IS BROUGHT of so many emissions of a side: each segment that goes out, but no reset
-abbrev brought_due : Option Due → Side → ℕ → List EventContent → List EventContent
-brought_due None side k rest = rest
-brought_due (Some due) side k rest = if is_reset due then rest else Deliver side k ∷ rest
+-- ---- WITHOUT RST no judgement is passed that a reset alone brings (RFC 9293, 3.10.7)
+record IsPlain (j : Judgement) : Type 0 where
+  never : Resets j → ⊥
 
-abbrev brought : ℕ → WorldState → Side → List EventContent
-brought zero w side = []
-brought (suc n) w side = brought_due (due_of (party_of w side).endpoint) side (length (party_of w side).sent) (brought n (world_after w (Emit side)) side)
+plain-if : (b : Bool) (x y : Judgement) → IsPlain x → IsPlain y → IsPlain (if b then x else y)
+plain-if true x y one two = one
+plain-if false x y one two = two
 
-among-brought : (due : Option Due) (side : Side) (k : ℕ) (rest : List EventContent) → AreAmong rest (brought_due due side k rest)
-among-brought None side k rest = λ from j h. h
-among-brought (Some due) side k rest =
-    cond_both (is_reset due) rest (Deliver side k ∷ rest) (λ (events : List EventContent). AreAmong rest events) (λ _ from j h. h) (λ _ from j h. inr h)
+present-plain : (s : State) (v : Content) → has rst v.flags ≡ false → IsPlain (present_judgement s v)
+unfolding present_judgement unacceptable_judgement acceptable_judgement ack_judgement
+present-plain s v plain = rw plain (search plain-if depth 16)
 
-due-brought : (due : Option Due) (side : Side) (k : ℕ) (rest : List EventContent)
-    → IfSome due (λ kind. is_reset kind ≡ false → Delivers side k (brought_due due side k rest))
-due-brought None side k rest = tt
-due-brought (Some due) side k rest = λ plain. rw plain (inl refl)
+judged-plain : (s : State) (src dst : List ℕ) (v : Content) → has rst v.flags ≡ false → IsPlain (judgement s src dst v)
+unfolding judgement phase_judgement closed_judgement listen_judgement syn_sent_judgement
+judged-plain s src dst v plain =
+    let present = present-plain s v plain in
+    rw plain (search plain-if depth 16)
 
-burst-comes : (n : ℕ) (w : WorldState) (side : Side) (later : List EventContent) → AreAmong (brought n w side) later → AllCome w (emissions side n) later
-burst-comes zero w side later among = tt
-burst-comes (suc n) w side later among =
-    let due = due_of (party_of w side).endpoint in
-    let k = length (party_of w side).sent in
-    let rest = brought n (world_after w (Emit side)) side in (
-      due-among due side k (brought_due due side k rest) (emissions side n ++ later)
-          (λ from j h. among-right (emissions side n) later from j (among from j h)) (due-brought due side k rest),
-      burst-comes n (world_after w (Emit side)) side later (λ from j h. among from j (among-brought due side k rest from j h)),
-    )
+-- so no end is reset or aborted at it
+stays-judgement : (s : State) (src dst : List ℕ) (v : Content) (accepted : List ℕ) (closed : Bool) → IsAlone s accepted closed → has rst v.flags ≡ false
+    → gives_up s.ending ≡ false → gives_up (after_judgement (judgement s src dst v) s src v).ending ≡ false
+stays-judgement s src dst v accepted closed alone plain stays =
+    elim (cases_Bool (is_closed s.phase)) [
+      | inl shut ↦ ap gives_up (closed-ending s src dst v shut) ∙ stays
+      | inr here ↦
+          let goes = not-closed-ended s.phase s.ending s.sending.una s.sending.nxt s.receiving.opened s.receiving.finished here alone.progress in
+          elim (how-ends s src dst v goes) [
+            | inl reset ↦ absurd ((judged-plain s src dst v plain).never reset)
+            | inr ends ↦ elim ends [ inl on ↦ ap gives_up on | inr over ↦ ap gives_up over.0 ]
+          ]
+    ]
 
--- they are deliveries alone
+-- ---- NO RESET: the k-th segment of p, as q reads it
+abbrev pub IsNoReset : PartyState → PartyState → ℕ → Type 0
+IsNoReset p q k = (g : SentSegment) × (v : Content) × IsOnItsWay p q k g v
+
+-- it is none later
+pub no_reset-later : (p q p' q' : PartyState) (k : ℕ) → Grows p p' → Grows q q' → IsNoReset p q k → IsNoReset p' q' k
+no_reset-later p q p' q' k gp gq h = (h.0, h.1, way-later p q p' q' k h.0 h.1 gp gq h.2)
+
+due-plain : (s : State) (due : Due) → is_reset due ≡ false → has rst (segment_of s due).flags ≡ false
+unfolding segment_of
+due-plain s (dues.Reset reset) e = absurd (false≢true (sym e))
+due-plain s dues.Syn e = no-reset s.receiving.opened
+due-plain s due e = (plain-bits (pushes s.sending due) (is_fin due)).2
+
+-- what is due is none, unless a reset is
+pub no_reset-emitted : (p q : PartyState) (due : Due) → IsSoundPair p q → due_of p.endpoint ≡ Some due → is_reset due ≡ false
+    → IsNoReset (party_after_emission p) q (length p.sent)
+no_reset-emitted p q due h is plain =
+    let s = p.endpoint in
+    rw (emitted-as p due is) (sent_by s (bytes_of s due), segment_of s due, due-way p q due (goes-due p q due h is) (due-plain s due plain))
+
+-- ---- SAFE: at these no end is reset or aborted
+abbrev pub IsSafeAt : PartyState → PartyState → EventContent → Type 0
+IsSafeAt p q (Receive side room) = Unit {0}
+IsSafeAt p q (Timer side timers.Retransmit) = Unit {0}
+IsSafeAt p q (Emit side) = Unit {0}
+IsSafeAt p q (Deliver from k) = IsNoReset p q k
+IsSafeAt p q other = ⊥
+
+-- for the side that the event names
+abbrev pub IsSafe : WorldState → EventContent → Type 0
+IsSafe w event = IsSafeAt (party_of w (side_of event)) (party_of w (other (side_of event))) event
+
+safe-calm : (p q : PartyState) (event : EventContent) → IsSafeAt p q event → IsCalm event
+safe-calm p q (Receive side room) h = tt
+safe-calm p q (Timer side timers.Retransmit) h = tt
+safe-calm p q (Emit side) h = tt
+safe-calm p q (Deliver from k) h = tt
+safe-calm p q event h = absurd h
+
+safe-at : (p q p' q' : PartyState) (event : EventContent) → Grows p p' → Grows q q' → IsSafeAt p q event → IsSafeAt p' q' event
+safe-at p q p' q' (Deliver from k) gp gq h = no_reset-later p q p' q' k gp gq h
+safe-at p q p' q' event gp gq h = h
+
+-- what is safe is safe later
+pub safe-later : (w v : WorldState) (event : EventContent) → Steps w v → IsSafe w event → IsSafe v event
+safe-later w v event steps h = safe-at _ _ _ _ event (steps.grows (side_of event)) (steps.grows (other (side_of event))) h
+
+stays-effect : (life : ℕ) (p q : PartyState) (event : EventContent) → IsSafeAt p q event → IsSoundPair p q → (gave_up p ≡ false) × (gave_up q ≡ false)
+    → (gave_up (effect_of life p q event).here ≡ false) × (gave_up (effect_of life p q event).there ≡ false)
+unfolding effect_of
+stays-effect life p q (Receive side room) safe pair up = (ap gives_up (still-reading p room).ending ∙ up.0, up.1)
+stays-effect life p q (Timer side timers.Retransmit) safe pair up = (ap gives_up (still-retransmit p).ending ∙ up.0, up.1)
+stays-effect life p q (Emit side) safe pair up = (ap gives_up (still-emission p).ending ∙ up.0, up.1)
+stays-effect life p q (Deliver from k) safe pair up = (
+  up.0,
+  ap gave_up (arrives p q k safe.0 safe.1 safe.2) ∙ stays-judgement q.endpoint p.endpoint.config.addr.0 q.endpoint.config.addr.0 safe.1 q.accepted
+      q.closed pair.back.alone safe.2.no_rst up.1,
+)
+stays-effect life p q event safe pair up = absurd safe
+
+stays-event : (w : WorldState) (event : EventContent) → IsSafe w event → IsKept w → NoneGaveUp w → NoneGaveUp (world_after w event)
+stays-event w event safe h =
+    let s = side_of event in
+    let stays = stays-effect w.life (party_of w s) (party_of w (other s)) event safe (side-pair w s h).pair in
+    at-event (λ p q p' q'. (gave_up p ≡ false) × (gave_up q ≡ false) → (gave_up p' ≡ false) × (gave_up q' ≡ false)) w event A (λ up. up) (λ _ _. stays)
+    (λ _ up. let both = stays (up.1, up.0) in (both.1, both.0))
+
+-- ---- SOUND AND UP: what every world keeps, and no end was reset or aborted
+pub record IsFine (w : WorldState) : Type 0 where
+  pub kept : IsKept w
+  pub up : NoneGaveUp w
+
+-- over safe events
+pub record GoesSafely (w v : WorldState) : Type 0 where
+  pub steps : Steps w v
+  pub fine : IsFine v
+
+all-safe : (w : WorldState) (events : List EventContent) → AllByRecursion (IsSafe w) events → IsFine w → NoneGaveUp (world_after_all w events)
+unfolding world_after_all
+all-safe w [] safe h = h.up
+all-safe w (event ∷ events) safe h =
+    let v = world_after w event in
+    let step = steps-event w event (safe-calm _ _ event safe.0) h.kept in
+    all-safe v events (all-more (IsSafe w) (IsSafe v) (λ later is. safe-later w v later step is) events safe.1)
+    (record { kept = step.kept; up = stays-event w event safe.0 h.kept h.up })
+
+-- over safe events
+pub goes-safely : (w : WorldState) (events : List EventContent) → AllByRecursion (IsSafe w) events → IsFine w → GoesSafely w (world_after_all w events)
+goes-safely w events safe h =
+    let steps = steps-all w events (all-more (IsSafe w) IsCalm (λ event is. safe-calm _ _ event is) events safe) h.kept in
+    record { steps = steps; fine = record { kept = steps.kept; up = all-safe w events safe h } }
+
+-- ---- TURNS CAN BE HAD, as many as one likes: from every world in which no end was reset or aborted, both bursts end; all that went out in them is
+-- delivered; both answer, which ends too; and what they answered is delivered. No end is reset or aborted in it.
+-- ---- WHAT IS DELIVERED of the emissions of a side is each segment that goes out, but no reset: deliveries alone
 abbrev IsDelivery : EventContent → Type 0
 IsDelivery (Deliver from k) = Unit {0}
 IsDelivery other = ⊥
 
-due-delivers : (due : Option Due) (side : Side) (k : ℕ) (rest : List EventContent) → AllByRecursion IsDelivery rest
-    → AllByRecursion IsDelivery (brought_due due side k rest)
-due-delivers None side k rest h = h
-due-delivers (Some due) side k rest h =
-    cond_both (is_reset due) rest (Deliver side k ∷ rest) (λ (events : List EventContent). AllByRecursion IsDelivery events) (λ _. h) (λ _. (tt, h))
-
-all-brought : (n : ℕ) (w : WorldState) (side : Side) → AllByRecursion IsDelivery (brought n w side)
-all-brought zero w side = tt
-all-brought (suc n) w side =
-    due-delivers (due_of (party_of w side).endpoint) side (length (party_of w side).sent) (brought n (world_after w (Emit side)) side)
-    (all-brought n (world_after w (Emit side)) side)
-
--- so nothing goes out at them, and no timer runs out
+-- so nothing goes out at them
 delivery-comes : (w : WorldState) (event : EventContent) (later : List EventContent) → IsDelivery event → Comes w event later
 delivery-comes w (Deliver from k) later h = tt
 delivery-comes w event later h = absurd h
@@ -73,191 +160,196 @@ deliveries-come : (w : WorldState) (events later : List EventContent) → AllByR
 deliveries-come w [] later h = tt
 deliveries-come w (event ∷ events) later h = (delivery-comes w event (events ++ later) h.0, deliveries-come (world_after w event) events later h.1)
 
-delivery-untimed : (event : EventContent) → IsDelivery event → IsUntimed event
-delivery-untimed (Deliver from k) h = tt
-delivery-untimed event h = absurd h
+-- and no timer expires
+delivery-plain : (event : EventContent) → IsDelivery event → IsUntimed event × IsQuiet event
+delivery-plain (Deliver from k) h = (tt, tt)
+delivery-plain event h = absurd h
 
-deliveries-untimed : (events : List EventContent) → AllByRecursion IsDelivery events → AllByRecursion IsUntimed events
-deliveries-untimed [] h = tt
-deliveries-untimed (event ∷ events) h = (delivery-untimed event h.0, deliveries-untimed events h.1)
+-- none of which is a reset
+abbrev IsSafeDelivery : WorldState → EventContent → Type 0
+IsSafeDelivery w event = IsDelivery event × IsSafe w event
 
-untimed-emissions : (side : Side) (n : ℕ) → AllByRecursion IsUntimed (emissions side n)
-untimed-emissions side zero = tt
-untimed-emissions side (suc n) = (tt, untimed-emissions side n)
+-- ---- WHAT GOES OUT at some events, which go safely, is delivered safely
+record IsOut (w : WorldState) (events : List EventContent) : Type 0 where
+  out : List EventContent
+  safe : AllByRecursion (IsSafeDelivery (world_after_all w events)) out
+  goes : GoesSafely w (world_after_all w events)
+  comes : (later : List EventContent) → AreAmong out later → AllCome w events later
 
--- ---- NONE OF THEM IS A RESET
-emit-no_reset : (w : WorldState) (side : Side) (k : ℕ) → IsNoReset (party_after_emission (party_of w side)) (party_of w (other side)) k
-    → IsNoReset (party_of (world_after w (Emit side)) side) (party_of (world_after w (Emit side)) (other side)) k
-unfolding effect_of
-emit-no_reset w A k h = h
-emit-no_reset w B k h = h
+-- at events and those after them
+out-both : (w : WorldState) (xs ys : List EventContent) → IsOut w xs → IsOut (world_after_all w xs) ys → IsOut w (xs ++ ys)
+out-both w xs ys one two =
+    let same = after-append w xs ys in
+    let u = world_after_all w xs in
+    let v = world_after_all u ys in
+    let goes : GoesSafely w v = record { steps = steps-then w u v one.goes.steps two.goes.steps; fine = two.goes.fine } in
+    let safe = all-more (IsSafeDelivery u) (IsSafeDelivery v) (λ event is. (is.0, safe-later u v event two.goes.steps is.1)) one.out one.safe in
+    record {
+      out = one.out ++ two.out;
+      safe = rw same (all-append _ one.out two.out safe two.safe);
+      goes = rw same goes;
+      comes = λ later among. come-both w xs ys later
+          (one.comes (ys ++ later) (λ from k h. among-right ys later from k (among from k (among-left one.out two.out from k h))))
+          (two.comes later (λ from k h. among from k (among-right one.out two.out from k h)));
+    }
 
-side-later : (w v : WorldState) (side : Side) (k : ℕ) → Steps w v → IsNoReset (party_of w side) (party_of w (other side)) k
-    → IsNoReset (party_of v side) (party_of v (other side)) k
-side-later w v A k steps h = no_reset-later w.a w.b v.a v.b k steps.there steps.back h
-side-later w v B k steps h = no_reset-later w.b w.a v.b v.a k steps.back steps.there h
-
-due-safe : (w v : WorldState) (side : Side) (due : Option Due) (rest : List EventContent) → due_of (party_of w side).endpoint ≡ due → IsKept w
-    → Steps (world_after w (Emit side)) v
-    → AllByRecursion (IsSafe v) rest → AllByRecursion (IsSafe v) (brought_due due side (length (party_of w side).sent) rest)
-due-safe w v side None rest is h steps safe = safe
-due-safe w v side (Some due) rest is h steps safe =
+-- at one emission
+due-out : (w : WorldState) (side : Side) (due : Option Due) → due_of (party_of w side).endpoint ≡ due → IsFine w → IsOut w (Emit side ∷ [])
+unfolding world_after_all
+due-out w side None e h = record { out = []; safe = tt; goes = goes-safely w (Emit side ∷ []) (tt, tt) h; comes = λ later among. (rw e tt, tt) }
+due-out w side (Some due) e h =
     let k = length (party_of w side).sent in
-    cond_both (is_reset due) rest (Deliver side k ∷ rest) (λ (events : List EventContent). AllByRecursion (IsSafe v) events) (λ _. safe)
-    (λ plain. (
-      side-later (world_after w (Emit side)) v side k steps
-          (emit-no_reset w side k (no_reset-emitted (party_of w side) (party_of w (other side)) due (side-pair w side h).pair is plain)),
-      safe,
-    ))
+    let goes = goes-safely w (Emit side ∷ []) (tt, tt) h in
+    elim (cases_Bool (is_reset due)) [
+      | inl reset ↦ record { out = []; safe = tt; goes = goes; comes = λ later among. (rw (e, reset) (λ never. absurd (cc)), tt) }
+      | inr plain ↦
+          let out = no_reset-emitted (party_of w side) (party_of w (other side)) due (side-pair w side h.kept).pair e plain in
+          let safe = emit-at (λ x y. IsNoReset x y k) w side out in
+          record { out = Deliver side k ∷ []; safe = ((tt, safe), tt); goes = goes; comes = λ later among. (rw e (λ _. among side k (inl refl)), tt) }
+    ]
 
-safe-brought : (n : ℕ) (w : WorldState) (side : Side) → IsKept w → AllByRecursion (IsSafe (world_after_all w (emissions side n))) (brought n w side)
+emissions-out : (n : ℕ) (w : WorldState) (side : Side) → IsFine w → IsOut w (emissions side n)
 unfolding world_after_all
-safe-brought zero w side h = tt
-safe-brought (suc n) w side h =
-    let v = world_after w (Emit side) in
-    let kept = (steps-event w (Emit side) tt h).kept in
-    due-safe w (world_after_all v (emissions side n)) side (due_of (party_of w side).endpoint) (brought n v side) refl h
-    (steps-all v (emissions side n) (calm-emissions side n) kept) (safe-brought n v side kept)
+emissions-out zero w side h = record { out = []; safe = tt; goes = goes-safely w [] tt h; comes = λ later among. tt }
+emissions-out (suc n) w side h =
+    let one = due-out w side (due_of (party_of w side).endpoint) refl h in
+    out-both w (Emit side ∷ []) (emissions side n) one (emissions-out n (world_after w (Emit side)) side one.goes.fine)
 
-safe-emissions : (w : WorldState) (side : Side) (n : ℕ) → AllByRecursion (IsSafe w) (emissions side n)
-safe-emissions w side zero = tt
-safe-emissions w side (suc n) = (tt, safe-emissions w side n)
-
--- what holds of one world holds of the same
-holds-at : (Holds : WorldState → Type 0) (u v : WorldState) → u ≡ v → Holds v → Holds u
-holds-at Holds u v same h = subst Holds (sym same) h
-
--- ---- ONE SIDE EMITS until nothing is due: what goes out is brought safely
-record EmitsAll (w : WorldState) (side : Side) : Type 0 where
+-- ONE SIDE EMITS until nothing is due, perhaps after its timeout
+record OutAll (w : WorldState) (side : Side) (events : ℕ → List EventContent) : Type 0 where
   count : ℕ
-  idle : IsIdle (world_after_all w (emissions side count)) side
-  goes : GoesSafely w (world_after_all w (emissions side count))
-  safe : AllByRecursion (IsSafe (world_after_all w (emissions side count))) (brought count w side)
+  idle : IsIdle (world_after_all w (events count)) side
+  is : IsOut w (events count)
 
-emits-all : (w : WorldState) (side : Side) → IsFine w → EmitsAll w side
-emits-all w side h =
-    let end = burst-ends w side h.kept in
-    record { count = end.0; idle = end.1; goes = goes-safely w (emissions side end.0) (safe-emissions w side end.0) h; safe = safe-brought end.0 w side h.kept }
+emits-all : (w : WorldState) (side : Side) → IsFine w → OutAll w side (emissions side)
+emits-all w side h = let end = burst-ends w side h.kept in record { count = end.0; idle = end.1; is = emissions-out end.0 w side h }
 
--- after its retransmission timeout
-after-timeout : (w : WorldState) (side : Side) → IsFine w → IsFine (world_after w (Timer side Retransmit))
+serves-all : (w : WorldState) (side : Side) → IsFine w → OutAll w side (served side)
 unfolding world_after_all
-after-timeout w side h = (goes-safely w (Timer side Retransmit ∷ []) (tt, tt) h).fine
+serves-all w side h =
+    let timeout = Timer side Retransmit ∷ [] in
+    let goes = goes-safely w timeout (tt, tt) h in
+    let first : IsOut w timeout = record { out = []; safe = tt; goes = goes; comes = λ later among. (tt, tt) } in
+    let all = emits-all (world_after w (Timer side Retransmit)) side goes.fine in
+    record { count = all.count; idle = all.idle; is = out-both w timeout (emissions side all.count) first all.is }
 
--- ---- BOTH WERE SERVED: what they sent is brought, both answer, and what they answered is brought
+-- ---- BOTH WERE SERVED: what they sent is delivered, both answer, and what they answered is delivered
 record IsAnswered (w : WorldState) (sent : List EventContent) : Type 0 where
   there : List EventContent
   back : List EventContent
   among : AreAmong sent there
   untimed : AllByRecursion IsUntimed there
   calm : AllByRecursion IsCalm back
+  quiet : AllByRecursion IsQuiet (there ++ back)
   idle_a : IsIdle (world_after_all w there) A
   idle_b : IsIdle (world_after_all w there) B
   comes : AllCome w there back
   fine : IsFine (world_after_all w (there ++ back))
 
-are-answered : (w : WorldState) (sent : List EventContent) → AllByRecursion IsDelivery sent → AllByRecursion (IsSafe w) sent → IsFine w → IsAnswered w sent
-are-answered w sent delivered safe h =
+-- safe deliveries
+abbrev AreBrought : WorldState → List EventContent → Type 0
+AreBrought w events = AllByRecursion (IsSafeDelivery w) events
+
+go-safely : (w : WorldState) (events : List EventContent) → AreBrought w events → IsFine w → IsFine (world_after_all w events)
+go-safely w events safe h = (goes-safely w events (all-more (IsSafeDelivery w) (IsSafe w) (λ event is. is.1) events safe) h).fine
+
+are-untimed : (w : WorldState) (events : List EventContent) → AreBrought w events → AllByRecursion IsUntimed events
+are-untimed w events safe = all-more (IsSafeDelivery w) IsUntimed (λ event is. (delivery-plain event is.0).0) events safe
+
+are-quiet : (w : WorldState) (events : List EventContent) → AreBrought w events → AllByRecursion IsQuiet events
+are-quiet w events safe = all-more (IsSafeDelivery w) IsQuiet (λ event is. (delivery-plain event is.0).1) events safe
+
+are-answered : (w : WorldState) (sent : List EventContent) → AreBrought w sent → IsFine w → IsAnswered w sent
+are-answered w sent safe h =
     let y = world_after_all w sent in
-    let goes = goes-safely w sent safe h in
-    let one = emits-all y A goes.fine in
+    let one = emits-all y A (go-safely w sent safe h) in
     let ya = world_after_all y (emissions A one.count) in
-    let two = emits-all ya B one.goes.fine in
-    let yb = world_after_all ya (emissions B two.count) in
-    let from-a = brought one.count y A in
-    let from-b = brought two.count ya B in
+    let two = emits-all ya B one.is.goes.fine in
     let emitted = emissions A one.count ++ emissions B two.count in
-    let back = from-a ++ from-b in
-    let end : world_after_all w (sent ++ emitted) ≡ yb = after-append w sent emitted ∙ after-append y (emissions A one.count) (emissions B two.count) in
-    let unmoved = emissions-other two.count ya B in
-    let last = goes-safely yb back (all-append _ from-a from-b (safe-later ya yb from-a two.goes.steps one.safe) two.safe) two.goes.fine in
+    let z = world_after_all y emitted in
+    let both = out-both y (emissions A one.count) (emissions B two.count) one.is two.is in
+    let end = after-append w sent emitted in
+    let end' = after-append y (emissions A one.count) (emissions B two.count) in
+    let delivered = all-more (IsSafeDelivery w) IsDelivery (λ event is. is.0) sent safe in
+    let emits = λ (Holds : EventContent → Type 0) (a : Holds (Emit A)) (b : Holds (Emit B)).
+    all-append Holds (emissions A one.count) (emissions B two.count) (all-emissions Holds A a one.count) (all-emissions Holds B b two.count) in
     record {
       there = sent ++ emitted;
-      back = back;
+      back = both.out;
       among = among-left sent emitted;
-      untimed = all-append _ sent emitted (deliveries-untimed sent delivered)
-          (all-append _ (emissions A one.count) (emissions B two.count) (untimed-emissions A one.count) (untimed-emissions B two.count));
-      calm = all-untimed back (deliveries-untimed back (all-append _ from-a from-b (all-brought one.count y A) (all-brought two.count ya B)));
-      idle_a = holds-at (λ u. IsIdle u A) (world_after_all w (sent ++ emitted)) yb end (ap (λ p. due_of p.endpoint) unmoved ∙ one.idle);
-      idle_b = holds-at (λ u. IsIdle u B) (world_after_all w (sent ++ emitted)) yb end two.idle;
-      comes = come-both w sent emitted back (deliveries-come w sent (emitted ++ back) delivered)
-          (come-both y (emissions A one.count) (emissions B two.count) back
-          (burst-comes one.count y A (emissions B two.count ++ back)
-          (λ from k h. among-right (emissions B two.count) back from k (among-left from-a from-b from k h)))
-          (burst-comes two.count ya B back (among-right from-a from-b)));
-      fine = holds-at IsFine (world_after_all w ((sent ++ emitted) ++ back)) (world_after_all yb back)
-          (after-append w (sent ++ emitted) back ∙ ap (λ (u : WorldState). world_after_all u back) end) last.fine;
+      untimed = all-append _ sent emitted (are-untimed w sent safe) (emits IsUntimed tt tt);
+      calm = all-untimed both.out (are-untimed z both.out both.safe);
+      quiet = all-append _ (sent ++ emitted) both.out
+          (all-append _ sent emitted (are-quiet w sent safe) (emits IsQuiet tt tt)) (are-quiet z both.out both.safe);
+      idle_a = rw (end, end') (ap (λ p. due_of p.endpoint) (emissions-other two.count ya B) ∙ one.idle);
+      idle_b = rw (end, end') two.idle;
+      comes = come-both w sent emitted both.out (deliveries-come w sent (emitted ++ both.out) delivered) (both.comes both.out (λ from k h. h));
+      fine = rw (after-append w (sent ++ emitted) both.out, end) (go-safely z both.out both.safe both.goes.fine);
     }
 
 -- ---- A TURN
 record HasTurn (w : WorldState) : Type 0 where
   turn : List EventContent
   is : IsTurn w turn
+  quiet : AllByRecursion IsQuiet turn
   fine : IsFine (world_after_all w turn)
 
 has-turn : (w : WorldState) → IsFine w → HasTurn w
-unfolding world_after_all
 has-turn w h =
     let v = world_after_all w reads in
-    let read = goes-safely w reads (tt, (tt, (tt, (tt, tt)))) h in
-    let va = world_after v (Timer A Retransmit) in
-    let one = emits-all va A (after-timeout v A read.fine) in
-    let u = world_after_all v (served A one.count) in
-    let ub = world_after u (Timer B Retransmit) in
-    let two = emits-all ub B (after-timeout u B one.goes.fine) in
-    let x = world_after_all u (served B two.count) in
-    let from-a = brought one.count va A in
-    let from-b = brought two.count ub B in
-    let sent = from-a ++ from-b in
-    let second = goes-safely u (served B two.count) (tt, safe-emissions u B two.count) one.goes.fine in
-    let safe = all-append _ from-a from-b (safe-later u x from-a second.steps one.safe) two.safe in
-    let g = are-answered x sent (all-append _ from-a from-b (all-brought one.count va A) (all-brought two.count ub B)) safe two.goes.fine in
+    let one = serves-all v A (goes-safely w reads (tt, (tt, (tt, (tt, tt)))) h).fine in
+    let two = serves-all (world_after_all v (served A one.count)) B one.is.goes.fine in
     let both = both_served A one.count two.count in
-    let after-first : world_after_all w (reads ++ served A one.count) ≡ u = after-append w reads (served A one.count) in
-    let after-both : world_after_all w (reads ++ both) ≡ x = after-append w reads both ∙ after-append v (served A one.count) (served B two.count) in
-    let after-there : (events : List EventContent) → world_after_all w (reads ++ (both ++ events)) ≡ world_after_all x events = λ events.
-    after-append w reads (both ++ events) ∙ after-append v both events ∙ ap (λ (z : WorldState). world_after_all z events)
-    (after-append v (served A one.count) (served B two.count)) in
-    let later = served B two.count ++ g.there in
-    let first-among : AreAmong from-a later = λ from k h.
-    among-right (served B two.count) g.there from k (g.among from k (among-left from-a from-b from k h)) in
-    let first-comes : AllCome v (served A one.count) later = (tt, burst-comes one.count va A later first-among) in
+    let sent = out-both v (served A one.count) (served B two.count) one.is two.is in
+    let g = are-answered (world_after_all v both) sent.out sent.safe sent.goes.fine in
+    let rest = g.there ++ g.back in
+    let after-both = after-append w reads both in
+    let after-there = after-append v both g.there in
     record {
-      turn = reads ++ (both ++ (g.there ++ g.back));
+      turn = reads ++ (both ++ rest);
       is = record {
         first = A;
         count = one.count;
         then_count = two.count;
         there = g.there;
         back = g.back;
-        form = refl {a = reads ++ (both ++ (g.there ++ g.back))};
+        form = refl {a = reads ++ (both ++ rest)};
         untimed = g.untimed;
         calm = g.calm;
-        first_out = holds-at (λ z. IsIdle z A) (world_after_all w (reads ++ served A one.count)) u after-first one.idle;
-        then_out = holds-at (λ z. IsIdle z B) (world_after_all w (reads ++ both)) x after-both two.idle;
-        answered_a = holds-at (λ z. IsIdle z A) (world_after_all w (reads ++ (both ++ g.there))) (world_after_all x g.there) (after-there g.there) g.idle_a;
-        answered_b = holds-at (λ z. IsIdle z B) (world_after_all w (reads ++ (both ++ g.there))) (world_after_all x g.there) (after-there g.there) g.idle_b;
-        comes_there = come-both v (served A one.count) (served B two.count) g.there first-comes
-            (tt, burst-comes two.count ub B g.there (λ from k h. g.among from k (among-right from-a from-b from k h)));
-        comes_back = holds-at (λ z. AllCome z g.there g.back) (world_after_all w (reads ++ both)) x after-both g.comes;
+        first_out = rw (after-append w reads (served A one.count)) one.idle;
+        then_out = rw (after-both, after-append v (served A one.count) (served B two.count)) two.idle;
+        answered_a = rw (after-append w reads (both ++ g.there), after-there) g.idle_a;
+        answered_b = rw (after-append w reads (both ++ g.there), after-there) g.idle_b;
+        comes_there = sent.comes g.there g.among;
+        comes_back = rw after-both g.comes;
       };
-      fine = holds-at IsFine (world_after_all w (reads ++ (both ++ (g.there ++ g.back)))) (world_after_all x (g.there ++ g.back))
-          (after-there (g.there ++ g.back)) g.fine;
+      quiet = all-append _ reads (both ++ rest) (tt, (tt, (tt, (tt, tt)))) (all-append _ both rest
+          (all-append _ (served A one.count) (served B two.count) (tt, all-emissions IsQuiet A tt one.count) (tt, all-emissions IsQuiet B tt two.count))
+          g.quiet);
+      fine = rw (after-append w reads (both ++ rest), after-append v both rest) g.fine;
     }
 
--- as many as one likes
-have-turns : (n : ℕ) (w : WorldState) → IsFine w → CanHaveTurns n w
+-- as many as one likes, and all quiet
+pub record HasQuietTurns (n : ℕ) (w : WorldState) : Type 0 where
+  pub turns : CanHaveTurns n w
+  pub quiet : AllByRecursion IsQuiet turns.events
+
+pub have-turns : (n : ℕ) (w : WorldState) → IsFine w → HasQuietTurns n w
 unfolding world_after_all
-have-turns zero w h = record { events = []; turns = tt; stays = h.up }
+have-turns zero w h = record { turns = record { events = []; turns = tt; stays = h.up }; quiet = tt }
 have-turns (suc n) w h =
     let t = has-turn w h in
     let rest = have-turns n (world_after_all w t.turn) t.fine in
+    let after = rest.turns.events in
     record {
-      events = t.turn ++ rest.events;
-      turns = ([], t.turn, rest.events, refl, tt, t.is, rest.turns);
-      stays = subst NoneGaveUp (sym (after-append w t.turn rest.events)) rest.stays;
+      turns = record {
+        events = t.turn ++ after;
+        turns = ([], t.turn, after, refl, tt, t.is, rest.turns.turns);
+        stays = subst NoneGaveUp (sym (after-append w t.turn after)) rest.turns.stays;
+      };
+      quiet = all-append IsQuiet t.turn after t.quiet rest.quiet;
     }
 
 -- in every world
 pub turns_lem : TurnsCanBeHad
-turns_lem = in-every-world (λ w. NoneGaveUp w → (n : ℕ) → CanHaveTurns n w) (λ w h up n. have-turns n w (record { kept = h; up = up }))
+turns_lem = in-every-world (λ w. NoneGaveUp w → (n : ℕ) → CanHaveTurns n w) (λ w h up n. (have-turns n w (record { kept = h; up = up })).turns)

@@ -1,68 +1,109 @@
--- No world is stuck: where the ends still open the connection the handshake goes through; turn by turn nothing is left, and then the users read to
--- the end.
-use Rattle.std.proofs.Common.{◌⊎◌, arith, inl, inr}
+-- WHERE AN END HAS ENDED IN ORDER, and the other's FIN is acknowledged to it, nothing is left: each has taken all of the other, and all of it is
+-- acknowledged.
+use Rattle.std.proofs.Common.{◌++◌, ◌∙◌, ◌∷◌, ◌≡◌, ◌⊎◌, [], ap, arith, false, inl, inr, List, None, Option, refl, Some, subst, suc, sym, true}
+use Rattle.tcp_replay.proofs.Words.{AllByRecursion, cases_Bool, Ending, false≢true, gives_up, NotEnded, Orderly}
+use Rattle.tcp_replay.proofs.WorldWords.{EventContent, gave_up, PartyState, refusal_of, Sends, stay_or, world_after, world_after_all, world_with_effect}
 use Rattle.tcp_replay.proofs.WorldWords.{WorldState}
-use Rattle.tcp_progress.proofs.Words.{A, AreOpening, B, CanOpen, CanReach, CanReachUnaided, CanSettle, HandshakesCanBeFinished, HasEndedInOrder, IsLive}
-use Rattle.tcp_progress.proofs.Words.{IsNotStuck, IsSettled, NoWorldIsStuck}
-use Rattle.tcp_progress.proofs.Ways.{reach-then}
-use Rattle.tcp_progress.proofs.Measure.{both-live, swapped}
-use Rattle.tcp_progress.proofs.Ready.{steady-back}
-use Rattle.tcp_progress.proofs.Turns.{emptied}
-use Rattle.tcp_progress.proofs.Ended.{settled}
-use Rattle.tcp_progress.proofs.Handshake.{AreOpened, handshake}
-use Rattle.tcp_progress.proofs.Leaving.{ended-on}
-use Rattle.tcp_progress.proofs.Streams.{quiet-streams}
-use Rattle.tcp_progress.proofs.AlwaysSteady.{IsKept, kept-stays, kept-by_runs}
-use Rattle.tcp_progress.proofs.Everywhere.{in-every-world}
+use Rattle.tcp_replay.proofs.Lemmas.{gives_up-not_ended, one_if, one_if-most}
+use Rattle.tcp_progress.proofs.Words.{AreOpening, CanReach, CanSettle, GotThrough, HasEndedInOrder, HasStreamsOf, IsNotStuck, IsQuiet, IsSettled, IsSteadyPair}
+use Rattle.tcp_progress.proofs.Words.{left_in, left_of_both, NoneGaveUp, NoWorldIsStuck, StepError, time_waits}
+use Rattle.tcp_progress.proofs.Lemmas.{after-append, all-append, both-live, GoOn, got-through, in-every-world, IsKept, kept-steady, own_fin-acked, says-over}
+use Rattle.tcp_progress.proofs.Lemmas.{steady-back, swapped, up-stays, waits-streams}
+use Rattle.tcp_progress.proofs.Live.{reach-here, reach-step}
+use Rattle.tcp_progress.proofs.Had.{have-turns}
+use Rattle.tcp_progress.proofs.Handshake.{answering, opening, unopened-listen}
+use Rattle.tcp_progress.proofs.Lowering.{lowers_lem}
+use Rattle.tcp_progress.proofs.Opened.{opens-and}
 
--- with the streams that there were
-of-streams : (w : WorldState) → CanReach IsSettled w → CanSettle w
-of-streams w way = record { events = way.events; quiet = way.quiet; goes_on = way.goes_on; reached = (way.reached, quiet-streams w way.events way.quiet) }
+-- who was neither reset nor aborted goes on, or has ended in order
+kept-ending : (ending : Ending) → gives_up ending ≡ false → (ending ≡ NotEnded) ⊎ (ending ≡ Orderly)
+kept-ending ending e = grind (arith, e)
 
--- ---- BOTH LIVE
-live-settles : (w : WorldState) → IsKept w → IsLive w.a → IsLive w.b → CanReach IsSettled w
-live-settles w h a b = reach-then (emptied kept-stays w h (both-live w.a w.b a b)) (λ v e. settled kept-stays v e.stays e.on e.none)
-
--- ---- OPENING, either way
-opened : (w : WorldState) → IsKept w → AreOpening w.a w.b ⊎ AreOpening w.b w.a → CanReachUnaided 8 (AreOpened IsKept) w
-opened w h (inl opening) = handshake kept-stays w.life A w.a w.b h opening
-opened w h (inr opening) = handshake kept-stays w.life B w.b w.a h opening
-
-can-open : (w : WorldState) → IsKept w → CanOpen w
-can-open w h opening =
-    let short = opened w h opening in
-    let way = short.way in
+-- NOTHING IS LEFT
+pub ended-on : (x y : PartyState) → IsSteadyPair x y → HasEndedInOrder x y → GoOn x y
+ended-on x y h ended =
+    let s = x.endpoint in
+    let alone = h.pair.there.alone in
+    let says = says-over s s.phase ended.over alone.progress h.there.stage in
+    let sends : Sends s.sending x.accepted x.closed false = rw (ap gives_up ended.over) at alone.sends in
+    let back : Sends y.endpoint.sending y.accepted y.closed false = rw ended.stays at h.pair.back.alone.sends in
+    let acked = own_fin-acked s.sending x.accepted x.closed sends says.acked in
+    let all = own_fin-acked y.endpoint.sending y.accepted y.closed back ended.fin_acked in
+    let taken = h.pair.there.takes.fin says.finished in
+    let fin : one_if s.receiving.finished ≡ 1 = ap one_if says.finished in
+    let none : left_of_both x y ≡ 0 = omega (arith, acked, all, taken.1, fin, h.pair.there.between, one_if-most x.closed, one_if-most y.closed) in
+    let had : s.receiving.opened ≡ true = elim (cases_Bool s.receiving.opened) [
+      | inl took ↦ took
+      | inr never ↦ absurd (false≢true (sym (h.pair.there.takes.unopened never).2 ∙ says.finished))
+    ] in
+    let has : y.endpoint.receiving.opened ≡ true = elim (cases_Bool y.endpoint.receiving.opened) [
+      | inl took ↦ took
+      | inr never ↦
+          let unopened = h.pair.back.takes.unopened never in
+          absurd (let no_fin : one_if y.endpoint.receiving.finished ≡ 0 = ap one_if unopened.2 in omega
+          (arith, unopened.1, no_fin, acked, h.pair.there.between))
+    ] in
     record {
-      way = record {
-        events = way.events;
-        quiet = way.quiet;
-        goes_on = way.goes_on;
-        reached = (way.reached.both, quiet-streams w way.events way.quiet);
-      };
-      most = short.most;
-      unaided = short.unaided;
+      there = record { opened = had; kept = inr ended.over };
+      back = record { opened = has; kept = kept-ending y.endpoint.ending ended.stays };
+      live = λ some. absurd (omega (arith, some, none));
     }
 
--- ---- ENDED IN ORDER, either
-ended-settles : (w : WorldState) → IsKept w → HasEndedInOrder w.a w.b ⊎ HasEndedInOrder w.b w.a → CanReach IsSettled w
-ended-settles w h (inl ended) = let over = ended-on w.a w.b (kept-stays.steady w h).ends ended in settled kept-stays w h over.0 over.1
-ended-settles w h (inr ended) =
-    let over = ended-on w.b w.a (steady-back w.b w.a (kept-stays.steady w h).ends) ended in
-    settled kept-stays w h (swapped w.a w.b over.0) (omega (arith, over.1))
+-- ---- No world is stuck: turns can be had in which no end is reset, and as many as something is left, and one more, deliver all; then TIME-WAIT expires.
+-- All that happens in them is quiet, and what is refused of it changes nothing.
+-- ---- WHAT QUIET EVENTS LEAD TO, refused or not, those of them lead to that aren't refused
+unless-refused : {P : WorldState → Type 0} (w : WorldState) (event : EventContent) (refusal : Option StepError) → IsQuiet event → refusal_of w event ≡ refusal
+    → CanReach P (stay_or refusal w (world_with_effect w event)) → CanReach P w
+unless-refused w event None quiet goes way = reach-step event quiet goes way
+unless-refused w event (Some error) quiet refused way = way
 
-not-stuck : (w : WorldState) → IsKept w → IsNotStuck w
-not-stuck w h = record {
-  live = λ a b. of-streams w (live-settles w h a b);
-  opening = λ opening. of-streams w (reach-then (opened w h opening).way (λ v e. live-settles v e.stays e.both.a e.both.b));
-  ended = λ ended. of-streams w (ended-settles w h ended);
-}
+after-quiet : {P : WorldState → Type 0} (w : WorldState) (events : List EventContent) → AllByRecursion IsQuiet events → P (world_after_all w events)
+    → CanReach P w
+unfolding world_after_all
+after-quiet w [] quiet h = reach-here h
+after-quiet w (event ∷ events) quiet h = unless-refused w event (refusal_of w event) quiet.0 refl (after-quiet (world_after w event) events quiet.1 h)
+
+-- TIME-WAIT expires behind them
+then-waits : (w : WorldState) (events : List EventContent) → AllByRecursion IsQuiet events → GotThrough w (world_after_all w events) → CanSettle w
+then-waits w events quiet got =
+    let v = world_after_all w events in
+    after-quiet w (events ++ time_waits) (all-append IsQuiet events time_waits quiet (tt, (tt, tt)))
+    (subst (λ (u : WorldState). IsSettled u × HasStreamsOf w u) (sym (after-append w events time_waits)) (got.settles, waits-streams w v got.streams))
+
+-- ---- BOTH GO ON: turns lead to the end
+on-settles : (w : WorldState) → IsKept w → GoOn w.a w.b → CanSettle w
+on-settles w h on =
+    let up : NoneGaveUp w = (up-stays w.a.endpoint.ending on.there.kept, up-stays w.b.endpoint.ending on.back.kept) in
+    let had = have-turns (suc (left_in w)) w (record { kept = h; up = up }) in
+    let t = had.turns in
+    then-waits w t.events had.quiet (got-through lowers_lem (left_in w) w t.events (omega arith) h on t.turns t.stays)
+
+-- ---- OPENING: no end was reset or aborted, and turns open the connection
+opening-up : (p q : PartyState) → IsSteadyPair p q → AreOpening p q → (gave_up p ≡ false) × (gave_up q ≡ false)
+opening-up p q h opens = (
+  gives_up-not_ended p.endpoint.ending (opening p q h opens.calls).0,
+  gives_up-not_ended q.endpoint.ending (elim opens.answers [
+    | inl listens ↦ (unopened-listen q p (steady-back q p h) listens).0
+    | inr received ↦ (answering q p (steady-back q p h) received).0
+  ]),
+)
+
+pub either-up : (w : WorldState) → IsKept w → AreOpening w.a w.b ⊎ AreOpening w.b w.a → NoneGaveUp w
+either-up w h (inl opens) = opening-up w.a w.b (kept-steady w h).ends opens
+either-up w h (inr opens) = let up = opening-up w.b w.a (steady-back w.b w.a (kept-steady w h).ends) opens in (up.1, up.0)
+
+opening-settles : (w : WorldState) → IsKept w → AreOpening w.a w.b ⊎ AreOpening w.b w.a → CanSettle w
+opening-settles w h opens =
+    let had = have-turns (suc (suc (suc (left_in w)))) w (record { kept = h; up = either-up w h opens }) in
+    let t = had.turns in
+    then-waits w t.events had.quiet (opens-and w h opens t.events t.turns t.stays).1
+
+-- ---- ENDED IN ORDER, either
+ended-settles : (w : WorldState) → IsKept w → HasEndedInOrder w.a w.b ⊎ HasEndedInOrder w.b w.a → CanSettle w
+ended-settles w h (inl ended) = on-settles w h (ended-on w.a w.b (kept-steady w h).ends ended)
+ended-settles w h (inr ended) = on-settles w h (swapped w.a w.b (ended-on w.b w.a (steady-back w.b w.a (kept-steady w h).ends) ended))
 
 -- ---- IN EVERY WORLD
 pub not_stuck_lem : NoWorldIsStuck
-not_stuck_lem life a b list least most one two fits =
-    let kept = kept-by_runs life a b list least most one two fits in
-    (not-stuck _ kept.stops, not-stuck _ kept.goes_on)
-
--- and of the handshake alone
-pub handshake_lem : HandshakesCanBeFinished
-handshake_lem = in-every-world CanOpen can-open
+not_stuck_lem =
+    in-every-world IsNotStuck (λ w h. record { live = λ a b. on-settles w h (both-live w.a w.b a b); opening = opening-settles w h; ended = ended-settles w h })

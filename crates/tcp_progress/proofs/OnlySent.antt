@@ -1,21 +1,20 @@
 -- NOTHING IS TAKEN BEFORE IT IS SENT, on the definitions: every event keeps it.
-use Rattle.std.proofs.Common.{[], ℕ, ℤ, ⊎_elim, ◌+◌, ◌-◌, ◌<◌, ◌==◌, ◌^◌, ◌∙◌, ◌∷◌, ◌≡◌, ◌≤◌, ap, arith, drop, false, length, length-drop, length-take, List}
-use Rattle.std.proofs.Common.{min, None, not, Option, refl, slice_get, Some, subst, suc, sym, true, zero}
-use Rattle.tcp_replay.proofs.Words.{Aborted, acks_more, after_ack, after_acked_text, after_due, after_giving_up, after_handing, after_news}
-use Rattle.tcp_replay.proofs.Words.{after_own_syn, after_peer_accepts, after_peer_opens, after_place, after_read, after_text, and_parts, cases_lt, Cell}
-use Rattle.tcp_replay.proofs.Words.{cond_both, Config, Content, count_numbers, count_of, Due, eqb-false, false≢true, fin, gives_up, has, has_fin, is_fin}
-use Rattle.tcp_replay.proofs.Words.{is_fin_due, is_syn_received, not-true, number, offset, offset_of_earlier, offset_of_later, piece, plain_segment}
-use Rattle.tcp_replay.proofs.Words.{position_near, position_of, position_of_number, pushes, Receiving, Reset, rst, segment_of, Sending, start_of, State, syn}
-use Rattle.tcp_replay.proofs.Words.{Syn, syn_segment, takes_fin, takes_text, text_of, window, window_from, with_acked, with_fin, with_syn, with_syn_acked}
-use Rattle.tcp_replay.proofs.Words.{with_window, without_bytes, with_connection, with_bytes_received, receive_refusal, state_after, due_of}
-use Rattle.tcp_replay.proofs.WorldWords.{address_of, EventContent, HasBytes, IsSound, IsSoundPair, IsTruthful, new_party}
-use Rattle.tcp_replay.proofs.WorldWords.{new_world_with, PartyState, refusal_of, SentSegment, witness_of, world_with_effect, WorldState}
-use Rattle.tcp_replay.proofs.Lemmas.{after_segment, AllHeld, AllSaid, AllText, Arrives, Both, both-swapped, Brings, brings-place}
-use Rattle.tcp_replay.proofs.Lemmas.{due-position, end-closed, end-listen, end-syn_sent, fin-in_turn, GoesOutAlone, handshake-una, held-more}
-use Rattle.tcp_replay.proofs.Lemmas.{held-moved, held-none, held-same, in-world, IsAhead, IsSaid, IsYoung, Kept, kept-after_all, kept-run, kept-same}
-use Rattle.tcp_replay.proofs.Lemmas.{KeptByCalls, Moved, next_of, on-arrival, one_if, one_if-false, one_if-most, PairKept, placed, plain-bits}
-use Rattle.tcp_replay.proofs.Lemmas.{reset-bit, said-after, said-back, same-news, sound-after, sound-new, Speaks, syn-bits, text-advances}
-use Rattle.tcp_replay.proofs.Lemmas.{text_advance, CanOpen}
+use Rattle.std.proofs.Common.{◌+◌, ◌-◌, ◌<◌, ◌==◌, ◌^◌, ◌∙◌, ◌∷◌, ◌≡◌, ◌≤◌, [], ap, arith, drop, false, length, length-drop, length-take, List, min, None, not}
+use Rattle.std.proofs.Common.{Option, refl, slice_get, Some, subst, suc, sym, true, zero, ℕ, ℤ, ⊎_elim}
+use Rattle.tcp_replay.proofs.Words.{Aborted, acks_more, after_ack, after_acked_text, after_due, after_giving_up, after_handing, after_news, after_own_syn}
+use Rattle.tcp_replay.proofs.Words.{after_peer_accepts, after_peer_opens, after_place, after_read, after_text, and_parts, cases_lt, Cell, cond_both, Config}
+use Rattle.tcp_replay.proofs.Words.{Content, count_numbers, count_of, Due, eqb-false, false≢true, fin, gives_up, has, has_fin, is_fin, is_fin_due}
+use Rattle.tcp_replay.proofs.Words.{is_syn_received, not-true, number, offset, offset_of_earlier, offset_of_later, piece, plain_segment, position_near}
+use Rattle.tcp_replay.proofs.Words.{position_of, position_of_number, pushes, receive_refusal, Receiving, Reset, rst, segment_of, Sending, start_of, State}
+use Rattle.tcp_replay.proofs.Words.{state_after, Syn, syn, syn_segment, takes_fin, takes_text, text_of, window, window_from, with_acked, with_bytes_received}
+use Rattle.tcp_replay.proofs.Words.{with_connection, with_fin, with_syn, with_syn_acked, with_window, without_bytes}
+use Rattle.tcp_replay.proofs.WorldWords.{address_of, EventContent, HasBytes, IsSound, IsSoundPair, IsTruthful, new_party, new_world_with, PartyState}
+use Rattle.tcp_replay.proofs.WorldWords.{refusal_of, SentSegment, witness_of, world_with_effect, WorldState}
+use Rattle.tcp_replay.proofs.Lemmas.{after_segment, AllHeld, AllSaid, AllText, Arrives, Both, both-swapped, Brings, brings-place, CanOpen, due-position}
+use Rattle.tcp_replay.proofs.Lemmas.{end-closed, end-listen, end-syn_sent, fin-in_turn, GoesOutAlone, handshake-una, held-more, held-moved, held-none}
+use Rattle.tcp_replay.proofs.Lemmas.{held-same, in-world, IsAhead, IsSaid, IsYoung, Kept, kept-after_all, kept-run, kept-same, KeptByCalls, MayGoOut, Moved}
+use Rattle.tcp_replay.proofs.Lemmas.{next_of, on-arrival, one_if, one_if-false, one_if-most, PairKept, placed, plain-bits, reset-bit, said-after, said-back}
+use Rattle.tcp_replay.proofs.Lemmas.{same-news, sound-after, sound-new, Speaks, syn-bits, text-advances, text_advance}
 use Rattle.tcp_progress.proofs.Words.{NothingIsTakenBeforeItIsSent, TakeOnlySent, TakesOnlySent}
 
 -- the byte at this place behind a position lies below another one
@@ -40,10 +39,6 @@ reached-read r n room h = record { next = h.next; held = held-more (Below (1 + r
 pub reached-given_up : (r : Receiving) (n : ℕ) → IsReached r n → IsReached (without_bytes r) n
 reached-given_up r n h = record { next = h.next; held = held-none (Below (1 + r.ordered) n) 0 r.inbox.capacity }
 
--- the peer's SYN
-pub reached-syn : (r : Receiving) (n seq : ℕ) → r.ordered ≡ 0 → r.finished ≡ false → 1 ≤ n → IsReached r n → IsReached (with_syn r seq) n
-reached-syn r n seq none unfinished some h = record { next = λ _. omega (arith, none, some, one_if-false r.finished unfinished); held = h.held }
-
 -- a text that ends below n
 all-below : (from n place : ℕ) (text : List ℕ) → from + place + length text ≤ n → AllText (Below from n) place text
 all-below from n place [] h = tt
@@ -59,15 +54,12 @@ piece-below : (irs ordered position next seq n : ℕ) (text : List ℕ) → 1 + 
     → 1 + ordered ≤ n → position + length text ≤ n → AllText (Below (1 + ordered) n) (piece (offset next seq) text).start (piece (offset next seq) text).text
 piece-below irs ordered position next seq n text young close next_is seq_is had fits =
     let P : ℤ → Type 0 = λ z. AllText (Below (1 + ordered) n) (piece z text).start (piece z text).text in
-    subst (λ (k : ℕ). P (offset k seq)) (sym next_is) (subst (λ (m : ℕ). P (offset (number irs (1 + ordered)) m)) (sym seq_is)
-    (⊎_elim
-    (λ less.
+    subst (λ (k : ℕ). P (offset k seq)) (sym next_is) (subst (λ (m : ℕ). P (offset (number irs (1 + ordered)) m)) (sym seq_is) (⊎_elim (λ less.
     let k = suc (1 + ordered - position - 1) in
     subst P (sym (offset_of_earlier irs (1 + ordered) position less (omega (arith, young))))
     (all-below (1 + ordered) n 0 (drop k text) (omega (arith, had, fits, less, length-drop k text))))
     (λ more. subst P (sym (offset_of_later irs (1 + ordered) position more (omega (arith, close))))
-    (all-below (1 + ordered) n (position - (1 + ordered)) text (omega (arith, fits, more))))
-    (cases_lt position (1 + ordered))))
+    (all-below (1 + ordered) n (position - (1 + ordered)) text (omega (arith, fits, more)))) (cases_lt position (1 + ordered))))
 
 -- TEXT
 pub reached-text : (p q : PartyState) (s : State) (v : Content) (n : ℕ) → takes_text s.phase ≡ true → IsAhead p q → (truth : IsTruthful (witness_of q p) v)
@@ -122,19 +114,14 @@ reaches-calls p q pair taken =
     let gone : Reaches p q (after_giving_up s Aborted) = (h.0, reached-given_up s.receiving n h.1) in
     let connects : CanOpen s → Reaches p q (with_connection s (address_of q)) = λ can.
     (omega (arith, (end-closed s can.shut can.ending pair.there.alone.progress).nxt_is), h.1) in
-    let reads : (room : ℕ) → receive_refusal s ≡ None → Reaches p q (with_bytes_received s room) =
-    λ room _. (h.0, reached-read s.receiving n room h.1) in
-    let emits : (due : Due) → due_of s ≡ Some due → GoesOutAlone s p.accepted p.closed due → Reaches p q (state_after s due) = λ due _ _. (omega arith, h.1) in
+    let reads : (room : ℕ) → receive_refusal s ≡ None → Reaches p q (with_bytes_received s room) = λ room _. (h.0, reached-read s.receiving n room h.1) in
+    let emits : (due : Due) → MayGoOut s due → GoesOutAlone s p.accepted p.closed due → Reaches p q (state_after s due) = λ due _ _. (omega arith, h.1) in
     assumption
 
 -- ---- ARRIVALS
 acked-nxt : (d : Sending) (a : ℕ) → (after_ack d a).nxt ≡ d.nxt
 unfolding after_ack
 acked-nxt d a = cond_both (acks_more d a) (with_acked d a) d (λ (x : Sending). x.nxt ≡ d.nxt) (λ _. refl) (λ _. refl)
-
--- a SYN was sent
-syn-sent : (v : Content) (position n : ℕ) → has syn v.flags ≡ true → position + count_numbers v ≤ n → 1 ≤ n
-syn-sent v position n e below = let one : one_if (has syn v.flags) ≡ 1 = ap one_if e in omega (arith, below, one)
 
 -- a segment that ends below what the peer sent
 pub reaches-arrive : (p q : PartyState) (g : SentSegment) (v : Content) → IsSoundPair p q → Arrives p q g v
@@ -148,8 +135,9 @@ reaches-arrive p q g v pair a below taken =
     let n = q.endpoint.sending.nxt in
     let h : Reaches p q s = (omega arith, taken) in
     let acked = with_window (with_syn_acked d) v.seq v.ack (window_from s.link v.window) in
-    let opening : has rst v.flags ≡ false → has syn v.flags ≡ true → r.opened ≡ false → IsReached _ n = λ plain e shut.
-    let none = pair.there.takes.unopened shut in reached-syn r n v.seq none.1 none.2 (syn-sent v g.position n e (below plain)) h.1 in
+    let opening : has rst v.flags ≡ false → has syn v.flags ≡ true → r.opened ≡ false → IsReached (with_syn r v.seq) n = λ plain e shut.
+    let none = pair.there.takes.unopened shut in
+    record { next = λ _. omega (arith, none.1, ap one_if none.2, ap one_if e, below plain); held = taken.held } in
     on-arrival p q v g.position g.wanted (Reaches p q) (Reaches p q) a.comes (kept-same p q pair) (record {
       same = h;
       owes = λ _ _. h;
@@ -237,15 +225,11 @@ sent-moved p p' q pair moved out reaches h = record {
         (λ k g v is read plain. omega (arith, h.there.emitted k g v is read plain, reaches.0))
         (λ due goes alone after plain. omega (arith, due-position p q due goes, due-ends p q due pair alone plain, ap (λ (s : State). s.sending.nxt) after));
   };
-  back = record {
-    taken = reached-more q.endpoint.receiving p.endpoint.sending.nxt p'.endpoint.sending.nxt reaches.0 h.back.taken;
-    emitted = said-back p p' q (EndsBy q.endpoint.sending.nxt) moved.config h.back.emitted;
-  };
+  back = assumption (
+    reached-more q.endpoint.receiving p.endpoint.sending.nxt p'.endpoint.sending.nxt reaches.0 h.back.taken,
+    said-back p p' q (EndsBy q.endpoint.sending.nxt) moved.config h.back.emitted,
+  );
 }
-
--- what both keep, and a segment that was emitted is delivered
-abbrev pub KeepBothSent : PartyState → PartyState → Type 0
-KeepBothSent x y = Both KeepsSent x y
 
 pub sent-kept : PairKept (λ _ _. Unit {0}) (Both KeepsSent) (λ p q s _. Reaches p q s)
 sent-kept = record {
@@ -282,8 +266,7 @@ takes-only_sent x y h = record {
   taken = h.back.taken.next;
   held = λ place cell is. omega (
     arith,
-    held-below
-        (1 + y.endpoint.receiving.ordered) x.endpoint.sending.nxt 0 y.endpoint.receiving.inbox.held place cell h.back.taken.held is,
+    held-below (1 + y.endpoint.receiving.ordered) x.endpoint.sending.nxt 0 y.endpoint.receiving.inbox.held place cell h.back.taken.held is,
   );
   emitted = h.there.emitted;
 }

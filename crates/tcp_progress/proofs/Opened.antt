@@ -1,344 +1,167 @@
 -- WHO IS SERVED OPENS THE CONNECTION: after a turn the SYN of who calls is taken, after another both are open; and so all gets through.
-use Rattle.std.proofs.Common.{[], ℕ, ◌++◌, ◌∙◌, ◌∷◌, ◌≡◌, ◌≤◌, ◌⊎◌, ap, append_assoc, arith, inl, inr, List, subst, suc, sym, zero}
-use Rattle.tcp_replay.proofs.Words.{AllByRecursion, SynReceived}
-use Rattle.tcp_replay.proofs.WorldWords.{EventContent, other, party_of, world_after_all, WorldState}
-use Rattle.tcp_progress.proofs.Words.{A, AreOpen, B, GotThrough, HasTurns, HaveSyns, IsCalm, IsTurn, left_in, NoneGaveUp, OpensAndGetsThrough, reads, served}
-use Rattle.tcp_progress.proofs.Words.{Side, WhoIsServedOpens}
-use Rattle.tcp_progress.proofs.AlwaysSteady.{IsKept}
-use Rattle.tcp_progress.proofs.Behind.{IsServed}
-use Rattle.tcp_progress.proofs.Called.{IsTakenOr, serve-answer, serve-call}
-use Rattle.tcp_progress.proofs.CalmWorlds.{steps-all, steps-left, steps-then}
-use Rattle.tcp_progress.proofs.Coming.{AreAmong, among-left}
-use Rattle.tcp_progress.proofs.Ended.{complete}
-use Rattle.tcp_progress.proofs.Everywhere.{in-every-world, steps-streams}
+use Rattle.std.proofs.Common.{◌++◌, ◌∙◌, ◌∷◌, ◌≡◌, ◌≤◌, ◌⊎◌, [], ap, append_assoc, arith, Bool, false, inl, inr, List, subst, suc, sym, true, ℕ}
+use Rattle.tcp_replay.proofs.Words.{AllByRecursion}
+use Rattle.tcp_replay.proofs.WorldWords.{EventContent, other, party_of, world_after, world_after_all, WorldState}
+use Rattle.tcp_progress.proofs.Words.{A, AllCome, B, GotThrough, HasTurns, HaveSyns, IsCalm, IsIdle, IsTurn, left_in, NoneGaveUp, OpensAndGetsThrough, reads}
+use Rattle.tcp_progress.proofs.Words.{served, Side, WhoIsServedOpens}
+use Rattle.tcp_progress.proofs.Lemmas.{after-append, all-untimed, among-behind, among-left, both-live, calm-append, calm-served, come-among, either-side, GoOn}
+use Rattle.tcp_progress.proofs.Lemmas.{got-through, in-every-world, IsKept, on-all, reads-calm, steps-all, steps-event, steps-left, steps-streams, steps-then}
+use Rattle.tcp_progress.proofs.Lemmas.{turn-calm, turns-calm}
+use Rattle.tcp_progress.proofs.Called.{After, Before, before-shakes, before-stays, IsTaken, serve-stage, speaker}
 use Rattle.tcp_progress.proofs.Lowering.{lowers_lem, turn-served}
-use Rattle.tcp_progress.proofs.Measure.{both-live}
-use Rattle.tcp_progress.proofs.Shaking.{IsShaking, Opens, opens-after, opens-append, received-on, shakes-all, up-before}
-use Rattle.tcp_progress.proofs.Turning.{after-append, all-untimed, calm-append, calm-served, done-through, reads-calm, turn-calm, turns-calm, turns-done}
-use Rattle.tcp_progress.proofs.Waited.{waited}
+use Rattle.tcp_progress.proofs.Shaking.{GoesOn, IsShaking, Opens, OpensOr, shake-then, up-before}
 
--- ---- ONE TURN, from its reads on: one side is served, then the other, then all comes
-abbrev all_of_turn : Side → ℕ → ℕ → List EventContent → List EventContent → List EventContent
-all_of_turn first n m there back = served first n ++ (served (other first) m ++ (there ++ back))
+-- ---- A SIDE IS SERVED somewhere among some events, and all that it sends comes
+record IsServedIn (w : WorldState) (events : List EventContent) (side : Side) : Type 0 where
+  front : List EventContent
+  count : ℕ
+  rest : List EventContent
+  is : events ≡ front ++ (served side count ++ rest)
+  calm_front : AllByRecursion IsCalm front
+  calm_rest : AllByRecursion IsCalm rest
+  idle : IsIdle (world_after_all (world_after_all w front) (served side count)) side
+  comes : AllCome (world_after_all w front) (served side count) rest
 
--- what is taken somewhere among more events
-taken-after : (w : WorldState) (xs ys : List EventContent) (side : Side) → IsTakenOr (world_after_all w xs) ys side → IsTakenOr w (xs ++ ys) side
-taken-after w xs ys side (inl opens) = inl (opens-after w xs ys opens)
-taken-after w xs ys side (inr taken) = inr (subst (λ (u : WorldState). IsShaking u side × ((party_of u (other side)).endpoint.phase ≡ SynReceived))
-    (sym (after-append w xs ys)) taken)
-
-among-turn : (xs ys zs : List EventContent) → AreAmong (xs ++ ys) (xs ++ (ys ++ zs))
-among-turn xs ys zs = subst (λ (list : List EventContent). AreAmong (xs ++ ys) list) (append_assoc xs ys zs) (among-left (xs ++ ys) zs)
-
-later-calm : (first : Side) (n m : ℕ) (w : WorldState) (there back : List EventContent) → IsServed first n m w there back
-    → AllByRecursion IsCalm (there ++ back)
-later-calm first n m w there back g = calm-append there back (all-untimed there g.untimed) g.calm
-
-then-calm : (first : Side) (n m : ℕ) (w : WorldState) (there back : List EventContent) → IsServed first n m w there back
-    → AllByRecursion IsCalm (served (other first) m ++ (there ++ back))
-then-calm first n m w there back g = calm-append (served (other first) m) (there ++ back) (calm-served (other first) m) (later-calm first n m w there back g)
-
-end-is : (first : Side) (n m : ℕ) (w : WorldState) (there back : List EventContent)
-    → world_after_all w (all_of_turn first n m there back) ≡ world_after_all (world_after_all w (served first n)) (served (other first) m ++ (there ++ back))
-end-is first n m w there back = after-append w (served first n) (served (other first) m ++ (there ++ back))
-
--- who calls is served first
-call-first : (side : Side) (n m : ℕ) (w : WorldState) (there back : List EventContent) → IsServed side n m w there back → IsShaking w side
-    → NoneGaveUp (world_after_all w (all_of_turn side n m there back))
-    → IsTakenOr w (all_of_turn side n m there back) side
-call-first side n m w there back g h up =
-    let rest = served (other side) m ++ (there ++ back) in
-    let up' = subst NoneGaveUp (end-is side n m w there back) up in
-    elim (serve-call n w side (served (other side) m ++ there) rest (then-calm side n m w there back g) h g.out g.comes
-    (among-turn (served (other side) m) there back) up') [
-      | inl opens ↦ inl opens
-      | inr taken ↦ taken-after w (served side n) rest side taken
-    ]
-
--- or second
-call-second : (first : Side) (n m : ℕ) (w : WorldState) (there back : List EventContent) → IsServed first n m w there back → IsShaking w (other first)
-    → NoneGaveUp (world_after_all w (all_of_turn first n m there back)) → IsTakenOr w (all_of_turn first n m there back) (other first)
-call-second first n m w there back g h up =
-    let u = world_after_all w (served first n) in
-    let rest = there ++ back in
-    let second = served (other first) m in
-    let up' = subst NoneGaveUp (end-is first n m w there back) up in
-    let kept = (steps-all w (served first n) (calm-served first n) h.kept).kept in
-    elim (shakes-all w (served first n) (other first) (calm-served first n) h (up-before u (second ++ rest) (then-calm first n m w there back g) kept up')) [
-      | inl opens ↦ inl (opens-append w (served first n) (second ++ rest) opens)
-      | inr on ↦
-          taken-after w (served first n) (second ++ rest) (other first)
-          (elim (serve-call m u (other first) there rest (later-calm first n m w there back g) on.0 g.then_out g.then_comes (among-left there back)
-          (subst NoneGaveUp (after-append u second rest) up')) [
-            | inl opens ↦ inl opens
-            | inr taken ↦ taken-after u second rest (other first) taken
-          ])
-    ]
-
--- who answers is served first
-answer-first : (side : Side) (n m : ℕ) (w : WorldState) (there back : List EventContent) → IsServed (other side) n m w there back → IsShaking w side
-    → (party_of w (other side)).endpoint.phase ≡ SynReceived → NoneGaveUp (world_after_all w (all_of_turn (other side) n m there back))
-    → Opens w (all_of_turn (other side) n m there back)
-answer-first side n m w there back g h received up =
-    let second = served (other (other side)) m in
-    serve-answer n w side (second ++ there) (second ++ (there ++ back)) (then-calm (other side) n m w there back g) h received g.out g.comes
-    (among-turn second there back)
-    (subst NoneGaveUp (end-is (other side) n m w there back) up)
-
--- or second
-answer-second : (side : Side) (n m : ℕ) (w : WorldState) (there back : List EventContent) → IsServed side n m w there back → IsShaking w side
-    → (party_of w (other side)).endpoint.phase ≡ SynReceived → NoneGaveUp (world_after_all w (all_of_turn side n m there back))
-    → Opens w (all_of_turn side n m there back)
-answer-second side n m w there back g h received up =
-    let u = world_after_all w (served side n) in
-    let rest = there ++ back in
-    let second = served (other side) m in
-    let up' = subst NoneGaveUp (end-is side n m w there back) up in
-    let kept = (steps-all w (served side n) (calm-served side n) h.kept).kept in
-    elim (shakes-all w (served side n) side (calm-served side n) h (up-before u (second ++ rest) (then-calm side n m w there back g) kept up')) [
-      | inl opens ↦ opens-append w (served side n) (second ++ rest) opens
-      | inr on ↦
-          opens-after w (served side n) (second ++ rest)
-          (serve-answer m u side there rest (later-calm side n m w there back g) on.0 (received-on _ _ received on.1) g.then_out g.then_comes
-          (among-left there back)
-          (subst NoneGaveUp (after-append u second rest) up'))
-    ]
-
--- in either order
-calls-turn : (side first : Side) (n m : ℕ) (w : WorldState) (there back : List EventContent) → IsServed first n m w there back → IsShaking w side
-    → NoneGaveUp (world_after_all w (all_of_turn first n m there back)) → IsTakenOr w (all_of_turn first n m there back) side
-calls-turn A A n m w there back g h up = call-first A n m w there back g h up
-calls-turn A B n m w there back g h up = call-second B n m w there back g h up
-calls-turn B B n m w there back g h up = call-first B n m w there back g h up
-calls-turn B A n m w there back g h up = call-second A n m w there back g h up
-
-answers-turn : (side first : Side) (n m : ℕ) (w : WorldState) (there back : List EventContent) → IsServed first n m w there back → IsShaking w side
-    → (party_of w (other side)).endpoint.phase ≡ SynReceived → NoneGaveUp (world_after_all w (all_of_turn first n m there back))
-    → Opens w (all_of_turn first n m there back)
-answers-turn A A n m w there back g h received up = answer-second A n m w there back g h received up
-answers-turn A B n m w there back g h received up = answer-first A n m w there back g h received up
-answers-turn B B n m w there back g h received up = answer-second B n m w there back g h received up
-answers-turn B A n m w there back g h received up = answer-first B n m w there back g h received up
-
--- ---- A WHOLE TURN
-tail-is : (w : WorldState) (turn : List EventContent) (t : IsTurn w turn) → turn ≡ reads ++ all_of_turn t.first t.count t.then_count t.there t.back
-tail-is w turn t = t.form ∙ ap (λ (list : List EventContent). reads ++ list)
-    (append_assoc (served t.first t.count) (served (other t.first) t.then_count) (t.there ++ t.back))
-
-tail-all_calm : (w : WorldState) (turn : List EventContent) (t : IsTurn w turn)
-    → AllByRecursion IsCalm (all_of_turn t.first t.count t.then_count t.there t.back)
-tail-all_calm w turn t = calm-append (served t.first t.count) _ (calm-served t.first t.count)
-    (then-calm t.first t.count t.then_count (world_after_all w reads) t.there t.back (turn-served w turn t))
-
-turn-calls : (w : WorldState) (turn : List EventContent) (side : Side) → IsTurn w turn → IsShaking w side → NoneGaveUp (world_after_all w turn)
-    → IsTakenOr w turn side
-turn-calls w turn side t h up =
+-- each side is in a turn
+turn-serves : (w : WorldState) (turn : List EventContent) → IsTurn w turn → (side : Side) → IsServedIn w turn side
+turn-serves w turn t side =
     let v = world_after_all w reads in
-    let tail = all_of_turn t.first t.count t.then_count t.there t.back in
-    let up' : NoneGaveUp (world_after_all v tail) = subst NoneGaveUp (ap (world_after_all w) (tail-is w turn t) ∙ after-append w reads tail) up in
-    let kept = (steps-all w reads reads-calm h.kept).kept in
-    subst (λ (list : List EventContent). IsTakenOr w list side) (sym (tail-is w turn t))
-    (elim (shakes-all w reads side reads-calm h (up-before v tail (tail-all_calm w turn t) kept up')) [
-      | inl opens ↦ inl (opens-append w reads tail opens)
-      | inr on ↦ taken-after w reads tail side (calls-turn side t.first t.count t.then_count v t.there t.back (turn-served w turn t) on.0 up')
-    ])
+    let one = served t.first t.count in
+    let two = served (other t.first) t.then_count in
+    let later = t.there ++ t.back in
+    let g = turn-served w turn t in
+    let calm = calm-append t.there t.back (all-untimed t.there t.untimed) t.calm in
+    let form : turn ≡ reads ++ (one ++ (two ++ later)) = t.form ∙ ap (λ (list : List EventContent). reads ++ list) (append_assoc one two later) in
+    let there = among-left t.there t.back in
+    let after : world_after_all v one ≡ world_after_all w (reads ++ one) = sym (after-append w reads one) in
+    either-side t.first side (IsServedIn w turn) (record {
+      front = reads;
+      count = t.count;
+      rest = two ++ later;
+      is = form;
+      calm_front = reads-calm;
+      calm_rest = calm-append two later (calm-served (other t.first) t.then_count) calm;
+      idle = g.out;
+      comes = come-among v one (two ++ t.there) (two ++ later) (among-behind two t.there later there) g.comes;
+    }) (record {
+      front = reads ++ one;
+      count = t.then_count;
+      rest = later;
+      is = form ∙ sym (append_assoc reads one (two ++ later));
+      calm_front = calm-append reads one reads-calm (calm-served t.first t.count);
+      calm_rest = calm;
+      idle = subst (λ (u : WorldState). IsIdle (world_after_all u two) (other t.first)) after g.then_out;
+      comes = subst (λ (u : WorldState). AllCome u two later) after (come-among (world_after_all v one) two t.there later there g.then_comes);
+    })
 
-turn-answers : (w : WorldState) (turn : List EventContent) (side : Side) → IsTurn w turn → IsShaking w side
-    → (party_of w (other side)).endpoint.phase ≡ SynReceived
-    → NoneGaveUp (world_after_all w turn) → Opens w turn
-turn-answers w turn side t h received up =
-    let v = world_after_all w reads in
-    let tail = all_of_turn t.first t.count t.then_count t.there t.back in
-    let up' : NoneGaveUp (world_after_all v tail) = subst NoneGaveUp (ap (world_after_all w) (tail-is w turn t) ∙ after-append w reads tail) up in
-    let kept = (steps-all w reads reads-calm h.kept).kept in
-    subst (λ (list : List EventContent). Opens w list) (sym (tail-is w turn t))
-    (elim (shakes-all w reads side reads-calm h (up-before v tail (tail-all_calm w turn t) kept up')) [
-      | inl opens ↦ opens-append w reads tail opens
-      | inr on ↦
-          opens-after w reads tail
-          (answers-turn side t.first t.count t.then_count v t.there t.back (turn-served w turn t) on.0 (received-on _ _ received on.1) up')
-    ])
+-- who speaks is heard in a turn
+turn-speaks : (told : Bool) (w : WorldState) (turn : List EventContent) (side : Side) → IsServedIn w turn (speaker told side) → Before told side w
+    → NoneGaveUp (world_after_all w turn) → OpensOr w turn (After told side)
+turn-speaks told w turn side t h up =
+    let events = served (speaker told side) t.count in
+    let v = world_after_all w t.front in
+    let calm = calm-append events t.rest (calm-served (speaker told side) t.count) t.calm_rest in
+    subst (λ (list : List EventContent). OpensOr w list (After told side)) (sym t.is)
+    (shake-then w t.front (events ++ t.rest) side (After told side) t.calm_front calm (before-shakes told side w h)
+    (subst (λ (list : List EventContent). NoneGaveUp (world_after_all w list)) t.is up)
+    (λ up' h' on. serve-stage told t.count v side t.rest t.calm_rest t.idle t.comes (before-stays told side w v h (h', on)) up'))
 
--- ---- TURN AFTER TURN. Where both are open somewhere before turns, those come after it
-prepend : (n : ℕ) (w : WorldState) (xs ys : List EventContent) → AllByRecursion IsCalm xs → HasTurns n (world_after_all w xs) ys → HasTurns n w (xs ++ ys)
-prepend zero w xs ys calm turns = calm-append xs ys calm turns
-prepend (suc n) w xs ys calm turns =
-    let before = turns.0 in
-    let turn = turns.1 in
-    let after = turns.2 in
-    let same = after-append w xs before in (
-      xs ++ before,
-      turn,
-      after,
-      ap (λ (list : List EventContent). xs ++ list) turns.3 ∙ sym (append_assoc xs before (turn ++ after)),
-      calm-append xs before calm turns.4,
-      subst (λ (u : WorldState). IsTurn u turn) (sym same) turns.5,
-      subst (λ (u : WorldState). HasTurns n (world_after_all u turn) after) (sym same) turns.6,
-    )
-
-record OpensBefore (n : ℕ) (w : WorldState) (events : List EventContent) : Type 0 where
+-- ---- TURN AFTER TURN
+-- something holds after the first of them
+record Leads (n : ℕ) (w : WorldState) (events : List EventContent) (Holds : WorldState → Type 0) : Type 0 where
   front : List EventContent
   rest : List EventContent
   is : events ≡ front ++ rest
   calm : AllByRecursion IsCalm front
-  both : AreOpen (world_after_all w front)
+  holds : Holds (world_after_all w front)
   turns : HasTurns n (world_after_all w front) rest
 
-calm-front : (xs ys : List EventContent) → AllByRecursion IsCalm (xs ++ ys) → AllByRecursion IsCalm xs × AllByRecursion IsCalm ys
-calm-front [] ys calm = (tt, calm)
-calm-front (x ∷ xs) ys calm = let more = calm-front xs ys calm.1 in ((calm.0, more.0), more.1)
+abbrev IsOn : WorldState → Type 0
+IsOn w = GoOn w.a w.b
 
-opens-before : (n : ℕ) (w : WorldState) (xs ys : List EventContent) → AllByRecursion IsCalm xs → Opens w xs → HasTurns n (world_after_all w xs) ys
-    → OpensBefore n w (xs ++ ys)
-opens-before n w xs ys calm opens turns =
-    let parts = calm-front opens.front opens.rest (subst (λ (list : List EventContent). AllByRecursion IsCalm list) opens.is calm) in
-    let same : world_after_all w xs ≡ world_after_all (world_after_all w opens.front) opens.rest = ap (world_after_all w) opens.is ∙ after-append w
-    opens.front opens.rest in
-    record {
-      front = opens.front;
-      rest = opens.rest ++ ys;
-      is = ap (λ (list : List EventContent). list ++ ys) opens.is ∙ append_assoc opens.front opens.rest ys;
-      calm = parts.0;
-      both = opens.both;
-      turns = prepend n (world_after_all w opens.front) opens.rest ys parts.1 (subst (λ (u : WorldState). HasTurns n u ys) same turns);
-    }
+-- where both are open somewhere, both go on in the end
+opened-on : (w : WorldState) (xs : List EventContent) → AllByRecursion IsCalm xs → IsKept w → Opens w xs → NoneGaveUp (world_after_all w xs)
+    → IsOn (world_after_all w xs)
+unfolding world_after_all
+opened-on w [] calm h both up = both-live w.a w.b both.a both.b
+opened-on w (x ∷ xs) calm h (inl both) up = on-all w (x ∷ xs) calm h (both-live w.a w.b both.a both.b) up
+opened-on w (x ∷ xs) calm h (inr more) up = opened-on (world_after w x) xs calm.1 (steps-event w x calm.0 h).kept more up
 
--- one turn
-record TakenBefore (n : ℕ) (w : WorldState) (side : Side) (events : List EventContent) : Type 0 where
-  front : List EventContent
-  rest : List EventContent
-  is : events ≡ front ++ rest
-  calm : AllByRecursion IsCalm front
-  shaking : IsShaking (world_after_all w front) side
-  received : (party_of (world_after_all w front) (other side)).endpoint.phase ≡ SynReceived
-  turns : HasTurns n (world_after_all w front) rest
-
--- what is before it and in it
-record First (n : ℕ) (w : WorldState) (events : List EventContent) : Type 0 where
-  before : List EventContent
-  turn : List EventContent
-  after : List EventContent
-  is : events ≡ (before ++ turn) ++ after
-  calm_before : AllByRecursion IsCalm before
-  calm_turn : AllByRecursion IsCalm turn
-  calm_after : AllByRecursion IsCalm after
-  is_turn : IsTurn (world_after_all w before) turn
-  turns : HasTurns n (world_after_all w (before ++ turn)) after
-
-first-of : (n : ℕ) (w : WorldState) (events : List EventContent) → HasTurns (suc n) w events → First n w events
-first-of n w events turns =
+-- of two outcomes of the first turn each leads on
+first-leads : (n : ℕ) (w : WorldState) (events : List EventContent) (side : Side) (Holds : WorldState → Type 0) → HasTurns (suc n) w events → IsShaking w side
+    → NoneGaveUp (world_after_all w events)
+    → ((v : WorldState) (turn : List EventContent) → IsTurn v turn → NoneGaveUp (world_after_all v turn) → IsShaking v side
+    → GoesOn (party_of w (other side)).endpoint.phase (party_of v (other side)).endpoint.phase → OpensOr v turn Holds)
+    → Leads n w events (λ u. IsOn u ⊎ Holds u)
+first-leads n w events side Holds turns h up turned =
     let before = turns.0 in
     let turn = turns.1 in
     let after = turns.2 in
+    let xs = before ++ turn in
     let v = world_after_all w before in
+    let calm' = turn-calm v turn turns.5 in
+    let calm = calm-append before turn turns.4 calm' in
+    let is : events ≡ xs ++ after = turns.3 ∙ sym (append_assoc before turn after) in
+    let later = subst (λ (u : WorldState). HasTurns n u after) (sym (after-append w before turn)) turns.6 in
+    let kept = (steps-all w xs calm h.kept).kept in
+    let end = subst NoneGaveUp (ap (world_after_all w) is ∙ after-append w xs after) up in
+    let ups = up-before (world_after_all w xs) after (turns-calm n (world_after_all w xs) after later) kept end in
     record {
-      before = before;
-      turn = turn;
-      after = after;
-      is = turns.3 ∙ sym (append_assoc before turn after);
-      calm_before = turns.4;
-      calm_turn = turn-calm v turn turns.5;
-      calm_after = turns-calm n (world_after_all v turn) after turns.6;
-      is_turn = turns.5;
-      turns = subst (λ (u : WorldState). HasTurns n u after) (sym (after-append w before turn)) turns.6;
+      front = xs;
+      rest = after;
+      is = is;
+      calm = calm;
+      holds = elim (shake-then w before turn side Holds turns.4 calm' h ups (λ up' h' on. turned v turn turns.5 up' h' on)) [
+        | inl opens ↦ inl (opened-on w xs calm h.kept opens ups)
+        | inr is ↦ inr is
+      ];
+      turns = later;
     }
-
--- no end has given up then
-first-up : (n : ℕ) (w : WorldState) (events : List EventContent) (f : First n w events) → IsKept w → NoneGaveUp (world_after_all w events)
-    → NoneGaveUp (world_after_all (world_after_all w f.before) f.turn) × NoneGaveUp (world_after_all w f.before)
-first-up n w events f h up =
-    let xs = f.before ++ f.turn in
-    let u = world_after_all w xs in
-    let v = world_after_all w f.before in
-    let kept = (steps-all w xs (calm-append f.before f.turn f.calm_before f.calm_turn) h).kept in
-    let end = up-before u f.after f.calm_after kept (subst NoneGaveUp (ap (world_after_all w) f.is ∙ after-append w xs f.after) up) in
-    let turned = subst NoneGaveUp (after-append w f.before f.turn) end in
-    (turned, up-before v f.turn f.calm_turn (steps-all w f.before f.calm_before h).kept turned)
-
-calls-turns : (n : ℕ) (w : WorldState) (side : Side) (events : List EventContent) → IsShaking w side → HasTurns (suc n) w events
-    → NoneGaveUp (world_after_all w events)
-    → OpensBefore n w events ⊎ TakenBefore n w side events
-calls-turns n w side events h turns up =
-    let f = first-of n w events turns in
-    let ups = first-up n w events f h.kept up in
-    let xs = f.before ++ f.turn in
-    let calm = calm-append f.before f.turn f.calm_before f.calm_turn in
-    let taken : IsTakenOr w xs side = elim (shakes-all w f.before side f.calm_before h ups.1) [
-      | inl opens ↦ inl (opens-append w f.before f.turn opens)
-      | inr on ↦ taken-after w f.before f.turn side (turn-calls (world_after_all w f.before) f.turn side f.is_turn on.0 ups.0)
-    ] in
-    elim taken [
-      | inl opens ↦ inl (subst (OpensBefore n w) (sym f.is) (opens-before n w xs f.after calm opens f.turns))
-      | inr is ↦ inr (record { front = xs; rest = f.after; is = f.is; calm = calm; shaking = is.0; received = is.1; turns = f.turns })
-    ]
-
-answers-turns : (n : ℕ) (w : WorldState) (side : Side) (events : List EventContent) → IsShaking w side
-    → (party_of w (other side)).endpoint.phase ≡ SynReceived → HasTurns (suc n) w events
-    → NoneGaveUp (world_after_all w events) → OpensBefore n w events
-answers-turns n w side events h received turns up =
-    let f = first-of n w events turns in
-    let ups = first-up n w events f h.kept up in
-    let xs = f.before ++ f.turn in
-    let opens : Opens w xs = elim (shakes-all w f.before side f.calm_before h ups.1) [
-      | inl opens ↦ opens-append w f.before f.turn opens
-      | inr on ↦ opens-after w f.before f.turn (turn-answers (world_after_all w f.before) f.turn side f.is_turn on.0 (received-on _ _ received on.1) ups.0)
-    ] in
-    subst (OpensBefore n w) (sym f.is) (opens-before n w xs f.after (calm-append f.before f.turn f.calm_before f.calm_turn) opens f.turns)
-
--- two turns
-two-turns : (n : ℕ) (w : WorldState) (side : Side) (events : List EventContent) → IsShaking w side → HasTurns (suc (suc n)) w events
-    → NoneGaveUp (world_after_all w events)
-    → OpensBefore (suc n) w events ⊎ OpensBefore n w events
-two-turns n w side events h turns up =
-    elim (calls-turns (suc n) w side events h turns up) [
-      | inl opens ↦ inl opens
-      | inr t ↦
-          let v = world_after_all w t.front in
-          let o = answers-turns n v side t.rest t.shaking t.received t.turns
-          (subst NoneGaveUp (ap (world_after_all w) t.is ∙ after-append w t.front t.rest) up) in
-          let same = after-append w t.front o.front in
-          inr (record {
-            front = t.front ++ o.front;
-            rest = o.rest;
-            is = t.is ∙ ap (λ (list : List EventContent). t.front ++ list) o.is ∙ sym (append_assoc t.front o.front o.rest);
-            calm = calm-append t.front o.front t.calm o.calm;
-            both = subst AreOpen (sym same) o.both;
-            turns = subst (λ (u : WorldState). HasTurns n u o.rest) (sym same) o.turns;
-          })
-    ]
 
 -- ---- AND SO ALL GETS THROUGH
-opened-through : (k : ℕ) (w : WorldState) (events : List EventContent) → IsKept w → left_in w ≤ k → OpensBefore (suc k) w events
-    → NoneGaveUp (world_after_all w events) → HaveSyns (world_after_all w events) × GotThrough w (world_after_all w events)
-opened-through k w events h most o up =
-    let v = world_after_all w o.front in
-    let end = world_after_all v o.rest in
-    let steps = steps-all w o.front o.calm h in
-    let steps' = steps-all v o.rest (turns-calm (suc k) v o.rest o.turns) steps.kept in
-    let same : world_after_all w events ≡ end = ap (world_after_all w) o.is ∙ after-append w o.front o.rest in
-    let up' = subst NoneGaveUp same up in
-    let done = turns-done lowers_lem k v o.rest (omega (arith, most, steps-left w v steps)) steps.kept (both-live v.a v.b o.both.a o.both.b) o.turns
-    up'.0 up'.1 in
-    let both = done-through end done in
-    let syns : HaveSyns end = record { a = steps'.there.opened o.both.a.opened; b = steps'.back.opened o.both.b.opened } in
-    let through : GotThrough w end = record {
-      there = both.0;
-      back = both.1;
-      streams = steps-streams w end (steps-then w v end steps steps');
-      settles = waited end done.kept (complete end.a end.b done.on done.none) done.read.a done.read.b;
-    } in
-    subst (λ (u : WorldState). HaveSyns u × GotThrough w u) (sym same) (syns, through)
+abbrev Through : WorldState → WorldState → Type 0
+Through w end = HaveSyns end × GotThrough w end
+
+on-through : (k : ℕ) (w : WorldState) (events : List EventContent) → IsKept w → IsOn w → left_in w ≤ k → HasTurns (suc k) w events
+    → NoneGaveUp (world_after_all w events) → Through w (world_after_all w events)
+on-through k w events h on most turns up =
+    let steps = steps-all w events (turns-calm (suc k) w events turns) h in (
+      record { a = (steps.grows A).opened on.there.opened; b = (steps.grows B).opened on.back.opened },
+      got-through lowers_lem k w events most h on turns up,
+    )
+
+-- what gets through from later on
+through-from : (n : ℕ) (w : WorldState) (events : List EventContent) (Holds : WorldState → Type 0) (l : Leads n w events Holds) → IsKept w
+    → NoneGaveUp (world_after_all w events)
+    → (IsKept (world_after_all w l.front) → left_in (world_after_all w l.front) ≤ left_in w → NoneGaveUp (world_after_all (world_after_all w l.front) l.rest)
+    → Through (world_after_all w l.front) (world_after_all (world_after_all w l.front) l.rest)) → Through w (world_after_all w events)
+through-from n w events Holds l h up next =
+    let v = world_after_all w l.front in
+    let same : world_after_all w events ≡ world_after_all v l.rest = ap (world_after_all w) l.is ∙ after-append w l.front l.rest in
+    let steps = steps-all w l.front l.calm h in
+    let t = next steps.kept (steps-left w v steps) (subst NoneGaveUp same up) in
+    let all = steps-then w v _ steps (steps-all v l.rest (turns-calm n v l.rest l.turns) steps.kept) in
+    subst (Through w) (sym same) (t.0, record { there = t.1.there; back = t.1.back; streams = steps-streams w _ all; settles = t.1.settles })
 
 opens-through : (w : WorldState) (side : Side) (events : List EventContent) → IsShaking w side → HasTurns (suc (suc (suc (left_in w)))) w events
-    → NoneGaveUp (world_after_all w events)
-    → HaveSyns (world_after_all w events) × GotThrough w (world_after_all w events)
+    → NoneGaveUp (world_after_all w events) → Through w (world_after_all w events)
 opens-through w side events h turns up =
-    elim (two-turns (suc (left_in w)) w side events h turns up) [
-      | inl more ↦ opened-through (suc (left_in w)) w events h.kept (omega arith) more up
-      | inr enough ↦ opened-through (left_in w) w events h.kept (omega arith) enough up
-    ]
+    let n = left_in w in
+    let l = first-leads (suc (suc n)) w events side (IsTaken side) turns h up (λ v turn t up' h' _.
+    turn-speaks false v turn side (turn-serves v turn t side) h' up') in
+    let v = world_after_all w l.front in
+    through-from (suc (suc n)) w events _ l h.kept up (λ kept most up'. elim l.holds [
+      | inl on ↦ on-through (suc n) v l.rest kept on (omega (arith, most)) l.turns up'
+      | inr taken ↦
+          let l' = first-leads (suc n) v l.rest side (λ _. ⊥) l.turns taken.0 up' (λ v' turn t up'' h' on.
+          turn-speaks true v' turn side (turn-serves v' turn t (other side)) (h', on.received taken.1) up'') in
+          through-from (suc n) v l.rest _ l' kept up' (λ kept' most' up''. elim l'.holds [
+            | inl on ↦ on-through n (world_after_all v l'.front) l'.rest kept' on (omega (arith, most, most')) l'.turns up''
+            | inr none ↦ absurd none
+          ])
+    ])
 
-opens-and : (w : WorldState) → IsKept w → OpensAndGetsThrough w
+pub opens-and : (w : WorldState) → IsKept w → OpensAndGetsThrough w
 opens-and w h (inl opening) events turns up = opens-through w A events (record { kept = h; calls = opening.calls; answers = opening.answers }) turns up
 opens-and w h (inr opening) events turns up = opens-through w B events (record { kept = h; calls = opening.calls; answers = opening.answers }) turns up
 

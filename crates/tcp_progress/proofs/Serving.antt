@@ -1,24 +1,118 @@
--- ONE SIDE IS SERVED: where something of it is in flight that the other hasn't taken, or nothing is in flight and something waits, what goes out is useful.
-use Rattle.std.proofs.Common.{ℕ, ◌++◌, ◌<◌, ◌∙◌, ◌≡◌, ◌⊎◌, ap, arith, false, IfSome, inl, inr, length, List, max, None, Option, refl, Some, subst, suc, sym}
-use Rattle.std.proofs.Common.{true, zero}
-use Rattle.tcp_replay.proofs.Words.{after_emission, after_retransmit, AllByRecursion, Content, count_numbers, Due, due_of, false≢true, has, Retransmit, rst}
-use Rattle.tcp_replay.proofs.Words.{segment_of, sends_text, State, syn, WaitingReset}
-use Rattle.tcp_replay.proofs.WorldWords.{effect_of, Emit, EventContent, next_position, other, party_after_emission, party_after_timer, party_of, PartyState}
-use Rattle.tcp_replay.proofs.WorldWords.{Timer, world_after, world_after_all, WorldState}
+-- WHAT IS SURE TO COME AND BRINGS ON: a segment that is useful stays so until something is brought on, and brings on when it comes.
+use Rattle.std.proofs.Common.{◌++◌, ◌+◌, ◌<◌, ◌∙◌, ◌∷◌, ◌≡◌, ◌≤◌, ◌⊎◌, [], ap, arith, false, IfSome, inl, inr, length, List, max, None, Option, refl, Some}
+use Rattle.std.proofs.Common.{subst, suc, sym, true, zero, ℕ}
+use Rattle.tcp_replay.proofs.Words.{after_emission, after_retransmit, AllByRecursion, Config, Content, count_numbers, Due, due_of, false≢true, has, number}
+use Rattle.tcp_replay.proofs.Words.{Reset, rst, segment_of, sends_text, State, WaitingReset}
+use Rattle.tcp_replay.proofs.WorldWords.{Deliver, delivery_refusal, Emit, EventContent, max_life, next_position, other, party_after_arrival}
+use Rattle.tcp_replay.proofs.WorldWords.{party_after_emission, party_after_timer, party_of, PartyState, segment_at, world_after, world_after_all, WorldState}
 use Rattle.tcp_replay.proofs.Lemmas.{reset-bit}
-use Rattle.tcp_progress.proofs.Words.{A, after_emissions, all_of, AllCome, B, Comes, CoversNext, Delivers, emissions, is_reset, IsCalm, IsIdle, IsLive}
-use Rattle.tcp_progress.proofs.Words.{IsSteadyPair, left_in, MaySend, NoneGaveUp, served, Side}
-use Rattle.tcp_progress.proofs.Again.{again_lem}
-use Rattle.tcp_progress.proofs.New.{new_lem}
-use Rattle.tcp_progress.proofs.CalmWorlds.{steps-all}
-use Rattle.tcp_progress.proofs.Emitted.{fresh-emitted}
-use Rattle.tcp_progress.proofs.Forward.{fin-last, flight-sends, in-flight, past-syn, unsent-phase, waits}
-use Rattle.tcp_progress.proofs.Ready.{has-room, no-syn-owed, sends-no_handshake}
-use Rattle.tcp_progress.proofs.Turning.{calm-append, calm-emissions}
-use Rattle.tcp_progress.proofs.Useful.{IsUseful, useful-comes}
-use Rattle.tcp_progress.proofs.Going.{IsGoing, going-live, lowers-only, over-event, side-pair}
+use Rattle.tcp_progress.proofs.Words.{after_emissions, all_of, AllCome, Comes, CoversNext, Delivers, emissions, is_reset, IsCalm, IsIdle, IsLive, IsSteadyPair}
+use Rattle.tcp_progress.proofs.Words.{least_life, left_in, left_of_both, MaySend, NoneGaveUp, served, Side}
+use Rattle.tcp_progress.proofs.Lemmas.{after-append, again_lem, AreStill, calm-append, calm-emissions, deliver-at, delivered-at, delivered-next, emit-at}
+use Rattle.tcp_progress.proofs.Lemmas.{flight-sends, fresh-emitted, going-live, has-room, in-flight, IsFresh, IsGoing, IsOpenTo, kept-steady, lower-event}
+use Rattle.tcp_progress.proofs.Lemmas.{new_lem, no-handshake, no-syn-owed, none-some, over-served, past-syn, sends-synchronized, side-left, side-pair}
+use Rattle.tcp_progress.proofs.Lemmas.{steps-all, steps-event, steps-left, timer-at, unsent-sends, waits, way-later}
 use Rattle.tcp_halves.specs.declared.due.Due.TheVariants as dues
 
+-- ---- WHAT WAS FRESH STILL IS
+wants-still : (p q p' q' : PartyState) → IsSteadyPair p q → IsSteadyPair p' q' → p.endpoint.receiving.opened ≡ true → AreStill p q p' q'
+    → p'.endpoint.receiving.next ≡ p.endpoint.receiving.next
+wants-still p q p' q' h h' opened still =
+    h'.pair.there.takes.next (still.there.opened opened) ∙ ap (λ (c : Config). number c.isn.0 (next_position p')) still.back.config ∙ ap
+    (number q.endpoint.config.isn.0) still.next_of_x ∙ sym (h.pair.there.takes.next opened)
+
+-- while both are where they were
+pub fresh-still : (p q p' q' : PartyState) (k start : ℕ) (v : Content) → IsSteadyPair p q → IsSteadyPair p' q' → p.endpoint.receiving.opened ≡ true
+    → AreStill p q p' q' → IsFresh p q k start v → IsFresh p' q' k start v
+fresh-still p q p' q' k start v h h' opened still f = record {
+  g = f.g;
+  way = way-later p q p' q' k f.g v still.there still.back f.way;
+  starts = f.starts;
+  wanted = f.wanted ∙ sym still.next_of_x;
+  no_syn = f.no_syn;
+  has_ack = f.has_ack;
+  acks = f.acks ∙ sym (wants-still p q p' q' h h' opened still);
+  src = f.src ∙ ap (λ (c : Config). c.port) (sym still.there.config);
+  dst = f.dst ∙ ap (λ (c : Config). c.port) (sym still.back.config);
+  seq = f.seq ∙ ap (λ (c : Config). number c.isn.0 start) (sym still.there.config);
+  least = f.least;
+  near = omega (arith, f.near, still.una_of_x);
+  most = omega (arith, f.most, still.there.nxt);
+  alone = f.alone;
+  text = λ open_still. elim (f.text open_still) [
+    | inl inside ↦ inl (omega (arith, inside, ap length still.there.accepted))
+    | inr none ↦ inr none
+  ];
+}
+
+-- ---- USEFUL: it covers what q wants next, or is there and acknowledges something new
+pub record IsUseful (p q : PartyState) (k : ℕ) : Type 0 where
+  pub start : ℕ
+  pub content : Content
+  pub fresh : IsFresh p q k start content
+  pub use_of : ((start ≤ next_position q) × (next_position q < start + count_numbers content)) ⊎
+      ((start ≡ next_position q) × (q.endpoint.sending.una < next_position p))
+
+-- it stays so while both are where they were
+pub useful-still : (p q p' q' : PartyState) (k : ℕ) → IsSteadyPair p q → IsSteadyPair p' q' → p.endpoint.receiving.opened ≡ true → AreStill p q p' q'
+    → IsUseful p q k → IsUseful p' q' k
+useful-still p q p' q' k h h' opened still u = record {
+  start = u.start;
+  content = u.content;
+  fresh = fresh-still p q p' q' k u.start u.content h h' opened still u.fresh;
+  use_of = elim u.use_of [
+    | inl covers ↦ inl (omega (arith, covers.0, still.next_of_y), omega (arith, covers.1, still.next_of_y))
+    | inr stands ↦ inr (stands.0 ∙ sym still.next_of_y, omega (arith, stands.1, still.una_of_y, still.next_of_x))
+  ];
+}
+
+-- and brings on when it comes
+pub useful-delivered : (p q : PartyState) (life k : ℕ) → least_life ≤ life → life ≤ max_life → IsSteadyPair p q → p.endpoint.receiving.opened ≡ true
+    → IsOpenTo q → IsUseful p q k → (delivery_refusal life p q k ≡ None) × (left_of_both p (party_after_arrival q p (segment_at p k)) < left_of_both p q)
+unfolding party_after_arrival
+useful-delivered p q life k least most h opened ready u =
+    let sends = h.pair.there.alone.sends in
+    elim u.use_of [
+      | inl covers ↦
+          let taken = delivered-next p q life k u.start u.content least most h opened ready u.fresh covers.0 covers.1 in
+          (taken.0, omega (arith, covers.1, u.fresh.most, sends.most, taken.1.una, taken.1.next, taken.2, h.pair.back.between))
+      | inr stands ↦
+          let taken = delivered-at p q life k u.start u.content least most h opened ready u.fresh stands.0 in
+          (taken.0, omega (arith, stands.1, taken.1.una, taken.1.next, h.back.sent.taken opened, h.pair.back.alone.sends.most))
+    ]
+
+useful-now : (w : WorldState) (side : Side) (k : ℕ) → IsGoing w → IsUseful (party_of w side) (party_of w (other side)) k
+    → left_in (world_after w (Deliver side k)) < left_in w
+useful-now w side k h u =
+    let live = going-live w side h in
+    let steady = kept-steady w h.kept in
+    let comes = useful-delivered (party_of w side) (party_of w (other side)) w.life k steady.least steady.most (side-pair w side h.kept) live.0.opened
+    (record { live = live.1; read = h.read (other side) }) u in
+    let less = deliver-at (λ x y. left_of_both x y < left_of_both (party_of w side) (party_of w (other side))) w side k comes.0 comes.1 in
+    omega (arith, less, side-left (world_after w (Deliver side k)) side, side-left w side)
+
+-- ---- WHAT IS USEFUL AND COMES BRINGS ON, whatever comes before it
+pub useful-comes : (w : WorldState) (side : Side) (k : ℕ) (events : List EventContent) → AllByRecursion IsCalm events → IsGoing w
+    → IsUseful (party_of w side) (party_of w (other side)) k → Delivers side k events → NoneGaveUp (world_after_all w events)
+    → left_in (world_after_all w events) < left_in w
+unfolding world_after_all
+useful-comes w side k [] calm h u comes up = absurd comes
+useful-comes w side k (event ∷ events) calm h u comes up =
+    let v = world_after w event in
+    let end = world_after_all v events in
+    elim comes [
+      | inl now ↦
+          let less : left_in v < left_in w = subst (λ (e : EventContent). left_in (world_after w e) < left_in w) (sym now) (useful-now w side k h u) in
+          omega (arith, less, steps-left v end (steps-all v events calm.1 (steps-event w event calm.0 h.kept).kept))
+      | inr later ↦
+          lower-event w event events calm.0 calm.1 h up (λ hv still.
+          let u' = useful-still (party_of w side) (party_of w (other side)) (party_of v side) (party_of v (other side)) k (side-pair w side h.kept)
+          (side-pair v side hv.kept) (going-live w side h).0.opened (still side) u in
+          useful-comes v side k events calm.1 hv u' later up)
+    ]
+
+-- ---- ONE SIDE IS SERVED: where it has something in flight that the other hasn't taken, or nothing in flight and something
+-- waits, what goes out is useful.
 -- ---- AN END WITH NO RESET
 abbrev pub cleared : State → State
 cleared s = record s { owed = record s.owed { reset = None } }
@@ -28,25 +122,28 @@ pub cleared-same : (s : State) → s.owed.reset ≡ None → cleared s ≡ s
 cleared-same s e = ap (λ (r : Option WaitingReset). record s { owed = record s.owed { reset = r } }) (sym e)
 
 -- a waiting reset goes first
-pub reset-gone : (s : State) (reset : WaitingReset) → s.owed.reset ≡ Some reset → after_emission (after_retransmit s) ≡ after_retransmit (cleared s)
-unfolding after_emission due_of after_retransmit
-reset-gone s reset e = let same : (n : ℕ) → max n 0 ≡ n = λ n. omega arith in rw (e, same) refl
+pub reset-first : (s : State) (reset : WaitingReset) → s.owed.reset ≡ Some reset → (due_of s ≡ Some (Reset reset)) × (after_emission s ≡ cleared s)
+unfolding after_emission due_of
+reset-first s reset e = let same : (n : ℕ) → max n 0 ≡ n = λ n. omega arith in (rw e refl, rw (e, same) refl)
 
--- ---- WHAT COVERS WHAT THE OTHER WANTS goes out after so many emissions
-record Covers (s : State) (position : ℕ) : Type 0 where
-  count : ℕ
-  covers : CoversNext (after_emissions count s) position
+-- so what comes about after so many emissions without it comes about after one more at most
+uncleared-by : (P : State → Type 0) (s : State) (waiting : Option WaitingReset) → s.owed.reset ≡ waiting → (count : ℕ) → P (after_emissions count (cleared s))
+    → (n : ℕ) × (n ≤ suc count) × P (after_emissions n s)
+uncleared-by P s None e count h = (count, omega arith, subst (λ (t : State). P (after_emissions count t)) (cleared-same s e) h)
+uncleared-by P s (Some reset) e count h =
+    (suc count, omega arith, subst (λ (t : State). P (after_emissions count t)) (sym (reset-first s reset e).1) h)
 
-covers-uncleared : (s : State) (position : ℕ) (waiting : Option WaitingReset) → s.owed.reset ≡ waiting → Covers (after_retransmit (cleared s)) position
-    → Covers (after_retransmit s) position
-covers-uncleared s position None e c = subst (λ (t : State). Covers (after_retransmit t) position) (cleared-same s e) c
-covers-uncleared s position (Some reset) e c =
-    record { count = suc c.count; covers = subst (λ (t : State). CoversNext (after_emissions c.count t) position) (sym (reset-gone s reset e)) c.covers }
+-- after the timeout
+pub uncleared : (P : State → Type 0) (s : State) (count : ℕ) → P (after_emissions count (after_retransmit (cleared s)))
+    → (n : ℕ) × (n ≤ suc count) × P (after_emissions n (after_retransmit s))
+unfolding after_retransmit
+uncleared P s count h = uncleared-by P (after_retransmit s) s.owed.reset refl count h
 
 -- such an end may send
 pub may-send-cleared : (p q : PartyState) → IsSteadyPair p q → sends_text p.endpoint.phase ≡ true → MaySend (cleared p.endpoint)
 may-send-cleared p q h sends =
-    record { phase = sends; reset = refl; syn = no-syn-owed p q h (sends-no_handshake p.endpoint.phase sends); limit = has-room p q h }
+    let past = no-handshake p.endpoint.phase (sends-synchronized p.endpoint.phase sends) in
+    record { phase = sends; reset = refl; syn = no-syn-owed p q h past; limit = has-room p q h }
 
 -- IN FLIGHT AND NOT TAKEN, or UNSENT with nothing in flight
 abbrev pub HasMore : PartyState → PartyState → Type 0
@@ -54,24 +151,27 @@ HasMore p q =
     (next_position q < p.endpoint.sending.nxt)
     ⊎ ((p.endpoint.sending.una ≡ p.endpoint.sending.nxt) × (next_position q ≡ p.endpoint.sending.nxt) × (p.endpoint.sending.nxt < all_of p))
 
+-- then a segment that covers what the other wants goes out after so many emissions
+abbrev Covers : State → ℕ → Type 0
+Covers s position = (count : ℕ) × CoversNext (after_emissions count s) position
+
 timeout-covers : (p q : PartyState) → IsSteadyPair p q → IsLive p → HasMore p q → Covers (after_retransmit p.endpoint) (next_position q)
 timeout-covers p q h live more =
     let s = p.endpoint in
-    let d = s.sending in
-    covers-uncleared s (next_position q) s.owed.reset refl
-    (elim more [
+    let position = next_position q in
+    let cover : Covers (after_retransmit (cleared s)) position → Covers (after_retransmit s) position = λ c.
+    let later = uncleared (λ t. CoversNext t position) s c.0 c.1 in (later.0, later.2) in
+    elim more [
       | inl flight ↦
-          let sends = flight-sends p q (next_position q) h live (omega arith) h.pair.there.between flight in
-          let again = again_lem (cleared s) (next_position q) (may-send-cleared p q h sends)
-          (in-flight p q (next_position q) h live sends h.pair.there.between flight) in
-          record { count = again.1.count; covers = again.1.covers }
+          let sends = flight-sends p q position h live (omega arith) h.pair.there.between flight in
+          let again = again_lem (cleared s) position (may-send-cleared p q h sends) (in-flight p q position h live sends h.pair.there.between flight) in
+          cover (again.1.count, again.1.covers)
       | inr unsent ↦
-          let sends = unsent-phase s s.phase (all_of p) unsent.0 unsent.2
-          (fin-last p q h live) live.opened live.goes_on h.pair.there.alone.progress h.there.stage in
+          let sends = unsent-sends p q h live unsent.0 unsent.2 in
           let goes = new_lem (cleared s) (may-send-cleared p q h sends)
           (record { idle = unsent.0; waits = waits p q h live (past-syn p q h sends) unsent.0 unsent.2; range = h.there.range }) in
-          record { count = 0; covers = subst (CoversNext (after_retransmit (cleared s))) (sym unsent.1) goes.0 }
-    ])
+          cover (0, subst (CoversNext (after_retransmit (cleared s))) (sym unsent.1) goes.0)
+    ]
 
 -- ---- IN THE WORLD
 pub idle-stays : (n : ℕ) (s : State) → due_of s ≡ None → after_emissions n s ≡ s
@@ -79,52 +179,11 @@ unfolding after_emission
 idle-stays zero s e = refl
 idle-stays (suc n) s e = let same : after_emission s ≡ s = rw e refl in ap (after_emissions n) same ∙ idle-stays n s e
 
--- nothing isn't something
-pub none-some : (due : Due) → None ≡ Some due → ⊥
-none-some due e = absurd (cc)
-
--- an emission, at the side that emits
-pub emit-endpoint : (w : WorldState) (side : Side) → (party_of (world_after w (Emit side)) side).endpoint ≡ after_emission (party_of w side).endpoint
-unfolding effect_of party_after_emission
-emit-endpoint w A = refl
-emit-endpoint w B = refl
-
--- and at the other
-pub emit-other : (w : WorldState) (side : Side) → party_of (world_after w (Emit side)) (other side) ≡ party_of w (other side)
-unfolding effect_of
-emit-other w A = refl
-emit-other w B = refl
-
--- the timeout, at its side
-pub timer-endpoint : (w : WorldState) (side : Side)
-    → (party_of (world_after w (Timer side Retransmit)) side).endpoint ≡ after_retransmit (party_of w side).endpoint
-unfolding effect_of party_after_timer
-timer-endpoint w A = refl
-timer-endpoint w B = refl
-
--- and at the other
-pub timer-other : (w : WorldState) (side : Side) → party_of (world_after w (Timer side Retransmit)) (other side) ≡ party_of w (other side)
-unfolding effect_of
-timer-other w A = refl
-timer-other w B = refl
-
--- what is useful of a party is useful in the world
-pub emit-useful : (w : WorldState) (side : Side) (k : ℕ) → IsUseful (party_after_emission (party_of w side)) (party_of w (other side)) k
-    → IsUseful (party_of (world_after w (Emit side)) side) (party_of (world_after w (Emit side)) (other side)) k
-unfolding effect_of
-emit-useful w A k h = h
-emit-useful w B k h = h
-
 -- what goes out and is no reset comes
-pub not-reset : (s : State) (due : Due) → has rst (segment_of s due).flags ≡ false → is_reset due ≡ false
+pub not-reset : (s : State) (due : Due) (v : Content) → v ≡ segment_of s due → has rst v.flags ≡ false → is_reset due ≡ false
 unfolding segment_of
-not-reset s (dues.Reset reset) e = absurd (false≢true (sym e ∙ reset-bit _))
-not-reset s dues.Syn e = refl
-not-reset s (dues.Resend start count) e = refl
-not-reset s (dues.NewText start count) e = refl
-not-reset s (dues.Fin start) e = refl
-not-reset s (dues.ResentFin start) e = refl
-not-reset s dues.Acknowledgement e = refl
+not-reset s (dues.Reset reset) v form e = absurd (false≢true (sym e ∙ ap (λ (v : Content). has rst v.flags) form ∙ reset-bit _))
+not-reset s other v form e = refl
 
 -- and is delivered later
 pub comes-due : (w : WorldState) (side : Side) (later : List EventContent) (due : Due) → due_of (party_of w side).endpoint ≡ Some due → is_reset due ≡ false
@@ -134,16 +193,15 @@ comes-due w side later due e plain h =
 
 -- ---- WHAT IS USEFUL GOES OUT, and comes: something is brought on
 pub useful-out : (w : WorldState) (side : Side) (later : List EventContent) (due : Due) → AllByRecursion IsCalm later → IsGoing w
-    → due_of (party_of w side).endpoint ≡ Some due → has rst (segment_of (party_of w side).endpoint due).flags ≡ false
-    → IsUseful (party_after_emission (party_of w side)) (party_of w (other side)) (length (party_of w side).sent) → Comes w (Emit side) later
+    → due_of (party_of w side).endpoint ≡ Some due → is_reset due ≡ false → IsUseful (party_after_emission (party_of w side)) (party_of w (other side))
+    (length (party_of w side).sent) → Comes w (Emit side) later
     → NoneGaveUp (world_after_all (world_after w (Emit side)) later) → left_in (world_after_all (world_after w (Emit side)) later) < left_in w
-useful-out w side later due calm h is no_rst u comes up =
+useful-out w side later due calm h is plain u comes up =
     let k = length (party_of w side).sent in
     let v = world_after w (Emit side) in
     let end = world_after_all v later in
-    let come = comes-due w side later due is (not-reset (party_of w side).endpoint due no_rst) comes in
-    lowers-only w end
-    (over-event w (Emit side) end ⊥ tt h (steps-all v later calm) up (λ hv still. inl (useful-comes v side k later calm hv (emit-useful w side k u) come up)))
+    let come = comes-due w side later due is plain comes in
+    lower-event w (Emit side) later tt calm h up (λ hv still. useful-comes v side k later calm hv (emit-at (λ x y. IsUseful x y k) w side u) come up)
 
 -- what covers goes out at once
 covering-out : (w : WorldState) (side : Side) (later : List EventContent) → AllByRecursion IsCalm later → IsGoing w
@@ -151,52 +209,41 @@ covering-out : (w : WorldState) (side : Side) (later : List EventContent) → Al
     → NoneGaveUp (world_after_all (world_after w (Emit side)) later) → left_in (world_after_all (world_after w (Emit side)) later) < left_in w
 covering-out w side later calm h covers comes up =
     let p = party_of w side in
-    let no_rst : has rst (segment_of p.endpoint covers.due).flags ≡ false = ap (λ (v : Content). has rst v.flags) (sym covers.form) ∙ covers.no_rst in
-    let no_syn : has syn (segment_of p.endpoint covers.due).flags ≡ false = ap (λ (v : Content). has syn v.flags) (sym covers.form) ∙ covers.no_syn in
-    let goes = fresh-emitted p (party_of w (other side)) (side-pair w side h.kept) covers.due covers.is_due no_rst no_syn in
-    useful-out w side later covers.due calm h covers.is_due no_rst (record {
+    let plain = not-reset p.endpoint covers.due covers.segment covers.form covers.no_rst in
+    useful-out w side later covers.due calm h covers.is_due plain (record {
       start = _;
       content = _;
-      fresh = goes;
-      use_of = inl (omega (arith, covers.starts, covers.begins), omega (arith, covers.starts, covers.ends, ap count_numbers covers.form));
+      fresh = fresh-emitted p (party_of w (other side)) (side-pair w side h.kept) covers.due covers.is_due covers.segment covers.form covers.no_rst
+          covers.no_syn;
+      use_of = inl (omega (arith, covers.starts, covers.begins), omega (arith, covers.starts, covers.ends));
     }) comes up
 
 -- or after so many emissions
-burst-covers : (n count : ℕ) (w : WorldState) (side : Side) (later : List EventContent) → AllByRecursion IsCalm later → IsGoing w
-    → CoversNext (after_emissions count (party_of w side).endpoint) (next_position (party_of w (other side)))
-    → IsIdle (world_after_all w (emissions side n)) side → AllCome w (emissions side n) later
-    → NoneGaveUp (world_after_all w (emissions side n ++ later)) → left_in (world_after_all w (emissions side n ++ later)) < left_in w
-unfolding world_after_all
-burst-covers zero count w side later calm h covers idle come up =
-    let s = (party_of w side).endpoint in
-    absurd (none-some covers.due (sym idle ∙ ap due_of (sym (idle-stays count s idle)) ∙ covers.is_due))
-burst-covers (suc n) zero w side later calm h covers idle come up =
-    covering-out w side (emissions side n ++ later) (calm-append (emissions side n) later (calm-emissions side n) calm) h covers come.0 up
-burst-covers (suc n) (suc count) w side later calm h covers idle come up =
-    let v = world_after w (Emit side) in
+covers-step : (side : Side) (later : List EventContent) → AllByRecursion IsCalm later → (w : WorldState) (n count : ℕ) → IsGoing w
+    → CoversNext (after_emissions count (party_of w side).endpoint) (next_position (party_of w (other side))) → Comes w (Emit side) (emissions side n ++ later)
+    → let v = world_after w (Emit side) in NoneGaveUp (world_after_all (world_after_all v (emissions side n)) later)
+    → (left_in (world_after_all (world_after_all v (emissions side n)) later) < left_in w)
+    ⊎ (Covers (party_of v side).endpoint (next_position (party_of v (other side))))
+unfolding party_after_emission
+covers-step side later calm w n zero h covers comes up =
     let events = emissions side n ++ later in
-    let end = world_after_all v events in
-    let covers' = subst (λ (t : State). CoversNext (after_emissions count t) (next_position (party_of v (other side)))) (sym (emit-endpoint w side))
-    (subst (λ (x : PartyState). CoversNext (after_emissions count (after_emission (party_of w side).endpoint)) (next_position x))
-    (sym (emit-other w side)) covers) in
-    lowers-only w end
-    (over-event w (Emit side) end ⊥ tt h (steps-all v events (calm-append (emissions side n) later (calm-emissions side n) calm)) up
-    (λ hv still. inl (burst-covers n count v side later calm hv covers' idle come.1 up)))
+    let same = after-append (world_after w (Emit side)) (emissions side n) later in
+    inl (rw (sym same) (covering-out w side events (calm-append (emissions side n) later (calm-emissions side n) calm) h covers comes (rw same up)))
+covers-step side later calm w n (suc count) h covers comes up =
+    inr (count, emit-at (λ x y. CoversNext (after_emissions count x.endpoint) (next_position y)) w side covers)
 
 -- SERVED: what is left gets less
 pub served-lowers : (n : ℕ) (w : WorldState) (side : Side) (later : List EventContent) → AllByRecursion IsCalm later → IsGoing w
     → HasMore (party_of w side) (party_of w (other side)) → IsIdle (world_after_all w (served side n)) side → AllCome w (served side n) later
-    → NoneGaveUp (world_after_all w (served side n ++ later)) → left_in (world_after_all w (served side n ++ later)) < left_in w
-unfolding world_after_all
+    → NoneGaveUp (world_after_all (world_after_all w (served side n)) later) → left_in (world_after_all (world_after_all w (served side n)) later) < left_in w
+unfolding party_after_timer
 served-lowers n w side later calm h more idle come up =
-    let p = party_of w side in
-    let v = world_after w (Timer side Retransmit) in
-    let events = emissions side n ++ later in
-    let end = world_after_all v events in
-    let covers = timeout-covers p (party_of w (other side)) (side-pair w side h.kept) (going-live w side h).0 more in
-    let covers' = subst (λ (t : State). CoversNext (after_emissions covers.count t) (next_position (party_of v (other side)))) (sym (timer-endpoint w side))
-    (subst (λ (x : PartyState). CoversNext (after_emissions covers.count (after_retransmit p.endpoint)) (next_position x))
-    (sym (timer-other w side)) covers.covers) in
-    lowers-only w end
-    (over-event w (Timer side Retransmit) end ⊥ tt h (steps-all v events (calm-append (emissions side n) later (calm-emissions side n) calm)) up
-    (λ hv still. inl (burst-covers n covers.count v side later calm hv covers' idle come.1 up)))
+    let covers = timeout-covers (party_of w side) (party_of w (other side)) (side-pair w side h.kept) (going-live w side h).0 more in
+    let Ready : WorldState → Type 0 = λ v. Covers (party_of v side).endpoint (next_position (party_of v (other side))) in
+    elim (over-served side later calm Ready (λ v k hv c comes up'. elim (covers-step side later calm v k c.0 hv c.1 comes up') [
+      | inl less ↦ inl less
+      | inr on ↦ inr (λ _ _. on)
+    ]) n w h (λ _ _. (covers.0, timer-at (λ x y. CoversNext (after_emissions covers.0 x.endpoint) (next_position y)) w side covers.1)) come up) [
+      | inl less ↦ less
+      | inr c ↦ absurd (none-some c.1.due (sym idle ∙ ap due_of (sym (idle-stays c.0 _ idle)) ∙ c.1.is_due))
+    ]

@@ -1,64 +1,123 @@
--- SHORT WAYS: timeouts, emissions and deliveries one after another, no more than so many, at one of two parties or from one to the other.
-use Rattle.std.proofs.Common.{ℕ, ◌≡◌, arith, None, Option, refl, Some, suc}
-use Rattle.tcp_replay.proofs.Words.{Retransmit, WaitingReset}
-use Rattle.tcp_replay.proofs.WorldWords.{Deliver, delivery_refusal, effect_of, Emit, EventContent, party_after_arrival, party_after_emission, party_after_timer}
-use Rattle.tcp_replay.proofs.WorldWords.{PartyState, refusal_of, segment_at, Timer, world_from, world_with_effect, WorldState}
-use Rattle.tcp_progress.proofs.Words.{A, B, CanReachUnaided, IsQuiet, IsUnaided, Side}
-use Rattle.tcp_progress.proofs.Ready.{reset-first}
-use Rattle.tcp_progress.proofs.Still.{IsStill, still-same, still-emission}
-use Rattle.tcp_progress.proofs.Ways.{IsInvariant, quiet-bytes, reach-here, reach-step}
+-- A HANDSHAKE CAN BE FINISHED (RFC 9293, 3.5) by at most eight events: who calls is served, its SYN comes, who answers is served, and its SYN comes.
+-- What is refused of them changes nothing.
+use Rattle.std.proofs.Common.{◌++◌, ◌∷◌, ◌≡◌, ◌≤◌, ◌⊎◌, [], arith, false, inl, inr, length, List, None, Option, refl, Some, true, ℕ}
+use Rattle.tcp_replay.proofs.Words.{AllByRecursion, Retransmit, SynReceived}
+use Rattle.tcp_replay.proofs.WorldWords.{Deliver, Emit, EventContent, other, party_of, refusal_of, stay_or, Timer, world_after, world_after_all}
+use Rattle.tcp_replay.proofs.WorldWords.{world_with_effect, WorldState}
+use Rattle.tcp_progress.proofs.Words.{A, AreOpen, B, CanOpen, CanReachUnaided, HandshakesCanBeFinished, HasStreamsOf, IsCalm, IsQuiet, IsUnaided, NoneGaveUp}
+use Rattle.tcp_progress.proofs.Words.{served, Side, StepError}
+use Rattle.tcp_progress.proofs.Lemmas.{calm-served, in-every-world, IsKept, Steps, steps-all, steps-event, steps-streams, steps-then}
+use Rattle.tcp_progress.proofs.Called.{answer-now, IsTaken, speaks, syn-comes, twice-syn}
+use Rattle.tcp_progress.proofs.NotStuck.{either-up}
+use Rattle.tcp_progress.proofs.Had.{goes-safely, IsFine}
+use Rattle.tcp_progress.proofs.Shaking.{IsShaking, Opens, opens-after, opens-append, OpensOr, shakes-all}
+use Rattle.tcp_progress.proofs.Live.{reach-here, reach-step}
 
--- by no event
-pub short-here : {P : WorldState → Type 0} {w : WorldState} → P w → CanReachUnaided 0 P w
-unfolding reach-here
-short-here h = record { way = reach-here h; unaided = tt; most = omega arith }
+-- ---- WHAT EVENTS LEAD TO, refused or not, those of them lead to that aren't refused
+unaided-plain : (event : EventContent) → IsUnaided event → IsQuiet event × IsCalm event
+unaided-plain (Timer side Retransmit) h = (tt, tt)
+unaided-plain (Emit side) h = (tt, tt)
+unaided-plain (Deliver from k) h = (tt, tt)
+unaided-plain other h = absurd h
 
-short-more : {P : WorldState → Type 0} {w : WorldState} (n : ℕ) → CanReachUnaided n P w → CanReachUnaided (suc n) P w
-short-more n short = record { way = short.way; unaided = short.unaided; most = omega (arith, short.most) }
-
-short-step : {K P : WorldState → Type 0} {w : WorldState} → IsInvariant K → (n : ℕ) (event : EventContent) → IsQuiet event → IsUnaided event
-    → refusal_of w event ≡ None → K w
-    → (K (world_with_effect w event) → CanReachUnaided n P (world_with_effect w event)) → CanReachUnaided (suc n) P w
+short-or : {P : WorldState → Type 0} (w : WorldState) (event : EventContent) (events : List EventContent) (refusal : Option StepError) → IsUnaided event
+    → refusal_of w event ≡ refusal → CanReachUnaided (length events) P (stay_or refusal w (world_with_effect w event))
+    → CanReachUnaided (length (event ∷ events)) P w
 unfolding reach-step
-short-step {K} {P} {w} i n event quiet unaided goes h next =
-    let rest = next (i.keeps w event (quiet-bytes event quiet) goes h) in
-    record { way = reach-step event quiet goes rest.way; unaided = (unaided, rest.unaided); most = omega (arith, rest.most) }
+short-or w event events None unaided goes short = record {
+  way = reach-step event (unaided-plain event unaided).0 goes short.way;
+  unaided = (unaided, short.unaided);
+  most = omega (arith, short.most);
+}
+short-or w event events (Some error) unaided refused short = record { way = short.way; unaided = short.unaided; most = omega (arith, short.most) }
 
--- by a retransmission timeout of p first,
-pub short-timeout : {K P : WorldState → Type 0} → IsInvariant K → (n life : ℕ) (side : Side) (p q : PartyState) → K (world_from life side p q)
-    → (K (world_from life side (party_after_timer p Retransmit) q) → CanReachUnaided n P (world_from life side (party_after_timer p Retransmit) q))
-    → CanReachUnaided (suc n) P (world_from life side p q)
-unfolding effect_of
-short-timeout i n life A p q h next = short-step i n (Timer A Retransmit) tt tt refl h next
-short-timeout i n life B p q h next = short-step i n (Timer B Retransmit) tt tt refl h next
+-- ---- BOTH ARE OPEN within so many events
+record OpensIn (n : ℕ) (w : WorldState) : Type 0 where
+  events : List EventContent
+  opens : Opens w events
+  unaided : AllByRecursion IsUnaided events
+  most : length events ≤ n
 
--- by an emission of p,
-pub short-emission : {K P : WorldState → Type 0} → IsInvariant K → (n life : ℕ) (side : Side) (p q : PartyState) → K (world_from life side p q)
-    → (K (world_from life side (party_after_emission p) q) → CanReachUnaided n P (world_from life side (party_after_emission p) q))
-    → CanReachUnaided (suc n) P (world_from life side p q)
-unfolding effect_of
-short-emission i n life A p q h next = short-step i n (Emit A) tt tt refl h next
-short-emission i n life B p q h next = short-step i n (Emit B) tt tt refl h next
+-- from the start on
+abbrev IsOpened : WorldState → WorldState → Type 0
+IsOpened start v = AreOpen v × HasStreamsOf start v
 
--- or by a delivery from p to q
-pub short-delivery : {K P : WorldState → Type 0} → IsInvariant K → (n life : ℕ) (side : Side) (p q : PartyState) (k : ℕ)
-    → delivery_refusal life p q k ≡ None → K (world_from life side p q)
-    → (K (world_from life side p (party_after_arrival q p (segment_at p k))) → CanReachUnaided n P
-    (world_from life side p (party_after_arrival q p (segment_at p k)))) → CanReachUnaided (suc n) P (world_from life side p q)
-unfolding effect_of
-short-delivery i n life A p q k e h next = short-step i n (Deliver A k) tt tt e h next
-short-delivery i n life B p q k e h next = short-step i n (Deliver B k) tt tt e h next
+short-all : (start w : WorldState) (events : List EventContent) → Steps start w → AllByRecursion IsUnaided events → Opens w events
+    → CanReachUnaided (length events) (IsOpened start) w
+unfolding reach-here
+short-all start w [] steps unaided both = record { way = reach-here (both, steps-streams start w steps); unaided = tt; most = omega arith }
+short-all start w (event ∷ events) steps unaided (inl both) =
+    record { way = reach-here (both, steps-streams start w steps); unaided = tt; most = omega arith }
+short-all start w (event ∷ events) steps unaided (inr opens) =
+    let v = world_after w event in
+    let steps' = steps-then start w v steps (steps-event w event (unaided-plain event unaided.0).1 steps.kept) in
+    short-or w event events (refusal_of w event) unaided.0 refl (short-all start v events steps' unaided.1 opens)
 
--- a waiting reset goes out and is lost
-flushed : {K P : WorldState → Type 0} → IsInvariant K → (n life : ℕ) (side : Side) (p q : PartyState) (waiting : Option WaitingReset)
-    → p.endpoint.owed.reset ≡ waiting → K (world_from life side p q)
-    → ((p' : PartyState) → IsStill p p' → p'.endpoint.owed.reset ≡ None → K (world_from life side p' q) → CanReachUnaided n P (world_from life side p' q))
-    → CanReachUnaided (suc n) P (world_from life side p q)
-flushed i n life side p q None e h next = short-more n (next p (still-same p) e h)
-flushed i n life side p q (Some reset) e h next = short-emission i n life side p q h (next (party_after_emission p) (still-emission p) (reset-first p reset e))
+opens-short : (n : ℕ) (w : WorldState) → IsKept w → OpensIn n w → CanReachUnaided n (IsOpened w) w
+unfolding world_after_all
+opens-short n w h o =
+    let short = short-all w w o.events (steps-all w [] tt h) o.unaided o.opens in
+    record { way = short.way; unaided = short.unaided; most = omega (arith, short.most, o.most) }
 
--- where one waits
-pub short-flushing : {K P : WorldState → Type 0} → IsInvariant K → (n life : ℕ) (side : Side) (p q : PartyState) → K (world_from life side p q)
-    → ((p' : PartyState) → IsStill p p' → p'.endpoint.owed.reset ≡ None → K (world_from life side p' q) → CanReachUnaided n P (world_from life side p' q))
-    → CanReachUnaided (suc n) P (world_from life side p q)
-short-flushing i n life side p q h next = flushed i n life side p q p.endpoint.owed.reset refl h next
+-- one side is served: no end is reset or aborted at it
+serves : (w : WorldState) (side : Side) → IsKept w → NoneGaveUp w → IsFine (world_after_all w (served side 2))
+serves w side h up = (goes-safely w (served side 2) (tt, (tt, (tt, tt))) (record { kept = h; up = up })).fine
+
+-- WHO ANSWERS is served, and its SYN comes
+answer-short : (w : WorldState) (side : Side) → IsShaking w side → (party_of w (other side)).endpoint.phase ≡ SynReceived → NoneGaveUp w → OpensIn 4 w
+answer-short w side h received up =
+    let events = served (other side) 2 in
+    let u = world_after_all w events in
+    let out = speaks true 2 w side (h, received) (inr (omega arith)) in
+    elim (shakes-all w events side (calm-served (other side) 2) h (serves w (other side) h.kept up).up) [
+      | inl opens ↦ record { events = events; opens = opens; unaided = (tt, (tt, (tt, tt))); most = omega arith }
+      | inr on ↦ record {
+        events = events ++ Deliver (other side) out.place ∷ [];
+        opens = opens-after w events (Deliver (other side) out.place ∷ [])
+            (inr (answer-now u side out.place on.0 (on.1.received received) (twice-syn u side out.place out.syn)));
+        unaided = (tt, (tt, (tt, (tt, tt))));
+        most = omega arith;
+      }
+    ]
+
+-- WHO CALLS is served, and its SYN comes; then who answers
+call-short : (w : WorldState) (side : Side) → IsShaking w side → NoneGaveUp w → OpensIn 8 w
+call-short w side h up =
+    let one = served side 2 in
+    let u = world_after_all w one in
+    let fine = serves w side h.kept up in
+    let out = speaks false 2 w side h (inr (omega arith)) in
+    let two = Deliver side out.place ∷ [] in
+    let v = world_after_all u two in
+    let fine' = (goes-safely u two ((out.syn.g, out.syn.content, out.syn.way), tt) fine).fine in
+    let first : Opens w (one ++ two) ⊎ OpensOr u two (IsTaken side) = elim (shakes-all w one side (calm-served side 2) h fine.up) [
+      | inl opens ↦ inl (opens-append w one two opens)
+      | inr on ↦ inr (syn-comes false u side out.place two (tt, tt) on.0 out.syn (inl refl) fine'.up)
+    ] in
+    elim first [
+      | inl opens ↦ record { events = one ++ two; opens = opens; unaided = (tt, (tt, (tt, (tt, tt)))); most = omega arith }
+      | inr taken ↦
+          elim taken [
+            | inl opens ↦ record { events = one ++ two; opens = opens-after w one two opens; unaided = (tt, (tt, (tt, (tt, tt)))); most = omega arith }
+            | inr is ↦
+                let rest = answer-short v side is.0 is.1 fine'.up in
+                record {
+                  events = one ++ (two ++ rest.events);
+                  opens = opens-after w one (two ++ rest.events) (opens-after u two rest.events rest.opens);
+                  unaided = (tt, (tt, (tt, (tt, rest.unaided))));
+                  most = omega (arith, rest.most);
+                }
+          ]
+    ]
+
+can-open : (w : WorldState) → IsKept w → CanOpen w
+can-open w h opens =
+    let up = either-up w h opens in
+    opens-short 8 w h (elim opens [
+      | inl opening ↦ call-short w A (record { kept = h; calls = opening.calls; answers = opening.answers }) up
+      | inr opening ↦ call-short w B (record { kept = h; calls = opening.calls; answers = opening.answers }) up
+    ])
+
+-- in every world
+pub handshake_lem : HandshakesCanBeFinished
+handshake_lem = in-every-world CanOpen can-open

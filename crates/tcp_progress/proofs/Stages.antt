@@ -1,25 +1,24 @@
 -- WHAT EACH STATE SAYS OF BOTH FINS, AND WHO THE PEER IS: every event keeps it.
-use Rattle.std.proofs.Common.{ℕ, ◌+◌, ◌<◌, ◌==◌, ◌∙◌, ◌≡◌, ◌≤◌, ap, arith, Bool, false, length, List, nat_le, nat_lt, None, not, Ok, refl, sym, true}
-use Rattle.tcp_replay.proofs.Words.{Aborted, acks_more, after_ack, after_acked_text, after_giving_up, after_its_ack, after_news, after_orderly_end}
-use Rattle.tcp_replay.proofs.Words.{after_own_syn, after_peer_accepts, after_peer_opens, after_text, and_parts, close_refusal, Closed, CloseWait}
-use Rattle.tcp_replay.proofs.Words.{cond_both, Config, Content, decode_answer, Due, Ended, Ending, Established, false≢true, fin, FinWait2, gives_up}
-use Rattle.tcp_replay.proofs.Words.{has, has_fin, has_peer, is_closed, is_ended, is_fin_acked, is_fin_due, is_last_ack, is_listening, is_syn_received}
-use Rattle.tcp_replay.proofs.Words.{is_syn_sent, is_unanswered, IsConfig, LastAck, Listen, ltb-true, NotEnded, NotOpen, number, open_refusal, Orderly, Phase}
-use Rattle.tcp_replay.proofs.Words.{phase_after_fin, phase_after_own_fin, position_near, refusal_if, Reset, rst, segment_of, Sending, State, SynReceived}
-use Rattle.tcp_replay.proofs.Words.{SynSent, takes_fin, takes_text, takes_text_of, TimeWait, window_from, with_acked, with_closing, with_fin, with_syn_acked}
-use Rattle.tcp_replay.proofs.Words.{with_window}
+use Rattle.std.proofs.Common.{◌+◌, ◌<◌, ◌==◌, ◌∙◌, ◌≡◌, ◌≤◌, ap, arith, Bool, false, length, List, None, not, Ok, refl, sym, true, ℕ}
+use Rattle.tcp_replay.proofs.Words.{Aborted, after_acked_text, after_giving_up, after_news, after_orderly_end, after_own_syn, after_peer_accepts}
+use Rattle.tcp_replay.proofs.Words.{after_peer_opens, after_text, and_parts, close_refusal, Closed, CloseWait, Config, Content, decode_answer, Due, Ended}
+use Rattle.tcp_replay.proofs.Words.{Ending, Established, false≢true, fin, FinWait2, gives_up, has, has_fin, has_peer, is_closed, is_ended, is_fin_acked}
+use Rattle.tcp_replay.proofs.Words.{is_fin_due, is_last_ack, is_listening, is_syn_sent, is_unanswered, LastAck, Listen, NotEnded, NotOpen, number, open_refusal}
+use Rattle.tcp_replay.proofs.Words.{Orderly, Phase, phase_after_fin, phase_after_own_fin, refusal_if, Reset, rst, segment_of, State, SynReceived, SynSent}
+use Rattle.tcp_replay.proofs.Words.{takes_fin, takes_text, takes_text_of, TimeWait, with_closing, with_fin}
 use Rattle.tcp_replay.proofs.WorldWords.{address_of, FitsPhase, IsAlone, IsOwn, IsSoundPair, new_party, next_position, PartyState, Sends, SentSegment}
 use Rattle.tcp_replay.proofs.Lemmas.{after_segment, AllSaid, Arrives, at-closed, Both, both-swapped, end-listen, end-syn_received, end-syn_sent}
 use Rattle.tcp_replay.proofs.Lemmas.{end-synchronized, gives_up-not_ended, IsPresent, kept-same, KeptByCalls, knows-closing, knows-fin, knows-own_fin, Moved}
 use Rattle.tcp_replay.proofs.Lemmas.{next_of, on-arrival, one_if-false, option_or-none, own-decodes, PairKept, present-knows, refusal_if-none, said-after}
 use Rattle.tcp_replay.proofs.Lemmas.{said-back, same-content, send-open, Speaks, syn_sent-knows, Synced, wanted-is}
 use Rattle.tcp_progress.proofs.Words.{KnowsPort, ReleasesAll, SaysByPhase}
-use Rattle.tcp_conn.specs.declared.phase.Ending.TheVariants.{Reset}
-use Rattle.tcp_progress.proofs.Table.{Table, table-unopened, table-more, table-close, table-time_wait, Between, table-unanswered, table-acked, table-own_fin}
-use Rattle.tcp_progress.proofs.Table.{table-last_ack, table-no_own_fin, table-fin, last_ack-own_syn, last_ack-own_fin, last_ack-fin, last_ack-takes}
-use Rattle.tcp_progress.proofs.Table.{own_fin-acked, own_fin-unacked, own_fin-is_acked, own_fin-is_unacked}
-use Rattle.tcp_progress.proofs.Acked.{news-keep, own_fin-keeps}
+use Rattle.tcp_progress.proofs.Table.{Between, last_ack-fin, last_ack-own_fin, last_ack-own_syn, own_fin-acked, own_fin-is_acked, own_fin-is_unacked}
+use Rattle.tcp_progress.proofs.Table.{own_fin-unacked, Table, table-acked, table-close, table-fin, table-last_ack, table-more, table-no_own_fin, table-own_fin}
+use Rattle.tcp_progress.proofs.Table.{table-time_wait, table-unanswered, table-unopened}
+use Rattle.tcp_progress.proofs.Taken.{news-keep}
 use Rattle.tcp_progress.proofs.OnlySent.{KeepsSent}
+use Rattle.tcp_conn.specs.declared.phase.Ending.TheVariants.{Reset}
+use Rattle.tcp_progress.proofs.Answering.{acked-range, own_syn-range}
 use Rattle.tcp_conn.specs.declared.outcome.CallError.TheVariants as errors
 
 -- Party p's end may be in this state, its peer q being where it is; `end` is the position after p's FIN.
@@ -47,9 +46,7 @@ may_be-given_up p q s accepted ending gone h = record {
 
 -- a close, where the handshake has an answer
 has-answer : (phase : Phase) → is_unanswered phase ≡ false → (is_listening phase ≡ false) × (is_syn_sent phase ≡ false)
-has-answer Listen e = absurd (cc)
-has-answer SynSent e = absurd (cc)
-has-answer other e = (refl, refl)
+has-answer phase e = (grind (arith, e), grind (arith, e))
 
 closing : (p q : PartyState) → IsSoundPair p q → close_refusal p.endpoint ≡ None → is_unanswered p.endpoint.phase ≡ false → MayBeIn p q p.endpoint p.accepted
     → MayBeIn p q (with_closing p.endpoint) p.accepted
@@ -95,12 +92,8 @@ may_be-calls p q pair h =
         last = λ never. absurd (cc);
         released = h.released;
       };
-      sends = λ text _ e. record {
-        table = table-more s.phase s.ending s.closing r.finished una end _ (send-open s text e).1 h.table;
-        port_is = h.port_is;
-        last = h.last;
-        released = h.released;
-      };
+      sends = λ text _ e. let table = table-more s.phase s.ending s.closing r.finished una end _ (send-open s text e).1 h.table in
+          record { table = table; port_is = h.port_is; last = h.last; released = h.released };
       reads = λ _ _. h;
       withdraws = record { table = (λ never. absurd (cc), λ never. absurd (cc)); port_is = gone.port_is; last = gone.last; released = gone.released };
       closes = λ e unanswered. closing p q pair e unanswered h;
@@ -115,32 +108,9 @@ may_be-calls p q pair h =
         last = λ never. absurd (cc);
         released = h.released;
       };
+      resends-first = λ _. h;
       emits = λ _ _ _. h;
     }
-
--- ---- SND.UNA doesn't go back
-pub own_syn-more : (s : State) (v : Content) → s.sending.una ≤ s.sending.nxt → s.sending.una ≤ (after_own_syn s v).sending.una
-unfolding after_own_syn
-own_syn-more s v order =
-    let d = s.sending in
-    cond_both (is_syn_received s.phase) (with_window (with_syn_acked d) v.seq v.ack (window_from s.link v.window)) d (λ (x : Sending). d.una ≤ x.una)
-    (λ _. order) (λ _. omega arith)
-
-ack-more : (d : Sending) (a : ℕ) → d.una ≤ (after_ack d a).una
-unfolding after_ack
-ack-more d a =
-    cond_both (acks_more d a) (with_acked d a) d (λ (x : Sending). d.una ≤ x.una)
-    (λ e. let less : d.una < a = ltb-true d.una a (and_parts (nat_lt d.una a) (nat_le a d.nxt) e).0 in omega (arith, less)) (λ _. omega arith)
-
-pub acked_text-more : (s : State) (v : Content) → s.sending.una ≤ (after_acked_text s v).sending.una
-unfolding after_acked_text
-acked_text-more s v = ack-more s.sending (position_near s v.ack)
-
-pub its_ack-una : (s : State) (v : Content) → (after_its_ack s v).sending.una ≡ (after_acked_text (after_own_syn s v) v).sending.una
-unfolding after_its_ack
-its_ack-una s v =
-    let two = after_acked_text (after_own_syn s v) v in
-    (own_fin-keeps (after_news two v)).una ∙ (news-keep two v).una
 
 -- ---- BETWEEN THE ACKNOWLEDGEMENT and what it does to the state, SND.UNA moving on
 record IsBetween (p q : PartyState) (phase : Phase) (closing finished : Bool) (port una next : ℕ) : Type 0 where
@@ -169,7 +139,7 @@ own_syn-between p q v present pair h =
     let s = p.endpoint in
     let d = s.sending in
     let r = s.receiving in
-    let more = own_syn-more s v pair.there.alone.sends.order in
+    let more = (own_syn-range s v pair.there.alone.sends.order).una in
     record {
       between = λ una further. table-acked s.phase s.ending s.closing r.finished d.una una
           (2 + length p.accepted) present.shut present.listening present.syn_sent
@@ -179,7 +149,7 @@ own_syn-between p q v present pair h =
       released = λ last done. omega (arith, more, h.released last done);
     }
 
--- the own FIN's acknowledgement, and none of it
+-- its own FIN's acknowledgement, and none of it
 module _ (p q : PartyState) (x : State) (synced : Synced p q x) (b : BetweenIn p q x) where
   going-sends : Sends x.sending p.accepted p.closed false
   going-sends =
@@ -219,7 +189,7 @@ module _ (p q : PartyState) (x : State) (synced : Synced p q x) (b : BetweenIn p
 
 -- TEXT is taken in no LAST-ACK, and a FIN acknowledges all that it was sent where it comes from one
 taken-last : (s : State) → s.phase ≡ LastAck → takes_text s.phase ≡ true → ⊥
-taken-last s is e = false≢true (sym (last_ack-takes s.phase is) ∙ e)
+taken-last s is e = false≢true (sym (ap takes_text is) ∙ e)
 
 may_be-text : (p q : PartyState) (s : State) (v : Content) → takes_text_of s v ≡ true → MayBeIn p q s p.accepted
     → MayBeIn p q (record s { receiving = after_text s.receiving v.seq v.text }) p.accepted
@@ -269,7 +239,7 @@ may_be-arrives p q g v pair a port from_last sent h =
           };
       own_syn = λ present _. own_syn-between p q v present pair h;
       acked_text = λ x _ _ _ b. between-more p q x.phase x.closing x.receiving.finished x.peer.port x.sending.una _ (next_of x.receiving)
-          (ack-more x.sending (position_near x v.ack)) b;
+          (acked-range x v).una b;
       news = λ x _ _ _ b. between-more p q x.phase x.closing x.receiving.finished x.peer.port x.sending.una _ (next_of x.receiving)
           (omega (arith, (news-keep x v).una)) b;
       last = λ x synced e last b. ends-last p q x synced b e last;
@@ -304,7 +274,7 @@ fin-closed p q g v own read plain told =
     let stands = own.truthful (ap (λ (v : Content). has rst v.flags) same ∙ plain) in
     (stands.truth.own.has_fin (ap (λ (v : Content). has fin v.flags) same ∙ told)).0
 
--- EMIT: whatever goes out, a reset too, names the own port
+-- EMIT: whatever goes out, a reset too, names its own port
 due-names : (s : State) (due : Due) → (segment_of s due).src_port ≡ s.config.port
 unfolding segment_of
 due-names s (Reset reset) = refl
@@ -346,23 +316,19 @@ stages-kept = record {
   swapped = both-swapped KeepsStages;
   calls = λ p q pair h. may_be-calls p q pair (may_be-same p q h);
   arrives = λ p q g v sent pair a h. may_be-arrives p q g v pair a (h.back.names a.place g v a.sent a.read)
-      (λ plain told last. h.back.acks last a.place g v a.sent a.read plain told)
-      sent.back.taken.next (may_be-same p q h);
+      (λ plain told last. h.back.acks last a.place g v a.sent a.read plain told) sent.back.taken.next (may_be-same p q h);
   moved = stages-moved;
 }
 
 -- NEW PARTIES have it
-new-keeps : (a b : Config) → KeepsStages (new_party a) (new_party b)
-new-keeps a b = record {
+pub new-stages : (a b : Config) → KeepsStages (new_party a) (new_party b)
+new-stages a b = record {
   table = (λ _. refl, λ never. absurd (cc));
   port = λ never. absurd (cc);
   names = λ k g v never. absurd (cc);
   acks = λ never. absurd (cc);
   released = λ never. absurd (cc);
 }
-
-pub new-stages : (a b : Config) → IsConfig a → IsConfig b → Both KeepsStages (new_party a) (new_party b)
-new-stages a b one two = record { there = new-keeps a b; back = new-keeps b a }
 
 -- ---- WHAT FOLLOWS of each end
 sends-on : (s : State) (accepted : List ℕ) (closed : Bool) → s.ending ≡ NotEnded → IsAlone s accepted closed → Sends s.sending accepted closed false
@@ -394,9 +360,6 @@ says TimeWait s accepted closed fits alone h =
 says other s accepted closed fits alone h =
     record { closing = h.0; acked = own_fin-is_unacked s.sending accepted closed (sends-on s accepted closed fits.0 alone) h.2; finished = h.1 }
 
--- each state says what it does of both FINs, in both ends
-pub stages-say : (p q : PartyState) → IsSoundPair p q → Both KeepsStages p q → SaysByPhase p.endpoint.phase p.endpoint × SaysByPhase q.endpoint.phase q.endpoint
-stages-say p q pair h = (
-  says p.endpoint.phase p.endpoint p.accepted p.closed pair.there.alone.progress pair.there.alone h.there.table,
-  says q.endpoint.phase q.endpoint q.accepted q.closed pair.back.alone.progress pair.back.alone h.back.table,
-)
+-- each state says what it does of both FINs
+pub stage-says : (p q : PartyState) → IsSoundPair p q → KeepsStages p q → SaysByPhase p.endpoint.phase p.endpoint
+stage-says p q pair h = says p.endpoint.phase p.endpoint p.accepted p.closed pair.there.alone.progress pair.there.alone h.table

@@ -1,19 +1,71 @@
--- TOLD WINDOWS, on the definitions: every event keeps what each end tells of its window within its room.
-use Rattle.std.proofs.Common.{[], ℕ, ℤ, ◌*◌, ◌++◌, ◌+◌, ◌^◌, ◌∙◌, ◌∷◌, ◌≡◌, ◌≤◌, ap, arith, Bool, drop, false, length, length-append, length-drop, List, None}
-use Rattle.std.proofs.Common.{Option, refl, Some, subst, suc, sym, true}
-use Rattle.tcp_replay.proofs.Words.{Aborted, after_acked_text, after_giving_up, after_handing, after_news, after_own_syn, after_peer_accepts, after_peer_opens}
-use Rattle.tcp_replay.proofs.Words.{after_place, after_text, bytes_in_order, capacity_placed, capacity_read, Cell, cond_both, Config, Content, Due, false≢true}
-use Rattle.tcp_replay.proofs.Words.{greatest_stamp, has, HasGoodShift, HoldsWithin, Inbox, is_fin, is_refused, IsConfig, Link, link_of, min_mss, overlay_of}
-use Rattle.tcp_replay.proofs.Words.{own_shift, piece, plain_segment, pushes, Receiving, Reset, rst, Run, runs, segment_of, State, syn, Syn, syn_segment}
-use Rattle.tcp_replay.proofs.Words.{whole_empty, whole_read, whole_without_held, window, window_field, with_fin, with_overlay, with_ranks, with_ranks_from}
-use Rattle.tcp_replay.proofs.Words.{without_bytes, receive_refusal, with_bytes_received}
+-- WINDOW SCALING is what both Configs say (RFC 7323, 2.2), whoever opened: each SYN offers its own shift, and an answer offers it where the peer's did.
+use Rattle.std.proofs.Common.{if◌then◌else◌, ◌&&◌, ◌*◌, ◌++◌, ◌+◌, ◌/◌, ◌^◌, ◌∙◌, ◌∷◌, ◌≡◌, ◌≤◌, [], ap, arith, Bool, drop, false, is_some, length}
+use Rattle.std.proofs.Common.{length-append, length-drop, List, min, None, not, Option, refl, Some, subst, suc, sym, true, unwrap_or, ℕ, ℤ}
+use Rattle.tcp_replay.proofs.Words.{Aborted, after_acked_text, after_giving_up, after_news, after_own_syn, after_peer_accepts, after_peer_opens, after_place}
+use Rattle.tcp_replay.proofs.Words.{after_text, bytes_in_order, capacity_placed, capacity_read, Cell, cond_both, Config, Content, div-mul-le_self, Due}
+use Rattle.tcp_replay.proofs.Words.{false≢true, greatest_stamp, has, HasGoodShift, HoldsWithin, Inbox, is_fin, is_refused, is_sack_offered, Link, link_of}
+use Rattle.tcp_replay.proofs.Words.{max_shift, max_window, min_mss, mul-le, overlay_of, own_shift, permission_options, piece, plain_segment, pushes}
+use Rattle.tcp_replay.proofs.Words.{receive_refusal, Receiving, Reset, rst, Run, runs, scale_options, segment_of, shift_offered, shift_option, State, Syn, syn}
+use Rattle.tcp_replay.proofs.Words.{syn_options, syn_segment, whole_empty, whole_read, whole_without_held, window, window_field, with_bytes_received, with_fin}
+use Rattle.tcp_replay.proofs.Words.{with_overlay, with_ranks, with_ranks_from, without_bytes}
 use Rattle.tcp_replay.proofs.WorldWords.{address_of, IsSoundPair, new_party, PartyState, SentSegment}
 use Rattle.tcp_replay.proofs.Lemmas.{after_segment, AllSaid, Arrives, Both, both-swapped, GoesOutAlone, kept-same, KeptByCalls, Moved, on-arrival, PairKept}
 use Rattle.tcp_replay.proofs.Lemmas.{plain-bits, reset-bit, said-after, said-back, Speaks, syn-bits}
 use Rattle.tcp_progress.proofs.Words.{TellsWithin}
-use Rattle.tcp_progress.proofs.Advance.{overlay-length, in_order-most}
-use Rattle.tcp_progress.proofs.Shifts.{AgreesOn, agreed_shift, own_shift-agreed, syn-agrees, field-within}
+use Rattle.tcp_progress.proofs.Brought.{in_order-most, overlay-length}
 
+-- the shift of an end that may scale by `mine`, towards one that may by `yours`
+abbrev pub agreed_shift : Option ℕ → Option ℕ → ℕ
+agreed_shift mine yours = if is_some yours && is_some mine then unwrap_or mine 0 else 0
+
+-- WHAT A LINK SAYS of scaling is what both Configs, of its own end and of the peer's, say
+pub record AgreesOn (mine yours : Config) (link : Link) : Type 0 where
+  pub scaling : link.scaling ≡ (is_some mine.window_shift && is_some yours.window_shift)
+  pub shift : link.peer_shift ≡ agreed_shift yours.window_shift mine.window_shift
+
+-- its own shift is the one that the peer's link has
+own-agreed : (mine yours : Option ℕ) (scaling : Bool) → scaling ≡ (is_some mine && is_some yours)
+    → (if scaling then unwrap_or mine 0 else 0) ≡ agreed_shift mine yours
+own-agreed mine yours scaling e = grind (arith, e)
+
+-- THE OPTION OF A SYN is what is offered
+option-offered : (offered : Option ℕ) (sack : Bool) → shift_option (scale_options offered ++ permission_options sack) ≡ offered
+option-offered offered sack = grind arith
+
+-- what comes of an offer at the other end: scaling, and the shift
+offer-scaling : (mine yours : Option ℕ) (opened scaling : Bool) → (opened ≡ true → scaling ≡ (is_some mine && is_some yours))
+    → (is_some yours && is_some (if opened && not scaling then None else mine)) ≡ (is_some yours && is_some mine)
+offer-scaling mine yours opened scaling h = grind (arith, h)
+
+offer-shift : (mine yours : Option ℕ) (opened scaling : Bool) → unwrap_or mine 0 ≤ max_shift → (opened ≡ true → scaling ≡ (is_some mine && is_some yours))
+    → (if is_some yours then min max_shift (unwrap_or (if opened && not scaling then None else mine) 0) else 0) ≡ agreed_shift mine yours
+offer-shift mine yours opened scaling fits h = grind (arith, fits, h)
+
+-- A SYN that such an end emits makes such a link at the other
+pub syn-agrees : (s : State) (mine yours : Config) → s.config ≡ mine → HasGoodShift mine → (s.receiving.opened ≡ true → AgreesOn mine yours s.link)
+    → AgreesOn yours mine (link_of yours (syn_options s))
+unfolding link_of
+syn-agrees s mine yours config fits h =
+    let offered : shift_option (syn_options s) ≡ (if s.receiving.opened && not s.link.scaling then None else mine.window_shift) =
+    option-offered (shift_offered s) (is_sack_offered s) ∙ ap (λ (c : Config). if s.receiving.opened && not s.link.scaling then None else c.window_shift)
+    config in
+    let scales = λ (e : s.receiving.opened ≡ true). (h e).scaling in
+    record {
+      scaling = ap (λ (o : Option ℕ). is_some yours.window_shift && is_some o) offered ∙ offer-scaling mine.window_shift yours.window_shift s.receiving.opened
+          s.link.scaling scales;
+      shift = ap (λ (o : Option ℕ). if is_some yours.window_shift then min max_shift (unwrap_or o 0) else 0) offered
+          ∙ offer-shift mine.window_shift yours.window_shift s.receiving.opened s.link.scaling fits scales;
+    }
+
+-- a scaled field is at most the window that it advertises
+pub field-within : (shift window : ℕ) → window_field shift window * 2 ^ shift ≤ window
+field-within shift window = omega (
+  arith,
+  mul-le (min max_window (window / 2 ^ shift)) (2 ^ shift) (window / 2 ^ shift) (2 ^ shift) (omega arith) (omega arith),
+  div-mul-le_self window (2 ^ shift),
+)
+
+-- ---- ADVERTISED WINDOWS, on the definitions: every event keeps the window that each end advertises within its room.
 -- ---- THE INBOX: what is unread and the window make up the capacity
 ranks_from-length : (all : List Run) (place : ℕ) (held : List (Option Cell)) → length (with_ranks_from all place held) ≡ length held
 ranks_from-length all place [] = refl
@@ -39,12 +91,6 @@ placed-whole q offset text whole =
     let part = piece offset text in
     cond_both (is_refused q part) q (with_overlay q (overlay_of q part)) (λ (x : Inbox). length x.unread + length x.held ≡ q.capacity)
     (λ _. whole) (λ _. laid-whole q (overlay_of q part) (overlay-length part.start part.text (suc (greatest_stamp q.held)) q.held) whole)
-
-within-read : (capacity room : ℕ) (r : Receiving) → HoldsWithin capacity r.inbox → HoldsWithin capacity (after_handing r room).inbox
-within-read capacity room r h = record {
-  size = capacity_read r.inbox room ∙ h.size;
-  received = whole_read r.inbox room (h.received ∙ sym h.size) ∙ h.size;
-}
 
 within-given_up : (capacity : ℕ) (r : Receiving) → HoldsWithin capacity r.inbox → HoldsWithin capacity (without_bytes r).inbox
 within-given_up capacity r h = record { size = h.size; received = whole_empty r.inbox.capacity ∙ h.size }
@@ -81,7 +127,10 @@ room-calls p q h =
     let capacity = p.endpoint.config.recv_capacity in
     let gone : InRoom p q (after_giving_up p.endpoint Aborted) = record { within = within-given_up capacity r h.within; mss = h.mss; agreed = h.agreed } in
     let reads : (room : ℕ) → receive_refusal p.endpoint ≡ None → InRoom p q (with_bytes_received p.endpoint room) =
-    λ room _. record { within = within-read capacity room r h.within; mss = h.mss; agreed = h.agreed } in
+    λ room _.
+    let size = capacity_read r.inbox room ∙ h.within.size in
+    let received = whole_read r.inbox room (h.within.received ∙ sym h.within.size) ∙ h.within.size in
+    record { within = record { size = size; received = received }; mss = h.mss; agreed = h.agreed } in
     assumption
 
 -- a SYN makes the link
@@ -138,7 +187,7 @@ tells-one y x told takes = record {
 pub tells-within : (p q : PartyState) → Both KeepsTold p q → TellsWithin p q × TellsWithin q p
 tells-within p q h = (tells-one p q h.there h.back, tells-one q p h.back h.there)
 
--- ---- EMIT: the window is told as it is in a SYN, and scaled by the own shift once the peer's SYN was taken
+-- ---- EMIT: the window is advertised as it is in a SYN, and scaled by its own shift once the peer's SYN was taken
 syn-told : (s : State) (mine yours : Config) → HasGoodShift mine → KeepsRoom mine yours s.receiving.inbox s.link s.receiving.opened → s.config ≡ mine
     → IsTold mine yours (syn_segment s)
 syn-told s mine yours fits h config = record {
@@ -152,7 +201,7 @@ plain-told : (s : State) (mine yours : Config) (due : Due) → s.receiving.opene
 plain-told s mine yours due opened h config =
     let bits = plain-bits (pushes s.sending due) (is_fin due) in
     let shift : own_shift s.config s.link ≡ agreed_shift mine.window_shift yours.window_shift = ap (λ (c : Config). own_shift c s.link) config ∙
-    own_shift-agreed mine yours s.link (h.agreed opened) in
+    own-agreed mine.window_shift yours.window_shift s.link.scaling (h.agreed opened).scaling in
     let n = own_shift s.config s.link in
     let scaled : window_field n (window s.receiving.inbox) * 2 ^ n ≤ window s.receiving.inbox = field-within n (window s.receiving.inbox) in
     let most = window-within mine.recv_capacity s.receiving.inbox h.within in
@@ -164,8 +213,7 @@ plain-told s mine yours due opened h config =
     }
 
 due-told : (p q : PartyState) (due : Due) → IsSoundPair p q → GoesOutAlone p.endpoint p.accepted p.closed due → InRoom p q p.endpoint
-    → has rst (segment_of p.endpoint due).flags ≡ false
-    → IsTold p.endpoint.config q.endpoint.config (segment_of p.endpoint due)
+    → has rst (segment_of p.endpoint due).flags ≡ false → IsTold p.endpoint.config q.endpoint.config (segment_of p.endpoint due)
 unfolding segment_of
 due-told p q (Reset reset) pair out h plain = absurd (false≢true (sym plain ∙ reset-bit _))
 due-told p q Syn pair out h plain = syn-told p.endpoint p.endpoint.config q.endpoint.config pair.there.alone.config.good.2 h refl
@@ -201,11 +249,8 @@ told-kept = record {
 }
 
 -- ---- NEW ENDS
-told-of_new : (a b : Config) → KeepsTold (new_party a) (new_party b)
-told-of_new a b = record {
+pub new-told : (a b : Config) → KeepsTold (new_party a) (new_party b)
+new-told a b = record {
   room = record { within = record { size = refl; received = whole_empty a.recv_capacity }; mss = omega arith; agreed = λ never. absurd (cc) };
   emitted = λ k g v never. absurd (cc);
 }
-
-pub new-told : (a b : Config) → IsConfig a → IsConfig b → Both KeepsTold (new_party a) (new_party b)
-new-told a b one two = record { there = told-of_new a b; back = told-of_new b a }

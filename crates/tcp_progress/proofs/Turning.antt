@@ -1,34 +1,93 @@
--- TURN AFTER TURN: where each turn leaves less, as many turns as something is left, and one more, bring both ways through.
-use Rattle.std.proofs.Common.{[], ℕ, ◌++◌, ◌+◌, ◌<◌, ◌∙◌, ◌∷◌, ◌≡◌, ◌≤◌, ap, arith, drop, false, inl, inr, length, length-append, length-drop, length-take}
-use Rattle.std.proofs.Common.{List, None, refl, subst, suc, sym, zero}
-use Rattle.tcp_replay.proofs.Words.{after_read, after_receive, AllByRecursion, cases_lt, receive_refusal}
-use Rattle.tcp_replay.proofs.WorldWords.{Acknowledge, both, Damage, Deliver, effect_of, Emit, EventContent, gave_up}
-use Rattle.tcp_replay.proofs.WorldWords.{other, party_after_receive, PartyState, Receive, unread_of, world_after, world_after_all, WorldState}
-use Rattle.tcp_progress.proofs.Words.{all_room, both_served, emissions, GetsThrough, HasTurns, IsCalm, IsSteadyPair, IsThrough, IsTurn, IsUntimed, left_in}
-use Rattle.tcp_progress.proofs.Words.{reads, served, Side, WhoIsServedGetsThrough}
-use Rattle.tcp_progress.proofs.AlwaysSteady.{IsKept, kept-steady}
+-- WHAT COMES LATER: what is delivered among some events is delivered among more of them, and what goes out in a list comes part by part.
+use Rattle.std.proofs.Common.{◌++◌, ◌+◌, ◌<◌, ◌∙◌, ◌∷◌, ◌≡◌, ◌≤◌, [], ap, append_assoc, arith, drop, false, IfSome, inl, inr, length, length-append}
+use Rattle.std.proofs.Common.{length-drop, length-take, List, None, Option, refl, Some, subst, suc, sym, zero, ℕ}
+use Rattle.tcp_replay.proofs.Words.{after_read, after_receive, AllByRecursion, cases_lt, Due, due_of, receive_refusal}
+use Rattle.tcp_replay.proofs.WorldWords.{both, effect_of, Emit, EventContent, other, party_after_receive, party_of, PartyState, Timer, unread_of, world_after}
+use Rattle.tcp_replay.proofs.WorldWords.{world_after_all, WorldState}
+use Rattle.tcp_progress.proofs.Words.{A, all_room, AllCome, B, both_served, Comes, Delivers, emissions, GetsThrough, GotThrough, HasTurns, is_reset, IsCalm}
+use Rattle.tcp_progress.proofs.Words.{IsSteadyPair, IsTurn, IsUntimed, left_in, NoneGaveUp, reads, served, Side, WhoIsServedGetsThrough}
+use Rattle.tcp_progress.proofs.AlwaysSteady.{in-every-world, IsKept, kept-steady}
 use Rattle.tcp_progress.proofs.Calm.{Grows}
-use Rattle.tcp_progress.proofs.CalmWorlds.{Steps, on-all, steps-all, steps-left}
-use Rattle.tcp_progress.proofs.Ended.{HasRead, IsComplete, all-come, complete, complete-back, hands-still, read-end, through, up-stays}
-use Rattle.tcp_progress.proofs.Measure.{GoOn, IsUp, both-live}
-use Rattle.tcp_progress.proofs.Ready.{steady-back}
-use Rattle.tcp_progress.proofs.Still.{still-reading}
-use Rattle.tcp_progress.proofs.Everywhere.{in-every-world, steps-streams}
-use Rattle.tcp_progress.proofs.Waited.{waited}
+use Rattle.tcp_progress.proofs.CalmWorlds.{on-all, steps-all, steps-left, steps-streams}
+use Rattle.tcp_progress.proofs.Ended.{all-come, complete, hands-still, HasRead, IsAllTaken, IsComplete, read-end, through, up-stays, waited}
+use Rattle.tcp_progress.proofs.Live.{both-live, GoOn, IsUp, steady-back, still-reading}
+use Rattle.tcp_progress.proofs.Sides.{on-both}
+use Rattle.tcp_replay.proofs.Lemmas.{both-swapped}
 
+-- AMONG: whatever is delivered among some events is delivered among others
+abbrev pub AreAmong : List EventContent → List EventContent → Type 0
+AreAmong xs ys = (side : Side) (k : ℕ) → Delivers side k xs → Delivers side k ys
+
+-- what comes first is among all
+pub among-left : (xs ys : List EventContent) → AreAmong xs (xs ++ ys)
+among-left [] ys side k h = absurd h
+among-left (x ∷ xs) ys side k (inl now) = inl now
+among-left (x ∷ xs) ys side k (inr more) = inr (among-left xs ys side k more)
+
+-- what comes behind is among all
+pub among-right : (xs ys : List EventContent) → AreAmong ys (xs ++ ys)
+among-right [] ys side k h = h
+among-right (x ∷ xs) ys side k h = inr (among-right xs ys side k h)
+
+-- also behind the same events
+pub among-behind : (xs ys zs : List EventContent) → AreAmong ys zs → AreAmong (xs ++ ys) (xs ++ zs)
+among-behind [] ys zs among side k h = among side k h
+among-behind (x ∷ xs) ys zs among side k (inl now) = inl now
+among-behind (x ∷ xs) ys zs among side k (inr more) = inr (among-behind xs ys zs among side k more)
+
+-- ---- WHAT COMES AMONG some events comes among more
+pub due-among : (due : Option Due) (side : Side) (k : ℕ) (xs ys : List EventContent) → AreAmong xs ys
+    → IfSome due (λ due. is_reset due ≡ false → Delivers side k xs) → IfSome due (λ due. is_reset due ≡ false → Delivers side k ys)
+due-among None side k xs ys among h = tt
+due-among (Some due) side k xs ys among h = λ plain. among side k (h plain)
+
+comes-among : (w : WorldState) (event : EventContent) (xs ys : List EventContent) → AreAmong xs ys → Comes w event xs → Comes w event ys
+comes-among w (Emit side) xs ys among h = due-among (due_of (party_of w side).endpoint) side (length (party_of w side).sent) xs ys among h
+comes-among w event xs ys among h = h
+
+-- what goes out at some events
+pub come-among : (w : WorldState) (events xs ys : List EventContent) → AreAmong xs ys → AllCome w events xs → AllCome w events ys
+come-among w [] xs ys among h = tt
+come-among w (event ∷ events) xs ys among h =
+    (comes-among w event (events ++ xs) (events ++ ys) (among-behind events xs ys among) h.0, come-among (world_after w event) events xs ys among h.1)
+
+-- ---- PART BY PART: what goes out first, and what goes out after it
+pub come-first : (w : WorldState) (xs ys later : List EventContent) → AllCome w (xs ++ ys) later → AllCome w xs (ys ++ later)
+come-first w [] ys later h = tt
+come-first w (x ∷ xs) ys later h =
+    (subst (λ (events : List EventContent). Comes w x events) (append_assoc xs ys later) h.0, come-first (world_after w x) xs ys later h.1)
+
+-- what goes out after it
+pub come-after : (w : WorldState) (xs ys later : List EventContent) → AllCome w (xs ++ ys) later → AllCome (world_after_all w xs) ys later
+unfolding world_after_all
+come-after w [] ys later h = h
+come-after w (x ∷ xs) ys later h = come-after (world_after w x) xs ys later h.1
+
+-- and both together
+pub come-both : (w : WorldState) (xs ys later : List EventContent) → AllCome w xs (ys ++ later) → AllCome (world_after_all w xs) ys later
+    → AllCome w (xs ++ ys) later
+unfolding world_after_all
+come-both w [] ys later one two = two
+come-both w (x ∷ xs) ys later one two = (
+  subst (λ (events : List EventContent). Comes w x events) (sym (append_assoc xs ys later)) one.0,
+  come-both (world_after w x) xs ys later one.1 two,
+)
+
+-- ---- TURN AFTER TURN: where each turn leaves less, as many turns as something is left, and one more, bring both ways through.
 -- ---- A TURN IS CALM
 pub untimed-calm : (event : EventContent) → IsUntimed event → IsCalm event
-untimed-calm (Receive side room) h = tt
-untimed-calm (Acknowledge side) h = tt
-untimed-calm (Emit side) h = tt
-untimed-calm (Deliver from k) h = tt
-untimed-calm (Damage from k place value) h = h
-untimed-calm other h = absurd h
+untimed-calm (Timer side which) h = absurd h
+untimed-calm other h = h
+
+-- what follows of each of some events follows of all
+pub all-more : (Holds Follows : EventContent → Type 0) → ((event : EventContent) → Holds event → Follows event) → (events : List EventContent)
+    → AllByRecursion Holds events → AllByRecursion Follows events
+all-more Holds Follows more [] h = tt
+all-more Holds Follows more (event ∷ events) h = (more event h.0, all-more Holds Follows more events h.1)
 
 -- untimed events are calm
 pub all-untimed : (events : List EventContent) → AllByRecursion IsUntimed events → AllByRecursion IsCalm events
-all-untimed [] h = tt
-all-untimed (event ∷ events) h = (untimed-calm event h.0, all-untimed events h.1)
+all-untimed events h = all-more IsUntimed IsCalm untimed-calm events h
 
 -- what holds of each of some events and of each of others holds of both
 pub all-append : (Holds : EventContent → Type 0) (xs ys : List EventContent) → AllByRecursion Holds xs → AllByRecursion Holds ys
@@ -36,14 +95,24 @@ pub all-append : (Holds : EventContent → Type 0) (xs ys : List EventContent) �
 all-append Holds [] ys h k = k
 all-append Holds (x ∷ xs) ys h k = (h.0, all-append Holds xs ys h.1 k)
 
+-- and of both it holds of each
+pub all-parts : (Holds : EventContent → Type 0) (xs ys : List EventContent) → AllByRecursion Holds (xs ++ ys)
+    → AllByRecursion Holds xs × AllByRecursion Holds ys
+all-parts Holds [] ys h = (tt, h)
+all-parts Holds (x ∷ xs) ys h = let more = all-parts Holds xs ys h.1 in ((h.0, more.0), more.1)
+
 -- calm events after calm events
 pub calm-append : (xs ys : List EventContent) → AllByRecursion IsCalm xs → AllByRecursion IsCalm ys → AllByRecursion IsCalm (xs ++ ys)
 calm-append xs ys h k = all-append IsCalm xs ys h k
 
+-- what holds of one emission holds of so many
+pub all-emissions : (Holds : EventContent → Type 0) (side : Side) → Holds (Emit side) → (n : ℕ) → AllByRecursion Holds (emissions side n)
+all-emissions Holds side h zero = tt
+all-emissions Holds side h (suc n) = (h, all-emissions Holds side h n)
+
 -- emissions are calm
 pub calm-emissions : (side : Side) (n : ℕ) → AllByRecursion IsCalm (emissions side n)
-calm-emissions side zero = tt
-calm-emissions side (suc n) = (tt, calm-emissions side n)
+calm-emissions side n = all-emissions IsCalm side tt n
 
 -- so is the timeout before them
 pub calm-served : (side : Side) (n : ℕ) → AllByRecursion IsCalm (served side n)
@@ -53,14 +122,12 @@ calm-served side n = (tt, calm-emissions side n)
 abbrev pub turn-tail : (w : WorldState) (turn : List EventContent) → IsTurn w turn → List EventContent
 turn-tail w turn t = both_served t.first t.count t.then_count ++ (t.there ++ t.back)
 
--- and both sides served
-pub calm-both : (first : Side) (n m : ℕ) → AllByRecursion IsCalm (both_served first n m)
-calm-both first n m = calm-append (served first n) (served (other first) m) (calm-served first n) (calm-served (other first) m)
-
 -- it is calm
 pub tail-calm : (w : WorldState) (turn : List EventContent) (t : IsTurn w turn) → AllByRecursion IsCalm (turn-tail w turn t)
 tail-calm w turn t =
-    calm-append (both_served t.first t.count t.then_count) (t.there ++ t.back) (calm-both t.first t.count t.then_count)
+    let one = served t.first t.count in
+    let two = served (other t.first) t.then_count in
+    calm-append (one ++ two) (t.there ++ t.back) (calm-append one two (calm-served t.first t.count) (calm-served (other t.first) t.then_count))
     (calm-append t.there t.back (all-untimed t.there t.untimed) t.calm)
 
 -- events after events, in a world
@@ -106,34 +173,26 @@ pub empty-length : (xs : List ℕ) → length xs ≤ 0 → xs ≡ []
 empty-length [] h = refl
 empty-length (x ∷ xs) h = absurd (omega (arith, h))
 
-drop-most : (n : ℕ) (xs : List ℕ) → length xs ≤ n → drop n xs ≡ []
-drop-most n xs most = empty-length (drop n xs) (omega (arith, length-drop n xs, most))
-
-most-unread : (p q : PartyState) → IsSteadyPair p q → length (unread_of p) ≤ all_room
-most-unread p q h = omega (arith, h.there.within.size, h.pair.there.alone.config.good.0.1.1)
-
 read-most : (p : PartyState) → receive_refusal p.endpoint ≡ None → length (unread_of p) ≤ all_room → unread_of (party_after_receive p all_room) ≡ []
 unfolding party_after_receive after_receive after_read
-read-most p hands most = rw hands (drop-most all_room (unread_of p) most)
-
-hands-again : (p : PartyState) (room : ℕ) → receive_refusal p.endpoint ≡ None → receive_refusal (party_after_receive p room).endpoint ≡ None
-hands-again p room hands = let still = still-reading p room in rw (still.ending, still.phase) hands
+read-most p hands most = rw hands (empty-length (drop all_room (unread_of p)) (omega (arith, length-drop all_room (unread_of p), most)))
 
 has-read : (p q : PartyState) → IsSteadyPair p q → IsUp p → HasRead (party_after_receive (party_after_receive p all_room) 0)
 has-read p q h up =
     let hands = hands-still p q h up in
-    read-end (party_after_receive p all_room) (hands-again p all_room hands) (read-most p hands (most-unread p q h))
+    let still = still-reading p all_room in
+    read-end (party_after_receive p all_room) (rw (still.ending, still.phase) hands)
+    (read-most p hands (omega (arith, h.there.within.size, h.pair.there.alone.config.good.0.1.1)))
 
 -- of both users
-pub record HaveRead (w : WorldState) : Type 0 where
-  pub a : HasRead w.a
-  pub b : HasRead w.b
+abbrev pub HaveRead : WorldState → Type 0
+HaveRead w = (side : Side) → HasRead (party_of w side)
 
 -- so it is after the reads of a turn
 pub have-read : (w : WorldState) → IsKept w → GoOn w.a w.b → HaveRead (world_after_all w reads)
 have-read w h on =
     let pair = (kept-steady w h).ends in
-    subst HaveRead (sym (reads-are w)) (record { a = has-read w.a w.b pair on.there; b = has-read w.b w.a (steady-back w.b w.a pair) on.back })
+    subst HaveRead (sym (reads-are w)) (on-both _ (has-read w.a w.b pair on.there) (has-read w.b w.a (steady-back w.b w.a pair) on.back))
 
 -- ---- DONE: nothing is left, and all is read
 pub record IsDone (w : WorldState) : Type 0 where
@@ -142,7 +201,7 @@ pub record IsDone (w : WorldState) : Type 0 where
   pub none : left_in w ≡ 0
   pub read : HaveRead w
 
--- how much its user was handed and has unread
+-- how much was delivered to its user and is unread
 pub in-order : (p q : PartyState) → IsSteadyPair p q → IsUp p → length p.delivered + length (unread_of p) ≡ p.endpoint.receiving.ordered
 in-order p q h up =
     let hands = h.pair.there.hands in
@@ -166,8 +225,13 @@ read-stays x y x' y' h h' whole up' gx gy read =
       ended = λ finished. gx.ended (read.ended (come.finished (sym gy.closed ∙ (h'.pair.there.takes.fin finished).0)));
     }
 
-done-steps : (w v : WorldState) → Steps w v → IsDone w → GoOn v.a v.b → IsDone v
-done-steps w v steps done on =
+-- and stays so
+pub done-all : (w : WorldState) (events : List EventContent) → AllByRecursion IsCalm events → IsDone w → NoneGaveUp (world_after_all w events)
+    → IsDone (world_after_all w events)
+done-all w events calm done up =
+    let v = world_after_all w events in
+    let steps = steps-all w events calm done.kept in
+    let on = on-all w events calm done.kept done.on up in
     let pair = (kept-steady w done.kept).ends in
     let pair' = (kept-steady v steps.kept).ends in
     let whole = complete w.a w.b done.on done.none in
@@ -175,118 +239,87 @@ done-steps w v steps done on =
       kept = steps.kept;
       on = on;
       none = omega (arith, done.none, steps-left w v steps);
-      read = record {
-        a = read-stays w.a w.b v.a v.b pair pair' whole on.there steps.there steps.back done.read.a;
-        b = read-stays w.b w.a v.b v.a (steady-back w.b w.a pair) (steady-back v.b v.a pair')
-            (complete-back w.a w.b whole) on.back steps.back steps.there done.read.b;
-      };
+      read = on-both _ (read-stays w.a w.b v.a v.b pair pair' whole on.there (steps.grows A) (steps.grows B) (done.read A))
+          (read-stays w.b w.a v.b v.a (steady-back w.b w.a pair) (steady-back v.b v.a pair') (both-swapped IsAllTaken w.a w.b whole) on.back (steps.grows B)
+          (steps.grows A) (done.read B));
     }
 
--- and stays so
-pub done-all : (w : WorldState) (events : List EventContent) → AllByRecursion IsCalm events → IsDone w → gave_up (world_after_all w events).a ≡ false
-    → gave_up (world_after_all w events).b ≡ false → IsDone (world_after_all w events)
-done-all w events calm done one two =
-    done-steps w (world_after_all w events) (steps-all w events calm done.kept) done (on-all w events calm done.kept done.on one two)
-
--- through both ways
-pub done-through : (w : WorldState) → IsDone w → IsThrough w.a w.b × IsThrough w.b w.a
-done-through w done =
-    let pair = (kept-steady w done.kept).ends in
-    let whole = complete w.a w.b done.on done.none in
-    (through w.a w.b pair whole done.read.b, through w.b w.a (steady-back w.b w.a pair) (complete-back w.a w.b whole) done.read.a)
-
 -- a turn where nothing is left
-turn-done : (w : WorldState) (turn : List EventContent) → IsKept w → GoOn w.a w.b → left_in w ≡ 0 → IsTurn w turn → gave_up (world_after_all w turn).a ≡ false
-    → gave_up (world_after_all w turn).b ≡ false → IsDone (world_after_all w turn)
-unfolding world_after_all
-turn-done w turn h on none t one two =
+turn-done : (w : WorldState) (turn : List EventContent) → IsKept w → GoOn w.a w.b → left_in w ≡ 0 → IsTurn w turn → NoneGaveUp (world_after_all w turn)
+    → IsDone (world_after_all w turn)
+turn-done w turn h on none t up =
     let v = world_after_all w reads in
     let tail = turn-tail w turn t in
-    let same : world_after_all w turn ≡ world_after_all v tail = turn-same w turn t in
+    let same = turn-same w turn t in
     let calm = tail-calm w turn t in
     let steps = steps-all w reads reads-calm h in
-    let later = steps-all v tail calm steps.kept in
-    let one' : gave_up (world_after_all v tail).a ≡ false = ap (λ (u : WorldState). gave_up u.a) (sym same) ∙ one in
-    let two' : gave_up (world_after_all v tail).b ≡ false = ap (λ (u : WorldState). gave_up u.b) (sym same) ∙ two in
-    let on' = on-all w reads reads-calm h on (later.stays_a one') (later.stays_b two') in
-    subst IsDone (sym same) (done-all v tail calm
-    (record { kept = steps.kept; on = on'; none = omega (arith, none, steps-left w v steps); read = have-read w h on }) one' two')
+    let up' : NoneGaveUp (world_after_all v tail) = subst NoneGaveUp same up in
+    let on' = on-all w reads reads-calm h on ((steps-all v tail calm steps.kept).stays up') in
+    let done : IsDone v = record { kept = steps.kept; on = on'; none = omega (arith, none, steps-left w v steps); read = have-read w h on } in
+    subst IsDone (sym same) (done-all v tail calm done up')
 
 -- ---- EACH TURN LEAVES LESS, while something is left
 abbrev pub TurnLowers : Type 0
 TurnLowers =
-    (w : WorldState) (turn : List EventContent) → IsKept w → GoOn w.a w.b → IsTurn w turn → gave_up (world_after_all w turn).a ≡ false
-    → gave_up (world_after_all w turn).b ≡ false
-    → 0 < left_in w → left_in (world_after_all w turn) < left_in w
+    (w : WorldState) (turn : List EventContent) → IsKept w → GoOn w.a w.b → IsTurn w turn → NoneGaveUp (world_after_all w turn) → 0 < left_in w
+    → left_in (world_after_all w turn) < left_in w
 
 -- so turn after turn all is done
 module _ (lowers : TurnLowers) where
   -- what comes after a turn
   abbrev Later : ℕ → WorldState → Type 0
   Later n w =
-      (u : WorldState) (after : List EventContent) → left_in u < left_in w → IsKept u → GoOn u.a u.b → HasTurns n u after
-      → gave_up (world_after_all u after).a ≡ false → gave_up (world_after_all u after).b ≡ false → IsDone (world_after_all u after)
-
-  one-turn : (n : ℕ) (w v u : WorldState) (turn after : List EventContent) → Later n w → Steps w v → GoOn v.a v.b → IsTurn v turn → u ≡ world_after_all v turn
-      → Steps v u → GoOn u.a u.b → HasTurns n u after
-      → gave_up (world_after_all u after).a ≡ false → gave_up (world_after_all u after).b ≡ false → gave_up u.a ≡ false → gave_up u.b ≡ false
+      (u : WorldState) (after : List EventContent) → left_in u < left_in w → IsKept u → GoOn u.a u.b → HasTurns n u after → NoneGaveUp (world_after_all u after)
       → IsDone (world_after_all u after)
-  one-turn n w v u turn after next steps on t is steps' on' rest one two one' two' =
-      let one'' : gave_up (world_after_all v turn).a ≡ false = subst (λ (x : WorldState). gave_up x.a ≡ false) is one' in
-      let two'' : gave_up (world_after_all v turn).b ≡ false = subst (λ (x : WorldState). gave_up x.b ≡ false) is two' in
-      elim (cases_lt 0 (left_in v)) [
-        | inr none ↦ done-all u after (turns-calm n u after rest)
-            (subst IsDone (sym is) (turn-done v turn steps.kept on (omega (arith, none)) t one'' two'')) one two
-        | inl some ↦
-            let less : left_in u < left_in v = subst (λ (x : WorldState). left_in x < left_in v) (sym is) (lowers v turn steps.kept on t one'' two'' some) in
-            next u after (omega (arith, less, steps-left w v steps)) steps'.kept on' rest one two
-      ]
 
   first-turn : (n : ℕ) (w : WorldState) (events : List EventContent) → IsKept w → GoOn w.a w.b → HasTurns (suc n) w events
-      → gave_up (world_after_all w events).a ≡ false → gave_up (world_after_all w events).b ≡ false → Later n w → IsDone (world_after_all w events)
-  first-turn n w events h on turns one two next =
+      → NoneGaveUp (world_after_all w events)
+      → Later n w → IsDone (world_after_all w events)
+  first-turn n w events h on turns up next =
       let before = turns.0 in
       let turn = turns.1 in
       let after = turns.2 in
-      let calm = turns.4 in
       let t = turns.5 in
-      let rest = turns.6 in
       let v = world_after_all w before in
       let u = world_after_all v turn in
-      let same : world_after_all w events ≡ world_after_all u after = ap (world_after_all w) turns.3 ∙ after-append w before (turn ++ after) ∙
-      after-append v turn after in
-      let one' : gave_up (world_after_all u after).a ≡ false = ap (λ (x : WorldState). gave_up x.a) (sym same) ∙ one in
-      let two' : gave_up (world_after_all u after).b ≡ false = ap (λ (x : WorldState). gave_up x.b) (sym same) ∙ two in
-      let steps = steps-all w before calm h in
-      let steps' = steps-all v turn (turn-calm v turn t) steps.kept in
-      let last = steps-all u after (turns-calm n u after rest) steps'.kept in
-      let on' = on-all w before calm h on (steps'.stays_a (last.stays_a one')) (steps'.stays_b (last.stays_b two')) in
-      let on'' = on-all v turn (turn-calm v turn t) steps.kept on' (last.stays_a one') (last.stays_b two') in
-      subst IsDone (sym same) (one-turn n w v u turn after next steps on' t refl steps' on'' rest one' two' (last.stays_a one') (last.stays_b two'))
+      let same : world_after_all w events ≡ world_after_all u after =
+      ap (world_after_all w) turns.3 ∙ after-append w before (turn ++ after) ∙ after-append v turn after in
+      let up' = subst NoneGaveUp same up in
+      let calm = turn-calm v turn t in
+      let calm' = turns-calm n u after turns.6 in
+      let steps = steps-all w before turns.4 h in
+      let steps' = steps-all v turn calm steps.kept in
+      let up'' = (steps-all u after calm' steps'.kept).stays up' in
+      let on' = on-all w before turns.4 h on (steps'.stays up'') in
+      subst IsDone (sym same) (elim (cases_lt 0 (left_in v)) [
+        | inr none ↦ done-all u after calm' (turn-done v turn steps.kept on' (omega (arith, none)) t up'') up'
+        | inl some ↦
+            let less = lowers v turn steps.kept on' t up'' some in
+            next u after (omega (arith, less, steps-left w v steps)) steps'.kept (on-all v turn calm steps.kept on' up'') turns.6 up'
+      ])
 
   -- as many turns as something is left, and one
   pub turns-done : (n : ℕ) (w : WorldState) (events : List EventContent) → left_in w ≤ n → IsKept w → GoOn w.a w.b → HasTurns (suc n) w events
-      → gave_up (world_after_all w events).a ≡ false → gave_up (world_after_all w events).b ≡ false → IsDone (world_after_all w events)
-  turns-done zero w events most h on turns one two =
-      first-turn zero w events h on turns one two (λ u after less h' on' rest one' two'. absurd (omega (arith, most, less)))
-  turns-done (suc n) w events most h on turns one two =
-      first-turn (suc n) w events h on turns one two
-      (λ u after less h' on' rest one' two'. turns-done n u after (omega (arith, most, less)) h' on' rest one' two')
+      → NoneGaveUp (world_after_all w events) → IsDone (world_after_all w events)
+  turns-done zero w events most h on turns up = first-turn zero w events h on turns up (λ u after less _ _ _ _. absurd (omega (arith, most, less)))
+  turns-done (suc n) w events most h on turns up =
+      first-turn (suc n) w events h on turns up (λ u after less h' on' rest up'. turns-done n u after (omega (arith, most, less)) h' on' rest up')
 
   -- so who is served gets through
-  pub gets-through : (w : WorldState) → IsKept w → GetsThrough w
-  gets-through w h a b events turns stays =
+  pub got-through : (n : ℕ) (w : WorldState) (events : List EventContent) → left_in w ≤ n → IsKept w → GoOn w.a w.b → HasTurns (suc n) w events
+      → NoneGaveUp (world_after_all w events) → GotThrough w (world_after_all w events)
+  got-through n w events most h on turns stays =
       let v = world_after_all w events in
-      let steps = steps-all w events (turns-calm (suc (left_in w)) w events turns) h in
-      let done = turns-done (left_in w) w events (omega arith) h (both-live w.a w.b a b) turns stays.0 stays.1 in
-      let both = done-through v done in
-      record {
-        there = both.0;
-        back = both.1;
-        streams = steps-streams w v steps;
-        settles = waited v done.kept (complete v.a v.b done.on done.none) done.read.a done.read.b;
-      }
+      let done = turns-done n w events most h on turns stays in
+      let pair = (kept-steady v done.kept).ends in
+      let whole = complete v.a v.b done.on done.none in
+      let there = through v.a v.b pair whole (done.read B) in
+      let back = through v.b v.a (steady-back v.b v.a pair) (both-swapped IsAllTaken v.a v.b whole) (done.read A) in
+      let streams = steps-streams w v (steps-all w events (turns-calm (suc n) w events turns) h) in
+      let settles = waited v done.kept whole (done.read A) (done.read B) in
+      assumption
 
   -- in every world
   pub served_lem : WhoIsServedGetsThrough
-  served_lem = in-every-world GetsThrough gets-through
+  served_lem =
+      in-every-world GetsThrough (λ w h a b events turns stays. got-through (left_in w) w events (omega arith) h (both-live w.a w.b a b) turns stays)

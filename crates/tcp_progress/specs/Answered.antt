@@ -1,5 +1,5 @@
--- Who is spoken to answers (RFC 9293, 3.10.7.4, first): a segment that isn't acceptable is answered by an acknowledgement, and once
--- nothing is left to be sent again that stands at SND.NXT.
+-- Who is spoken to answers (RFC 9293, 3.10.7.4, first): a segment that isn't acceptable is answered by an acknowledgement.
+-- Once nothing has to be sent again, that is at SND.NXT.
 use Rattle.std.specs.Prelude.{◌≡◌, ℕ, ◌≤◌, true, false, List, Some, None, IfSome, Ok}
 use Rattle.tcp_numbers.specs.Position.{number}
 use Rattle.tcp_numbers.specs.Flags.{ack, has, rst, syn}
@@ -18,8 +18,8 @@ use Rattle.tcp_conn.specs.Timers.{after_timer}
 use Rattle.tcp_progress.specs.Progress.{is_synchronized}
 use Rattle.tcp_progress.specs.Resent.{KeepsFlight, after_emissions}
 
--- MAY ANSWER: in ESTABLISHED or after it, neither reset nor SYN goes first, and the text limit leaves room for text. What has
--- still to be sent again ends at most at SND.NXT
+-- MAY ANSWER: in ESTABLISHED or a later state, no reset or SYN is sent first, and the text limit leaves room for text. What
+-- has to be sent again ends at most at SND.NXT
 pub record MayAnswer (s : State) : Type 0 where
   pub phase : is_synchronized s.phase ≡ true
   pub reset : s.owed.reset ≡ None
@@ -27,14 +27,14 @@ pub record MayAnswer (s : State) : Type 0 where
   pub limit : 1 ≤ text_limit s
   pub range : IfSome s.sending.resend (λ range. range.end ≤ s.sending.nxt)
 
--- A SEGMENT OF THE PEER THAT ISN'T ACCEPTABLE, as an old SYN: no reset, and nothing that is taken while the window is shut
+-- A SEGMENT OF THE PEER THAT ISN'T ACCEPTABLE, as an old SYN: no reset, and nothing that is taken at a zero window
 pub record IsUnacceptable (s : State) (src dst : List ℕ) (v : Content) : Type 0 where
   pub mine : is_foreign s src dst v ≡ false
   pub no_rst : has rst v.flags ≡ false
   pub outside : is_acceptable_segment s v ≡ false
   pub untaken : is_allowed_shut s v ≡ false
 
--- what goes out next STANDS AT SND.NXT, and is a plain acknowledgement of RCV.NXT
+-- what is emitted next is AT SND.NXT, and is a plain acknowledgement of RCV.NXT
 pub record StandsAtNext (s : State) : Type 0 where
   pub due : Due
   pub is_due : due_of s ≡ Some due
@@ -48,7 +48,7 @@ pub record StandsAtNext (s : State) : Type 0 where
   pub has_ack : has ack segment.flags ≡ true
   pub acknowledged : segment.ack ≡ s.receiving.next
 
--- IS SURE TO ANSWER: after so many emissions, each of which keeps the flight, whatever isn't acceptable is answered so
+-- CERTAINLY ANSWERS: after this many emissions, each of which keeps the flight, whatever isn't acceptable is answered so
 pub record Answers (s : State) : Type 0 where
   pub count : ℕ
   pub keeps : (n : ℕ) → n ≤ count → KeepsFlight s.sending (after_emissions n s).sending

@@ -1,5 +1,4 @@
--- HOW FAR AN END SENDS (RFC 9293, 3.8.6): where the text ends that an end has sent, and what each end tells of
--- its window.
+-- HOW FAR AN END SENDS (RFC 9293, 3.8.6): where the text ends that an end has sent, and the windows that each end advertises.
 use Rattle.std.specs.Prelude.{◌≡◌, ℕ, ◌+◌, ◌≤◌, min, true, false, length, Ok, Some, slice_get}
 use Rattle.tcp_numbers.specs.Flags.{has, rst, syn}
 use Rattle.tcp_wire.specs.Decoded.{decode_answer}
@@ -8,11 +7,13 @@ use Rattle.tcp_conn.specs.Windows.{window_from}
 use Rattle.tcp_replay.specs.World.{PartyState, SentSegment}
 use Rattle.tcp_replay.specs.Safe.{next_position}
 
--- WITHIN REACH: the text that x has sent ends, at most, y's receive capacity behind y's RCV.NXT: not always at an edge that y told
+-- WITHIN REACH: the text that x has sent ends, at most, y's receive capacity after y's RCV.NXT: not always at an edge that y
+-- advertised
 abbrev pub IsWithinReach : PartyState → PartyState → Type 0
 IsWithinReach x y = min x.endpoint.sending.nxt (1 + length x.accepted) ≤ next_position y + y.endpoint.config.recv_capacity
 
--- what y told of its window in each segment that it emitted fits its room, as x reads it: of a SYN the field as it is (RFC 7323, 2.2), of another, once x has y's SYN, scaled
+-- the window that y advertised in each segment that it emitted fits its room, as x reads it: of a SYN the field as it is (RFC
+-- 7323, 2.2), of another, once x has y's SYN, scaled
 pub record TellsWithin (y x : PartyState) : Type 0 where
   pub plain : (k : ℕ) (g : SentSegment) (v : Content) → slice_get y.sent k ≡ Some g → decode_answer y.endpoint.config.addr.0 x.endpoint.config.addr.0 g.bytes ≡ Ok v
       → has rst v.flags ≡ false → has syn v.flags ≡ false → x.endpoint.receiving.opened ≡ true → window_from x.endpoint.link v.window ≤ y.endpoint.config.recv_capacity

@@ -7,8 +7,8 @@ use Rattle.tcp_replay.specs.Events.{EventContent, HasBytes}
 use Rattle.tcp_replay.specs.World.{WorldState, max_life, new_world_with, run_of, world_after_all}
 use Rattle.tcp_progress.specs.Settled.{least_life}
 
--- over every list of events, whatever two Configs the ends were made from, however long segments live from `least_life` on, and whether a
--- run stops at a refusal or goes on
+-- over every list of events, whatever the Configs of the two ends, however long segments live from `least_life` on, and
+-- whether a run stops at a refusal or continues
 abbrev pub InEveryWorld : (WorldState → Type 0) → Type 0
 InEveryWorld Holds =
     (life : ℕ) (a b : Config) (list : List EventContent) → least_life ≤ life → life ≤ max_life → IsConfig a → IsConfig b → AllByRecursion HasBytes list

@@ -26,22 +26,22 @@ IsUnaided (Emit side) = Unit {0}
 IsUnaided (Deliver from k) = Unit {0}
 IsUnaided other = ⊥
 
--- what can be reached so, by no more than so many events, none of which is refused
+-- what can be reached so, by no more than this many events, none of which is refused
 pub record CanReachUnaided (count : ℕ) (P : WorldState → Type 0) (w : WorldState) : Type 0 where
   pub way : CanReach P w
   pub unaided : AllByRecursion IsUnaided way.events
   pub most : length way.events ≤ count
 
--- WHILE THEY ARE OPENING THE CONNECTION eight events lead to both being open: for each of the two SYNs, at most, the emission of a reset that waits,
--- the timeout, the emission and the delivery
+-- WHILE THEY ARE OPENING THE CONNECTION eight events lead to both being open: for each of the two SYNs, at most, the emission
+-- of a waiting reset, the timeout, the emission and the delivery
 abbrev pub CanOpen : WorldState → Type 0
 CanOpen w = AreOpening w.a w.b ⊎ AreOpening w.b w.a → CanReachUnaided 8 (λ v. AreOpen v × HasStreamsOf w v) w
 
 abbrev pub HandshakesCanBeFinished : Type 0
 HandshakesCanBeFinished = InEveryWorld CanOpen
 
--- WHO IS SERVED WHILE THE CONNECTION IS OPENED gets through: of the turns that are among calm events two open it, at most, so that each
--- end has the other's SYN, and as many as something is left, and one more, hand over all, unless an end is reset
+-- WHO IS SERVED WHILE THE CONNECTION IS OPENED gets through. Among calm events, at most two turns open it, so that each end
+-- has the other's SYN. As many more as what is left, and one more, deliver all, unless an end is reset
 abbrev pub OpensAndGetsThrough : WorldState → Type 0
 OpensAndGetsThrough w =
     AreOpening w.a w.b ⊎ AreOpening w.b w.a → (events : List EventContent) → HasTurns (suc (suc (suc (left_in w)))) w events

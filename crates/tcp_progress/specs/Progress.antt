@@ -1,5 +1,5 @@
--- Which segments an end is sure to take, and what it then has (RFC 9293, 3.10.7.4): one that is next, and one that acknowledges
--- something new. And what it is sure to tell.
+-- Which segments an end certainly takes, and what it then has (RFC 9293, 3.10.7.4): one that is next, and one that
+-- acknowledges something new. And what it certainly reports.
 use Rattle.std.specs.Prelude.{◌≡◌, ℕ, ◌+◌, ◌<◌, ◌≤◌, ℤ, pos, ◌+ℤ◌, ◌≤ℤ◌, ◌<ℤ◌, Bool, true, false, not, ◌&&◌, ◌||◌, ◌==◌, if◌then◌else◌, min, List, ◌++◌, length, drop, Ok, Some, None}
 use Rattle.tcp_numbers.specs.Position.{number, offset}
 use Rattle.tcp_numbers.specs.Flags.{ack, has, rst, syn}
@@ -18,7 +18,7 @@ use Rattle.tcp_conn.specs.Due.{due_of}
 use Rattle.tcp_conn.specs.Forms.{segment_of}
 use Rattle.tcp_conn.specs.Judgement.{count_numbers, is_acceptable_segment, is_foreign, position_near}
 
--- how far from RCV.NXT a segment begins and ends; before it below 0 (RFC 9293, 3.4)
+-- how far from RCV.NXT a segment begins and ends; negative before it (RFC 9293, 3.4)
 abbrev pub begins_at : State → Content → ℤ
 begins_at s v = offset s.receiving.next v.seq
 
@@ -33,7 +33,7 @@ pub record IsPlainAck (s : State) (v : Content) : Type 0 where
   pub of_sent : position_near s v.ack ≤ s.sending.nxt
   pub of_syn : is_syn_received s.phase ≡ true → position_near s v.ack ≡ s.sending.nxt
 
--- IS NEXT: the peer's segment begins at or before RCV.NXT, and ends behind it within the receive window. The end is in a phase
+-- IS NEXT: the peer's segment begins at or before RCV.NXT, and ends after it within the receive window. The end is in a phase
 -- in which text is taken (RFC 9293, 3.10.7.4, seventh), or comes to one by the acknowledgement of its SYN
 pub record IsNext (s : State) (src dst : List ℕ) (v : Content) : Type 0 where
   pub phase : takes_text (phase_after_own_syn s.phase s.closing) ≡ true
@@ -43,8 +43,8 @@ pub record IsNext (s : State) (src dst : List ℕ) (v : Content) : Type 0 where
   pub ends : pos 0 <ℤ ends_at s v
   pub within : ends_at s v ≤ℤ pos (window s.receiving.inbox)
 
--- BRINGS ON: RCV.NXT moves on to `end` at least, counted from where it was, and by no more than the window: by the text that came
--- in order, which stands behind what was unread, and by one where the FIN was taken
+-- MOVES RCV.NXT ON to `end` at least, counted from where it was, and by no more than the window: by the text that came in
+-- order, which follows what was unread, and by one where the FIN was taken
 pub record BringsOn (before after : Receiving) (end : ℤ) : Type 0 where
   pub count : ℕ
   pub next : after.next ≡ number before.next count
@@ -57,7 +57,7 @@ pub record BringsOn (before after : Receiving) (end : ℤ) : Type 0 where
   pub ordered : after.ordered ≡ min max_ordered (before.ordered + length text)
   pub finished : after.finished ≡ (before.finished || fin)
 
--- WHAT IS NEXT IS TAKEN by this end, whatever it holds, and an acknowledgement is owed for it
+-- WHAT IS NEXT IS TAKEN by this end, whatever it keeps out of order, and an acknowledgement is pending for it
 abbrev pub TakesWhatIsNext : State → Type 0
 TakesWhatIsNext s =
     (src dst bytes : List ℕ) (v : Content) → decode_answer src dst bytes ≡ Ok v → IsNext s src dst v
@@ -70,7 +70,7 @@ abbrev pub is_synchronized : Phase → Bool
 is_synchronized phase = has_peer phase && not (is_handshake phase)
 
 -- ACKNOWLEDGES SOMETHING NEW (RFC 9293, 3.10.7.4, fifth): SND.UNA < SEG.ACK =< SND.NXT, in a segment of the peer that is
--- acceptable, or that comes while the window is shut
+-- acceptable, or that comes at a zero window
 pub record AcksNew (s : State) (src dst : List ℕ) (v : Content) : Type 0 where
   pub phase : is_synchronized s.phase ≡ true
   pub mine : is_foreign s src dst v ≡ false
@@ -91,13 +91,13 @@ AckedIsReleased =
     → (arrival_answer s src dst bytes ≡ Processed)
     × IsReleased s.sending (after_arrival s src dst bytes).sending (position_near s v.ack)
 
--- TELLS RCV.NXT: what is due is a segment that acknowledges it
+-- REPORTS RCV.NXT: what is due is a segment that acknowledges it
 pub record TellsNext (s : State) : Type 0 where
   pub due : Due
   pub is_due : due_of s ≡ Some due
   pub has_ack : has ack (segment_of s due).flags ≡ true
   pub number : (segment_of s due).ack ≡ s.receiving.next
 
--- WHAT IS OWED IS TOLD by every end from which no reset and no SYN has to go out first (RFC 9293, 3.10.7.4, seventh)
+-- WHAT IS PENDING IS REPORTED by every end that doesn't have to send a reset or a SYN first (RFC 9293, 3.10.7.4, seventh)
 abbrev pub OwedIsTold : Type 0
 OwedIsTold = (s : State) → s.owed.ack ≡ true → s.owed.reset ≡ None → s.owed.syn ≡ false → TellsNext s

@@ -1,5 +1,5 @@
--- What an end is sure to send after a retransmission timeout: what is in flight goes out again (RFC 9293, 3.8.1), and where
--- nothing is, what is unsent goes out (RFC 9293, 3.8.6.1).
+-- What an end certainly sends after a retransmission timeout: what is in flight is sent again (RFC 9293, 3.8.1), and where
+-- nothing is, what is unsent is sent (RFC 9293, 3.8.6.1).
 use Rattle.std.specs.Prelude.{◌≡◌, ℕ, zero, suc, ◌+◌, ◌<◌, ◌≤◌, true, false, length, take, drop, Some, None, IfSome, ◌⊎◌}
 use Rattle.tcp_numbers.specs.Position.{number}
 use Rattle.tcp_numbers.specs.Flags.{ack, has, rst, syn}
@@ -15,12 +15,12 @@ use Rattle.tcp_conn.specs.Emission.{after_emission, emitted_bytes}
 use Rattle.tcp_conn.specs.Judgement.{count_numbers}
 use Rattle.tcp_conn.specs.Timers.{after_timer}
 
--- the end after so many emissions
+-- the end after this many emissions
 abbrev pub after_emissions : ℕ → State → State
 after_emissions zero s = s
 after_emissions (suc n) s = after_emissions n (after_emission s)
 
--- MAY SEND: in a phase in which text and FIN go out, neither reset nor SYN goes first, and the text limit leaves room for text
+-- MAY SEND: in a phase in which text and FIN are sent, no reset or SYN is sent first, and the text limit leaves room for text
 -- (RFC 9293, 3.7.1)
 pub record MaySend (s : State) : Type 0 where
   pub phase : sends_text s.phase ≡ true
@@ -28,15 +28,15 @@ pub record MaySend (s : State) : Type 0 where
   pub syn : s.owed.syn ≡ false
   pub limit : 1 ≤ text_limit s
 
--- IN FLIGHT: SND.UNA =< position < SND.NXT, and a byte of the queue or the FIN stands there
+-- IN FLIGHT: SND.UNA =< position < SND.NXT, and a byte of the queue or the FIN is there
 pub record IsInFlight (s : Sending) (position : ℕ) : Type 0 where
   pub unacknowledged : s.una ≤ position
   pub sent : position < s.nxt
   pub queued : s.released < position
   pub most : position ≤ end_of_text s
 
--- what goes out next COVERS a position: it begins at or before it, ends behind it (RFC 9293, 3.4), has the text of the queue, and
--- is a plain acknowledgement of RCV.NXT
+-- what is emitted next COVERS a position: it begins at or before it, ends after it (RFC 9293, 3.4), has the text of the
+-- queue, and is a plain acknowledgement of RCV.NXT
 pub record CoversNext (s : State) (position : ℕ) : Type 0 where
   pub due : Due
   pub is_due : due_of s ≡ Some due
@@ -61,19 +61,20 @@ pub record KeepsFlight (before after : Sending) : Type 0 where
   pub released : after.released ≡ before.released
   pub queued : after.queue.bytes ≡ before.queue.bytes
 
--- IS SURE TO GO OUT: after so many emissions the next covers the position, and that one and those before it keep the flight
+-- CERTAINLY GOES OUT: after this many emissions the next covers the position, and that one and those before it keep the
+-- flight
 pub record GoesOut (s : State) (position : ℕ) : Type 0 where
   pub count : ℕ
   pub covers : CoversNext (after_emissions count s) position
   pub keeps : (n : ℕ) → n ≤ count + 1 → KeepsFlight s.sending (after_emissions n s).sending
 
--- WHAT IS IN FLIGHT GOES OUT AGAIN after a retransmission timeout, whatever the peer told that it holds
+-- WHAT IS IN FLIGHT IS SENT AGAIN after a retransmission timeout, whatever the peer has reported as received
 abbrev pub FlightGoesOutAgain : Type 0
 FlightGoesOutAgain =
     (s : State) (position : ℕ) → MaySend s → IsInFlight s.sending position
     → KeepsFlight s.sending (after_timer s Retransmit).sending × GoesOut (after_timer s Retransmit) position
 
--- UNSENT: nothing is in flight, and text or the FIN waits (RFC 9293, 3.10.4). What has still to be sent again ends at most at
+-- UNSENT: nothing is in flight, and text or the FIN waits (RFC 9293, 3.10.4). What has to be sent again ends at most at
 -- SND.NXT
 pub record IsUnsent (s : State) : Type 0 where
   pub idle : s.sending.una ≡ s.sending.nxt
@@ -87,7 +88,8 @@ pub record MovesOn (before after : Sending) : Type 0 where
   pub released : after.released ≡ before.released
   pub queued : after.queue.bytes ≡ before.queue.bytes
 
--- WHAT IS UNSENT GOES OUT after a retransmission timeout, whatever window the peer told: what is emitted next covers SND.NXT
+-- WHAT IS UNSENT IS SENT after a retransmission timeout, whatever window the peer advertised: what is emitted next covers
+-- SND.NXT
 abbrev pub UnsentGoesOut : Type 0
 UnsentGoesOut =
     (s : State) → MaySend s → IsUnsent s

@@ -1,5 +1,5 @@
--- NOTHING IS TAKEN BEFORE IT IS SENT (RFC 9293, 3.3.1 and 3.4): what holds between two ends, after every list of events, of SND.NXT
--- of one and of what the other has taken, holds or may still be delivered.
+-- NOTHING IS TAKEN BEFORE IT IS SENT (RFC 9293, 3.3.1 and 3.4): after every list of events, SND.NXT of one end, and what the
+-- other has taken, keeps or may still receive.
 use Rattle.std.specs.Prelude.{◌≡◌, ℕ, ◌+◌, ◌<◌, ◌≤◌, true, false, List, Some, Ok, slice_get}
 use Rattle.std.specs.List.{AllByRecursion}
 use Rattle.tcp_wire.specs.Flags.{rst, has}
@@ -21,7 +21,7 @@ next_to_send x = x.endpoint.sending.nxt
 pub record TakesOnlySent (x y : PartyState) : Type 0 where
   -- once y has the peer's SYN, RCV.NXT is at most SND.NXT,
   pub taken : y.endpoint.receiving.opened ≡ true → next_position y ≤ next_to_send x
-  -- each byte that y holds lies below SND.NXT,
+  -- each byte that y keeps out of order is below SND.NXT,
   pub held : (place : ℕ) (cell : Cell) → slice_get y.endpoint.receiving.inbox.held place ≡ Some (Some cell) → 1 + y.endpoint.receiving.ordered + place < next_to_send x
   -- and each segment that x emitted ends there at most, its SYN and FIN counted, unless it is a reset
   pub emitted : (k : ℕ) (g : SentSegment) (v : Content) → slice_get x.sent k ≡ Some g → decode_answer x.endpoint.config.addr.0 y.endpoint.config.addr.0 g.bytes ≡ Ok v
@@ -31,8 +31,8 @@ pub record TakeOnlySent (w : WorldState) : Type 0 where
   pub there : TakesOnlySent w.a w.b
   pub back : TakesOnlySent w.b w.a
 
--- over every list of events, whatever two Configs the ends were made from, however long segments live, and whether a run stops at
--- a refusal or goes on
+-- over every list of events, whatever the Configs of the two ends, however long segments live, and whether a run stops at a
+-- refusal or continues
 abbrev pub NothingIsTakenBeforeItIsSent : Type 0
 NothingIsTakenBeforeItIsSent =
     (life : ℕ) (a b : Config) (list : List EventContent) → life ≤ max_life → IsConfig a → IsConfig b → AllByRecursion HasBytes list

@@ -31,22 +31,22 @@ pub record IsLive (x : PartyState) : Type 0 where
   pub opened : x.endpoint.receiving.opened ≡ true
   pub goes_on : x.endpoint.ending ≡ NotEnded
 
--- THEY ARE OPENING THE CONNECTION (RFC 9293, 3.5), x towards y: x has sent its SYN and waits for y's, in SYN-SENT (3.10.7.3); y waits for a
--- SYN, in LISTEN (3.10.7.2), or has taken x's and waits for the acknowledgement of its own, in SYN-RECEIVED (3.10.7.4). In none of these
--- states has a connection ended
+-- THEY ARE OPENING THE CONNECTION (RFC 9293, 3.5), x towards y: x has sent its SYN and waits for y's, in SYN-SENT (3.10.7.3).
+-- y waits for a SYN, in LISTEN (3.10.7.2), or has taken x's and waits for the acknowledgement of its own, in SYN-RECEIVED
+-- (3.10.7.4). In none of these states has a connection ended
 pub record AreOpening (x y : PartyState) : Type 0 where
   pub calls : x.endpoint.phase ≡ SynSent
   pub answers : (y.endpoint.phase ≡ Listen) ⊎ (y.endpoint.phase ≡ SynReceived)
 
--- ENDED IN ORDER, x before y or both (RFC 9293, 3.6): x has ended in order, and y's FIN is acknowledged to it; y wasn't reset, nor has it given
--- up. Where TIME-WAIT ran out at x before the acknowledgement of y's FIN came, nobody is left to acknowledge it
+-- ENDED IN ORDER, x before y or both (RFC 9293, 3.6): x has ended in order, and y's FIN is acknowledged to it; y wasn't reset
+-- or aborted. Where TIME-WAIT expired at x before the acknowledgement of y's FIN came, nobody is left to acknowledge it
 pub record HasEndedInOrder (x y : PartyState) : Type 0 where
   pub over : x.endpoint.ending ≡ Orderly
   pub fin_acked : is_fin_acked y.endpoint.sending ≡ true
   pub stays : gave_up y ≡ false
 
--- THROUGH, from x to y: y's user was handed all that x accepted, and all of it is acknowledged to x; where x's user closed, y's was handed
--- the end of the stream, and the FIN is acknowledged to x; and x wasn't reset, nor has it given up
+-- THROUGH, from x to y: all that x accepted was delivered to y's user, and all of it is acknowledged to x. Where x's user
+-- closed, the end of the stream was delivered to y's, and the FIN is acknowledged to x; and x wasn't reset or aborted
 pub record IsThrough (x y : PartyState) : Type 0 where
   pub delivered : y.delivered ≡ x.accepted
   pub released : count_released x ≡ length x.accepted
@@ -71,19 +71,20 @@ pub record HasStreamsOf (w v : WorldState) : Type 0 where
 abbrev pub CanSettle : WorldState → Type 0
 CanSettle w = CanReach (λ v. IsSettled v × HasStreamsOf w v) w
 
--- NOT STUCK: there is a way on while both ends live, while they are opening the connection, and once an end has ended in order
+-- NOT STUCK: there is a way on while both ends are live, while they are opening the connection, and once an end has ended in
+-- order
 pub record IsNotStuck (w : WorldState) : Type 0 where
   pub live : IsLive w.a → IsLive w.b → CanSettle w
   pub opening : AreOpening w.a w.b ⊎ AreOpening w.b w.a → CanSettle w
   pub ended : HasEndedInOrder w.a w.b ⊎ HasEndedInOrder w.b w.a → CanSettle w
 
--- the shortest lifetime of segments of which this is said, twice what a queue holds: what is in flight is a SYN or FIN and no more
--- text than a queue holds, so that nothing of it expires
+-- the shortest lifetime of segments for which this is claimed, twice the capacity of a queue: what is in flight is a SYN or
+-- FIN and no more text than a queue holds, so that nothing of it expires
 abbrev pub least_life : ℕ
 least_life = 2 * max_capacity
 
--- over every list of events, whatever two Configs the ends were made from, however long segments live from that on, and whether a
--- run stops at a refusal or goes on
+-- over every list of events, whatever the Configs of the two ends, however long segments live from that on, and whether a run
+-- stops at a refusal or continues
 abbrev pub NoWorldIsStuck : Type 0
 NoWorldIsStuck =
     (life : ℕ) (a b : Config) (list : List EventContent) → least_life ≤ life → life ≤ max_life → IsConfig a → IsConfig b → AllByRecursion HasBytes list

@@ -1,4 +1,4 @@
--- WHAT EACH STATE OF A CONNECTION SAYS (RFC 9293, 3.3.2) of both FINs, and who the peer is: what holds between two ends after every
+-- WHAT EACH STATE OF A CONNECTION SAYS (RFC 9293, 3.3.2) of both FINs, and who the peer is: facts of two ends after every
 -- list of events.
 use Rattle.std.specs.Prelude.{◌≡◌, Bool, true, false}
 use Rattle.tcp_conn.specs.declared.phase.Ending.TheVariants.{Orderly}
@@ -10,7 +10,7 @@ use Rattle.tcp_conn.specs.State.{State}
 use Rattle.tcp_replay.specs.World.{PartyState}
 use Rattle.tcp_replay.specs.Safe.{next_position}
 
--- WHAT EACH STATE SAYS (RFC 9293, 3.3.2) of the own close, of the own FIN's acknowledgement and of the peer's FIN
+-- WHAT EACH STATE SAYS (RFC 9293, 3.3.2) of this end's close, of the acknowledgement of its FIN and of the peer's FIN
 pub record Says (closes acks finishes : Bool) (s : State) : Type 0 where
   pub closing : s.closing ≡ closes
   pub acked : is_fin_acked s.sending ≡ acks
@@ -29,7 +29,7 @@ SaysByPhase SynReceived s = (s.sending.una ≡ 0) × (s.sending.nxt ≡ 1)
 SaysByPhase Closed s = s.ending ≡ Orderly → Says true true true s
 SaysByPhase other s = Unit {0}
 
--- who is known as the peer is at the other party's port
+-- the known peer is at the other party's port
 abbrev pub KnowsPort : PartyState → PartyState → Type 0
 KnowsPort x y = has_peer x.endpoint.phase ≡ true → x.endpoint.peer.port ≡ y.endpoint.config.port
 

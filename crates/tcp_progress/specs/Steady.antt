@@ -1,4 +1,4 @@
--- What the ends of a world have that goes on: what the laws of one end ask of it, x towards y.
+-- The steady facts of the ends of a world: what the laws of one end require of it, x towards y.
 use Rattle.std.specs.Prelude.{ℕ, ◌≤◌, IfSome, List}
 use Rattle.tcp_halves.specs.Config.{min_mss}
 use Rattle.tcp_halves.specs.Receiver.{HoldsWithin}
@@ -21,9 +21,9 @@ pub record IsSteadyEnd (x y : PartyState) : Type 0 where
   -- segments have room for text, and the receive buffer for a window
   pub mss : min_mss ≤ x.endpoint.link.peer_mss
   pub within : HoldsWithin x.endpoint.config.recv_capacity x.endpoint.receiving.inbox
-  -- what it told of its window fits its room
+  -- the window that it advertised fits its room
   pub told : TellsWithin x y
-  -- what it sent is within the peer's reach, what goes out again was sent, and the peer took nothing else
+  -- what it sent is within the peer's reach, what has to be sent again was sent, and the peer took nothing else
   pub edge : IsWithinReach x y
   pub range : IfSome x.endpoint.sending.resend (λ range. range.end ≤ x.endpoint.sending.nxt)
   pub sent : TakesOnlySent x y

@@ -1,33 +1,35 @@
-//! That whoever is served often enough gets through (RFC 9293, 3.8), whatever the network does meanwhile.
+//! Who is served often enough gets through (RFC 9293, 3.8), whatever the network does meanwhile.
 ghost use Rattle.tcp_progress.specs.Fair.{EachBurstEnds, TurnsCanBeHad, WhatIsLeftNeverGrows, WhoIsServedGetsThrough};
 
-/// Whoever is served gets through: from whatever world two ends were brought to, while both live, a list of calm events in which
-/// there are as many turns of a caller's loop as something is left, and one more, hands over all that was accepted, both ways, and
-/// has it acknowledged, unless an end is reset; and once TIME-WAIT runs out at both ends, both have ended in order where both users
-/// closed. Calm is whatever clock, network and users who only read do; but in TIME-WAIT that timer waits until the end. Segments
-/// live for 2^21 positions or longer.
+/// Who is served gets through, from any world that two ends can come to, while both are live. Take calm events that
+/// contain as many turns of a caller's loop as what is left, and one more. After them all that was accepted is
+/// delivered, both ways, and acknowledged, unless an end is reset. Once TIME-WAIT expires at both ends, both have ended
+/// in order where both users closed. Calm is whatever clock, network and users who only read do; but in TIME-WAIT that
+/// timer waits until the end. Segments live for 2^21 positions or longer.
 ///
-/// In a turn both users read all; one side's retransmission timeout comes and it emits at once until nothing is due, and then the
-/// other's; all that both sent comes, while no timer runs out, and both answer until nothing is due; and what they answered comes.
+/// In a turn both users read all. One side's retransmission timeout expires and it emits at once until nothing is due,
+/// and then the other's. All that both sent arrives, while no timer expires, and both answer until nothing is due; and
+/// what they answered arrives.
 pub fn who_is_served_gets_through()
     ensures { WhoIsServedGetsThrough }
 {}
 
-/// Turns can be had, as many as one likes: from whatever world two ends were brought to in which no end has given up, some list of
-/// calm events has so many turns in it, and no end gives up in it. So that whoever is served gets through is said of something.
+/// There are turns, any number of them, from any world that two ends can come to in which no end was reset or aborted.
+/// Some list of calm events contains that many turns, and no end is reset or aborted in it. So the claim that who is
+/// served gets through isn't empty.
 pub fn turns_can_be_had()
     ensures { TurnsCanBeHad }
 {}
 
-/// Each burst ends: from whatever world two ends were brought to, a side that emits again and again, with no arrival between, has
-/// nothing due after so many emissions.
+/// Each burst ends: from any world that two ends can come to, a side that emits again and again, with no arrival
+/// between, has nothing due after some number of emissions.
 pub fn each_burst_ends()
     ensures { EachBurstEnds }
 {}
 
-/// What is left never grows: from whatever world two ends were brought to, over calm events, what was accepted and isn't taken yet,
-/// and what isn't acknowledged yet, get less or stay as much; nothing more is accepted, and no user closes. A FIN counts as one
-/// byte.
+/// What is left never grows: from any world that two ends can come to, over calm events, what was accepted and isn't
+/// taken yet, and what isn't acknowledged yet, decreases or stays the same. Nothing more is accepted, and no user
+/// closes. A FIN counts as one byte.
 pub fn what_is_left_never_grows()
     ensures { WhatIsLeftNeverGrows }
 {}

@@ -1,16 +1,17 @@
-//! Laws of two ends that go on (RFC 9293, 3.8), whatever was lost, delayed, repeated, reordered or damaged before:
+//! Laws of the progress of two ends (RFC 9293, 3.8), whatever was lost, delayed, repeated, reordered or damaged before:
 //!
-//! - `no_world_is_stuck`: while both live, or are opening the connection, some list of reads, timers, emissions and deliveries hands
-//!   over and has acknowledged all that was accepted. `a_handshake_can_be_finished` says how few events open the connection.
-//! - `who_is_served_gets_through`: a caller's plain loop does so in so many turns, whatever the network does meanwhile. Beside it
-//!   `turns_can_be_had`, `each_burst_ends` and `what_is_left_never_grows`; and `who_is_served_opens`, of ends that are opening the
-//!   connection.
-//! - `every_world_is_steady` and `nothing_is_taken_before_it_is_sent`: what always holds between two ends.
+//! - `no_world_is_stuck`: while both are live, or are opening the connection, some list of reads, timers, emissions and
+//!   deliveries exists after which all that was accepted is delivered and acknowledged. `a_handshake_can_be_finished`
+//!   gives how few events open the connection.
+//! - `who_is_served_gets_through`: a caller's plain loop does so in a known number of turns, whatever the network does
+//!   meanwhile. Beside it `turns_can_be_had`, `each_burst_ends` and `what_is_left_never_grows`; and
+//!   `who_is_served_opens`, of ends that are opening the connection.
+//! - `every_world_is_steady` and `nothing_is_taken_before_it_is_sent`: invariants of two ends.
 //!
-//! Below them laws of one end: what a segment brings (`what_is_next_is_taken`, `what_is_acknowledged_is_released`), and what goes
-//! out whatever came before it (`what_is_owed_is_told`, `what_is_in_flight_goes_out_again`, `what_is_unsent_goes_out`,
-//! `who_is_spoken_to_answers`; RFC 9293, 3.8.1, 3.8.6.1 and 3.10.7.4). They do nothing when they run: each is there for the law that
-//! it ensures.
+//! Below them are laws of one end: what a segment brings (`what_is_next_is_taken`, `what_is_acknowledged_is_released`),
+//! and what is sent whatever came before it (`what_is_owed_is_told`, `what_is_in_flight_goes_out_again`,
+//! `what_is_unsent_goes_out`, `who_is_spoken_to_answers`; RFC 9293, 3.8.1, 3.8.6.1 and 3.10.7.4). These functions do
+//! nothing when they run: each carries the law that it ensures.
 #![tactic(auto)]
 
 ghost use Rattle.tcp_progress.specs.Progress.{AckedIsReleased, OwedIsTold, TakesWhatIsNext};
@@ -34,25 +35,25 @@ use std::alloc::Allocator;
 use tcp_conn::Endpoint;
 use tcp_conn::laws::what_always_holds;
 
-/// A segment that is next is taken whole by every end in which text is taken, however many runs it holds and whatever they are: it
-/// begins at or before RCV.NXT and ends behind it within the receive window, and carries a plain acknowledgement of what was
-/// sent. RCV.NXT moves on to its end at least; what was unread stays, with what came in order behind it; and an acknowledgement
-/// is owed.
+/// A segment that is next is taken whole by every end in which text is taken, whatever runs it keeps out of order (RFC
+/// 9293, 3.10.7.4, seventh). The segment begins at or before RCV.NXT and ends after it within the receive window, and
+/// carries a plain acknowledgement of what was sent. RCV.NXT moves on to its end at least. What was unread stays, with
+/// what came in order after it; and an acknowledgement is pending.
 pub fn what_is_next_is_taken<A: Allocator>(endpoint: &Endpoint<A>)
     ensures { TakesWhatIsNext endpoint.now }
 {
     what_always_holds(endpoint);
 }
 
-/// An acceptable segment that acknowledges something new, and nothing that wasn't sent, moves SND.UNA to just there, and the text
-/// before it leaves the queue, whatever else the segment brings or is marked; so does one that comes while the window is
-/// shut.
+/// An acceptable segment that acknowledges something new, and nothing that wasn't sent, moves SND.UNA to just there,
+/// and the text before it leaves the queue (RFC 9293, 3.10.7.4, fifth). This holds whatever else the segment brings or
+/// is marked; and also for one that comes at a zero window.
 pub fn what_is_acknowledged_is_released()
     ensures { AckedIsReleased }
 {}
 
-/// An end that owes an acknowledgement, and no reset or SYN before it, has a segment due that acknowledges RCV.NXT, whether it
-/// carries text, FIN or neither: `emit` writes it.
+/// An end with a pending acknowledgement, and no pending reset or SYN, has a segment due that acknowledges RCV.NXT,
+/// whether it carries text, FIN or neither: `emit` writes it (RFC 9293, 3.10.7.4, seventh).
 pub fn what_is_owed_is_told()
     ensures { OwedIsTold }
 {}

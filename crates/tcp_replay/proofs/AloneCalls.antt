@@ -1,6 +1,7 @@
 -- ONE END by itself: a segment that arrives, whatever is judged of it, and the user's calls and the timers.
 use Rattle.std.proofs.Common.{ℕ, ⊎_elim, ◌&&◌, ◌++◌, ◌+◌, ◌-◌, ◌<◌, ◌==◌, ◌^◌, ◌||◌, ◌∙◌, ◌≡◌, ◌≤◌, ap, arith, Bool, false, IfSome, length, length-drop, List}
-use Rattle.std.proofs.Common.{max, nat_lt, None, not, Option, refl, replicate, Some, sym, take, true}
+use Rattle.std.proofs.Common.{max, min, nat_lt, None, not, Option, refl, replicate, Some, sym, take, true}
+use Rattle.tcp_replay.proofs.Words.{text_limit, with_first_resent}
 use Rattle.tcp_replay.proofs.Words.{Aborted, ack, advertised_window, after_judgement, after_peer_accepts, after_peer_opens, after_read, and_parts, AreBytes}
 use Rattle.tcp_replay.proofs.Words.{cond_both, Content, count_numbers, count_sendable, end_of_marks, end_of_marks-le, Ended, gives_up, has, has_peer, is_closed}
 use Rattle.tcp_replay.proofs.Words.{is_ended, is_full, is_handshake, is_listening, is_syn_sent, IsValid, Judgement, judgement, last_mark_end, length-replicate}
@@ -249,6 +250,12 @@ sends-all_resent d accepted closed gone h =
     let range : d.nxt ≤ max d.nxt (1 + length accepted) = omega arith in
     assumption
 
+sends-first_resent : (d : Sending) (accepted : List ℕ) (closed gone : Bool) (limit : ℕ) → Sends d accepted closed gone
+    → Sends (with_first_resent d limit) accepted closed gone
+sends-first_resent d accepted closed gone limit h =
+    let range : min d.nxt (d.una + limit) ≤ max d.nxt (1 + length accepted) = omega arith in
+    assumption
+
 mark_end-inside : (q : Queue) (end : ℕ) → last_mark_end q ≡ Some end → end ≤ length q.marks
 unfolding last_mark_end
 mark_end-inside q end =
@@ -307,5 +314,7 @@ alone-calls peer p port h =
       ends = λ e.
           let synced = time_wait-synchronized s.phase e in
           alone-orderly s p.accepted p.closed (end-synchronized s synced h.progress).0 h;
+      resends-first = λ _. alone-sending s p.accepted p.closed (with_first_resent d (text_limit s)) refl refl
+          (sends-first_resent d p.accepted p.closed (gives_up s.ending) (text_limit s) h.sends) h;
       emits = λ due _ out. out.alone;
     }

@@ -1,6 +1,7 @@
 -- WHAT IS DUE at one end by itself: it is what may go out, it can be written, it is of what its user sent, and the end keeps what it does.
-use Rattle.std.proofs.Common.{[], ℕ, ◌&&◌, ◌+◌, ◌-◌, ◌<◌, ◌==◌, ◌^◌, ◌∙◌, ◌≡◌, ◌≤◌, ap, arith, Bool, drop, false, IfSome, length, length-drop, length-take}
+use Rattle.std.proofs.Common.{[], ℕ, ◌&&◌, ◌+◌, ◌-◌, ◌<◌, ◌==◌, ◌^◌, ◌∙◌, ◌≡◌, ◌≤◌, ap, arith, Bool, drop, false, IfSome, is_some, length, length-drop, length-take, ◌||◌}
 use Rattle.std.proofs.Common.{List, max, min, nat_le, nat_lt, None, not, Option, refl, Some, subst, sym, take, true}
+use Rattle.tcp_replay.proofs.Words.{ack_alone}
 use Rattle.tcp_replay.proofs.Words.{ack_due, Acknowledgement, and_parts, AreBytes, cond_both, count_of, count_unsent, destination_of, drop-drop, Due, due_of}
 use Rattle.tcp_replay.proofs.Words.{end_of, end_of_text, eqb-true, false≢true, Fin, fin_of, FitsFields, gives_up, has_peer, is_fin, is_handshake, IsValid}
 use Rattle.tcp_replay.proofs.Words.{ltb-true, new_count, new_text_of, NewText, next_unmarked, option_or, owed_after, place_of, plain_segment}
@@ -402,3 +403,11 @@ due-alone s accepted closed h =
     (if-some-map (λ due. (sends_text s.phase ≡ true) × IsOut s.sending accepted closed due) P (text_due s) (λ due is. out-text s accepted closed due h is)
     (text-due s accepted closed h.config.good.1.1 h.closing (λ e. going-on s accepted closed e h) h.sends))
     (cond_both s.owed.ack (Some Acknowledgement) None (λ (o : Option Due). IfSome o P) (λ e. out-ack s accepted closed (h.ack e).0 (h.ack e).1 h) (λ _. tt))))
+
+-- and so does the acknowledgement alone
+pub ack-alone-goes : (s : State) (accepted : List ℕ) (closed : Bool) → IsAlone s accepted closed → IfSome (ack_alone s) (GoesOutAlone s accepted closed)
+unfolding ack_alone
+ack-alone-goes s accepted closed h =
+    let P : Option Due → Type 0 = λ o. IfSome o (GoesOutAlone s accepted closed) in
+    cond_both (is_some s.owed.reset || s.owed.syn) None (ack_due s.owed) P (λ _. tt)
+    (λ _. cond_both s.owed.ack (Some Acknowledgement) None P (λ e. out-ack s accepted closed (h.ack e).0 (h.ack e).1 h) (λ _. tt))

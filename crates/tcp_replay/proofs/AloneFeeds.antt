@@ -106,6 +106,7 @@ feeds-calls P Q peer p irs k a h =
           let synced = time_wait-synchronized s.phase e in
           let at = end-synchronized s synced a.progress in
           kept _ refl (sym (gives_up-not_ended s.ending at.0)) refl;
+      resends-first = λ _. kept _ refl refl refl;
       emits = λ _ _ _. kept _ refl refl refl;
     }
 

@@ -1,5 +1,7 @@
 -- THE CALLS, TIMERS AND EMISSIONS OF A PARTY, gone through once: what each has to keep, where it isn't refused.
+use Rattle.std.proofs.Common.{◌⊎◌, inl, inr}
 use Rattle.std.proofs.Common.{ℕ, ◌++◌, ◌||◌, ◌≡◌, append-nil, Bool, false, IfSome, is_ok, length, List, min, None, not, Ok, Option, refl, Some, take, true}
+use Rattle.tcp_replay.proofs.Words.{ack_alone, after_ack_alone, after_resend_first, text_limit, with_first_resent}
 use Rattle.tcp_replay.proofs.Words.{Aborted, after_abort, after_acknowledge, after_close, after_closing, after_connect, after_due, after_emission, after_gaps}
 use Rattle.tcp_replay.proofs.Words.{after_giving_up, after_listen, after_orderly_end, after_receive, after_reorder, after_retransmit, after_send}
 use Rattle.tcp_replay.proofs.Words.{after_time_wait, AlreadyOpen, answer_unless, AreBytes, bytes_unless, CallError, close_refusal, cond_both, count_sendable}
@@ -8,10 +10,11 @@ use Rattle.tcp_replay.proofs.Words.{not-false, NotEnded, open_refusal, opening_r
 use Rattle.tcp_replay.proofs.Words.{received_value, refusal_if, Reorder, Retransmit, send_refusal, Sending, sends_again, sends_text, State, state_after}
 use Rattle.tcp_replay.proofs.Words.{state_unless, takes_text, Timer, with_abort, with_all_resent, with_bytes_received, with_closing, with_connection}
 use Rattle.tcp_replay.proofs.Words.{with_gaps_resent, with_text}
+use Rattle.tcp_replay.proofs.WorldWords.{party_after_resend_first}
 use Rattle.tcp_replay.proofs.WorldWords.{front_taken, is_end_of_stream, IsAlone, party_after_abort, party_after_acknowledge, party_after_close}
 use Rattle.tcp_replay.proofs.WorldWords.{party_after_connect, party_after_listen, party_after_receive, party_after_send, party_after_timer, PartyState}
 use Rattle.tcp_conn.specs.declared.phase.Timer.TheVariants.{TimeWait}
-use Rattle.tcp_replay.proofs.AloneEmissions.{GoesOutAlone, due-alone}
+use Rattle.tcp_replay.proofs.AloneEmissions.{GoesOutAlone, ack-alone-goes, due-alone}
 use Rattle.tcp_replay.proofs.Phases.{not_ended}
 
 -- REFUSALS: a call that is refused changes nothing
@@ -68,6 +71,10 @@ with_closed p s closes = record p { endpoint = s; closed = p.closed || closes }
 abbrev pub owed_on_timeout : State → Owed
 owed_on_timeout s = record s.owed { syn = s.owed.syn || is_handshake s.phase; probe = s.owed.probe || needs_probe s }
 
+-- WHAT MAY GO OUT of an end: what is due, or the acknowledgement alone
+abbrev pub MayGoOut : State → Due → Type 0
+MayGoOut s due = (due_of s ≡ Some due) ⊎ (ack_alone s ≡ Some due)
+
 -- WHAT EACH HAS TO KEEP of party p, a connection being opened to this peer
 pub record KeptByCalls (peer : Peer) (p : PartyState) (P : PartyState → Type 0) : Type 0 where
   pub same : P p
@@ -89,7 +96,9 @@ pub record KeptByCalls (peer : Peer) (p : PartyState) (P : PartyState → Type 0
   pub fills : (end : ℕ) → sends_text p.endpoint.phase ≡ true → last_mark_end p.endpoint.sending.queue ≡ Some end
       → P (with_end p (record p.endpoint { sending = with_gaps_resent p.endpoint.sending end }))
   pub ends : is_time_wait p.endpoint.phase ≡ true → P (with_end p (after_orderly_end p.endpoint))
-  pub emits : (due : Due) → due_of p.endpoint ≡ Some due → GoesOutAlone p.endpoint p.accepted p.closed due → P (with_end p (state_after p.endpoint due))
+  pub resends-first : sends_again p.endpoint ≡ true
+      → P (with_end p (record p.endpoint { sending = with_first_resent p.endpoint.sending (text_limit p.endpoint) }))
+  pub emits : (due : Due) → MayGoOut p.endpoint due → GoesOutAlone p.endpoint p.accepted p.closed due → P (with_end p (state_after p.endpoint due))
 
 module _ (peer : Peer) (p : PartyState) (P : PartyState → Type 0) (h : KeptByCalls peer p P) where
   -- CONNECT, LISTEN
@@ -167,12 +176,25 @@ module _ (peer : Peer) (p : PartyState) (P : PartyState → Type 0) (h : KeptByC
       (on-gaps (last_mark_end p.endpoint.sending.queue) refl) (λ _. h.same)
   on-timer TimeWait = cond_both (is_time_wait p.endpoint.phase) (after_orderly_end p.endpoint) p.endpoint (λ (s : State). P (with_end p s)) h.ends (λ _. h.same)
 
-  -- EMIT
-  on-due : (due : Option Due) → due_of p.endpoint ≡ due → IfSome due (GoesOutAlone p.endpoint p.accepted p.closed) → P (with_end p (after_due p.endpoint due))
-  on-due None is out = h.same
-  on-due (Some due) is out = h.emits due is out
+  -- after the call that sends the first segment again
+  pub on-resend-first : P (party_after_resend_first p)
+  unfolding party_after_resend_first after_resend_first
+  on-resend-first =
+      cond_both (sends_again p.endpoint) (with_first_resent p.endpoint.sending (text_limit p.endpoint)) p.endpoint.sending
+      (λ (d : Sending). P (with_end p (record p.endpoint { sending = d }))) h.resends-first (λ _. h.same)
 
-  -- and after an emission
+  -- EMIT, by what goes out
+  pub on-due : (due : Option Due) → ((d : Due) → due ≡ Some d → MayGoOut p.endpoint d) → IfSome due (GoesOutAlone p.endpoint p.accepted p.closed)
+      → P (with_end p (after_due p.endpoint due))
+  on-due None may out = h.same
+  on-due (Some due) may out = h.emits due (may due refl) out
+
+  -- after an emission
   pub on-emission : IsAlone p.endpoint p.accepted p.closed → P (with_end p (after_emission p.endpoint))
   unfolding after_emission
-  on-emission alone = on-due (due_of p.endpoint) refl (due-alone p.endpoint p.accepted p.closed alone)
+  on-emission alone = on-due (due_of p.endpoint) (λ d e. inl e) (due-alone p.endpoint p.accepted p.closed alone)
+
+  -- and after that of the acknowledgement alone
+  pub on-ack-alone : IsAlone p.endpoint p.accepted p.closed → P (with_end p (after_ack_alone p.endpoint))
+  unfolding after_ack_alone
+  on-ack-alone alone = on-due (ack_alone p.endpoint) (λ d e. inr e) (ack-alone-goes p.endpoint p.accepted p.closed alone)

@@ -1,12 +1,14 @@
 -- EVERY EVENT of two sound ends, gone through once: deliveries, damage that is found, what was emitted, and what a fact of both has to keep.
 use Rattle.std.proofs.Common.{[], ℕ, ⊎_elim, ◌++◌, ◌+◌, ◌<◌, ◌==◌, ◌||◌, ◌∙◌, ◌≡◌, ◌≢◌, ◌≤◌, ap, append-nil, arith, bit_xor, Bool, Err, false, IfSome}
 use Rattle.std.proofs.Common.{if◌then◌else◌, length, List, nat_le, None, not, Ok, Option, option_map, option_to_list, refl, Result, slice_get, slice_index}
-use Rattle.std.proofs.Common.{Some, subst, sym, true}
+use Rattle.std.proofs.Common.{inl, inr, Some, subst, sym, true}
+use Rattle.tcp_replay.proofs.Words.{ack_alone}
 use Rattle.tcp_replay.proofs.Words.{ack, after_arrival, after_due, after_emission, after_judgement, after_reading, answer_to_reading, arrival_answer}
 use Rattle.tcp_replay.proofs.Words.{BadChecksum, bytes_of, Config, Content, decode_answer, decoded_damaged, decoded_encoded, DecodeError, destination_of}
 use Rattle.tcp_replay.proofs.Words.{differs_set, DiffersInOnePlace, Due, due_of, emitted_bytes, eqb-false, has, IsWire, IsWire_encoded, judgement, leb-false}
 use Rattle.tcp_replay.proofs.Words.{Malformed, next_wanted, position_of, rst, segment_of, slice_get-get_or, State, state_after, unwrap_or-slice_get, xor_assoc}
 use Rattle.tcp_replay.proofs.Words.{xor_of_8, xor_self, xor_zero_l}
+use Rattle.tcp_replay.proofs.WorldWords.{EmitAcknowledgement, party_after_ack_alone, party_after_resend_first, party_out, ResendFirst}
 use Rattle.tcp_replay.proofs.WorldWords.{A, Abort, Acknowledge, acks_late, address_of, AreOwn, AreSoundEnds, arrival_outcome, B, bytes_with_damage, Close}
 use Rattle.tcp_replay.proofs.WorldWords.{Connect, Damage, damage_refusal, Deliver, delivery_refusal, effect_of, Emit, EventContent, Expired, flags_in, HasBytes}
 use Rattle.tcp_replay.proofs.WorldWords.{is_expired, is_late, is_missing, IsOwn, IsSoundEnd, IsSoundPair, Listen, max_life, NoChange, NoSuchSegment, other}
@@ -16,11 +18,11 @@ use Rattle.tcp_replay.proofs.WorldWords.{PartyState, PlaceOutside, Receive, refu
 use Rattle.tcp_replay.proofs.WorldWords.{StepError, Timer, world_from, world_with_effect, WorldState}
 use Rattle.tcp_replay.proofs.Lists.{one_if-most, and-fails, or-fails}
 use Rattle.tcp_replay.proofs.Arrivals.{Comes, fair-judgement}
-use Rattle.tcp_replay.proofs.Emissions.{wanted-is, GoesOut, due-decodes, due-goes, seq-in}
-use Rattle.tcp_replay.proofs.AloneEmissions.{GoesOutAlone, due-alone}
+use Rattle.tcp_replay.proofs.Emissions.{wanted-is, GoesOut, goes-out, due-decodes, seq-in}
+use Rattle.tcp_replay.proofs.AloneEmissions.{GoesOutAlone, ack-alone-goes, due-alone, if-some-map}
 use Rattle.tcp_replay.proofs.Steps.{Kept, Moved, kept-same, pair-swapped, slice_get-more}
-use Rattle.tcp_replay.proofs.Calls.{KeptByCalls, on-abort, on-acknowledge, on-close, on-connect, on-emission, on-listen, on-receive, on-send, on-timer}
-use Rattle.tcp_replay.proofs.Calls.{with_end}
+use Rattle.tcp_replay.proofs.Calls.{KeptByCalls, MayGoOut, on-abort, on-acknowledge, on-close, on-connect, on-due, on-listen, on-receive, on-send, on-timer}
+use Rattle.tcp_replay.proofs.Calls.{on-resend-first, with_end}
 use Rattle.tcp_replay.proofs.Users.{sound-calls}
 use Rattle.tcp_replay.specs.declared.outcome.Outcome.TheVariants as outcomes
 
@@ -162,14 +164,14 @@ after-due : (s : State) (due : Option Due) → IfSome due (λ d. after_due s due
 after-due s None = tt
 after-due s (Some due) = refl
 
-speaks-due : (p q : PartyState) → IsSoundPair p q → Speaks p (party_after_emission p) q
-unfolding party_after_emission emitted_bytes after_emission
-speaks-due p q pair = record {
-  due = due_of p.endpoint;
+-- this goes out of p
+speaks-out : (p q : PartyState) (due : Option Due) → IsSoundPair p q → IfSome due (GoesOutAlone p.endpoint p.accepted p.closed) → Speaks p (party_out p due) q
+speaks-out p q due pair out = record {
+  due = due;
   sent = refl;
-  goes = due-goes p q pair;
-  out = due-alone p.endpoint p.accepted p.closed pair.there.alone;
-  after = after-due p.endpoint (due_of p.endpoint);
+  goes = if-some-map (GoesOutAlone p.endpoint p.accepted p.closed) (GoesOut p q) due (λ d alone. goes-out p q d pair alone) out;
+  out = out;
+  after = after-due p.endpoint due;
 }
 
 -- what an option has is one
@@ -264,23 +266,25 @@ moved-speaking p q s sent h =
     record { alone = e.alone; speaks = e.speaks; takes = e.takes; hands = e.hands; between = e.between; limit = e.limit } in
     record { here = here; config = h.config; grows = h.grows }
 
-emission-moved : (p q : PartyState) → IsSoundPair p q → Moved p (party_after_emission p) q
-unfolding party_after_emission
-emission-moved p q pair = moved-speaking p q _ _ (on-emission (address_of q) p _ (sound-calls p q pair) pair.there.alone)
-
 module _ (G K : PartyState → PartyState → Type 0) (Stays : PartyState → PartyState → State → List ℕ → Type 0) (h : PairKept G K Stays) where
   on-moved : (p p' q : PartyState) → IsSoundPair p q → K p q → p'.sent ≡ p.sent → Moved p p' q → Stays p q p'.endpoint p'.accepted → K p' q
   on-moved p p' q pair k same moved stays = h.moved p p' q pair moved (speaks-nothing p p' q same) stays k
 
-  emission-stays : (p q : PartyState) → Stays p q (after_emission p.endpoint) p.accepted
-      → Stays p q (party_after_emission p).endpoint (party_after_emission p).accepted
-  unfolding party_after_emission
-  emission-stays p q stays = stays
+  -- something goes out
+  on-out : (p q : PartyState) (due : Option Due) → ((d : Due) → due ≡ Some d → MayGoOut p.endpoint d) → IfSome due (GoesOutAlone p.endpoint p.accepted p.closed)
+      → IsSoundPair p q → K p q
+      → K (party_out p due) q
+  on-out p q due may out pair k =
+      h.moved p _ q pair (moved-speaking p q _ _ (on-due (address_of q) p _ (sound-calls p q pair) due may out)) (speaks-out p q due pair out)
+      (on-due (address_of q) p _ (h.calls p q pair k) due may out) k
 
   on-emitting : (p q : PartyState) → IsSoundPair p q → K p q → K (party_after_emission p) q
-  on-emitting p q pair k =
-      h.moved p _ q pair (emission-moved p q pair) (speaks-due p q pair)
-      (emission-stays p q (on-emission (address_of q) p _ (h.calls p q pair k) pair.there.alone)) k
+  unfolding party_after_emission emitted_bytes after_emission
+  on-emitting p q pair k = on-out p q (due_of p.endpoint) (λ d e. inl e) (due-alone p.endpoint p.accepted p.closed pair.there.alone) pair k
+
+  on-answering : (p q : PartyState) → IsSoundPair p q → K p q → K (party_after_ack_alone p) q
+  unfolding party_after_ack_alone
+  on-answering p q pair k = on-out p q (ack_alone p.endpoint) (λ d e. inr e) (ack-alone-goes p.endpoint p.accepted p.closed pair.there.alone) pair k
 
   -- a segment that the peer emitted arrives
   on-delivery : (p q : PartyState) (life k : ℕ) → life ≤ max_life → delivery_refusal life q p k ≡ None → G p q → IsSoundPair p q → K p q
@@ -305,7 +309,7 @@ module _ (G K : PartyState → PartyState → Type 0) (Stays : PartyState → Pa
   every-event : (life : ℕ) (p q : PartyState) (event : EventContent) → life ≤ max_life → HasBytes event → (effect_of life p q event).refusal ≡ None
       → G q p → IsSoundPair p q → K p q
       → K (effect_of life p q event).here (effect_of life p q event).there
-  unfolding effect_of party_after_connect party_after_listen party_after_send party_after_receive party_after_close party_after_abort party_after_acknowledge party_after_timer
+  unfolding effect_of party_after_connect party_after_listen party_after_send party_after_receive party_after_close party_after_abort party_after_acknowledge party_after_timer party_after_resend_first
   every-event life p q (Connect side) most fits e given pair k =
       on-moved p _ q pair k refl (on-connect _ p _ (sound-calls p q pair)) (on-connect _ p _ (h.calls p q pair k))
   every-event life p q (Listen side) most fits e given pair k =
@@ -323,6 +327,9 @@ module _ (G K : PartyState → PartyState → Type 0) (Stays : PartyState → Pa
   every-event life p q (Timer side which) most fits e given pair k =
       on-moved p _ q pair k refl (on-timer _ p _ (sound-calls p q pair) which) (on-timer _ p _ (h.calls p q pair k) which)
   every-event life p q (Emit side) most fits e given pair k = on-emitting p q pair k
+  every-event life p q (EmitAcknowledgement side) most fits e given pair k = on-answering p q pair k
+  every-event life p q (ResendFirst side) most fits e given pair k =
+      on-moved p _ q pair k refl (on-resend-first _ p _ (sound-calls p q pair)) (on-resend-first _ p _ (h.calls p q pair k))
   every-event life p q (Deliver from k) most fits e given pair kept =
       h.swapped _ _ (on-delivery q p life k most e given (pair-swapped _ _ pair) (h.swapped _ _ kept))
   every-event life p q (Damage from k place value) most fits e given pair kept =

@@ -69,6 +69,7 @@ hints-calls p q pair k =
           let synced = time_wait-synchronized s.phase e in
           let at = end-synchronized s synced pair.there.alone.progress in
           (λ _. h.0 (gives_up-not_ended s.ending at.0), h.1);
+      resends-first = λ _. h;
       emits = λ _ _ _. h;
     }
 

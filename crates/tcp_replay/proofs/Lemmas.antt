@@ -3,7 +3,7 @@ pub use Rattle.tcp_replay.proofs.Alone.{same-marks, same-news, same-window}
 pub use Rattle.tcp_replay.proofs.AloneCalls.{send-open, send-unclosed}
 pub use Rattle.tcp_replay.proofs.AloneEmissions.{due-alone, end-is, GoesOutAlone, going-on, IsSaid, option_or-both, range_after-ends}
 pub use Rattle.tcp_replay.proofs.Arrivals.{ack-to, acked_text-to, Comes, Fair, fair-judgement, on-arrival, own_syn-nxt}
-pub use Rattle.tcp_replay.proofs.Calls.{KeptByCalls, option_or-none, refusal_if-none}
+pub use Rattle.tcp_replay.proofs.Calls.{KeptByCalls, MayGoOut, option_or-none, refusal_if-none}
 pub use Rattle.tcp_replay.proofs.Emissions.{due-decodes, due-goes, GoesOut, plain-bits, reset-bit, seq-in, syn-bits, wanted-is}
 pub use Rattle.tcp_replay.proofs.Events.{after_segment, AllSaid, arrival-ok, Arrives, Both, both-swapped, comes, delivered-there, due-position, finds-damage}
 pub use Rattle.tcp_replay.proofs.Events.{in-world, own-decodes, PairKept, said-after, said-back, same-content, segment-sent, Speaks}

@@ -6,22 +6,18 @@ use Rattle.tcp_replay.proofs.Words.{bytes_of, bytes_unless, CallError, cond_both
 use Rattle.tcp_replay.proofs.Words.{emitted_bytes, EndOfStream, eqb-true, HasBadCapacity, HasBadLimit, HasBadMss, HasBadShift, Inbox, IsGoodConfig}
 use Rattle.tcp_replay.proofs.Words.{length_encoded, Nothing, pending_length, receive_answer, receive_refusal, Received, received_bytes, received_value}
 use Rattle.tcp_replay.proofs.Words.{segment_of, State, state_unless, take_at, takes_text, wire_length, with_bytes_received}
+use Rattle.tcp_replay.proofs.WorldWords.{outcome_out, party_out, segment_as}
 use Rattle.tcp_replay.proofs.WorldWords.{A, B, count_handed, emission_outcome, HasFault, NamesFault, party_after_emission, PartyState, segment_due, sent_by}
 use Rattle.tcp_replay.proofs.WorldWords.{SentSegment, Side, WorldError, WorldState}
 use Rattle.tcp_halves.specs.declared.config.ConfigError.TheVariants as faults
 use Rattle.tcp_replay.specs.declared.outcome.WorldError.TheVariants as worlds
 use Rattle.tcp_replay.specs.declared.outcome.Outcome.TheVariants as outcomes
 
--- EMISSION, by what is due
-nothing-as : (s : State) (due : Option Due) → option_map (λ d. wire_length (segment_of s d)) due ≡ None
-    → (s ≡ after_due s due) × (None ≡ option_map {U = List ℕ × List ℕ} (λ d. ((destination_of s d).addr.0, bytes_of s d)) due)
-nothing-as s None e = (refl, refl)
-nothing-as s (Some due) e = absurd (cc)
-
--- where no segment is pending an emission changes nothing
-pub emits_nothing : (s : State) → pending_length s ≡ None → (s ≡ after_emission s) × (None ≡ segment_due s)
-unfolding pending_length after_emission segment_due
-emits_nothing s e = nothing-as s (due_of s) e
+-- EMISSION, by what goes out: where nothing does, nothing changes
+pub emits_nothing : (s : State) (due : Option Due) → option_map (λ d. wire_length (segment_of s d)) due ≡ None
+    → (s ≡ after_due s due) × (None ≡ segment_as s due)
+emits_nothing s None e = (refl, refl)
+emits_nothing s (Some due) e = absurd (cc)
 
 -- the bytes in front are the segment's
 front-bytes : (s : State) (due : Due) (out : List ℕ)
@@ -35,43 +31,37 @@ front-bytes s due out =
 abbrev pub segment_to : List ℕ → List ℕ → Option (List ℕ × List ℕ)
 segment_to to bytes = Some (to, bytes)
 
-something-as : (s : State) (due : Option Due) (len : ℕ) (to room bytes : List ℕ) → option_map (λ d. wire_length (segment_of s d)) due ≡ Some len
+something-written : (s : State) (due : Option Due) (len : ℕ) (to room bytes : List ℕ) → option_map (λ d. wire_length (segment_of s d)) due ≡ Some len
     → Some to ≡ option_map (λ d. (destination_of s d).addr.0) due → bytes ≡ take len (buffer_with s due room)
-    → segment_to to bytes ≡ option_map {U = List ℕ × List ℕ} (λ d. ((destination_of s d).addr.0, bytes_of s d)) due
-something-as s None len to room bytes e f h = absurd (cc)
-something-as s (Some due) len to room bytes e f h =
+    → segment_to to bytes ≡ segment_as s due
+something-written s None len to room bytes e f h = absurd (cc)
+something-written s (Some due) len to room bytes e f h =
     let is : wire_length (segment_of s due) ≡ len = cc in
     let there : to ≡ (destination_of s due).addr.0 = cc in
     let text : bytes ≡ bytes_of s due = h ∙ ap (λ n. take n (buffer_with s (Some due) room)) (sym is) ∙ front-bytes s due room in
     ap (λ (a : List ℕ). segment_to a bytes) there ∙ ap (λ (b : List ℕ). segment_to (destination_of s due).addr.0 b) text
 
--- where one is, what is put out is the segment that is due
-pub emits_something : (s : State) (len : ℕ) (to room out bytes : List ℕ) → pending_length s ≡ Some len → Some to ≡ destination s → out ≡ buffer_after s room
-    → bytes ≡ take len out
-    → segment_to to bytes ≡ segment_due s
-unfolding pending_length destination buffer_after segment_due
-emits_something s len to room out bytes e f g h = something-as s (due_of s) len to room bytes e f (h ∙ ap (take len) g)
+-- where something does, what is put out is its segment
+pub emits_something : (s : State) (due : Option Due) (len : ℕ) (to room out bytes : List ℕ)
+    → option_map (λ d. wire_length (segment_of s d)) due ≡ Some len → Some to ≡ option_map (λ d. (destination_of s d).addr.0) due
+    → out ≡ buffer_with s due room → bytes ≡ take len out
+    → segment_to to bytes ≡ segment_as s due
+emits_something s due len to room out bytes e f g h = something-written s due len to room bytes e f (h ∙ ap (take len) g)
 
 -- of what goes out a party keeps the bytes
-due-bytes : (s : State) → emitted_bytes s ≡ option_map (λ (segment : List ℕ × List ℕ). segment.1) (segment_due s)
-unfolding emitted_bytes segment_due
-due-bytes s =
-    elim (due_of s) as (λ due. option_map (bytes_of s) due ≡ option_map (λ (segment : List ℕ × List ℕ). segment.1)
-    (option_map (λ d. ((destination_of s d).addr.0, bytes_of s d)) due)) [
-      | None ↦ refl
-      | Some due ↦ refl
-    ]
+due-bytes : (s : State) (due : Option Due) → option_map (bytes_of s) due ≡ option_map (λ (segment : List ℕ × List ℕ). segment.1) (segment_as s due)
+due-bytes s None = refl
+due-bytes s (Some due) = refl
 
 -- the party after an emission is what the definition says
-pub emission_is : (p : PartyState) (end : State) (sent : List SentSegment) (segment : Option (List ℕ × List ℕ)) → segment ≡ segment_due p.endpoint
-    → end ≡ after_emission p.endpoint
+pub emission_is : (p : PartyState) (due : Option Due) (end : State) (sent : List SentSegment) (segment : Option (List ℕ × List ℕ))
+    → segment ≡ segment_as p.endpoint due → end ≡ after_due p.endpoint due
     → sent ≡ p.sent ++ option_to_list (option_map (sent_by p.endpoint) (option_map (λ s. s.1) segment))
-    → record p { endpoint = end; sent = sent } ≡ party_after_emission p
-unfolding party_after_emission
-emission_is p end sent segment is e more =
-    let bytes : option_map (λ s. s.1) segment ≡ emitted_bytes p.endpoint = ap (option_map (λ s. s.1)) is ∙ sym (due-bytes p.endpoint) in
+    → record p { endpoint = end; sent = sent } ≡ party_out p due
+emission_is p due end sent segment is e more =
+    let bytes : option_map (λ s. s.1) segment ≡ option_map (bytes_of p.endpoint) due = ap (option_map (λ s. s.1)) is ∙ sym (due-bytes p.endpoint due) in
     ap (λ (s : State). record p { endpoint = s; sent = sent }) e ∙ ap
-    (λ (list : List SentSegment). record p { endpoint = after_emission p.endpoint; sent = list })
+    (λ (list : List SentSegment). record p { endpoint = after_due p.endpoint due; sent = list })
     (more ∙ ap (λ o. p.sent ++ option_to_list (option_map (sent_by p.endpoint) o)) bytes)
 
 counts-segment : (o : Option (List ℕ × List ℕ)) (n : ℕ) → option_map (λ _. n) o ≡ option_map (λ _. n) (option_map (λ s. s.1) o)
@@ -79,12 +69,12 @@ counts-segment None n = refl
 counts-segment (Some segment) n = refl
 
 -- and so is the outcome
-pub outcome_is : (p : PartyState) (n : ℕ) (segment : Option (List ℕ × List ℕ)) → segment ≡ segment_due p.endpoint → n ≡ length p.sent
-    → outcomes.Emitted (option_map (λ _. n) segment) ≡ emission_outcome p
-outcome_is p n segment is count =
+pub outcome_is : (p : PartyState) (due : Option Due) (n : ℕ) (segment : Option (List ℕ × List ℕ)) → segment ≡ segment_as p.endpoint due → n ≡ length p.sent
+    → outcomes.Emitted (option_map (λ _. n) segment) ≡ outcome_out p due
+outcome_is p due n segment is count =
     ap (λ k. outcomes.Emitted (option_map (λ _. k) segment)) count ∙ ap (λ o. outcomes.Emitted (option_map (λ _. length p.sent) o)) is
-    ∙ ap outcomes.Emitted (counts-segment (segment_due p.endpoint) (length p.sent)) ∙ ap (λ o. outcomes.Emitted (option_map (λ _. length p.sent) o))
-    (sym (due-bytes p.endpoint))
+    ∙ ap outcomes.Emitted (counts-segment (segment_as p.endpoint due) (length p.sent)) ∙ ap (λ o. outcomes.Emitted (option_map (λ _. length p.sent) o))
+    (sym (due-bytes p.endpoint due))
 
 -- RECEIVE: a buffer as long as what is unread serves as well as a longer one
 same-read : (q : Inbox) (room : ℕ) → after_read q (min room (length q.unread)) ≡ after_read q room

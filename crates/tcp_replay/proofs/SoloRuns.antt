@@ -2,26 +2,28 @@
 use Rattle.std.proofs.Common.{[], ℕ, ⊎_elim, ◌++◌, ◌+◌, ◌<◌, ◌^◌, ◌||◌, ◌∙◌, ◌∷◌, ◌≡◌, ap, append-nil, append_assoc, arith, Bool, Err, false, IfSome}
 use Rattle.std.proofs.Common.{if◌then◌else◌, is_some, List, None, Ok, Option, option_map, option_to_list, refl, Result, slice_get, Some, subst}
 use Rattle.std.proofs.Common.{sym, true}
+use Rattle.tcp_replay.proofs.Words.{ack_alone}
 use Rattle.tcp_replay.proofs.Words.{ack, after_arrival, after_reading, AllByRecursion, answer_unless, AreBytes, bytes_of, CallError, Config, Content}
 use Rattle.tcp_replay.proofs.Words.{count_sendable, decode_answer, decoded_encoded, decoded_valid, DecodeError, destination_of, Due, due_of, false≢true}
 use Rattle.tcp_replay.proofs.Words.{gives_up, has, is_acceptable_segment, is_foreign, IsConfig, new_end, number, Peer, Reset, rst, segment_of, send_refusal}
 use Rattle.tcp_replay.proofs.Words.{State, syn, Syn}
+use Rattle.tcp_replay.proofs.WorldWords.{party_after_resend_first, segment_alone}
 use Rattle.tcp_replay.proofs.WorldWords.{AcknowledgesInOrder, after_solo, Arrive, bytes_put_out, bytes_taken, Came, CameIn, count_come, count_in_order}
 use Rattle.tcp_replay.proofs.WorldWords.{end_after, front_taken, HandsOverWhatCame, HasRanges, is_close, IsAlone, IsOfUser, OneEndIsTrue, party_after_abort}
 use Rattle.tcp_replay.proofs.WorldWords.{party_after_acknowledge, party_after_close, party_after_connect, party_after_listen, party_after_receive}
 use Rattle.tcp_replay.proofs.WorldWords.{party_after_send, party_after_timer, PartyState, run_alone, segment_due, segment_emitted, SendsItsUsers, solo_run}
 use Rattle.tcp_replay.proofs.WorldWords.{solo_start, SoloContent, SoloState, TookSyn, wanted_position}
-use Rattle.tcp_replay.specs.SoloEvents.{Connect, Listen, Send, Receive, Close, Abort, Acknowledge, Timer, Emit}
+use Rattle.tcp_replay.specs.SoloEvents.{Connect, Listen, Send, Receive, Close, Abort, Acknowledge, Timer, Emit, EmitAcknowledgement, ResendFirst}
 use Rattle.tcp_replay.proofs.Lists.{by_test, one_if}
 use Rattle.tcp_replay.proofs.Steps.{of_user-grows, slice_get-more}
 use Rattle.tcp_replay.proofs.Alone.{alone-new}
 use Rattle.tcp_replay.proofs.AloneCalls.{alone-judgement, send-unclosed, IsAloneIn, alone-calls}
-use Rattle.tcp_replay.proofs.AloneEmissions.{IsSaid, GoesOutAlone, due-alone}
+use Rattle.tcp_replay.proofs.AloneEmissions.{IsSaid, GoesOutAlone, ack-alone-goes, due-alone}
 use Rattle.tcp_replay.proofs.Emissions.{syn-of_user, syn-opened, plain-of_user, reset-bit}
 use Rattle.tcp_replay.proofs.Judgements.{IsTaken}
 use Rattle.tcp_replay.proofs.Feeds.{AllText, ByNumber, text-of, text-at, text-front, IsFed, fed-new, fed-more, fed-any}
 use Rattle.tcp_replay.proofs.AloneFeeds.{Feeds, feeds-same, feeds-judgement, feeds-calls}
-use Rattle.tcp_replay.proofs.Calls.{or-false, KeptByCalls, on-abort, on-acknowledge, on-close, on-connect, on-emission, on-listen, on-receive, on-send}
+use Rattle.tcp_replay.proofs.Calls.{or-false, KeptByCalls, on-abort, on-acknowledge, on-close, on-ack-alone, on-connect, on-emission, on-listen, on-receive, on-resend-first, on-send}
 use Rattle.tcp_replay.proofs.Calls.{on-timer, with_end}
 
 -- an arrival is what its bytes are read as
@@ -65,7 +67,7 @@ module _ (x : SoloState) (P : PartyState → Type 0) (alone : IsAloneIn (party_i
     pub solo-step : (e : SoloContent) → HasRanges e
         → ((src dst bytes : List ℕ) → e ≡ Arrive src dst bytes → P (with_end (party_in x) (after_arrival x.endpoint src dst bytes)))
         → P (party_in (after_solo x e))
-    unfolding party_after_connect party_after_listen party_after_send party_after_receive party_after_close party_after_abort party_after_acknowledge party_after_timer
+    unfolding party_after_connect party_after_listen party_after_send party_after_receive party_after_close party_after_abort party_after_acknowledge party_after_timer party_after_resend_first
     solo-step (Connect addr port) fits arrives = nothing-added _ (on-connect _ (party_in x) P (calls _ fits))
     solo-step Listen fits arrives = nothing-added _ (on-listen _ (party_in x) P own-calls)
     solo-step (Send text) fits arrives = rw (append-nil x.delivered, or-false x.closed, or-false x.ended) (on-send _ (party_in x) P own-calls text fits)
@@ -75,6 +77,8 @@ module _ (x : SoloState) (P : PartyState → Type 0) (alone : IsAloneIn (party_i
     solo-step Acknowledge fits arrives = nothing-added _ (on-acknowledge _ (party_in x) P own-calls)
     solo-step (Timer which) fits arrives = nothing-added _ (on-timer _ (party_in x) P own-calls which)
     solo-step Emit fits arrives = nothing-added _ (on-emission _ (party_in x) P own-calls alone)
+    solo-step EmitAcknowledgement fits arrives = nothing-added _ (on-ack-alone _ (party_in x) P own-calls alone)
+    solo-step ResendFirst fits arrives = nothing-added _ (on-resend-first _ (party_in x) P own-calls)
     solo-step (Arrive src dst bytes) fits arrives = nothing-added _ (arrives src dst bytes refl)
 
 -- any event keeps what an end keeps by itself
@@ -146,14 +150,12 @@ emits-due s accepted closed to bytes (Some due) out e =
       says = due-says s accepted closed due out;
     }
 
-emits : (s : State) (accepted : List ℕ) (closed : Bool) (to bytes : List ℕ) → IsAlone s accepted closed → segment_due s ≡ Some (to, bytes)
-    → Emits s accepted closed to bytes
-unfolding segment_due
-emits s accepted closed to bytes h e = emits-due s accepted closed to bytes (due_of s) (due-alone s accepted closed h) e
-
-emission-is_due : (s : State) (e : SoloContent) (segment : List ℕ × List ℕ) → segment_emitted s e ≡ Some segment → (e ≡ Emit) × (segment_due s ≡ Some segment)
-emission-is_due s Emit segment is = (refl, is)
-emission-is_due s other segment is = absurd (cc)
+emits : (s : State) (accepted : List ℕ) (closed : Bool) (e : SoloContent) (to bytes : List ℕ) → IsAlone s accepted closed
+    → segment_emitted s e ≡ Some (to, bytes) → Emits s accepted closed to bytes
+unfolding segment_due segment_alone
+emits s accepted closed Emit to bytes h is = emits-due s accepted closed to bytes (due_of s) (due-alone s accepted closed h) is
+emits s accepted closed EmitAcknowledgement to bytes h is = emits-due s accepted closed to bytes (ack_alone s) (ack-alone-goes s accepted closed h) is
+emits s accepted closed other to bytes h is = absurd (cc)
 
 -- WHERE WHAT IT HAS CAME FROM stays so while more happens
 came-more : (list : List SoloContent) (e : SoloContent) → Came list → Came (list ++ e ∷ [])
@@ -355,7 +357,7 @@ sends-step c list x irs k e h n to bytes is =
     ⊎_elim
     (λ (old : slice_get x.emitted n ≡ Some (to, bytes)). let had = h.sends n to bytes old in (had.0, had.1, λ plain. more had.0 (had.2 plain)))
     (λ (new : segment_emitted s e ≡ Some (to, bytes)).
-    let out = emits s x.accepted x.closed to bytes h.alone (emission-is_due s e (to, bytes) new).1 in (
+    let out = emits s x.accepted x.closed e to bytes h.alone new in (
       out.content,
       subst (λ (c : Config). decode_answer c.addr.0 to bytes ≡ Ok out.content) h.config out.read,
       λ plain. more out.content (subst (λ (c : Config). IsOfUser c.isn.0 x.accepted x.closed out.content) h.config (out.says plain).own),
@@ -447,19 +449,19 @@ content-is e = cc
 acknowledges : (c : Config) (list : List SoloContent) → IsConfig c → AllByRecursion HasRanges list → AcknowledgesInOrder c list
 acknowledges c list is fits = record {
   irs = irs_of (solo_start c) 0 list;
-  told = λ front rest to bytes v whole due read plain acked.
-      let all = all-split front (Emit ∷ rest) (subst (AllByRecursion HasRanges) whole fits) in
+  told = λ front rest event to bytes v whole due read plain acked.
+      let all = all-split front (event ∷ rest) (subst (AllByRecursion HasRanges) whole fits) in
       let start = holds-new c is in
       let x = run_alone c front in
       let count : 0 + count_in_order (new_end c) front ≡ count_in_order (new_end c) front = omega arith in
       let irs = irs_of (solo_start c) 0 front in
       let there = reaches c [] front (solo_start c) 0 0 all.0 start in
-      let beyond = reaches c front (Emit ∷ rest) x irs (0 + count_in_order (new_end c) front) all.1 there.holds in
-      let out = emits x.endpoint x.accepted x.closed to bytes there.holds.alone due in
+      let beyond = reaches c front (event ∷ rest) x irs (0 + count_in_order (new_end c) front) all.1 there.holds in
+      let out = emits x.endpoint x.accepted x.closed event to bytes there.holds.alone due in
       let same : out.content ≡ v = content-is (sym out.read ∙ ap (λ (c : Config). decode_answer c.addr.0 to bytes) there.holds.config ∙ read) in
       let says = out.says (ap (λ (w : Content). has rst w.flags) same ∙ plain) in
       let told = says.told (ap (λ (w : Content). has ack w.flags) same ∙ acked) in
-      let one : irs_of (solo_start c) 0 list ≡ irs = ap (irs_of (solo_start c) 0) whole ∙ irs-split (solo_start c) 0 front (Emit ∷ rest) ∙
+      let one : irs_of (solo_start c) 0 list ≡ irs = ap (irs_of (solo_start c) 0) whole ∙ irs-split (solo_start c) 0 front (event ∷ rest) ∙
       beyond.stays told.0 in (
         subst (TookSyn c front) (sym one) (there.holds.taken told.0),
         ap (λ (w : Content). w.ack) (sym same) ∙ told.1 ∙ there.holds.fed.next told.0

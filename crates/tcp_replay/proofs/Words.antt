@@ -27,9 +27,9 @@ pub use Rattle.tcp_conn.specs.Calls.{opens_window, own_reset, phase_after_close,
 pub use Rattle.tcp_conn.specs.Calls.{reset_after_abort, send_refusal, state_unless, with_abort, with_bytes_received, with_closing, with_connection}
 unfoldable pub use Rattle.tcp_conn.specs.Calls.{after_abort, after_acknowledge, after_close, after_connect, after_listen, after_receive, after_send}
 pub use Rattle.tcp_conn.specs.Due.{ack_due, reset_due, syn_due, text_due, text_limit}
-unfoldable pub use Rattle.tcp_conn.specs.Due.{due_of}
+unfoldable pub use Rattle.tcp_conn.specs.Due.{ack_alone, due_of}
 pub use Rattle.tcp_conn.specs.Emission.{after_due, buffer_with, owed_after, state_after}
-unfoldable pub use Rattle.tcp_conn.specs.Emission.{after_emission, buffer_after, destination, emitted_bytes, pending_length}
+unfoldable pub use Rattle.tcp_conn.specs.Emission.{after_ack_alone, after_emission, buffer_after, destination, emitted_bytes, pending_length}
 pub use Rattle.tcp_conn.specs.Endings.{after_giving_up, after_orderly_end}
 pub use Rattle.tcp_conn.specs.Endpoint.{AlwaysHolds, FitsFields}
 pub use Rattle.tcp_conn.specs.Forms.{is_sack_offered, permission_options, plain_segment, reset_ack, scale_options, shift_offered, syn_options, syn_segment}
@@ -40,7 +40,7 @@ unfoldable pub use Rattle.tcp_conn.specs.Judgement.{phase_judgement, present_jud
 pub use Rattle.tcp_conn.specs.NewEnd.{new_end}
 pub use Rattle.tcp_conn.specs.State.{State, with_ack_owed}
 pub use Rattle.tcp_conn.specs.Timers.{after_gaps, marks_end, needs_probe, sends_again}
-unfoldable pub use Rattle.tcp_conn.specs.Timers.{after_reorder, after_retransmit, after_time_wait}
+unfoldable pub use Rattle.tcp_conn.specs.Timers.{after_reorder, after_resend_first, after_retransmit, after_time_wait}
 pub use Rattle.tcp_conn.specs.Windows.{advertised_window, max_window, own_shift, window_field, window_from}
 pub use Rattle.tcp_conn.specs.Writing.{destination_of}
 unfoldable pub use Rattle.tcp_conn.specs.Writing.{bytes_of}
@@ -65,7 +65,7 @@ pub use Rattle.tcp_halves.specs.Receiver.{HoldsWithin, Receiving, after_handing,
 pub use Rattle.tcp_halves.specs.Receiver.{with_syn, without_bytes}
 unfoldable pub use Rattle.tcp_halves.specs.Receiver.{after_text}
 pub use Rattle.tcp_halves.specs.Sender.{Sending, acks_more, acks_unsent, count_below, count_sendable, count_unsent, end_of_text, is_fin_acked, is_fin_sent}
-pub use Rattle.tcp_halves.specs.Sender.{is_newer, is_probe_needed, new_sending, place_of, position_at, with_acked, with_all_resent, with_gaps_resent}
+pub use Rattle.tcp_halves.specs.Sender.{is_newer, is_probe_needed, new_sending, place_of, position_at, with_acked, with_all_resent, with_first_resent, with_gaps_resent}
 pub use Rattle.tcp_halves.specs.Sender.{with_syn_acked, with_syn_sent, with_text, with_window, without_resend, without_text}
 unfoldable pub use Rattle.tcp_halves.specs.Sender.{after_ack, after_window_update}
 pub use Rattle.tcp_halves.specs.declared.config.Config.{Config}

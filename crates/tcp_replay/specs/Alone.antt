@@ -1,5 +1,5 @@
--- WHAT ONE END KEEPS BY ITSELF, whoever its peer is (RFC 9293, 3.3 and 3.4): how far it has come, what it queues of
--- what its user sent, and what it owes.
+-- THE INVARIANT OF ONE END BY ITSELF, whoever its peer is (RFC 9293, 3.3 and 3.4): how far it has come, what it queues of
+-- what its user sent, and what it has pending.
 use Rattle.std.specs.Prelude.{◌≡◌, ℕ, ◌+◌, ◌-◌, ◌^◌, ◌<◌, ◌≤◌, min, max, Bool, true, false, if◌then◌else◌, List, length, drop, IfSome}
 use Rattle.tcp_wire.specs.Checksum.{AreBytes}
 use Rattle.tcp_halves.specs.declared.link.WaitingReset.{WaitingReset}
@@ -12,13 +12,13 @@ use Rattle.tcp_halves.specs.Config.{IsConfig, stream_limit}
 use Rattle.tcp_conn.specs.State.{State, Sending}
 use Rattle.tcp_conn.specs.Phase.{has_peer, is_handshake, gives_up}
 
--- THE HALF THAT SENDS, against what was accepted
+-- THE HALF THAT SENDS, and what was accepted
 pub record Sends (s : Sending) (accepted : List ℕ) (closed gone : Bool) : Type 0 where
   pub order : s.una ≤ s.nxt
   -- nothing was sent but the SYN, what was accepted, and after a close the FIN
   pub most : s.nxt ≤ 1 + length accepted + (if closed then 1 else 0)
   pub limit : length accepted ≤ stream_limit
-  -- no more is unreleased than a queue holds, an end that gave up included
+  -- no more is unreleased than a queue holds, also after a reset or an abort
   pub capacity : s.queue.capacity ≤ max_capacity
   pub ahead : length accepted ≤ s.released + max_capacity
   pub bytes : AreBytes accepted
@@ -27,7 +27,7 @@ pub record Sends (s : Sending) (accepted : List ℕ) (closed gone : Bool) : Type
   -- and the rest is queued, until a reset or an abort
   pub queue : gone ≡ false → s.queue.bytes ≡ drop s.released accepted
   pub flags : length s.queue.marks ≡ length s.queue.bytes
-  -- what goes out again was sent, or is text
+  -- what has to be sent again was sent, or is text
   pub range : IfSome s.resend (λ range. range.end ≤ max s.nxt (1 + length accepted))
 
 -- HOW FAR AN END HAS COME, by its phase. Nothing was sent or taken:
@@ -40,7 +40,7 @@ pub record IsOpening (nxt : ℕ) (opened : Bool) : Type 0 where
   pub nxt_is : nxt ≡ 1
   pub not_opened : opened ≡ false
 
--- or its SYN that answers one;
+-- or its SYN that answers the peer's;
 pub record IsAnswering (nxt : ℕ) (opened finished : Bool) : Type 0 where
   pub nxt_is : nxt ≡ 1
   pub is_opened : opened ≡ true
@@ -70,23 +70,23 @@ FitsPhase Closing ending una nxt opened finished = (ending ≡ NotEnded) × IsDo
 FitsPhase LastAck ending una nxt opened finished = (ending ≡ NotEnded) × IsDone una opened
 FitsPhase TimeWait ending una nxt opened finished = (ending ≡ NotEnded) × IsDone una opened
 
--- a reset that waits can be written
+-- a waiting reset can be written
 pub record IsWritable (reset : WaitingReset) : Type 0 where
   pub port : reset.to.port < 2 ^ 16
   pub seq : reset.seq.0 < 2 ^ 32
   pub ack : IfSome reset.ack (λ seq. seq.0 < 2 ^ 32)
 
--- ONE END ALONE, against what its user sent and whether its user closed
+-- ONE END ALONE, with what its user sent and whether its user closed
 pub record IsAlone (s : State) (accepted : List ℕ) (closed : Bool) : Type 0 where
   pub config : IsConfig s.config
   pub closing : s.closing ≡ closed
   pub progress : FitsPhase s.phase s.ending s.sending.una s.sending.nxt s.receiving.opened s.receiving.finished
   pub port : has_peer s.phase ≡ true → s.peer.port < 2 ^ 16
-  -- a SYN is owed in the handshake alone, an acknowledgement to a peer whose SYN was taken
+  -- a SYN is pending in the handshake alone, an acknowledgement to a peer whose SYN was taken
   pub syn : s.owed.syn ≡ true → is_handshake s.phase ≡ true
   pub ack : s.owed.ack ≡ true → (has_peer s.phase ≡ true) × (s.receiving.opened ≡ true)
   pub reset : IfSome s.owed.reset IsWritable
   pub sends : Sends s.sending accepted closed (gives_up s.ending)
-  -- RCV.NXT fits its field, and before a SYN there is no FIN
+  -- RCV.NXT fits its field, and before the peer's SYN there is no FIN
   pub next : s.receiving.next < 2 ^ 32
   pub unopened : s.receiving.opened ≡ false → s.receiving.finished ≡ false

@@ -1,5 +1,6 @@
 pub mod Events
 pub mod SoloEvents
+pub mod Emissions
 pub mod World
 pub mod Solo
 pub mod Truthful

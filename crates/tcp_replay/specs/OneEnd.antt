@@ -1,5 +1,5 @@
--- WHAT HOLDS OF ONE END, over every list of events, whoever its peer is and whatever bytes arrive (RFC 9293, 3.4 and
--- 3.10.7): what it sends is its user's, what it hands over came, and what it acknowledges is in order.
+-- THE FACTS OF ONE END, over every list of events, whoever its peer is and whatever bytes arrive (RFC 9293, 3.4 and 3.10.7):
+-- what it sends is its user's, what it delivers came, and what it acknowledges is in order.
 use Rattle.std.specs.Prelude.{◌≡◌, ℕ, ◌+◌, ◌-◌, Bool, true, false, if◌then◌else◌, List, [], ◌∷◌, ◌++◌, length, Some, slice_get, Ok}
 use Rattle.std.specs.List.{AllByRecursion}
 use Rattle.tcp_wire.specs.Decoded.{decode_answer}
@@ -11,12 +11,12 @@ use Rattle.tcp_halves.specs.Config.{IsConfig}
 use Rattle.tcp_conn.specs.State.{State}
 use Rattle.tcp_conn.specs.NewEnd.{new_end}
 use Rattle.tcp_conn.specs.Judgement.{is_foreign, is_acceptable_segment}
-use Rattle.tcp_replay.specs.SoloEvents.{SoloContent, HasRanges, Emit, Arrive}
-use Rattle.tcp_replay.specs.Solo.{end_after, segment_due, run_alone}
+use Rattle.tcp_replay.specs.SoloEvents.{SoloContent, HasRanges, Arrive}
+use Rattle.tcp_replay.specs.Solo.{end_after, segment_emitted, run_alone}
 use Rattle.tcp_replay.specs.Truthful.{IsOfUser}
 
--- WHAT IT SENDS IS ITS USER'S: each segment that it emitted can be read, and unless it is a reset begins at a position
--- of its own direction, has the text that was accepted there, and FIN only after a close, behind all of it
+-- WHAT IT SENDS IS ITS USER'S: each segment that it emitted can be read. Unless it is a reset, it begins at a position of
+-- this end's direction and has the text that was accepted there. FIN comes only after a close, after all of the text
 abbrev pub SendsItsUsers : Config → List ℕ → Bool → List (List ℕ × List ℕ) → Type 0
 SendsItsUsers c accepted closed emitted =
     (k : ℕ) (to bytes : List ℕ) → slice_get emitted k ≡ Some (to, bytes)
@@ -33,7 +33,7 @@ pub record Came (list : List SoloContent) : Type 0 where
   pub content : Content
   pub read : decode_answer src dst bytes ≡ Ok content
 
--- THE SYN that the end took from its peer came, and its number is IRS (RFC 9293, 3.3.1): no SYN was taken before it
+-- THE PEER'S SYN that the end took came, and its number is IRS (RFC 9293, 3.3.1): no SYN was taken before it
 pub record TookSyn (c : Config) (list : List SoloContent) (irs : ℕ) : Type 0 where
   pub came : Came list
   pub is_syn : has syn came.content.flags ≡ true
@@ -41,8 +41,8 @@ pub record TookSyn (c : Config) (list : List SoloContent) (irs : ℕ) : Type 0 w
   pub after : (end_after (run_alone c came.front).endpoint (Arrive came.src came.dst came.bytes)).receiving.opened ≡ true
   pub number : irs ≡ came.content.seq
 
--- A BYTE with this number came, in a segment of this connection that was taken when it came: acceptable, neither a reset nor a SYN,
--- and with an acknowledgement (RFC 9293, 3.10.7.4, first to fifth)
+-- A BYTE with this number came, in a segment of this connection that was taken when it came: acceptable, neither a reset nor
+-- a SYN, and with ACK (RFC 9293, 3.10.7.4, first to fifth)
 pub record CameIn (c : Config) (list : List SoloContent) (n byte : ℕ) : Type 0 where
   pub came : Came list
   pub mine : is_foreign (run_alone c came.front).endpoint came.src came.dst came.content ≡ false
@@ -54,12 +54,12 @@ pub record CameIn (c : Config) (list : List SoloContent) (n byte : ℕ) : Type 0
   pub byte_is : slice_get came.content.text place ≡ Some byte
   pub number : n ≡ number came.content.seq place
 
--- WHAT IT HANDS OVER CAME: byte i as the byte with number IRS + 1 + i
+-- WHAT IT DELIVERS CAME: byte i as the byte with number IRS + 1 + i
 pub record HandsOverWhatCame (c : Config) (list : List SoloContent) (delivered : List ℕ) : Type 0 where
   pub irs : ℕ
   pub came : (i byte : ℕ) → slice_get delivered i ≡ Some byte → TookSyn c list irs × CameIn c list (number irs (1 + i)) byte
 
--- how many bytes come in order at an event: those by which it makes what is unread longer
+-- how many bytes come in order at an event: those that it adds to the unread ones
 abbrev pub count_come : State → SoloContent → ℕ
 count_come s event = length (end_after s event).receiving.inbox.unread - length s.receiving.inbox.unread
 
@@ -67,16 +67,16 @@ unfoldable pub count_in_order : State → List SoloContent → ℕ
 count_in_order s [] = 0
 count_in_order s (event ∷ events) = count_come s event + count_in_order (end_after s event) events
 
--- the next position that it wants after these events: after what came in order, and after the peer's FIN once it was
+-- the next position that it expects after these events: after what came in order, and after the peer's FIN once that was
 -- taken
 abbrev pub wanted_position : Config → List SoloContent → ℕ
 wanted_position c list = 1 + count_in_order (new_end c) list + (if (run_alone c list).endpoint.receiving.finished then 1 else 0)
 
--- WHAT IT ACKNOWLEDGES IS IN ORDER: at each emission, all that came in order by then and nothing else
+-- WHAT IT ACKNOWLEDGES IS IN ORDER: at each emission, all that came in order up to then and nothing else
 pub record AcknowledgesInOrder (c : Config) (list : List SoloContent) : Type 0 where
   pub irs : ℕ
-  pub told : (front rest : List SoloContent) (to bytes : List ℕ) (v : Content) → list ≡ front ++ Emit ∷ rest
-      → segment_due (run_alone c front).endpoint ≡ Some (to, bytes) → decode_answer c.addr.0 to bytes ≡ Ok v
+  pub told : (front rest : List SoloContent) (event : SoloContent) (to bytes : List ℕ) (v : Content) → list ≡ front ++ event ∷ rest
+      → segment_emitted (run_alone c front).endpoint event ≡ Some (to, bytes) → decode_answer c.addr.0 to bytes ≡ Ok v
       → has rst v.flags ≡ false → has ack v.flags ≡ true → TookSyn c front irs × (v.ack ≡ number irs (wanted_position c front))
 
 -- THE THEOREM OF ONE END

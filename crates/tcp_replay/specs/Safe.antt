@@ -1,4 +1,4 @@
--- THE HEADLINE: what holds of two ends after every list of events (RFC 9293, 3.3.1 and 3.4).
+-- THE HEADLINE: the facts of two ends after every list of events (RFC 9293, 3.3.1 and 3.4).
 use Rattle.std.specs.Prelude.{◌≡◌, ℕ, ◌+◌, ◌≤◌, Bool, true, false, if◌then◌else◌, List, ◌++◌, length, drop, Some, None, slice_get, Ok}
 use Rattle.tcp_wire.specs.Flags.{rst, has}
 use Rattle.tcp_wire.specs.Wire.{Content}
@@ -31,7 +31,7 @@ queue_of p = p.endpoint.sending.queue.bytes
 abbrev pub gave_up : PartyState → Bool
 gave_up p = gives_up p.endpoint.ending
 
--- the next position that it wants: after what came in order, and after the peer's FIN once it was taken
+-- the next position that it expects: after what came in order, and after the peer's FIN once that was taken
 abbrev pub next_position : PartyState → ℕ
 next_position p = 1 + p.endpoint.receiving.ordered + (if p.endpoint.receiving.finished then 1 else 0)
 
@@ -41,11 +41,10 @@ IsPrefix front whole = (rest : List ℕ) × (whole ≡ front ++ rest)
 
 -- the direction from x to y
 pub record IsSafeDirection (x y : PartyState) : Type 0 where
-  -- what y was handed, and what it has unread after that, is a prefix of what x accepted, as long as what came
-  -- in order
+  -- what was delivered to y's user, and then what y has unread, is a prefix of what x accepted, as long as what came in order
   pub handed : IsPrefix (y.delivered ++ unread_of y) x.accepted
   pub whole : gave_up y ≡ false → length (y.delivered ++ unread_of y) ≡ count_ordered y
-  -- end of stream comes only after a close, and after all
+  -- the end of the stream comes only after a close, and after all bytes
   pub ended : y.ended ≡ true → (x.closed ≡ true) × (y.delivered ≡ x.accepted)
   -- an acknowledgement releases only what y has had in order
   pub released : count_released x ≤ count_ordered y
@@ -53,7 +52,7 @@ pub record IsSafeDirection (x y : PartyState) : Type 0 where
   -- nothing else leaves the queue
   pub queued : gave_up x ≡ false → queue_of x ≡ drop (count_released x) x.accepted
 
--- what x can show, in the world where y is its peer
+-- the witness of x, in the world where y is its peer
 abbrev pub witness_of : PartyState → PartyState → Witness
 witness_of x y = record {
   iss = x.endpoint.config.isn.0;
@@ -66,13 +65,13 @@ witness_of x y = record {
   gave_up = gave_up x;
 }
 
--- each segment that x emitted is read as this
+-- a segment that x emitted is read as this
 abbrev pub IsSent : PartyState → PartyState → Content → Type 0
 IsSent x y v =
     (k : ℕ) × (g : SentSegment) × (slice_get x.sent k ≡ Some g) × (decode_answer x.endpoint.config.addr.0 y.endpoint.config.addr.0 g.bytes ≡ Ok v)
 
--- every segment that x emitted can be read, and what it says is true, unless it is a reset; and it is true at the positions that
--- the world keeps of it
+-- every segment that x emitted can be read, and what it says is true, unless it is a reset; and it is true at the positions
+-- that the world keeps of it
 abbrev pub EmitsTruth : PartyState → PartyState → Type 0
 EmitsTruth x y =
     (k : ℕ) (g : SentSegment) → slice_get x.sent k ≡ Some g
@@ -85,8 +84,9 @@ pub record IsSafe (w : WorldState) : Type 0 where
   pub emitted_there : EmitsTruth w.a w.b
   pub emitted_back : EmitsTruth w.b w.a
 
--- SELECTIVE ACKNOWLEDGEMENT (RFC 2018, 3 to 5) reports nothing but the truth, though nothing rests on it: each block that
--- x emitted is of positions that x has, and each byte that y's blocks marked at x is one that y has, unless it gave up.
+-- SELECTIVE ACKNOWLEDGEMENT (RFC 2018, 3 to 5) reports nothing but the truth, though no other promise depends on it. Each
+-- block that x emitted is of positions that x has. Each byte that y's blocks marked at x is one that y has, unless a reset or
+-- an abort discarded it.
 pub record HasTrueHints (x y : PartyState) : Type 0 where
   pub blocks : (v : Content) → IsSent x y v → HasTrueBlocks (witness_of x y) v
   pub marks : gave_up y ≡ false → (place : ℕ) → IsMarked x.endpoint.sending.queue place → HasPosition (witness_of y x) (position_at x.endpoint.sending place)
@@ -101,8 +101,8 @@ FindsDamage w =
     (event : EventContent) → IsDamage event → HasBytes event → refusal_of w event ≡ None
     → (outcome_of w event ≡ outcomes.Arrived (Malformed BadChecksum)) × (world_with_effect w event ≡ w)
 
--- THE HEADLINE, over every list of events: whatever two Configs the ends were made from, however long segments live, however
--- a run ended, and whether it stops at a refusal or goes on
+-- THE HEADLINE, over every list of events: whatever the Configs of the two ends, however long segments live, however a run
+-- ended, and whether it stops at a refusal or continues
 abbrev pub EveryRunIsSafe : Type 0
 EveryRunIsSafe =
     (life : ℕ) (a b : Config) (list : List EventContent) → life ≤ max_life → IsConfig a → IsConfig b → AllByRecursion HasBytes list

@@ -1,5 +1,5 @@
--- One end, what its user did and had, and what came of each event: the fold of calls, timers, emissions and arrivals
--- (RFC 9293, 3.10), whoever its peer is.
+-- One end, what its user did and got, and the outcome of each event: the fold of calls, timers, emissions and arrivals (RFC
+-- 9293, 3.10), whoever its peer is.
 use Rattle.std.specs.Prelude.{ℕ, Bool, false, ◌||◌, is_ok, List, [], ◌∷◌, ◌++◌, length, map, Vec, Option, None, Ok, option_to_list, option_map, ◌≡◌, ◌<◌}
 use Rattle.tcp_numbers.specs.declared.addr.Addr.{Addr}
 use Rattle.tcp_halves.specs.declared.config.Config.{Config}
@@ -7,10 +7,9 @@ use Rattle.tcp_halves.specs.Config.{IsGoodConfig}
 use Rattle.tcp_conn.specs.State.{State}
 use Rattle.tcp_conn.specs.NewEnd.{new_end}
 use Rattle.tcp_conn.specs.Calls.{opening_answer, after_connect, after_listen, send_answer, after_send, receive_answer, after_receive, received_bytes, close_answer, after_close, abort_answer, after_abort, after_acknowledge}
-use Rattle.tcp_conn.specs.Timers.{timer_answer, after_timer}
-use Rattle.tcp_conn.specs.Due.{due_of}
-use Rattle.tcp_conn.specs.Writing.{bytes_of, destination_of}
-use Rattle.tcp_conn.specs.Emission.{after_emission}
+use Rattle.tcp_conn.specs.Timers.{timer_answer, after_timer, sends_again, after_resend_first}
+use Rattle.tcp_conn.specs.Due.{due_of, ack_alone}
+use Rattle.tcp_conn.specs.Emission.{after_emission, after_ack_alone}
 use Rattle.tcp_conn.specs.Arrival.{arrival_answer, after_arrival}
 use Rattle.tcp_replay.specs.declared.outcome.Outcome.{Outcome}
 use Rattle.tcp_replay.specs.declared.outcome.Outcome.TheVariants as outcomes
@@ -18,20 +17,21 @@ use Rattle.tcp_replay.specs.declared.outcome.SoloError.{SoloError}
 use Rattle.tcp_replay.specs.declared.outcome.SoloError.TheVariants as solos
 use Rattle.tcp_replay.specs.declared.outcome.StepError.TheVariants.{NoMemory}
 use Rattle.tcp_replay.specs.declared.solo_log.SoloLog.{SoloLog}
-use Rattle.tcp_replay.specs.SoloEvents.{SoloContent, Connect, Listen, Send, Receive, Close, Abort, Acknowledge, Timer, Emit, Arrive}
+use Rattle.tcp_replay.specs.SoloEvents.{SoloContent, Connect, Listen, Send, Receive, Close, Abort, Acknowledge, Timer, Emit, EmitAcknowledgement, ResendFirst, Arrive}
+use Rattle.tcp_replay.specs.Emissions.{segment_as}
 use Rattle.tcp_replay.specs.World.{front_taken, is_end_of_stream}
 
 pub record SoloState : Type 0 where
   pub endpoint : State
-  -- what `send` took, and what `receive` put out
+  -- what `send` accepted, and what `receive` delivered
   pub accepted : List ℕ
   pub delivered : List ℕ
-  -- a `close` was answered Ok; the end of the stream was handed over
+  -- a `close` was accepted; the end of the stream was delivered
   pub closed : Bool
   pub ended : Bool
   -- the address that each emitted segment goes to, and its bytes
   pub emitted : List (List ℕ × List ℕ)
-  -- what came of each event
+  -- the outcome of each event
   pub outcomes : List Outcome
 
 abbrev pub solo_start : Config → SoloState
@@ -48,9 +48,11 @@ end_after s Abort = after_abort s
 end_after s Acknowledge = after_acknowledge s
 end_after s (Timer which) = after_timer s which
 end_after s Emit = after_emission s
+end_after s EmitAcknowledgement = after_ack_alone s
+end_after s ResendFirst = after_resend_first s
 end_after s (Arrive src dst bytes) = after_arrival s src dst bytes
 
--- the bytes that an event's `send` takes, and that its `receive` puts out
+-- the bytes that an event's `send` accepts, and that its `receive` delivers
 abbrev pub bytes_taken : State → SoloContent → List ℕ
 bytes_taken s (Send text) = front_taken (send_answer s text) text
 bytes_taken s other = []
@@ -59,7 +61,7 @@ abbrev pub bytes_put_out : State → SoloContent → List ℕ
 bytes_put_out s (Receive room) = received_bytes s room
 bytes_put_out s other = []
 
--- it is a `close` that is answered Ok; a `receive` that hands over the end of the stream
+-- it is a `close` that is accepted; a `receive` that delivers the end of the stream
 abbrev pub is_close : State → SoloContent → Bool
 is_close s Close = is_ok (close_answer s)
 is_close s other = false
@@ -68,15 +70,20 @@ abbrev pub hands_end : State → SoloContent → Bool
 hands_end s (Receive room) = is_end_of_stream (receive_answer s room)
 hands_end s other = false
 
--- the segment that is due: whom it goes to, and its bytes
+-- the segment that is due: its destination, and its bytes
 unfoldable pub segment_due : State → Option (List ℕ × List ℕ)
-segment_due s = option_map (λ due. ((destination_of s due).addr.0, bytes_of s due)) (due_of s)
+segment_due s = segment_as s (due_of s)
+
+-- that of the acknowledgement alone
+unfoldable pub segment_alone : State → Option (List ℕ × List ℕ)
+segment_alone s = segment_as s (ack_alone s)
 
 abbrev pub segment_emitted : State → SoloContent → Option (List ℕ × List ℕ)
 segment_emitted s Emit = segment_due s
+segment_emitted s EmitAcknowledgement = segment_alone s
 segment_emitted s other = None
 
--- what comes of an event where so many segments were emitted before
+-- the outcome of an event where this many segments were emitted before
 abbrev pub solo_outcome : State → ℕ → SoloContent → Outcome
 solo_outcome s count (Connect addr port) = outcomes.Call (opening_answer s)
 solo_outcome s count Listen = outcomes.Call (opening_answer s)
@@ -87,6 +94,8 @@ solo_outcome s count Abort = outcomes.Call (abort_answer s)
 solo_outcome s count Acknowledge = outcomes.Call (Ok tt)
 solo_outcome s count (Timer which) = outcomes.Timer (timer_answer s which)
 solo_outcome s count Emit = outcomes.Emitted (option_map (λ _. count) (segment_due s))
+solo_outcome s count EmitAcknowledgement = outcomes.Emitted (option_map (λ _. count) (segment_alone s))
+solo_outcome s count ResendFirst = outcomes.Timer (sends_again s)
 solo_outcome s count (Arrive src dst bytes) = outcomes.Arrived (arrival_answer s src dst bytes)
 
 -- ONE EVENT, whether its call is refused or not
@@ -101,7 +110,7 @@ after_solo x e = record {
   outcomes = x.outcomes ++ solo_outcome x.endpoint (length x.emitted) e ∷ [];
 }
 
--- ALL EVENTS of a list, in turn
+-- ALL EVENTS of a list, in order
 unfoldable pub solo_run : SoloState → List SoloContent → SoloState
 solo_run x [] = x
 solo_run x (event ∷ events) = solo_run (after_solo x event) events
@@ -110,7 +119,7 @@ solo_run x (event ∷ events) = solo_run (after_solo x event) events
 abbrev pub run_alone : Config → List SoloContent → SoloState
 run_alone c list = solo_run (solo_start c) list
 
--- ---- what the code answers
+-- ---- what the code returns
 
 -- addresses and bytes of the segments in a list of the code
 abbrev pub segments : {A : Type 0} → List (Addr × Vec ℕ A) → List (List ℕ × List ℕ)
@@ -125,8 +134,8 @@ pub record IsLogOf {A : Type 0} (log : SoloLog A) (x : SoloState) : Type 0 where
   pub ended : log.ended ≡ x.ended
   pub endpoint : log.endpoint ≡ x.endpoint
 
--- A FAULT is of the Config, or names an event of the list for which no memory was found: each event makes the log grow,
--- by its outcome
+-- A FAULT is of the Config, or names an event of the list for which there was no memory: each event makes the log grow, by
+-- its outcome
 abbrev pub IsWantOfMemory : Config → ℕ → SoloError → Type 0
 IsWantOfMemory c count (solos.Config fault) = Unit {0}
 IsWantOfMemory c count (solos.At index error) = IsGoodConfig c × (index < count) × (error ≡ NoMemory)

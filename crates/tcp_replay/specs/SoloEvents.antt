@@ -1,4 +1,4 @@
--- What can happen to one end, as numbers and lists: a SoloEvent of the code says one of these (RFC 9293, 3.10).
+-- The events of one end, as numbers and lists: a SoloEvent of the code is one of these (RFC 9293, 3.10).
 use Rattle.std.specs.Prelude.{ℕ, ◌<◌, ◌^◌, List}
 use Rattle.tcp_wire.specs.Checksum.{AreBytes}
 use Rattle.tcp_conn.specs.declared.phase.Timer.{Timer as Which}
@@ -16,6 +16,8 @@ pub data SoloContent : Type 0 where
   Acknowledge : SoloContent
   Timer : Which → SoloContent
   Emit : SoloContent
+  EmitAcknowledgement : SoloContent
+  ResendFirst : SoloContent
   Arrive : List ℕ → List ℕ → List ℕ → SoloContent
 
 abbrev pub solo_content : SoloEvent → SoloContent
@@ -28,9 +30,11 @@ solo_content code.Abort = Abort
 solo_content code.Acknowledge = Acknowledge
 solo_content (code.Timer which) = Timer which
 solo_content code.Emit = Emit
+solo_content code.EmitAcknowledgement = EmitAcknowledgement
+solo_content code.ResendFirst = ResendFirst
 solo_content (code.Arrive src dst bytes) = Arrive src.0 dst.0 bytes.items
 
--- what an event brings along are bytes, and a port fits its field
+-- the content of an event is bytes, and a port fits its field
 abbrev pub HasRanges : SoloContent → Type 0
 HasRanges (Connect addr port) = port < 2 ^ 16
 HasRanges (Send bytes) = AreBytes bytes

@@ -1,5 +1,5 @@
--- What keeps two ends safe from event to event (RFC 9293, 3.3 and 3.4): more than is promised. What each keeps by itself
--- is in Alone; here is what ties the two together.
+-- The invariant that keeps two ends safe from event to event (RFC 9293, 3.3 and 3.4): more than is promised. The invariant of
+-- each end by itself is in Alone; this is what connects the two.
 use Rattle.std.specs.Prelude.{◌≡◌, ℕ, ◌+◌, ◌≤◌, Bool, true, false, if◌then◌else◌, List, ◌++◌, length, take, drop, IfSome, Some, slice_get, Ok}
 use Rattle.tcp_wire.specs.Position.{number}
 use Rattle.tcp_wire.specs.Flags.{rst, has}
@@ -15,32 +15,32 @@ use Rattle.tcp_replay.specs.Truthful.{Witness, HasPosition, IsTrueBlock, StandsA
 use Rattle.tcp_replay.specs.Safe.{witness_of, gave_up, next_position}
 use Rattle.tcp_replay.specs.Alone.{IsAlone}
 
--- THE HALF THAT RECEIVES, against what was accepted at the other end: what came in order, and what is held
+-- THE HALF THAT RECEIVES, and what was accepted at the other end: what came in order, and what is kept out of order
 pub record Takes (r : Receiving) (irs : ℕ) (accepted : List ℕ) (closed : Bool) : Type 0 where
   -- RCV.NXT is the number of the next position
   pub next : r.opened ≡ true → r.next ≡ number irs (1 + r.ordered + (if r.finished then 1 else 0))
   pub unopened : r.opened ≡ false → (r.next ≡ 0) × (r.ordered ≡ 0) × (r.finished ≡ false)
   pub order : r.ordered ≤ length accepted
-  -- the FIN was taken in its turn
+  -- the FIN was taken in order
   pub fin : r.finished ≡ true → (closed ≡ true) × (r.ordered ≡ length accepted)
   pub held : Agrees r.inbox.held (drop r.ordered accepted)
 
--- WHAT ITS USER WAS HANDED, against what was accepted at the other end
+-- WHAT WAS DELIVERED TO ITS USER, and what was accepted at the other end
 pub record HandsOver (unread : List ℕ) (ordered : ℕ) (accepted : List ℕ) (closed : Bool) (delivered : List ℕ) (ended gone : Bool) : Type 0 where
-  -- that and what is unread is a prefix of the other end's text, all that came in order unless it was given up
+  -- that, and then what is unread, is a prefix of the other end's text: all that came in order unless it was discarded
   pub count : ℕ
   pub handed : delivered ++ unread ≡ take count accepted
   pub least : count ≤ ordered
   pub whole : gone ≡ false → count ≡ ordered
-  -- the end of the stream was handed over after all of it
+  -- the end of the stream was delivered after all of it
   pub all_handed : ended ≡ true → (closed ≡ true) × (delivered ≡ accepted)
 
--- WHOM AN END SPEAKS TO is at this address: its peer, and where a waiting reset goes
+-- THE DESTINATION of an end is at this address: its peer, and where a waiting reset goes
 pub record SpeaksTo (s : State) (addr : List ℕ) : Type 0 where
   pub peer : has_peer s.phase ≡ true → s.peer.addr.0 ≡ addr
   pub reset : IfSome s.owed.reset (λ reset. reset.to.addr.0 ≡ addr)
 
--- ONE END and its user, against the other end
+-- ONE END and its user, with the other end
 pub record IsSoundEnd (x y : PartyState) : Type 0 where
   pub alone : IsAlone x.endpoint x.accepted x.closed
   pub speaks : SpeaksTo x.endpoint y.endpoint.config.addr.0
@@ -50,7 +50,7 @@ pub record IsSoundEnd (x y : PartyState) : Type 0 where
   pub between : x.endpoint.sending.una ≤ next_position y
   pub limit : length x.accepted ≤ x.endpoint.config.limit
 
--- what x emitted: a segment, and it is truthful at the positions that are kept of it, unless it is a reset
+-- what x emitted: a segment that is truthful at the positions that are kept of it, unless it is a reset
 pub record IsOwn (x y : PartyState) (g : SentSegment) : Type 0 where
   pub content : Content
   pub valid : IsValid content
@@ -71,7 +71,7 @@ pub record IsSoundPair (x y : PartyState) : Type 0 where
 abbrev pub AreSoundEnds : WorldState → Type 0
 AreSoundEnds w = IsSoundPair w.a w.b
 
--- a block tells of positions from the one on that was wanted next
+-- a block is of positions from the one on that was expected next
 abbrev pub IsBlockBehind : Witness → ℕ → ℕ × ℕ → Type 0
 IsBlockBehind x wanted block = (is : IsTrueBlock x block) × (wanted ≤ is.0)
 
@@ -79,7 +79,7 @@ IsBlockBehind x wanted block = (is : IsTrueBlock x block) × (wanted ≤ is.0)
 abbrev pub AreBlocksBehind : Witness → ℕ → List (ℕ × ℕ) → Type 0
 AreBlocksBehind x wanted blocks = (k : ℕ) (block : ℕ × ℕ) → slice_get blocks k ≡ Some block → IsBlockBehind x wanted block
 
--- WHAT x REPORTS of held bytes is true, as is what it marked of y's reports
+-- WHAT x REPORTS as kept out of order is true, and so is what it marked of y's reports
 pub record KeepsHints (x y : PartyState) : Type 0 where
   pub blocks : (k : ℕ) (g : SentSegment) (v : Content) → slice_get x.sent k ≡ Some g → decode_answer x.endpoint.config.addr.0 y.endpoint.config.addr.0 g.bytes ≡ Ok v
       → gave_up x ≡ false → AreBlocksBehind (witness_of x y) g.wanted (reported_blocks v.options)
@@ -89,8 +89,8 @@ pub record KeepBothHints (x y : PartyState) : Type 0 where
   pub there : KeepsHints x y
   pub back : KeepsHints y x
 
--- WHAT A WORLD KEEPS: its ends are sound, what they report of held bytes is true, and no segment outlives the nearness of
--- numbers. Safety rests on the first and the last alone.
+-- THE INVARIANT OF A WORLD: its ends are sound, what they report as kept out of order is true, and no segment outlives the
+-- nearness of numbers. Safety depends on the first and the last alone.
 pub record IsSound (w : WorldState) : Type 0 where
   pub ends : AreSoundEnds w
   pub hints : KeepBothHints w.a w.b

@@ -1,5 +1,5 @@
--- What a segment may say (RFC 9293, 3.4; RFC 2018, 3 and 4): nothing of its own stream but what was
--- accepted for it, and nothing of the other stream but what has come.
+-- What a segment may say (RFC 9293, 3.4; RFC 2018, 3 and 4): nothing of its own stream but what was accepted for it, and
+-- nothing of the other stream but what has come.
 use Rattle.std.specs.Prelude.{◌≡◌, ℕ, ◌+◌, ◌-◌, ◌<◌, ◌≤◌, ◌⊎◌, Bool, true, false, ◌==◌, if◌then◌else◌, List, [], length, take, drop, Option, Some, slice_get}
 use Rattle.tcp_wire.specs.Position.{number}
 use Rattle.tcp_wire.specs.Flags.{fin, syn, ack, has}
@@ -7,22 +7,22 @@ use Rattle.tcp_wire.specs.Wire.{Content}
 use Rattle.tcp_reasm.specs.Reassembly.{Cell}
 use Rattle.tcp_conn.specs.Blocks.{reported_blocks}
 
--- what one end can show when it speaks
+-- what a segment of one end is compared with
 pub record Witness : Type 0 where
-  -- the initial numbers of its own direction and of the peer's
+  -- the initial numbers of this end's direction and of the peer's
   pub iss : ℕ
   pub irs : ℕ
   -- the bytes that its user sent, and whether its user closed
   pub accepted : List ℕ
   pub closed : Bool
-  -- whether it took the peer's SYN, the next position that it wants, and what it holds from there on
+  -- whether it took the peer's SYN, the next position that it expects, and what it keeps from there on
   pub opened : Bool
   pub next : ℕ
   pub held : List (Option Cell)
-  -- whether it gave up what it held, by a reset or an abort
+  -- whether it discarded what it kept, by a reset or an abort
   pub gave_up : Bool
 
--- a position of the peer's direction that the end has: below the next, or held
+-- a position of the peer's direction that the end has: below the next, or kept out of order
 abbrev pub HasPosition : Witness → ℕ → Type 0
 HasPosition x p = (p < x.next) ⊎ ((cell : Cell) × (x.next ≤ p) × (slice_get x.held (p - x.next) ≡ Some (Some cell)))
 
@@ -34,11 +34,11 @@ IsTrueBlock x block =
 abbrev pub AreTrueBlocks : Witness → List (ℕ × ℕ) → Type 0
 AreTrueBlocks x blocks = (k : ℕ) (block : ℕ × ℕ) → slice_get blocks k ≡ Some block → IsTrueBlock x block
 
--- the blocks of a segment, unless the end gave up what it held
+-- the blocks of a segment, unless the end discarded what it kept
 abbrev pub HasTrueBlocks : Witness → Content → Type 0
 HasTrueBlocks x v = x.gave_up ≡ false → AreTrueBlocks x (reported_blocks v.options)
 
--- an acknowledgement is the number of a position up to the next one that the end wants
+-- an acknowledgement is the number of a position up to the next one that the end expects
 pub record IsTrueAck (x : Witness) (ack : ℕ) : Type 0 where
   pub opened : x.opened ≡ true
   pub position : ℕ
@@ -46,7 +46,7 @@ pub record IsTrueAck (x : Witness) (ack : ℕ) : Type 0 where
   pub most : position ≤ x.next
   pub number : ack ≡ number x.irs position
 
--- WHAT A SEGMENT WITHOUT RST SAYS OF ITS OWN STREAM, against what the user sent and whether the user closed
+-- THE STATEMENT OF A SEGMENT WITHOUT RST ABOUT ITS OWN STREAM, compared with what the user sent and whether the user closed
 pub record IsOfUser (iss : ℕ) (accepted : List ℕ) (closed : Bool) (v : Content) : Type 0 where
   pub position : ℕ
   pub seq : v.seq ≡ number iss position
@@ -66,7 +66,7 @@ pub record IsTruthful (x : Witness) (v : Content) : Type 0 where
   pub own : IsOfUser x.iss x.accepted x.closed v
   pub has_ack : has ack v.flags ≡ true → IsTrueAck x v.ack
 
--- and it says so at these positions of the two directions
+-- and it is true at these positions of the two directions
 pub record StandsAt (x : Witness) (v : Content) (position wanted : ℕ) : Type 0 where
   pub truth : IsTruthful x v
   pub position_is : truth.own.position ≡ position

@@ -1,4 +1,4 @@
--- Two ends and all that they emitted, what happens to them at an event (RFC 9293, 3.10), and runs of events.
+-- Two ends and all that they emitted, the effect of an event on them (RFC 9293, 3.10), and runs of events.
 use Rattle.std.specs.Prelude.{◌≡◌, ℕ, suc, ◌^◌, Bool, true, false, ◌||◌, ◌==◌, nat_le, bit_xor, if◌then◌else◌, is_ok, List, [], ◌∷◌, ◌++◌, length, take, Option, Some, None, unwrap_or, option_to_list, option_map, slice_get, slice_set, slice_index, Result, Ok, Err, IfErr, ◌↔◌, ◌≤◌, ◌+◌, ◌&&◌, not}
 use Rattle.byteorder.specs.Endian.{big_from}
 use Rattle.tcp_wire.specs.Flags.{rst, ack, has}
@@ -16,8 +16,11 @@ use Rattle.tcp_halves.specs.Config.{default_limit, HasBadCapacity, HasBadMss, Ha
 use Rattle.tcp_conn.specs.NewEnd.{new_end}
 use Rattle.tcp_halves.specs.Receiver.{next_wanted}
 use Rattle.tcp_conn.specs.Calls.{opening_answer, after_connect, after_listen, send_answer, after_send, receive_answer, after_receive, received_bytes, close_answer, after_close, abort_answer, after_abort, after_acknowledge}
-use Rattle.tcp_conn.specs.Timers.{timer_answer, after_timer}
-use Rattle.tcp_conn.specs.Emission.{emitted_bytes, after_emission}
+use Rattle.tcp_conn.specs.Timers.{timer_answer, after_timer, sends_again, after_resend_first}
+use Rattle.tcp_halves.specs.declared.due.Due.{Due}
+use Rattle.tcp_conn.specs.Due.{ack_alone}
+use Rattle.tcp_conn.specs.Writing.{bytes_of}
+use Rattle.tcp_conn.specs.Emission.{emitted_bytes, after_due, after_emission}
 use Rattle.tcp_conn.specs.Arrival.{arrival_answer, after_arrival}
 use Rattle.tcp_replay.specs.declared.event.Side.{Side}
 use Rattle.tcp_replay.specs.declared.event.Side.TheVariants.{A, B}
@@ -27,16 +30,16 @@ use Rattle.tcp_replay.specs.declared.outcome.WorldError.{WorldError}
 use Rattle.tcp_replay.specs.declared.outcome.WorldError.TheVariants as worlds
 use Rattle.tcp_replay.specs.declared.outcome.StepError.{StepError}
 use Rattle.tcp_replay.specs.declared.outcome.StepError.TheVariants.{NoSuchSegment, NoChange, PlaceOutside, Expired}
-use Rattle.tcp_replay.specs.Events.{EventContent, side_of, Connect, Listen, Send, Receive, Close, Abort, Acknowledge, Timer, Emit, Deliver, Damage}
+use Rattle.tcp_replay.specs.Events.{EventContent, side_of, Connect, Listen, Send, Receive, Close, Abort, Acknowledge, Timer, Emit, EmitAcknowledgement, ResendFirst, Deliver, Damage}
 
--- a segment that was emitted, and the positions at which it was: that of its sequence number in its own direction, and the next
--- that the end wanted of the other, which it acknowledges
+-- a segment that was emitted, and its positions then: that of its sequence number in its own direction, and the next that the
+-- end expected of the other direction, which it acknowledges
 pub record SentSegment : Type 0 where
   pub bytes : List ℕ
   pub position : ℕ
   pub wanted : ℕ
 
--- the sequence number and the control bits stand here (RFC 9293, 3.1)
+-- the offsets of the sequence number and of the control bits (RFC 9293, 3.1)
 abbrev pub seq_in : List ℕ → ℕ
 seq_in bytes = big_from 4 4 bytes
 
@@ -47,18 +50,18 @@ flags_in bytes = slice_index bytes 13
 abbrev pub sent_by : State → List ℕ → SentSegment
 sent_by s bytes = record { bytes = bytes; position = position_of s.config.isn.0 s.sending.una (seq_in bytes); wanted = next_wanted s.receiving }
 
--- one end, with what its user did and had, and every segment that it emitted
+-- one end, with what its user did and got, and every segment that it emitted
 pub record PartyState : Type 0 where
   pub endpoint : State
   pub sent : List SentSegment
-  -- what `send` took, and what `receive` put out
+  -- what `send` accepted, and what `receive` delivered
   pub accepted : List ℕ
   pub delivered : List ℕ
-  -- a `close` was answered Ok; the end of the stream was handed over
+  -- a `close` was accepted; the end of the stream was delivered
   pub closed : Bool
   pub ended : Bool
 
--- two ends, and how many positions a segment lives: one that an end has passed by so many is not delivered to it
+-- two ends, and the lifetime of a segment in positions: one that lies this far behind at an end isn't delivered to it
 pub record WorldState : Type 0 where
   pub life : ℕ
   pub a : PartyState
@@ -67,7 +70,7 @@ pub record WorldState : Type 0 where
 abbrev pub both : ℕ → PartyState → PartyState → WorldState
 both life a b = record { life = life; a = a; b = b }
 
--- the longest lifetime: with it any number means one position alone (RFC 9293, 3.4)
+-- the longest lifetime: with it any number is that of one position alone (RFC 9293, 3.4)
 abbrev pub max_life : ℕ
 max_life = 2 ^ 31
 
@@ -80,7 +83,7 @@ new_world_with life a b = both life (new_party a) (new_party b)
 abbrev pub new_world : Config → Config → WorldState
 new_world a b = new_world_with max_life a b
 
--- ---- what happens at one party
+-- ---- the effect on one party
 
 abbrev pub address_of : PartyState → Peer
 address_of p = record { addr = p.endpoint.config.addr; port = p.endpoint.config.port }
@@ -91,7 +94,7 @@ party_after_connect p peer = record p { endpoint = after_connect p.endpoint peer
 unfoldable pub party_after_listen : PartyState → PartyState
 party_after_listen p = record p { endpoint = after_listen p.endpoint }
 
--- SEND: accepted is what the call took
+-- SEND: accepted is what the call accepted
 abbrev pub front_taken : Result ℕ CallError → List ℕ → List ℕ
 front_taken (Ok count) text = take count text
 front_taken (Err error) text = []
@@ -102,7 +105,7 @@ party_after_send p text = record p {
   accepted = p.accepted ++ front_taken (send_answer p.endpoint text) text;
 }
 
--- RECEIVE: delivered are the bytes that the call put out, as many as it answers
+-- RECEIVE: delivered are the bytes that the call delivered, as many as it answers
 abbrev pub count_handed : Result Received CallError → ℕ
 count_handed (Ok (Bytes count)) = count
 count_handed other = 0
@@ -130,14 +133,32 @@ party_after_acknowledge p = record p { endpoint = after_acknowledge p.endpoint }
 unfoldable pub party_after_timer : PartyState → Which → PartyState
 party_after_timer p timer = record p { endpoint = after_timer p.endpoint timer }
 
--- EMIT: a segment is appended to the list, which nothing leaves
+-- EMIT: a segment is appended to the list, from which nothing is removed
 unfoldable pub party_after_emission : PartyState → PartyState
 party_after_emission p = record p { endpoint = after_emission p.endpoint; sent = p.sent ++ option_to_list (option_map (sent_by p.endpoint) (emitted_bytes p.endpoint)) }
 
 abbrev pub emission_outcome : PartyState → Outcome
 emission_outcome p = outcomes.Emitted (option_map (λ _. length p.sent) (emitted_bytes p.endpoint))
 
--- ARRIVAL: bytes come from another party, with the true addresses
+-- what goes out is appended likewise, whatever of an end it is
+abbrev pub party_out : PartyState → Option Due → PartyState
+party_out p due = record p {
+  endpoint = after_due p.endpoint due;
+  sent = p.sent ++ option_to_list (option_map (sent_by p.endpoint) (option_map (bytes_of p.endpoint) due));
+}
+
+abbrev pub outcome_out : PartyState → Option Due → Outcome
+outcome_out p due = outcomes.Emitted (option_map (λ _. length p.sent) (option_map (bytes_of p.endpoint) due))
+
+-- EMIT AN ACKNOWLEDGEMENT alone
+unfoldable pub party_after_ack_alone : PartyState → PartyState
+party_after_ack_alone p = party_out p (ack_alone p.endpoint)
+
+-- RESEND FIRST: the first segment alone is to go out again
+unfoldable pub party_after_resend_first : PartyState → PartyState
+party_after_resend_first p = record p { endpoint = after_resend_first p.endpoint }
+
+-- ARRIVAL: bytes come from the other party, with the true addresses
 unfoldable pub party_after_arrival : PartyState → PartyState → List ℕ → PartyState
 party_after_arrival p from bytes = record p {
   endpoint = after_arrival p.endpoint from.endpoint.config.addr.0 p.endpoint.config.addr.0 bytes;
@@ -146,7 +167,7 @@ party_after_arrival p from bytes = record p {
 abbrev pub arrival_outcome : PartyState → PartyState → List ℕ → Outcome
 arrival_outcome p from bytes = outcomes.Arrived (arrival_answer p.endpoint from.endpoint.config.addr.0 p.endpoint.config.addr.0 bytes)
 
--- segment k of a party, none being without bytes, at the first positions
+-- segment k of a party; where there is none, one without bytes at the first positions
 abbrev pub sent_at : PartyState → ℕ → SentSegment
 sent_at p k = unwrap_or (slice_get p.sent k) (record { bytes = []; position = 0; wanted = 0 })
 
@@ -157,12 +178,12 @@ segment_at p k = (sent_at p k).bytes
 abbrev pub bytes_with_damage : List ℕ → ℕ → ℕ → List ℕ
 bytes_with_damage bytes place value = slice_set bytes place (bit_xor (slice_index bytes place) value)
 
--- REFUSALS of a delivery, want of memory aside, the first that applies
+-- REFUSALS of a delivery but that there is no memory, the first that applies
 abbrev pub is_missing : PartyState → ℕ → Bool
 is_missing p k = nat_le (length p.sent) k
 
--- THE LIFETIME of a segment is over where its position lies so far behind the next that its receiver wants, or its
--- acknowledgement so far behind the receiver's SND.UNA (RFC 9293, 3.4). A reset has none
+-- THE LIFETIME of a segment is over where its position lies that far behind the next that its receiver expects, or its
+-- acknowledgement that far behind the receiver's SND.UNA (RFC 9293, 3.4). A reset has none
 abbrev pub is_late : ℕ → State → SentSegment → Bool
 is_late life s g = nat_le (g.position + life) (next_wanted s.receiving)
 
@@ -186,7 +207,7 @@ damage_refusal life p q k place value =
     else (if nat_le (length (segment_at p k)) place then Some PlaceOutside
     else age_refusal life q.endpoint (sent_at p k)))
 
--- ---- what happens in the world
+-- ---- the effect on the world
 
 abbrev pub other : Side → Side
 other A = B
@@ -201,8 +222,8 @@ abbrev pub world_from : ℕ → Side → PartyState → PartyState → WorldStat
 world_from life A p q = both life p q
 world_from life B p q = both life q p
 
--- What comes of an event at the party whose side it names, here, and at the other one, there: why it is refused, want
--- of memory aside; where it isn't, both parties after it, and what is answered; and whether the world has to grow for it.
+-- The effect of an event on the party whose side it names, here, and on the other one, there: why it is refused, apart from
+-- memory; where it isn't, both parties after it, and the outcome; and whether the world has to grow for it.
 pub record Effect : Type 0 where
   pub refusal : Option StepError
   pub here : PartyState
@@ -213,7 +234,7 @@ pub record Effect : Type 0 where
 abbrev pub effect_here : PartyState → PartyState → Outcome → Bool → Effect
 effect_here here there outcome grows = record { refusal = None; here = here; there = there; outcome = outcome; grows = grows }
 
--- bytes come from here to the other side
+-- bytes are sent from here to the other side
 abbrev pub effect_there : PartyState → PartyState → List ℕ → Option StepError → Bool → Effect
 effect_there here there bytes refusal grows = record {
   refusal = refusal;
@@ -234,6 +255,8 @@ effect_of life p q (Abort side) = effect_here (party_after_abort p) q (outcomes.
 effect_of life p q (Acknowledge side) = effect_here (party_after_acknowledge p) q (outcomes.Call (Ok tt)) false
 effect_of life p q (Timer side which) = effect_here (party_after_timer p which) q (outcomes.Timer (timer_answer p.endpoint which)) false
 effect_of life p q (Emit side) = effect_here (party_after_emission p) q (emission_outcome p) true
+effect_of life p q (EmitAcknowledgement side) = effect_here (party_after_ack_alone p) q (outcome_out p (ack_alone p.endpoint)) true
+effect_of life p q (ResendFirst side) = effect_here (party_after_resend_first p) q (outcomes.Timer (sends_again p.endpoint)) false
 effect_of life p q (Deliver from k) = effect_there p q (segment_at p k) (delivery_refusal life p q k) false
 effect_of life p q (Damage from k place value) = effect_there p q (bytes_with_damage (segment_at p k) place value) (damage_refusal life p q k place value) true
 
@@ -241,11 +264,11 @@ effect_of life p q (Damage from k place value) = effect_there p q (bytes_with_da
 abbrev pub effect_in : WorldState → EventContent → Effect
 effect_in w e = effect_of w.life (party_of w (side_of e)) (party_of w (other (side_of e))) e
 
--- why an event is refused, want of memory aside
+-- why an event is refused, apart from memory
 abbrev pub refusal_of : WorldState → EventContent → Option StepError
 refusal_of w e = (effect_in w e).refusal
 
--- the world after one that isn't, and what is answered
+-- the world after one that isn't refused, and the outcome
 abbrev pub world_with_effect : WorldState → EventContent → WorldState
 world_with_effect w e = world_from w.life (side_of e) (effect_in w e).here (effect_in w e).there
 
@@ -258,7 +281,7 @@ grows_for w e = (effect_in w e).grows
 
 -- ---- runs
 
--- ONE EVENT, refused or not: what is answered, and the world after it
+-- ONE EVENT, refused or not: the answer, and the world after it
 abbrev pub answer_or : Option StepError → Outcome → Result Outcome StepError
 answer_or None outcome = Ok outcome
 answer_or (Some error) outcome = Err error
@@ -273,7 +296,7 @@ stay_or None here there = there
 abbrev pub world_after : WorldState → EventContent → WorldState
 world_after w e = stay_or (refusal_of w e) w (world_with_effect w e)
 
--- A RUN THAT GOES ON takes all its events in turn, refused ones too: the world after all of them
+-- A RUN THAT CONTINUES takes all its events in order, refused ones too: the world after all of them
 unfoldable pub world_after_all : WorldState → List EventContent → WorldState
 world_after_all w [] = w
 world_after_all w (event ∷ events) = world_after_all (world_after w event) events
@@ -296,7 +319,7 @@ unfoldable pub run_of : WorldState → List EventContent → WorldState
 run_of w [] = w
 run_of w (event ∷ events) = stay_or (refusal_of w event) w (run_of (world_with_effect w event) events)
 
--- Want of memory stops a run before an event for which the world has to grow: none before it is refused, nor it
+-- Where there is no memory a run stops before an event for which the world has to grow: none before it is refused, nor it
 -- itself, and all before it stay done.
 pub record StopsForMemory (w : WorldState) (list : List EventContent) (index : ℕ) (here : WorldState) : Type 0 where
   pub event : EventContent
@@ -311,7 +334,7 @@ pub record KeepsAllSegments (w : WorldState) : Type 0 where
   pub limit_of_a : w.a.endpoint.config.limit ≤ default_limit
   pub limit_of_b : w.b.endpoint.config.limit ≤ default_limit
 
--- FAULTS of two Configs: what can be made of them, and whose fault a refusal names. Memory aside, a fault of
+-- FAULTS of two Configs: whether a world can be made of them, and whose fault a refusal names. Apart from memory, a fault of
 -- the second is named only where the first has none.
 abbrev pub HasGoodConfigs : Config → Config → Type 0
 HasGoodConfigs a b = IsGoodConfig a × IsGoodConfig b
@@ -327,7 +350,7 @@ abbrev pub HasNamedFault : Config → Config → WorldError → Type 0
 HasNamedFault a b (worlds.Config A fault) = HasFault a fault
 HasNamedFault a b (worlds.Config B fault) = IsGoodConfig a × HasFault b fault
 
--- WHICH FAULT is answered: one that is there, and each of the first Config's as what it is
+-- THE FAULT that is returned is one of a Config, and each fault of the first Config is returned as what it is
 pub record NamesFault (a b : Config) (result : Result WorldState WorldError) : Type 0 where
   pub named : IfErr result (HasNamedFault a b)
   pub bad_capacity_of_a : (result ≡ Err (worlds.Config A faults.BadCapacity)) ↔ HasBadCapacity a

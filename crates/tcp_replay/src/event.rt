@@ -17,7 +17,7 @@ pub enum Side {
 impl Side {
     ghost use Rattle.tcp_replay.specs.Names.{side_name};
 
-    /// `A` or `B`. It is displayed so.
+    /// `A` or `B`; `Display` writes the same.
     #[must_use]
     pub fn name(self) -> &'static str
         ensures { result.now ≡ side_name self }
@@ -40,36 +40,39 @@ impl fmt::Display for Side {
     }
 }
 
-/// What can happen to the two ends. Its bytes may lie in other memory than theirs.
+/// An event of the two ends (RFC 9293, 3.10). Its bytes may lie in other memory than the world's.
 #[derive(Debug, Drop)]
 pub enum Event<A: Allocator = Global> {
-    /// The user of this side opens to the other side's address and port.
+    /// The user of this side opens a connection to the other side's address and port (RFC 9293, 3.10.1).
     Connect(Side),
-    /// The user of this side waits for the other one.
+    /// The user of this side waits for the other one (RFC 9293, 3.10.1).
     Listen(Side),
-    /// The user of this side sends these bytes.
+    /// The user of this side sends these bytes (RFC 9293, 3.10.2).
     Send(Side, Vec<u8, A>),
-    /// The user of this side asks for at most so many bytes.
+    /// The user of this side receives at most this many bytes (RFC 9293, 3.10.3).
     Receive(Side, usize),
-    /// The user of this side has no more to send.
+    /// The user of this side has no more to send (RFC 9293, 3.10.4).
     Close(Side),
-    /// The user of this side gives the connection up.
+    /// The user of this side aborts the connection (RFC 9293, 3.10.5).
     Abort(Side),
-    /// The user of this side has the window told now.
+    /// The user of this side makes an acknowledgement pending, which advertises the window (RFC 9293, 3.8.6.2.2).
     Acknowledge(Side),
-    /// A timer of this side runs out.
+    /// A timer of this side expires (RFC 9293, 3.10.8).
     Timer(Side, Timer),
     /// This side emits the segment that is due, if there is one.
     Emit(Side),
-    /// The segment of this number, from 0, that this side emitted arrives at the other side.
+    /// This side emits the acknowledgement that is pending, if one is, whatever else is due.
+    EmitAcknowledgement(Side),
+    /// This side sends the first segment in flight again, and nothing else of what is in flight.
+    ResendFirst(Side),
+    /// The segment of this number, from 0, that this side emitted arrives at the other side (RFC 9293, 3.10.7).
     Deliver(Side, usize),
-    /// It arrives with the byte at a place combined with a value by exclusive or: side, number, place and
-    /// value.
+    /// That segment arrives with one byte changed by exclusive or: side, number, offset of the byte, and value.
     Damage(Side, usize, usize, u8),
 }
 
 impl<A: Allocator> Event<A> {
-    /// The side whose user, timer or emission it names; of a delivery the side that emitted the segment.
+    /// The side whose user, timer or emission it names; for a delivery the side that emitted the segment.
     pub fn side(&self) -> Side
         ensures { result ≡ side_of (event_content self.now) }
     {
@@ -83,6 +86,8 @@ impl<A: Allocator> Event<A> {
             | Event::Acknowledge(side)
             | Event::Timer(side, _)
             | Event::Emit(side)
+            | Event::EmitAcknowledgement(side)
+            | Event::ResendFirst(side)
             | Event::Deliver(side, _)
             | Event::Damage(side, _, _, _) => *side,
         }

@@ -1,12 +1,12 @@
-//! Two ends of one TCP connection and every segment that either emitted, as one value: events go in, and
-//! after every list of them each user has been handed a prefix of what the other one sent.
+//! Two ends of one TCP connection and every segment that either emitted, as one value: events go in, and after every
+//! list of them a prefix of what one user sent was delivered to the other.
 //!
-//! - [`World`] takes an [`Event`] by `step`, which answers an [`Outcome`] or a [`StepError`], and lists of them by `run`; whatever
-//!   was emitted can be delivered, also late, again, or with one byte changed.
-//! - [`solo`] lets one end alone go through [`SoloEvent`]s, arrivals of any bytes among them, and answers a [`SoloLog`].
+//! - [`World`] takes an [`Event`] by `step`, which returns an [`Outcome`] or a [`StepError`], and lists of them by
+//!   `run`. Whatever was emitted can be delivered, also late, again, or with one byte changed.
+//! - [`solo`] runs one end alone through [`SoloEvent`]s, arrivals of any bytes among them, and returns a [`SoloLog`].
 //! - [`every_run_is_safe`] and [`one_end_is_true`] are the theorems, over every list of events.
 //!
-//! Left out: when anything happens. Laws of what is sure to go on stand in `tcp_progress`.
+//! Left out: when anything happens. Laws of what certainly progresses are in `tcp_progress`.
 #![tactic(auto)]
 
 mod event;

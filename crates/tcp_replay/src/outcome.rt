@@ -8,16 +8,16 @@ use std::error::Error;
 use std::fmt;
 use tcp_conn::{Arrival, CallError, ConfigError, Received};
 
-/// What came of an event.
+/// The outcome of an event.
 #[derive(Clone, Copy, Debug, PartialEq, Eq)]
 pub enum Outcome {
-    /// What `connect`, `listen`, `close` or `abort` answered; of `acknowledge` Ok.
+    /// The answer of `connect`, `listen`, `close` or `abort`; Ok for `acknowledge`.
     Call(Result<(), CallError>),
-    /// How many bytes `send` took.
+    /// How many bytes `send` accepted.
     Sent(Result<usize, CallError>),
-    /// What `receive` handed over.
+    /// What `receive` delivered.
     Got(Result<Received, CallError>),
-    /// Whether the timer's rule applied.
+    /// Whether the timer's rule applied; of `resend_first` whether anything was in flight.
     Timer(bool),
     /// The number of the segment that was emitted, if one was due.
     Emitted(Option<usize>),
@@ -25,23 +25,24 @@ pub enum Outcome {
     Arrived(Arrival),
 }
 
-/// Why an event can't happen, in the order in which the reasons are looked for. The world is as it was.
+/// Why an event is refused, in the order in which the reasons are looked for. The world is as it was.
 #[derive(Clone, Copy, Debug, PartialEq, Eq)]
 pub enum StepError {
     /// No segment of this number was emitted.
     NoSuchSegment,
     /// The value of a damage is 0.
     NoChange,
-    /// The place of a damage lies past the segment's end.
+    /// The offset of a damage is past the segment's end.
     PlaceOutside,
-    /// The lifetime of the segment is over: its position, or that of its acknowledgement, lies too far behind.
+    /// The lifetime of the segment is over: its position, or that of its acknowledgement, lies too far behind (RFC
+    /// 9293, 3.4).
     Expired,
-    /// A growth of the world found no memory.
+    /// There is no memory for the world to grow.
     NoMemory,
 }
 
 impl StepError {
-    /// The number under which the refusal is reported.
+    /// The number under which the refusal is reported, from 31 to 35.
     pub fn number(self) -> u8
         ensures { result ≡ step_error_number self }
     {
@@ -100,12 +101,12 @@ impl fmt::Display for WorldError {
 
 impl Error for WorldError {}
 
-/// Why one end can't be made, or doesn't go through all its events.
+/// Why one end can't be made, or doesn't take all its events.
 #[derive(Clone, Copy, Debug, PartialEq, Eq)]
 pub enum SoloError {
     /// The end can't be made.
     Config(ConfigError),
-    /// The event with this index, from 0, finds no memory: `StepError::NoMemory` alone occurs.
+    /// There is no memory for the event with this index, from 0: the error is always `StepError::NoMemory`.
     At(usize, StepError),
 }
 

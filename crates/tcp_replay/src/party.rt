@@ -2,9 +2,10 @@ ghost use Rattle.std.specs.Prelude.{◌≡◌, ◌<◌, ◌↔◌, ◌||◌, len
 ghost use Rattle.tcp_wire.specs.Checksum.{AreBytes};
 ghost use Rattle.tcp_halves.specs.Config.{HasBadCapacity, HasBadMss, HasBadShift, HasBadLimit, IsGoodConfig, IsConfig};
 ghost use Rattle.tcp_conn.specs.Calls.{opening_answer, send_answer, receive_answer, close_answer, abort_answer};
-ghost use Rattle.tcp_conn.specs.Timers.{timer_answer};
+ghost use Rattle.tcp_conn.specs.Timers.{sends_again, timer_answer};
 ghost use Rattle.tcp_conn.specs.Arrival.{arrival_answer};
-ghost use Rattle.tcp_replay.specs.World.{PartyState, new_party, address_of, party_after_connect, party_after_listen, party_after_send, is_end_of_stream, party_after_receive, party_after_close, party_after_abort, party_after_acknowledge, party_after_timer, party_after_emission, emission_outcome, party_after_arrival, arrival_outcome, sent_at, segment_at, bytes_with_damage, delivery_refusal, damage_refusal};
+ghost use Rattle.tcp_replay.specs.Emissions.{due_for};
+ghost use Rattle.tcp_replay.specs.World.{PartyState, new_party, address_of, party_after_connect, party_after_listen, party_after_send, is_end_of_stream, party_after_receive, party_after_close, party_after_abort, party_after_acknowledge, party_after_timer, party_after_resend_first, party_out, outcome_out, party_after_arrival, arrival_outcome, sent_at, segment_at, bytes_with_damage, delivery_refusal, damage_refusal};
 
 use crate::growth::{emit_for, receive_to, send_from};
 use crate::outcome::{Outcome, StepError};
@@ -13,19 +14,19 @@ use std::alloc::{AllocError, Allocator, Global};
 use std::marker::Model;
 use tcp_conn::{Arrival, CallError, Config, ConfigError, Endpoint, Received, Timer};
 
-/// One end, with what its user did and had, and every segment that it emitted.
+/// One end, with what its user did and got, and every segment that it emitted.
 #[derive(Debug, Drop)]
 pub(crate) struct Party<A: Allocator = Global> {
     pub(crate) endpoint: Endpoint<A>,
-    /// The segments that were emitted, in turn. Nothing leaves the list.
+    /// The segments that were emitted, in order. Nothing is removed from the list.
     pub(crate) sent: Vec<SentSegment<A>, A>,
-    /// The bytes that `send` took.
+    /// The bytes that `send` accepted.
     pub(crate) accepted: Vec<u8, A>,
-    /// The bytes that `receive` put out.
+    /// The bytes that `receive` delivered.
     pub(crate) delivered: Vec<u8, A>,
-    /// Whether a `close` was answered Ok.
+    /// Whether a `close` was accepted.
     pub(crate) closed: bool,
-    /// Whether the end of the stream was handed over.
+    /// Whether the end of the stream was delivered.
     pub(crate) ended: bool,
 }
 
@@ -37,7 +38,7 @@ impl<A: Allocator> Model for Party<A> {
     ghost view = { λ p. record { endpoint = p.endpoint; sent = p.sent.items; accepted = p.accepted.items; delivered = p.delivered.items; closed = p.closed; ended = p.ended } };
 }
 
-/// Whether the end of the stream was handed over, by this answer of a `receive` or before it.
+/// Whether the end of the stream was delivered, by this answer of a `receive` or before it.
 pub(crate) fn ended_by(ended: bool, answer: Result<Received, CallError>) -> bool
     ensures { result ≡ (ended || is_end_of_stream answer) }
 {
@@ -45,7 +46,7 @@ pub(crate) fn ended_by(ended: bool, answer: Result<Received, CallError>) -> bool
 }
 
 impl<A: Allocator + Copy> Party<A> {
-    /// A new end, of which nothing was asked yet.
+    /// A new end before any call.
     pub(crate) fn new_in(alloc: A, config: Config) -> Result<Self, ConfigError>
         ensures new { IfOk result (λ p. p ≡ new_party config) }
         ensures bad_capacity { (result ≡ Err ConfigError.BadCapacity) ↔ HasBadCapacity config }
@@ -75,7 +76,7 @@ impl<A: Allocator + Copy> Party<A> {
         Outcome::Call(self.endpoint.listen())
     }
 
-    /// The user sends. Memory for all of the text is taken first.
+    /// The user sends. Memory for all of the text is allocated first.
     #[tactic(auto, unfolding(crate::specs::World::party_after_send))]
     pub(crate) fn send(&mut self, text: &[u8]) -> Result<Outcome, StepError>
         ensures state { OnOk result (self.new ≡ party_after_send self.old text.now) }
@@ -88,7 +89,7 @@ impl<A: Allocator + Copy> Party<A> {
         Ok(Outcome::Sent(answer))
     }
 
-    /// The user receives at most so many bytes. Memory for what there is, is taken first.
+    /// The user receives at most `room` bytes. Memory for the unread bytes is allocated first.
     #[tactic(auto, unfolding(crate::specs::World::party_after_receive))]
     pub(crate) fn receive(&mut self, alloc: A, room: usize) -> Result<Outcome, StepError>
         ensures state { OnOk result (self.new ≡ party_after_receive self.old room) }
@@ -112,7 +113,7 @@ impl<A: Allocator + Copy> Party<A> {
         Outcome::Call(answer)
     }
 
-    /// The user gives the connection up.
+    /// The user aborts the connection.
     #[tactic(auto, unfolding(crate::specs::World::party_after_abort))]
     pub(crate) fn abort(&mut self) -> Outcome
         ensures state { self.new ≡ party_after_abort self.old }
@@ -121,7 +122,7 @@ impl<A: Allocator + Copy> Party<A> {
         Outcome::Call(self.endpoint.abort())
     }
 
-    /// The user has the window told now.
+    /// The user makes an acknowledgement pending.
     #[tactic(auto, unfolding(crate::specs::World::party_after_acknowledge))]
     pub(crate) fn acknowledge(&mut self) -> Outcome
         ensures state { self.new ≡ party_after_acknowledge self.old }
@@ -131,7 +132,7 @@ impl<A: Allocator + Copy> Party<A> {
         Outcome::Call(Ok(()))
     }
 
-    /// A timer runs out.
+    /// A timer expires.
     #[tactic(auto, unfolding(crate::specs::World::party_after_timer))]
     pub(crate) fn timer(&mut self, timer: Timer) -> Outcome
         ensures state { self.new ≡ party_after_timer self.old timer }
@@ -140,18 +141,27 @@ impl<A: Allocator + Copy> Party<A> {
         Outcome::Timer(self.endpoint.timer(timer))
     }
 
-    /// The end emits what is due. Memory for its bytes, and for them alone, is taken first.
-    #[tactic(auto, unfolding(crate::specs::World::party_after_emission))]
-    pub(crate) fn emit(&mut self, alloc: A) -> Result<Outcome, StepError>
-        ensures state { OnOk result (self.new ≡ party_after_emission self.old) }
-        ensures outcome { IfOk result (λ o. o ≡ emission_outcome self.old) }
+    /// Of what is in flight the first segment alone is to go out again.
+    #[tactic(auto, unfolding(crate::specs::World::party_after_resend_first))]
+    pub(crate) fn resend_first(&mut self) -> Outcome
+        ensures state { self.new ≡ party_after_resend_first self.old }
+        ensures outcome { result ≡ Outcome.Timer (sends_again self.old.endpoint) }
+    {
+        Outcome::Timer(self.endpoint.resend_first())
+    }
+
+    /// The end emits what is due, or the acknowledgement alone. Memory for its bytes, and for them alone, is allocated
+    /// first.
+    pub(crate) fn emit(&mut self, alloc: A, alone: bool) -> Result<Outcome, StepError>
+        ensures state { OnOk result (self.new ≡ party_out self.old (due_for alone self.old.endpoint)) }
+        ensures outcome { IfOk result (λ o. o ≡ outcome_out self.old (due_for alone self.old.endpoint)) }
         ensures err { OnErr result (self.new ≡ self.old) }
         ensures memory { IfErr result (λ e. e ≡ StepError.NoMemory) }
     {
         let initial = self.endpoint.config().isn;
         let una = self.endpoint.una();
         let wanted = self.endpoint.next();
-        let Some((_, bytes)) = emit_for(alloc, &mut self.endpoint, &mut self.sent)? else {
+        let Some((_, bytes)) = emit_for(alloc, &mut self.endpoint, alone, &mut self.sent)? else {
             return Ok(Outcome::Emitted(None));
         };
         let position = seq_in(&bytes).position(initial, una);
@@ -172,7 +182,7 @@ impl<A: Allocator + Copy> Party<A> {
         &self.sent[k]
     }
 
-    /// Bytes arrive from another party, with the true addresses.
+    /// Bytes arrive from the other party, with the true addresses.
     #[tactic(auto, unfolding(crate::specs::World::party_after_arrival))]
     fn take_in(&mut self, from: &Party<A>, bytes: &[u8]) -> Arrival
         ensures state { self.new ≡ party_after_arrival self.old from.now bytes.now }
@@ -184,7 +194,7 @@ impl<A: Allocator + Copy> Party<A> {
     }
 }
 
-/// The user of `party` opens to the address and port of `peer`.
+/// The user of `party` opens a connection to the address and port of `peer`.
 #[tactic(auto, unfolding(crate::specs::World::party_after_connect))]
 pub(crate) fn connect<A: Allocator + Copy>(party: &mut Party<A>, peer: &Party<A>) -> Outcome
     ensures state { party.new ≡ party_after_connect party.old (address_of peer.now) }
@@ -217,7 +227,7 @@ pub(crate) fn deliver<A: Allocator + Copy>(
     Ok(Outcome::Arrived(to.take_in(from, &segment.bytes)))
 }
 
-/// A copy of these bytes with the one at a place combined with a value by exclusive or.
+/// A copy of these bytes with the one at an offset changed by exclusive or with a value.
 fn damaged<A: Allocator>(
     alloc: A,
     bytes: &[u8],
@@ -232,8 +242,8 @@ fn damaged<A: Allocator>(
     Ok(copy)
 }
 
-/// Segment `k` of `from` arrives at `to` with the byte at a place combined with a value by exclusive or, unless its
-/// lifetime is over. Memory for the changed bytes is taken first.
+/// Segment `k` of `from` arrives at `to` with the byte at an offset changed by exclusive or with a value, unless its
+/// lifetime is over. Memory for the changed bytes is allocated first.
 pub(crate) fn damage<A: Allocator + Copy>(
     alloc: A,
     life: u32,

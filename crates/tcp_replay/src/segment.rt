@@ -1,4 +1,4 @@
-//! A segment that was emitted, and how long it lives.
+//! A segment that was emitted, and its lifetime.
 ghost use Rattle.std.specs.Prelude.{◌≡◌, ◌≤◌, ◌+◌, length, nat_le};
 ghost use Rattle.tcp_replay.specs.World.{flags_in, is_expired, seq_in};
 
@@ -8,13 +8,13 @@ use std::marker::Model;
 use tcp_conn::Endpoint;
 use tcp_wire::{Flags, Seq};
 
-/// A segment that was emitted, and the positions at which it was (RFC 9293, 3.4).
+/// A segment that was emitted, and its positions then (RFC 9293, 3.4).
 #[derive(Debug, Drop)]
 pub(crate) struct SentSegment<A: Allocator = Global> {
     pub(crate) bytes: Vec<u8, A>,
-    /// That of its sequence number, in the direction of the end that emitted it.
+    /// The position of its sequence number, in the direction of the end that emitted it.
     pub(crate) position: u64,
-    /// The next that this end wanted of the other direction.
+    /// The next position of the other direction that this end expected.
     pub(crate) wanted: u64,
 }
 
@@ -53,8 +53,8 @@ fn is_passed(position: u64, life: u32, next: u64) -> bool
 }
 
 impl<A: Allocator> SentSegment<A> {
-    /// Whether its lifetime is over at an end where it would arrive: its position lies `life` or more behind the next that is
-    /// wanted there, or its acknowledgement so far behind SND.UNA (RFC 9293, 3.4). A reset has no lifetime.
+    /// Whether its lifetime is over at an end where it would arrive. Its position lies `life` or more behind the next
+    /// that is expected there, or its acknowledgement that far behind SND.UNA (RFC 9293, 3.4). A reset has no lifetime.
     pub(crate) fn is_expired(&self, life: u32, to: &Endpoint<A>) -> bool
         ensures { result ≡ is_expired life to.now self.now }
     {

@@ -3,10 +3,11 @@ ghost use Rattle.tcp_wire.specs.Checksum.{AreBytes};
 ghost use Rattle.tcp_conn.specs.Arrival.{after_arrival, arrival_answer};
 ghost use Rattle.tcp_halves.specs.Config.{HasBadCapacity, HasBadMss, HasBadShift, HasBadLimit, IsGoodConfig, IsConfig};
 ghost use Rattle.tcp_conn.specs.Calls.{receive_answer, received_bytes, after_receive};
-ghost use Rattle.tcp_conn.specs.Emission.{after_emission};
+ghost use Rattle.tcp_conn.specs.Emission.{after_due};
 ghost use Rattle.tcp_conn.specs.NewEnd.{new_end};
 ghost use Rattle.tcp_replay.specs.OneEnd.{SendsItsUsers, HandsOverWhatCame, AcknowledgesInOrder};
-ghost use Rattle.tcp_replay.specs.Solo.{end_after, bytes_taken, bytes_put_out, hands_end, segment_due, segment_emitted, solo_outcome, run_alone, segments, IsLogOf, IsWantOfMemory};
+ghost use Rattle.tcp_replay.specs.Emissions.{due_for, segment_as};
+ghost use Rattle.tcp_replay.specs.Solo.{end_after, bytes_taken, bytes_put_out, hands_end, segment_emitted, solo_outcome, run_alone, segments, IsLogOf, IsWantOfMemory};
 ghost use Rattle.tcp_replay.specs.SoloEvents.{solo_content, HasRanges};
 ghost use Rattle.tcp_replay.specs.World.{is_end_of_stream};
 
@@ -18,24 +19,24 @@ use std::alloc::{Allocator, Global};
 use tcp_conn::{Config, ConfigError, Endpoint};
 use tcp_wire::Addr;
 
-/// What came of all events of one end.
+/// The outcomes of all events of one end.
 #[derive(Debug, Drop)]
 pub struct SoloLog<A: Allocator = Global> {
-    /// The bytes that `send` took.
+    /// The bytes that `send` accepted.
     pub accepted: Vec<u8, A>,
-    /// The bytes that `receive` put out.
+    /// The bytes that `receive` delivered.
     pub delivered: Vec<u8, A>,
-    /// Each segment that the end emitted, in turn: the address that it goes to, and its bytes.
+    /// Each segment that the end emitted, in order: the address that it goes to, and its bytes.
     pub emitted: Vec<(Addr, Vec<u8, A>), A>,
-    /// What came of each event, in turn. An emission gives the segment's number in `emitted`.
+    /// The outcome of each event, in order. An emission gives the segment's number in `emitted`.
     pub outcomes: Vec<Outcome, A>,
-    /// Whether the end of the stream was handed over.
+    /// Whether the end of the stream was delivered.
     pub ended: bool,
     /// The end after all events.
     pub endpoint: Endpoint<A>,
 }
 
-/// Bytes arrive, whoever wrote them.
+/// Bytes arrive, whoever sent them.
 fn arrive<A: Allocator>(endpoint: &mut Endpoint<A>, src: Addr, dst: Addr, bytes: &[u8]) -> Outcome
     ensures state { endpoint.new ≡ after_arrival endpoint.old src.0 dst.0 bytes.now }
     ensures outcome { result ≡ Outcome.Arrived (arrival_answer endpoint.old src.0 dst.0 bytes.now) }
@@ -45,7 +46,7 @@ fn arrive<A: Allocator>(endpoint: &mut Endpoint<A>, src: Addr, dst: Addr, bytes:
 }
 
 impl<A: Allocator + Copy> SoloLog<A> {
-    /// A new end, to which nothing has happened yet.
+    /// A new end before any event.
     fn new_in(alloc: A, config: Config) -> Result<Self, ConfigError>
         ensures endpoint { IfOk result (λ log. log.endpoint ≡ new_end config) }
         ensures accepted { IfOk result (λ log. log.accepted.items ≡ []) }
@@ -71,7 +72,7 @@ impl<A: Allocator + Copy> SoloLog<A> {
         })
     }
 
-    /// The user receives at most so many bytes.
+    /// The user receives at most `room` bytes.
     fn receive(&mut self, alloc: A, room: usize) -> Result<Outcome, StepError>
         ensures endpoint { OnOk result (self.new.endpoint ≡ after_receive self.old.endpoint room) }
         ensures delivered { OnOk result (self.new.delivered.items ≡ self.old.delivered.items ++ received_bytes self.old.endpoint room) }
@@ -85,15 +86,15 @@ impl<A: Allocator + Copy> SoloLog<A> {
         Ok(Outcome::Got(answer))
     }
 
-    /// The end emits what is due.
-    fn emit(&mut self, alloc: A) -> Result<Outcome, StepError>
-        ensures endpoint { OnOk result (self.new.endpoint ≡ after_emission self.old.endpoint) }
-        ensures emitted { OnOk result (segments self.new.emitted.items ≡ segments self.old.emitted.items ++ option_to_list (segment_due self.old.endpoint)) }
-        ensures outcome { IfOk result (λ o. o ≡ Outcome.Emitted (option_map (λ _. length self.old.emitted.items) (segment_due self.old.endpoint))) }
+    /// The end emits what is due, or the acknowledgement alone.
+    fn emit(&mut self, alloc: A, alone: bool) -> Result<Outcome, StepError>
+        ensures endpoint { OnOk result (self.new.endpoint ≡ after_due self.old.endpoint (due_for alone self.old.endpoint)) }
+        ensures emitted { OnOk result (segments self.new.emitted.items ≡ segments self.old.emitted.items ++ option_to_list (segment_as self.old.endpoint (due_for alone self.old.endpoint))) }
+        ensures outcome { IfOk result (λ o. o ≡ Outcome.Emitted (option_map (λ _. length self.old.emitted.items) (segment_as self.old.endpoint (due_for alone self.old.endpoint)))) }
         ensures others { (self.new.accepted ≡ self.old.accepted) × (self.new.delivered ≡ self.old.delivered) × (self.new.outcomes ≡ self.old.outcomes) × (self.new.ended ≡ self.old.ended) }
         ensures memory { IfErr result (λ e. e ≡ StepError.NoMemory) }
     {
-        let Some(segment) = emit_for(alloc, &mut self.endpoint, &mut self.emitted)? else {
+        let Some(segment) = emit_for(alloc, &mut self.endpoint, alone, &mut self.emitted)? else {
             return Ok(Outcome::Emitted(None));
         };
         let number = self.emitted.len();
@@ -101,7 +102,8 @@ impl<A: Allocator + Copy> SoloLog<A> {
         Ok(Outcome::Emitted(Some(number)))
     }
 
-    /// One event, all but its place among the outcomes.
+    /// Applies one event, but doesn't add its outcome.
+    #[tactic(auto, unfolding(crate::specs::Solo::segment_due, crate::specs::Solo::segment_alone, tcp_conn::specs::Emission::after_emission, tcp_conn::specs::Emission::after_ack_alone))]
     fn apply(&mut self, alloc: A, event: &SoloEvent) -> Result<Outcome, StepError>
         ensures endpoint { OnOk result (self.new.endpoint ≡ end_after self.old.endpoint (solo_content event.now)) }
         ensures accepted { OnOk result (self.new.accepted.items ≡ self.old.accepted.items ++ bytes_taken self.old.endpoint (solo_content event.now)) }
@@ -130,12 +132,14 @@ impl<A: Allocator + Copy> SoloLog<A> {
                 Ok(Outcome::Call(Ok(())))
             }
             SoloEvent::Timer(timer) => Ok(Outcome::Timer(self.endpoint.timer(*timer))),
-            SoloEvent::Emit => self.emit(alloc),
+            SoloEvent::Emit => self.emit(alloc, false),
+            SoloEvent::EmitAcknowledgement => self.emit(alloc, true),
+            SoloEvent::ResendFirst => Ok(Outcome::Timer(self.endpoint.resend_first())),
             SoloEvent::Arrive(src, dst, bytes) => Ok(arrive(&mut self.endpoint, *src, *dst, bytes)),
         }
     }
 
-    /// One event. Memory for its outcome is taken first.
+    /// Applies one event. Memory for its outcome is allocated first.
     fn step(&mut self, alloc: A, event: &SoloEvent) -> Result<(), StepError>
         ensures endpoint { OnOk result (self.new.endpoint ≡ end_after self.old.endpoint (solo_content event.now)) }
         ensures accepted { OnOk result (self.new.accepted.items ≡ self.old.accepted.items ++ bytes_taken self.old.endpoint (solo_content event.now)) }
@@ -153,8 +157,8 @@ impl<A: Allocator + Copy> SoloLog<A> {
     }
 }
 
-/// One end from its Config through all these events, whoever its peer is (RFC 9293, 3.10). A call that is refused is an
-/// outcome like any other. It stops only for want of memory.
+/// One end from its Config through all these events, whoever its peer is (RFC 9293, 3.10). A refused call is an outcome
+/// like any other. The error is of the Config, or that there is no memory.
 pub fn solo(alloc: Global, config: Config, events: &[SoloEvent]) -> Result<SoloLog, SoloError>
     // The log is the fold of calls, timers, emissions and arrivals over the events.
     ensures log { IfOk result (λ log. IsLogOf log (run_alone config (map solo_content events.now))) }
@@ -166,13 +170,13 @@ pub fn solo(alloc: Global, config: Config, events: &[SoloEvent]) -> Result<SoloL
     ensures bad_shift { (result ≡ Err (SoloError.Config ConfigError.BadShift)) ↔ HasBadShift config }
     ensures bad_limit { (result ≡ Err (SoloError.Config ConfigError.BadLimit)) ↔ HasBadLimit config }
     ensures good { (result ≡ Err (SoloError.Config ConfigError.NoMemory)) → IsGoodConfig config }
-    // Once the end is made, only memory can be wanting, at any of the events.
+    // Once the end is made, only memory can be missing, at any of the events.
     ensures fault { IfErr result (IsWantOfMemory config (length events.now)) }
 {
     solo_in(alloc, config, events)
 }
 
-/// The same with memory of this allocator.
+/// One end as of [`solo`], with memory of this allocator.
 pub fn solo_in<A: Allocator + Copy>(
     alloc: A,
     config: Config,
@@ -188,7 +192,7 @@ pub fn solo_in<A: Allocator + Copy>(
     ensures bad_shift { (result ≡ Err (SoloError.Config ConfigError.BadShift)) ↔ HasBadShift config }
     ensures bad_limit { (result ≡ Err (SoloError.Config ConfigError.BadLimit)) ↔ HasBadLimit config }
     ensures good { (result ≡ Err (SoloError.Config ConfigError.NoMemory)) → IsGoodConfig config }
-    // Once the end is made, only memory can be wanting, at any of the events.
+    // Once the end is made, only memory can be missing, at any of the events.
     ensures fault { IfErr result (IsWantOfMemory config (length events.now)) }
 {
     let mut log = match SoloLog::new_in(alloc, config) {

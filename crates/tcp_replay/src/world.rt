@@ -16,11 +16,11 @@ use tcp_wire::DecodeError;
 /// The longest lifetime of segments, in positions of a direction: 2^31 (RFC 9293, 3.4).
 pub const MAX_LIFE: u32 = 2_147_483_648;
 
-/// Two ends of one connection, with all that their users did and had, and every segment that was emitted.
+/// Two ends of one connection, with all that their users did and got, and every segment that was emitted.
 #[derive(Debug, Drop)]
 pub struct World<A: Allocator = Global> {
     alloc: A,
-    /// How many positions a segment lives, at most [`MAX_LIFE`].
+    /// The lifetime of a segment in positions, at most [`MAX_LIFE`].
     life: u32,
     a: Party<A>,
     b: Party<A>,
@@ -37,8 +37,8 @@ impl<A: Allocator> Model for World<A> {
     ghost invariant = { λ w. IsSound (both w.life w.a w.b) };
 }
 
-/// One event at the party whose side it names, and at the other one.
-#[tactic(auto, unfolding(crate::specs::World::effect_of))]
+/// Applies one event to the party whose side it names, and to the other one.
+#[tactic(auto, unfolding(crate::specs::World::effect_of, crate::specs::World::party_after_emission, crate::specs::World::party_after_ack_alone, tcp_conn::specs::Emission::after_emission, tcp_conn::specs::Emission::emitted_bytes))]
 fn step_at<A: Allocator + Copy, E: Allocator>(
     alloc: A,
     life: u32,
@@ -63,13 +63,15 @@ fn step_at<A: Allocator + Copy, E: Allocator>(
         Event::Abort(_) => Ok(here.abort()),
         Event::Acknowledge(_) => Ok(here.acknowledge()),
         Event::Timer(_, timer) => Ok(here.timer(*timer)),
-        Event::Emit(_) => here.emit(alloc),
+        Event::Emit(_) => here.emit(alloc, false),
+        Event::EmitAcknowledgement(_) => here.emit(alloc, true),
+        Event::ResendFirst(_) => Ok(here.resend_first()),
         Event::Deliver(_, k) => deliver(life, here, *k, there),
         Event::Damage(_, k, place, value) => damage(alloc, life, here, *k, *place, *value, there),
     }
 }
 
-/// One event at the two parties.
+/// Applies one event to the two parties.
 fn step_parties<A: Allocator + Copy, E: Allocator>(
     alloc: A,
     life: u32,
@@ -91,8 +93,8 @@ fn step_parties<A: Allocator + Copy, E: Allocator>(
 }
 
 impl World {
-    /// Two new ends, whose segments live [`MAX_LIFE`] positions. Of faults `a`'s comes first, and its want of memory before
-    /// `b`'s faults.
+    /// Two new ends, whose segments live [`MAX_LIFE`] positions. A fault of `a` comes first; also where there is no
+    /// memory for `a`, no fault of `b` is looked for.
     pub fn new(alloc: Global, a: Config, b: Config) -> Result<Self, WorldError>
         ensures new { IfOk result (λ w. w ≡ new_world a b) }
         ensures safe { IfOk result IsSafe }
@@ -104,8 +106,9 @@ impl World {
         Self::new_in(alloc, a, b)
     }
 
-    /// The same where a segment lives `life` positions, from 2 to [`MAX_LIFE`]: one whose position lies so far behind the next
-    /// that its receiver wants, or whose acknowledgement lies so far behind SND.UNA there, is refused as `Expired`.
+    /// Two new ends, whose segments live `life` positions, from 2 to [`MAX_LIFE`] (RFC 9293, 3.4). A segment is refused
+    /// as `Expired` whose position lies this far behind the next that its receiver expects, or whose acknowledgement
+    /// lies this far behind SND.UNA there.
     pub fn with_lifetime(alloc: Global, a: Config, b: Config, life: u32) -> Result<Self, WorldError>
         requires least { 2 ≤ life }
         requires most { life ≤ max_life }
@@ -160,8 +163,8 @@ impl<A: Allocator + Copy> World<A> {
         })
     }
 
-    /// Applies one event. Whatever is refused changes nothing; what the world needs to grow for an event it
-    /// takes before anything else.
+    /// Applies one event. A refused event changes nothing; memory for the world to grow is allocated before anything
+    /// else.
     pub fn step<E: Allocator>(&mut self, event: &Event<E>) -> Result<Outcome, StepError>
         ensures state { OnOk result (self.new ≡ world_with_effect self.old (event_content event.now)) }
         ensures outcome { IfOk result (λ o. o ≡ outcome_of self.old (event_content event.now)) }
@@ -169,9 +172,9 @@ impl<A: Allocator + Copy> World<A> {
         ensures refused { IfSome (refusal_of self.old (event_content event.now)) (λ e. result ≡ Err e) }
         ensures memory { IfNone (refusal_of self.old (event_content event.now)) (IfErr result (λ e. (e ≡ StepError.NoMemory) × (grows_for self.old (event_content event.now) ≡ true))) }
         ensures unchanged { OnErr result (self.new ≡ self.old) }
-        // Where memory was found, the definitions tell all.
+        // Where there was memory, the definitions give the result.
         ensures exact { result ≢ Err StepError.NoMemory → (result ≡ step_answer self.old (event_content event.now)) × (self.new ≡ world_after self.old (event_content event.now)) }
-        // One changed byte is found at the checksum, and no end takes anything from it.
+        // One changed byte is found at the checksum, and no end takes anything of the segment.
         ensures damaged { IsDamage (event_content event.now) → IfOk result (λ o. (o ≡ Outcome.Arrived (Arrival.Malformed DecodeError.BadChecksum)) × (self.new ≡ self.old)) }
         // Within the limits of the streams no segment expires, at this event or at a later one.
         ensures unexpired { KeepsAllSegments self.old → result ≢ Err StepError.Expired }
@@ -182,14 +185,14 @@ impl<A: Allocator + Copy> World<A> {
         step_parties(self.alloc, self.life, &mut self.a, &mut self.b, event)
     }
 
-    /// Applies events in turn, and stops at the first that is refused, with its index from 0. What came before
-    /// it stays done.
+    /// Applies events in order, and stops at the first that is refused, with its index from 0. The events before it
+    /// stay applied.
     pub fn run<E: Allocator>(&mut self, events: &[Event<E>]) -> Result<(), (usize, StepError)>
         ensures done { OnOk result ((stop_of self.old (map event_content events.now) ≡ None) × (self.new ≡ run_of self.old (map event_content events.now))) }
         ensures bytes { OnOk result (AllByRecursion HasBytes (map event_content events.now)) }
         // A refusal that isn't for memory is the first one of the list.
         ensures refused { IfErr result (λ stop. stop.1 ≢ StepError.NoMemory → (stop_of self.old (map event_content events.now) ≡ Some stop) × (self.new ≡ run_of self.old (map event_content events.now))) }
-        // Want of memory stops the run before an event that isn't refused and makes the world grow.
+        // Where there is no memory, the run stops before an event that isn't refused and makes the world grow.
         ensures memory { IfErr result (λ stop. stop.1 ≡ StepError.NoMemory → StopsForMemory self.old (map event_content events.now) stop.0 self.new) }
         ensures unexpired { KeepsAllSegments self.old → IfErr result (λ stop. stop.1 ≢ StepError.Expired) }
         ensures safe { IsSafe self.new }
@@ -215,7 +218,7 @@ impl<A: Allocator> World<A> {
         }
     }
 
-    /// The bytes that `send` of this side took.
+    /// The bytes that `send` of this side accepted.
     pub fn accepted(&self, side: Side) -> &[u8]
         ensures { result.now ≡ (party_of self.now side).accepted }
     {
@@ -223,7 +226,7 @@ impl<A: Allocator> World<A> {
         &party.accepted
     }
 
-    /// The bytes that `receive` of this side handed over.
+    /// The bytes that `receive` of this side delivered.
     pub fn delivered(&self, side: Side) -> &[u8]
         ensures { result.now ≡ (party_of self.now side).delivered }
     {
@@ -231,7 +234,7 @@ impl<A: Allocator> World<A> {
         &party.delivered
     }
 
-    /// Whether a `close` of this side was answered Ok.
+    /// Whether a `close` of this side was accepted.
     pub fn closed(&self, side: Side) -> bool
         ensures { result ≡ (party_of self.now side).closed }
     {
@@ -239,7 +242,7 @@ impl<A: Allocator> World<A> {
         party.closed
     }
 
-    /// Whether the end of the stream was handed to the user of this side.
+    /// Whether the end of the stream was delivered to the user of this side.
     pub fn ended(&self, side: Side) -> bool
         ensures { result ≡ (party_of self.now side).ended }
     {
@@ -247,7 +250,7 @@ impl<A: Allocator> World<A> {
         party.ended
     }
 
-    /// Segment `k`, from 0, that this side emitted.
+    /// The bytes of segment `k`, from 0, that this side emitted.
     pub fn sent(&self, side: Side, k: usize) -> Option<&[u8]>
         ensures { option_map (λ segment. segment.now) result ≡ option_map (λ g. g.bytes) (slice_get (party_of self.now side).sent k) }
     {
