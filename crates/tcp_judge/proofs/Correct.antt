@@ -1,5 +1,5 @@
 -- A LOG whose segments are each of form and the user's is clean.
-use Rattle.std.proofs.Common.{◌≡◌, ℕ, suc, ◌+◌, ◌^◌, ◌<◌, List, [], ◌∷◌, ◌++◌, length, refl, sym, ◌∙◌, ap, subst, append-nil, append_assoc}
+use Rattle.std.proofs.Common.{◌≡◌, ℕ, suc, ◌+◌, ◌^◌, ◌<◌, List, [], ◌∷◌, ◌++◌, length, refl, sym, ◌∙◌, ap, subst, append-nil, append_assoc, arith}
 use Rattle.std.specs.Prelude.{Bool, false, Option, Some, None, option_to_list, Result, Ok, Err, slice_get}
 use Rattle.std.specs.List.{AllByRecursion}
 use Rattle.tcp_wire.specs.Decoded.{decode_answer}
@@ -8,8 +8,8 @@ use Rattle.tcp_wire.specs.Wire.{Content}
 use Rattle.tcp_wire.specs.declared.fault.DecodeError.{DecodeError}
 use Rattle.tcp_halves.specs.declared.config.Config.{Config}
 use Rattle.tcp_halves.specs.Config.{IsConfig}
-use Rattle.tcp_replay.specs.Solo.{SoloState, solo_start, solo_run, run_alone, after_solo, segment_due}
-use Rattle.tcp_replay.specs.SoloEvents.{SoloContent, HasRanges, Emit, Arrive}
+use Rattle.tcp_replay.specs.Solo.{SoloState, solo_start, solo_run, run_alone, after_solo, segment_alone, segment_due}
+use Rattle.tcp_replay.specs.SoloEvents.{SoloContent, HasRanges, Emit, EmitAcknowledgement, Arrive}
 use Rattle.tcp_replay.specs.Truthful.{IsOfUser}
 use Rattle.tcp_replay.proofs.SoloRuns.{one_end_is_true_lem, content-is}
 use Rattle.tcp_judge.specs.Known.{Known, nothing_known}
@@ -18,7 +18,7 @@ use Rattle.tcp_judge.specs.Judgement.{finding_read, known_read, known_came, firs
 use Rattle.tcp_judge.specs.Rules.{form_finding, heard_finding, finding_of}
 use Rattle.tcp_judge.specs.Law.{heard_read, heard_went, IsSaidRight, AllSaidRight}
 use Rattle.tcp_judge.proofs.Runs.{said-right}
-use Rattle.tcp_judge.proofs.Streams.{IsKnown, keeps-positions, known-kept}
+use Rattle.tcp_judge.proofs.Streams.{IsKnown, keeps-positions, known-kept, came-kept}
 
 -- what holds of each segment that went
 abbrev AllWent : (List ℕ → List ℕ → List ℕ → Type 0) → List PassageContent → Type 0
@@ -58,7 +58,7 @@ module _ (isn : ℕ) (accepted : List ℕ) (closed : Bool) (small : isn < 2 ^ 32
 
   -- what came leaves what is known of the stream
   came-known : (k : Known) (r : Result Content DecodeError) → IsKnown isn accepted k → IsKnown isn accepted (known_came k r)
-  came-known k (Ok v) h = record { initial = h.initial; front = h.front; fin = h.fin }
+  came-known k (Ok v) h = came-kept isn accepted closed small short k v h
   came-known k (Err fault) h = h
 
   came-heard : (k : Known) (r : Result Content DecodeError) (log : List PassageContent) → AllSaidRight (heard_read k.heard r) log
@@ -101,6 +101,9 @@ unfolding solo_run log_of
 emitted-log src x [] = sym (append-nil x.emitted)
 emitted-log src x (Emit ∷ list) =
     emitted-log src (after_solo x Emit) list ∙ due-log src x.emitted (segment_due x.endpoint) (log_of src (after_solo x Emit).endpoint list)
+emitted-log src x (EmitAcknowledgement ∷ list) =
+    emitted-log src (after_solo x EmitAcknowledgement) list
+    ∙ due-log src x.emitted (segment_alone x.endpoint) (log_of src (after_solo x EmitAcknowledgement).endpoint list)
 emitted-log src x (Arrive from to bytes ∷ list) =
     emitted-log src (after_solo x (Arrive from to bytes)) list
     ∙ ap (λ (sent : List (List ℕ × List ℕ)). sent ++ segments_of (log_of src (after_solo x (Arrive from to bytes)).endpoint list)) (append-nil x.emitted)
@@ -120,6 +123,7 @@ from-log : (src : List ℕ) (x : SoloState) (list : List SoloContent) → FromAd
 unfolding log_of
 from-log src x [] = tt
 from-log src x (Emit ∷ list) = from-due src (segment_due x.endpoint) _ (from-log src (after_solo x Emit) list)
+from-log src x (EmitAcknowledgement ∷ list) = from-due src (segment_alone x.endpoint) _ (from-log src (after_solo x EmitAcknowledgement) list)
 from-log src x (other ∷ list) = from-log src (after_solo x other) list
 
 went-all : (P : List ℕ → List ℕ → Type 0) (src : List ℕ) (log : List PassageContent) → FromAddress src log
@@ -149,4 +153,5 @@ clean c list is fits short =
     let users : AllWent (IsUsers c.isn.0 x.accepted x.closed) log =
     went-same (λ from to bytes. (from ≡ src) × P to bytes) (IsUsers c.isn.0 x.accepted x.closed) log
     (λ a b bytes h. subst (λ (from : List ℕ). IsUsers c.isn.0 x.accepted x.closed from b bytes) (sym h.0) h.1) members in
-    clean-log c.isn.0 x.accepted x.closed is.isn short log nothing_known 0 (record { initial = tt; front = refl; fin = tt }) (said-right c list is fits) users
+    clean-log c.isn.0 x.accepted x.closed is.isn short log nothing_known 0
+    (record { initial = tt; stream = record { inside = omega arith; part = refl }; fin = tt }) (said-right c list is fits) users

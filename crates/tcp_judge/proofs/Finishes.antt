@@ -64,6 +64,7 @@ finishes-calls Q peer p =
       probes = same;
       fills = λ _ _ _. same;
       ends = λ _. same;
+      resends-first = λ _. same;
       emits = λ _ _ _. same;
     }
 

@@ -1,9 +1,15 @@
 pub mod Places
 pub mod Numbers
 pub mod Finishes
+pub mod Rooms
 pub mod Links
+pub mod Going
+pub mod Blocks
 pub mod Streams
 pub mod Forms
+pub mod Hearing
+pub mod Hears
+pub mod Hearings
 pub mod Runs
 pub mod Limits
 pub mod Correct

@@ -18,7 +18,9 @@ use Rattle.tcp_replay.proofs.Calls.{KeptByCalls}
 use Rattle.tcp_replay.proofs.Phases.{gives_up-not_ended}
 use Rattle.tcp_replay.proofs.SoloRuns.{party_in, solo-step, alone-step}
 use Rattle.tcp_judge.specs.Heard.{Heard, nothing_heard}
-use Rattle.tcp_judge.proofs.Runs.{heard_past, Hears, hears-new, hears-step, address-step}
+use Rattle.tcp_judge.proofs.Hearing.{heard_past}
+use Rattle.tcp_judge.proofs.Hears.{Hears, hears-new}
+use Rattle.tcp_judge.proofs.Hearings.{hears-step, address-step}
 use Rattle.tcp_wire.specs.Checksum.{AreBytes}
 use Rattle.tcp_conn.specs.Calls.{send_refusal}
 
@@ -59,5 +61,5 @@ limit-run x (e ∷ list) h irs k fits a hears inside =
 pub positions-short : (c : Config) (list : List SoloContent) → IsConfig c → AllByRecursion HasRanges list → c.limit ≤ default_limit
     → 2 + length (run_alone c list).accepted < 2 ^ 31
 positions-short c list is fits short =
-    let inside = limit-run (solo_start c) list nothing_heard 0 0 fits (alone-new c is) (hears-new c) (omega arith) in
+    let inside = limit-run (solo_start c) list nothing_heard 0 0 fits (alone-new c is) (hears-new c is) (omega arith) in
     omega (arith, inside, short)

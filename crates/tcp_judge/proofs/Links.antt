@@ -40,6 +40,7 @@ links-calls Q peer p = record {
   probes = inl refl;
   fills = λ _ _ _. inl refl;
   ends = λ _. inl refl;
+  resends-first = λ _. inl refl;
   emits = λ _ _ _. inl refl;
 }
 

@@ -1,12 +1,14 @@
 -- NUMBERS THAT CAME, so many from one on.
 use Rattle.std.proofs.Common.{◌≡◌, ℕ, zero, suc, ◌+◌, ◌<◌, ◌≤◌, List, [], ◌∷◌, ◌++◌, refl, sym, ◌-◌, ◌∙◌, ap, subst, arith, ⊎_elim, inl, inr}
 use Rattle.std.specs.Prelude.{◌⊎◌, Bool, true, false, ◌&&◌, ◌||◌}
-use Rattle.std.proofs.Common.{length, take, get_or}
+use Rattle.std.proofs.Common.{◌^◌, length, take, get_or}
+use Rattle.std.specs.Prelude.{nat_le, not, if◌then◌else◌}
 use Rattle.std.proofs.Math.Seq.{take-suc}
-use Rattle.std.proofs.lemmas.Bool.{cases_lt, false≢true}
+use Rattle.std.proofs.lemmas.Bool.{cases_lt, false≢true, and_parts, ltb-true, leb-true, le-ltb}
 use Rattle.tcp_numbers.specs.declared.seq.Seq.{Seq}
 use Rattle.tcp_wire.specs.Position.{number, distance}
-use Rattle.tcp_judge.specs.Heard.{covers, has_come, all_came, goes_on, begins}
+use Rattle.tcp_replay.proofs.Lists.{by_test}
+use Rattle.tcp_judge.specs.Heard.{covers, has_come, all_came, goes_on, begins, is_from, is_passed, without_passed}
 
 both : (a b : Bool) → a ≡ true → b ≡ true → a && b ≡ true
 both true b e f = f
@@ -20,7 +22,7 @@ not-both false b h = refl
 distance-most : (irs from to : ℕ) → from ≤ to → distance (number irs from) (number irs to) ≤ to - from
 distance-most irs from to order = omega arith
 
-number-on : (irs from j : ℕ) → number (number irs from) j ≡ number irs (from + j)
+pub number-on : (irs from j : ℕ) → number (number irs from) j ≡ number irs (from + j)
 number-on irs from j = omega arith
 
 pub all-came : (spans : List (Seq × ℕ)) (from count : ℕ) → ((j : ℕ) → j < count → has_come spans (number from j) ≡ true) → all_came spans from count ≡ true
@@ -80,6 +82,34 @@ pub come-here : (spans : List (Seq × ℕ)) (i n : ℕ) (d : Seq × ℕ) → i <
 come-here spans i n d inside hit =
     let j = length spans - 1 - i in
     ap (λ (xs : List (Seq × ℕ)). has_come xs n) (one-more spans i j d (omega arith)) ∙ come-last (take j spans) (get_or spans j d) n hit
+
+-- WHAT IS PASSED covers no number that is less than 2^31 ahead of the acknowledgement,
+ahead-not_covered : (span : Seq × ℕ) (told n : ℕ) → told < 2 ^ 32 → distance told n < 2 ^ 31 → is_passed told span ≡ true → covers n span ≡ false
+ahead-not_covered span told n small near passed =
+    let parts = and_parts (nat_le span.1 (distance span.0.0 told)) (is_from span.0.0 told) passed in
+    let beyond : span.1 ≤ distance span.0.0 told = leb-true span.1 (distance span.0.0 told) parts.0 in
+    let close : distance span.0.0 told < 2 ^ 31 = ltb-true (distance span.0.0 told) (2 ^ 31) parts.1 in
+    let sum : distance span.0.0 n ≡ distance span.0.0 told + distance told n = omega (arith, small, near, close) in
+    le-ltb (distance span.0.0 n) span.1 (omega (arith, sum, beyond))
+
+or-uncovered : (a b : Bool) → a ≡ false → a || b ≡ true → b ≡ true
+or-uncovered true b e f = absurd (false≢true (sym e))
+or-uncovered false b e f = f
+
+not-true : (b : Bool) → not b ≡ false → b ≡ true
+not-true true e = refl
+not-true false e = absurd (false≢true (sym e))
+
+-- so each such number that came is still known to have come
+pub still-come : (spans : List (Seq × ℕ)) (told n : ℕ) → told < 2 ^ 32 → distance told n < 2 ^ 31 → has_come spans n ≡ true
+    → has_come (without_passed told spans) n ≡ true
+still-come [] told n small near e = e
+still-come (span ∷ spans) told n small near e =
+    let rest = without_passed told spans in
+    by_test (not (is_passed told span)) (λ b. has_come (if b then span ∷ rest else rest) n ≡ true)
+    (λ _. or-more (covers n span) (has_come spans n) (has_come rest n) (still-come spans told n small near) e)
+    (λ passed. still-come spans told n small near
+    (or-uncovered (covers n span) (has_come spans n) (ahead-not_covered span told n small near (not-true (is_passed told span) passed)) e))
 
 -- a SYN with this number came
 abbrev pub HasSyn : List Seq → ℕ → Type 0

@@ -1,7 +1,7 @@
 -- THE RULES OF POSITIONS against the user's stream: what went is its beginning, and no segment that is the user's breaks one.
 use Rattle.std.proofs.Common.{◌≡◌, ℕ, zero, suc, ◌+◌, ◌-◌, ◌^◌, ◌<◌, ◌≤◌, List, [], ◌∷◌, ◌++◌, length, take, drop, refl}
-use Rattle.std.proofs.Common.{sym, ◌∙◌, ap, subst, arith, length-take, ⊎_elim, inl, inr, eq-eqb}
-use Rattle.std.specs.Prelude.{◌⊎◌, Bool, true, false, not, ◌&&◌, ◌||◌, ◌==◌, nat_lt, nat_le, if◌then◌else◌, Option, Some, None, IfSome, bytes_eq}
+use Rattle.std.proofs.Common.{sym, ◌∙◌, ap, subst, arith, length-take, length-drop, ⊎_elim, inl, inr, eq-eqb}
+use Rattle.std.specs.Prelude.{◌⊎◌, Bool, true, false, not, ◌&&◌, ◌||◌, ◌==◌, nat_lt, nat_le, if◌then◌else◌, Option, Some, None, IfSome, bytes_eq, is_some, min}
 use Rattle.std.proofs.lemmas.Bool.{false≢true, ltb-true, eqb-true, eqb-false, and_parts, le-ltb, cond_both, leb-true}
 use Rattle.std.proofs.lemmas.List.{drop-drop}
 use Rattle.std.proofs.Math.Seq.{take-add, take-length}
@@ -12,8 +12,10 @@ use Rattle.tcp_wire.specs.Wire.{Content}
 use Rattle.tcp_wire.proofs.Lemmas.{position_of_number}
 use Rattle.tcp_replay.specs.Truthful.{IsOfUser}
 use Rattle.tcp_replay.proofs.Lists.{by_test}
-use Rattle.tcp_judge.specs.Known.{Known, is_syn, initial_after, place_by, place_of, sent_after, fin_after, known_after}
-use Rattle.tcp_judge.specs.Rules.{count_both, agrees, changes_bytes, finding_if, initial_by, fin_by, fin_finding, position_finding}
+use Rattle.tcp_judge.specs.Heard.{tells}
+use Rattle.tcp_judge.specs.Stream.{Stream, count_sent, with_text, count_both, agrees, changes_bytes, count_covered, without_front}
+use Rattle.tcp_judge.specs.Known.{Known, is_syn, initial_after, place_by, place_of, fin_after, known_after, acked_by, count_acked, known_with}
+use Rattle.tcp_judge.specs.Rules.{finding_if, initial_by, fin_by, fin_finding, position_finding}
 use Rattle.tcp_judge.specs.declared.finding.Finding.{Finding}
 
 -- TESTS
@@ -69,15 +71,45 @@ own-length k one xs e =
     let own : take (length (take k xs)) (take k xs) ≡ take (length (take k xs)) xs = front-front (length (take k xs)) k xs (omega arith) in
     e ∙ sym (take-length (take k xs)) ∙ own ∙ ap (λ (ys : List ℕ). take (length ys) xs) (sym e)
 
--- a beginning goes on by what a text from a place within it has beyond its end
-front-goes_on : (s place m : ℕ) (sent text xs : List ℕ) → 1 ≤ place → place ≤ 1 + s → sent ≡ take s xs → text ≡ take m (drop (place - 1) xs)
-    → sent ++ drop (1 + s - place) text ≡ take (s + (m - (1 + s - place))) xs
-front-goes_on s place m sent text xs least most e f =
-    let d = 1 + s - place in
-    let place_is : place - 1 + d ≡ s = omega arith in
-    let more : drop d text ≡ take (m - d) (drop s xs) =
-    ap (drop d) f ∙ front-drop d m (drop (place - 1) xs) ∙ ap (take (m - d)) (drop-drop d (place - 1) xs ∙ ap (λ n. drop n xs) place_is) in
-    ap (λ (ys : List ℕ). ys ++ drop d text) e ∙ ap (λ (ys : List ℕ). take s xs ++ ys) more ∙ sym (take-add s (m - d) xs)
+-- a beginning of what is behind r bytes goes on by what a text from a place within it has beyond its end
+front-goes_on : (r s place m : ℕ) (sent text xs : List ℕ) → 1 ≤ place → place ≤ 1 + (r + s) → sent ≡ take s (drop r xs) → text ≡ take m (drop (place - 1) xs)
+    → sent ++ drop (1 + (r + s) - place) text ≡ take (s + (m - (1 + (r + s) - place))) (drop r xs)
+front-goes_on r s place m sent text xs least most e f =
+    let d = 1 + (r + s) - place in
+    let place_is : place - 1 + d ≡ r + s = omega arith in
+    let more : drop d text ≡ take (m - d) (drop s (drop r xs)) =
+    ap (drop d) f ∙ front-drop d m (drop (place - 1) xs)
+    ∙ ap (take (m - d)) (drop-drop d (place - 1) xs ∙ ap (λ n. drop n xs) place_is ∙ sym (drop-drop s r xs)) in
+    ap (λ (ys : List ℕ). ys ++ drop d text) e ∙ ap (λ (ys : List ℕ). take s (drop r xs) ++ ys) more ∙ sym (take-add s (m - d) (drop r xs))
+
+-- a beginning of what is behind r bytes and a text from a place on agree from the later of the two on
+texts-agree : (r s place m : ℕ) (sent text xs : List ℕ) → 1 ≤ place → sent ≡ take s (drop r xs) → text ≡ take m (drop (place - 1) xs)
+    → agrees (drop (place - (1 + r)) sent) (drop (1 + r - place) text) ≡ true
+texts-agree r s place m sent text xs least e f =
+    let a = place - (1 + r) in
+    let b = 1 + r - place in
+    let from : r + a ≡ place - 1 + b = omega arith in
+    let one : drop a sent ≡ take (s - a) (drop (r + a) xs) = ap (drop a) e ∙ front-drop a s (drop r xs) ∙ ap (take (s - a)) (drop-drop a r xs) in
+    let other : drop b text ≡ take (m - b) (drop (r + a) xs) =
+    ap (drop b) f ∙ front-drop b m (drop (place - 1) xs) ∙ ap (take (m - b)) (drop-drop b (place - 1) xs ∙ ap (λ n. drop n xs) (sym from)) in
+    ap (λ (ys : List ℕ). agrees ys (drop b text)) one ∙ ap (λ (ys : List ℕ). agrees (take (s - a) (drop (r + a) xs)) ys) other
+    ∙ fronts-agree (s - a) (m - b) (drop (r + a) xs)
+
+-- WHAT IS KEPT is of the user's stream
+pub record IsPart (accepted : List ℕ) (d : Stream) : Type 0 where
+  pub inside : d.released ≤ length accepted
+  pub part : d.sent ≡ take (length d.sent) (drop d.released accepted)
+
+part-most : (accepted : List ℕ) (d : Stream) → IsPart accepted d → count_sent d ≤ length accepted
+part-most accepted d h = omega (arith, ap length h.part, length-take (length d.sent) (drop d.released accepted), length-drop d.released accepted, h.inside)
+
+part-without : (accepted : List ℕ) (d : Stream) (n : ℕ) → n ≤ length d.sent → IsPart accepted d → IsPart accepted (without_front d n)
+part-without accepted d n fits h = record {
+  inside = omega (arith, part-most accepted d h, fits);
+  part = own-length (length d.sent - n) (drop n d.sent) (drop (d.released + n) accepted)
+      (ap (drop n) h.part ∙ front-drop n (length d.sent) (drop d.released accepted)
+      ∙ ap (take (length d.sent - n)) (drop-drop n d.released accepted));
+}
 
 -- WHERE A SEGMENT STANDS in the user's stream
 record IsAt (accepted : List ℕ) (place : ℕ) (v : Content) : Type 0 where
@@ -118,7 +150,7 @@ at-user isn accepted closed v h =
 -- WHAT IS KNOWN is of the user's stream
 pub record IsKnown (isn : ℕ) (accepted : List ℕ) (k : Known) : Type 0 where
   pub initial : IfSome k.initial (λ n. n.0 ≡ isn)
-  pub front : k.sent ≡ take (length k.sent) accepted
+  pub stream : IsPart accepted k.stream
   pub fin : IfSome k.fin (λ place. place ≡ 1 + length accepted)
 
 module _ (isn : ℕ) (accepted : List ℕ) (closed : Bool) (small : isn < 2 ^ 32) (short : 2 + length accepted < 2 ^ 31) where
@@ -140,22 +172,22 @@ module _ (isn : ℕ) (accepted : List ℕ) (closed : Bool) (small : isn < 2 ^ 32
   initial-kept (Some n) v h user = h
 
   -- a place is unknown or right
-  placed : (known : Option Seq) (sent : List ℕ) (v : Content) → IfSome known (λ n. n.0 ≡ isn) → length sent ≤ length accepted
+  placed : (known : Option Seq) (count : ℕ) (v : Content) → IfSome known (λ n. n.0 ≡ isn) → count ≤ length accepted
       → (has rst v.flags ≡ false → IsOfUser isn accepted closed v)
-      → (place_by known sent v ≡ 0) ⊎ IsAt accepted (place_by known sent v) v
-  placed None sent v h inside user = inl refl
-  placed (Some n) sent v h inside user =
+      → (place_by known count v ≡ 0) ⊎ IsAt accepted (place_by known count v) v
+  placed None count v h inside user = inl refl
+  placed (Some n) count v h inside user =
       let more : ℕ = if has syn v.flags then 1 else 0 in
       by_test (has rst v.flags)
-      (λ b. ((if b then 0 else position_of n.0 (length sent) v.seq + more) ≡ 0) ⊎ IsAt accepted (if b then 0 else position_of n.0 (length sent) v.seq + more) v)
+      (λ b. ((if b then 0 else position_of n.0 count v.seq + more) ≡ 0) ⊎ IsAt accepted (if b then 0 else position_of n.0 count v.seq + more) v)
       (λ _. inl refl)
       (λ plain.
       let own = user plain in
       let p = own.position in
-      let near : position_of isn (length sent) (number isn p) ≡ p =
-      position_of_number isn (length sent) p small
+      let near : position_of isn count (number isn p) ≡ p =
+      position_of_number isn count p small
       (omega (arith, own.within, by_test closed (λ b. (if b then 1 else 0) ≤ 1) (λ _. omega arith) (λ _. omega arith))) (omega arith) in
-      let place : position_of n.0 (length sent) v.seq ≡ p = ap (λ i. position_of i (length sent) v.seq) h ∙ ap (position_of isn (length sent)) own.seq ∙ near in
+      let place : position_of n.0 count v.seq ≡ p = ap (λ i. position_of i count v.seq) h ∙ ap (position_of isn count) own.seq ∙ near in
       inr (subst (λ (i : ℕ). IsAt accepted (i + more) v) (sym place) (at-user isn accepted closed v own)))
 
   -- THE RULES
@@ -166,16 +198,13 @@ module _ (isn : ℕ) (accepted : List ℕ) (closed : Bool) (small : isn < 2 ^ 32
       none-found (is_syn v && not (v.seq == first.0)) _
       (unless (is_syn v) (not (v.seq == first.0)) (λ e. ap not (eq-eqb v.seq first.0 (syn-number v user e ∙ sym h))))
 
-  keeps-bytes : (sent : List ℕ) (place : ℕ) (v : Content) → sent ≡ take (length sent) accepted → (place ≡ 0) ⊎ IsAt accepted place v
-      → changes_bytes sent place v.text ≡ false
-  keeps-bytes sent place v front (inl none) = rw none refl
-  keeps-bytes sent place v front (inr at) =
-      let j = place - 1 in
-      let known : drop j sent ≡ take (length sent - j) (drop j accepted) = ap (drop j) front ∙ front-drop j (length sent) accepted in
-      let same : agrees (drop j sent) v.text ≡ true =
-      ap (λ (ys : List ℕ). agrees ys v.text) known ∙ ap (λ (ys : List ℕ). agrees (take (length sent - j) (drop j accepted)) ys) at.text
-      ∙ fronts-agree (length sent - j) (length v.text) (drop j accepted) in
-      unless (nat_lt 0 place) (not (agrees (drop j sent) v.text)) (λ _. ap not same)
+  keeps-bytes : (d : Stream) (place : ℕ) (v : Content) → IsPart accepted d → (place ≡ 0) ⊎ IsAt accepted place v → changes_bytes d place v.text ≡ false
+  keeps-bytes d place v part (inl none) = rw none refl
+  keeps-bytes d place v part (inr at) =
+      let one = drop (place - (1 + d.released)) d.sent in
+      let other = drop (1 + d.released - place) v.text in
+      unless (nat_lt 0 place) (not (agrees one other))
+      (λ _. ap not (texts-agree d.released (length d.sent) place (length v.text) d.sent v.text accepted at.least part.part at.text))
 
   keeps-fin_by : (known : Option ℕ) (behind place : ℕ) (v : Content) → IfSome known (λ f. f ≡ 1 + length accepted) → behind ≤ 1 + length accepted
       → IsAt accepted place v → fin_by known behind (place + length v.text) v ≡ None
@@ -191,39 +220,38 @@ module _ (isn : ℕ) (accepted : List ℕ) (closed : Bool) (small : isn < 2 ^ 32
       unless (has fin v.flags) (not (end == f)) (λ told. ap not (eq-eqb end f (at.has_fin told ∙ sym h))) in
       none-found _ _ (ap (λ (b : Bool). b || (has fin v.flags && not (end == f))) text ∙ last)
 
-  keeps-fin : (k : Known) (place : ℕ) (v : Content) → IsKnown isn accepted k → length k.sent ≤ length accepted → (place ≡ 0) ⊎ IsAt accepted place v
-      → fin_finding k place v ≡ None
-  keeps-fin k place v h inside (inl none) = rw none refl
-  keeps-fin k place v h inside (inr at) =
-      by_test (nat_lt 0 place) (λ b. (if b then fin_by k.fin (1 + length k.sent) (place + length v.text) v else None) ≡ None)
-      (λ _. keeps-fin_by k.fin (1 + length k.sent) place v h.fin (omega arith) at) (λ _. refl)
-
-  inside-stream : (k : Known) → IsKnown isn accepted k → length k.sent ≤ length accepted
-  inside-stream k h = omega (arith, ap length h.front, length-take (length k.sent) accepted)
+  keeps-fin : (k : Known) (place : ℕ) (v : Content) → IsKnown isn accepted k → (place ≡ 0) ⊎ IsAt accepted place v → fin_finding k place v ≡ None
+  keeps-fin k place v h (inl none) = rw none refl
+  keeps-fin k place v h (inr at) =
+      let behind = 1 + count_sent k.stream in
+      by_test (nat_lt 0 place) (λ b. (if b then fin_by k.fin behind (place + length v.text) v else None) ≡ None)
+      (λ _. keeps-fin_by k.fin behind place v h.fin (omega (arith, part-most accepted k.stream h.stream)) at) (λ _. refl)
 
   pub keeps-positions : (k : Known) (v : Content) → IsKnown isn accepted k → (has rst v.flags ≡ false → IsOfUser isn accepted closed v)
       → position_finding k (place_of k v) v ≡ None
   keeps-positions k v h user =
-      let inside = inside-stream k h in
-      let at = placed (initial_after k.initial v) k.sent v (initial-kept k.initial v h.initial user) inside user in
+      let inside = part-most accepted k.stream h.stream in
+      let at = placed (initial_after k.initial v) (count_sent k.stream) v (initial-kept k.initial v h.initial user) inside user in
       let place = place_of k v in
-      rw (keeps-initial k.initial v h.initial user, keeps-bytes k.sent place v h.front at) (keeps-fin k place v h inside at)
+      rw (keeps-initial k.initial v h.initial user, keeps-bytes k.stream place v h.stream at) (keeps-fin k place v h at)
 
   -- WHAT IS KNOWN AFTER IT
-  sent-kept : (sent : List ℕ) (place : ℕ) (v : Content) → sent ≡ take (length sent) accepted → (place ≡ 0) ⊎ IsAt accepted place v
-      → sent_after sent place v.text ≡ take (length (sent_after sent place v.text)) accepted
-  sent-kept sent place v front at =
-      cond_both (nat_lt 0 place && nat_le place (1 + length sent)) (sent ++ drop (1 + length sent - place) v.text) sent
-      (λ (ys : List ℕ). ys ≡ take (length ys) accepted)
+  text-kept : (d : Stream) (place : ℕ) (v : Content) → IsPart accepted d → (place ≡ 0) ⊎ IsAt accepted place v → IsPart accepted (with_text d place v.text)
+  text-kept d place v h at =
+      cond_both (nat_lt 0 place && nat_le place (1 + count_sent d)) (d.sent ++ drop (1 + count_sent d - place) v.text) d.sent
+      (λ (ys : List ℕ). IsPart accepted (record d { sent = ys }))
       (λ e.
-      let parts = and_parts (nat_lt 0 place) (nat_le place (1 + length sent)) e in
+      let parts = and_parts (nat_lt 0 place) (nat_le place (1 + count_sent d)) e in
       let some : 0 < place = ltb-true 0 place parts.0 in
-      let fits : place ≤ 1 + length sent = leb-true place (1 + length sent) parts.1 in
+      let fits : place ≤ 1 + count_sent d = leb-true place (1 + count_sent d) parts.1 in
       ⊎_elim (λ (none : place ≡ 0). absurd (omega arith))
-      (λ (there : IsAt accepted place v).
-      own-length (length sent + (length v.text - (1 + length sent - place))) (sent ++ drop (1 + length sent - place) v.text) accepted
-      (front-goes_on (length sent) place (length v.text) sent v.text accepted there.least fits front there.text)) at)
-      (λ _. front)
+      (λ (there : IsAt accepted place v). record {
+        inside = h.inside;
+        part = own-length (length d.sent + (length v.text - (1 + count_sent d - place))) (d.sent ++ drop (1 + count_sent d - place) v.text)
+            (drop d.released accepted)
+            (front-goes_on d.released (length d.sent) place (length v.text) d.sent v.text accepted there.least fits h.part there.text);
+      }) at)
+      (λ _. h)
 
   fin-kept : (known : Option ℕ) (place : ℕ) (v : Content) → IfSome known (λ f. f ≡ 1 + length accepted) → (place ≡ 0) ⊎ IsAt accepted place v
       → IfSome (fin_after known place v) (λ f. f ≡ 1 + length accepted)
@@ -239,5 +267,24 @@ module _ (isn : ℕ) (accepted : List ℕ) (closed : Bool) (small : isn < 2 ^ 32
       → IsKnown isn accepted (known_after k v)
   known-kept k v h user =
       let initial = initial-kept k.initial v h.initial user in
-      let at = placed (initial_after k.initial v) k.sent v initial (inside-stream k h) user in
-      record { initial = initial; front = sent-kept k.sent (place_of k v) v h.front at; fin = fin-kept k.fin (place_of k v) v h.fin at }
+      let at = placed (initial_after k.initial v) (count_sent k.stream) v initial (part-most accepted k.stream h.stream) user in
+      record { initial = initial; stream = text-kept k.stream (place_of k v) v h.stream at; fin = fin-kept k.fin (place_of k v) v h.fin at }
+
+  -- AND AFTER WHAT CAME: whatever it acknowledges, no more is forgotten than was kept
+  covered-most : (d : Stream) (has_fin : Bool) (position : ℕ) → count_covered d has_fin position ≤ length d.sent
+  covered-most d has_fin position =
+      cond_both (nat_le position (1 + count_sent d + (if has_fin then 1 else 0))) (min (length d.sent) (position - (1 + d.released))) 0
+      (λ (n : ℕ). n ≤ length d.sent) (λ _. omega arith) (λ _. omega arith)
+
+  acked-most : (known : Option Seq) (d : Stream) (has_fin : Bool) (v : Content) → acked_by known d has_fin v ≤ length d.sent
+  acked-most None d has_fin v = omega arith
+  acked-most (Some n) d has_fin v =
+      cond_both (tells v) (count_covered d has_fin (position_of n.0 (count_sent d) v.ack)) 0 (λ (n : ℕ). n ≤ length d.sent)
+      (λ _. covered-most d has_fin (position_of n.0 (count_sent d) v.ack)) (λ _. omega arith)
+
+  pub came-kept : (k : Known) (v : Content) → IsKnown isn accepted k → IsKnown isn accepted (known_with k v)
+  came-kept k v h = record {
+    initial = h.initial;
+    stream = part-without accepted k.stream (count_acked k v) (acked-most k.initial k.stream (is_some k.fin) v) h.stream;
+    fin = h.fin;
+  }

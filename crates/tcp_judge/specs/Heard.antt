@@ -1,5 +1,6 @@
 -- WHAT CAME TO AN END, and what it acknowledged of it (RFC 9293, 3.4 and 3.10.7.4).
-use Rattle.std.specs.Prelude.{ℕ, zero, suc, Bool, true, false, ◌&&◌, ◌||◌, not, nat_lt, if◌then◌else◌, List, [], ◌∷◌, ◌++◌, Option, Some, None}
+use Rattle.std.specs.Prelude.{ℕ, zero, suc, ◌^◌, ◌==◌, Bool, true, false, ◌&&◌, ◌||◌, not, nat_lt, nat_le, if◌then◌else◌}
+use Rattle.std.specs.Prelude.{List, [], ◌∷◌, ◌++◌, filter, Option, Some, None}
 use Rattle.tcp_numbers.specs.declared.seq.Seq.{Seq}
 use Rattle.tcp_wire.specs.Flags.{syn, rst, ack, has}
 use Rattle.tcp_wire.specs.Options.{OptionContent, WindowScale, SackPermitted}
@@ -8,11 +9,11 @@ use Rattle.tcp_wire.specs.Wire.{Content}
 use Rattle.tcp_conn.specs.Judgement.{count_numbers}
 
 pub record Heard : Type 0 where
-  -- of each segment that came its number, and how many numbers its SYN, text and FIN take
+  -- the number of each segment that came, and how many numbers its SYN, text and FIN take, as far as they aren't acknowledged
   pub spans : List (Seq × ℕ)
-  -- the number of each SYN that came
+  -- the number of each SYN that came before anything was acknowledged
   pub syns : List Seq
-  -- the acknowledgement that went last
+  -- the acknowledgement that was sent, the furthest one
   pub told : Option Seq
   -- whether a SYN that came offered a window scale, and one permitted selective acknowledgement
   pub scaling : Bool
@@ -38,9 +39,9 @@ abbrev pub any_permission : List OptionContent → Bool
 any_permission [] = false
 any_permission (option ∷ options) = is_permission option || any_permission options
 
--- a SYN that acknowledges one has the window scale and SACK-permitted only where a SYN that came had them (RFC 7323, 2.2; RFC 2018, 2)
+-- a SYN that acknowledges one has the window scale only where a SYN that came had it (RFC 7323, 1.3 and 2.2)
 abbrev pub answers_more : Heard → List OptionContent → Bool
-answers_more h options = (any_scale options && not h.scaling) || (any_permission options && not h.sack)
+answers_more h options = any_scale options && not h.scaling
 
 abbrev pub oversteps : Heard → Content → Bool
 oversteps h v = (has syn v.flags && has ack v.flags) && answers_more h v.options
@@ -53,13 +54,13 @@ abbrev pub has_come : List (Seq × ℕ) → ℕ → Bool
 has_come [] n = false
 has_come (span ∷ spans) n = covers n span || has_come spans n
 
--- so many numbers from one on, and each came
+-- this many numbers from one on, of which each came
 unfoldable pub all_came : List (Seq × ℕ) → ℕ → ℕ → Bool
 all_came spans from zero = true
 all_came spans from (suc n) = has_come spans (number from n) && all_came spans from n
 
--- ACKNOWLEDGEMENTS cover only what came, without a gap, and never fall (RFC 9293, 3.4 and 3.10.7.4): each goes on from the one before
--- over numbers that came; the first from behind a SYN that came
+-- ACKNOWLEDGEMENTS cover only what came, without a gap, and never decrease (RFC 9293, 3.4 and 3.10.7.4). Each continues from
+-- the one before over numbers that came; the first from after a SYN that came
 abbrev pub goes_on : List (Seq × ℕ) → ℕ → ℕ → Bool
 goes_on spans from number = all_came spans from (distance from number)
 
@@ -71,28 +72,52 @@ abbrev pub is_of_came : Option Seq → List (Seq × ℕ) → List Seq → ℕ �
 is_of_came None spans syns told = begins spans syns told
 is_of_came (Some last) spans syns told = goes_on spans last.0 told
 
--- it tells an acknowledgement, and is no reset
+-- it has an acknowledgement, and is no reset
 abbrev pub tells : Content → Bool
 tells v = has ack v.flags && not (has rst v.flags)
 
 abbrev pub tells_beyond : Heard → Content → Bool
 tells_beyond h v = tells v && not (is_of_came h.told h.spans h.syns v.ack)
 
--- after a segment that went,
+-- A NUMBER FROM ANOTHER ON is less than 2^31 ahead of it (RFC 9293, 3.4)
+abbrev pub is_from : ℕ → ℕ → Bool
+is_from first n = nat_lt (distance first n) (2 ^ 31)
+
+-- an acknowledgement that is less than an earlier one leaves that
+abbrev pub goes_further : Option Seq → Content → Bool
+goes_further None v = tells v
+goes_further (Some last) v = tells v && is_from last.0 v.ack
+
 abbrev pub told_after : Option Seq → Content → Option Seq
-told_after known v = if tells v then Some (record { 0 = v.ack }) else known
+told_after last v = if goes_further last v then Some (record { 0 = v.ack }) else last
 
+-- WHAT IS ACKNOWLEDGED is forgotten: the spans that end at this number or before it,
+abbrev pub is_passed : ℕ → Seq × ℕ → Bool
+is_passed told span = nat_le span.1 (distance span.0.0 told) && is_from span.0.0 told
+
+abbrev pub without_passed : ℕ → List (Seq × ℕ) → List (Seq × ℕ)
+without_passed told spans = filter (λ span. not (is_passed told span)) spans
+
+-- and the SYNs
+abbrev pub after_telling : Heard → ℕ → Heard
+after_telling h told = record h { spans = without_passed told h.spans; syns = []; told = Some (record { 0 = told }) }
+
+-- after a segment that was sent,
 abbrev pub after_went : Heard → Content → Heard
-after_went h v = record h { told = told_after h.told v }
+after_went h v = if goes_further h.told v then after_telling h v.ack else h
 
--- and one that came
-abbrev pub syns_of : Content → List Seq
-syns_of v = if has syn v.flags then record { 0 = v.seq } ∷ [] else []
+-- and one that came: it is kept where it takes a number, and a SYN before anything is acknowledged
+abbrev pub spans_of : Content → List (Seq × ℕ)
+spans_of v = if count_numbers v == 0 then [] else (record { 0 = v.seq }, count_numbers v) ∷ []
+
+abbrev pub syns_of : Option Seq → Content → List Seq
+syns_of None v = if has syn v.flags then record { 0 = v.seq } ∷ [] else []
+syns_of (Some told) v = []
 
 abbrev pub after_came : Heard → Content → Heard
 after_came h v = record {
-  spans = h.spans ++ (record { 0 = v.seq }, count_numbers v) ∷ [];
-  syns = h.syns ++ syns_of v;
+  spans = h.spans ++ spans_of v;
+  syns = h.syns ++ syns_of h.told v;
   told = h.told;
   scaling = h.scaling || (has syn v.flags && any_scale v.options);
   sack = h.sack || (has syn v.flags && any_permission v.options);

@@ -1,4 +1,4 @@
--- THE JUDGEMENT OF A LOG: the first segment that went and breaks a rule, judged by what went before it.
+-- THE JUDGEMENT OF A LOG: the first segment that was sent and breaks a rule, judged by what came and was sent before it.
 use Rattle.std.specs.Prelude.{◌≡◌, ℕ, suc, List, [], ◌∷◌, Option, Some, None, Result, Ok, Err}
 use Rattle.tcp_wire.specs.Wire.{Content}
 use Rattle.tcp_wire.specs.Decoded.{decode_answer}
@@ -9,7 +9,7 @@ use Rattle.tcp_judge.specs.Rules.{finding_of}
 use Rattle.tcp_judge.specs.declared.finding.Finding.{Finding}
 use Rattle.tcp_judge.specs.declared.finding.Finding.TheVariants.{Unreadable}
 
--- bytes that went and are no segment break the first rule of all (RFC 9293, 3.1), and tell nothing
+-- bytes that were sent and are no segment break the first rule of all (RFC 9293, 3.1), and add nothing to what is known
 abbrev pub finding_read : Known → Result Content DecodeError → Option Finding
 finding_read k (Ok v) = finding_of k v
 finding_read k (Err fault) = Some (Unreadable fault)
@@ -31,7 +31,7 @@ abbrev pub known_past : Known → PassageContent → Known
 known_past k (Came src dst bytes) = known_came k (decode_answer src dst bytes)
 known_past k (Went src dst bytes) = known_read k (decode_answer src dst bytes)
 
--- the first finding, with the place of its segment in the log
+-- the first finding, with the index of its segment in the log
 abbrev pub placed_or : ℕ → Option Finding → Option (ℕ × Finding) → Option (ℕ × Finding)
 placed_or place None later = later
 placed_or place (Some finding) later = Some (place, finding)

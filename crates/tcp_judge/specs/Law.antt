@@ -13,7 +13,7 @@ use Rattle.tcp_judge.specs.Heard.{Heard, nothing_heard, after_went, after_came}
 use Rattle.tcp_judge.specs.Rules.{form_finding, heard_finding}
 use Rattle.tcp_judge.specs.Judgement.{IsClean}
 
--- what was heard after bytes that came, and after bytes that went
+-- what is known to have come after bytes that came, and after bytes that were sent
 abbrev pub heard_read : Heard → Result Content DecodeError → Heard
 heard_read h (Ok v) = after_came h v
 heard_read h (Err fault) = h
@@ -22,7 +22,7 @@ abbrev pub heard_went : Heard → Result Content DecodeError → Heard
 heard_went h (Ok v) = after_went h v
 heard_went h (Err fault) = h
 
--- a segment that went can be read, and breaks no rule of form, and none against what came
+-- a segment that was sent can be read, and breaks no rule of form, and none against what came
 abbrev pub IsSaidRight : Heard → List ℕ → List ℕ → List ℕ → Type 0
 IsSaidRight h src dst bytes = (v : Content) × (decode_answer src dst bytes ≡ Ok v) × (form_finding v ≡ None) × (heard_finding h v ≡ None)
 
@@ -36,7 +36,7 @@ abbrev pub NoFormOrAcknowledgementIsAccused : Type 0
 NoFormOrAcknowledgementIsAccused =
     (c : Config) (list : List SoloContent) → IsConfig c → AllByRecursion HasRanges list → AllSaidRight nothing_heard (log_alone c list)
 
--- OF EACH RULE, where no two positions of the stream lie 2^31 apart: its user sent so much less,
+-- OF EACH RULE, where any two positions of the stream are less than 2^31 apart: its user sent less than that,
 abbrev pub NoShortStreamIsAccused : Type 0
 NoShortStreamIsAccused =
     (c : Config) (list : List SoloContent) → IsConfig c → AllByRecursion HasRanges list → 2 + length (run_alone c list).accepted < 2 ^ 31

@@ -1,14 +1,14 @@
--- A LOG OF ONE END: what came to it and what went from it, in its order; and the log of an end of ours, event by event.
+-- A LOG OF ONE END: what came to it and what it sent, in its order; and the log of an end of tcp_conn, event by event.
 use Rattle.std.specs.Prelude.{ℕ, List, [], ◌∷◌, ◌++◌, Option, Some, None}
 use Rattle.tcp_halves.specs.declared.config.Config.{Config}
 use Rattle.tcp_conn.specs.State.{State}
 use Rattle.tcp_conn.specs.NewEnd.{new_end}
-use Rattle.tcp_replay.specs.Solo.{end_after, segment_due}
-use Rattle.tcp_replay.specs.SoloEvents.{SoloContent, Emit, Arrive}
+use Rattle.tcp_replay.specs.Solo.{end_after, segment_alone, segment_due}
+use Rattle.tcp_replay.specs.SoloEvents.{SoloContent, Emit, EmitAcknowledgement, Arrive}
 use Rattle.tcp_judge.specs.declared.passage.Passage.{Passage}
 use Rattle.tcp_judge.specs.declared.passage.Passage.TheVariants as code
 
--- a segment that came or went: the source and the destination of its bytes, and these
+-- a segment that came or was sent: the source and the destination of its bytes, and these
 pub data PassageContent : Type 0 where
   Came : List ℕ → List ℕ → List ℕ → PassageContent
   Went : List ℕ → List ℕ → List ℕ → PassageContent
@@ -24,6 +24,7 @@ went_from src (Some segment) = Went src segment.0 segment.1 ∷ []
 
 abbrev pub passages_of : List ℕ → State → SoloContent → List PassageContent
 passages_of src s Emit = went_from src (segment_due s)
+passages_of src s EmitAcknowledgement = went_from src (segment_alone s)
 passages_of src s (Arrive from to bytes) = Came from to bytes ∷ []
 passages_of src s other = []
 

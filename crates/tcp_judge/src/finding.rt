@@ -5,21 +5,26 @@ use tcp_wire::{DecodeError, Seq};
 pub enum Finding {
     /// The bytes are no segment (RFC 9293, 3.1).
     Unreadable(DecodeError),
-    /// An option that stands in SYNs alone stands in another segment (RFC 9293, 3.2; RFC 7323, 2.2; RFC 2018, 2).
+    /// An option of SYNs alone is in another segment (RFC 9293, 3.2; RFC 7323, 2.1; RFC 2018, 2).
     SynOption,
     /// A shift above 14 (RFC 7323, 2.3).
     GreatShift,
     /// ACK is missing in a segment that is neither a SYN nor a reset (RFC 9293, 3.1).
     NoAck,
-    /// A SYN has another number than the first one, which stands first here (RFC 9293, 3.4).
+    /// A SYN has another number than the first one, which comes first here (RFC 9293, 3.4).
     OtherInitial(Seq, Seq),
-    /// The text of the segment with this number has another byte at a position that went before (RFC 9293, 3.4).
+    /// The text of the segment with this number has another byte at a position that was sent before and isn't
+    /// acknowledged (RFC 9293, 3.4).
     OtherByte(Seq),
-    /// Text or FIN beyond the FIN: the position of the FIN, and that where the text or the other FIN ends (RFC 9293, 3.4 and
-    /// 3.6).
+    /// Text or FIN beyond the FIN: the position of the FIN, and that where the text or the other FIN ends (RFC 9293,
+    /// 3.4 and 3.6).
     BeyondFin(u64, u64),
-    /// This acknowledgement covers what didn't come, or falls (RFC 9293, 3.4 and 3.10.7.4).
+    /// This acknowledgement covers what didn't come, or is less than an earlier one (RFC 9293, 3.4 and 3.10.7.4).
     AckBeyond(Seq),
-    /// A SYN that acknowledges another has the window scale or SACK-permitted, and no SYN that came had it (RFC 7323, 2.2; RFC 2018, 2).
+    /// A SYN that acknowledges another has the window scale, and no SYN that came had it (RFC 7323, 1.3 and 2.2).
     Unoffered,
+    /// Blocks are reported, and no SYN that came permitted selective acknowledgement (RFC 2018, 4).
+    Unpermitted,
+    /// A block of what didn't come: its left edge and the number after its last (RFC 2018, 3).
+    BlockBeyond(Seq, Seq),
 }

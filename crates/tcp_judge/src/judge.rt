@@ -1,36 +1,42 @@
 //! What is known of an end's own direction, and the rules of positions.
-ghost use Rattle.std.specs.Prelude.{◌≡◌, ◌+◌, ◌-◌, ◌<◌, ◌≤◌, ◌^◌, IfOk, OnOk, OnErr, length, drop};
+ghost use Rattle.std.specs.Prelude.{◌≡◌, ◌+◌, ◌<◌, ◌≤◌, ◌^◌, IfOk, OnOk, OnErr, length};
 ghost use Rattle.tcp_wire.specs.Decoded.{decode_answer};
 ghost use Rattle.tcp_wire.specs.View.{content};
 ghost use Rattle.tcp_wire.specs.Wire.{max_text_len};
-ghost use Rattle.tcp_judge.specs.Known.{nothing_known, is_syn, initial_after, place_of, sent_after, known_after};
-ghost use Rattle.tcp_judge.specs.Heard.{tells_beyond};
-ghost use Rattle.tcp_judge.specs.Rules.{agrees, changes_bytes, initial_by, fin_by, fin_finding, position_finding, finding_of};
+ghost use Rattle.tcp_judge.specs.Known.{nothing_known, is_syn, initial_after, place_of, known_after, count_acked};
+ghost use Rattle.tcp_judge.specs.Heard.{tells_beyond, told_after, after_went};
+ghost use Rattle.tcp_judge.specs.Rules.{initial_by, fin_by, fin_finding, position_finding, report_finding, finding_of};
 ghost use Rattle.tcp_judge.specs.Judgement.{finding_read, known_read, known_came, finding_at, known_past};
 ghost use Rattle.tcp_judge.specs.Log.{passage_content};
 
 use crate::finding::Finding;
 use crate::form::form_finding;
-use crate::heard::{count_numbers, is_of_came, offers_sack, offers_scale, oversteps, tells};
+use crate::heard::{
+    forget_passed, goes_further, is_of_came, keep_span, keep_syn, offers_sack, offers_scale,
+    oversteps, tells,
+};
 use crate::passage::Passage;
-use std::alloc::{AllocError, Global};
+use crate::reports::{any_report, options_finding};
+use crate::stream::Stream;
+use std::alloc::{AllocError, Allocator, Global};
 use std::marker::Model;
 use tcp_wire::{Addr, Segment, Seq, decode};
 
-/// Takes the segments of one connection in the order of the end that is judged. A clause sees it as what is known so far.
+/// Takes the segments of one connection in the order of the end that is judged. It keeps what isn't acknowledged of what
+/// was sent, and of what came. A clause sees it as what is known up to now.
 #[derive(Debug, Drop)]
-pub struct Judge {
-    /// The number of the first SYN that went.
+pub struct Judge<A: Allocator = Global> {
+    /// The number of the first SYN that was sent.
     initial: Option<Seq>,
-    /// The stream from its first byte on, as far as it went without a gap.
-    sent: Vec<u8>,
+    /// What was sent, as far as it isn't acknowledged.
+    stream: Stream<A>,
     /// The position of the FIN.
     fin: Option<u64>,
-    /// Of each segment that came its number, and how many numbers it takes.
-    spans: Vec<(Seq, u32)>,
-    /// The number of each SYN that came.
-    syns: Vec<Seq>,
-    /// The acknowledgement that went last.
+    /// The number of each segment that came, and how many numbers it takes, as far as they aren't acknowledged.
+    spans: Vec<(Seq, u32), A>,
+    /// The number of each SYN that came before anything was acknowledged.
+    syns: Vec<Seq, A>,
+    /// The acknowledgement that was sent, the furthest one.
     told: Option<Seq>,
     /// Whether a SYN that came offered a window scale.
     scaling: bool,
@@ -38,20 +44,12 @@ pub struct Judge {
     sack: bool,
 }
 
-impl Model for Judge {
+impl<A: Allocator> Model for Judge<A> {
     ghost use Rattle.tcp_judge.specs.Known.{Known};
 
     ghost Value = { Known };
 
-    ghost view = { λ j. record { initial = j.initial; sent = j.sent.items; fin = j.fin; heard = record { spans = j.spans.items; syns = j.syns.items; told = j.told; scaling = j.scaling; sack = j.sack } } };
-}
-
-/// Whether the two are the same as far as both go.
-fn agrees(one: &[u8], other: &[u8]) -> bool
-    ensures { result ≡ agrees one.now other.now }
-{
-    let count = one.len().min(other.len());
-    one[..count] == other[..count]
+    ghost view = { λ j. record { initial = j.initial; stream = j.stream; fin = j.fin; heard = record { spans = j.spans.items; syns = j.syns.items; told = j.told; scaling = j.scaling; sack = j.sack } } };
 }
 
 fn is_syn(segment: &Segment<'_>) -> bool
@@ -110,13 +108,22 @@ fn fin_by(known: Option<u64>, behind: u64, end: u64, segment: &Segment<'_>) -> O
 }
 
 impl Judge {
-    /// A judge to whom nothing is known.
+    /// A judge that knows nothing.
     pub fn new(alloc: Global) -> Self
+        ensures { result ≡ nothing_known }
+    {
+        Self::new_in(alloc)
+    }
+}
+
+impl<A: Allocator + Copy> Judge<A> {
+    /// A judge that knows nothing, over any allocator.
+    pub fn new_in(alloc: A) -> Self
         ensures { result ≡ nothing_known }
     {
         Judge {
             initial: None,
-            sent: Vec::new(alloc),
+            stream: Stream::new(alloc),
             fin: None,
             spans: Vec::new(alloc),
             syns: Vec::new(alloc),
@@ -126,7 +133,7 @@ impl Judge {
         }
     }
 
-    /// Where the segment's text begins, or 0.
+    /// The position where the segment's text begins, or 0.
     fn place(&self, segment: &Segment<'_>) -> u64
         ensures place { result ≡ place_of self.now (content segment.now) }
         ensures most { result < 2 ^ 63 + 2 ^ 32 }
@@ -138,22 +145,12 @@ impl Judge {
             return 0;
         }
         let _number = segment.header.seq.0;
-        let place = segment.header.seq.position(number, self.sent.len() as u64);
+        let place = segment.header.seq.position(number, self.stream.count());
         if segment.header.flags.is_syn() {
             place + 1
         } else {
             place
         }
-    }
-
-    /// Whether the text has another byte at a position that went before.
-    fn changes_bytes(&self, place: u64, text: &[u8]) -> bool
-        ensures { result ≡ changes_bytes self.now.sent place text.now }
-    {
-        if place == 0 || place > self.sent.len() as u64 {
-            return false;
-        }
-        !agrees(&self.sent[place as usize - 1..], text)
     }
 
     fn fin_finding(&self, place: u64, segment: &Segment<'_>) -> Option<Finding>
@@ -164,7 +161,7 @@ impl Judge {
         if place == 0 {
             return None;
         }
-        let behind = 1 + self.sent.len() as u64;
+        let behind = 1 + self.stream.count();
         fin_by(self.fin, behind, place + segment.text.len() as u64, segment)
     }
 
@@ -177,7 +174,7 @@ impl Judge {
         if let Some(finding) = initial_by(self.initial, segment) {
             return Some(finding);
         }
-        if self.changes_bytes(place, segment.text) {
+        if self.stream.changes_bytes(place, segment.text) {
             return Some(Finding::OtherByte(segment.header.seq));
         }
         self.fin_finding(place, segment)
@@ -199,13 +196,35 @@ impl Judge {
         if self.tells_beyond(segment) {
             return Some(Finding::AckBeyond(segment.header.ack));
         }
-        if oversteps(self.scaling, self.sack, segment) {
+        if oversteps(self.scaling, segment) {
             return Some(Finding::Unoffered);
         }
-        None
+        self.report_finding(segment)
     }
 
-    /// Whether the acknowledgement covers what didn't come, or falls.
+    /// The furthest acknowledgement, that of this segment included.
+    fn told_after(&self, segment: &Segment<'_>) -> Option<Seq>
+        ensures { result ≡ told_after self.now.heard.told (content segment.now) }
+    {
+        if goes_further(self.told, segment) {
+            Some(segment.header.ack)
+        } else {
+            self.told
+        }
+    }
+
+    /// The first rule of blocks that the segment breaks.
+    fn report_finding(&self, segment: &Segment<'_>) -> Option<Finding>
+        ensures { result ≡ report_finding self.now.heard (content segment.now) }
+    {
+        let options = segment.options.as_slice();
+        if any_report(options) && !self.sack {
+            return Some(Finding::Unpermitted);
+        }
+        options_finding(self.told_after(segment), self.spans.as_slice(), options)
+    }
+
+    /// Whether the acknowledgement covers what didn't come, or is less than an earlier one.
     fn tells_beyond(&self, segment: &Segment<'_>) -> bool
         ensures { result ≡ tells_beyond self.now.heard (content segment.now) }
     {
@@ -218,24 +237,19 @@ impl Judge {
             )
     }
 
-    /// The stream goes on by what the text has beyond its end. Memory is taken first.
-    fn extend(&mut self, place: u64, text: &[u8]) -> Result<(), AllocError>
-        ensures sent { OnOk result (self.new ≡ record self.old { sent = sent_after self.old.sent place text.now }) }
-        ensures err { OnErr result (self.new ≡ self.old) }
+    /// Adds the acknowledgement of a segment that was sent, and forgets what came before it.
+    fn tell(&mut self, segment: &Segment<'_>)
+        ensures { self.new ≡ record self.old { heard = after_went self.old.heard (content segment.now) } }
     {
-        let behind = 1 + self.sent.len() as u64;
-        if place == 0 || place > behind {
-            return Ok(());
+        if !goes_further(self.told, segment) {
+            return;
         }
-        let known = (behind - place) as usize;
-        if known < text.len() {
-            self.sent.reserve(text.len() - known)?;
-            let _ = self.sent.extend_from_slice(&text[known..]);
-        }
-        Ok(())
+        forget_passed(&mut self.spans, segment.header.ack);
+        self.syns.clear();
+        self.told = Some(segment.header.ack);
     }
 
-    /// The segment is known from here on.
+    /// Adds a segment that was sent to what is known.
     fn learn(&mut self, place: u64, segment: &Segment<'_>) -> Result<(), AllocError>
         requires place { place ≡ place_of self.old (content segment.now) }
         requires most { place < 2 ^ 63 + 2 ^ 32 }
@@ -243,18 +257,32 @@ impl Judge {
         ensures known { OnOk result (self.new ≡ known_after self.old (content segment.now)) }
         ensures err { OnErr result (self.new ≡ self.old) }
     {
-        self.extend(place, segment.text)?;
+        self.stream.extend(place, segment.text)?;
         if place > 0 && segment.header.flags.is_fin() {
             self.fin = Some(place + segment.text.len() as u64);
         }
         self.initial = initial_after(self.initial, segment);
-        if tells(segment) {
-            self.told = Some(segment.header.ack);
-        }
+        self.tell(segment);
         Ok(())
     }
 
-    /// A segment came from `src` to `dst`. After an `Err` nothing more is known than before.
+    /// How many of the bytes that are kept a segment that came acknowledges.
+    fn count_acked(&self, segment: &Segment<'_>) -> usize
+        ensures count { result ≡ count_acked self.now (content segment.now) }
+        ensures most { result ≤ length self.now.stream.sent }
+    {
+        let Some(number) = self.initial else {
+            return 0;
+        };
+        if !tells(segment) {
+            return 0;
+        }
+        let position = segment.header.ack.position(number, self.stream.count());
+        self.stream.count_covered(self.fin.is_some(), position)
+    }
+
+    /// A segment came from `src` to `dst`. The text that it acknowledges is forgotten. After an `Err`, for which there was
+    /// no memory, no more is known than before.
     pub fn came(&mut self, src: Addr, dst: Addr, bytes: &[u8]) -> Result<(), AllocError>
         ensures known { OnOk result (self.new ≡ known_came self.old (decode_answer src.0 dst.0 bytes.now)) }
         ensures err { OnErr result (self.new ≡ self.old) }
@@ -265,18 +293,18 @@ impl Judge {
         };
         self.spans.reserve(1)?;
         self.syns.reserve(1)?;
-        self.spans
-            .push_reserved((segment.header.seq, count_numbers(&segment)));
-        if segment.header.flags.is_syn() {
-            self.syns.push_reserved(segment.header.seq);
-        }
+        keep_span(&mut self.spans, &segment);
+        keep_syn(self.told, &mut self.syns, &segment);
+        let acked = self.count_acked(&segment);
+        self.stream.release(acked);
         self.scaling = self.scaling || offers_scale(&segment);
         self.sack = self.sack || offers_sack(&segment);
         Ok(())
     }
 
-    /// A segment went from `src` to `dst`: the first rule that it breaks, if it breaks one. After an `Err` nothing more is known
-    /// than before.
+    /// A segment was sent from `src` to `dst`: the first rule that it breaks, if it breaks one. What it acknowledges is
+    /// forgotten. After an `Err`, for which there was no memory, no more is known than before; a stream of 2^63 bytes has
+    /// none.
     pub fn went(
         &mut self,
         src: Addr,
@@ -297,7 +325,7 @@ impl Judge {
         Ok(finding)
     }
 
-    /// The same of a passage of a log. What came breaks no rule.
+    /// A passage of a log: [`came`](Judge::came) or [`went`](Judge::went). What came breaks no rule.
     pub fn take(&mut self, passage: &Passage) -> Result<Option<Finding>, AllocError>
         ensures finding { IfOk result (λ finding. finding ≡ finding_at self.old (passage_content passage.now)) }
         ensures known { OnOk result (self.new ≡ known_past self.old (passage_content passage.now)) }

@@ -8,7 +8,7 @@ use crate::judge::Judge;
 use crate::passage::Passage;
 use std::alloc::{AllocError, Global};
 
-/// The first segment of a log that went and breaks a rule: its place in the log and the rule.
+/// The first segment of a log that was sent and breaks a rule: its index in the log and the rule.
 pub fn judge_log(alloc: Global, log: &[Passage]) -> Result<Option<(usize, Finding)>, AllocError>
     ensures { IfOk result (λ first. first ≡ first_finding nothing_known 0 (map passage_content log.now)) }
 {

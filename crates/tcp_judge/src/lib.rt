@@ -1,12 +1,16 @@
-//! A judge of one end of a TCP connection, which is proved to accuse no correct one: what went from an end is held against the rules of
-//! form, of positions and of acknowledgements (RFC 9293, 3.1 to 3.6; RFC 7323, 2; RFC 2018, 2).
+//! A judge of one end of a TCP connection, which is proved to accuse no correct one. It compares what an end sent with
+//! the rules of form, of positions, of acknowledgements and of blocks (RFC 9293, 3.1 to 3.6; RFC 7323, 2; RFC 2018, 2 to
+//! 4).
 //!
-//! - [`Judge`] takes what came and went in the order of the end, and answers a [`Finding`] for a segment that breaks a rule.
-//! - [`judge_log`] goes through a whole log of [`Passage`]s, and answers the first.
-//! - [`no_correct_end_is_accused`], [`no_short_stream_is_accused`] and [`no_acknowledgement_is_accused`] are the theorems, over every
-//!   list of events of an end of `tcp_conn`.
+//! - [`Judge`] takes what came and was sent in the order of the end, and returns a [`Finding`] for a segment that
+//!   breaks a rule.
+//! - [`judge_log`] goes over a whole log of [`Passage`]s, and returns the first.
+//! - [`no_correct_end_is_accused`], [`no_short_stream_is_accused`] and [`no_acknowledgement_is_accused`] are the
+//!   theorems, over every list of events of an end of `tcp_conn`.
 //!
-//! Left out: blocks and windows, and when anything happens.
+//! What is acknowledged is forgotten, so that the state is bounded by what is in flight.
+//!
+//! Left out: windows, which block comes first, and when anything happens.
 #![tactic(auto)]
 
 mod finding;
@@ -16,6 +20,8 @@ mod heard;
 mod judge;
 mod judging;
 mod passage;
+mod reports;
+mod stream;
 
 pub use finding::Finding;
 pub use headline::{

@@ -1,16 +1,19 @@
--- What the module answers: a text, or the line of a fault.
-use Rattle.std.specs.Prelude.{◌≡◌, ◌⊎◌, ℕ, Bool, List, [], ◌∷◌, ◌++◌, length, codes, decimal, Option, Some, None, Result, Ok, if◌then◌else◌, ◌==◌, true, false}
+-- The answers of the module: a text, or the line of a fault.
+use Rattle.std.specs.Prelude.{◌≡◌, ◌⊎◌, ℕ, Bool, List, [], ◌∷◌, ◌++◌, length, codes, decimal, Option, Some, None, Result, Ok, if◌then◌else◌, ◌==◌, true, false, not}
 use Rattle.tcp_halves.specs.Config.{config_error_number}
 use Rattle.tcp_replay.specs.declared.event.Side.{Side}
 use Rattle.tcp_replay.specs.declared.event.Side.TheVariants.{A, B}
 use Rattle.tcp_replay.specs.Names.{side_name}
 use Rattle.tcp_replay.specs.World.{HasGoodConfigs}
 use Rattle.kit_script.specs.Script.{ScriptContent, script_of}
+use Rattle.kit_report.specs.Ends.{numbers_text, sent_text}
 use Rattle.kit_report.specs.Rules.{shown_rule}
 use Rattle.kit_report.specs.Steps.{steps_text, shown_segment}
 use Rattle.kit_commands.specs.declared.errors.ToolError.{ToolError}
 use Rattle.kit_commands.specs.declared.errors.ToolError.TheVariants.{BadLine, NoMemory, ReadFault, WriteFault, Config as ConfigFault}
 use Rattle.kit_commands.specs.Listing.{listing_of}
+use Rattle.kit_judge.specs.Verdict.{ReportContent, report_of}
+use Rattle.kit_judge.specs.declared.report.Shown.TheVariants.{Each}
 use Rattle.kit_commands.specs.Replay.{IsReport, RefusesText}
 
 -- the numbers of the answers
@@ -32,7 +35,7 @@ no_room = 4
 abbrev pub no_segment : ℕ
 no_segment = 5
 
--- A FAULT's line, as the program writes it
+-- THE LINE OF A FAULT, as the program writes it
 abbrev pub config_fault_text : Side → ℕ → List ℕ
 config_fault_text side number = codes "tcpkit: config " ++ (side_name side ++ (codes " " ++ (decimal number ++ (10 ∷ []))))
 
@@ -43,7 +46,7 @@ fault_text NoMemory = codes "tcpkit: 42" ++ (10 ∷ [])
 fault_text ReadFault = codes "tcpkit: 43" ++ (10 ∷ [])
 fault_text WriteFault = codes "tcpkit: 44" ++ (10 ∷ [])
 
--- a fault of a text: a line that can't be read, or a Config that no end is made from
+-- a fault of a text: a line that can't be read, or a Config from which no end can be made
 abbrev pub IsOfText : ToolError → Type 0
 IsOfText (BadLine line) = Unit {0}
 IsOfText (ConfigFault side error) = Unit {0}
@@ -58,7 +61,7 @@ pub record IsFaultLine (text line : List ℕ) : Type 0 where
   pub cause : RefusesText text error
   pub line_is : line ≡ fault_text error
 
--- the report of a text, whether all was well or not
+-- the report of a text, with a refused call or step or without
 abbrev pub IsAnyReport : List ℕ → List ℕ → Type 0
 IsAnyReport text report = IsReport text report true ⊎ IsReport text report false
 
@@ -69,7 +72,7 @@ pub record IsSteps (text steps : List ℕ) : Type 0 where
   pub configs : HasGoodConfigs script.a script.b
   pub steps_are : steps ≡ steps_text script
 
--- THE SEGMENT of a side with this number, if its run has one: what it says
+-- THE SEGMENT of a side with this number, if its run has one: its meaning
 pub record IsSegment (text : List ℕ) (side : Side) (k : ℕ) (shown : Option (List ℕ)) : Type 0 where
   pub script : ScriptContent
   pub meaning : script_of text ≡ Ok script
@@ -81,14 +84,45 @@ pub record IsListing (list listing : List ℕ) (answer : Result Bool ℕ) : Type
   pub text_is : listing ≡ (listing_of list).text
   pub answer_is : (listing_of list).answer ≡ answer
 
--- THE RULE by which the segment is judged that event n, from 0, delivers, if it delivers one
+-- THE VERDICT on a log of one end: the report of each finding, and whether there is none; or the first bad line
+abbrev pub verdict_on : List ℕ → Bool → Result ReportContent ℕ
+verdict_on log complete = report_of Each complete log
+
+abbrev pub IsVerdict : List ℕ → Bool → List ℕ → Bool → Type 0
+IsVerdict log complete report clean = verdict_on log complete ≡ Ok (record { text = report; is_clean = clean })
+
+-- room is missing for a report of this length
+pub record WantsVerdict (log : List ℕ) (complete : Bool) (len : ℕ) : Type 0 where
+  pub report : ReportContent
+  pub is_report : verdict_on log complete ≡ Ok report
+  pub len_is : len ≡ length report.text
+
+-- a flag that a page passes as a number
+abbrev pub is_set : ℕ → Bool
+is_set n = not (n == 0)
+
+-- THE RULE that applies to the segment that event n, from 0, delivers, if it delivers one
 pub record IsRule (text : List ℕ) (n : ℕ) (rule : Option (List ℕ)) : Type 0 where
   pub script : ScriptContent
   pub meaning : script_of text ≡ Ok script
   pub configs : HasGoodConfigs script.a script.b
   pub rule_is : rule ≡ shown_rule script n
 
--- WHAT WANTS ROOM: a text or a fault's line of this length
+-- THE NUMBERS and timers of both ends after the first n events, or after all where there are fewer
+pub record IsNumbers (text : List ℕ) (n : ℕ) (numbers : List ℕ) : Type 0 where
+  pub script : ScriptContent
+  pub meaning : script_of text ≡ Ok script
+  pub configs : HasGoodConfigs script.a script.b
+  pub numbers_are : numbers ≡ numbers_text script n
+
+-- ALL SEGMENTS that the run of a text emits, as a list
+pub record IsSent (text sent : List ℕ) : Type 0 where
+  pub script : ScriptContent
+  pub meaning : script_of text ≡ Ok script
+  pub configs : HasGoodConfigs script.a script.b
+  pub sent_are : sent ≡ sent_text script
+
+-- ROOM IS MISSING for a text or a fault's line of this length
 pub record WantsRoom (IsWritten : List ℕ → Type 0) (script : List ℕ) (len : ℕ) : Type 0 where
   pub text : List ℕ
   pub is_written : IsWritten text ⊎ IsFaultLine script text

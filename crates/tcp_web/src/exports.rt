@@ -2,17 +2,18 @@
 ghost use Rattle.std.specs.Prelude.{◌≡◌, ◌≢◌, ◌≤◌, ◌<◌, ◌⊎◌, true, false, length, take, Some, None, IfSome, IsNone, Ok, Err};
 ghost use Rattle.kit_commands.specs.Listing.{listing_of};
 ghost use Rattle.kit_commands.specs.Replay.{IsReport};
-ghost use Rattle.tcp_web.specs.Answers.{well, refused, fault, no_memory, no_room, no_segment, side_of, fault_text, IsOfText, IsFaultLine, IsAnyReport, IsRule, IsSteps, IsSegment, IsListing, WantsRoom};
+ghost use Rattle.tcp_web.specs.Answers.{well, refused, fault, no_memory, no_room, no_segment, side_of, fault_text, IsOfText, IsFaultLine, IsAnyReport, IsRule, IsSteps, IsSegment, IsNumbers, IsSent, IsListing, WantsRoom, verdict_on, IsVerdict, WantsVerdict, is_set};
 
 use crate::answers::{FAULT, NO_MEMORY, NO_SEGMENT, REFUSED, WELL, put};
 use crate::faults::fault_line;
-use crate::texts::{rule_of, segment_of, steps_of};
+use crate::texts::{numbers_of, rule_of, segment_of, sent_of, steps_of};
 use kit_commands::{ToolError, list_segments, report_of};
+use kit_judge::{LogError, Shown, judge_text};
 use region_heap::{Block, Region};
 use std::alloc::Allocator;
 use tcp_replay::Side;
 
-/// Writes the line of a fault of the text; where memory ran out nothing, and the block is too small.
+/// Writes the line of a fault of the text. Where there was no memory it writes nothing: the block is too small.
 fn put_fault<A: Allocator>(alloc: A, error: ToolError, out: &mut [u8], count: &mut usize) -> u32
     ensures of_text { result ≢ no_memory → IsOfText error }
     ensures fault { result ≡ fault → take count.new out.new ≡ fault_text error }
@@ -46,7 +47,7 @@ pub extern "C" fn tcp_web_replay(
     ensures fault { result ≡ fault → IsFaultLine script.now (take count.new out.new) }
     ensures fits { result ≤ fault → count.new ≤ length out.old }
     ensures no_memory { result ≡ no_memory → count.new ≡ 0 }
-    // Where there is too little room, the length that is wanted is told.
+    // Where there is too little room, the length that is required is reported.
     ensures no_room { result ≡ no_room → (length out.old < count.new) × WantsRoom (IsAnyReport script.now) script.now count.new }
     ensures answers { result ≤ no_room }
 {
@@ -60,8 +61,8 @@ pub extern "C" fn tcp_web_replay(
     }
 }
 
-/// Writes the steps of a script: how both ends stand before its events and after each, with the report's line of each; or the
-/// line of its fault. [`WELL`] says that they are written, refused calls or not.
+/// Writes the steps of a script, or the line of its fault. They are the states of both ends before its events and after
+/// each, with the report's line of each. [`WELL`] says that they are written, with refused calls or without.
 #[unsafe(no_mangle)]
 pub extern "C" fn tcp_web_steps(
     memory: Block,
@@ -95,7 +96,7 @@ fn side_of(number: u32) -> Option<Side>
     }
 }
 
-/// Writes what one segment says that a side, 0 for A and 1 for B, emits in the run of a script, the segment of this number from 0;
+/// Writes the meaning of the segment `number`, from 0, that a side, 0 for A and 1 for B, emits in the run of a script;
 /// or the line of the script's fault.
 #[unsafe(no_mangle)]
 pub extern "C" fn tcp_web_show(
@@ -129,8 +130,8 @@ pub extern "C" fn tcp_web_show(
     }
 }
 
-/// Writes the listing of a list of segments: [`WELL`] where none is malformed, [`REFUSED`] where one is. With a bad line it ends before
-/// the first, whose number goes to `line`, and the answer is [`FAULT`]; else that is 0.
+/// Writes the listing of a list of segments: [`WELL`] where none is malformed, [`REFUSED`] where one is. With a bad
+/// line it ends before the first: the answer is [`FAULT`], and `line` is its number, else 0.
 #[unsafe(no_mangle)]
 pub extern "C" fn tcp_web_list(
     memory: Block,
@@ -168,9 +169,47 @@ pub extern "C" fn tcp_web_list(
     }
 }
 
-/// Writes by which rule the segment is judged that event `number`, from 0, of a script delivers (RFC 9293, 3.10.7): its name, and where
-/// the RFC has it; or the line of the script's fault. [`NO_SEGMENT`] where there is no such event or it delivers no segment. Of a
-/// repeated event it is the rule of the first turn.
+/// Judges a log of one end, and writes a line for each finding and then the counts: [`WELL`] where no rule is broken,
+/// [`REFUSED`] where one is. Where `is_complete` is 0 something that came may be missing, and no rule is tried against
+/// what came. With a bad line nothing is written: the answer is [`FAULT`], and `line` is its number, else 0.
+#[unsafe(no_mangle)]
+pub extern "C" fn tcp_web_judge(
+    memory: Block,
+    log: &[u8],
+    is_complete: u32,
+    out: &mut [u8],
+    count: &mut usize,
+    line: &mut usize,
+) -> u32
+    ensures well { result ≡ well → IsVerdict log.now (is_set is_complete) (take count.new out.new) true }
+    ensures refused { result ≡ refused → IsVerdict log.now (is_set is_complete) (take count.new out.new) false }
+    ensures fault { result ≡ fault → verdict_on log.now (is_set is_complete) ≡ Err line.new }
+    ensures nothing { result ≡ fault → count.new ≡ 0 }
+    ensures no_line { result ≢ fault → line.new ≡ 0 }
+    ensures fits { result ≤ fault → count.new ≤ length out.old }
+    ensures no_memory { result ≡ no_memory → count.new ≡ 0 }
+    ensures no_room { result ≡ no_room → (length out.old < count.new) × WantsVerdict log.now (is_set is_complete) count.new }
+    ensures answers { result ≤ no_room }
+{
+    *count = 0;
+    *line = 0;
+    let region = Region::new(memory);
+    match judge_text(&region, log, is_complete != 0, Shown::Each) {
+        Ok(report) => {
+            let answer = if report.is_clean { WELL } else { REFUSED };
+            put(report.text.as_bytes(), out, count, answer)
+        }
+        Err(LogError::BadLine { line: number }) => {
+            *line = number;
+            FAULT
+        }
+        Err(LogError::NoMemory) => NO_MEMORY,
+    }
+}
+
+/// Writes the name and RFC section of the rule that applies to the segment that event `number`, from 0, of a script
+/// delivers (RFC 9293, 3.10.7); or the line of the script's fault. [`NO_SEGMENT`] where there is no such event, or it
+/// delivers no segment. For a repeated event it is the rule of the first turn.
 #[unsafe(no_mangle)]
 pub extern "C" fn tcp_web_rule(
     memory: Block,
@@ -194,6 +233,55 @@ pub extern "C" fn tcp_web_rule(
     match rule_of(&region, script, number) {
         Ok(Some(rule)) => put(rule.as_bytes(), out, count, WELL),
         Ok(None) => NO_SEGMENT,
+        Err(error) => put_fault(&region, error, out, count),
+    }
+}
+
+/// Writes the sequence numbers and timers of both ends after the first `number` events of a script, or after all where
+/// there are fewer (RFC 9293, 3.3.1 and 3.10.8); or the line of the script's fault.
+#[unsafe(no_mangle)]
+pub extern "C" fn tcp_web_numbers(
+    memory: Block,
+    script: &[u8],
+    number: usize,
+    out: &mut [u8],
+    count: &mut usize,
+) -> u32
+    ensures well { result ≡ well → IsNumbers script.now number (take count.new out.new) }
+    ensures fault { result ≡ fault → IsFaultLine script.now (take count.new out.new) }
+    ensures fits { result ≤ fault → count.new ≤ length out.old }
+    ensures no_memory { result ≡ no_memory → count.new ≡ 0 }
+    ensures no_room { result ≡ no_room → (length out.old < count.new) × WantsRoom (IsNumbers script.now number) script.now count.new }
+    ensures answers { result ≤ no_room }
+    ensures unrefused { result ≢ refused }
+{
+    let region = Region::new(memory);
+    match numbers_of(&region, script, number) {
+        Ok(numbers) => put(numbers.as_bytes(), out, count, WELL),
+        Err(error) => put_fault(&region, error, out, count),
+    }
+}
+
+/// Writes all segments that both sides emit in the run of a script, a list as `tcpkit decode` reads it, those of A
+/// first; or the line of the script's fault.
+#[unsafe(no_mangle)]
+pub extern "C" fn tcp_web_sent(
+    memory: Block,
+    script: &[u8],
+    out: &mut [u8],
+    count: &mut usize,
+) -> u32
+    ensures well { result ≡ well → IsSent script.now (take count.new out.new) }
+    ensures fault { result ≡ fault → IsFaultLine script.now (take count.new out.new) }
+    ensures fits { result ≤ fault → count.new ≤ length out.old }
+    ensures no_memory { result ≡ no_memory → count.new ≡ 0 }
+    ensures no_room { result ≡ no_room → (length out.old < count.new) × WantsRoom (IsSent script.now) script.now count.new }
+    ensures answers { result ≤ no_room }
+    ensures unrefused { result ≢ refused }
+{
+    let region = Region::new(memory);
+    match sent_of(&region, script) {
+        Ok(sent) => put(sent.as_bytes(), out, count, WELL),
         Err(error) => put_fault(&region, error, out, count),
     }
 }

@@ -6,7 +6,7 @@ use kit_commands::ToolError;
 use std::alloc::{AllocError, Allocator};
 use tcp_replay::Side;
 
-/// Appends the line of a fault of what an end is made from.
+/// Appends the line of a fault of an end's Config.
 fn push_config_fault<A: Allocator>(
     text: &mut String<A>,
     side: Side,

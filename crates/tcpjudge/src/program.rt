@@ -1,13 +1,23 @@
 //! The program: its words, its file, and its exit status.
 use crate::fault::Fault;
-use crate::judging::{Report, judge_lines};
-use crate::words::read_words;
+use crate::words::{Job, read_words};
 use kit_io::{Counted, read_all, write_all};
-use kit_text::Lines;
-use std::alloc::Global;
+use kit_judge::{Shown, judge_text};
 use std::fs::File;
 use std::rt::{Env, Files};
 use std::{env, io};
+
+const STANDARD_INPUT: &str = "/dev/stdin";
+
+/// What `--help` prints.
+const HELP: &str = "tcpjudge [--complete] FILE
+
+Judges one end of a TCP connection by a log of what came to it and what it sent, in its order. A line is
+'came SOURCE DESTINATION HEX' or 'went SOURCE DESTINATION HEX'; FILE is - for the standard input.
+--complete says that nothing that came is missing: only then rules are tried against what came.
+Prints the first finding of each rule with its line and section, and then the counts.
+The status is 0 where no rule is broken, 1 where one is, and 2 where the words, the file or a line have a fault.
+";
 
 /// No rule is broken.
 const CLEAN: u8 = 0;
@@ -32,34 +42,39 @@ fn words(rt: &(impl Env + AllocGlobal)) -> Result<Vec<String>, Fault> {
     }
 }
 
-/// The report of a text.
-fn report(alloc: Global, text: &[u8]) -> Result<Report, Fault> {
-    match Lines::new(text) {
-        Ok(lines) => judge_lines(alloc, lines),
-        Err(line) => Err(Fault::BadLine { line }),
-    }
-}
-
-/// Judges the log in this file, and prints the report.
-fn judge_file(rt: &(impl Files + Print + AllocGlobal), path: &str) -> Result<bool, Fault> {
+/// The text of a file, or of the standard input where its name is `-`.
+fn read_log(rt: &(impl Files + AllocGlobal), path: &str) -> Result<Vec<u8>, Fault> {
+    let path = if path == "-" { STANDARD_INPUT } else { path };
     let Ok(file) = File::open(rt, path) else {
         return Err(Fault::ReadFault);
     };
     let mut input = Counted::new(file);
-    let text = read_all(rt.alloc(), &mut input)?;
-    let report = report(rt.alloc(), &text)?;
-    let mut output = Counted::new(io::writer(rt));
-    write_all(&mut output, report.text.as_bytes())?;
-    Ok(report.is_clean)
+    Ok(read_all(rt.alloc(), &mut input)?)
 }
 
+fn write_text(rt: &impl Print, text: &str) -> Result<(), Fault> {
+    let mut output = Counted::new(io::writer(rt));
+    Ok(write_all(&mut output, text.as_bytes())?)
+}
+
+/// Does the job, and returns whether no rule is broken.
 fn work(rt: &(impl Env + Files + Print + AllocGlobal)) -> Result<bool, Fault> {
     let words = words(rt)?;
-    let path = read_words(rt.alloc(), words)?;
-    judge_file(rt, &path)
+    match read_words(rt.alloc(), words)? {
+        Job::Help => {
+            write_text(rt, HELP)?;
+            Ok(true)
+        }
+        Job::Judge { path, is_complete } => {
+            let text = read_log(rt, &path)?;
+            let report = judge_text(rt.alloc(), &text, is_complete, Shown::FirstOfRule)?;
+            write_text(rt, &report.text)?;
+            Ok(report.is_clean)
+        }
+    }
 }
 
-/// Does what the words ask for, and answers the exit status. A fault is reported by one line on standard error.
+/// Does what the words request, and returns the exit status. A fault is reported by one line on standard error.
 pub(crate) fn run(rt: &(impl Env + Files + Print + Eprint + AllocGlobal)) -> u8 {
     match work(rt) {
         Ok(true) => CLEAN,

@@ -4,39 +4,60 @@ use clap::error::ErrorKind;
 use clap::{Arg, ArgAction, ArgMatches, Command, Error as ParseError};
 use std::alloc::{AllocError, Global};
 
+/// The job that the words request.
+#[derive(Debug, Drop)]
+pub(crate) enum Job {
+    /// To print what the program takes.
+    Help,
+    /// To judge a log.
+    Judge {
+        /// The path of the log, or `-`.
+        path: String,
+        /// Whether nothing that came is missing in it.
+        is_complete: bool,
+    },
+}
+
+const COMPLETE: &str = "complete";
+
 /// One form, with one file.
 fn form<'a>(alloc: Global) -> Result<Command<'a>, AllocError> {
     let file = Arg::new(alloc, "FILE")
         .required(true)
         .action(ArgAction::Set);
-    Command::new(alloc, "tcpjudge").arg(file)
+    let complete = Arg::new(alloc, COMPLETE)
+        .long(COMPLETE)
+        .action(ArgAction::SetTrue);
+    Command::new(alloc, "tcpjudge").arg(file)?.arg(complete)
 }
 
-/// Any refusal but want of memory is one of the words; so is a request for help.
-fn fault(error: &ParseError) -> Fault {
+/// What a refusal by clap means.
+fn refused(error: &ParseError) -> Result<Job, Fault> {
     match error.kind() {
-        ErrorKind::OutOfMemory => Fault::NoMemory,
-        _ => Fault::BadWords,
+        ErrorKind::DisplayHelp => Ok(Job::Help),
+        ErrorKind::OutOfMemory => Err(Fault::NoMemory),
+        _ => Err(Fault::BadWords),
     }
 }
 
-fn file(alloc: Global, matches: &ArgMatches) -> Result<String, Fault> {
+fn job_of(alloc: Global, matches: &ArgMatches) -> Result<Job, Fault> {
+    let is_complete = matches.get_flag(COMPLETE);
     let Some(file) = matches.get_str("FILE") else {
         return Err(Fault::BadWords);
     };
     match String::from_str(alloc, file) {
-        Ok(file) => Ok(file),
+        Ok(path) => Ok(Job::Judge { path, is_complete }),
         Err(_) => Err(Fault::NoMemory),
     }
 }
 
-/// The path of the log, from the program's words, its own name first.
-pub(crate) fn read_words(alloc: Global, words: Vec<String>) -> Result<String, Fault> {
+/// The job, from the program's words, its own name first.
+pub(crate) fn read_words(alloc: Global, words: Vec<String>) -> Result<Job, Fault> {
     let Ok(command) = form(alloc) else {
         return Err(Fault::NoMemory);
     };
     match command.try_get_matches_from(words.as_slice()) {
-        Ok(matches) => file(alloc, &matches),
-        Err(error) => Err(fault(&error)),
+        Ok(matches) => job_of(alloc, &matches),
+        Err(error) => refused(&error),
     }
 }

@@ -1,0 +1,153 @@
+"""The judge on captures of stacks that nobody here wrote, on planted faults, on captures that are cut, and on random logs.
+
+    judging.py TCPJUDGE [--netstack PROGRAM] [--peers FOLDER] [--short]
+
+`tcpjudge` and the second program have to say the same of each log. PROGRAM is netstack.go's; FOLDER has the programs that
+checks/peers/lwip.sh builds. --short has fewer random logs. Prints what each stack is accused of, and as its last line
+`N cases, M failed`. test.sh says what it wants.
+"""
+
+import argparse
+import collections
+import contextlib
+import io
+import os
+import pathlib
+import random
+import subprocess
+import tempfile
+
+from twice import Differs, Judges, rules
+
+import capture
+import planting
+import stacks
+from conversation import end_log, world_logs
+
+# What stands in the way of a clean log, by stack: the rules that it breaks in each run.
+ACCUSED = {}
+# Which cases of checks/peers are captured, and no capture with more segments is cut.
+PEER_CASES, MOST_CUT = range(7, 1400, 97), 120
+
+
+class Cases:
+    """How many cases there were, and how many of them failed."""
+
+    def __init__(self):
+        self.count = self.failed = 0
+
+    def holds(self, name, is_well, words=""):
+        self.count += 1
+        if not is_well:
+            self.failed += 1
+            print(f"FAILED: {name}: {words}")
+
+    @contextlib.contextmanager
+    def case(self, name):
+        """Whatever is raised in it fails it."""
+        try:
+            yield
+        except (Differs, OSError, subprocess.SubprocessError) as fault:
+            self.holds(name, False, fault)
+        else:
+            self.holds(name, True)
+
+
+def logs_of(taken):
+    """The log of each connection of a capture, by its number."""
+    found = capture.segments(taken.path)
+    for stream in sorted({stream for stream, segment in capture.streams(found) if segment.lack is None}):
+        with contextlib.redirect_stderr(io.StringIO()):
+            lines = capture.judge_lines(found, stream, taken.side, False)
+        yield stream, lines
+
+
+def peer_captures(folder, programs):
+    """Both sides of some cases of checks/peers: lwIP in its four builds and our own end."""
+    for program in sorted(programs.glob("lwip.*[A-Z]")) + [programs / "second"]:
+        for number in PEER_CASES:
+            prefix = folder / f"{program.name}-{number}"
+            subprocess.run([program, "--only", str(number)], env=os.environ | {"CAPTURE": str(prefix)}, stdout=subprocess.DEVNULL, check=False)
+            if prefix.with_name(f"{prefix.name}.own").exists():
+                opener = first_source(prefix.with_name(f"{prefix.name}.own"))
+                for end, address in ("own", 1), ("peer", 2):
+                    name = "our end" if end == "own" or program.name == "second" else "lwIP"
+                    yield stacks.Taken(name, prefix.with_name(f"{prefix.name}.{end}"), "A" if opener == address else "B")
+
+
+def first_source(path):
+    return capture.segments(path)[0].source[3]
+
+
+def judge_captures(cases, judges, captures):
+    """Each log of each capture by both judges. Answers the short logs that nobody accused, captured at the end itself."""
+    seen, clean = collections.defaultdict(collections.Counter), []
+    for taken in captures:
+        for stream, lines in logs_of(taken):
+            with cases.case(f"{taken.stack}: {taken.path.name}, connection {stream}, {taken.side}"):
+                is_accused = judges.accuses(lines, taken.is_whole)
+                broken = rules(lines, taken.is_whole)
+                seen[taken.stack].update(["connections", *broken])
+                seen[taken.stack]["segments"] += sum(line != "" for line in lines)
+                if broken - ACCUSED.get(taken.stack, set()):
+                    raise Differs(judges.report(lines, taken.is_whole)[0])
+                lines = [line for line in lines if line]
+                if taken.is_whole and not is_accused and len(lines) <= MOST_CUT:
+                    clean.append((taken, lines))
+    for stack, counts in seen.items():
+        accused = ", ".join(f"{rule} in {count}" for rule, count in counts.items() if rule not in ("connections", "segments"))
+        print(f"{stack}: {counts['connections']} connections, {counts['segments']} segments: {accused or 'nothing is accused'}")
+        cases.holds(stack, ACCUSED.get(stack, set()) <= set(counts), f"{ACCUSED.get(stack)} isn't found any more")
+    return clean
+
+
+def judge_cuts(cases, judges, clean):
+    """A clean log that begins later, ends earlier or lacks one segment isn't accused where it isn't said to be complete."""
+    count = 0
+    for taken, lines in clean:
+        with cases.case(f"{taken.stack}: {taken.path.name}, cut"):
+            for at in range(len(lines)):
+                for cut in lines[at + 1 :], lines[:at], lines[:at] + lines[at + 1 :]:
+                    count += 1
+                    if judges.accuses(cut, is_complete=False):
+                        raise Differs(f"cut at {at}: {judges.report(cut, False)[0]}")
+    print(f"{len(clean)} clean logs, cut in {count} ways: none is accused")
+
+
+def judge_random(cases, judges, count):
+    """Logs of the second program's ends under random calls, on random segments and under random scripts."""
+    for number in range(count):
+        rng = random.Random(number)
+        with cases.case(f"random log {number}"):
+            log = end_log(rng) if number % 2 else world_logs(rng)[number // 2 % 2]
+            if judges.accuses(log):
+                raise Differs(judges.report(log)[0])
+
+
+def read_words():
+    parser = argparse.ArgumentParser(description=__doc__, formatter_class=argparse.RawDescriptionHelpFormatter)
+    parser.add_argument("tcpjudge")
+    parser.add_argument("--netstack")
+    parser.add_argument("--peers", type=pathlib.Path)
+    parser.add_argument("--short", action="store_true")
+    return parser.parse_args()
+
+
+def main():
+    words, cases = read_words(), Cases()
+    judges = Judges(words.tcpjudge)
+    with tempfile.TemporaryDirectory() as name:
+        folder = pathlib.Path(name)
+        folder.chmod(0o777)
+        captures = [taken for make in stacks.captures(words.netstack) for taken in make(folder)]
+        captures += peer_captures(folder, words.peers) if words.peers else []
+        clean = judge_captures(cases, judges, captures)
+        judge_cuts(cases, judges, clean)
+    planting.judge_planted(cases, judges)
+    judge_random(cases, judges, 500 if words.short else 10000)
+    print(f"{judges.count} logs judged twice\n{cases.count} cases, {cases.failed} failed")
+    return int(cases.failed > 0 or cases.count == 0)
+
+
+if __name__ == "__main__":
+    raise SystemExit(main())

@@ -1,0 +1,64 @@
+-- A FINDING in words: the rule that a segment breaks, the numbers that show it, and the section of the rule.
+use Rattle.std.specs.Prelude.{ℕ, Bool, nat_le, List, [], ◌∷◌, ◌++◌, codes, decimal}
+use Rattle.tcp_wire.specs.Refusals.{decode_error_text}
+use Rattle.tcp_judge.specs.declared.finding.Finding.{Finding}
+use Rattle.tcp_judge.specs.declared.finding.Finding.TheVariants.{Unreadable, SynOption, GreatShift, NoAck, OtherInitial, OtherByte, BeyondFin, AckBeyond, Unoffered, Unpermitted, BlockBeyond}
+
+-- THE NUMBER of a finding's rule: those below 7 are of form and positions, the others compare with what came
+abbrev pub rule_number : Finding → ℕ
+rule_number (Unreadable fault) = 0
+rule_number SynOption = 1
+rule_number GreatShift = 2
+rule_number NoAck = 3
+rule_number (OtherInitial first other) = 4
+rule_number (OtherByte seq) = 5
+rule_number (BeyondFin place end) = 6
+rule_number (AckBeyond told) = 7
+rule_number Unoffered = 8
+rule_number Unpermitted = 9
+rule_number (BlockBeyond left right) = 10
+
+abbrev pub is_against_came : Finding → Bool
+is_against_came finding = nat_le 7 (rule_number finding)
+
+-- THE WORDS of form,
+abbrev pub unreadable_text : List ℕ → List ℕ
+unreadable_text fault = codes "no segment: " ++ (fault ++ codes " (RFC 9293, 3.1)")
+
+-- of positions,
+abbrev pub initial_text : ℕ → ℕ → List ℕ
+initial_text first other = codes "a SYN at " ++ (decimal other ++ (codes ", and the first at " ++ (decimal first ++ codes " (RFC 9293, 3.4)")))
+
+abbrev pub byte_text : ℕ → List ℕ
+byte_text seq = codes "another byte where one went before, in the text at " ++ (decimal seq ++ codes " (RFC 9293, 3.4)")
+
+abbrev pub fin_text : ℕ → ℕ → List ℕ
+fin_text place end = codes "text or FIN up to position " ++ (decimal end ++ (codes ", and the FIN at " ++ (decimal place ++ codes " (RFC 9293, 3.4)")))
+
+-- and against what came
+abbrev pub ack_text : ℕ → List ℕ
+ack_text told = codes "an acknowledgement of " ++ (decimal told ++ codes ", up to which not all came (RFC 9293, 3.4)")
+
+abbrev pub block_text : ℕ → ℕ → List ℕ
+block_text left right = codes "a block from " ++ (decimal left ++ (codes " to " ++ (decimal right ++ codes ", of which not all came (RFC 2018, 3)")))
+
+abbrev pub finding_text : Finding → List ℕ
+finding_text (Unreadable fault) = unreadable_text (decode_error_text fault)
+finding_text SynOption = codes "an option of SYNs in another segment (RFC 9293, 3.2)"
+finding_text GreatShift = codes "a shift above 14 (RFC 7323, 2.3)"
+finding_text NoAck = codes "no ACK (RFC 9293, 3.1)"
+finding_text (OtherInitial first other) = initial_text first.0 other.0
+finding_text (OtherByte seq) = byte_text seq.0
+finding_text (BeyondFin place end) = fin_text place end
+finding_text (AckBeyond told) = ack_text told.0
+finding_text Unoffered = codes "a SYN answers with a window scale that no SYN offered (RFC 7323, 2.2)"
+finding_text Unpermitted = codes "blocks, which no SYN that came permitted (RFC 2018, 4)"
+finding_text (BlockBeyond left right) = block_text left.0 right.0
+
+-- THE LINE of a finding, with the number of the log's line
+unfoldable pub finding_line : ℕ × Finding → List ℕ
+finding_line found = codes "line " ++ (decimal found.0 ++ (codes ": " ++ (finding_text found.1 ++ (10 ∷ []))))
+
+abbrev pub finding_lines : List (ℕ × Finding) → List ℕ
+finding_lines [] = []
+finding_lines (found ∷ later) = finding_line found ++ finding_lines later

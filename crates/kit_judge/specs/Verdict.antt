@@ -1,0 +1,99 @@
+-- THE REPORT of a log: a function from its whole text.
+use Rattle.std.specs.Prelude.{◌≡◌, ℕ, ◌==◌, Bool, ◌||◌, not, if◌then◌else◌, List, [], ◌∷◌, ◌++◌, length, codes, decimal, string_bytes}
+use Rattle.std.specs.Prelude.{Option, Some, None, Result, Ok, Err}
+use Rattle.std.specs.List.{list_any}
+use Rattle.kit_text.specs.Lines.{ascii_lines}
+use Rattle.tcp_judge.specs.Known.{Known, nothing_known}
+use Rattle.tcp_judge.specs.Judgement.{finding_at, known_past}
+use Rattle.tcp_judge.specs.declared.finding.Finding.{Finding}
+use Rattle.kit_judge.specs.Logs.{Passages, passages_of, first_bad_line}
+use Rattle.kit_judge.specs.Findings.{rule_number, is_against_came, finding_lines}
+use Rattle.kit_judge.specs.declared.judging.Findings.{Findings}
+use Rattle.kit_judge.specs.declared.report.Shown.{Shown}
+use Rattle.kit_judge.specs.declared.report.Shown.TheVariants.{FirstOfRule, Each}
+use Rattle.kit_judge.specs.declared.report.Report.{Report}
+use Rattle.kit_judge.specs.declared.error.LogError.{LogError}
+use Rattle.kit_judge.specs.declared.error.LogError.TheVariants.{BadLine, NoMemory}
+
+abbrev pub Found : Type 0
+Found = ℕ × Finding
+
+-- THE FINDINGS of a log: each segment that was sent and breaks a rule, with the number of its line. Of a log that isn't complete
+-- no finding counts that compares with what came
+abbrev pub counts : Bool → Finding → Bool
+counts complete finding = complete || not (is_against_came finding)
+
+abbrev pub found_at : Bool → ℕ → Option Finding → List Found
+found_at complete line None = []
+found_at complete line (Some finding) = if counts complete finding then (line, finding) ∷ [] else []
+
+unfoldable pub findings_from : Bool → Known → Passages → List Found
+findings_from complete k [] = []
+findings_from complete k (passage ∷ log) =
+    found_at complete passage.0 (finding_at k passage.1) ++ findings_from complete (known_past k passage.1) log
+
+abbrev pub findings_of : Bool → Passages → List Found
+findings_of complete log = findings_from complete nothing_known log
+
+-- what finding all of them returns, where there is memory: the first bad line, or the number of segments and the findings
+abbrev pub Finds : {A : Type 0} → Result (Findings A) LogError → Option ℕ → ℕ → List Found → Type 0
+Finds (Ok f) bad segments findings = (bad ≡ None) × (f.segments ≡ segments) × (f.found.items ≡ findings)
+Finds (Err (BadLine line)) bad segments findings = bad ≡ Some line
+Finds (Err NoMemory) bad segments findings = Unit {0}
+
+-- THOSE THAT ARE SHOWN: each, or the first of each rule, which is the one whose rule isn't among those before it
+abbrev pub is_among : List ℕ → Found → Bool
+is_among rules found = list_any (λ rule. rule == rule_number found.1) rules
+
+abbrev pub unless_among : List ℕ → Found → List Found → List Found
+unless_among rules found later = if is_among rules found then later else found ∷ later
+
+abbrev pub with_rule : List ℕ → Found → List ℕ
+with_rule rules found = if is_among rules found then rules else rules ++ rule_number found.1 ∷ []
+
+unfoldable pub firsts : List ℕ → List Found → List Found
+firsts rules [] = []
+firsts rules (found ∷ later) = unless_among rules found (firsts (with_rule rules found) later)
+
+abbrev pub shown : Shown → List Found → List Found
+shown Each findings = findings
+shown FirstOfRule findings = firsts [] findings
+
+-- THE LAST LINE counts all segments, and all that break a rule
+unfoldable pub counts_line : ℕ → ℕ → List ℕ
+counts_line segments findings = codes "segments " ++ (decimal segments ++ (codes " findings " ++ (decimal findings ++ (10 ∷ []))))
+
+pub record ReportContent : Type 0 where
+  pub text : List ℕ
+  pub is_clean : Bool
+
+abbrev pub report_content : {A : Type 0} → Report A → ReportContent
+report_content r = record { text = string_bytes r.text; is_clean = r.is_clean }
+
+abbrev pub report_of_findings : Shown → ℕ → List Found → ReportContent
+report_of_findings which segments findings = record {
+  text = finding_lines (shown which findings) ++ counts_line segments (length findings);
+  is_clean = length findings == 0;
+}
+
+abbrev pub report_of_log : Shown → Bool → Passages → ReportContent
+report_of_log which complete log = report_of_findings which (length log) (findings_of complete log)
+
+-- a bad line has no report
+abbrev pub report_unless : Option ℕ → ReportContent → Result ReportContent ℕ
+report_unless None report = Ok report
+report_unless (Some line) report = Err line
+
+abbrev pub report_of_lines : Shown → Bool → Result (List (ℕ × List ℕ)) ℕ → Result ReportContent ℕ
+report_of_lines which complete (Ok lines) = report_unless (first_bad_line lines) (report_of_log which complete (passages_of lines))
+report_of_lines which complete (Err line) = Err line
+
+-- of a whole text: its report, or its first bad line
+unfoldable pub report_of : Shown → Bool → List ℕ → Result ReportContent ℕ
+report_of which complete text = report_of_lines which complete (ascii_lines text)
+
+-- what judging a text returns, where there is memory
+abbrev pub Reports : {A : Type 0} → Result (Report A) LogError → Result ReportContent ℕ → Type 0
+Reports (Ok report) meaning = meaning ≡ Ok (report_content report)
+Reports (Err (BadLine line)) meaning = meaning ≡ Err line
+Reports (Err NoMemory) meaning = Unit {0}

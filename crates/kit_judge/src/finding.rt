@@ -1,0 +1,135 @@
+//! A finding in words.
+ghost use Rattle.std.specs.Prelude.{◌≡◌, ◌++◌, OnOk, string_bytes};
+ghost use Rattle.tcp_wire.specs.Refusals.{decode_error_text};
+ghost use Rattle.kit_judge.specs.Findings.{rule_number, is_against_came, unreadable_text, initial_text, byte_text, fin_text, ack_text, block_text, finding_text, finding_line};
+
+use std::alloc::{AllocError, Allocator};
+use tcp_judge::Finding;
+use tcp_wire::{DecodeError, Seq};
+
+/// The first rule that compares with what came.
+const FIRST_AGAINST_CAME: usize = 7;
+
+/// The number of the rule.
+pub(crate) fn rule_of(finding: Finding) -> usize
+    ensures { result ≡ rule_number finding }
+{
+    match finding {
+        Finding::Unreadable(_) => 0,
+        Finding::SynOption => 1,
+        Finding::GreatShift => 2,
+        Finding::NoAck => 3,
+        Finding::OtherInitial(_, _) => 4,
+        Finding::OtherByte(_) => 5,
+        Finding::BeyondFin(_, _) => 6,
+        Finding::AckBeyond(_) => 7,
+        Finding::Unoffered => 8,
+        Finding::Unpermitted => 9,
+        Finding::BlockBeyond(_, _) => 10,
+    }
+}
+
+/// Whether the rule compares with what came, of which nothing may be missing.
+pub(crate) fn is_against_came(finding: Finding) -> bool
+    ensures { result ≡ is_against_came finding }
+{
+    rule_of(finding) >= FIRST_AGAINST_CAME
+}
+
+fn push_unreadable<A: Allocator>(text: &mut String<A>, fault: DecodeError) -> Result<(), AllocError>
+    ensures { OnOk result (string_bytes text.new ≡ string_bytes text.old ++ unreadable_text (decode_error_text fault)) }
+{
+    write!(text, "no segment: {fault} (RFC 9293, 3.1)")
+}
+
+fn push_initial<A: Allocator>(
+    text: &mut String<A>,
+    first: Seq,
+    other: Seq,
+) -> Result<(), AllocError>
+    ensures { OnOk result (string_bytes text.new ≡ string_bytes text.old ++ initial_text first.0 other.0) }
+{
+    let first = first.0;
+    let other = other.0;
+    write!(
+        text,
+        "a SYN at {other}, and the first at {first} (RFC 9293, 3.4)"
+    )
+}
+
+fn push_byte<A: Allocator>(text: &mut String<A>, seq: Seq) -> Result<(), AllocError>
+    ensures { OnOk result (string_bytes text.new ≡ string_bytes text.old ++ byte_text seq.0) }
+{
+    let seq = seq.0;
+    write!(
+        text,
+        "another byte where one went before, in the text at {seq} (RFC 9293, 3.4)"
+    )
+}
+
+fn push_fin<A: Allocator>(text: &mut String<A>, place: u64, end: u64) -> Result<(), AllocError>
+    ensures { OnOk result (string_bytes text.new ≡ string_bytes text.old ++ fin_text place end) }
+{
+    write!(
+        text,
+        "text or FIN up to position {end}, and the FIN at {place} (RFC 9293, 3.4)"
+    )
+}
+
+fn push_ack<A: Allocator>(text: &mut String<A>, told: Seq) -> Result<(), AllocError>
+    ensures { OnOk result (string_bytes text.new ≡ string_bytes text.old ++ ack_text told.0) }
+{
+    let told = told.0;
+    write!(
+        text,
+        "an acknowledgement of {told}, up to which not all came (RFC 9293, 3.4)"
+    )
+}
+
+fn push_block<A: Allocator>(text: &mut String<A>, left: Seq, right: Seq) -> Result<(), AllocError>
+    ensures { OnOk result (string_bytes text.new ≡ string_bytes text.old ++ block_text left.0 right.0) }
+{
+    let left = left.0;
+    let right = right.0;
+    write!(
+        text,
+        "a block from {left} to {right}, of which not all came (RFC 2018, 3)"
+    )
+}
+
+/// Appends the rule, the numbers that show how it is broken, and its section.
+fn push_rule<A: Allocator>(text: &mut String<A>, finding: Finding) -> Result<(), AllocError>
+    ensures { OnOk result (string_bytes text.new ≡ string_bytes text.old ++ finding_text finding) }
+{
+    match finding {
+        Finding::Unreadable(fault) => push_unreadable(text, fault),
+        Finding::SynOption => text.push_str("an option of SYNs in another segment (RFC 9293, 3.2)"),
+        Finding::GreatShift => text.push_str("a shift above 14 (RFC 7323, 2.3)"),
+        Finding::NoAck => text.push_str("no ACK (RFC 9293, 3.1)"),
+        Finding::OtherInitial(first, other) => push_initial(text, first, other),
+        Finding::OtherByte(seq) => push_byte(text, seq),
+        Finding::BeyondFin(place, end) => push_fin(text, place, end),
+        Finding::AckBeyond(told) => push_ack(text, told),
+        Finding::Unoffered => text.push_str(
+            "a SYN answers with a window scale that no SYN offered (RFC 7323, 2.2)",
+        ),
+        Finding::Unpermitted => {
+            text.push_str("blocks, which no SYN that came permitted (RFC 2018, 4)")
+        }
+        Finding::BlockBeyond(left, right) => push_block(text, left, right),
+    }
+}
+
+/// Appends a finding's line, with the number of the log's line.
+#[tactic(auto, unfolding(crate::specs::Findings::finding_line))]
+pub(crate) fn push_finding<A: Allocator>(
+    text: &mut String<A>,
+    line: usize,
+    finding: Finding,
+) -> Result<(), AllocError>
+    ensures { OnOk result (string_bytes text.new ≡ string_bytes text.old ++ finding_line (line, finding)) }
+{
+    write!(text, "line {line}: ")?;
+    push_rule(text, finding)?;
+    text.push_str("\n")
+}

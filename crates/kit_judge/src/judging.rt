@@ -1,0 +1,82 @@
+//! A log judged line by line.
+ghost use Rattle.std.specs.Prelude.{◌≡◌, ◌++◌, ◌^◌, ◌<◌, length, IfOk, OnOk};
+ghost use Rattle.tcp_judge.specs.Judgement.{finding_at, known_past};
+ghost use Rattle.kit_judge.specs.Logs.{packet_content, passages_of, first_bad_line};
+ghost use Rattle.kit_judge.specs.Verdict.{found_at, findings_of, Finds};
+
+use crate::error::LogError;
+use crate::finding::is_against_came;
+use crate::packet::{Packet, Way, read_packet};
+use kit_text::{LineError, Lines};
+use std::alloc::{AllocError, Allocator, Global};
+use tcp_judge::{Finding, Judge};
+
+/// What was found in a log.
+#[derive(Debug, Drop)]
+pub(crate) struct Findings<A: Allocator = Global> {
+    /// Each segment that breaks a rule: the number of its line, and the rule.
+    pub(crate) found: Vec<(usize, Finding), A>,
+    /// How many segments there are.
+    pub(crate) segments: usize,
+}
+
+/// The rule that a packet breaks.
+fn take<A: Allocator + Copy>(
+    judge: &mut Judge<A>,
+    packet: &Packet<A>,
+) -> Result<Option<Finding>, AllocError>
+    ensures finding { IfOk result (λ finding. finding ≡ finding_at judge.old (packet_content packet.now)) }
+    ensures known { OnOk result (judge.new ≡ known_past judge.old (packet_content packet.now)) }
+{
+    match packet.way {
+        Way::Came => {
+            judge.came(packet.src, packet.dst, &packet.bytes)?;
+            Ok(None)
+        }
+        Way::Went => judge.went(packet.src, packet.dst, &packet.bytes),
+    }
+}
+
+/// Adds a finding that counts.
+fn add<A: Allocator>(
+    found: &mut Vec<(usize, Finding), A>,
+    line: usize,
+    finding: Option<Finding>,
+    is_complete: bool,
+) -> Result<(), AllocError>
+    ensures { OnOk result (found.new.items ≡ found.old.items ++ found_at is_complete line finding) }
+{
+    match finding {
+        Some(finding) if is_complete || !is_against_came(finding) => {
+            found.push((line, finding))?;
+            Ok(())
+        }
+        _ => Ok(()),
+    }
+}
+
+/// The findings of lines, or the first bad line.
+#[tactic(auto, using(crate::proofs::PassageCounts::length_passages_of), unfolding(crate::specs::Logs::passages_of, crate::specs::Logs::first_bad_line, crate::specs::Verdict::findings_from))]
+pub(crate) fn find_all<A: Allocator + Copy>(
+    alloc: A,
+    lines: Lines<'_>,
+    is_complete: bool,
+) -> Result<Findings<A>, LogError>
+    requires { length lines < 2 ^ 64 }
+    ensures { Finds result (first_bad_line lines.entry) (length (passages_of lines.entry)) (findings_of is_complete (passages_of lines.entry)) }
+{
+    let mut judge = Judge::new_in(alloc);
+    let mut found = Vec::new(alloc);
+    let mut segments = 0usize;
+    for (number, line) in lines {
+        let packet = match read_packet(alloc, line) {
+            Ok(packet) => packet,
+            Err(LineError::BadForm) => return Err(LogError::BadLine { line: number }),
+            Err(LineError::NoMemory) => return Err(LogError::NoMemory),
+        };
+        segments += 1;
+        let finding = take(&mut judge, &packet)?;
+        add(&mut found, number, finding, is_complete)?;
+    }
+    Ok(Findings { found, segments })
+}

@@ -1,0 +1,16 @@
+//! A log of one end of a TCP connection judged, and the judgement in words.
+//!
+//! A line of a log is `came SOURCE DESTINATION HEX` or `went SOURCE DESTINATION HEX`: bytes that came to the end, and
+//! bytes that it sent. [`judge_text`] judges a whole log, and reports in [`Report`] each segment that was sent and
+//! breaks a rule of `tcp_judge`, or the first of each rule ([`Shown`]). Where the log isn't complete no rule is tried
+//! against what came. [`LogError`] has each way in which there is no report.
+#![tactic(auto)]
+
+mod error;
+mod finding;
+mod judging;
+mod packet;
+mod report;
+
+pub use error::LogError;
+pub use report::{Report, Shown, judge_text};

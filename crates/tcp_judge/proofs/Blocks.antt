@@ -1,0 +1,161 @@
+-- WHAT AN END REPORTS came: each byte that it keeps out of order did.
+use Rattle.std.proofs.Common.{◌≡◌, ℕ, zero, suc, ◌+◌, ◌-◌, ◌^◌, ◌<◌, ◌≤◌, length, ◌∙◌, List, [], ◌∷◌, ◌++◌, refl, ap, subst, arith, Option, Some, None, Bool}
+use Rattle.std.proofs.Common.{true, false, not, map, take}
+use Rattle.std.specs.Prelude.{◌&&◌, ◌||◌, nat_lt, if◌then◌else◌}
+use Rattle.std.specs.List.{AllByRecursion}
+use Rattle.std.proofs.lemmas.Bool.{cond_both, false≢true, lt-ltb, or_right}
+use Rattle.tcp_numbers.specs.declared.seq.Seq.{Seq}
+use Rattle.tcp_wire.specs.Options.{Mss}
+use Rattle.tcp_wire.specs.Position.{number, distance}
+use Rattle.tcp_reasm.specs.Reassembly.{Cell, Run, runs, insertion_by_stamp, runs_newest_first, max_blocks, max_capacity, blocks}
+use Rattle.tcp_reasm.specs.Laws.{IsHeld, IsMaximal}
+use Rattle.tcp_reasm.proofs.Maximal.{runs_are_maximal_lem}
+use Rattle.tcp_halves.specs.declared.due.Due.{Due}
+use Rattle.tcp_halves.specs.declared.due.Due.TheVariants.{Reset, Syn}
+use Rattle.tcp_conn.specs.State.{State}
+use Rattle.tcp_conn.specs.Blocks.{block_numbers, blocks_to_report, sack_options}
+use Rattle.tcp_conn.specs.Forms.{segment_of, plain_segment, syn_segment, shift_offered, is_sack_offered, scale_options, permission_options}
+use Rattle.tcp_wire.specs.Wire.{Content}
+use Rattle.tcp_conn.specs.Phase.{gives_up}
+use Rattle.tcp_replay.specs.Alone.{IsAlone}
+use Rattle.tcp_replay.proofs.AloneEmissions.{GoesOutAlone}
+use Rattle.tcp_replay.proofs.Feeds.{AllHeld, ByNumber}
+use Rattle.tcp_judge.proofs.Going.{not-gone}
+use Rattle.tcp_judge.specs.Heard.{Heard, has_come, goes_on, is_from, told_after}
+use Rattle.tcp_judge.specs.Reports.{is_ahead, any_report, lacks_permission, block_finding, options_finding}
+use Rattle.tcp_judge.specs.Rules.{report_finding}
+use Rattle.tcp_judge.specs.declared.finding.Finding.TheVariants.{Unpermitted}
+use Rattle.tcp_judge.proofs.Numbers.{positions-came}
+use Rattle.tcp_judge.proofs.Streams.{none-found, unless}
+use Rattle.tcp_judge.proofs.Links.{Offered}
+
+-- what is kept out of order came, by its numbers
+abbrev pub KeptCame : List (Seq × ℕ) → ℕ → List (Option Cell) → Type 0
+KeptCame spans next held = AllHeld (ByNumber (λ n byte. has_come spans n ≡ true) next) 0 held
+
+held-at : (P : ℕ → ℕ → Type 0) (from place n : ℕ) (held : List (Option Cell)) → n ≡ from + place → IsHeld held place → AllHeld P from held
+    → (byte : ℕ) × P n byte
+held-at P from place n [] e is h = absurd (cc)
+held-at P from zero n (None ∷ held) e is h = absurd (cc)
+held-at P from zero n (Some cell ∷ held) e is h = (cell.byte, subst (λ (k : ℕ). P k cell.byte) (omega (arith, e)) h.0)
+held-at P from (suc place) n (None ∷ held) e is h = held-at P (suc from) place n held (omega (arith, e)) is h
+held-at P from (suc place) n (Some cell ∷ held) e is h = held-at P (suc from) place n held (omega (arith, e)) is h.1
+
+-- A RUN is of numbers that came, and within what is held
+abbrev BlockCame : List (Seq × ℕ) → ℕ × ℕ → Type 0
+BlockCame spans block = (is_from block.0 block.1 ≡ true) × (goes_on spans block.0 block.1 ≡ true)
+
+held-within : (held : List (Option Cell)) (place : ℕ) → IsHeld held place → place < length held
+held-within [] place is = absurd (cc)
+held-within (first ∷ held) zero is = omega arith
+held-within (None ∷ held) (suc place) is = omega (arith, held-within held place is)
+held-within (Some cell ∷ held) (suc place) is = omega (arith, held-within held place is)
+
+run-came : (spans : List (Seq × ℕ)) (next : ℕ) (held : List (Option Cell)) (run : Run) → length held ≤ max_capacity → KeptCame spans next held
+    → IsMaximal held run → BlockCame spans (number next run.from, number next run.to)
+run-came spans next held run small came is =
+    let last : run.to - 1 < length held = held-within held (run.to - 1) (is.inside (run.to - 1) (omega (arith, is.some)) (omega (arith, is.some))) in
+    let size : distance (number next run.from) (number next run.to) < 2 ^ 31 = omega (arith, is.some, last, small) in (
+      lt-ltb (distance (number next run.from) (number next run.to)) (2 ^ 31) size,
+      positions-came spans next run.from run.to (omega (arith, is.some))
+          (λ p from below. (held-at (ByNumber (λ n byte. has_come spans n ≡ true) next) 0 p p held (omega arith) (is.inside p from below) came).1),
+    )
+
+-- AND THE RUNS that are reported
+all-map : {X Y : Type 0} (f : X → Y) (P : Y → Type 0) (xs : List X) → AllByRecursion (λ x. P (f x)) xs → AllByRecursion P (map f xs)
+all-map f P [] h = tt
+all-map f P (x ∷ xs) h = (h.0, all-map f P xs h.1)
+
+all-further : {X : Type 0} (P P' : X → Type 0) (xs : List X) → ((x : X) → P x → P' x) → AllByRecursion P xs → AllByRecursion P' xs
+all-further P P' [] further h = tt
+all-further P P' (x ∷ xs) further h = (further x h.0, all-further P P' xs further h.1)
+
+all-take : {X : Type 0} (P : X → Type 0) (n : ℕ) (xs : List X) → AllByRecursion P xs → AllByRecursion P (take n xs)
+all-take P zero xs h = tt
+all-take P (suc n) [] h = tt
+all-take P (suc n) (x ∷ xs) h = (h.0, all-take P n xs h.1)
+
+all-insertion : (P : Run → Type 0) (run : Run) (others : List Run) → P run → AllByRecursion P others → AllByRecursion P (insertion_by_stamp run others)
+all-insertion P run [] here h = (here, tt)
+all-insertion P run (other ∷ others) here h =
+    cond_both (nat_lt other.stamp run.stamp) (run ∷ other ∷ others) (other ∷ insertion_by_stamp run others) (AllByRecursion P) (λ _. (here, h))
+    (λ _. (h.0, all-insertion P run others here h.1))
+
+all-newest_first : (P : Run → Type 0) (all : List Run) → AllByRecursion P all → AllByRecursion P (runs_newest_first all)
+unfolding runs_newest_first
+all-newest_first P [] h = tt
+all-newest_first P (run ∷ others) h = all-insertion P run (runs_newest_first others) h.0 (all-newest_first P others h.1)
+
+blocks-came : (s : State) (spans : List (Seq × ℕ)) → length s.receiving.inbox.held ≤ max_capacity → KeptCame spans s.receiving.next s.receiving.inbox.held
+    → AllByRecursion (BlockCame spans) (map (block_numbers s.receiving.next) (blocks s.receiving.inbox))
+unfolding blocks
+blocks-came s spans small came =
+    let r = s.receiving in
+    let P : ℕ × ℕ → Type 0 = BlockCame spans in
+    let Q : Run → Type 0 = λ run. P (block_numbers r.next (run.from, run.to)) in
+    let all = runs_newest_first (runs r.inbox.held) in
+    let newest = all-newest_first (IsMaximal r.inbox.held) (runs r.inbox.held) (runs_are_maximal_lem r.inbox.held) in
+    let each : AllByRecursion Q all = all-further (IsMaximal r.inbox.held) Q all (λ run is. run-came spans r.next r.inbox.held run small came is) newest in
+    all-map (block_numbers r.next) P (blocks r.inbox)
+    (all-map (λ (run : Run). (run.from, run.to)) (λ block. P (block_numbers r.next block)) (take max_blocks all) (all-take Q max_blocks all each))
+
+both : (a b : Bool) → a ≡ true → b ≡ true → a && b ≡ true
+both a b e f = ap (λ x. x && b) e ∙ f
+
+none-beyond : (told : Option Seq) (spans : List (Seq × ℕ)) (list : List (ℕ × ℕ)) → AllByRecursion (BlockCame spans) list
+    → block_finding told spans list ≡ None
+none-beyond told spans [] h = refl
+none-beyond told spans (block ∷ list) h =
+    let told_or_came = or_right (not (is_ahead told block)) (goes_on spans block.0 block.1) h.0.1 in
+    rw (both (is_from block.0 block.1) (not (is_ahead told block) || goes_on spans block.0 block.1) h.0.0 told_or_came) (none-beyond told spans list h.1)
+
+none-in_options : (told : Option Seq) (spans : List (Seq × ℕ)) (list : List (ℕ × ℕ)) → block_finding told spans list ≡ None
+    → options_finding told spans (sack_options list) ≡ None
+none-in_options told spans [] h = refl
+none-in_options told spans (block ∷ list) h = rw h refl
+
+-- they are reported where it was agreed
+in-use : (sack : Bool) (list : List (ℕ × ℕ)) → any_report (sack_options (if sack then list else [])) ≡ true → sack ≡ true
+in-use true list e = refl
+in-use false list e = absurd (false≢true e)
+
+syn-reports : (mss : ℕ) (shift : Option ℕ) (sack : Bool) → any_report (Mss mss ∷ (scale_options shift ++ permission_options sack)) ≡ false
+syn-reports mss None true = refl
+syn-reports mss None false = refl
+syn-reports mss (Some n) true = refl
+syn-reports mss (Some n) false = refl
+
+syn-beyond : (told : Option Seq) (spans : List (Seq × ℕ)) (mss : ℕ) (shift : Option ℕ) (sack : Bool)
+    → options_finding told spans (Mss mss ∷ (scale_options shift ++ permission_options sack)) ≡ None
+syn-beyond told spans mss None true = refl
+syn-beyond told spans mss None false = refl
+syn-beyond told spans mss (Some n) true = refl
+syn-beyond told spans mss (Some n) false = refl
+
+report-none : (h : Heard) (v : Content) → lacks_permission h v ≡ false → options_finding (told_after h.told v) h.spans v.options ≡ None
+    → report_finding h v ≡ None
+report-none h v permitted came = rw (none-found (lacks_permission h v) Unpermitted permitted) came
+
+plain-report : (s : State) (h : Heard) (due : Due) → Offered h.scaling h.sack s.link → length s.receiving.inbox.held ≤ max_capacity
+    → KeptCame h.spans s.receiving.next s.receiving.inbox.held → report_finding h (plain_segment s due) ≡ None
+plain-report s h due offered small came =
+    let list = map (block_numbers s.receiving.next) (blocks s.receiving.inbox) in
+    let told = told_after h.told (plain_segment s due) in
+    report-none h (plain_segment s due)
+    (unless (any_report (sack_options (blocks_to_report s))) (not h.sack) (λ is. ap not (offered.sack_is (in-use s.link.sack list is))))
+    (none-in_options told h.spans (blocks_to_report s)
+    (cond_both s.link.sack list [] (λ (list : List (ℕ × ℕ)). block_finding told h.spans list ≡ None)
+    (λ _. none-beyond told h.spans list (blocks-came s h.spans small came)) (λ _. refl)))
+
+-- an end that gave up reports nothing
+pub due-report : (s : State) (accepted : List ℕ) (closed : Bool) (h : Heard) (due : Due) → GoesOutAlone s accepted closed due → IsAlone s accepted closed
+    → Offered h.scaling h.sack s.link → length s.receiving.inbox.held ≤ max_capacity
+    → (gives_up s.ending ≡ false → KeptCame h.spans s.receiving.next s.receiving.inbox.held)
+    → report_finding h (segment_of s due) ≡ None
+unfolding segment_of
+due-report s accepted closed h (Reset reset) out a offered small came = refl
+due-report s accepted closed h Syn out a offered small came =
+    report-none h (syn_segment s)
+    (ap (λ b. b && not h.sack) (syn-reports s.config.mss (shift_offered s) (is_sack_offered s)))
+    (syn-beyond (told_after h.told (syn_segment s)) h.spans s.config.mss (shift_offered s) (is_sack_offered s))
+due-report s accepted closed h other out a offered small came = plain-report s h other offered small (came (not-gone s accepted closed out.kind.knows a))

@@ -1,0 +1,87 @@
+//! The rules of the blocks that a segment reports.
+ghost use Rattle.std.specs.Prelude.{◌≡◌, map};
+ghost use Rattle.tcp_wire.specs.View.{block, option_content};
+ghost use Rattle.tcp_judge.specs.Reports.{is_report, any_report, is_ahead, is_block, block_finding, option_finding, options_finding};
+
+use crate::finding::Finding;
+use crate::heard::{goes_on, is_from};
+use tcp_wire::{Seq, TcpOption};
+
+fn is_report(option: &TcpOption<'_>) -> bool
+    ensures { result ≡ is_report (option_content option.now) }
+{
+    match option {
+        TcpOption::Sack(_) => true,
+        _ => false,
+    }
+}
+
+/// Whether blocks are reported by one of the options.
+pub(crate) fn any_report(options: &[TcpOption<'_>]) -> bool
+    ensures { result ≡ any_report (map option_content options.now) }
+{
+    for option in options {
+        if is_report(option) {
+            return true;
+        }
+    }
+    false
+}
+
+/// Whether a block begins at the furthest acknowledgement or after it.
+fn is_ahead(told: Option<Seq>, edges: (Seq, Seq)) -> bool
+    ensures { result ≡ is_ahead told (block edges) }
+{
+    match told {
+        Some(told) => is_from(told, edges.0),
+        None => true,
+    }
+}
+
+/// Whether a block is of what came, as far as that isn't forgotten.
+fn is_block(told: Option<Seq>, spans: &[(Seq, u32)], edges: (Seq, Seq)) -> bool
+    ensures { result ≡ is_block told spans.now (block edges) }
+{
+    is_from(edges.0, edges.1) && (!is_ahead(told, edges) || goes_on(spans, edges.0, edges.1))
+}
+
+/// The first block of what didn't come.
+fn block_finding(told: Option<Seq>, spans: &[(Seq, u32)], blocks: &[(Seq, Seq)]) -> Option<Finding>
+    ensures { result ≡ block_finding told spans.now (map block blocks.now) }
+{
+    for edges in blocks {
+        if !is_block(told, spans, *edges) {
+            return Some(Finding::BlockBeyond(edges.0, edges.1));
+        }
+    }
+    None
+}
+
+fn option_finding(
+    told: Option<Seq>,
+    spans: &[(Seq, u32)],
+    option: &TcpOption<'_>,
+) -> Option<Finding>
+    ensures { result ≡ option_finding told spans.now (option_content option.now) }
+{
+    match option {
+        TcpOption::Sack(blocks) => block_finding(told, spans, blocks.as_slice()),
+        _ => None,
+    }
+}
+
+/// The first block of all options that is of what didn't come. Blocks before `told` are passed over.
+pub(crate) fn options_finding(
+    told: Option<Seq>,
+    spans: &[(Seq, u32)],
+    options: &[TcpOption<'_>],
+) -> Option<Finding>
+    ensures { result ≡ options_finding told spans.now (map option_content options.now) }
+{
+    for option in options {
+        if let Some(finding) = option_finding(told, spans, option) {
+            return Some(finding);
+        }
+    }
+    None
+}

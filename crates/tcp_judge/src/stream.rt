@@ -1,0 +1,124 @@
+//! The stream that an end sent, as far as it isn't acknowledged.
+ghost use Rattle.std.specs.Prelude.{◌≡◌, ◌+◌, ◌<◌, ◌≤◌, ◌^◌, OnOk, OnErr, length, drop};
+ghost use Rattle.std.specs.Vec.{vec_len};
+ghost use Rattle.tcp_judge.specs.Stream.{nothing_sent, count_sent, with_text, agrees, changes_bytes, count_covered, without_front};
+
+use std::alloc::{AllocError, Allocator, Global};
+use std::marker::Model;
+
+/// The greatest count of bytes that a stream has.
+const MAX_COUNT: u64 = (1 << 63) - 1;
+
+/// What an end sent, from the first byte on that isn't acknowledged.
+#[derive(Debug, Drop)]
+pub(crate) struct Stream<A: Allocator = Global> {
+    /// How many bytes come before that.
+    released: u64,
+    /// The bytes from there on, as far as they were sent without a gap.
+    sent: Vec<u8, A>,
+}
+
+impl<A: Allocator> Model for Stream<A> {
+    ghost use Rattle.std.specs.Prelude.{◌+◌, ◌<◌, ◌^◌, length};
+    ghost use Rattle.tcp_judge.specs.Stream.{Stream};
+
+    ghost Value = { Stream };
+
+    ghost view = { λ d. record { released = d.released; sent = d.sent.items } };
+
+    ghost invariant = { λ d. d.released + length d.sent.items < 2 ^ 63 };
+}
+
+/// Whether the two are equal as far as both go.
+fn agrees(one: &[u8], other: &[u8]) -> bool
+    ensures { result ≡ agrees one.now other.now }
+{
+    let count = one.len().min(other.len());
+    one[..count] == other[..count]
+}
+
+fn remove_front<A: Allocator>(bytes: &mut Vec<u8, A>, n: usize)
+    requires { n ≤ vec_len bytes.old }
+    ensures { bytes.new.items ≡ drop n bytes.old.items }
+{
+    let len = bytes.len();
+    bytes.as_mut_slice().copy_within(n..len, 0);
+    bytes.truncate(len - n);
+}
+
+impl<A: Allocator + Copy> Stream<A> {
+    /// Nothing was sent.
+    pub(crate) fn new(alloc: A) -> Self
+        ensures { result ≡ nothing_sent }
+    {
+        Stream {
+            released: 0,
+            sent: Vec::new(alloc),
+        }
+    }
+
+    /// How many bytes were sent without a gap.
+    pub(crate) fn count(&self) -> u64
+        ensures count { result ≡ count_sent self.now }
+        ensures most { result < 2 ^ 63 }
+    {
+        self.released + self.sent.len() as u64
+    }
+
+    /// Whether a text has another byte at a position that was sent before and isn't acknowledged.
+    pub(crate) fn changes_bytes(&self, place: u64, text: &[u8]) -> bool
+        ensures { result ≡ changes_bytes self.now place text.now }
+    {
+        let first = 1 + self.released;
+        if place == 0 || place > self.released + self.sent.len() as u64 {
+            return false;
+        }
+        if place >= first {
+            return !agrees(&self.sent[(place - first) as usize..], text);
+        }
+        let before = (first - place) as usize;
+        before < text.len() && !agrees(&self.sent, &text[before..])
+    }
+
+    /// Extends the stream by what a text has beyond its end. Memory is allocated first; a stream of 2^63 bytes has none.
+    pub(crate) fn extend(&mut self, place: u64, text: &[u8]) -> Result<(), AllocError>
+        ensures sent { OnOk result (self.new ≡ with_text self.old place text.now) }
+        ensures err { OnErr result (self.new ≡ self.old) }
+    {
+        let count = self.released + self.sent.len() as u64;
+        if place == 0 || place > 1 + count {
+            return Ok(());
+        }
+        let known = (1 + count - place) as usize;
+        if known < text.len() {
+            if (text.len() - known) as u64 > MAX_COUNT - count {
+                return Err(AllocError);
+            }
+            self.sent.reserve(text.len() - known)?;
+            let _ = self.sent.extend_from_slice(&text[known..]);
+        }
+        Ok(())
+    }
+
+    /// How many of the bytes that are kept an acknowledgement with this position covers.
+    pub(crate) fn count_covered(&self, has_fin: bool, position: u64) -> usize
+        ensures count { result ≡ count_covered self.now has_fin position }
+        ensures most { result ≤ length self.now.sent }
+    {
+        let end = 1 + self.released + self.sent.len() as u64 + u64::from(has_fin);
+        if position > end || position <= self.released {
+            return 0;
+        }
+        let covered = position - (1 + self.released);
+        self.sent.len().min(covered as usize)
+    }
+
+    /// Forgets the first bytes that are kept.
+    pub(crate) fn release(&mut self, n: usize)
+        requires { n ≤ length self.old.sent }
+        ensures { self.new ≡ without_front self.old n }
+    {
+        self.released += n as u64;
+        remove_front(&mut self.sent, n);
+    }
+}
