@@ -14,8 +14,8 @@ mode_of name =
     else (if bytes_eq name (codes "early") then Some Early
     else None))))
 
--- how many segments a burst has, how many bytes of text each has, after how many of them an acknowledgement comes back,
--- and whether the first one arrives last
+-- how many segments a burst has, how many bytes of text each has, after how many of them an acknowledgement is sent, and
+-- whether the first one arrives last
 abbrev pub segments_of : Mode → ℕ
 segments_of InOrder = 2
 segments_of EachAcknowledged = 2

@@ -1,4 +1,5 @@
-//! Single calls of tcp_wire, each on one of two segments with 1,460 bytes of text, so that no turn repeats the one before it.
+//! Single calls of tcp_wire, each on one of two segments with 1,460 bytes of text, so that no turn repeats the one
+//! before it.
 ghost use Rattle.std.specs.Prelude.{◌≡◌, ◌≤◌, length, IsTrue};
 ghost use Rattle.tcp_wire.specs.Wire.{IsValid, wire_length};
 ghost use Rattle.tcp_wire.specs.View.{content};
@@ -11,7 +12,7 @@ const FROM: Addr = Addr([10, 0, 0, 1]);
 
 const TO: Addr = Addr([10, 0, 0, 2]);
 
-/// The bytes of a segment and of its text.
+/// The length in bytes of a segment, and of its text.
 const LEN: usize = 1480;
 
 const TEXT: usize = 1460;
@@ -55,7 +56,7 @@ fn segment_of(text: &[u8]) -> Segment<'_> {
     }
 }
 
-/// Whether the segment can be written into so many bytes.
+/// Whether the segment can be written into this many bytes.
 fn fits(segment: &Segment<'_>) -> bool
     ensures valid { IsTrue result → IsValid (content segment.now) }
     ensures room { IsTrue result → wire_length (content segment.now) ≤ 1480 }
@@ -95,7 +96,8 @@ fn write_often(count: u32, segment: &Segment<'_>, out: &mut [u8; LEN]) -> u32
     greatest
 }
 
-/// Makes so many calls, and answers a number that hangs on each of them; none where the segments couldn't be written.
+/// Makes `count` calls, and returns a number that depends on each of them; `None` where the segments couldn't be
+/// written.
 pub(crate) fn repeat(call: Call, count: u32) -> Option<u32> {
     let text_of_first = [b'a'; TEXT];
     let text_of_second = [b'b'; TEXT];

@@ -68,7 +68,7 @@ impl Pair {
         })
     }
 
-    /// The bytes that A's acknowledgements have released.
+    /// The count of bytes that A's acknowledgements have released.
     pub(crate) fn released(&self) -> u64 {
         self.a.released()
     }
@@ -91,14 +91,14 @@ impl Pair {
         }
     }
 
-    /// A's user writes the text of so many segments, two at once.
+    /// A's user writes the text of `count` segments, two at once.
     fn write_text(&mut self, count: usize) {
         for _ in 0..count / 2 {
             let _ = self.a.send(&self.text);
         }
     }
 
-    /// B's user reads the text of so many segments, of two at once.
+    /// B's user reads the text of `count` segments, of two at once.
     fn read_text(&mut self, mode: Mode) {
         let read = &mut self.read[..];
         let piece = &mut read[..2 * mode.text()];
@@ -137,8 +137,8 @@ impl Pair {
     }
 }
 
-/// A whole connection: two ends are made, opened, closed one after the other, and given back. Answers whether both know
-/// that it has ended, but for the time that A waits.
+/// A whole connection: two ends are made, opened, closed one after the other, and freed. Returns whether both know that
+/// it has ended, but for the time that A waits.
 pub(crate) fn connect_and_close(
     alloc: Global,
     capacity: usize,

@@ -1,5 +1,5 @@
-//! A stream of any length over a wire that loses segments: neither end of it is kept, and what was read is compared with
-//! what was written by a sum in which each byte's place counts.
+//! A stream of any length over a wire that loses segments. Neither end of it is kept: what was read is compared with
+//! what was written by a sum in which each byte's offset counts.
 ghost use Rattle.std.specs.Prelude.{◌≤◌, length};
 
 use crate::ends::{new_end, open};
@@ -9,7 +9,7 @@ use tcp_conn::{ConfigError, EMIT_ROOM, Endpoint, Received, Timer};
 /// What a user writes or reads at once, in bytes.
 const PIECE: usize = 2920;
 
-/// The byte at a place of the stream: high bits of a product, so that pieces of it don't repeat soon.
+/// The byte at an offset of the stream: high bits of a product, so that pieces of it don't repeat soon.
 fn byte_at(place: u64) -> u8 {
     (place.wrapping_mul(0x9e37_79b9_7f4a_7c15) >> 56) as u8
 }
@@ -35,7 +35,7 @@ pub(crate) struct Stream {
     b: Endpoint,
     room: [u8; EMIT_ROOM],
     piece: [u8; PIECE],
-    /// How many bytes the stream has.
+    /// The length of the stream in bytes.
     len: u64,
     written: u64,
     read: u64,
@@ -74,7 +74,7 @@ impl Stream {
         loses
     }
 
-    /// A's user writes what is taken of the next piece.
+    /// A's user writes what is accepted of the next piece.
     fn write(&mut self) {
         let left = self.len.saturating_sub(self.written).min(PIECE as u64) as usize;
         fill(&mut self.piece, self.written);
@@ -114,7 +114,7 @@ impl Stream {
         }
     }
 
-    /// Two segments there, what B reads, and what it acknowledges. Where A has nothing more to send, a timer runs out.
+    /// Two segments there, what B reads, and what it acknowledges. Where A has nothing more to send, a timer expires.
     fn turn(&mut self) {
         self.write();
         let first = self.carry_there();
@@ -126,7 +126,7 @@ impl Stream {
         }
     }
 
-    /// Takes turns until all was acknowledged, and answers whether it was, and was read as it was written.
+    /// Takes turns until all was acknowledged, and returns whether it was, and was read as it was written.
     pub(crate) fn run(&mut self) -> bool {
         for _ in 0..self.len {
             self.turn();

@@ -1,13 +1,14 @@
-//! `transfer MODE BURSTS CAPACITY` moves text from one end to another in bursts of full segments, for counting what that
-//! costs: see bench/instructions.sh. In mode `in_order` a burst is two segments, in `each_acknowledged` the same, and in
-//! `one_byte` two of one byte; in `late` ten and in `early` forty, of which the first arrives last, so that all others are
-//! held. B's user reads each burst, and B acknowledges every second segment, but in `each_acknowledged` each.
-//! `transfer connection COUNT CAPACITY` opens and closes so many connections, one after another.
-//! `transfer rounds COUNT CAPACITY` writes, carries, reads and acknowledges 16 bytes so many times, as bench/replay.sh's script
-//! in order does.
-//! `transfer ends COUNT TURNS CAPACITY` opens so many connections, and lets each echo in turn, so many times.
-//! `transfer lossy BYTES CAPACITY` moves so many bytes over a wire that loses one segment of 61, and compares what was read with
-//! what was written. `transfer CALL COUNT` makes so many calls of `checksum`, `decode` or `encode`.
+//! `transfer MODE BURSTS CAPACITY` moves text from one end to another in bursts of full segments, for counting what
+//! that costs: see bench/instructions.sh. In mode `in_order` a burst is two segments, in `each_acknowledged` the same,
+//! and in `one_byte` two of one byte. In `late` it is ten and in `early` forty, of which the first arrives last, so
+//! that all others are out of order. B's user reads each burst, and B acknowledges every second segment, in
+//! `each_acknowledged` each.
+//! `transfer connection COUNT CAPACITY` opens and closes this many connections, one after another.
+//! `transfer rounds COUNT CAPACITY` writes, carries, reads and acknowledges 16 bytes this many times, as
+//! bench/replay.sh's script in order does.
+//! `transfer ends COUNT TURNS CAPACITY` opens this many connections, and lets each echo in turn, this many times.
+//! `transfer lossy BYTES CAPACITY` moves this many bytes over a wire that loses one segment of 61, and compares what
+//! was read with what was written. `transfer CALL COUNT` makes this many calls of `checksum`, `decode` or `encode`.
 #![tactic(auto)]
 
 mod calls;
@@ -70,7 +71,7 @@ fn run_lossy(
     move_stream(rt, len, capacity)
 }
 
-/// Opens and closes so many connections, and prints how many were closed in order.
+/// Opens and closes `count` connections, and prints how many were closed in order.
 fn run_connections(rt: &(impl Print + AllocGlobal), count: u32, capacity: usize) -> io::Result<()> {
     let mut room = [0; EMIT_ROOM];
     let mut closed: u32 = 0;
@@ -81,7 +82,7 @@ fn run_connections(rt: &(impl Print + AllocGlobal), count: u32, capacity: usize)
     println!(rt; "{closed} connections were opened and closed")
 }
 
-/// Moves so many rounds of a few bytes, and prints what was moved.
+/// Moves `count` rounds of a few bytes, and prints what was moved.
 fn run_rounds(rt: &(impl Print + AllocGlobal), count: u32, capacity: usize) -> io::Result<()> {
     let mut pair = Pair::new(rt.alloc(), capacity).map_err(|_| bad_input())?;
     pair.open();
@@ -92,7 +93,7 @@ fn run_rounds(rt: &(impl Print + AllocGlobal), count: u32, capacity: usize) -> i
     println!(rt; "{released} bytes were moved and acknowledged")
 }
 
-/// So many connections that are open.
+/// This many connections that are open.
 fn open_connections(
     alloc: Global,
     count: u32,
@@ -107,7 +108,7 @@ fn open_connections(
     Ok(all)
 }
 
-/// Lets each of so many connections echo in turn, so many times, and prints how often all came back.
+/// Lets each of this many connections echo in turn, this many times, and prints how often all came back.
 fn run_ends(
     rt: &(impl Print + AllocGlobal),
     count: u32,
@@ -128,7 +129,7 @@ fn run_ends(
     println!(rt; "{echoed} echoes")
 }
 
-/// Does what the program's words ask for.
+/// Does what the program's words request.
 fn run(rt: &(impl Env + Print + AllocGlobal)) -> io::Result<()> {
     let mut words = env::args(rt)?.skip(1);
     let (Some(name), Some(count)) = (words.next(), words.next()) else {

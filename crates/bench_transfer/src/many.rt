@@ -26,7 +26,7 @@ impl Connection {
         Ok(Connection { a, b })
     }
 
-    /// A's user writes, B's user reads it and writes it back, and A's user reads that. Answers whether all came.
+    /// A's user writes, B's user reads it and writes it back, and A's user reads that. Returns whether all came.
     pub(crate) fn echo(&mut self, room: &mut [u8; EMIT_ROOM]) -> bool {
         let mut piece = [b'e'; PIECE];
         let _ = self.a.send(&piece);

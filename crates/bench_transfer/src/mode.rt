@@ -5,9 +5,9 @@ ghost use Rattle.bench_transfer.specs.Modes.{mode_of, segments_of, text_of, ackn
 /// A burst.
 #[derive(Clone, Copy, Debug, PartialEq, Eq)]
 pub enum Mode {
-    /// Two segments, in order, and an acknowledgement behind them.
+    /// Two segments, in order, and an acknowledgement after them.
     InOrder,
-    /// The same with an acknowledgement behind each.
+    /// Two segments, in order, and an acknowledgement after each.
     EachAcknowledged,
     /// Two segments of one byte, in order.
     OneByte,
@@ -51,12 +51,12 @@ impl Mode {
         if self == Mode::OneByte { 1 } else { 1460 }
     }
 
-    /// Whether the text of all its segments is written before the first of them goes out.
+    /// Whether the text of all its segments is written before the first of them is sent.
     pub fn is_written_at_once(self) -> bool {
         self != Mode::OneByte
     }
 
-    /// After how many segments an acknowledgement comes back.
+    /// After how many segments an acknowledgement is sent.
     pub fn acknowledged(self) -> usize
         ensures value { result ≡ acknowledged_of self }
         ensures some { 1 ≤ result }

@@ -24,7 +24,7 @@ const SYN_ACK: &[u8] =
 
 const ACK: &[u8] = b"9c400007ddbbb8ea2001db708010003f720900000101080a05fa85619012a6a4";
 
-/// Who sent a segment, and what it says.
+/// The sender and the content of a segment.
 fn line_of(alloc: Global, sender: &str, segment: &Segment<'_>) -> Result<String, AllocError>
     ensures { IfOk result (λ line. string_bytes line ≡ sender.now ++ (codes ": " ++ fields_text (content segment.now))) }
 {
@@ -33,7 +33,7 @@ fn line_of(alloc: Global, sender: &str, segment: &Segment<'_>) -> Result<String,
     Ok(line)
 }
 
-/// Decodes a segment between two addresses, and prints what it says.
+/// Decodes a segment between two addresses, and prints its content.
 fn print_segment(
     rt: &(impl Print + AllocGlobal),
     sender: &str,

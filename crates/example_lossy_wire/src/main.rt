@@ -21,7 +21,7 @@ fn new_end(alloc: Global, host: u8, isn: u32) -> Result<Endpoint, ConfigError>
     Endpoint::new(alloc, config)
 }
 
-/// A turn without any arrival stands for the time after which a timer runs out.
+/// A turn without any arrival takes the place of the time after which a timer expires.
 fn run_out(end: &mut Endpoint) {
     let _ = end.timer(Timer::Reorder) || end.timer(Timer::Retransmit);
 }

@@ -1,4 +1,4 @@
--- What the refusals of the parts come to.
+-- What the refusals of the parts result in.
 use Rattle.kit_io.specs.declared.error.ReadError.{ReadError}
 use Rattle.kit_io.specs.declared.error.ReadError.TheVariants as reads
 use Rattle.kit_script.specs.declared.error.ScriptError.{ScriptError}

@@ -1,4 +1,4 @@
--- What is written of a list of segments: a function from its whole text.
+-- What is written for a list of segments: a function from its whole text.
 use Rattle.std.specs.Prelude.{ℕ, ◌+◌, ◌==◌, if◌then◌else◌, Bool, List, [], ◌∷◌, ◌++◌, length, codes, decimal, string_bytes, Option, Some, None, option_map, Result, Ok, Err}
 use Rattle.std.specs.Option.{option_and_then, option_map_or}
 use Rattle.tcp_wire.specs.declared.fault.DecodeError.{DecodeError}
@@ -34,11 +34,11 @@ packet_of_words (src ∷ dst ∷ bytes ∷ more ∷ rest) = None
 unfoldable pub packet_of : List ℕ → Option PacketContent
 packet_of line = packet_of_words (words_of line)
 
--- WHAT ITS BYTES SAY
+-- THE MEANING of its bytes
 abbrev pub meaning_of : PacketContent → Result Content DecodeError
 meaning_of p = decode_answer p.src p.dst p.bytes
 
--- THE SEGMENTS of a list up to its first bad line, each with the number of its line and what its bytes say
+-- THE SEGMENTS of a list up to its first bad line, each with the number of its line and the meaning of its bytes
 abbrev pub Segments : Type 0
 Segments = List (ℕ × Result Content DecodeError)
 
@@ -89,7 +89,7 @@ listing_of_segments segments bad = record {
   answer = answer_unless bad segments;
 }
 
--- a text whose first bad line is looked for before all others has no segments
+-- a text whose first bad line is found before all others has no segments
 abbrev pub listing_of_lines : Result (List (ℕ × List ℕ)) ℕ → ListingContent
 listing_of_lines (Ok lines) = listing_of_segments (segments_of lines) (first_bad_line lines)
 listing_of_lines (Err line) = listing_of_segments [] (Some line)

@@ -1,4 +1,4 @@
--- What a replay answers, and what it has written then.
+-- What a replay returns, and what it has written then.
 use Rattle.std.specs.Prelude.{◌≡◌, ◌≢◌, ℕ, Bool, List, Option, Result, Ok, Err}
 use Rattle.std.specs.Io.KnownBytes.{Appends}
 use Rattle.tcp_halves.specs.declared.config.ConfigError.{ConfigError}
@@ -12,7 +12,7 @@ use Rattle.kit_report.specs.Report.{report_text, report_is_well}
 use Rattle.kit_commands.specs.declared.errors.ToolError.{ToolError}
 use Rattle.kit_commands.specs.declared.errors.ToolError.TheVariants.{BadLine, NoMemory, ReadFault, WriteFault, Config as ConfigFault}
 
--- the text is a script of two ends that can be made; this is its report, and whether all was well
+-- the text is a script of two ends that can be made; this is its report, and whether nothing was refused
 pub record IsReport (text report : List ℕ) (well : Bool) : Type 0 where
   pub script : ScriptContent
   pub meaning : script_of text ≡ Ok script
@@ -20,14 +20,14 @@ pub record IsReport (text report : List ℕ) (well : Bool) : Type 0 where
   pub report_is : report ≡ report_text script
   pub well_is : well ≡ report_is_well script
 
--- the text is a script, and what the end of this side is made from has this fault, which isn't want of memory
+-- the text is a script, and the Config of this side has this fault, which isn't that there is no memory
 pub record HasConfigFault (text : List ℕ) (side : Side) (fault : ConfigError) : Type 0 where
   pub script : ScriptContent
   pub meaning : script_of text ≡ Ok script
   pub named : HasNamedFault script.a script.b (worlds.Config side fault)
   pub cause : fault ≢ configs.NoMemory
 
--- what a refusal tells of the text
+-- the claim of a refusal about the text
 abbrev pub RefusesText : List ℕ → ToolError → Type 0
 RefusesText text (BadLine line) = script_of text ≡ Err line
 RefusesText text (ConfigFault side fault) = HasConfigFault text side fault
@@ -48,7 +48,7 @@ pub record WritesFront (text : List ℕ) (old new : Option (List ℕ)) : Type 0 
   pub is_report : IsReport text report well
   pub written : AppendsFront old new report
 
--- a fact where the answer is on the text: a report, or a refusal of what the text says
+-- a fact where the answer is about the text: a report, or a refusal of the text's content
 abbrev pub OnText : Result Bool ToolError → Type 0 → Type 0
 OnText (Ok well) P = P
 OnText (Err (BadLine line)) P = P

@@ -15,19 +15,19 @@ use thiserror::Error;
 /// `tcpkit: `.
 #[derive(Clone, Copy, Debug, PartialEq, Eq, Error)]
 pub enum ToolError {
-    /// The first line that is of no form, counted from 1; before any other, the first that has a byte above 7f.
+    /// The first line of no form, counted from 1. Before any other it is the first with a byte above 7f.
     #[error("41 line {line}")]
     BadLine { line: usize },
-    /// Memory ran out.
+    /// There is no memory.
     #[error("42")]
     NoMemory,
     /// The input couldn't be opened or read.
     #[error("43")]
     ReadFault,
-    /// The output couldn't be written or flushed, or took nothing.
+    /// The output couldn't be written or flushed, or a write returned 0.
     #[error("44")]
     WriteFault,
-    /// The end of this side can't be made as the script has it; never for want of memory.
+    /// The end of this side can't be made of its Config; never because there is no memory.
     #[error("config {0} {number}", number = .1.number())]
     Config(Side, ConfigError),
 }

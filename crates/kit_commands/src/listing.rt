@@ -19,7 +19,7 @@ pub struct Listing<A: Allocator = Global> {
     pub answer: Result<bool, usize>,
 }
 
-/// Appends a segment's line, and answers whether it is malformed.
+/// Appends a segment's line, and returns whether it is malformed.
 #[tactic(auto, unfolding(crate::specs::Listing::segment_line))]
 fn push_segment<A: Allocator + Copy>(
     alloc: A,
@@ -76,8 +76,8 @@ fn push_lines<A: Allocator + Copy>(
     Ok(Ok(malformed == 0))
 }
 
-/// The listing of a text whose bytes can be any: a line for each segment up to the first bad line, and the total
-/// where no line is bad.
+/// The listing of a text of any bytes: a line for each segment up to the first bad line, and the total where no line is
+/// bad.
 #[tactic(auto, unfolding(crate::specs::Listing::listing_of))]
 pub fn list_segments<A: Allocator + Copy>(alloc: A, text: &[u8]) -> Result<Listing<A>, AllocError>
     ensures { IfOk result (λ listing. listing_content listing ≡ listing_of text.now) }

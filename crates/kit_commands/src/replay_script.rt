@@ -8,7 +8,7 @@ use kit_report::{Report, make_report};
 use kit_script::read_script_bytes;
 use std::alloc::{Allocator, Global};
 
-/// The report of a text whose bytes can be any; its first bad line, or what can't be made of it.
+/// The report of a text of any bytes; an error for its first bad line, or for a Config from which no end can be made.
 pub fn report_of<A: Allocator + Copy>(alloc: A, text: &[u8]) -> Result<Report<A>, ToolError>
     ensures report { IfOk result (λ report. IsReport text.now (string_bytes report.text) report.is_well) }
     ensures refusal { IfErr result (RefusesText text.now) }
@@ -36,15 +36,14 @@ fn replay_text<O: Output>(alloc: Global, text: &[u8], output: &mut O) -> Result<
     Ok(report.is_well)
 }
 
-/// Reads a script to its end, replays it between two new ends, and then writes the report and flushes. Answers
-/// whether all was well: whether no call and no step was refused. After an `Err` but `WriteFault` nothing was
-/// written.
+/// Reads a script to its end, replays it between two new ends, and then writes the report and flushes. Returns whether
+/// no call and no step was refused. After an `Err` but `WriteFault` nothing was written.
 pub fn replay<I: Input, O: Output>(
     alloc: Global,
     input: &mut I,
     output: &mut O,
 ) -> Result<bool, ToolError>
-    // Where the input tells its bytes, they are a script, and its report was written.
+    // Where the bytes of the input are known, they are a script, and its report was written.
     ensures report { IfOk result (λ well. IfSome (I.remaining input.old) (λ text. WritesReport text (O.contents output.old) (O.contents output.new) well)) }
     ensures refusal { IfErr result (λ e. IfSome (I.remaining input.old) (λ text. RefusesText text e)) }
     ensures front { IsErrOf result ToolError.WriteFault → IfSome (I.remaining input.old) (λ text. WritesFront text (O.contents output.old) (O.contents output.new)) }

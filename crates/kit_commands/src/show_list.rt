@@ -8,8 +8,8 @@ use crate::listing::list_segments;
 use kit_io::{Input, Output, read_all, write_all};
 use std::alloc::Global;
 
-/// Lists a text's segments, writes the listing, and then answers. Where a bad line comes before any segment,
-/// nothing is to be written.
+/// Lists a text's segments, writes the listing, and then returns. Where a bad line comes before any segment, nothing
+/// has to be written.
 fn show_text<O: Output>(alloc: Global, text: &[u8], output: &mut O) -> Result<bool, ToolError>
     ensures listing { IfOk result (λ well. WritesListing text.now (O.contents output.old) (O.contents output.new) (Ok well)) }
     ensures refusal { IfErr result (EndsListing text.now (O.contents output.old) (O.contents output.new)) }
@@ -30,15 +30,15 @@ fn show_text<O: Output>(alloc: Global, text: &[u8], output: &mut O) -> Result<bo
     }
 }
 
-/// Reads a list of segments to its end, and writes what each says, up to the first bad line if there is one.
-/// Answers whether no segment was malformed. At `BadLine` all that comes before that line was written, at
-/// `WriteFault` a prefix of the listing, at `ReadFault` and `NoMemory` nothing; `Config` never comes.
+/// Reads a list of segments to its end, and writes the meaning of each, up to the first bad line if there is one.
+/// Returns whether no segment was malformed. At `BadLine` all that comes before that line was written, at `WriteFault`
+/// a prefix of the listing, at `ReadFault` and `NoMemory` nothing. `Config` never comes.
 pub fn show<I: Input, O: Output>(
     alloc: Global,
     input: &mut I,
     output: &mut O,
 ) -> Result<bool, ToolError>
-    // Where the input tells its bytes, their whole listing was written.
+    // Where the bytes of the input are known, their whole listing was written.
     ensures listing { IfOk result (λ well. IfSome (I.remaining input.old) (λ text. WritesListing text (O.contents output.old) (O.contents output.new) (Ok well))) }
     ensures refusal { IfErr result (λ e. IfSome (I.remaining input.old) (λ text. EndsListing text (O.contents output.old) (O.contents output.new) e)) }
     ensures faults { IfErr result IsShowFault }

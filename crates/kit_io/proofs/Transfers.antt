@@ -23,7 +23,7 @@ Appends-nothing a b c xs ys n is_zero h k =
 take-empty : {X : Type 0} (n m k : ℕ) → take {A = X} n [] ++ take m (drop n []) ≡ take k []
 take-empty n m k = simp (take-nil, drop-nil)
 
--- a front, and a front of what is behind it
+-- a front, and a front of what follows it
 pub take-more : {X : Type 0} (n m k : ℕ) (xs : List X) → k ≡ n + m → take n xs ++ take m (drop n xs) ≡ take k xs
 take-more n m k [] e = take-empty n m k
 take-more zero m k (x ∷ xs) e = let same : m ≡ k = omega arith in ap (λ j. take j (x ∷ xs)) same

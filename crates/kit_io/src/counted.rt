@@ -1,4 +1,4 @@
-//! Readers and writers with the counts that contracts alone see.
+//! Readers and writers with counts that contracts alone see.
 ghost use Rattle.std.specs.Prelude.{◌≡◌, ◌+◌, ℕ, List, Option, length, OnOk, OnErr};
 ghost use Rattle.std.specs.Io.{ReadsAtMost, WritesAtMost};
 ghost use Rattle.std.specs.Io.KnownBytes.{ReadConsumes, WriteAppends, Keeps};
@@ -9,8 +9,8 @@ use std::io;
 use std::io::{Read, Write};
 use std::marker::Model;
 
-/// What a program reads from. Contracts see the bytes that are left, where they are known, how many of the
-/// calls failed, and how many met the end: such a read takes none into a buffer that isn't empty.
+/// What a program reads from. Contracts see the bytes that are left, where they are known, how many of the calls
+/// failed, and how many met the end: such a read returns none into a buffer that isn't empty.
 pub trait Input {
     ghost remaining: { Self → Option (List ℕ) };
 
@@ -18,7 +18,7 @@ pub trait Input {
 
     ghost ends: { Self → ℕ };
 
-    /// Reads into the front of `buf`, and answers how many bytes.
+    /// Reads bytes into the front of `buf`, and returns how many.
     fn read(&mut self, buf: &mut [u8]) -> io::Result<usize>
         ensures bound { ReadsAtMost result buf.new }
         ensures bytes { ReadConsumes (remaining self.old) (remaining self.new) result buf.new }
@@ -26,9 +26,9 @@ pub trait Input {
         ensures ends { ends self.new ≡ ends self.old + read_ends result (length buf.new) };
 }
 
-/// What a program writes to. Contracts see the bytes that it holds, where they are known, how many of the calls
-/// failed, and how many writes came after the last flush that didn't fail. A write of none of a slice that isn't
-/// empty failed too.
+/// What a program writes to. Contracts see the bytes that it has, where they are known, how many of the calls failed,
+/// and how many writes came after the last flush that didn't fail. A write of none of a slice that isn't empty failed
+/// too.
 pub trait Output {
     ghost contents: { Self → Option (List ℕ) };
 
@@ -36,14 +36,14 @@ pub trait Output {
 
     ghost unflushed: { Self → ℕ };
 
-    /// Writes a front of `bytes`, and answers its length.
+    /// Writes a prefix of `bytes`, and returns its length.
     fn write(&mut self, bytes: &[u8]) -> io::Result<usize>
         ensures bound { WritesAtMost result bytes.now }
         ensures bytes { WriteAppends (contents self.old) (contents self.new) result bytes.now }
         ensures failures { failures self.new ≡ failures self.old + write_failures result (length bytes.now) }
         ensures unflushed { unflushed self.new ≡ unflushed self.old + 1 };
 
-    /// Passes on what was kept back.
+    /// Writes what was buffered.
     fn flush(&mut self) -> io::Result<()>
         ensures bytes { Keeps (contents self.old) (contents self.new) }
         ensures failures { failures self.new ≡ failures self.old + flush_failures result }
@@ -68,7 +68,7 @@ impl<T: Drop> Model for Counted<T> {
 }
 
 impl<T: Drop> Counted<T> {
-    /// Nothing is counted yet.
+    /// The device with all counts at 0.
     pub fn new(device: T) -> Counted<T>
         ensures device { device_of result ≡ device }
         ensures failures { failures_of result ≡ 0 }
@@ -83,7 +83,7 @@ impl<T: Drop> Counted<T> {
         }
     }
 
-    /// The reader or writer alone.
+    /// The reader or writer without its counts.
     pub fn into_inner(self) -> T
         ensures { result ≡ device_of self }
     {

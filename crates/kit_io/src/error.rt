@@ -1,4 +1,4 @@
-//! Why not all bytes came, or went.
+//! Why not all bytes were read or written.
 use thiserror::Error;
 
 /// Why an input isn't read to its end.
@@ -7,12 +7,12 @@ pub enum ReadError {
     /// A read failed.
     #[error("the input can't be read")]
     Fault,
-    /// There was no memory for what was read.
+    /// There is no memory for what was read.
     #[error("no memory for what was read")]
     NoMemory,
 }
 
-/// A write or the flush failed, or a write took nothing.
+/// A write or the flush failed, or a write returned 0 for bytes that aren't empty.
 #[derive(Clone, Copy, Debug, PartialEq, Eq, Error)]
 #[error("the output can't be written")]
 pub struct WriteFault;

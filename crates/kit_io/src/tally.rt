@@ -4,7 +4,7 @@ ghost use Rattle.std.specs.Borrow.{ftrue};
 
 use std::marker::{Model, PhantomData};
 
-/// How often something happened, as a whole number without a greatest one. It takes no bytes.
+/// How often something happened, as a whole number without an upper limit. Its size is zero.
 #[derive(Drop)]
 pub struct Tally {
     marker: PhantomData<u8>,
@@ -16,7 +16,7 @@ impl Model for Tally {
 }
 
 impl Tally {
-    /// It hasn't happened yet.
+    /// A count of 0.
     pub(crate) fn new() -> Tally
         ensures { result.count ≡ 0 }
     {
@@ -25,7 +25,7 @@ impl Tally {
         }
     }
 
-    /// It happened once more.
+    /// Adds 1 to the count.
     pub(crate) fn tick(&mut self)
         ensures { self.new.count ≡ self.old.count + 1 }
     {}

@@ -7,10 +7,10 @@ use crate::counted::{Input, Output};
 use crate::error::{ReadError, WriteFault};
 use std::alloc::Global;
 
-/// The bytes that one read asks for.
+/// The bytes that one read requests.
 const CHUNK: usize = 4096;
 
-/// All bytes up to the end.
+/// Reads all bytes up to the end of the input.
 pub fn read_all<I: Input>(alloc: Global, input: &mut I) -> Result<Vec<u8>, ReadError>
     ensures bytes { IfOk result (λ v. Consumes (I.remaining input.old) (I.remaining input.new) v.items) }
     ensures end { OnOk result (IsAtEnd (I.remaining input.new)) }

@@ -6,7 +6,7 @@ use Rattle.std.proofs.lemmas.Option.{slice_get_past}
 pub events_before : {X Y : Type 0} (f : X → Y) (n : ℕ) (xs : List X) → take n (map f xs) ≡ map f (take n xs)
 events_before f n xs = take-map f n xs
 
--- the event that is in a place of the script
+-- the event with this index in the script
 pub event_at : {X Y : Type 0} (f : X → Y) (n : ℕ) (xs : List X) (x : X) → n < length xs → slice_get (map f xs) n ≡ Some (f (slice_index_or xs n x))
 event_at f n [] x below = absurd (omega (arith, below))
 event_at f zero (y ∷ ys) x below = refl

@@ -2,3 +2,4 @@ pub mod Examples
 pub mod Repeats
 pub mod UnmarkedRuns
 pub mod EventsBefore
+pub mod SentLines

@@ -3,10 +3,10 @@ use Rattle.std.proofs.Common.{◌≡◌, ℕ, suc, ◌+◌, ◌-◌, ◌<◌, �
 use Rattle.tcp_replay.specs.Events.{EventContent}
 use Rattle.kit_report.specs.Report.{event_in_turn, turns_from}
 
-left_is : (i times : ℕ) → i < times → times - i ≡ suc (times - (i + 1))
+pub left_is : (i times : ℕ) → i < times → times - i ≡ suc (times - (i + 1))
 left_is i times below = omega (arith, below)
 
-none_left : (i times : ℕ) → times ≤ i → times - i ≡ 0
+pub none_left : (i times : ℕ) → times ≤ i → times - i ≡ 0
 none_left i times all = omega (arith, all)
 
 pub next_turn : (e : EventContent) (i times : ℕ) → i < times → turns_from e i (times - i) ≡ event_in_turn e i ∷ turns_from e (i + 1) (times - (i + 1))

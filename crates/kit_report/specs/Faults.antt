@@ -7,7 +7,7 @@ use Rattle.kit_script.specs.Script.{ScriptContent}
 use Rattle.kit_report.specs.declared.error.ReportError.{ReportError}
 use Rattle.kit_report.specs.declared.error.ReportError.TheVariants.{NoMemory, Config}
 
--- one of what the ends are made from is refused, never for want of memory; or memory ran out
+-- one of the ends' Configs is refused, never because there is no memory; or there is no memory
 abbrev pub HasReportFault : ScriptContent → ReportError → Type 0
 HasReportFault s (Config side fault) = (fault ≢ configs.NoMemory) × HasNamedFault s.a s.b (worlds.Config side fault)
 HasReportFault s NoMemory = Unit {0}

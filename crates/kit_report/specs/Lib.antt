@@ -7,3 +7,4 @@ pub mod Report
 pub mod Runs
 pub mod Steps
 pub mod Rules
+pub mod Ends

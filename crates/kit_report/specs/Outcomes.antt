@@ -1,4 +1,4 @@
--- What came of an event.
+-- The outcome of an event.
 use Rattle.std.specs.Prelude.{ℕ, Bool, true, false, List, ◌++◌, drop, codes, decimal, Option, Some, None, Result, Ok, Err}
 use Rattle.tcp_wire.specs.declared.fault.DecodeError.{DecodeError}
 use Rattle.tcp_wire.specs.Wire.{Content}
@@ -32,8 +32,8 @@ abbrev pub emission_text : WorldState → Side → Option ℕ → List ℕ
 emission_text w side None = codes "none"
 emission_text w side (Some k) = decimal k ++ (codes " " ++ segment_text (meaning_of_segment w side k))
 
--- AN OUTCOME, by the world after the event, the side that the event names, and how many bytes that side had been
--- handed before it
+-- AN OUTCOME, by the world after the event, the side that the event names, and how many bytes were delivered to that side
+-- before it
 unfoldable pub outcome_text : WorldState → Side → ℕ → Outcome → List ℕ
 outcome_text w side had (outcomes.Call answer) = call_text answer (party_of w side).endpoint.phase
 outcome_text w side had (outcomes.Sent answer) = send_text answer

@@ -1,4 +1,4 @@
--- What a report says: a function from a script.
+-- The content of a report: a function from a script.
 use Rattle.std.specs.Prelude.{ℕ, zero, suc, ◌+◌, ◌-◌, ◌^◌, ◌==◌, ◌&&◌, min, Bool, true, if◌then◌else◌, Option, Some, None, List, [], ◌∷◌, ◌++◌, length, codes, decimal}
 use Rattle.tcp_replay.specs.declared.event.Side.{Side}
 use Rattle.tcp_replay.specs.declared.event.Side.TheVariants.{A, B}
@@ -11,7 +11,7 @@ use Rattle.kit_report.specs.Names.{yes_or_no}
 use Rattle.kit_report.specs.Events.{event_text}
 use Rattle.kit_report.specs.Outcomes.{answer_text, is_refused}
 
--- ONE EVENT, with its number: the event, and what came of it
+-- ONE EVENT, with its number: the event, and its outcome
 abbrev pub outcome_text_at : WorldState → EventContent → List ℕ
 outcome_text_at w e =
     answer_text (world_after w e) (side_of e) (length (party_of w (side_of e)).delivered) (step_answer w e)
@@ -19,8 +19,8 @@ outcome_text_at w e =
 unfoldable pub event_line : ℕ → WorldState → EventContent → List ℕ
 event_line n w e = decimal n ++ (codes " " ++ (event_text e ++ (codes " " ++ (outcome_text_at w e ++ (10 ∷ [])))))
 
--- THE TURNS of an event that is repeated: the number of a segment that it names grows by 1 each turn, up to what a number of 64
--- bits can say
+-- THE TURNS of an event that is repeated: the number of a segment that it names grows by 1 each turn, up to the greatest
+-- number of 64 bits
 abbrev pub number_in_turn : ℕ → ℕ → ℕ
 number_in_turn k i = min (k + i) (2 ^ 64 - 1)
 
@@ -29,7 +29,7 @@ event_in_turn (Deliver from k) i = Deliver from (number_in_turn k i)
 event_in_turn (Damage from k place value) i = Damage from (number_in_turn k i) place value
 event_in_turn other i = other
 
--- so many turns, the first of them this one
+-- this many turns, the first of them this one
 unfoldable pub turns_from : EventContent → ℕ → ℕ → List EventContent
 turns_from e i zero = []
 turns_from e i (suc n) = event_in_turn e i ∷ turns_from e (i + 1) n
@@ -41,13 +41,12 @@ events_in_turns e (Some times) = turns_from e 0 times
 abbrev pub events_of : TurnContent → List EventContent
 events_of t = events_in_turns t.event t.times
 
--- how many of them are refused; those that follow a refused one are taken too
+-- how many of them are refused; those after a refused one are applied too
 unfoldable pub refusals : WorldState → List EventContent → ℕ
 refusals w [] = 0
 refusals w (e ∷ es) = (if is_refused (step_answer w e) then 1 else 0) + refusals (world_after w e) es
 
--- A REPEAT in one line: how many bytes `send` took in all its turns, after these, or how many turns weren't refused; and how many
--- were
+-- A REPEAT in one line: how many bytes `send` accepted in all its turns, or how many turns weren't refused; and how many were
 abbrev pub count_text : ℕ → WorldState → EventContent → ℕ → ℕ → List ℕ
 count_text accepted w (Send side bytes) times refused = codes "took " ++ decimal (length (party_of w side).accepted - accepted)
 count_text accepted w other times refused = codes "done " ++ decimal (times - refused)
@@ -61,7 +60,7 @@ repeat_text w times e =
 unfoldable pub repeat_line : ℕ → WorldState → ℕ → EventContent → List ℕ
 repeat_line n w times e = decimal n ++ (codes " " ++ (repeat_text w times e ++ (10 ∷ [])))
 
--- an event with as many turns as the script says
+-- an event with the script's number of turns
 abbrev pub turn_line_by : ℕ → WorldState → EventContent → Option ℕ → List ℕ
 turn_line_by n w e None = event_line n w e
 turn_line_by n w e (Some times) = repeat_line n w times e
@@ -76,7 +75,7 @@ unfoldable pub world_after_turns : WorldState → List TurnContent → WorldStat
 world_after_turns w [] = w
 world_after_turns w (t ∷ ts) = world_after_turns (world_after_turn w t) ts
 
--- ALL EVENTS in turn, refused ones too: their lines, the first with this number; whether no turn was refused
+-- ALL EVENTS in order, refused ones too: their lines, the first with this number; whether no turn was refused
 unfoldable pub event_lines : ℕ → WorldState → List TurnContent → List ℕ
 event_lines n w [] = []
 event_lines n w (t ∷ ts) = turn_line n w t ++ event_lines (n + 1) (world_after_turn w t) ts
@@ -108,6 +107,6 @@ first_world s = new_world_with s.life s.a s.b
 unfoldable pub report_text : ScriptContent → List ℕ
 report_text s = event_lines 1 (first_world s) s.events ++ end_lines (world_after_turns (first_world s) s.events)
 
--- and whether all was well
+-- and whether nothing was refused
 unfoldable pub report_is_well : ScriptContent → Bool
 report_is_well s = is_well (first_world s) s.events

@@ -4,12 +4,12 @@ use Rattle.std.specs.List.{flat_map}
 use Rattle.tcp_wire.specs.Texts.{list_text}
 use Rattle.kit_text.specs.Texts.{block_text}
 
--- what one run writes, where none stands before it and where one does
+-- the text of one run, where none comes before it and where one does
 abbrev pub run_text : Bool → ℕ × ℕ → List ℕ
 run_text true run = block_text run
 run_text false run = codes "+" ++ block_text run
 
--- what runs write
+-- the text of runs
 abbrev pub runs_text : Bool → List (ℕ × ℕ) → List ℕ
 runs_text true runs = list_text block_text (codes "+") runs
 runs_text false runs = flat_map (λ run. codes "+" ++ block_text run) runs

@@ -1,4 +1,4 @@
--- How both ends stand after each event, and what a segment of a run says.
+-- The states of both ends after each event, and the meaning of a segment of a run.
 use Rattle.std.specs.Prelude.{ℕ, zero, suc, ◌+◌, List, [], ◌∷◌, ◌++◌, length, slice_get, codes, decimal, Option, option_map}
 use Rattle.std.specs.Option.{option_map_or}
 use Rattle.tcp_sendq.specs.SendQueue.{Queue, next_unmarked}
@@ -17,7 +17,8 @@ use Rattle.kit_script.specs.Script.{TurnContent, ScriptContent}
 use Rattle.kit_report.specs.Outcomes.{address_of_side}
 use Rattle.kit_report.specs.Report.{turn_line, world_after_turn, world_after_turns, counts_text, first_world}
 
--- THE UNMARKED RUNS of a queue from a place on, at most so many: the bytes that the peer hasn't reported to hold (RFC 2018, 5)
+-- THE UNMARKED RUNS of a queue from an offset on, at most this many: the bytes that the peer hasn't reported as received (RFC
+-- 2018, 5)
 unfoldable pub unmarked_runs : ℕ → Queue → ℕ → List (ℕ × ℕ)
 unmarked_runs zero q at = []
 unmarked_runs (suc n) q at = option_map_or (λ run. run ∷ unmarked_runs n q run.1) (next_unmarked q at) []
@@ -26,19 +27,19 @@ unmarked_runs (suc n) q at = option_map_or (λ run. run ∷ unmarked_runs n q ru
 abbrev pub max_unmarked_runs : ℕ
 max_unmarked_runs = 17
 
--- WHAT THE BUFFERS HOLD. The send queue: its bytes, how many of them were sent, and which the peer hasn't reported to hold
+-- THE BUFFERS. The send queue: its bytes, how many of them were sent, and which the peer hasn't reported as received
 unfoldable pub queue_text : State → List ℕ
 queue_text s =
     codes " queued " ++ (decimal (queued_of s) ++ (codes " flight " ++ (decimal (in_flight_of s)
     ++ (codes " unmarked " ++ blocks_text (unmarked_runs max_unmarked_runs s.sending.queue 0)))))
 
--- the receive buffer: the bytes in order, RCV.WND, what is held (RFC 2018, 4), counted from RCV.NXT; and the peer's, SND.WND
+-- the receive buffer: the bytes in order, RCV.WND, what is out of order (RFC 2018, 4), counted from RCV.NXT; and SND.WND
 unfoldable pub inbox_text : State → List ℕ
 inbox_text s =
     codes " unread " ++ (decimal (length s.receiving.inbox.unread) ++ (codes " window " ++ (decimal (window s.receiving.inbox)
     ++ (codes " held " ++ (blocks_text (blocks s.receiving.inbox) ++ (codes " peer " ++ decimal s.sending.wnd))))))
 
--- A STATE LINE: what the last line of the side would tell now, and what its buffers hold
+-- A STATE LINE: what the last line of the side would report now, and the content of its buffers
 unfoldable pub state_line : Side → PartyState → List ℕ
 state_line side p =
     codes "state " ++ (side_name side ++ (codes " " ++ (phase_name p.endpoint.phase ++ (codes " " ++ (ending_name p.endpoint.ending
@@ -47,16 +48,16 @@ state_line side p =
 abbrev pub state_lines : WorldState → List ℕ
 state_lines w = state_line A w.a ++ state_line B w.b
 
--- ALL EVENTS in turn, refused ones too: the line of each, the first with this number, and how both ends stand after it
+-- ALL EVENTS in order, refused ones too: the line of each, the first with this number, and the states of both ends after it
 unfoldable pub step_lines : ℕ → WorldState → List TurnContent → List ℕ
 step_lines n w [] = []
 step_lines n w (t ∷ ts) = turn_line n w t ++ (state_lines (world_after_turn w t) ++ step_lines (n + 1) (world_after_turn w t) ts)
 
--- THE STEPS of a script: how both ends stand before its events, and after each
+-- THE STEPS of a script: the states of both ends before its events, and after each
 unfoldable pub steps_text : ScriptContent → List ℕ
 steps_text s = state_lines (first_world s) ++ step_lines 1 (first_world s) s.events
 
--- A SEGMENT that this side emitted: what its bytes say between the true addresses
+-- A SEGMENT that this side emitted: the meaning of its bytes between the true addresses
 abbrev pub segment_text_of : WorldState → Side → List ℕ → List ℕ
 segment_text_of w side bytes = meaning_text (decode_answer (address_of_side w side) (address_of_side w (other side)) bytes)
 

@@ -1,4 +1,4 @@
-//! What a call answered, and what became of bytes.
+//! The answer of a call, and what became of bytes.
 ghost use Rattle.std.specs.Prelude.{◌≡◌, ◌++◌, OnOk, string_bytes};
 ghost use Rattle.tcp_wire.specs.Decoded.{decode_answer};
 ghost use Rattle.kit_report.specs.Answers.{refused_text, send_text, receive_text, segment_text, arrival_text};
@@ -15,7 +15,7 @@ pub fn push_refused<A: Allocator>(text: &mut String<A>, number: u8) -> Result<()
     write!(text, "refused {number}")
 }
 
-/// Appends how many bytes were taken, or the refusal.
+/// Appends how many bytes were accepted, or the refusal.
 pub fn push_send<A: Allocator>(
     text: &mut String<A>,
     answer: Result<usize, CallError>,
@@ -28,7 +28,7 @@ pub fn push_send<A: Allocator>(
     }
 }
 
-/// Appends the bytes that were handed over, if any, or the refusal.
+/// Appends the bytes that were delivered, if any, or the refusal.
 pub fn push_receive<A: Allocator + Copy>(
     alloc: A,
     text: &mut String<A>,
@@ -48,7 +48,7 @@ pub fn push_receive<A: Allocator + Copy>(
     }
 }
 
-/// Appends a summary of what the bytes of a segment say.
+/// Appends a summary of the bytes of a segment.
 pub fn push_segment<A: Allocator>(
     text: &mut String<A>,
     src: Addr,

@@ -6,10 +6,10 @@ use thiserror::Error;
 /// Why no report of a script is made.
 #[derive(Clone, Copy, Debug, PartialEq, Eq, Error)]
 pub enum ReportError {
-    /// The end of this side can't be made as the script has it; never for want of memory.
+    /// The end of this side can't be made of its Config; never because there is no memory.
     #[error("the end of side {0} can't be made: {1}")]
     Config(Side, ConfigError),
-    /// Memory ran out.
+    /// There is no memory.
     #[error("no memory for the report")]
     NoMemory,
 }

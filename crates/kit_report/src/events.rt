@@ -7,7 +7,7 @@ use kit_script::{kind_name, kind_of};
 use std::alloc::{AllocError, Allocator};
 use tcp_replay::Event;
 
-/// The words after the side, but for the bytes that are sent.
+/// The words after the side, without the bytes that are sent.
 fn push_others<A: Allocator>(text: &mut String<A>, event: &Event<A>) -> Result<(), AllocError>
     ensures { OnOk result (string_bytes text.new ≡ string_bytes text.old ++ others_text (event_content event.now)) }
 {
@@ -20,7 +20,7 @@ fn push_others<A: Allocator>(text: &mut String<A>, event: &Event<A>) -> Result<(
     }
 }
 
-/// Appends an event, but for the bytes that are sent.
+/// Appends an event, without the bytes that are sent.
 #[tactic(auto, unfolding(crate::specs::Events::event_text))]
 pub(crate) fn push_event<A: Allocator>(
     text: &mut String<A>,

@@ -1,4 +1,4 @@
-//! What came of one event.
+//! The outcome of one event.
 ghost use Rattle.std.specs.Prelude.{◌≡◌, ◌++◌, drop, OnOk, string_bytes};
 ghost use Rattle.tcp_replay.specs.World.{party_of, other, segment_at};
 ghost use Rattle.kit_report.specs.Outcomes.{call_text, address_of_side, emission_text, outcome_text, answer_text, is_refused};
@@ -10,7 +10,7 @@ use tcp_conn::{CallError, Phase};
 use tcp_replay::{Outcome, Side, StepError, World};
 use tcp_wire::Addr;
 
-/// What a step answered.
+/// What a step returned.
 pub(crate) type StepResult = Result<Outcome, StepError>;
 
 pub(crate) fn other(side: Side) -> Side
@@ -28,14 +28,14 @@ pub(crate) fn address_of<A: Allocator>(world: &World<A>, side: Side) -> Addr
     world.endpoint(side).config().addr
 }
 
-/// The bytes of segment `k` of a side, none where there is none.
-fn segment_at<A: Allocator>(world: &World<A>, side: Side, k: usize) -> &[u8]
+/// The bytes of segment `k` of a side; no bytes where there is none.
+pub(crate) fn segment_at<A: Allocator>(world: &World<A>, side: Side, k: usize) -> &[u8]
     ensures { result.now ≡ segment_at (party_of world.now side) k }
 {
     world.sent(side, k).unwrap_or(&[])
 }
 
-/// With the phase that the side is in then.
+/// Appends the answer of a call, with the phase that the side is in then.
 fn push_call<A: Allocator>(
     text: &mut String<A>,
     answer: Result<(), CallError>,
@@ -66,7 +66,7 @@ fn push_emission<A: Allocator>(
     push_segment(text, src, dst, segment_at(world, side, k))
 }
 
-/// What follows the first `count` bytes.
+/// The bytes after the first `count`.
 fn after(bytes: &[u8], count: usize) -> &[u8]
     ensures { result.now ≡ drop count bytes.now }
 {
@@ -76,7 +76,7 @@ fn after(bytes: &[u8], count: usize) -> &[u8]
     &bytes[count..]
 }
 
-/// Appends what came of an event that names this side, which had been handed `had` bytes before it.
+/// Appends the outcome of an event that names this side, to which `had` bytes were delivered before it.
 #[tactic(auto, unfolding(crate::specs::Outcomes::outcome_text))]
 fn push_outcome<A: Allocator + Copy>(
     alloc: A,
@@ -104,7 +104,7 @@ fn push_outcome<A: Allocator + Copy>(
     }
 }
 
-/// The same, or why the event was refused.
+/// Appends the outcome of an event, or why it was refused.
 pub(crate) fn push_step_result<A: Allocator + Copy>(
     alloc: A,
     text: &mut String<A>,

@@ -13,7 +13,7 @@ use std::alloc::{AllocError, Allocator, Global};
 use tcp_conn::ConfigError;
 use tcp_replay::{Side, World, WorldError};
 
-/// A report, and whether it tells of no refusal.
+/// A report, and whether it has no refusal.
 #[derive(Debug, Drop)]
 pub struct Report<A: Allocator = Global> {
     /// A line for each event, and then one for each side.
@@ -22,7 +22,7 @@ pub struct Report<A: Allocator = Global> {
     pub is_well: bool,
 }
 
-/// Appends what a side had and did, in numbers.
+/// Appends the counts of a side.
 #[tactic(auto, unfolding(crate::specs::Report::counts_text))]
 pub(crate) fn push_counts<A: Allocator>(
     text: &mut String<A>,
@@ -61,7 +61,7 @@ fn push_end_line<A: Allocator>(
     text.push_str("\n")
 }
 
-/// Appends the whole report of events between two new ends; answers whether none was refused.
+/// Appends the whole report of events between two new ends; returns whether none was refused.
 fn push_report<A: Allocator + Copy>(
     alloc: A,
     text: &mut String<A>,
@@ -94,7 +94,7 @@ pub(crate) fn new_world<A: Allocator + Copy>(
     }
 }
 
-/// The report of events that happen in turn to the ends of a world.
+/// The report of events that happen in order to the ends of a world.
 fn report_from<A: Allocator + Copy>(
     alloc: A,
     world: &mut World<A>,
@@ -108,8 +108,8 @@ fn report_from<A: Allocator + Copy>(
     Ok(Report { text, is_well })
 }
 
-/// The report of a script whose events happen in turn to two new ends, with a lifetime that two ends can have. Want of memory
-/// can come at any turn.
+/// The report of a script whose events happen in order to two new ends, with a lifetime that two ends can have.
+/// `NoMemory` can come at any turn.
 #[tactic(auto, unfolding(crate::specs::Report::report_text, crate::specs::Report::report_is_well))]
 pub fn make_report<A: Allocator + Copy>(
     alloc: A,

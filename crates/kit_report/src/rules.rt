@@ -1,4 +1,4 @@
-//! By which rule an arrival of a script is judged.
+//! The rule that applies to an arrival of a script (RFC 9293, 3.10.7).
 ghost use Rattle.std.specs.Prelude.{◌≡◌, option_map, map, slice_get, take, IfOk, IfErr, OnOk};
 ghost use Rattle.tcp_replay.specs.World.{HasGoodConfigs};
 ghost use Rattle.tcp_replay.specs.Events.{event_content};
@@ -16,7 +16,7 @@ use std::alloc::{AllocError, Allocator};
 use tcp_conn::Judgement;
 use tcp_replay::{Event, Side, World};
 
-/// A rule in words: its name, and where RFC 9293 has it.
+/// A rule in words: its name, and its section of RFC 9293.
 fn rule_text(rule: Judgement) -> &'static str
     ensures { result.now ≡ rule_text rule }
 {
@@ -43,7 +43,7 @@ fn rule_text(rule: Judgement) -> &'static str
     }
 }
 
-/// By which rule bytes of this side are judged that arrive at the other one now.
+/// The rule that applies to bytes of this side that arrive at the other one now.
 fn rule_at<A: Allocator>(world: &World<A>, side: Side, bytes: &[u8]) -> Option<Judgement>
     ensures { result ≡ rule_at world.now side bytes.now }
 {
@@ -52,7 +52,7 @@ fn rule_at<A: Allocator>(world: &World<A>, side: Side, bytes: &[u8]) -> Option<J
     world.endpoint(other(side)).rule(src, dst, bytes)
 }
 
-/// By which rule the segment is judged that an event delivers; none where it delivers none.
+/// The rule that applies to the segment that an event delivers; `None` where it delivers none.
 fn event_rule<A: Allocator, E: Allocator>(world: &World<A>, event: &Event<E>) -> Option<Judgement>
     ensures { result ≡ event_rule world.now (event_content event.now) }
 {
@@ -65,7 +65,7 @@ fn event_rule<A: Allocator, E: Allocator>(world: &World<A>, event: &Event<E>) ->
     }
 }
 
-/// The same in words.
+/// The rule of an event in words.
 fn event_rule_text<A: Allocator, E: Allocator>(
     world: &World<A>,
     event: &Event<E>,
@@ -76,7 +76,7 @@ fn event_rule_text<A: Allocator, E: Allocator>(
     Some(rule_text(rule))
 }
 
-/// The rule of the event in a place, once the events before it are applied.
+/// The rule of the event with this index, once the events before it are applied.
 #[tactic(auto, using(crate::proofs::EventsBefore::none_past))]
 fn rule_after<A: Allocator + Copy>(
     alloc: A,
@@ -93,8 +93,9 @@ fn rule_after<A: Allocator + Copy>(
     Ok(event_rule_text(world, &events[n].event))
 }
 
-/// By which rule the segment is judged that event `n`, from 0, of a script delivers, in words; none where there is no such event
-/// or it delivers none. Of a repeated event it is the rule of the first turn. Want of memory can come at any turn before.
+/// The rule that applies to the segment that event `n`, from 0, of a script delivers, in words (RFC 9293, 3.10.7).
+/// `None` where there is no such event, or it delivers none. For a repeated event it is the rule of the first turn.
+/// `NoMemory` can come at any turn before.
 #[tactic(auto, unfolding(crate::specs::Rules::shown_rule))]
 pub fn show_rule<A: Allocator + Copy>(
     alloc: A,

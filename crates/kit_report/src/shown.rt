@@ -1,4 +1,4 @@
-//! What a segment of a script's run says.
+//! The meaning of a segment of a script's run.
 ghost use Rattle.std.specs.Prelude.{◌≡◌, ◌++◌, map, option_map, IfOk, IfErr, OnOk, string_bytes};
 ghost use Rattle.tcp_replay.specs.World.{HasGoodConfigs};
 ghost use Rattle.kit_script.specs.Script.{turn_content, script_content, HasLife};
@@ -15,7 +15,7 @@ use kit_text::push_meaning;
 use std::alloc::{AllocError, Allocator};
 use tcp_replay::{Side, World};
 
-/// What the bytes of a segment of this side say.
+/// The meaning of the bytes of a segment of this side.
 fn text_of<A: Allocator + Copy>(
     alloc: A,
     world: &World<A>,
@@ -31,7 +31,7 @@ fn text_of<A: Allocator + Copy>(
     Ok(text)
 }
 
-/// What segment `k` of this side says, if there is one.
+/// The meaning of segment `k` of this side, if there is one.
 fn text_at<A: Allocator + Copy>(
     alloc: A,
     world: &World<A>,
@@ -47,7 +47,7 @@ fn text_at<A: Allocator + Copy>(
     Ok(Some(text))
 }
 
-/// Applies all events in turn, refused ones too.
+/// Applies all events in order, refused ones too.
 pub(crate) fn apply_all<A: Allocator + Copy>(
     alloc: A,
     world: &mut World<A>,
@@ -60,8 +60,8 @@ pub(crate) fn apply_all<A: Allocator + Copy>(
     Ok(())
 }
 
-/// What segment `k`, from 0, says that this side emits in the run of a script, as a listing has it; none where it emits no such
-/// segment. Want of memory can come at any turn.
+/// The meaning of segment `k`, from 0, that this side emits in the run of a script, as in a listing; `None` where it
+/// emits no such segment. `NoMemory` can come at any turn.
 #[tactic(auto, unfolding(crate::specs::Steps::shown_segment))]
 pub fn show_segment<A: Allocator + Copy>(
     alloc: A,

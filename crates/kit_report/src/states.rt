@@ -1,4 +1,4 @@
-//! How an end stands: one line.
+//! The state of an end, in one line.
 ghost use Rattle.std.specs.Prelude.{◌≡◌, ◌++◌, [], OnOk, string_bytes};
 ghost use Rattle.kit_text.specs.Texts.{blocks_text};
 ghost use Rattle.tcp_replay.specs.World.{party_of};
@@ -28,7 +28,7 @@ fn push_run<A: Allocator>(
     write!(text, "{from}-{to}")
 }
 
-/// What stands where there is no run: nothing after another run.
+/// What is written where there is no run: nothing after another run.
 fn none_after(is_first: bool) -> &'static str
     ensures { result.now ≡ runs_text is_first [] }
 {
@@ -68,7 +68,7 @@ fn push_unmarked<A: Allocator>(text: &mut String<A>, end: &Endpoint<A>) -> Resul
     text.push_str(none_after(is_first))
 }
 
-/// Appends what the send queue holds.
+/// Appends the content of the send queue.
 #[tactic(auto, unfolding(crate::specs::Steps::queue_text))]
 fn push_queue<A: Allocator>(text: &mut String<A>, end: &Endpoint<A>) -> Result<(), AllocError>
     ensures { OnOk result (string_bytes text.new ≡ string_bytes text.old ++ queue_text end.now) }
@@ -79,7 +79,7 @@ fn push_queue<A: Allocator>(text: &mut String<A>, end: &Endpoint<A>) -> Result<(
     push_unmarked(text, end)
 }
 
-/// Appends what the receive buffer holds, and the peer's window.
+/// Appends the content of the receive buffer, and the peer's window.
 #[tactic(auto, unfolding(crate::specs::Steps::inbox_text))]
 fn push_inbox<A: Allocator>(text: &mut String<A>, end: &Endpoint<A>) -> Result<(), AllocError>
     ensures { OnOk result (string_bytes text.new ≡ string_bytes text.old ++ inbox_text end.now) }
@@ -91,7 +91,7 @@ fn push_inbox<A: Allocator>(text: &mut String<A>, end: &Endpoint<A>) -> Result<(
     write!(text, " peer {peer}")
 }
 
-/// Appends how this side stands.
+/// Appends the state of this side.
 #[tactic(auto, unfolding(crate::specs::Steps::state_line))]
 fn push_state_line<A: Allocator>(
     text: &mut String<A>,
@@ -110,7 +110,7 @@ fn push_state_line<A: Allocator>(
     text.push_str("\n")
 }
 
-/// Appends how both sides stand.
+/// Appends the states of both sides.
 pub(crate) fn push_state_lines<A: Allocator>(
     text: &mut String<A>,
     world: &World<A>,

@@ -1,4 +1,4 @@
-//! How both ends stand after each event of a script.
+//! The states of both ends after each event of a script.
 ghost use Rattle.std.specs.Prelude.{◌≡◌, ◌++◌, map, IfOk, IfErr, OnOk, string_bytes};
 ghost use Rattle.tcp_replay.specs.World.{HasGoodConfigs};
 ghost use Rattle.kit_script.specs.Script.{turn_content, script_content, HasLife};
@@ -14,7 +14,7 @@ use kit_script::{Script, Turn};
 use std::alloc::{AllocError, Allocator};
 use tcp_replay::World;
 
-/// Applies all events in turn, refused ones too, and appends the line of each and how both ends stand then.
+/// Applies all events in order, refused ones too, and appends the line of each and the states of both ends then.
 #[tactic(auto, unfolding(crate::specs::Steps::step_lines))]
 fn push_step_lines<A: Allocator + Copy>(
     alloc: A,
@@ -31,7 +31,7 @@ fn push_step_lines<A: Allocator + Copy>(
     Ok(())
 }
 
-/// How both ends of a world stand now, and after each event.
+/// The states of both ends of a world now, and after each event.
 fn steps_from<A: Allocator + Copy>(
     alloc: A,
     world: &mut World<A>,
@@ -45,8 +45,8 @@ fn steps_from<A: Allocator + Copy>(
     Ok(text)
 }
 
-/// The steps of a script: two lines that tell how both ends stand, and then for each event its line of the report and two such
-/// lines. Want of memory can come at any turn.
+/// The steps of a script: two lines with the states of both ends, and then for each event its line of the report and
+/// two such lines. `NoMemory` can come at any turn.
 #[tactic(auto, unfolding(crate::specs::Steps::steps_text))]
 pub fn make_steps<A: Allocator + Copy>(
     alloc: A,

@@ -12,7 +12,7 @@ use kit_script::Turn;
 use std::alloc::{AllocError, Allocator};
 use tcp_replay::{Event, StepError, World};
 
-/// One event, refused or not. Where memory is refused the world is as it was.
+/// Applies one event, refused or not. Where there is no memory the world is as it was.
 fn apply<A: Allocator + Copy>(
     world: &mut World<A>,
     event: &Event<A>,
@@ -26,7 +26,7 @@ fn apply<A: Allocator + Copy>(
     }
 }
 
-/// Applies an event and appends its line; answers whether it was refused.
+/// Applies an event and appends its line; returns whether it was refused.
 #[tactic(auto, unfolding(crate::specs::Report::event_line))]
 fn push_event_line<A: Allocator + Copy>(
     alloc: A,
@@ -71,7 +71,7 @@ fn apply_turn<A: Allocator + Copy>(
     }
 }
 
-/// Applies all turns of an event, refused ones too; answers how many were refused.
+/// Applies all turns of an event, refused ones too; returns how many were refused.
 #[tactic(auto, using(crate::proofs::Repeats::next_turn, crate::proofs::Repeats::no_turn_left), unfolding(crate::specs::Report::refusals, tcp_replay::specs::World::world_after_all))]
 fn apply_turns<A: Allocator + Copy>(
     world: &mut World<A>,
@@ -93,8 +93,8 @@ fn apply_turns<A: Allocator + Copy>(
     Ok(refused)
 }
 
-/// Appends what the turns of an event came to: for `send` how many bytes were taken since `accepted` were, for others how many
-/// turns weren't refused.
+/// Appends the outcome of an event's turns: for `send` how many bytes were accepted after the first `accepted`, for
+/// others how many turns weren't refused.
 fn push_count<A: Allocator>(
     text: &mut String<A>,
     world: &World<A>,
@@ -117,7 +117,7 @@ fn push_count<A: Allocator>(
     }
 }
 
-/// Applies all turns of an event and appends their line; answers how many were refused.
+/// Applies all turns of an event and appends their line; returns how many were refused.
 #[tactic(auto, unfolding(crate::specs::Report::repeat_text, crate::specs::Report::repeat_line))]
 fn push_repeat_line<A: Allocator + Copy>(
     text: &mut String<A>,
@@ -140,7 +140,7 @@ fn push_repeat_line<A: Allocator + Copy>(
     Ok(refused)
 }
 
-/// Applies an event as often as the script says and appends its line; answers whether no turn was refused.
+/// Applies an event as often as the script says and appends its line; returns whether no turn was refused.
 #[tactic(auto, unfolding(crate::specs::Report::refusals, tcp_replay::specs::World::world_after_all))]
 pub(crate) fn push_turn_line<A: Allocator + Copy>(
     alloc: A,
@@ -161,7 +161,7 @@ pub(crate) fn push_turn_line<A: Allocator + Copy>(
     Ok(refused == 0)
 }
 
-/// Applies all events in turn, refused ones too, and appends their lines; answers whether no turn was refused.
+/// Applies all events in order, refused ones too, and appends their lines; returns whether no turn was refused.
 #[tactic(auto, unfolding(crate::specs::Report::event_lines, crate::specs::Report::is_well, crate::specs::Report::world_after_turns))]
 pub(crate) fn push_event_lines<A: Allocator + Copy>(
     alloc: A,

@@ -40,7 +40,7 @@ refuses : script_of late ≡ Err 2
 unfolding late script_of script_from statement_of numbered_from
 refuses = refl
 
--- a later setting of the same key wins
+-- a later setting of the same key takes precedence
 settings : List ℕ
 settings =
     codes "config A mss 1" ++ 10 ∷ codes "config B mss 200" ++ 10 ∷ codes "config A mss 100" ++ 10 ∷ codes "config A send 7" ++ 10
@@ -87,7 +87,8 @@ empty : script_of [] ≡ Ok ends
 unfolding first ends script_of script_from statement_of numbered_from
 empty = refl
 
--- version 2: a lifetime, a limit, and an event of three turns, whose last segment is 4294967295; one turn more has no form
+-- version 2: a lifetime, a limit, and an event of three turns, whose last segment is 4294967295; with one more turn it has no
+-- form
 long : List ℕ
 long =
     codes "tcpkit 2" ++ 10 ∷ codes "config life 4" ++ 10 ∷ codes "config B limit 0" ++ 10 ∷ codes "repeat 3 deliver A 4294967293" ++ 10
@@ -111,7 +112,7 @@ refuses_turn : script_of too_far ≡ Err 2
 unfolding too_far script_of script_from added_line_of statement_of numbered_from
 refuses_turn = refl
 
--- the version stands in the first line alone
+-- the version is in the first line alone
 version_later : List ℕ
 version_later = 10 ∷ codes "tcpkit 2"
 

@@ -1,4 +1,4 @@
--- A text of version 1 gives the events that version 1 says, each once.
+-- A text of version 1 gives the events of version 1, each once.
 use Rattle.std.proofs.Common.{◌≡◌, ℕ, suc, ◌==◌, Bool, true, false, if◌then◌else◌, List, [], ◌∷◌, ◌++◌, map, length, Option, Some, None, Result, Ok, Err, refl, arith, ap, sym, ◌∙◌}
 use Rattle.std.specs.Option.{option_and_then, option_map, option_map_or}
 use Rattle.tcp_replay.specs.Events.{EventContent}
@@ -10,7 +10,7 @@ use Rattle.kit_script.specs.Version1.{EventScript, default_event_script, event_s
 use Rattle.kit_script.specs.Version2.{LineContent, statement, version_1_line_of}
 use Rattle.kit_script.specs.Script.{TurnContent, ScriptContent, once, of_events, of_event_answer, with_line_content, default_script, script_from, script_of, script_of_lines, is_version_2, SaysVersion1}
 
--- the events are counted and continued alike
+-- events are counted and added in the same way
 map_once-append : (es : List EventContent) (e : EventContent) → map once es ++ once e ∷ [] ≡ map once (es ++ e ∷ [])
 map_once-append [] e = refl
 map_once-append (x ∷ xs) e = ap {B = List TurnContent} (λ r. once x ∷ r) (map_once-append xs e)
@@ -19,7 +19,7 @@ length_once : (es : List EventContent) → length (map once es) ≡ length es
 length_once [] = refl
 length_once (e ∷ es) = ap suc (length_once es)
 
--- what sets a value has a form before the first event alone
+-- a setting has a form before the first event alone
 choice-alike : (b : Bool) (s : EventScript) → (if b then Some (of_events s) else None) ≡ option_map of_events (if b then Some s else None)
 choice-alike true s = refl
 choice-alike false s = refl
@@ -38,7 +38,7 @@ line-alike : (s : EventScript) (m : Option StatementContent) → option_and_then
 line-alike s None = refl
 line-alike s (Some x) = statement-alike s x
 
--- further lines, where what is left of them is read alike
+-- further lines, where the rest of them is read in the same way
 further-alike : (lines : List (ℕ × List ℕ)) → ((s : EventScript) → script_from (of_events s) lines ≡ of_event_answer (event_script_from s lines)) → (m : Option EventScript) (n : ℕ) → option_map_or (λ s. script_from s lines) (option_map of_events m) (Err n) ≡ of_event_answer (option_map_or (λ s. event_script_from s lines) m (Err n))
 further-alike lines alike None n = refl
 further-alike lines alike (Some s) n = alike s

@@ -11,7 +11,7 @@ use Rattle.tcp_replay.specs.Names.{side_name}
 use Rattle.kit_script.specs.declared.names.Kind.{Kind}
 use Rattle.kit_script.specs.declared.names.Kind.TheVariants as kinds
 
--- what happens in an event, whatever it names
+-- the kind of an event, without what it names
 abbrev pub kind_of : EventContent → Kind
 kind_of (events.Connect side) = kinds.Connect
 kind_of (events.Listen side) = kinds.Listen
@@ -22,6 +22,8 @@ kind_of (events.Abort side) = kinds.Abort
 kind_of (events.Acknowledge side) = kinds.Acknowledge
 kind_of (events.Timer side timer) = kinds.Timer
 kind_of (events.Emit side) = kinds.Emit
+kind_of (events.EmitAcknowledgement side) = kinds.EmitAcknowledgement
+kind_of (events.ResendFirst side) = kinds.ResendFirst
 kind_of (events.Deliver from k) = kinds.Deliver
 kind_of (events.Damage from k place value) = kinds.Damage
 
@@ -35,10 +37,13 @@ kind_name kinds.Abort = codes "abort"
 kind_name kinds.Acknowledge = codes "acknowledge"
 kind_name kinds.Timer = codes "timer"
 kind_name kinds.Emit = codes "emit"
+kind_name kinds.EmitAcknowledgement = codes "emit-acknowledgement"
+kind_name kinds.ResendFirst = codes "resend-first"
 kind_name kinds.Deliver = codes "deliver"
 kind_name kinds.Damage = codes "damage"
 
--- what a word of a script names, if anything: no line says `acknowledge`
+-- the kind that a word of a script names, if any; no line says `acknowledge`,
+-- `emit-acknowledgement` or `resend-first`
 abbrev pub kind_named : List ℕ → Option Kind
 kind_named word =
     if bytes_eq word (kind_name kinds.Connect) then Some kinds.Connect

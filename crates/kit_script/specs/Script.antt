@@ -20,13 +20,12 @@ use Rattle.kit_script.specs.Statements.{setting, event}
 use Rattle.kit_script.specs.Version1.{EventScript, event_script_of}
 use Rattle.kit_script.specs.Version2.{LineContent, statement, life, limit, repeat, line_of}
 
--- an event, and how many turns it has, where it is repeated
+-- an event, and its number of turns, where it is repeated
 pub record TurnContent : Type 0 where
   pub times : Option ℕ
   pub event : EventContent
 
--- its version, how many positions a segment lives (RFC 9293, 3.4), what the two ends are made from, and what happens to them in
--- turn
+-- its version, how many positions a segment lives (RFC 9293, 3.4), the Configs of the two ends, and their events in order
 pub record ScriptContent : Type 0 where
   pub version : ℕ
   pub life : ℕ
@@ -34,14 +33,14 @@ pub record ScriptContent : Type 0 where
   pub b : Config
   pub events : List TurnContent
 
--- what a script of the code says
+-- the content of a script in the code
 abbrev pub turn_content : {A : Type 0} → Turn A → TurnContent
 turn_content t = record { times = t.times; event = event_content t.event }
 
 abbrev pub script_content : {A : Type 0} → Script A → ScriptContent
 script_content s = record { version = s.version; life = s.life; a = s.a; b = s.b; events = map turn_content s.events.items }
 
--- WHERE NO LINE SAYS OTHERWISE
+-- DEFAULTS
 abbrev pub script_without_lines : ℕ → ℕ → ScriptContent
 script_without_lines version bytes = record {
   version = version;
@@ -57,7 +56,7 @@ default_script = script_without_lines 1 default_limit
 abbrev pub default_script_2 : ScriptContent
 default_script_2 = script_without_lines 2 stream_limit
 
--- ONE LINE MORE. What sets a value has no form after an event; a later one of the same key wins
+-- ONE MORE LINE. A setting has no form after an event; a later one of the same key takes precedence
 abbrev pub with_side_setting : ScriptContent → Side → Setting → ScriptContent
 with_side_setting s A x = record s { a = with_setting s.a x }
 with_side_setting s B x = record s { b = with_setting s.b x }
@@ -82,12 +81,12 @@ with_line_content s (repeat times e) = Some (with_turn s (Some times) e)
 abbrev pub with_line : ScriptContent → List ℕ → Option ScriptContent
 with_line s line = option_and_then (with_line_content s) (line_of s.version line)
 
--- ALL LINES in turn: the script, or the number of the first bad one
+-- ALL LINES in order: the script, or the number of the first bad one
 unfoldable pub script_from : ScriptContent → List (ℕ × List ℕ) → Result ScriptContent ℕ
 script_from s [] = Ok s
 script_from s (line ∷ lines) = option_map_or (λ s'. script_from s' lines) (with_line s line.1) (Err line.0)
 
--- THE VERSION is 2 where the text's first line says so, and else 1
+-- THE VERSION is 2 where the first line of the text says so, else 1
 abbrev pub is_version_2_line : List (List ℕ) → Bool
 is_version_2_line [] = false
 is_version_2_line (line ∷ lines) = bytes_eq line (codes "tcpkit 2")
@@ -95,7 +94,7 @@ is_version_2_line (line ∷ lines) = bytes_eq line (codes "tcpkit 2")
 abbrev pub is_version_2 : List ℕ → Bool
 is_version_2 text = is_version_2_line (lines_of text)
 
--- the version line itself says nothing else
+-- the version line has nothing else
 abbrev pub script_of_lines : Bool → Result (List (ℕ × List ℕ)) ℕ → Result ScriptContent ℕ
 script_of_lines true (Ok lines) = script_from default_script_2 (drop 1 lines)
 script_of_lines false (Ok lines) = script_from default_script lines
@@ -105,7 +104,7 @@ script_of_lines second (Err line) = Err line
 unfoldable pub script_of : List ℕ → Result ScriptContent ℕ
 script_of text = script_of_lines (is_version_2 text) (ascii_lines text)
 
--- A SCRIPT OF VERSION 1 as one of any version: each event happens once, and segments live as long as any can
+-- A SCRIPT OF VERSION 1 as one of any version: each event happens once, and segments live as long as they can
 abbrev pub once : EventContent → TurnContent
 once e = record { times = None; event = e }
 
@@ -116,28 +115,28 @@ abbrev pub of_event_answer : Result EventScript ℕ → Result ScriptContent ℕ
 of_event_answer (Ok s) = Ok (of_events s)
 of_event_answer (Err line) = Err line
 
--- a text of version 1 says what that version says
+-- a text of version 1 has the meaning of that version
 abbrev pub SaysVersion1 : List ℕ → Type 0
 SaysVersion1 text = is_version_2 text ≡ false → script_of text ≡ of_event_answer (event_script_of text)
 
--- the lifetime can be one of two ends
+-- the lifetime is one that two ends can have
 pub record HasLife {A : Type 0} (s : Script A) : Type 0 where
   pub least : 2 ≤ s.life
   pub most : s.life ≤ max_life
 
--- what going on by a line answers, where there is memory
+-- what reading one more line returns, where there is memory
 abbrev pub GoesOn : {X : Type 0} → Result (Unit {0}) LineError → Option X → X → Type 0
 GoesOn (Ok done) meaning new = meaning ≡ Some new
 GoesOn (Err lines.BadForm) meaning new = meaning ≡ None
 GoesOn (Err lines.NoMemory) meaning new = Unit {0}
 
--- what going on by all lines answers
+-- what reading all lines returns, where there is memory
 abbrev pub GoesOnToEnd : {X : Type 0} → Result (Unit {0}) ScriptError → Result X ℕ → X → Type 0
 GoesOnToEnd (Ok done) meaning new = meaning ≡ Ok new
 GoesOnToEnd (Err (BadLine line)) meaning new = meaning ≡ Err line
 GoesOnToEnd (Err NoMemory) meaning new = Unit {0}
 
--- what reading a script answers, where there is memory
+-- what reading a script returns, where there is memory
 abbrev pub ReadsScript : {A : Type 0} → Result (Script A) ScriptError → Result ScriptContent ℕ → Type 0
 ReadsScript (Ok s) meaning = meaning ≡ Ok (script_content s)
 ReadsScript (Err (BadLine line)) meaning = meaning ≡ Err line

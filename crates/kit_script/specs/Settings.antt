@@ -1,4 +1,4 @@
--- What the two ends are made from: where no line says otherwise, and by lines `config SIDE KEY VALUE`.
+-- The Configs of the two ends: the defaults, and lines `config SIDE KEY VALUE`.
 use Rattle.std.specs.Prelude.{ℕ, Bool, true, false, if◌then◌else◌, List, [], ◌∷◌, bytes_eq, codes, Option, Some, None, option_map}
 use Rattle.tcp_halves.specs.declared.config.Config.{Config}
 use Rattle.tcp_halves.specs.Config.{default_limit}

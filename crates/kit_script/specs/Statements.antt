@@ -1,4 +1,4 @@
--- What one line of a script says.
+-- The meaning of one line of a script.
 use Rattle.std.specs.Prelude.{ℕ, if◌then◌else◌, List, [], ◌∷◌, bytes_eq, codes, Option, Some, None, option_map}
 use Rattle.std.specs.Option.{option_and_then}
 use Rattle.tcp_replay.specs.declared.event.Side.{Side}
@@ -74,6 +74,6 @@ statement_of_words [] = None
 statement_of_words (kind ∷ rest) =
     if bytes_eq kind (codes "config") then setting_of_words rest else option_map event (event_of_words kind rest)
 
--- what a line of version 1 says; none where it has no form
+-- the meaning of a line of version 1; none where it has no form
 unfoldable pub statement_of : List ℕ → Option StatementContent
 statement_of line = statement_of_words (words_of line)

@@ -1,4 +1,4 @@
--- The lines that version 2 of a script has beside those of version 1.
+-- The lines of version 2 of a script that version 1 doesn't have.
 use Rattle.std.specs.Prelude.{◌≡◌, ◌≤◌, ◌^◌, ℕ, ◌+◌, ◌-◌, ◌==◌, nat_le, if◌then◌else◌, List, [], ◌∷◌, bytes_eq, codes, Option, Some, None, option_map}
 use Rattle.std.specs.Option.{option_and_then, option_or}
 use Rattle.tcp_replay.specs.declared.event.Side.{Side}
@@ -10,7 +10,7 @@ use Rattle.kit_script.specs.declared.line.Line.TheVariants as code
 use Rattle.kit_script.specs.Names.{side_named}
 use Rattle.kit_script.specs.Statements.{StatementContent, statement_content, statement_of, event_of_words}
 
--- A LINE is a statement of version 1, the lifetime of segments, the limit of one side, or an event with how many turns it has
+-- A LINE is a statement of version 1, the lifetime of segments, the limit of one side, or an event with its number of turns
 pub data LineContent : Type 0 where
   statement : StatementContent → LineContent
   life : ℕ → LineContent
@@ -45,7 +45,7 @@ config_of_words (key ∷ value ∷ []) = life_of key value
 config_of_words (side ∷ key ∷ value ∷ []) = limit_of side key value
 config_of_words (side ∷ key ∷ value ∷ more ∷ rest) = None
 
--- the greatest number of a segment that an event of so many turns names: it grows by 1 each turn
+-- the greatest number of a segment that an event of this many turns names: it grows by 1 each turn
 abbrev pub last_number : ℕ → EventContent → ℕ
 last_number times (Deliver from k) = k + (times - 1)
 last_number times (Damage from k place value) = k + (times - 1)
@@ -69,18 +69,18 @@ line_of_words (word ∷ rest) =
     else (if bytes_eq word (codes "repeat") then repeat_of_words rest
     else None)
 
--- what a line that version 1 has not says; none where it has no form
+-- the meaning of a line that version 1 doesn't have; none where it has no form
 unfoldable pub added_line_of : List ℕ → Option LineContent
 added_line_of line = line_of_words (words_of line)
 
--- WHAT A LINE SAYS in a version
+-- THE MEANING OF A LINE in a version
 abbrev pub version_1_line_of : List ℕ → Option LineContent
 version_1_line_of line = option_map statement (statement_of line)
 
 abbrev pub line_of : ℕ → List ℕ → Option LineContent
 line_of version line = if version == 2 then option_or (added_line_of line) (version_1_line_of line) else version_1_line_of line
 
--- a lifetime that a line sets can be one of two ends
+-- the lifetime that a line sets is one that two ends can have
 abbrev pub HasLineLife : {A : Type 0} → Line A → Type 0
 HasLineLife (code.Life positions) = (2 ≤ positions) × (positions ≤ max_life)
 HasLineLife other = Unit {0}

@@ -1,4 +1,4 @@
-//! The events of a script: `KIND SIDE`, and the words that the kind asks for.
+//! The events of a script: `KIND SIDE`, and the words that the kind requires.
 ghost use Rattle.std.specs.Prelude.{◌≡◌, option_map};
 ghost use Rattle.tcp_replay.specs.Events.{event_content};
 ghost use Rattle.kit_text.specs.Words.{further_pieces, Reads};
@@ -9,10 +9,10 @@ use kit_text::{LineError, SPACE, cut, read_bytes, read_number};
 use std::alloc::Allocator;
 use tcp_replay::{Event, Side};
 
-/// The greatest number of a segment, or of a place in one, that a line can name.
+/// The greatest number of a segment, or of an offset in one, that a line can name.
 pub(crate) const MAX_PLACE: u64 = 4_294_967_295;
 
-/// The most bytes that a line can ask for.
+/// The most bytes that a line can request.
 const MAX_ROOM: u64 = 1_048_576;
 
 /// An event that names nothing but its side.

@@ -1,7 +1,7 @@
-//! Scripts of what happens to the two ends of one connection, read from their texts.
+//! Scripts of events at the two ends of one connection, read from their texts.
 //!
-//! [`read_script`] answers a [`Script`], of either version, with its ends' Configs and its events, each with its [`Turn`]s, or the
-//! first bad line, a [`ScriptError`]. It runs nothing: `kit_report` does.
+//! [`read_script`] returns a [`Script`] of either version, with its ends' Configs and its events, each with its
+//! [`Turn`]s; or the first bad line, a [`ScriptError`]. It runs nothing: `kit_report` does.
 #![tactic(auto)]
 
 mod error;

@@ -23,16 +23,16 @@ const MAX_TIMES: u64 = 1_048_576;
 /// The greatest limit that a line can name, in bytes.
 const MAX_LIMIT: u64 = 9_223_372_036_854_775_807;
 
-/// What a line says.
+/// The meaning of a line.
 #[derive(Debug, Drop)]
 pub(crate) enum Line<A: Allocator = Global> {
-    /// What version 1 has too.
+    /// A statement, which version 1 has too.
     Statement(Statement<A>),
-    /// How many positions a segment lives.
+    /// The lifetime of a segment in positions (RFC 9293, 3.4).
     Life(u32),
     /// The limit of this side's stream, in bytes.
     Limit(Side, u64),
-    /// An event with so many turns.
+    /// An event with this many turns.
     Repeat(u32, Event<A>),
 }
 
@@ -87,7 +87,7 @@ fn read_config<A: Allocator>(rest: Option<&[u8]>) -> Option<Line<A>>
     read_limit(first, second, third)
 }
 
-/// The greatest number of a segment that an event of so many turns names.
+/// The greatest number of a segment that an event of this many turns names.
 fn last_number<A: Allocator>(times: u32, event: &Event<A>) -> Option<usize>
     requires { 1 ≤ times }
     ensures { IsNumberWithin result (last_number times (event_content event.now)) }
@@ -99,7 +99,7 @@ fn last_number<A: Allocator>(times: u32, event: &Event<A>) -> Option<usize>
     }
 }
 
-/// An event of so many turns, where the last one's number can be named.
+/// An event of this many turns, where the last one's number can be named.
 fn repeat<A: Allocator>(times: u32, event: Event<A>) -> Option<Line<A>>
     requires { 1 ≤ times }
     ensures line { option_map line_content result ≡ repeated times (event_content event) }
@@ -123,7 +123,7 @@ fn read_repeat<A: Allocator + Copy>(alloc: A, rest: Option<&[u8]>) -> Result<Lin
     repeat(times as u32, event).ok_or(LineError::BadForm)
 }
 
-/// The line that version 2 has and version 1 has not.
+/// A line that version 2 has and version 1 doesn't.
 #[tactic(auto, unfolding(crate::specs::Version2::added_line_of))]
 fn read_added_line<A: Allocator + Copy>(alloc: A, line: &[u8]) -> Result<Line<A>, LineError>
     ensures line { Reads line_content result (added_line_of line.now) }
@@ -139,7 +139,7 @@ fn read_added_line<A: Allocator + Copy>(alloc: A, line: &[u8]) -> Result<Line<A>
     Err(LineError::BadForm)
 }
 
-/// The line of a script of a version.
+/// A line of a script of a version.
 pub(crate) fn read_line<A: Allocator + Copy>(
     alloc: A,
     version: u8,

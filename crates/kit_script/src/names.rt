@@ -7,30 +7,34 @@ use std::alloc::Allocator;
 use tcp_conn::Timer;
 use tcp_replay::{Event, Side};
 
-/// What happens in an event, whatever it names.
+/// The kind of an event, without what it names.
 #[derive(Clone, Copy, Debug, PartialEq, Eq)]
 pub enum Kind {
-    /// The user opens.
+    /// The user opens a connection, actively (RFC 9293, 3.10.1).
     Connect,
-    /// The user waits for the other side.
+    /// The user waits for a peer, passively (RFC 9293, 3.10.1).
     Listen,
-    /// The user sends.
+    /// The user sends (RFC 9293, 3.10.2).
     Send,
-    /// The user asks for bytes.
+    /// The user receives (RFC 9293, 3.10.3).
     Receive,
-    /// The user has no more to send.
+    /// The user has no more to send (RFC 9293, 3.10.4).
     Close,
-    /// The user gives the connection up.
+    /// The user aborts the connection (RFC 9293, 3.10.5).
     Abort,
-    /// The user has the window told. No line of a script says it.
+    /// The user makes an acknowledgement pending, which advertises the window. No line of a script says it.
     Acknowledge,
-    /// A timer runs out.
+    /// A timer expires (RFC 9293, 3.10.8).
     Timer,
     /// The side emits what is due.
     Emit,
-    /// A segment of the side arrives.
+    /// The side emits the acknowledgement that is pending. No line of a script says it.
+    EmitAcknowledgement,
+    /// The side sends the first segment in flight again. No line of a script says it.
+    ResendFirst,
+    /// A segment of the side arrives at the other (RFC 9293, 3.10.7).
     Deliver,
-    /// A segment of the side arrives with one byte changed.
+    /// A segment of the side arrives at the other with one byte changed.
     Damage,
 }
 
@@ -48,6 +52,8 @@ pub fn kind_of<A: Allocator>(event: &Event<A>) -> Kind
         Event::Acknowledge(_) => Kind::Acknowledge,
         Event::Timer(_, _) => Kind::Timer,
         Event::Emit(_) => Kind::Emit,
+        Event::EmitAcknowledgement(_) => Kind::EmitAcknowledgement,
+        Event::ResendFirst(_) => Kind::ResendFirst,
         Event::Deliver(_, _) => Kind::Deliver,
         Event::Damage(_, _, _, _) => Kind::Damage,
     }
@@ -67,12 +73,15 @@ pub fn kind_name(kind: Kind) -> &'static str
         Kind::Acknowledge => "acknowledge",
         Kind::Timer => "timer",
         Kind::Emit => "emit",
+        Kind::EmitAcknowledgement => "emit-acknowledgement",
+        Kind::ResendFirst => "resend-first",
         Kind::Deliver => "deliver",
         Kind::Damage => "damage",
     }
 }
 
-/// The kind that a word of a script names. No line says `acknowledge`.
+/// The kind that a word of a script names. No line says `acknowledge`, `emit-acknowledgement` or
+/// `resend-first`.
 pub(crate) fn read_kind(word: &[u8]) -> Option<Kind>
     ensures { result ≡ spec.kind_named word.now }
 {

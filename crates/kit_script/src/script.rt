@@ -19,31 +19,31 @@ use tcp_wire::{Addr, Seq};
 /// The first line of a script of version 2.
 const VERSION_2: &[u8] = b"tcpkit 2";
 
-/// An event, and how many turns it has.
+/// An event, and its number of turns.
 #[derive(Debug, Drop)]
 pub struct Turn<A: Allocator = Global> {
-    /// None where the event isn't repeated.
+    /// `None` where the event isn't repeated.
     pub times: Option<u32>,
     /// The event of the first turn. The number of a segment that it names grows by 1 each turn.
     pub event: Event<A>,
 }
 
-/// What a script says: what the two ends are made from, and what happens to them in turn.
+/// The content of a script: the Configs of the two ends, and their events in order.
 #[derive(Debug, Drop)]
 pub struct Script<A: Allocator = Global> {
     /// 1, or 2 where the first line says so.
     pub version: u8,
-    /// How many positions a segment lives, from 2 to 2,147,483,648 (RFC 9293, 3.4).
+    /// The lifetime of a segment in positions, from 2 to 2,147,483,648 (RFC 9293, 3.4).
     pub life: u32,
-    /// What side A is made from.
+    /// The Config of side A.
     pub a: Config,
-    /// What side B is made from.
+    /// The Config of side B.
     pub b: Config,
     /// The events, each with its turns.
     pub events: Vec<Turn<A>, A>,
 }
 
-/// The end of address 10.0.0.`host` where no line says otherwise, with this limit.
+/// The default Config of address 10.0.0.`host`, with this limit.
 fn default_config(host: u8, isn: u32, limit: u64) -> Config
     ensures { result ≡ record (default_config host host isn) { limit = limit } }
 {
@@ -67,7 +67,7 @@ impl<A: Allocator + Copy> Script<A> {
         }
     }
 
-    /// Goes on by an event.
+    /// Adds an event.
     fn push(&mut self, times: Option<u32>, event: Event<A>) -> Result<(), LineError>
         ensures turn { GoesOn result (Some (with_turn (script_content self.old) times (event_content event))) (script_content self.new) }
         ensures life { HasLife self.old → HasLife self.new }
@@ -78,7 +78,7 @@ impl<A: Allocator + Copy> Script<A> {
         }
     }
 
-    /// Goes on by what a line says. What sets a value is refused after an event.
+    /// Adds the content of a line. A setting is refused after an event.
     fn add(&mut self, line: Line<A>) -> Result<(), LineError>
         requires { HasLineLife line }
         ensures line { GoesOn result (with_line_content (script_content self.old) (line_content line)) (script_content self.new) }
@@ -97,7 +97,7 @@ impl<A: Allocator + Copy> Script<A> {
         Ok(())
     }
 
-    /// Goes on by a line.
+    /// Reads and adds a line.
     fn read_line(&mut self, alloc: A, line: &[u8]) -> Result<(), LineError>
         ensures line { GoesOn result (with_line (script_content self.old) line.now) (script_content self.new) }
         ensures life { HasLife self.old → HasLife self.new }
@@ -108,7 +108,7 @@ impl<A: Allocator + Copy> Script<A> {
         }
     }
 
-    /// Goes on by all lines in turn, up to the first that is bad.
+    /// Reads and adds all lines in order, up to the first that is bad.
     #[tactic(auto, unfolding(crate::specs::Script::script_from))]
     fn read_lines(&mut self, alloc: A, lines: Lines<'_>) -> Result<(), ScriptError>
         ensures lines { GoesOnToEnd result (script_from (script_content self.old) lines.entry) (script_content self.new) }
@@ -133,7 +133,7 @@ fn is_version_2(text: &[u8]) -> bool
     first == VERSION_2
 }
 
-/// The script of a text whose bytes can be any, or its first bad line; want of memory can come at any line.
+/// The script of a text of any bytes, or its first bad line; `NoMemory` can come at any line.
 #[tactic(auto, unfolding(crate::specs::Script::script_of))]
 pub fn read_script_bytes<A: Allocator + Copy>(
     alloc: A,
@@ -159,7 +159,7 @@ pub fn read_script_bytes<A: Allocator + Copy>(
     }
 }
 
-/// The script of a text, or its first bad line; want of memory can come at any line.
+/// The script of a text, or its first bad line; `NoMemory` can come at any line.
 pub fn read_script<A: Allocator + Copy>(alloc: A, text: &str) -> Result<Script<A>, ScriptError>
     ensures script { ReadsScript result (script_of text.now) }
     ensures version_1 { SaysVersion1 text.now }

@@ -35,7 +35,7 @@ pub(crate) enum Setting {
     Sack(bool),
 }
 
-/// The shift that a word says, or that none is offered (RFC 7323, 2.2).
+/// The shift of a word, or that none is offered (RFC 7323, 2.2).
 pub fn read_shift(value: &[u8]) -> Option<Option<u8>>
     ensures { result ≡ shift_of value.now }
 {

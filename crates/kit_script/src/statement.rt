@@ -10,10 +10,10 @@ use kit_text::{LineError, SPACE, cut};
 use std::alloc::{Allocator, Global};
 use tcp_replay::{Event, Side};
 
-/// What a line that sets a value begins with.
+/// The first word of a line with a setting.
 pub(crate) const CONFIG: &[u8] = b"config";
 
-/// What a line says.
+/// The meaning of a line.
 #[derive(Debug, Drop)]
 pub(crate) enum Statement<A: Allocator = Global> {
     /// A value of this side's `Config`.

@@ -1,4 +1,4 @@
--- How segments and the faults of bytes that are none are written.
+-- The text forms of segments, and of the faults of bytes that are none.
 use Rattle.std.specs.Prelude.{ℕ, Bool, true, false, List, [], ◌∷◌, ◌++◌, length, codes, decimal, Result, Ok, Err}
 use Rattle.tcp_wire.specs.declared.fault.DecodeError.{DecodeError}
 use Rattle.tcp_wire.specs.declared.fault.DecodeError.TheVariants.{TooShort, TooLong, BadChecksum, BadOffset, BadOption, BadPadding}
@@ -58,7 +58,7 @@ fault_name (BadPadding place) = codes "BadPadding at " ++ decimal place
 unfoldable pub named_fault_text : DecodeError → List ℕ
 named_fault_text e = fault_text e ++ (codes " " ++ (fault_name e))
 
--- WHAT BYTES SAY: all fields of the segment that they are, or why they are none
+-- THE MEANING OF BYTES: all fields of the segment that they are, or why they are none
 abbrev pub meaning_text : Result Content DecodeError → List ℕ
 meaning_text (Ok v) = fields_text v
 meaning_text (Err e) = named_fault_text e

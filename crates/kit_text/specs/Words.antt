@@ -1,4 +1,4 @@
--- What the words of a line say: numbers, bytes and addresses.
+-- The meaning of the words of a line: numbers, bytes and addresses.
 use Rattle.std.specs.Prelude.{◌≡◌, ℕ, ◌+◌, ◌-◌, ◌*◌, ◌==◌, ◌&&◌, nat_le, nat_lt, Bool, not, if◌then◌else◌, List, [], ◌∷◌, length, slice_index, bytes_eq, codes, Option, Some, None, option_map, Result, Ok, Err}
 use Rattle.std.specs.Option.{option_and_then}
 use Rattle.std.specs.Result.{result_ok}
@@ -9,8 +9,8 @@ use Rattle.tcp_numbers.specs.declared.addr.Addr.{Addr}
 use Rattle.kit_text.specs.declared.line.LineError.{LineError}
 use Rattle.kit_text.specs.declared.line.LineError.TheVariants.{BadForm, NoMemory}
 
--- WORDS: the pieces between single spaces. A doubled space, or one at an end, makes an empty word, which is no
--- word of any form
+-- WORDS: the pieces between single spaces. A doubled space, or one at an end, makes an empty word, which is no word of any
+-- form
 abbrev pub words_of : List ℕ → List (List ℕ)
 words_of line = slice_split (λ b. b == 32) line
 
@@ -19,11 +19,11 @@ abbrev pub further_pieces : ℕ → Option (Bor (List ℕ)) → List (List ℕ)
 further_pieces at None = []
 further_pieces at (Some rest) = slice_split (λ b. b == at) rest.now
 
--- NUMBERS: decimal digits without sign and without leading zeros, `0` itself aside
+-- NUMBERS: decimal digits without sign, and without leading zeros except `0` itself
 abbrev pub is_digit : ℕ → Bool
 is_digit b = nat_le 48 b && nat_le b 57
 
--- the number that digits go on to write after one
+-- the number that more digits make of this one
 abbrev pub value_from : ℕ → List ℕ → ℕ
 value_from n [] = n
 value_from n (d ∷ ds) = value_from (10 * n + (d - 48)) ds
@@ -66,7 +66,7 @@ addr_of word = octets_of (slice_split (λ b. b == 46) word)
 abbrev pub octets : Addr → List ℕ
 octets addr = addr.0
 
--- what a reader of a word or a line answers, where there is memory
+-- what a reader of a word or a line returns, where there is memory
 abbrev pub Reads : {X Y : Type 0} → (X → Y) → Result X LineError → Option Y → Type 0
 Reads view (Ok x) meaning = meaning ≡ Some (view x)
 Reads view (Err BadForm) meaning = meaning ≡ None

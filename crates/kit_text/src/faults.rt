@@ -13,7 +13,7 @@ pub fn push_fault<A: Allocator>(text: &mut String<A>, fault: DecodeError) -> Res
     write!(text, "malformed {number}")
 }
 
-/// A fault's name, with its place where it has one.
+/// A fault's name, with its offset where it has one.
 fn push_name<A: Allocator>(text: &mut String<A>, fault: DecodeError) -> Result<(), AllocError>
     ensures { OnOk result (string_bytes text.new ≡ string_bytes text.old ++ fault_name fault) }
 {
@@ -27,7 +27,7 @@ fn push_name<A: Allocator>(text: &mut String<A>, fault: DecodeError) -> Result<(
     }
 }
 
-/// Appends a fault by its number and its name, with its place where it has one.
+/// Appends a fault by its number and its name, with its offset where it has one.
 #[tactic(auto, unfolding(crate::specs::Segments::named_fault_text))]
 pub fn push_named_fault<A: Allocator>(
     text: &mut String<A>,

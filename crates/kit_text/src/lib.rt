@@ -1,8 +1,9 @@
-//! The text forms of scripts, lists and reports: lines, words, numbers, addresses and bytes are read; bytes,
-//! blocks, options, segments and faults are written.
+//! The text forms of scripts, lists and reports: lines, words, numbers, addresses and bytes are read; bytes, blocks,
+//! options, segments and faults are written.
 //!
-//! [`Lines`] goes over a text's lines, `read_..` read a word or answer a [`LineError`], and `push_..` append to one `String`. What a
-//! line as a whole says is the crates' above: scripts (`kit_script`), reports (`kit_report`) and listings (`kit_commands`).
+//! [`Lines`] goes over a text's lines, `read_..` read a word or return a [`LineError`], and `push_..` append to one
+//! `String`. The meaning of a line as a whole is left to the crates above: scripts (`kit_script`), reports
+//! (`kit_report`) and listings (`kit_commands`).
 #![tactic(auto)]
 
 mod addresses;

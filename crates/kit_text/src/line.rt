@@ -1,13 +1,13 @@
 use std::alloc::AllocError;
 use thiserror::Error;
 
-/// Why a line says nothing.
+/// Why a line has no meaning.
 #[derive(Clone, Copy, Debug, PartialEq, Eq, Error)]
 pub enum LineError {
-    /// It has none of the forms that are asked for.
+    /// It has none of the forms that are expected.
     #[error("the line has no form")]
     BadForm,
-    /// There was no memory to keep what it says.
+    /// There is no memory for its meaning.
     #[error("no memory for the line")]
     NoMemory,
 }

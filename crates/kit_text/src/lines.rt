@@ -5,16 +5,16 @@ ghost use Rattle.kit_text.specs.Lines.{is_passed_over, line_above_ascii, ascii_l
 use crate::cutting::{LINE_FEED, cut};
 use std::marker::Model;
 
-/// What begins a comment.
+/// The first byte of a comment.
 const COMMENT: u8 = b'#';
 
-/// The lines of a text that say something, each with its number: lines count from 1, all of them, and those that
-/// are empty or begin with `#` are passed over.
+/// The lines of a text that aren't skipped, each with its number. Every line counts, from 1 on; those that are empty or
+/// begin with `#` are skipped.
 #[derive(Debug, Drop)]
 pub struct Lines<'a> {
-    /// What is left of the text; none after its last line.
+    /// What is left of the text; `None` after its last line.
     rest: Option<&'a [u8]>,
-    /// How many lines stand before it.
+    /// How many lines come before that.
     count: usize,
 }
 
@@ -30,7 +30,8 @@ impl<'a> Model for Lines<'a> {
 }
 
 impl<'a> Lines<'a> {
-    /// The lines of a text, at most one more than it has bytes; or where it has a byte above 7f, the line of the first.
+    /// The lines of a text, at most one more than it has bytes. Where it has a byte above 7f, the error is the line of
+    /// the first.
     #[tactic(auto, using(crate::proofs::LineCounts::length_numbered_lines))]
     pub fn new(text: &'a [u8]) -> Result<Lines<'a>, usize>
         ensures lines { IfOk result (λ lines. ascii_lines text.now ≡ Ok lines) }
@@ -77,7 +78,7 @@ fn is_passed_over(line: &[u8]) -> bool
     line.is_empty() || line[0] == COMMENT
 }
 
-/// The place of the first byte above 7f.
+/// The offset of the first byte above 7f.
 fn first_above_ascii(text: &[u8]) -> Option<usize>
     ensures place { result ≡ position (nat_lt 127) text.now }
     ensures within { IfSome result (λ at. at < length text.now) }

@@ -1,4 +1,4 @@
-//! What the bytes of a segment say.
+//! The meaning of the bytes of a segment.
 ghost use Rattle.std.specs.Prelude.{◌≡◌, ◌++◌, IfOk, OnOk, string_bytes};
 ghost use Rattle.tcp_wire.specs.Decoded.{decode_answer};
 ghost use Rattle.kit_text.specs.Segments.{meaning_text, is_malformed};
@@ -8,8 +8,8 @@ use crate::segments::push_fields;
 use std::alloc::{AllocError, Allocator};
 use tcp_wire::{Addr, decode};
 
-/// Appends what the bytes of a segment between two addresses say, all its fields or why they are none; answers whether they are
-/// malformed.
+/// Appends the meaning of the bytes of a segment between two addresses: all its fields, or why they are none. Returns
+/// whether they are malformed.
 pub fn push_meaning<A: Allocator + Copy>(
     alloc: A,
     text: &mut String<A>,

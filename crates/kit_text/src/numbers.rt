@@ -1,4 +1,4 @@
-//! Numbers as a line writes them.
+//! Numbers in text.
 ghost use Rattle.std.specs.Prelude.{◌≡◌, ◌≤◌, ◌+◌, ◌-◌, ◌*◌, ◌^◌, IfSome, IfNone};
 ghost use Rattle.kit_text.specs.Words.{has_leading_zero, number_of};
 
@@ -8,7 +8,7 @@ fn has_leading_zero(word: &[u8]) -> bool
     word.len() > 1 && word[0] == b'0'
 }
 
-/// The number that one digit more writes, where it fits.
+/// The number with one more digit, where it fits.
 fn with_digit(value: u64, digit: u8) -> Option<u64>
     requires { 48 ≤ digit }
     ensures fits { IfSome result (λ n. n ≡ 10 * value + (digit - 48)) }

@@ -13,8 +13,7 @@ fn push_block<A: Allocator>(text: &mut String<A>, edges: &(Seq, Seq)) -> Result<
     write!(text, "{}-{}", edges.0.0, edges.1.0)
 }
 
-/// Appends blocks (RFC 2018, 3), each as its left edge and the number after its last, joined by `+`, or `-` for
-/// none.
+/// Appends blocks (RFC 2018, 3), each as its left edge and the number after its last, joined by `+`, or `-` for none.
 #[tactic(auto, unfolding(crate::specs::Texts::blocks_text))]
 pub fn push_blocks<A: Allocator>(
     text: &mut String<A>,

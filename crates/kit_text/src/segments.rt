@@ -51,7 +51,7 @@ fn push_rest<A: Allocator + Copy>(
     push_bytes(alloc, text, segment.text)
 }
 
-/// Appends all fields of a segment, its checksum aside.
+/// Appends all fields of a segment but its checksum (RFC 9293, 3.1).
 pub fn push_fields<A: Allocator + Copy>(
     alloc: A,
     text: &mut String<A>,
@@ -76,7 +76,7 @@ fn first_blocks<'a>(options: &'a [TcpOption<'_>]) -> &'a [(Seq, Seq)]
     &[]
 }
 
-/// Appends flags, numbers, window, the text's length and the blocks of a segment.
+/// Appends flags, numbers, window, the text's length and the blocks of a segment (RFC 9293, 3.1).
 #[tactic(auto, unfolding(crate::specs::Segments::summary_text))]
 pub fn push_summary<A: Allocator>(
     text: &mut String<A>,

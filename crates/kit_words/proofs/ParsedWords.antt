@@ -1,4 +1,4 @@
--- What a parse by the forms makes of words, case by case.
+-- The result of a parse by the forms, case by case.
 use Rattle.std.proofs.Common.{◌≡◌, ◌∙◌, ◌⊎◌, ℕ, Bool, cond, true, false, not, ◌&&◌, ◌||◌, ◌==◌, List, [], ◌∷◌, ◌++◌, Option, Some, None, is_some, option_map, refl, sym, ap, ap₂, subst, codes, inl, inr, true≢false, eqb-true}
 use Rattle.std.specs.Prelude.{⊤, drop, encode_utf8, fold, length, option_and_then, slice_get}
 use Rattle.std.specs.Option.{option_map_or}
@@ -15,23 +15,23 @@ use Rattle.clap.proofs.OnLiterals.{clap_on_literals}
 use Rattle.kit_words.specs.Forms.{form_app, forms_app}
 use Rattle.kit_words.specs.Words.{asked_by, is_form, is_plain, path_in}
 
--- what a form with these matches asks for: the form's name, and the path of its file
+-- what a form with these matches requests: the form's name, and the path of its file
 abbrev pub job_in : Text × List Row → Option (Text × Text)
 job_in form = cond (is_form form.0) (option_map (λ path. (form.0, path)) (first_of (codes "FILE") form.1)) None
 
--- the same of a parse with these faults, of which one is enough to ask for nothing
+-- the request of a parse with these faults, of which one is enough to request nothing
 abbrev pub job_from : Kinds → Option (Text × List Row) → Option (Text × Text)
 job_from [] form = option_and_then job_in form
 job_from (fault ∷ faults) form = None
 
--- what a parse by the forms makes of the words
+-- the request of a parse of these words by the forms
 abbrev pub parsed_by : List Text → Option (Text × Text)
 parsed_by words = job_from (fault_of forms_app words) (subcommand_of forms_app words)
 
 abbrev dashes : Text
 dashes = 45 ∷ 45 ∷ []
 
--- ---- a fault, whichever it is
+-- ---- a fault, of any kind
 
 abbrev IsFault : Kinds → Type 0
 IsFault [] = ⊥
@@ -134,7 +134,7 @@ bundle_faulty c again (y ∷ ys) x pending only first =
     subst (λ o. IsFault (bundle_step_fault c again o (y ∷ ys) 0 (held pending) next)) (sym first)
     (subst (λ o. IsFault (short_fault c again o rest (held pending) (next rest 0))) (sym (only.short x)) (short_faulty c again (has_short help_flag x) rest (held pending) (next rest 0)))
 
--- a flag is a fault: it is unknown, or asks for help
+-- a flag is a fault: it is unknown, or requests help
 flag_faulty : (s : Shape) (names : Names) (pending : Option (Text × List Text)) (position : ℕ) (word : Text) → HasHelpOnly s.rules → subcommand_met names idle word ≡ None
     → bytes_eq word dashes ≡ false → IsFlag word → IsFault (turn_fault s names (between pending position) word)
 flag_faulty s names pending position word only none other flag =
@@ -214,7 +214,7 @@ module _ (name : Text) where
   end_fault end = or_else [] (or_else (settle_fault form_rules false end)
       (or_else (defaults_fault (settled form_rules end).rows form_rules) (check_fault (form_built name) (finished form_rules end) false)))
 
-  -- what comes of a walk over words from here on
+  -- the file of a walk over words from here on
   abbrev file_after : Walk → List Text → Option Text
   file_after w words = file_from (or_else (walk_fault (form_built name) [] w words) (end_fault (fold (walked form_rules []) w words).held))
       (first_of (codes "FILE") (finished form_rules (fold (walked form_rules []) w words).held))
@@ -226,7 +226,7 @@ module _ (name : Text) where
   abbrev after_path : Text → Walk
   after_path path = between (Some (codes "FILE", path ∷ [])) 2
 
-  -- the words behind a plain word: no more than `--`
+  -- the words after a plain word: no more than `--`
   second_words : (path : Text) (words : List Text) → bytes_eq path dashes ≡ false → is_plain path ≡ true → file_after (after_path path) words ≡ path_in (path ∷ words)
   unfolding clap_on_literals
   second_words path [] other is = sym (ap (λ b. cond b (Some path) None) is)
@@ -288,7 +288,7 @@ names = names_of built_forms
 top_help : HasHelpOnly top.rules
 top_help = record { long = λ name. refl; short = λ x. refl }
 
--- what comes of a walk over all the words, by its faults and where it ends
+-- the request of a walk over all the words, by its faults and where it ends
 abbrev job_at : Kinds → Walk → Option (Text × Text)
 job_at kinds w = job_from (or_else kinds (or_else (entered_fault built_forms w.stopped) (or_else (settle_fault top.rules false w.held)
     (or_else (defaults_fault (settled top.rules w.held).rows top.rules) (check_fault top (finished top.rules w.held) (is_some (entered built_forms w.stopped)))))))
@@ -306,7 +306,7 @@ form_job : (kinds : Kinds) (name : Text) (rows : List Row) → is_form name ≡ 
 form_job [] name rows is = ap (λ b. cond b (option_map (λ path. (name, path)) (first_of (codes "FILE") rows)) None) is
 form_job (k ∷ ks) name rows is = refl
 
--- a walk that stopped at a form gives what the form makes of the words behind it
+-- a walk that stopped at a form gives the request of that form by the words after it
 entered_job : (name : Text) (words : List Text) → is_form name ≡ true → job_from (or_else (level_fault (form_built name) [] nothing_held words false []) []) (Some (name, rows_after form_rules [] words)) ≡ option_map (λ path. (name, path)) (path_in words)
 entered_job name words is = form_job (level_fault (form_built name) [] nothing_held words false []) name (rows_after form_rules [] words) is ∙ ap (option_map (λ path. (name, path))) (form_file name words)
 
@@ -354,7 +354,7 @@ other_words program name words not_decode not_replay = go_help (bytes_eq name (c
     go_help true e = subst (λ (w : Text). parsed_by (program ∷ w ∷ words) ≡ None) (sym ((bytes_eq-Decides name (codes "help")).0 e)) refl
     go_help false e = go (rw (flipped name (codes "decode") not_decode, flipped name (codes "replay") not_replay, flipped name (codes "help") e) refl) (bytes_eq name dashes) refl
 
--- what clap makes of the words by the program's forms is what they ask for
+-- the request that clap makes of the words by the program's forms is theirs
 pub parsed_is_asked : (words : List Text) → parsed_by words ≡ asked_by words
 unfolding clap_on_literals
 parsed_is_asked [] = refl

@@ -1,4 +1,4 @@
--- What some words ask for.
+-- What some words request.
 use Rattle.std.proofs.Common.{◌≡◌, List, [], ◌∷◌, Some, None, refl, codes, ℕ}
 use Rattle.std.specs.Str.{chars}
 use Rattle.kit_words.specs.Words.{asked_by}
@@ -9,7 +9,7 @@ decode_x = refl
 replay_x : asked_by (codes "tcpkit" ∷ codes "replay" ∷ codes "x" ∷ []) ≡ Some (codes "replay", codes "x")
 replay_x = refl
 
--- any text is a path behind `--`
+-- any text is a path after `--`
 path_after : (program path : List ℕ) → asked_by (program ∷ codes "replay" ∷ codes "--" ∷ path ∷ []) ≡ Some (codes "replay", path)
 path_after program path = refl
 

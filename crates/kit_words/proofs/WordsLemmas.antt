@@ -1,4 +1,4 @@
--- From what clap's parse ensures to what the words ask for.
+-- From what clap's parse ensures to what the words request.
 use Rattle.std.proofs.Common.{◌≡◌, ◌∙◌, Bool, cond, true, false, ◌||◌, List, [], ◌∷◌, Option, Some, None, option_map, refl, sym, ap, ap₂, subst, codes, inl, inr}
 use Rattle.std.specs.Prelude.{Box}
 use Rattle.std.specs.Box.{box_value}
@@ -23,7 +23,7 @@ use Rattle.kit_words.specs.Forms.{form_app, forms_app, wanting_form}
 use Rattle.kit_words.specs.Words.{asked_by, is_form, words_error_of}
 use Rattle.kit_words.specs.declared.command_line.WordsError.TheVariants.{BadWords, NoMemory}
 
--- clap's definitions say all that a parse by these forms comes to
+-- clap's definitions say all that a parse by these forms results in
 pub forms_simple : is_simple forms_app ≡ true
 forms_simple = refl
 
@@ -63,7 +63,7 @@ both_parts (Some p) name rows is_name is_rows =
     let second : p.1 ≡ rows = cc in
     ap₂ (λ (x : Text) (y : List Row). Some (x, y)) first second
 
--- words that were parsed, by a form of the program, ask for the form's file
+-- words that were parsed, by a form of the program, request the form's file
 pub form_words : (a : App) (given words : List Text) (m form : ArgMatches) (name : Text) (file : Option Text) → a ≡ forms_app → given ≡ words
     → (is_simple_and_free a ≡ true → fault_of a given ≡ []) → HasMatchesOf a given m
     → subcommand_name_of m ≡ Some name → is_form name ≡ true → option_map (λ p. p.1) (subcommand_rows (out-ArgMatches m).subcommand) ≡ Some (rows_of (found_of form))
@@ -90,7 +90,7 @@ no_job [] (Some p) not_decode not_replay =
         go false e = e
         go true e = absurd (other (ap (λ (t : Text). Some t) ((bytes_eq-Decides p.0 name).0 e)))
 
--- words of neither form ask for nothing
+-- words of neither form request nothing
 pub formless_words : (a : App) (given words : List Text) (m : ArgMatches) → a ≡ forms_app → given ≡ words → HasMatchesOf a given m
     → (subcommand_name_of m ≡ Some (codes "decode") → ⊥) → (subcommand_name_of m ≡ Some (codes "replay") → ⊥) → asked_by words ≡ None
 formless_words a given words m forms same has not_decode not_replay =

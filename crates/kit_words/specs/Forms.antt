@@ -4,7 +4,7 @@ use Rattle.clap.specs.Simple.{App, new_app, new_rule, on_top, with_rule, with_su
 use Rattle.clap.specs.Walk.{Rule, Text}
 use Rattle.clap.specs.declared.builder.action.ArgAction.TheVariants.{Set}
 
--- one file, which has to be there
+-- one file, which is required
 abbrev pub file_rule : Rule
 file_rule = record (new_rule (codes "FILE")) { required = true; action = Some Set }
 
@@ -12,7 +12,7 @@ file_rule = record (new_rule (codes "FILE")) { required = true; action = Some Se
 abbrev pub form_app : Text → App
 form_app name = with_rule (new_app name) file_rule
 
--- the same program, which has to be given a form
+-- a program that requires a form
 abbrev pub wanting_form : App → App
 wanting_form = on_top (λ s. record s { subcommand_required = true })
 

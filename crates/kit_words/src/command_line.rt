@@ -1,4 +1,4 @@
-//! The program's words, and the job that they ask for.
+//! The program's words, and the job that they request.
 ghost use Rattle.std.specs.Prelude.{◌≡◌, IfOk, Some, None, Err, codes, map, string_bytes};
 ghost use Rattle.clap.specs.Words.{app_of, first_value, found_of, kind_of};
 ghost use Rattle.kit_words.specs.Forms.{form_app, forms_app};
@@ -12,15 +12,15 @@ use thiserror::Error;
 /// Why the program's words are refused. The `Display` text is what the program writes after `tcpkit: `.
 #[derive(Clone, Copy, Debug, PartialEq, Eq, Error)]
 pub enum WordsError {
-    /// They are of no form that the program has, or ask for help or the version.
+    /// They are of no form of the program, or request help or the version.
     #[error("40")]
     BadWords,
-    /// There was no memory to read them.
+    /// There is no memory to read them.
     #[error("42")]
     NoMemory,
 }
 
-/// What the program is to do, with the path of its file.
+/// The job of the program, with the path of its file.
 #[derive(Debug, PartialEq, Eq, Drop)]
 pub enum Job {
     /// To list the segments of a file.
@@ -65,7 +65,7 @@ fn forms<'a>(alloc: Global) -> Result<Command<'a>, AllocError>
         .subcommand(form(alloc, REPLAY)?)
 }
 
-/// Any refusal but want of memory is one of the words; so is a request for help.
+/// Any refusal but that there is no memory is one of the words; so is a request for help.
 fn fault(error: &ParseError) -> WordsError
     ensures { result ≡ words_error_of (kind_of error.now) }
 {
@@ -91,11 +91,11 @@ fn file(alloc: Global, form: &ArgMatches) -> Result<String, WordsError>
     }
 }
 
-/// Reads the program's words, its own name first: `decode FILE` or `replay FILE`. A FILE that begins with a
-/// hyphen, but for `-` alone, has to come after `--`, and any other may.
+/// Reads the program's words, its own name first: `decode FILE` or `replay FILE`. A FILE that begins with a hyphen,
+/// except `-` alone, has to come after `--`; any other may.
 ///
 /// # Errors
-/// `BadWords` only where the words ask for no job, and `NoMemory` at any words.
+/// `BadWords` only where the words request no job. `NoMemory` where there is no memory, at any words.
 pub fn read_words(alloc: Global, words: Vec<String>) -> Result<Job, WordsError>
     ensures asked { IfOk result (λ job.
         asked_by (map string_bytes words.items) ≡ Some (name_of job, path_of job)) }

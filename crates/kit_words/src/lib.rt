@@ -1,5 +1,4 @@
-//! What the program `tcpkit` is asked for and what it answers to its caller: its words, read by clap, and its exit
-//! status.
+//! What the program `tcpkit` is requested to do and how it exits: its words, read by clap, and its exit status.
 #![tactic(auto)]
 
 mod command_line;

@@ -1,4 +1,4 @@
--- The machine values of a `Loose` and of a `Held`, and what is owned of them. Assumes `Logic`.
+-- The machine values of a `Loose` and of a `Held`, and the memory that they own. Assumes `Logic`.
 use Rattle.std.proofs.Common.{◌≡◌, ℕ, List, [], ◌∷◌, ◌++◌, refl, subst, Option, Some, None, IsSome}
 use mathlib.Core.Bool.{◌&&◌, true, false≢true}
 use lib.Dec.{T}

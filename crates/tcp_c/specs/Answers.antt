@@ -1,5 +1,5 @@
--- The table of answers, one for all calls. A refusal of the end has its own number: 1 to 6 bytes that are no
--- segment, 11 to 16 a call, 21 to 24 a config.
+-- The table of answers, one for all calls. A refusal of the end has its own number: 1 to 6 for bytes that are no segment, 11
+-- to 16 for a call, 21 to 25 for a config.
 use Rattle.std.specs.Prelude.{ℕ, Option, Some, None, Result, Ok, Err}
 use Rattle.tcp_wire.specs.Refusals.{decode_error_number}
 use Rattle.tcp_conn.specs.declared.outcome.CallError.{CallError}
@@ -10,15 +10,15 @@ use Rattle.tcp_conn.specs.declared.outcome.Arrival.TheVariants.{Malformed, NotMi
 use Rattle.tcp_conn.specs.Outcome.{call_error_number}
 use Rattle.tcp_conn.specs.State.{State}
 
--- the call did what it is for
+-- the call did its task
 abbrev pub done : ℕ
 done = 0
 
--- the handle holds no end
+-- the handle has no end
 abbrev pub no_end : ℕ
 no_end = 31
 
--- the handle holds an end already
+-- the handle has an end already
 abbrev pub in_use : ℕ
 in_use = 32
 
@@ -30,7 +30,7 @@ little_room = 33
 abbrev pub no_timer : ℕ
 no_timer = 34
 
--- the record keeps no rest
+-- the fields are those of no TIME-WAIT record
 abbrev pub no_rest : ℕ
 no_rest = 39
 
@@ -38,7 +38,7 @@ no_rest = 39
 abbrev pub nothing_unread : ℕ
 nothing_unread = 51
 
--- the peer closed, and all its bytes were handed over
+-- the peer closed, and all its bytes were delivered
 abbrev pub end_of_stream : ℕ
 end_of_stream = 52
 
@@ -50,7 +50,7 @@ nothing_due = 53
 abbrev pub no_rule : ℕ
 no_rule = 54
 
--- the segment was passed over
+-- the segment was dropped
 abbrev pub segment_dropped : ℕ
 segment_dropped = 55
 
@@ -62,12 +62,12 @@ segment_not_mine = 56
 abbrev pub not_at_rest : ℕ
 not_at_rest = 57
 
--- what a call answers: of the end that is held, or that there is none
+-- the answer of a call: of the end in the handle, or that there is none
 abbrev pub answer_of : (State → ℕ) → Option State → ℕ
 answer_of answer None = no_end
 answer_of answer (Some s) = answer s
 
--- a number that is said of the end that is held; 0 where there is none
+-- a number of the end in the handle; 0 where there is none
 abbrev pub number_written : (State → ℕ) → Option State → ℕ
 number_written number None = 0
 number_written number (Some s) = number s

@@ -1,4 +1,4 @@
--- What a handle holds.
+-- The content of a handle.
 use Rattle.std.specs.Prelude.{Option, Some, None}
 use base.Fml.{Fml, ftrue}
 use denote.RattleType.{RattleType}
@@ -15,7 +15,7 @@ use Rattle.tcp_conn.specs.contracts.endpoint.Endpoint as endpoint
 abbrev pub end_row : RattleType
 end_row = endpoint.the_row region.the_row region_ghosts
 
--- the memory of the end that is held, if one is
+-- the memory of the end in the handle, if there is one
 abbrev pub held : Still → Ptr → Option State → Fml
 held heap at None = ftrue
 held heap at (Some s) = box_owns (ghosts.dealloc_token heap) end_row at s

@@ -1,4 +1,5 @@
--- What C is told of bytes that are lent where they lie (RFC 9293, 3.10.3, 3.7 and 3.8), and of a segment for a device that sums (3.1).
+-- What is reported to C of bytes that are lent where they lie (RFC 9293, 3.10.3, 3.7 and 3.8), and of a segment for a device
+-- that computes the checksum (3.1).
 use Rattle.std.specs.Prelude.{ℕ, nat_lt, if◌then◌else◌, List, [], length, take, is_some, Option, Some, None, unwrap_or}
 use Rattle.tcp_conn.specs.Calls.{receive_answer, received_bytes}
 use Rattle.tcp_conn.specs.Emission.{destination, emitted_bytes}
@@ -7,19 +8,19 @@ use Rattle.tcp_conn.specs.State.{State}
 use Rattle.tcp_c.specs.Answers.{done, little_room, nothing_due, received_number}
 use Rattle.tcp_c.specs.Status.{flag}
 
--- PEEK answers as RECEIVE into a buffer for all that is unread
+-- PEEK answers as RECEIVE into a buffer for all unread bytes
 abbrev pub peek_number : State → ℕ
 peek_number s = received_number (receive_answer s (length s.receiving.inbox.unread))
 
--- how many bytes it lends: what that would hand over
+-- how many bytes it lends: as many as that would deliver
 abbrev pub peek_length : State → ℕ
 peek_length s = length (received_bytes s (length s.receiving.inbox.unread))
 
--- whether the peer has closed, so that none comes after them; 0 where none is lent
+-- whether the peer has closed, so that none follows them; 0 where none is lent
 abbrev pub peek_ends : State → ℕ
 peek_ends s = if nat_lt 0 (peek_length s) then flag s.receiving.finished else 0
 
--- PARTS, with room for a header of so many bytes at least: whether a segment is due
+-- PARTS, which requires room for a header of `least` bytes: whether a segment is due
 abbrev pub parts_number : ℕ → ℕ → State → ℕ
 parts_number least room s = if nat_lt room least then little_room else (if is_some (destination s) then done else nothing_due)
 
@@ -31,12 +32,12 @@ due_bytes s = unwrap_or (emitted_bytes s) []
 abbrev pub parts_length : ℕ → ℕ → State → ℕ
 parts_length least room s = if nat_lt room least then 0 else length (due_bytes s)
 
--- the first bytes of that segment, so many
+-- the first `count` bytes of that segment
 abbrev pub first_due : ℕ → Option State → List ℕ
 first_due count None = []
 first_due count (Some s) = take count (due_bytes s)
 
--- PARTIAL: what the buffer holds after an emission for a device that sums
+-- PARTIAL: the content of the buffer after an emission for a device that computes the checksum
 abbrev pub partial_buffer : ℕ → List ℕ → Option State → List ℕ
 partial_buffer least out None = out
 partial_buffer least out (Some s) = if nat_lt (length out) least then out else partial_after s out

@@ -3,6 +3,7 @@ pub mod Calls
 pub mod Configs
 pub mod Held
 pub mod Lent
+pub mod Pacing
 pub mod Reports
 pub mod Rests
 pub mod Segments

@@ -1,5 +1,5 @@
--- What C is told of bytes that arrived (RFC 9293, 3.10.7; RFC 5681, 2 and 4.2), and of a segment that was written (RFC 9293, 3.7
--- and 3.8): `take` and `transmit` of an end, each case by its number.
+-- What is reported to C of bytes that arrived (RFC 9293, 3.10.7; RFC 5681, 2 and 4.2), and of a segment that was written (RFC
+-- 9293, 3.7 and 3.8): `take` and `transmit` of an end, each case by its number.
 use Rattle.std.specs.Prelude.{ℕ, nat_lt, if◌then◌else◌, List, Option, Some, None, unwrap_or}
 use Rattle.tcp_conn.specs.Arrival.{after_arrival}
 use Rattle.tcp_conn.specs.AtOnce.{answers_at_once}
@@ -18,7 +18,7 @@ use Rattle.tcp_c.specs.Status.{flag}
 use Rattle.tcp_c.specs.declared.records.CTaken.{CTaken}
 use Rattle.tcp_c.specs.declared.records.CTransmit.{CTransmit}
 
--- THE RULE that applied, in the order of their tests; 0 where the bytes are no segment
+-- THE RULE that applied, in the order of the tests; 0 where the bytes are no segment
 abbrev pub rule_number : Judgement → ℕ
 rule_number Foreign = 1
 rule_number ResetIgnored = 2

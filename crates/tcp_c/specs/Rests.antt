@@ -1,4 +1,4 @@
--- What rests in the place of an end in TIME-WAIT (RFC 9293, 3.3.2), as a record that C keeps.
+-- The TIME-WAIT record (RFC 9293, 3.3.2) that takes the place of an end, as a record that C keeps.
 use Rattle.std.specs.Prelude.{ℕ, is_some, not, ◌==◌, if◌then◌else◌, Option, Some, None, option_map, unwrap_or}
 use Rattle.tcp_halves.specs.declared.link.WaitingReset.{WaitingReset}
 use Rattle.tcp_conn.specs.declared.phase.Ending.{Ending}
@@ -19,7 +19,7 @@ ending_of number =
     else (if number == 1 then Some endings.Orderly
     else (if number == 2 then Some endings.Reset else (if number == 3 then Some endings.Aborted else None)))
 
--- the reset that waits: 0 none, 1 one that acknowledges nothing, anything else one that acknowledges
+-- the waiting reset: 0 none, 1 one that acknowledges nothing, anything else one that acknowledges
 abbrev pub reset_of : CRest → Option WaitingReset
 reset_of c =
     if c.reset == 0 then None
@@ -29,7 +29,7 @@ reset_of c =
       ack = if c.reset == 1 then None else Some (record { 0 = c.reset_ack });
     })
 
--- the fields that C's record says, with this ending
+-- the fields of C's record, with this ending
 abbrev pub fields_of : CRest → Ending → RestFields
 fields_of c ending = record {
   addr = record { 0 = c.addr.byte };
@@ -48,11 +48,12 @@ abbrev pub kept_with : CRest → Option Ending → Option Resting
 kept_with c None = None
 kept_with c (Some ending) = if can_be_kept (fields_of c ending) then Some (kept_of (fields_of c ending)) else None
 
--- WHAT IS KEPT in C's record; none without the mark, with no ending's number, or with a window or a shift that no end has
+-- THE TIME-WAIT RECORD of C's record; none without the mark, with no ending's number, or with a window or a shift that no end
+-- has
 abbrev pub rest_kept : CRest → Option Resting
 rest_kept c = if c.mark == MARK_OF_REST then kept_with c (ending_of c.ending) else None
 
--- all zero where nothing rests
+-- all zero where there is no TIME-WAIT record
 abbrev pub no_record : CRest
 no_record = record {
   mark = 0;
@@ -73,7 +74,7 @@ no_record = record {
   ending = 0;
 }
 
--- what is written of these fields, where no reset waits
+-- C's record of these fields, where no reset waits
 abbrev pub settled_record : RestFields → CRest
 settled_record f = record no_record {
   mark = MARK_OF_REST;
@@ -89,7 +90,7 @@ settled_record f = record no_record {
   ending = ending_number f.ending;
 }
 
--- and of a reset that waits, with what it acknowledges, if anything
+-- and with a waiting reset, with what it acknowledges, if anything
 abbrev pub with_reset : CRest → WaitingReset → CRest
 with_reset c reset = record c {
   reset_addr = record { byte = reset.to.addr.0 };
@@ -99,7 +100,7 @@ with_reset c reset = record c {
   reset = if is_some reset.ack then 2 else 1;
 }
 
--- FROM AN END: whether it can rest, and what is kept of it then
+-- FROM AN END: whether a record can take its place, and the record then
 abbrev pub rest_number : State → ℕ
 rest_number s = if can_rest s then done else not_at_rest
 
@@ -107,7 +108,7 @@ abbrev pub rest_told : Option State → Option Resting
 rest_told None = None
 rest_told (Some s) = if can_rest s then Some (resting s) else None
 
--- the end that it stands for
+-- the end whose place it takes
 abbrev pub rest_stands_for : CRest → Option State
 rest_stands_for c = option_map as_state (rest_kept c)
 
@@ -116,6 +117,6 @@ abbrev pub rest_answer : (State → ℕ) → Option State → ℕ
 rest_answer answer None = no_rest
 rest_answer answer (Some s) = answer s
 
--- what is kept after a step of that end
+-- the record after a step of that end
 abbrev pub rest_after : (State → State) → CRest → Option Resting
 rest_after step c = option_map (λ r. resting (step (as_state r))) (rest_kept c)

@@ -1,4 +1,5 @@
--- What an emission (RFC 9293, 3.7, 3.8 and 3.10) into a buffer of any length tells and does, where it wants at least so many bytes.
+-- What an emission (RFC 9293, 3.7, 3.8 and 3.10) into a buffer of any length reports and does, where it requires `least`
+-- bytes.
 use Rattle.std.specs.Prelude.{ℕ, nat_lt, if◌then◌else◌, List, [], ◌∷◌, length, is_some, unwrap_or, Option, Some, None}
 use Rattle.tcp_conn.specs.declared.stray.TheConstants.{RESET_LEN}
 use Rattle.tcp_conn.specs.State.{State}
@@ -26,7 +27,7 @@ abbrev pub written_destination : ℕ → ℕ → Option State → List ℕ
 written_destination least room None = nowhere
 written_destination least room (Some s) = if nat_lt room least then nowhere else unwrap_or (destination s) nowhere
 
--- what the buffer holds afterwards
+-- the content of the buffer afterwards
 abbrev pub written_buffer : ℕ → List ℕ → Option State → List ℕ
 written_buffer least out None = out
 written_buffer least out (Some s) = if nat_lt (length out) least then out else buffer_after s out

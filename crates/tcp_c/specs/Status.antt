@@ -1,4 +1,5 @@
--- What is said of an end: its phase (RFC 9293, 3.3.2, in that order) and its ending by number, its counts and its positions.
+-- What is reported of an end: its phase (RFC 9293, 3.3.2, in that order) and its ending by number, its counts and its
+-- positions.
 use Rattle.std.specs.Prelude.{ℕ, Bool, false, if◌then◌else◌, List, length, Option, Some, None, unwrap_or, is_some}
 use Rattle.tcp_conn.specs.declared.phase.Phase.{Phase}
 use Rattle.tcp_conn.specs.declared.phase.Phase.TheVariants as phases

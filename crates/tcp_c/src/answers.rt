@@ -1,49 +1,49 @@
-//! What the calls answer: one table for all of them. A refusal of the end has its own number.
+//! The answers of the calls: one table for all of them. A refusal of the end has its own number.
 ghost use Rattle.std.specs.Prelude.{◌≡◌};
 ghost use Rattle.tcp_c.specs.Answers.{call_number, received_number, arrival_number};
 
 use tcp_conn::{Arrival, CallError, Received};
 
-/// The call did what it is for.
+/// The call did its task.
 pub const DONE: u32 = 0;
 
-/// The handle holds no end.
+/// The handle has no end.
 pub const NO_END: u32 = 31;
 
-/// The handle holds an end already.
+/// The handle has an end already.
 pub const IN_USE: u32 = 32;
 
-/// Less room than a segment may take.
+/// There is less room than a segment may take.
 pub const LITTLE_ROOM: u32 = 33;
 
 /// No timer has this number.
 pub const NO_TIMER: u32 = 34;
 
-/// The record keeps no rest.
+/// The fields are those of no TIME-WAIT record.
 pub const NO_REST: u32 = 39;
 
 /// No byte is unread, and more may come.
 pub const NOTHING_UNREAD: u32 = 51;
 
-/// The peer closed, and all its bytes were handed over.
+/// The peer closed, and all its bytes were delivered (RFC 9293, 3.10.3).
 pub const END_OF_STREAM: u32 = 52;
 
 /// No segment is due.
 pub const NOTHING_DUE: u32 = 53;
 
-/// The timer's rule doesn't apply.
+/// The timer's rule doesn't apply (RFC 9293, 3.10.8).
 pub const NO_RULE: u32 = 54;
 
-/// The segment was passed over.
+/// The segment was dropped (RFC 9293, 3.10.7).
 pub const SEGMENT_DROPPED: u32 = 55;
 
-/// The segment is for another end, or from another peer.
+/// The segment is for another end, or from another peer (RFC 9293, 3.10.7).
 pub const SEGMENT_NOT_MINE: u32 = 56;
 
 /// The end isn't in TIME-WAIT, or has bytes unread.
 pub const NOT_AT_REST: u32 = 57;
 
-/// The answer of a call of the user, whatever it tells beside.
+/// The answer of a user call, without the value that it reports.
 pub(crate) fn call_number<T: Drop>(answer: Result<T, CallError>) -> u32
     ensures { result ≡ call_number answer }
 {
@@ -53,7 +53,7 @@ pub(crate) fn call_number<T: Drop>(answer: Result<T, CallError>) -> u32
     }
 }
 
-/// The answer of `receive`, which tells apart why it handed nothing over.
+/// The answer of `receive`, which distinguishes why nothing was delivered.
 pub(crate) fn received_number(answer: Result<Received, CallError>) -> u32
     ensures { result ≡ received_number answer }
 {
@@ -65,7 +65,8 @@ pub(crate) fn received_number(answer: Result<Received, CallError>) -> u32
     }
 }
 
-/// What became of bytes that arrived. (By a sum: three constants would be a table in memory, of which the library has none.)
+/// What became of bytes that arrived. (By a sum: three constants would be a table in memory, of which the library has
+/// none.)
 pub(crate) fn arrival_number(arrival: Arrival) -> u32
     ensures { result ≡ arrival_number arrival }
 {

@@ -7,13 +7,13 @@ use region_heap::{Region, Still};
 use std::mem;
 use tcp_conn::Endpoint;
 
-/// The first word of a handle that holds an end. Any other stands in one that holds none.
+/// The first word of a handle with an end. A handle without one has any other.
 pub const MARK_OF_LIVE: u64 = 0x7443_5052_6174_746c;
 
-/// What C places, zeroes and hands to each call: an end, or none.
+/// What C allocates, sets to zero and passes to each call: an end, or none.
 #[repr(C)]
 pub struct Handle {
-    /// `MARK_OF_LIVE` exactly where it holds an end.
+    /// `MARK_OF_LIVE` exactly where there is an end.
     pub mark: u64,
     /// The end, if there is one.
     pub held: Held,
@@ -21,7 +21,7 @@ pub struct Handle {
 }
 
 impl Handle {
-    /// All zero: none.
+    /// All zero: no end.
     fn empty() -> Handle
         ensures { result.held.end ≡ None }
     {
@@ -56,7 +56,7 @@ impl Handle {
         mem::replace(self, live).discard();
     }
 
-    /// Lets go of a handle that holds no end.
+    /// Discards a handle without an end.
     fn discard(self)
         requires { self.held.end ≡ None }
     {

@@ -1,4 +1,4 @@
-//! An end that C holds.
+//! An end that C keeps.
 ghost use Rattle.std.specs.Prelude.{◌≡◌, IsSome, IsNone, Option, Some, None};
 ghost use Rattle.tcp_conn.specs.State.{State};
 
@@ -8,7 +8,7 @@ use std::marker::Model;
 use std::ptr::null_mut;
 use tcp_conn::Endpoint;
 
-/// An end behind a pointer that C can hold, or none. It isn't `Drop`: an end can't be lost by mistake.
+/// An end behind a pointer that C can keep, or none. It isn't `Drop`: an end can't be lost by mistake.
 #[repr(C)]
 pub struct Held {
     at: *mut u8,
@@ -26,7 +26,7 @@ impl Model for Held {
 unsafe impl Send for Held {}
 
 impl Held {
-    /// None.
+    /// No end.
     pub(crate) fn empty(heap: Still) -> Held
         ensures { result.end ≡ None }
     {
@@ -59,7 +59,7 @@ impl Held {
         }
     }
 
-    /// There is none: nothing is lost.
+    /// There is no end: nothing is lost.
     pub(crate) fn discard(self)
         requires { IsNone self.end }
     {

@@ -1,4 +1,4 @@
-//! The unread bytes lent where they lie, and taken away (RFC 9293, 3.10.3).
+//! The unread bytes, lent where they lie and then consumed (RFC 9293, 3.10.3).
 ghost use Rattle.std.specs.Prelude.{◌≡◌, ◌+◌, ◌<◌, length, option_map};
 ghost use Rattle.tcp_conn.specs.Calls.{after_receive};
 ghost use Rattle.tcp_conn.specs.Lending.{consume_answer};
@@ -66,9 +66,9 @@ fn lent_of(end: &Endpoint<Region>) -> (u32, CLent)
     (DONE, found)
 }
 
-/// Lends all unread bytes where they lie, in two parts, of which the first is empty only where none is unread, and tells whether the
-/// peer has closed, so that none comes after them (RFC 9293, 3.10.3). Nothing changes; `tcp_c_consume` takes away what was read.
-/// Answers as `tcp_c_receive`. The bytes may be read until the next call that changes the end.
+/// Lends all unread bytes where they lie, in two parts (RFC 9293, 3.10.3). The first is empty only where none is
+/// unread. It reports whether the peer has closed, so that none follows them. Nothing changes; `tcp_c_consume` removes
+/// what was read. Answers as `tcp_c_receive` does. The bytes may be read until the next call that changes the end.
 #[unsafe(no_mangle)]
 pub extern "C" fn tcp_c_peek(handle: &mut Handle, lent: &mut CLent) -> u32
     ensures answer { result ≡ answer_of peek_number handle.old.held.end }
@@ -87,8 +87,9 @@ pub extern "C" fn tcp_c_peek(handle: &mut Handle, lent: &mut CLent) -> u32
     answer
 }
 
-/// Takes the first unread bytes away, at most `count`, and tells how many: the end is then as after a `tcp_c_receive` into so many
-/// bytes (RFC 9293, 3.8.6.2 and 3.10.3). Refused as that is. 0 where nothing is unread, whether or not more may come.
+/// Removes the first unread bytes, at most `count`, and reports how many. The end is then as after a `tcp_c_receive`
+/// into `count` bytes (RFC 9293, 3.8.6.2 and 3.10.3). Refused as that is. 0 where nothing is unread, whether or not
+/// more may come.
 #[unsafe(no_mangle)]
 pub extern "C" fn tcp_c_consume(handle: &mut Handle, count: usize, taken: &mut usize) -> u32
     ensures answer { result ≡ answer_of (λ s. call_number (consume_answer s count)) handle.old.held.end }

@@ -88,6 +88,8 @@
 //! uint32_t tcp_c_taken_vouched(tcp_c_handle *handle, const tcp_c_addr *src, const tcp_c_addr *dst, const uint8_t *bytes, size_t bytes_length, tcp_c_taken_record *taken);
 //! uint32_t tcp_c_emit(tcp_c_handle *handle, uint8_t *out, size_t out_length, tcp_c_addr *to, size_t *count);
 //! uint32_t tcp_c_emit_partial(tcp_c_handle *handle, uint8_t *out, size_t out_length, tcp_c_addr *to, size_t *count);
+//! uint32_t tcp_c_emit_acknowledgement(tcp_c_handle *handle, uint8_t *out, size_t out_length, tcp_c_addr *to, size_t *count);
+//! uint32_t tcp_c_resend_first(tcp_c_handle *handle);
 //! uint32_t tcp_c_parts(tcp_c_handle *handle, uint8_t *header, size_t header_length, tcp_c_parts_record *parts);
 //! uint32_t tcp_c_sent(tcp_c_handle *handle);
 //! uint32_t tcp_c_transmit(tcp_c_handle *handle, uint8_t *out, size_t out_length, tcp_c_transmit_record *transmit);
@@ -106,25 +108,26 @@
 //! uint32_t tcp_c_rest_status(const tcp_c_rest_record *rest, uint32_t *phase, uint32_t *ending);
 //! ```
 //!
-//! Each answers a number of the table in `answers`, or a refusal's own: 1 to 6 bytes that are no segment
-//! ([`tcp_wire::DecodeError`]), 11 to 16 a call ([`tcp_conn::CallError`]), 21 to 24 a config
-//! ([`tcp_conn::ConfigError`]). That the handle holds no end is found before anything else. What is told through a
-//! pointer is written at each answer: 0 where there is nothing to tell.
+//! Each returns a number of the table in `answers`, or that of a refusal: 1 to 6 for bytes that are no segment
+//! ([`tcp_wire::DecodeError`]), 11 to 16 for a call ([`tcp_conn::CallError`]), 21 to 25 for a config
+//! ([`tcp_conn::ConfigError`]). That the handle has no end is found before anything else. What is reported through a
+//! pointer is written at each answer: 0 where there is nothing to report.
 //!
-//! The caller owes what no code here can test. No pointer is null, also not that of no bytes. What a call writes
-//! overlaps nothing else that it is passed. A length is at most `PTRDIFF_MAX`. And a handle that holds an end is changed by
-//! these functions alone, one call at a time, and a copy of it is never passed; it may go to another thread, ordered by
-//! a lock or by the thread's start or join. Any other bytes are a handle that holds no end, if their first word isn't
+//! The caller ensures what no code here can test. No pointer is null, not even that of no bytes. What a call writes
+//! overlaps nothing else that it is passed. A length is at most `PTRDIFF_MAX`. A handle with an end is changed by these
+//! functions alone, one call at a time, and a copy of it is never passed. It may go to another thread, ordered by a
+//! lock or by the thread's start or join. Any other bytes are a handle without an end, if their first word isn't
 //! [`MARK_OF_LIVE`].
 //!
-//! What `tcp_c_peek` and `tcp_c_parts` lend lies in the block of the end, at the pointers that they write; their contracts state how
-//! many bytes lie there, and not which: a contract of Rattle's says nothing of memory that its function doesn't own. Nobody writes
-//! them, and the next call that changes the end ends the loan.
+//! What `tcp_c_peek` and `tcp_c_parts` lend lies in the block of the end, at the pointers that they write. Their
+//! contracts state how many bytes lie there, and not which: a contract in Rattle doesn't describe memory that its
+//! function doesn't own. Nobody writes them, and the next call that changes the end ends the loan.
 //!
-//! What rests in the place of an end is a plain value: a copy is another that rests there, and any bytes are one or none.
+//! A TIME-WAIT record is a plain value: a copy is another record in the same place, and any bytes are one or none.
 //!
-//! An end lies in the block that `tcp_c_new` was passed, all of it: nothing asks for memory. The block is aligned to 16, its size
-//! is a multiple of 16, no byte of it is used by anyone else until `tcp_c_free`, and then it is the caller's again.
+//! An end lies in the block that `tcp_c_new` was passed, all of it: nothing requests memory. The block is aligned to
+//! 16, its size is a multiple of 16, and nobody else uses a byte of it until `tcp_c_free`. Then it is the caller's
+//! again.
 #![tactic(auto)]
 
 mod answers;
@@ -133,6 +136,7 @@ mod held;
 mod lending;
 mod loose;
 mod making;
+mod pacing;
 mod partial;
 mod parts;
 mod records;
@@ -154,6 +158,7 @@ pub use handle::{Handle, MARK_OF_LIVE};
 pub use held::Held;
 pub use lending::{tcp_c_consume, tcp_c_peek};
 pub use making::{tcp_c_free, tcp_c_new};
+pub use pacing::{tcp_c_emit_acknowledgement, tcp_c_resend_first};
 pub use partial::tcp_c_emit_partial;
 pub use parts::{tcp_c_parts, tcp_c_sent};
 pub use records::{CAddr, CConfig, CLent, CParts, CRest, CStatus, CTaken, CTransmit};

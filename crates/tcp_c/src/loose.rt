@@ -35,7 +35,7 @@ impl<T: Drop, A: Allocator> Loose<T, A> {
 }
 
 impl Loose<Endpoint<Region>, Region> {
-    /// The same with the allocator that needs no memory, and the region beside it.
+    /// The pointer with the allocator that needs no memory, and the region beside it.
     pub(crate) fn settled(self, still: Still) -> (Loose<Endpoint<Region>, Still>, Region)
         ensures { result.0.value ≡ self.value }
     {

@@ -1,4 +1,4 @@
-//! An end is made, and let go.
+//! Makes and frees an end.
 ghost use Rattle.std.specs.Prelude.{◌≡◌, ◌≢◌, ◌↔◌, ◌⊎◌, IsSome, IsNone, Some, None, Ok, Err, IfOk};
 ghost use Rattle.tcp_conn.specs.NewEnd.{new_end};
 ghost use Rattle.tcp_halves.specs.Config.{config_error_number, HasBadCapacity, HasBadMss, HasBadShift, HasBadLimit, IsGoodConfig};
@@ -13,7 +13,7 @@ use region_heap::{Block, Region, Still};
 use tcp_conn::{Config, ConfigError, Endpoint};
 use tcp_wire::{Addr, Seq};
 
-/// The config that C's record says.
+/// The Config of C's record.
 fn config_of(config: &CConfig) -> Config
     ensures { result ≡ config_of config.now }
 {
@@ -42,7 +42,7 @@ fn settled(end: Box<Endpoint<Region>, Region>) -> Box<Endpoint<Region>, Still>
     end.into_box()
 }
 
-/// A new end in a box, all of it in this block: the buffers, and behind them the end.
+/// A new end in a box, all of it in this block: the buffers, and after them the end.
 fn boxed_end(block: Block, config: Config) -> Result<Box<Endpoint<Region>, Still>, ConfigError>
     ensures new { IfOk result (λ end. end.value ≡ new_end config) }
     ensures bad_capacity { (result ≡ Err ConfigError.BadCapacity) ↔ HasBadCapacity config }
@@ -63,9 +63,9 @@ fn boxed_end(block: Block, config: Config) -> Result<Box<Endpoint<Region>, Still
     }
 }
 
-/// Makes an end, CLOSED and empty, where the handle holds none; all of it lies in the block. 32 where it holds one,
-/// else 21, 23, 24 or 25 for a fault of the config, and 22 where the block is too small. The block is the caller's again
-/// at any answer but 0, and after [`tcp_c_free`].
+/// Makes an end, CLOSED and empty, where the handle has none (RFC 9293, 3.3.2); all of it lies in the block. 32 where
+/// the handle has one, else 21, 23, 24 or 25 for a fault of the config, and 22 where the block is too small. The block
+/// is the caller's again at any answer but 0, and after [`tcp_c_free`].
 #[unsafe(no_mangle)]
 pub extern "C" fn tcp_c_new(handle: &mut Handle, config: &CConfig, block: Block) -> u32
     ensures in_use { (result ≡ in_use) ↔ IsSome handle.old.held.end }
@@ -90,7 +90,7 @@ pub extern "C" fn tcp_c_new(handle: &mut Handle, config: &CConfig, block: Block)
     }
 }
 
-/// Lets the end go: the block in which it was made is the caller's again.
+/// Frees the end: the block in which it was made is the caller's again.
 #[unsafe(no_mangle)]
 pub extern "C" fn tcp_c_free(handle: &mut Handle) -> u32
     ensures answer { result ≡ answer_of (λ _. done) handle.old.held.end }

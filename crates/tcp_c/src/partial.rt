@@ -1,4 +1,4 @@
-//! A segment for a device that sums.
+//! A segment for a device that computes the checksum.
 ghost use Rattle.std.specs.Prelude.{◌≡◌, length, option_map};
 ghost use Rattle.tcp_conn.specs.declared.emission.TheConstants.{EMIT_ROOM};
 ghost use Rattle.tcp_c.specs.Answers.{answer_of, number_written};
@@ -11,8 +11,9 @@ use crate::records::CAddr;
 use tcp_conn::EMIT_ROOM;
 use tcp_wire::Addr;
 
-/// As `tcp_c_emit`, but the checksum field has the ones' complement sum over the pseudo-header alone, and no text is summed (RFC
-/// 9293, 3.1; RFC 1071, 2): a device adds up what was written, and puts the complement of that sum into the field.
+/// Emits as `tcp_c_emit` does, but the checksum field has the ones' complement sum of the pseudo-header alone, and no
+/// text is summed (RFC 9293, 3.1; RFC 1071, 2). A device sums what was written, and puts the complement of that sum
+/// into the field.
 #[unsafe(no_mangle)]
 pub extern "C" fn tcp_c_emit_partial(
     handle: &mut Handle,

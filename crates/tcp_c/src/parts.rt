@@ -56,10 +56,10 @@ fn parts_of(end: &Endpoint<Region>, header: &mut [u8]) -> (u32, CParts)
     (DONE, found)
 }
 
-/// Writes the header of the segment that is due into the front of `header`, lends its text where it lies, in two parts, and tells
-/// where it goes: header, first and second part are together what `tcp_c_emit` would write. 33 where `header` has less than
-/// [`HEADER_ROOM`] bytes, 53 where none is due. Nothing changes in the end: once the segment has gone out, `tcp_c_sent` says so. The
-/// text may be read until the next call that changes the end.
+/// Writes the header of the segment that is due into the front of `header`, lends its text where it lies, in two parts,
+/// and reports where it goes. Header, first and second part are together what `tcp_c_emit` would write. 33 where
+/// `header` has less than [`HEADER_ROOM`] bytes, 53 where none is due. Nothing changes in the end: once the segment was
+/// sent, call `tcp_c_sent`. The text may be read until the next call that changes the end.
 #[unsafe(no_mangle)]
 pub extern "C" fn tcp_c_parts(handle: &mut Handle, header: &mut [u8], parts: &mut CParts) -> u32
     ensures answer { result ≡ answer_of (parts_number HEADER_ROOM (length header.old)) handle.old.held.end }
@@ -84,8 +84,8 @@ pub extern "C" fn tcp_c_parts(handle: &mut Handle, header: &mut [u8], parts: &mu
     answer
 }
 
-/// The segment that is due has gone out: the end is as after a `tcp_c_emit` (RFC 9293, 3.8). For use right after the segment of
-/// `tcp_c_parts` was sent. Nothing changes where none is due.
+/// Counts the segment that is due as sent: the end is as after a `tcp_c_emit` (RFC 9293, 3.8). Call it right after the
+/// segment of `tcp_c_parts` was sent. Nothing changes where none is due.
 #[unsafe(no_mangle)]
 pub extern "C" fn tcp_c_sent(handle: &mut Handle) -> u32
     ensures answer { result ≡ answer_of (λ _. done) handle.old.held.end }

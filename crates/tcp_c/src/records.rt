@@ -1,78 +1,85 @@
-//! What C passes by reference, laid out as C does.
+//! The records that C passes by reference, in C's layout. The fields of tcpcore.h, of its layout and of the bindings' structs are
+//! made from these, with their comments (c/tcpcore/layout.py).
 
 /// An IPv4 address, its bytes in network order.
 #[repr(C)]
 #[derive(Clone, Copy)]
 pub struct CAddr {
-    /// Its bytes: 10, 0, 0, 1 of 10.0.0.1.
+    /// In network order: 10, 0, 0, 1 for 10.0.0.1.
     pub byte: [u8; 4],
 }
 
-/// What one end is made from.
+/// The Config of one end.
 #[repr(C)]
 #[derive(Clone, Copy)]
 pub struct CConfig {
-    /// The own address.
+    /// The address of this end.
     pub addr: CAddr,
-    /// The own port.
+    /// The port of this end.
     pub port: u16,
-    /// The own maximum segment size in bytes, from 64 to 1460.
+    /// The maximum segment size that this end announces, in bytes, from 64 to 1460 (RFC 9293, 3.7.1).
     pub mss: u16,
-    /// The initial sequence number.
+    /// The initial sequence number, ISS: choose it as RFC 9293, 3.4.1 says.
     pub isn: u32,
     /// The most bytes that are kept for the peer, from 1 to 1,048,576.
     pub send_capacity: usize,
-    /// The most bytes that are kept for the user, from 1 to 1,048,576.
+    /// The most bytes that are kept for the user, from 1 to 1,048,576: the greatest receive window.
     pub recv_capacity: usize,
-    /// The most bytes that the own direction carries, from 1 to 2^62.
+    /// The most bytes that this end's direction carries, from 1 to 2^62. Past TCPCORE_LIMIT the network has to keep the maximum
+    /// segment lifetime (RFC 9293, 3.4).
     pub limit: u64,
-    /// The shift of the windows that this end tells, from 0 to 14. Nothing reads it where `scales` is 0.
+    /// The shift of the windows that this end advertises, from 0 to 14 (RFC 7323, 2.2). Ignored where `scales` is 0. A window behind
+    /// the SYN's is advertised in steps of 2^shift bytes, rounded down: with a `recv_capacity` below 2^shift it is always 0, and the
+    /// peer sends nothing but probes of a byte. Take the least shift with recv_capacity >> shift at most 65,535: 0 for 65,535
+    /// bytes, 1 for 65,536, 5 for 1,048,576.
     pub window_shift: u8,
-    /// Whether this end offers to scale windows: 0 is no, anything else yes.
+    /// Whether this end offers window scaling (RFC 7323, 2.2): 0 is no, anything else yes.
     pub scales: u8,
-    /// Whether this end permits selective acknowledgement: 0 is no, anything else yes.
+    /// Whether this end permits selective acknowledgement (RFC 2018, 2): 0 is no, anything else yes.
     pub sack: u8,
 }
 
-/// What is said of an end.
+/// What is reported of an end (RFC 9293, 3.10.6).
 #[repr(C)]
 #[derive(Clone, Copy)]
 pub struct CStatus {
-    /// The state of the connection, from 0, CLOSED, to 10, TIME-WAIT, in the order of RFC 9293, 3.3.2.
+    /// The state of the connection (RFC 9293, 3.3.2): TCPCORE_PHASE_CLOSED, 0, to TCPCORE_PHASE_TIME_WAIT, 10.
     pub phase: u32,
-    /// 0 not ended, 1 orderly, 2 reset, 3 aborted.
+    /// How it ended: TCPCORE_ENDING_NOT_ENDED, 0, to TCPCORE_ENDING_ABORTED, 3.
     pub ending: u32,
-    /// The bytes that came in order and wait for the user.
+    /// The count of bytes that came in order and wait for `tcp_c_receive`.
     pub unread: usize,
-    /// The text bytes that acknowledgements have released.
+    /// The count of text bytes that acknowledgements have released.
     pub released: u64,
-    /// The text bytes that came in order up to now.
+    /// The count of text bytes that came in order up to now, read or not.
     pub ordered: u64,
-    /// The oldest position of the own direction that isn't acknowledged, SND.UNA; the SYN is at 0.
+    /// SND.UNA: the oldest position of this end's direction that isn't acknowledged. The SYN is at 0, byte i at 1 + i.
     pub una: u64,
-    /// The next position of the peer's direction that is wanted, RCV.NXT; the peer's SYN is at 0.
+    /// RCV.NXT: the next position of the peer's direction that is expected. The peer's SYN is at 0; this is 1 until it has come.
     pub next: u64,
-    /// How many bytes of a long text `tcp_c_send` would take.
+    /// How many bytes of a long text `tcp_c_send` would accept, by `send_capacity` and `limit`.
     pub room: usize,
-    /// The bytes that were taken and not released.
+    /// The count of bytes that were accepted and not released.
     pub queued: usize,
-    /// Those of them that were sent.
+    /// The count of text bytes that were sent and aren't acknowledged, at most `queued`. SYN and FIN aren't counted.
     pub in_flight: usize,
-    /// The most text bytes of a segment, by both SYNs; this and what follows is 0 until the peer's SYN was taken.
+    /// The most text bytes of a segment of this end, the smaller of both MSS; options take of it. This and the next fields up to
+    /// `sack` are what both SYNs agreed on, and 0 until the peer's SYN was taken.
     pub mss: u32,
-    /// The shift of the windows that this end advertises.
+    /// The shift of the windows that this end advertises; 0 where `scaling` is 0.
     pub own_shift: u8,
     /// The shift of the windows that the peer advertises.
     pub peer_shift: u8,
-    /// 1 where windows are scaled.
+    /// 1 where windows are scaled (RFC 7323, 2.2).
     pub scaling: u8,
-    /// 1 where selective acknowledgement is in use.
+    /// 1 where selective acknowledgement is in use (RFC 2018, 2).
     pub sack: u8,
-    /// SND.WND in bytes, scaled: what the peer advertised last (RFC 9293, 3.3.1).
+    /// SND.WND in bytes, scaled: the peer's window, from the segment that it was last taken from (RFC 9293, 3.3.1 and 3.10.7.4). It
+    /// is 0 until this end's SYN was acknowledged.
     pub snd_wnd: u32,
-    /// RCV.WND in bytes: how much more this end takes (RFC 9293, 3.3.1).
+    /// RCV.WND in bytes: how much more this end accepts (RFC 9293, 3.3.1).
     pub rcv_wnd: u32,
-    /// The next position of the own direction to be sent for the first time, SND.NXT.
+    /// SND.NXT: the next position of this end's direction to be sent for the first time.
     pub nxt: u64,
     /// 1 once `tcp_c_close` was accepted.
     pub closing: u32,
@@ -80,21 +87,23 @@ pub struct CStatus {
     pub finished: u32,
 }
 
-/// What is reported of bytes that arrived.
+/// What is reported of bytes that arrived (RFC 9293, 3.10.7).
 #[repr(C)]
 #[derive(Clone, Copy)]
 pub struct CTaken {
     /// 1 where they have to be answered at once (RFC 5681, 4.2).
     pub at_once: u32,
-    /// The rule that applied, from 1, in the order of [`tcp_conn::Judgement`]; 0 where they are no segment.
+    /// The rule that applied: TCPCORE_RULE_FOREIGN, 1, to TCPCORE_RULE_TAKEN_SHUT, 19; TCPCORE_RULE_NONE, 0, where they are no
+    /// segment.
     pub rule: u32,
-    /// The text bytes that their acknowledgement released.
+    /// The count of text bytes that their acknowledgement released. SYN and FIN aren't counted.
     pub acked: u64,
-    /// What they brought: 0 neither text nor FIN, 1 text or FIN in order, 2 text that is held, 3 nothing that is kept.
+    /// What they brought: TCPCORE_BROUGHT_NOTHING, 0, to TCPCORE_BROUGHT_NOT_KEPT, 3.
     pub brought: u32,
-    /// 1 where they are a duplicate acknowledgement (RFC 5681, 2).
+    /// 1 where they are a duplicate acknowledgement (RFC 5681, 2): text was in flight, they have no text, no SYN and no FIN, they
+    /// acknowledge up to SND.UNA, and their window is SND.WND.
     pub is_duplicate: u32,
-    /// 1 where SND.WND was taken from them.
+    /// 1 where SND.WND was taken from them (RFC 9293, 3.10.7.4, fifth).
     pub window_taken: u32,
 }
 
@@ -104,51 +113,52 @@ pub struct CTaken {
 pub struct CTransmit {
     /// The address that it goes to.
     pub to: CAddr,
-    /// What it is, from 1, in the order of [`tcp_conn::Kind`]; 0 where there is none.
+    /// Its kind: TCPCORE_KIND_RESET, 1, to TCPCORE_KIND_ACKNOWLEDGEMENT, 7; TCPCORE_KIND_NONE, 0, where there is none.
     pub kind: u32,
-    /// Its length in bytes.
+    /// Its length in bytes, with its header.
     pub length: usize,
-    /// Where it begins, as a position of the own direction.
+    /// Where it begins, as a position of this end's direction: a SYN at 0, byte i at 1 + i, the FIN after the last byte, an
+    /// acknowledgement at SND.NXT; 0 of a reset.
     pub position: u64,
-    /// The bytes of its text.
+    /// The length of its text in bytes.
     pub count: usize,
 }
 
-/// What rests in the place of an end in TIME-WAIT: a plain value, which may be copied, stored and moved.
+/// The TIME-WAIT record in the place of an end: a plain value, which may be copied, stored and moved.
 #[repr(C)]
 #[derive(Clone, Copy)]
 pub struct CRest {
-    /// `MARK_OF_REST` exactly where it keeps one.
+    /// The library's word for it; with any other there is no record.
     pub mark: u32,
-    /// The own address.
+    /// The address of this end.
     pub addr: CAddr,
     /// The peer's address.
     pub peer_addr: CAddr,
-    /// The own port.
+    /// The port of this end.
     pub port: u16,
     /// The peer's port.
     pub peer_port: u16,
-    /// SND.NXT: all before it is acknowledged.
+    /// SND.NXT, a sequence number: all before it is acknowledged.
     pub seq: u32,
-    /// RCV.NXT.
+    /// RCV.NXT, a sequence number.
     pub next: u32,
     /// RCV.WND in bytes, at most 1,048,576.
     pub window: u32,
-    /// Whom a reset goes to that waits. Nothing reads it where `reset` is 0; so it is with the next three.
+    /// The address that the waiting reset goes to. This and the next three are ignored where `reset` is 0.
     pub reset_addr: CAddr,
-    /// Its number.
+    /// The sequence number of the reset.
     pub reset_seq: u32,
-    /// What it acknowledges. Nothing reads it where `reset` is 1.
+    /// What the reset acknowledges; ignored where `reset` is 1.
     pub reset_ack: u32,
-    /// The port that it goes to.
+    /// The port that the reset goes to.
     pub reset_port: u16,
     /// The shift by which the window is advertised, at most 14.
     pub shift: u8,
-    /// Whether an acknowledgement is owed: 0 is no, anything else yes.
+    /// Whether an acknowledgement is pending: 0 is no, anything else yes.
     pub ack: u8,
-    /// 0 where no reset waits, 1 where one does that acknowledges nothing, 2 where one does that acknowledges.
+    /// The waiting reset: 0 none, 1 one that acknowledges nothing, 2 one that acknowledges.
     pub reset: u16,
-    /// 0 not ended, 1 orderly, 2 reset, 3 aborted.
+    /// How the connection ended: TCPCORE_ENDING_NOT_ENDED, 0, to TCPCORE_ENDING_ABORTED, 3.
     pub ending: u16,
 }
 
@@ -156,15 +166,15 @@ pub struct CRest {
 #[repr(C)]
 #[derive(Clone, Copy)]
 pub struct CLent {
-    /// Where the first of them lie.
+    /// Where the first part lies.
     pub first: *const u8,
-    /// How many lie there.
+    /// The length of the first part in bytes.
     pub first_length: usize,
-    /// Where those after them lie.
+    /// Where the second part lies.
     pub second: *const u8,
-    /// How many lie there.
+    /// The length of the second part in bytes.
     pub second_length: usize,
-    /// 1 where none comes after them: the peer has closed.
+    /// 1 where none follows them: the peer has closed.
     pub ends: u32,
 }
 
@@ -174,14 +184,14 @@ pub struct CLent {
 pub struct CParts {
     /// The address that it goes to.
     pub to: CAddr,
-    /// The length of its header in bytes, options and all.
+    /// The length of its header in bytes with options.
     pub header: u32,
-    /// Where the first bytes of its text lie.
+    /// Where the first part of its text lies.
     pub first: *const u8,
-    /// How many lie there.
+    /// The length of the first part in bytes.
     pub first_length: usize,
-    /// Where those after them lie.
+    /// Where the second part of its text lies.
     pub second: *const u8,
-    /// How many lie there.
+    /// The length of the second part in bytes.
     pub second_length: usize,
 }

@@ -1,4 +1,4 @@
-//! What C is told of bytes that arrived, and of a segment that was written.
+//! What is reported to C of bytes that arrived, and of a segment that was written.
 ghost use Rattle.std.specs.Prelude.{◌≡◌, length, option_map};
 ghost use Rattle.tcp_conn.specs.Arrival.{after_arrival, arrival_answer};
 ghost use Rattle.tcp_conn.specs.declared.emission.TheConstants.{EMIT_ROOM};
@@ -12,7 +12,7 @@ use crate::records::{CAddr, CTaken, CTransmit};
 use tcp_conn::{Brought, EMIT_ROOM, Judgement, Kind, Transmit};
 use tcp_wire::Addr;
 
-/// The number of a rule, in the order of their tests.
+/// The number of a rule, in the order of the tests.
 fn rule_number(rule: Judgement) -> u32
     ensures { result ≡ rule_number rule }
 {
@@ -61,7 +61,7 @@ pub(crate) fn brought_number(brought: Brought) -> u32
     }
 }
 
-/// The number of what a segment is.
+/// The number of the kind of a segment.
 fn kind_number(kind: Kind) -> u32
     ensures { result ≡ kind_number kind }
 {
@@ -76,7 +76,7 @@ fn kind_number(kind: Kind) -> u32
     }
 }
 
-/// All zero.
+/// A report of no bytes: all zero.
 pub(crate) fn no_taken() -> CTaken
     ensures { result ≡ no_taken }
 {
@@ -90,7 +90,7 @@ pub(crate) fn no_taken() -> CTaken
     }
 }
 
-/// All zero.
+/// A report of no segment: all zero.
 fn no_transmit() -> CTransmit
     ensures { result ≡ no_transmit }
 {
@@ -121,9 +121,9 @@ fn record_of(sent: Transmit) -> CTransmit
     }
 }
 
-/// As `tcp_c_arrive`, and reports what the segment is to the end: whether it has to be answered at once (RFC 5681, 4.2), the rule
-/// that applied, the text that it acknowledged, what it brought, whether it is a duplicate acknowledgement (RFC 5681, 2), and
-/// whether its window was taken.
+/// Takes bytes as `tcp_c_arrive` does, with a report: whether the segment has to be answered at once (RFC 5681, 4.2),
+/// the rule that applied, and the text that was acknowledged. It also has what the segment brought, whether it is a
+/// duplicate acknowledgement (RFC 5681, 2), and whether its window was taken.
 #[unsafe(no_mangle)]
 pub extern "C" fn tcp_c_taken(
     handle: &mut Handle,
@@ -153,7 +153,8 @@ pub extern "C" fn tcp_c_taken(
     arrival_number(found.arrival)
 }
 
-/// As `tcp_c_emit`, and reports what the segment is, the position where it begins, and the bytes of its text.
+/// Emits as `tcp_c_emit` does, and reports what the segment is, the position where it begins, and the length of its
+/// text.
 #[unsafe(no_mangle)]
 pub extern "C" fn tcp_c_transmit(
     handle: &mut Handle,
@@ -182,7 +183,7 @@ pub extern "C" fn tcp_c_transmit(
     DONE
 }
 
-/// What `tcp_c_transmit` would report now: 53, and all zero, where no segment is due.
+/// What `tcp_c_transmit` would report now. 53, and all zero, where no segment is due.
 #[unsafe(no_mangle)]
 pub extern "C" fn tcp_c_next(handle: &mut Handle, transmit: &mut CTransmit) -> u32
     ensures answer { result ≡ answer_of (emission_number 0 0) handle.old.held.end }

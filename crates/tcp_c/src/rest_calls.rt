@@ -1,4 +1,4 @@
-//! The calls of what rests in the place of an end in TIME-WAIT (RFC 9293, 3.3.2): a value that C keeps.
+//! The calls of a TIME-WAIT record (RFC 9293, 3.3.2): a value that C keeps.
 ghost use Rattle.std.specs.Prelude.{◌≡◌, ◌≢◌, None, length};
 ghost use Rattle.tcp_conn.specs.Arrival.{arrival_answer, after_arrival};
 ghost use Rattle.tcp_conn.specs.Calls.{abort_answer, after_abort};
@@ -21,8 +21,8 @@ use crate::timing::timer_of;
 use tcp_conn::REST_LEN;
 use tcp_wire::Addr;
 
-/// Tells what can take the end's place, in TIME-WAIT with nothing unread: it answers and emits as the end would. 57 in any other
-/// phase, and while bytes are unread, and zeros. The end stays what it is.
+/// Reports the TIME-WAIT record that can take the end's place: it answers and emits as the end would (RFC 9293,
+/// 3.10.7.4). 57, and all zero, in any phase but TIME-WAIT, and while bytes are unread. The end is unchanged.
 #[unsafe(no_mangle)]
 pub extern "C" fn tcp_c_rest(handle: &mut Handle, rest: &mut CRest) -> u32
     ensures answer { result ≡ answer_of rest_number handle.old.held.end }
@@ -43,8 +43,8 @@ pub extern "C" fn tcp_c_rest(handle: &mut Handle, rest: &mut CRest) -> u32
     DONE
 }
 
-/// Takes bytes that came from `src` to `dst`, whatever they are, as the end would (RFC 9293, 3.10.7). Answers as `tcp_c_arrive`,
-/// or 39 where the record keeps no rest.
+/// Takes bytes that came from `src` to `dst`, whatever they are, as the end would (RFC 9293, 3.10.7). Answers as
+/// `tcp_c_arrive` does, or 39 where the fields are those of no record.
 #[unsafe(no_mangle)]
 pub extern "C" fn tcp_c_rest_arrive(rest: &mut CRest, src: &CAddr, dst: &CAddr, bytes: &[u8]) -> u32
     ensures answer { result ≡ rest_answer (λ s. arrival_number (arrival_answer s src.now.byte dst.now.byte bytes.now)) (rest_stands_for rest.old) }
@@ -59,8 +59,9 @@ pub extern "C" fn tcp_c_rest_arrive(rest: &mut CRest, src: &CAddr, dst: &CAddr, 
     arrival_number(answer)
 }
 
-/// A timer has run out, by the numbers of `tcp_c_timer` (RFC 9293, 3.10.8). The TIME-WAIT timeout, 2, ends the connection in
-/// order; 54 where its rule doesn't apply, 34 at any other number, 39 where the record keeps no rest.
+/// A timer has expired, by the numbers of `tcp_c_timer` (RFC 9293, 3.10.8). The TIME-WAIT timeout, 2, ends the
+/// connection in order. 54 where its rule doesn't apply, 34 at any other number, 39 where the fields are those of no
+/// record.
 #[unsafe(no_mangle)]
 pub extern "C" fn tcp_c_rest_timer(rest: &mut CRest, timer: u32) -> u32
     ensures answer { result ≡ rest_answer (timer_number (timer_of timer)) (rest_stands_for rest.old) }
@@ -78,8 +79,9 @@ pub extern "C" fn tcp_c_rest_timer(rest: &mut CRest, timer: u32) -> u32
     answer
 }
 
-/// Writes the segment that is due into the front of `out`, and tells where it goes and its length (RFC 9293, 3.10.7.4). 33 where
-/// `out` has less than [`REST_LEN`] bytes, 53 where none is due, 39 where the record keeps no rest: then nothing changes.
+/// Writes the segment that is due into the front of `out`, and reports where it goes and its length (RFC 9293,
+/// 3.10.7.4). 33 where `out` has less than [`REST_LEN`] bytes, 53 where none is due, 39 where the fields are those of
+/// no record: then nothing changes.
 #[unsafe(no_mangle)]
 pub extern "C" fn tcp_c_rest_emit(
     rest: &mut CRest,
@@ -113,7 +115,8 @@ pub extern "C" fn tcp_c_rest_emit(
     DONE
 }
 
-/// The length of the segment that `tcp_c_rest_emit` would write now, [`REST_LEN`], or 0 where none is due.
+/// Reports the length of the segment that `tcp_c_rest_emit` would write now, [`REST_LEN`], or 0 where none is due. 39
+/// where the fields are those of no record.
 #[unsafe(no_mangle)]
 pub extern "C" fn tcp_c_rest_pending(rest: &CRest, due: &mut u32) -> u32
     ensures answer { result ≡ rest_answer (λ _. done) (rest_stands_for rest.now) }
@@ -129,8 +132,8 @@ pub extern "C" fn tcp_c_rest_pending(rest: &CRest, due: &mut u32) -> u32
     DONE
 }
 
-/// Gives the connection up; no reset goes out in TIME-WAIT (RFC 9293, 3.10.5). Refused with 14 where it has ended, 39 where the
-/// record keeps no rest.
+/// Aborts the connection; no reset is sent in TIME-WAIT (RFC 9293, 3.10.5). 14 where it has ended, 39 where the fields
+/// are those of no record.
 #[unsafe(no_mangle)]
 pub extern "C" fn tcp_c_rest_abort(rest: &mut CRest) -> u32
     ensures answer { result ≡ rest_answer (λ s. call_number (abort_answer s)) (rest_stands_for rest.old) }
@@ -145,8 +148,8 @@ pub extern "C" fn tcp_c_rest_abort(rest: &mut CRest) -> u32
     call_number(answer)
 }
 
-/// The phase, 10 in TIME-WAIT and 0 once the connection has ended, and how it did, by the numbers of [`crate::CStatus`]; zeros where
-/// the record keeps no rest.
+/// Reports the phase, 10 in TIME-WAIT and 0 once the connection has ended, and the ending by the numbers of
+/// [`crate::CStatus`]. 39, and zeros, where the fields are those of no record.
 #[unsafe(no_mangle)]
 pub extern "C" fn tcp_c_rest_status(rest: &CRest, phase: &mut u32, ending: &mut u32) -> u32
     ensures answer { result ≡ rest_answer (λ _. done) (rest_stands_for rest.now) }

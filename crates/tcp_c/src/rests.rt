@@ -1,4 +1,4 @@
-//! What rests in the place of an end, as C's record and back.
+//! The TIME-WAIT record as C's record, and back.
 ghost use Rattle.std.specs.Prelude.{◌≡◌, Some};
 ghost use Rattle.tcp_c.specs.Rests.{ending_of, fields_of, no_record, reset_of, rest_kept, settled_record, with_reset};
 
@@ -7,7 +7,7 @@ use crate::status::ending_number;
 use tcp_conn::{Ending, Peer, Rest, RestFields, WaitingReset};
 use tcp_wire::{Addr, Seq};
 
-/// The first word of a record that keeps a rest. Any other stands in one that keeps none.
+/// The first word of a TIME-WAIT record. Any other fields have another.
 pub const MARK_OF_REST: u32 = 0x5265_7374;
 
 /// The ending of a number.
@@ -23,7 +23,7 @@ fn ending_of(number: u16) -> Option<Ending>
     }
 }
 
-/// The reset that waits, if one does.
+/// The waiting reset, if there is one.
 fn reset_of(stored: &CRest) -> Option<WaitingReset>
     ensures { result ≡ reset_of stored.now }
 {
@@ -44,7 +44,7 @@ fn reset_of(stored: &CRest) -> Option<WaitingReset>
     })
 }
 
-/// The fields that C's record says, with this ending.
+/// The fields of C's record, with this ending.
 fn fields_of(stored: &CRest, ending: Ending) -> RestFields
     ensures { result ≡ fields_of stored.now ending }
 {
@@ -65,7 +65,7 @@ fn fields_of(stored: &CRest, ending: Ending) -> RestFields
     }
 }
 
-/// The rest that C's record keeps, if it keeps one.
+/// The TIME-WAIT record of C's record, if it is one.
 pub(crate) fn rest_of(stored: &CRest) -> Option<Rest>
     ensures { result ≡ rest_kept stored.now }
 {
@@ -76,7 +76,7 @@ pub(crate) fn rest_of(stored: &CRest) -> Option<Rest>
     Rest::of(fields_of(stored, ending))
 }
 
-/// All zero.
+/// No record: all zero.
 pub(crate) fn no_record() -> CRest
     ensures { result ≡ no_record }
 {
@@ -122,7 +122,7 @@ fn settled_record(fields: &RestFields) -> CRest
     }
 }
 
-/// The same with a reset that waits.
+/// These fields with a waiting reset.
 fn with_reset(settled: CRest, reset: WaitingReset) -> CRest
     ensures { result ≡ with_reset settled reset }
 {
@@ -141,7 +141,7 @@ fn with_reset(settled: CRest, reset: WaitingReset) -> CRest
     }
 }
 
-/// C's record of this rest.
+/// C's record of this TIME-WAIT record.
 pub(crate) fn record_of(rest: &Rest) -> CRest
     ensures { rest_kept result ≡ Some rest.now }
 {

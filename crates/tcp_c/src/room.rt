@@ -1,4 +1,4 @@
-//! How much memory an end takes.
+//! How much memory an end needs.
 ghost use Rattle.std.specs.Prelude.{◌≡◌, ◌↔◌, IsTrue};
 ghost use Rattle.tcp_halves.specs.Config.{IsCapacity, HasGoodCapacities, HasBadCapacity};
 ghost use Rattle.tcp_c.specs.Configs.{config_of, room_of};
@@ -7,7 +7,7 @@ use crate::records::CConfig;
 use region_heap::UNIT;
 use tcp_sendq::MAX_CAPACITY;
 
-/// The bytes of an end beside its buffers. They are measured, by tests of the C library.
+/// The size of an end without its buffers, in bytes. It is measured, by tests of the C library.
 const END_SIZE: usize = 704;
 
 /// Whether an end may have this capacity.
@@ -17,8 +17,7 @@ fn is_capacity(capacity: usize) -> bool
     1 <= capacity && capacity <= MAX_CAPACITY
 }
 
-/// How many bytes of a block are enough for an end with this config, and fewer aren't; 0 where a capacity isn't from 1 to
-/// 1,048,576.
+/// The least size of a block for an end with this config, in bytes; 0 where a capacity isn't from 1 to 1,048,576.
 #[unsafe(no_mangle)]
 pub extern "C" fn tcp_c_room(config: &CConfig) -> usize
     ensures room { HasGoodCapacities (config_of config.now) → result ≡ room_of config.now }

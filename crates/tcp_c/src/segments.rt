@@ -14,8 +14,8 @@ use crate::records::CAddr;
 use tcp_conn::{EMIT_ROOM, RESET_LEN, stray_reset};
 use tcp_wire::Addr;
 
-/// Takes bytes that came from `src` to `dst`, whatever they are (RFC 9293, 3.10.7). 1 to 6 where they are no segment, 56
-/// where it isn't of this connection, 55 where it was passed over.
+/// Takes bytes that came from `src` to `dst`, whatever they are (RFC 9293, 3.10.7). 1 to 6 where they are no segment,
+/// 56 where the segment isn't of this connection, 55 where it was dropped.
 #[unsafe(no_mangle)]
 pub extern "C" fn tcp_c_arrive(handle: &mut Handle, src: &CAddr, dst: &CAddr, bytes: &[u8]) -> u32
     ensures answer { result ≡ answer_of (λ s. arrival_number (arrival_answer s src.now.byte dst.now.byte bytes.now)) handle.old.held.end }
@@ -29,7 +29,8 @@ pub extern "C" fn tcp_c_arrive(handle: &mut Handle, src: &CAddr, dst: &CAddr, by
     arrival_number(answer)
 }
 
-/// The same, and tells whether the segment has to be answered at once, 1, or may wait for the next, 0 (RFC 5681, 4.2).
+/// Takes bytes as `tcp_c_arrive` does, and reports whether the segment has to be answered at once, 1, or may wait for
+/// the next, 0 (RFC 5681, 4.2).
 #[unsafe(no_mangle)]
 pub extern "C" fn tcp_c_take(
     handle: &mut Handle,
@@ -52,8 +53,8 @@ pub extern "C" fn tcp_c_take(
     arrival_number(taken.arrival)
 }
 
-/// Writes the segment that is due into the front of `out`, and tells where it goes and its length (RFC 9293, 3.7, 3.8 and
-/// 3.10). 33 where `out` has less than [`EMIT_ROOM`] bytes, 53 where none is due: then nothing changes.
+/// Writes the segment that is due into the front of `out`, and reports where it goes and its length (RFC 9293, 3.7, 3.8
+/// and 3.10). 33 where `out` has less than [`EMIT_ROOM`] bytes, 53 where none is due: then nothing changes.
 #[unsafe(no_mangle)]
 pub extern "C" fn tcp_c_emit(
     handle: &mut Handle,
@@ -87,9 +88,9 @@ pub extern "C" fn tcp_c_emit(
     DONE
 }
 
-/// Writes the reset that answers bytes which came from `src` to `dst`, where no end is, into the front of `out`, and tells
-/// its length (RFC 9293, 3.10.7.1). 33 where `out` has less than [`RESET_LEN`] bytes, 53 where nothing answers them: they
-/// are no segment, or a reset. `out` stays then.
+/// Writes the reset that answers bytes from `src` to `dst`, where there is no end, into the front of `out`, and reports
+/// its length (RFC 9293, 3.10.7.1). 33 where `out` has less than [`RESET_LEN`] bytes, 53 where the bytes are no
+/// segment, or a reset: then `out` is unchanged.
 #[unsafe(no_mangle)]
 pub extern "C" fn tcp_c_stray_reset(
     src: &CAddr,

@@ -1,4 +1,4 @@
-//! What is said of an end.
+//! What is reported of an end.
 ghost use Rattle.std.specs.Prelude.{◌≡◌, Some};
 ghost use Rattle.tcp_conn.specs.Status.{peer_of};
 ghost use Rattle.tcp_c.specs.Answers.{done, answer_of, number_written};
@@ -55,7 +55,7 @@ fn agreed(end: &Endpoint<Region>) -> Negotiated
     })
 }
 
-/// All zero.
+/// No status: all zero.
 fn no_status() -> CStatus
     ensures { result ≡ no_status }
 {
@@ -83,7 +83,7 @@ fn no_status() -> CStatus
     }
 }
 
-/// What is said of this end.
+/// What is reported of this end.
 fn status_of(end: &Endpoint<Region>) -> CStatus
     ensures { result ≡ status_of (Some end.now) }
 {
@@ -112,7 +112,8 @@ fn status_of(end: &Endpoint<Region>) -> CStatus
     }
 }
 
-/// The phase, the ending, the counts, the positions, and what the SYNs agreed on; all zero where there is no end.
+/// Reports the phase, the ending, the counts, the positions, and what the SYNs agreed on (RFC 9293, 3.10.6); all zero
+/// where there is no end.
 #[unsafe(no_mangle)]
 pub extern "C" fn tcp_c_status(handle: &mut Handle, status: &mut CStatus) -> u32
     ensures answer { result ≡ answer_of (λ _. done) handle.old.held.end }
@@ -128,8 +129,8 @@ pub extern "C" fn tcp_c_status(handle: &mut Handle, status: &mut CStatus) -> u32
     DONE
 }
 
-/// The peer's address and port: from `tcp_c_connect` on, or from the SYN on that came in LISTEN, and past an end too. 16
-/// before, and zeros.
+/// Reports the peer's address and port: from `tcp_c_connect` on, or from the SYN that came in LISTEN on, also after the
+/// connection has ended (RFC 9293, 3.10.6). 16, and zeros, before.
 #[unsafe(no_mangle)]
 pub extern "C" fn tcp_c_peer(handle: &mut Handle, addr: &mut CAddr, port: &mut u16) -> u32
     ensures answer { result ≡ answer_of peer_number handle.old.held.end }
@@ -153,7 +154,7 @@ pub extern "C" fn tcp_c_peer(handle: &mut Handle, addr: &mut CAddr, port: &mut u
     DONE
 }
 
-/// The length of the segment that `tcp_c_emit` would write now, 0 where none is due.
+/// Reports the length of the segment that `tcp_c_emit` would write now, 0 where none is due.
 #[unsafe(no_mangle)]
 pub extern "C" fn tcp_c_pending(handle: &mut Handle, due: &mut u32) -> u32
     ensures answer { result ≡ answer_of (λ _. done) handle.old.held.end }

@@ -19,8 +19,8 @@ pub(crate) fn timer_of(number: u32) -> Option<Timer>
     }
 }
 
-/// A timer has run out: 0 the retransmission timeout, 1 the reordering timeout, 2 the TIME-WAIT timeout (RFC 9293,
-/// 3.10.8). 54 where its rule doesn't apply, 34 at any other number, and nothing changes then.
+/// A timer has expired: 0 the retransmission timeout, 1 the reordering timeout, 2 the TIME-WAIT timeout (RFC 9293,
+/// 3.10.8). 54 where its rule doesn't apply, 34 at any other number: then nothing changes.
 #[unsafe(no_mangle)]
 pub extern "C" fn tcp_c_timer(handle: &mut Handle, timer: u32) -> u32
     ensures answer { result ≡ answer_of (timer_number (timer_of timer)) handle.old.held.end }
@@ -37,8 +37,8 @@ pub extern "C" fn tcp_c_timer(handle: &mut Handle, timer: u32) -> u32
     answer
 }
 
-/// Which timers have to run: 1 for the retransmission timeout, 2 for the reordering timeout and 4 for the TIME-WAIT
-/// timeout, added.
+/// Reports which timers have to run: the sum of 1 for the retransmission timeout, 2 for the reordering timeout and 4
+/// for the TIME-WAIT timeout (RFC 9293, 3.10.8).
 #[unsafe(no_mangle)]
 pub extern "C" fn tcp_c_timers(handle: &mut Handle, running: &mut u32) -> u32
     ensures answer { result ≡ answer_of (λ _. done) handle.old.held.end }

@@ -10,8 +10,8 @@ use crate::records::CAddr;
 use tcp_conn::{CallError, Received};
 use tcp_wire::Addr;
 
-/// Opens a connection to this address and port (RFC 9293, 3.10.1). Refused with 14 where one has ended, else with 12 in
-/// any phase but CLOSED.
+/// Opens a connection to this address and port (RFC 9293, 3.10.1). 14 where one has ended, else 12 in any phase but
+/// CLOSED.
 #[unsafe(no_mangle)]
 pub extern "C" fn tcp_c_connect(handle: &mut Handle, addr: &CAddr, port: u16) -> u32
     ensures answer { result ≡ answer_of (λ s. call_number (opening_answer s)) handle.old.held.end }
@@ -39,7 +39,7 @@ pub extern "C" fn tcp_c_listen(handle: &mut Handle) -> u32
     call_number(answer)
 }
 
-/// How many bytes `send` took, or a like call.
+/// How many bytes `send` accepted, or `consume` removed.
 pub(crate) fn taken_count(answer: &Result<usize, CallError>) -> usize
     ensures { result ≡ taken_count answer.now }
 {
@@ -49,9 +49,9 @@ pub(crate) fn taken_count(answer: &Result<usize, CallError>) -> usize
     }
 }
 
-/// Takes the front of `text` that fits the send capacity and the limit of the direction, and tells its length, 0 where
-/// the call is refused (RFC 9293, 3.10.2). Refused with 14 or 11 where there is no connection, 16 in LISTEN, 13 after a
-/// `tcp_c_close`, and 15 where the direction has carried all that it may.
+/// Accepts the longest prefix of `text` that fits the send capacity and the limit of the direction, and reports its
+/// length, 0 where the call is refused (RFC 9293, 3.10.2). 14 or 11 where there is no connection, 16 in LISTEN, 13
+/// after a `tcp_c_close`, 15 where the direction has accepted all that its limit allows.
 #[unsafe(no_mangle)]
 pub extern "C" fn tcp_c_send(handle: &mut Handle, text: &[u8], taken: &mut usize) -> u32
     ensures answer { result ≡ answer_of (λ s. call_number (send_answer s text.now)) handle.old.held.end }
@@ -68,7 +68,7 @@ pub extern "C" fn tcp_c_send(handle: &mut Handle, text: &[u8], taken: &mut usize
     call_number(answer)
 }
 
-/// How many bytes `receive` handed over.
+/// How many bytes `receive` delivered.
 fn received_count(answer: &Result<Received, CallError>) -> usize
     ensures { result ≡ received_count answer.now }
 {
@@ -78,9 +78,9 @@ fn received_count(answer: &Result<Received, CallError>) -> usize
     }
 }
 
-/// Hands over the front of the unread bytes that fits `out`, and tells its length; the rest of `out` stays (RFC 9293,
-/// 3.10.3). 51 where no byte is unread, 52 after all bytes of a peer that closed. Refused with 14 after a reset or an
-/// abort, and 11 where nothing was opened.
+/// Delivers the longest prefix of the unread bytes that fits `out`, and reports its length; the rest of `out` is
+/// unchanged (RFC 9293, 3.10.3). 51 where no byte is unread, 52 after all bytes of a peer that closed. 14 after a reset
+/// or an abort, 11 where nothing was opened.
 #[unsafe(no_mangle)]
 pub extern "C" fn tcp_c_receive(handle: &mut Handle, out: &mut [u8], count: &mut usize) -> u32
     ensures answer { result ≡ answer_of (λ s. received_number (receive_answer s (length out.old))) handle.old.held.end }
@@ -98,8 +98,8 @@ pub extern "C" fn tcp_c_receive(handle: &mut Handle, out: &mut [u8], count: &mut
     received_number(answer)
 }
 
-/// The user has the window told now: an acknowledgement is due, in ESTABLISHED, FIN-WAIT-1 and FIN-WAIT-2; in any other phase
-/// nothing changes (RFC 9293, 3.8.6.2.2).
+/// Makes an acknowledgement pending, which advertises the window as it is now, in ESTABLISHED, FIN-WAIT-1 and
+/// FIN-WAIT-2. In any other phase nothing changes (RFC 9293, 3.8.6.2.2).
 #[unsafe(no_mangle)]
 pub extern "C" fn tcp_c_acknowledge(handle: &mut Handle) -> u32
     ensures answer { result ≡ answer_of (λ _. done) handle.old.held.end }
@@ -113,8 +113,8 @@ pub extern "C" fn tcp_c_acknowledge(handle: &mut Handle) -> u32
     DONE
 }
 
-/// The user has no more to send (RFC 9293, 3.10.4). Refused with 14 or 11 where there is no connection, 13 after an
-/// earlier `tcp_c_close`.
+/// The user has no more to send (RFC 9293, 3.10.4). 14 or 11 where there is no connection, 13 after an earlier
+/// `tcp_c_close`.
 #[unsafe(no_mangle)]
 pub extern "C" fn tcp_c_close(handle: &mut Handle) -> u32
     ensures answer { result ≡ answer_of (λ s. call_number (close_answer s)) handle.old.held.end }
@@ -128,8 +128,8 @@ pub extern "C" fn tcp_c_close(handle: &mut Handle) -> u32
     call_number(answer)
 }
 
-/// Gives the connection up, with a reset to a peer that may know of it (RFC 9293, 3.10.5). Refused with 14 or 11 where
-/// there is no connection.
+/// Aborts the connection, with a reset to a peer that may know of it (RFC 9293, 3.10.5). 14 or 11 where there is no
+/// connection.
 #[unsafe(no_mangle)]
 pub extern "C" fn tcp_c_abort(handle: &mut Handle) -> u32
     ensures answer { result ≡ answer_of (λ s. call_number (abort_answer s)) handle.old.held.end }

@@ -11,8 +11,9 @@ use crate::records::{CAddr, CTaken};
 use crate::reports::{brought_number, no_taken, rule_told};
 use tcp_wire::Addr;
 
-/// Takes bytes whose checksum a device has found right, and doesn't sum them: answer and end are those of `tcp_c_arrive` with the
-/// checksum field that makes the bytes check (RFC 9293, 3.1 and 3.10.7). Never 3.
+/// Takes bytes whose checksum a device has found right, and doesn't sum them. Answer and end are those of
+/// `tcp_c_arrive` for the same bytes with the checksum field that is right for them (RFC 9293, 3.1 and 3.10.7). The
+/// answer is never 3.
 #[unsafe(no_mangle)]
 pub extern "C" fn tcp_c_arrive_vouched(
     handle: &mut Handle,
@@ -31,7 +32,7 @@ pub extern "C" fn tcp_c_arrive_vouched(
     arrival_number(answer)
 }
 
-/// The same, with the report of `tcp_c_taken`.
+/// Takes bytes as `tcp_c_arrive_vouched` does, with the report of `tcp_c_taken`.
 #[unsafe(no_mangle)]
 pub extern "C" fn tcp_c_taken_vouched(
     handle: &mut Handle,

@@ -1,6 +1,6 @@
-//! `tcpkit decode FILE` tells what the segments of a list say, and which are malformed. `tcpkit replay FILE`
-//! replays a script of losses, repeats, reorderings and damage between the two ends of one TCP connection, and
-//! reports what came of each event.
+//! `tcpkit decode FILE` reports the content of the segments of a list, and which are malformed. `tcpkit replay FILE`
+//! replays a script of losses, repeats, reorderings and damage between the two ends of one TCP connection, and reports
+//! the outcome of each event.
 #![tactic(auto)]
 
 mod program;

@@ -67,7 +67,7 @@ fn work_by_words(rt: &(impl Env + Files + Print + AllocGlobal)) -> Result<bool, 
     work(rt, &job).map_err(Fault::Tool)
 }
 
-/// Does what the words ask for, and answers the exit status. A fault is reported by one line on standard error.
+/// Does what the words request, and returns the exit status. A fault is reported by one line on standard error.
 pub(crate) fn run(rt: &(impl Env + Files + Print + Eprint + AllocGlobal)) -> u8 {
     let answer = work_by_words(rt);
     if let Err(fault) = &answer {

@@ -1,4 +1,4 @@
-//! The buffer that lines speak of.
+//! The buffer that lines call.
 use crate::inbox::{answer_inbox, new_inbox};
 use crate::queue::{answer_queue, new_queue};
 use kit_text::{LineError, SPACE, cut};
@@ -12,7 +12,7 @@ pub(crate) enum Buffer {
     Inbox(Reassembly),
 }
 
-/// Takes a line's call, and answers the buffer after it.
+/// Makes a line's call, and returns the buffer after it.
 pub(crate) fn answer_line(
     alloc: Global,
     buffer: Option<Buffer>,

@@ -56,7 +56,7 @@ pub(crate) fn answer_inbox(
     Ok(())
 }
 
-/// The offset that a word writes; one before the next byte in order has a minus sign.
+/// The offset that a word writes; one before RCV.NXT has a minus sign.
 fn read_offset(word: &[u8]) -> Result<i64, LineError> {
     match word {
         [b'-', digits @ ..] => Ok(-(number(digits)? as i64)),

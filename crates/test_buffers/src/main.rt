@@ -1,7 +1,7 @@
-//! Both buffers of an end, for tests: reads calls, a line each, and answers each. `queue CAPACITY` and `inbox CAPACITY` begin with
-//! another send queue or reassembly, or answer why there is none. A queue takes `offer HEX`, `release N`, `copy AT N`, `mark FROM TO`,
-//! `forget`, `unmarked AT`, `marked` (the end of the last mark) and `state`; a reassembly takes `place OFFSET HEX` or `place -BEFORE HEX`, `read N`,
-//! `blocks`, `clear`, `clear_held` and `state`.
+//! Both buffers of an end, for tests: reads calls, a line each, and answers each. `queue CAPACITY` and `inbox CAPACITY`
+//! begin with another send queue or reassembly, or answer why there is none. A queue takes `offer HEX`, `release N`,
+//! `copy AT N`, `mark FROM TO`, `forget`, `unmarked AT`, `marked` (the end of the last mark) and `state`. A reassembly
+//! takes `place OFFSET HEX` or `place -BEFORE HEX`, `read N`, `blocks`, `clear`, `clear_held` and `state`.
 #![tactic(auto)]
 
 mod buffer;
@@ -13,7 +13,7 @@ use kit_io::{Counted, read_all};
 use kit_text::{LineError, Lines};
 use std::process::ExitCode;
 
-/// Takes every line in turn, and answers what is written of them.
+/// Makes the call of every line in order, and returns the answers.
 fn answer_lines(rt: &impl AllocGlobal, text: &[u8]) -> Result<String, LineError> {
     let mut answers = String::new(rt.alloc());
     let mut buffer = None;

@@ -1,4 +1,4 @@
-//! The calls of a send queue. A call that asks for more than the queue has is answered by `outside`, and isn't made.
+//! The calls of a send queue. A call that requests more than the queue has is answered by `outside`, and isn't made.
 use crate::buffer::Buffer;
 use crate::words::{number, two_numbers};
 use kit_text::{LineError, push_bytes, read_bytes};

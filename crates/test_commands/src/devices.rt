@@ -1,8 +1,8 @@
-//! Readers and writers that fail, or that take little at a time.
+//! Readers and writers that fail, or that take few bytes at a time.
 use std::io;
 use std::io::{Read, Write};
 
-/// Gives its bytes in pieces.
+/// Returns its bytes in pieces.
 #[derive(Drop)]
 pub(crate) struct Reader<'a> {
     pub(crate) rest: &'a [u8],
@@ -33,7 +33,7 @@ pub(crate) enum Trouble {
     Nothing,
     /// The write of this number fails, counted from 0.
     FailsAt(usize),
-    /// It takes nothing.
+    /// It writes nothing.
     TakesNothingAt(usize),
     FlushFails,
 }

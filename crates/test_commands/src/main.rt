@@ -1,5 +1,5 @@
-//! The program's commands over readers and writers that fail or take little at a time: each line that comes in is a
-//! row, which the module `rows` describes. Before the rows: how many events a script has, and the line of each fault.
+//! The program's commands over readers and writers that fail or take few bytes at a time: each input line is a row,
+//! which the module `rows` describes. Before the rows: how many events a script has, and the line of each fault.
 #![tactic(auto)]
 
 mod devices;

@@ -1,6 +1,6 @@
 //! A row: `COMMAND READ-PIECE READ-FAULT WRITE-PIECE WRITE-FAULT AT`. The command `replay` is run on a connection of
 //! thirty events, `show` on eight segments, and `show-bad` on a list with a bad line. A fault is `-` where there is
-//! none; that of a reader is the number of the read that fails, that of a writer `fails`, `nothing` (it takes nothing)
+//! none. That of a reader is the number of the read that fails; that of a writer `fails`, `nothing` (it writes nothing)
 //! or `flush`, the first two at the write of the number AT. Calls are counted from 0.
 use crate::devices::{Reader, Trouble, Writer};
 use crate::texts::{BAD_LIST, BEFORE_BAD_LINE, CONNECTION, LISTING, REPORT, SEGMENTS};
@@ -10,7 +10,7 @@ use kit_text::{SPACE, cut, read_number};
 use std::alloc::Global;
 use std::io;
 
-/// A command, what it reads, and what it is to write where nothing fails.
+/// A command, what it reads, and what it has to write where nothing fails.
 #[derive(Clone, Copy)]
 struct Job {
     is_replay: bool,
@@ -18,7 +18,7 @@ struct Job {
     wanted: &'static str,
 }
 
-/// What a row asks for.
+/// The content of a row.
 #[derive(Clone, Copy)]
 struct Row {
     job: Job,
@@ -28,7 +28,7 @@ struct Row {
     trouble: Trouble,
 }
 
-/// What came of it.
+/// The outcome.
 #[derive(Drop)]
 struct Outcome {
     answer: Result<bool, ToolError>,
@@ -129,7 +129,7 @@ fn print_outcome(rt: &impl Print, row: Row, outcome: &Outcome) -> io::Result<()>
     println!(rt; ", {count} bytes written, {share}, {reads} reads, {writes} writes")
 }
 
-/// Runs the row of a line, and prints the line and what came of it.
+/// Runs the row of a line, and prints the line and the outcome.
 pub(crate) fn print_row(rt: &(impl Print + AllocGlobal), line: &[u8]) -> io::Result<()> {
     let Some(row) = read_row(line) else {
         return Err(io::Error::from(io::ErrorKind::InvalidData));

@@ -1,4 +1,4 @@
-//! What the commands read, and what they are to write.
+//! What the commands read, and what they have to write.
 
 /// A handshake, three bytes each way, and an orderly close (RFC 9293, 3.5 and 3.6).
 pub(crate) const CONNECTION: &str = "\
@@ -34,7 +34,7 @@ deliver A 5
 timer A timewait
 ";
 
-/// What is written of it.
+/// What is written for it.
 pub(crate) const REPORT: &str = "\
 1 listen B ok LISTEN
 2 connect A ok SYN-SENT
@@ -91,7 +91,7 @@ pub(crate) const SEGMENTS: &str = "\
 0000001000000020000000300000004000000050000000600000007000000080
 ";
 
-/// What is written of them.
+/// What is written for them.
 pub(crate) const LISTING: &str = "\
 2 1 > 2 seq 0 ack 0 reserved 0 flags SYN window 4096 urgent 0 options - pad 0 text -
 4 1 > 2 seq 0 ack 0 reserved 0 flags SYN window 39901 urgent 0 options - pad 0 text -

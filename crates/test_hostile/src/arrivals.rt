@@ -5,7 +5,7 @@ use std::alloc::{AllocError, Global};
 use tcp_replay::SoloEvent;
 use tcp_wire::{Addr, Flags, Seq};
 
-/// The numbers behind either SYN, and the greatest window of the end.
+/// The numbers after either SYN, and the greatest window of the end.
 #[derive(Clone, Copy)]
 pub(crate) struct Numbers {
     pub(crate) own: Seq,
@@ -20,7 +20,7 @@ const FLAGS: &[u32] = &[
     16, 16, 16, 16, 16, 16, 24, 17, 17, 16, 16, 16, 2, 18, 0, 1, 4, 20, 8, 48,
 ];
 
-/// The distance of one before.
+/// The distance of the number before.
 const ONE_BEFORE: u32 = u32::MAX;
 
 const HALF: u32 = 1 << 31;

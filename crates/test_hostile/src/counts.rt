@@ -12,7 +12,7 @@ impl Count {
     }
 }
 
-/// What the checks of the facts looked at, and how often one didn't hold.
+/// What the checks of the facts looked at, and how often a fact didn't hold.
 #[derive(Clone, Copy, Default)]
 pub(crate) struct Checked {
     pub(crate) emitted: Count,
@@ -22,9 +22,9 @@ pub(crate) struct Checked {
     pub(crate) handed_over: Count,
     /// Segments with text or FIN that aren't the user's.
     pub(crate) sends_others: Count,
-    /// Bytes that didn't come.
+    /// Bytes delivered that didn't come.
     pub(crate) hands_over_others: Count,
-    /// Segments that acknowledge another number than that of the next byte in order.
+    /// Segments that acknowledge another number than RCV.NXT.
     pub(crate) acknowledges_others: Count,
 }
 

@@ -1,5 +1,5 @@
-//! What holds of one end, whoever sends to it, counted on its log by plain code:
-//! what it sends is its user's, what it hands over came, and what it acknowledges is in order.
+//! The facts of one end, whoever sends to it, checked on its log by plain code: what it sends is its user's, what it
+//! delivers came, and what it acknowledges is in order.
 use crate::counts::Checked;
 use std::alloc::AllocError;
 use tcp_conn::{Arrival, CallError, Config, Phase, Received};
@@ -21,7 +21,7 @@ pub(crate) struct Watch {
     phase: Phase,
     ordered: u64,
     unread: usize,
-    /// The place and the value of each byte that came acceptably.
+    /// The offset and the value of each byte that came in an acceptable segment.
     came: Vec<(u32, u8)>,
 }
 
@@ -32,7 +32,7 @@ fn is_fin_taken(phase: Phase) -> bool {
     )
 }
 
-/// Whether the peer's SYN was taken by what led from one phase to the other.
+/// Whether the step from one phase to the other took the peer's SYN.
 fn takes_syn(before: Phase, after: Phase) -> bool {
     matches!(before, Phase::Listen | Phase::SynSent)
         && matches!(after, Phase::SynReceived | Phase::Established)
@@ -50,7 +50,8 @@ fn count_of(segment: &Segment<'_>) -> u32 {
     number_of(segment.text.len()).wrapping_add(bits)
 }
 
-/// Whether the first or the last number of a segment lies in the window; of none, its place (RFC 9293, 3.10.7.4).
+/// Whether the first or the last number of a segment lies in the window; of a segment without numbers, its SEG.SEQ (RFC
+/// 9293, 3.10.7.4).
 fn is_acceptable(segment: &Segment<'_>, next: Seq, window: u32) -> bool {
     let seq = segment.header.seq;
     let count = count_of(segment);
@@ -60,7 +61,7 @@ fn is_acceptable(segment: &Segment<'_>, next: Seq, window: u32) -> bool {
     seq.in_window(next, window) || seq.plus(count - 1).in_window(next, window)
 }
 
-/// Whether these bytes stand at a place of the stream, counted from 1.
+/// Whether these bytes are at an offset of the stream, counted from 1.
 fn stands_at(stream: &[u8], place: usize, text: &[u8]) -> bool {
     match place.checked_sub(1) {
         Some(from) => stream.get(from..from.saturating_add(text.len())) == Some(text),
@@ -126,7 +127,7 @@ impl Watch {
             .add(usize::from(!self.is_in_order(&segment)));
     }
 
-    /// Keeps each byte of a text by its place.
+    /// Keeps each byte of a text by its offset.
     fn keep(&mut self, place: u32, text: &[u8]) -> Result<(), AllocError> {
         for (i, byte) in text.iter().enumerate() {
             self.came.reserve(1)?;
@@ -154,7 +155,7 @@ impl Watch {
         Ok(())
     }
 
-    /// Bytes that were handed over, the last ones of all.
+    /// Checks bytes that were delivered, the last ones of all.
     fn see_handed(&self, delivered: &[u8], count: usize, checked: &mut Checked) {
         let from = delivered.len().saturating_sub(count);
         checked.handed_over.add(count);
@@ -164,7 +165,7 @@ impl Watch {
         }
     }
 
-    /// What an event and its outcome tell.
+    /// Checks an event and its outcome.
     fn see_outcome(
         &mut self,
         event: &SoloEvent,

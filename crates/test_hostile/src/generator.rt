@@ -32,7 +32,7 @@ impl Generator {
         choices.get(index).copied().unwrap_or(0)
     }
 
-    /// Whether a chance of one in so many comes.
+    /// True with a chance of one in `count`.
     pub(crate) fn one_in(&mut self, count: u32) -> bool {
         self.below(count) == 0
     }

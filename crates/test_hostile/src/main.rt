@@ -1,9 +1,9 @@
 //! One end against anyone: streams of calls, timers, emissions and arrivals, made by a fixed generator, in each of the
 //! eleven phases. Each arriving segment is answered. On the log up to each event plain code checks three facts: what
-//! the end sends is its user's, what it hands over came in an acceptable segment, and what it acknowledges is in order.
+//! the end sends is its user's, what it delivers came in an acceptable segment, and what it acknowledges is in order.
 //! What is printed first is how many arrivals were answered in which way; then how often a fact didn't hold, which is
-//! never; then the same where the checks take either initial number for one more than it is, which is to be found; and last
-//! how often what rests in the place of an end in TIME-WAIT differed from the end, which is never.
+//! never. Then it is printed for checks that take either initial number for one more than it is, which has to be found.
+//! Last comes how often a TIME-WAIT record differed from its end, which is never.
 #![tactic(auto)]
 
 mod arrivals;
@@ -31,7 +31,7 @@ const STREAMS: u32 = 1000;
 struct Tally {
     arrivals: Arrivals,
     checked: Checked,
-    /// By checks that take either initial number for one more.
+    /// By checks that take either initial number for one more than it is.
     skewed: Checked,
 }
 
@@ -108,7 +108,7 @@ fn run_streams(alloc: Global, tally: &mut Tally) -> Result<(), AllocError> {
     Ok(())
 }
 
-/// What rested in the own end's place, and what did in another's.
+/// Prints what became of the record of the same end, and of the record of another.
 fn print_rests(rt: &impl Print, right: &Rested, wrong: &Rested) -> io::Result<()> {
     right.print(rt)?;
     println!(rt; "in another's place:")?;
@@ -124,7 +124,7 @@ fn print_counts(rt: &impl Print, tally: &Tally) -> io::Result<()> {
     tally.skewed.print_violations(rt)
 }
 
-/// Each end beside what rests, and what came of it.
+/// Runs each end beside a TIME-WAIT record, and prints the outcome.
 fn show_rests(rt: &(impl Print + AllocGlobal)) -> ExitCode {
     let (Ok(right), Ok(wrong)) = (run_rests(rt.alloc()), run_wrong_rests(rt.alloc())) else {
         return ExitCode::FAILURE;

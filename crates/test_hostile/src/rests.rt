@@ -1,4 +1,4 @@
-//! An end in TIME-WAIT beside what rests in its place: the same arrivals, timers, emissions and aborts for both.
+//! An end in TIME-WAIT beside its TIME-WAIT record: the same arrivals, timers, emissions and aborts for both.
 use crate::arrivals::next_arrival;
 use crate::generator::Generator;
 use crate::streams::{Stream, stream_of};
@@ -9,7 +9,7 @@ use tcp_replay::{SoloEvent, solo};
 
 const STREAMS: u32 = 1000;
 
-/// How many ways the streams take in turn; this one leads to TIME-WAIT.
+/// How many ways to a phase the streams take in turn; this one leads to TIME-WAIT.
 const WAYS_COUNT: u32 = 12;
 
 const TIME_WAIT: u32 = 11;
@@ -20,7 +20,7 @@ const ROUNDS: u32 = 60;
 /// What is counted.
 #[derive(Clone, Copy, Default)]
 pub(crate) struct Rested {
-    /// Ends that could rest, of those on the way to TIME-WAIT, and of the others.
+    /// Ends whose place a record could take, of those on the way to TIME-WAIT, and of the others.
     in_time_wait: u32,
     elsewhere: u32,
     arrivals: u32,
@@ -113,7 +113,7 @@ fn call_both(end: &mut Endpoint, rest: &mut Rest, choice: u32, rested: &mut Rest
     rested.compare(end.ending() == rest.ending());
 }
 
-/// The same for an end and for what rests in its place, or in another's.
+/// Runs an end and a TIME-WAIT record, its own or another's, through the same stream.
 fn run_both(
     alloc: Global,
     stream: &Stream,
@@ -137,7 +137,7 @@ fn run_both(
     Ok(())
 }
 
-/// What rests in the place of the end of a stream, if it can.
+/// The TIME-WAIT record of the end of a stream, if there is one.
 fn rest_of(alloc: Global, stream: &Stream) -> Result<Option<Rest>, AllocError> {
     let Some(way) = stream.events.get(..stream.start) else {
         return Err(AllocError);
@@ -148,7 +148,7 @@ fn rest_of(alloc: Global, stream: &Stream) -> Result<Option<Rest>, AllocError> {
     }
 }
 
-/// Leads an end to its phase, and runs it beside this rest.
+/// Leads an end to its phase, and runs it beside this record.
 fn run_beside(
     alloc: Global,
     stream: &Stream,
@@ -164,7 +164,7 @@ fn run_beside(
     }
 }
 
-/// The end of this stream beside what rests in the place of another's.
+/// Runs the end of this stream beside the record of another's.
 fn run_number(
     alloc: Global,
     number: u32,
@@ -180,7 +180,7 @@ fn run_number(
     run_beside(alloc, &stream, &mut rest, rested)
 }
 
-/// Every stream, each end beside what rests in its own place.
+/// Every stream, each end beside its own record.
 pub(crate) fn run_rests(alloc: Global) -> Result<Rested, AllocError> {
     let mut rested = Rested::default();
     for number in 0..STREAMS {
@@ -189,7 +189,7 @@ pub(crate) fn run_rests(alloc: Global) -> Result<Rested, AllocError> {
     Ok(rested)
 }
 
-/// The same beside what rests in the place of the next end that leads to the same phase.
+/// Every stream, each end beside the record of the next end that leads to the same phase.
 pub(crate) fn run_wrong_rests(alloc: Global) -> Result<Rested, AllocError> {
     let mut rested = Rested::default();
     for number in 0..STREAMS {

@@ -78,7 +78,7 @@ impl Parts<'_> {
     }
 }
 
-/// Writes the checksum with which the segment checks, where it has the length of one.
+/// Writes the right checksum, where the bytes have the length of a segment.
 pub(crate) fn mend(bytes: &mut [u8]) {
     if bytes.len() < 20 || bytes.len() > 65_515 {
         return;

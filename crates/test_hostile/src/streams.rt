@@ -7,10 +7,10 @@ use tcp_conn::{Config, DEFAULT_LIMIT, Timer};
 use tcp_replay::SoloEvent;
 use tcp_wire::{Flags, Seq};
 
-/// How many arrivals come behind the way to a phase.
+/// How many arrivals follow the way to a phase.
 const ARRIVALS: u32 = 10;
 
-/// What an end is made from, and what happens to it.
+/// The Config of an end, and its events.
 #[derive(Drop)]
 pub(crate) struct Stream {
     pub(crate) config: Config,
@@ -69,7 +69,7 @@ fn add(events: &mut Vec<SoloEvent>, event: SoloEvent) -> Result<(), AllocError> 
     Ok(())
 }
 
-/// A segment of the peer, whose numbers are counted from behind either SYN.
+/// A segment of the peer, whose numbers are counted from after either SYN.
 fn from_peer(
     alloc: Global,
     numbers: Numbers,

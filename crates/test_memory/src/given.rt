@@ -1,10 +1,10 @@
-//! Two ends and a list of events, as a script has them.
+//! Two ends and a list of events, as in a script.
 use kit_script::Script;
 use std::alloc::{AllocError, Global};
 use tcp_conn::Config;
 use tcp_replay::Event;
 
-/// What the ends are made from, and the events between them.
+/// The Configs of the ends, and the events between them.
 #[derive(Drop)]
 pub(crate) struct Given {
     pub(crate) a: Config,

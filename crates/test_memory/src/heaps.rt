@@ -1,15 +1,15 @@
-//! A heap that has little left.
+//! A heap that has little memory left.
 use linked_list_allocator::LocalHeap;
 use std::alloc::{AllocError, Global};
 
-/// The bytes of a heap, which hold two ends of small capacities and a few segments.
+/// The size of a heap in bytes: enough for two ends of small capacities and a few segments.
 const SIZE: usize = 8192;
 
 pub(crate) fn new_heap(alloc: Global) -> Option<LocalHeap> {
     LocalHeap::new(alloc, SIZE).ok()
 }
 
-/// Takes 16 bytes of a heap at a time, until there are none, and gives back so many of these blocks.
+/// Allocates 16 bytes of a heap at a time, until there are none, and frees `blocks` of these blocks.
 pub(crate) fn leave<'a>(
     alloc: Global,
     heap: &'a LocalHeap,

@@ -1,8 +1,8 @@
 //! Each allocation in turn is refused, on heaps with 16 bytes more each time: in making a queue, a reassembly, an end
-//! and a world, in `solo` and `read_script`, in a step on each kind of event, and in a run. Where making is refused it is by 22. A
-//! refused step is 34, changes nothing that can be seen, and with memory has the outcome that it would have had at
-//! first; a run stops behind the events that it did, and goes on with memory. Each line that comes in is an event,
-//! which is stepped behind a handshake with text that each side sent.
+//! and a world, in `solo` and `read_script`, in a step on each kind of event, and in a run. Where making is refused it
+//! is by 22. A refused step is 34, changes nothing that can be observed, and with memory has the outcome that it would
+//! have had at first. A run stops after the events that it did, and continues with memory. Each input line is an event,
+//! which is stepped after a handshake with text that each side sent.
 #![tactic(auto)]
 
 mod given;
@@ -24,7 +24,7 @@ use tcp_conn::{Config, DEFAULT_LIMIT};
 use tcp_replay::{Event, Side};
 use tcp_wire::{Addr, Seq};
 
-/// What an end is made from.
+/// The Config of an end.
 pub(crate) const CONFIG: Config = Config {
     addr: Addr([10, 0, 0, 2]),
     port: 2,
@@ -37,7 +37,7 @@ pub(crate) const CONFIG: Config = Config {
     limit: DEFAULT_LIMIT,
 };
 
-/// What stands before an event: B has text to read, A text to send, and a segment of B is on its way.
+/// The events before an event: B has text to read, A text to send, and a segment of B is on its way.
 pub(crate) const BASE: &str = "\
 config A send 64
 config A recv 64
@@ -59,7 +59,7 @@ emit B
 send A 6768
 ";
 
-/// The ends and events of what stands before an event, and of this.
+/// The ends, the events before an event, and this event.
 fn given_of(rt: &impl AllocGlobal, line: &str) -> Option<Given> {
     let mut text = String::new(rt.alloc());
     text.push_str(BASE).ok()?;
@@ -68,7 +68,7 @@ fn given_of(rt: &impl AllocGlobal, line: &str) -> Option<Given> {
     Given::new(rt.alloc(), script).ok()
 }
 
-/// The same before a call that no line of a script asks for.
+/// The ends and events before a call for which a script has no line.
 fn given_acknowledge(rt: &impl AllocGlobal) -> Option<Given> {
     let mut given = given_of(rt, "")?;
     given.events.push(Event::Acknowledge(Side::B)).ok()?;

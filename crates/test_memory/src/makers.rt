@@ -18,7 +18,8 @@ enum Kind {
     WorldWithLifetime,
 }
 
-/// Whether the thing is made on this heap, or refused for want of memory; None where it is refused for anything else.
+/// Whether the value is made on this heap, or refused because there is no memory; `None` where it is refused for
+/// anything else.
 fn is_made(heap: &LocalHeap, kind: Kind) -> Option<bool> {
     match kind {
         Kind::Queue => is_queue_made(heap),

@@ -1,18 +1,18 @@
-//! A run that stops for want of memory, and goes on with it.
+//! A run that stops where there is no memory, and continues with it.
 use crate::given::Given;
 use crate::heaps::{leave, new_heap};
 use crate::seen::{Seen, see};
 use std::alloc::{Allocator, Global};
 use tcp_replay::{StepError, World};
 
-/// What is seen behind the first events where there is memory.
+/// What is observed after the first events where there is memory.
 fn seen_behind(alloc: Global, given: &Given, count: usize) -> Option<Seen> {
     let mut world = World::new(alloc, given.a, given.b).ok()?;
     world.run(given.events.get(..count)?).ok()?;
     Some(see(&world))
 }
 
-/// Where a run stops, what is seen then, and at last, with memory.
+/// Where a run stops, what is observed then, and at the end, with memory.
 #[derive(Clone, Copy)]
 struct Stop {
     at: Option<usize>,
@@ -38,8 +38,8 @@ fn try_run(alloc: Global, given: &Given, blocks: usize) -> Option<Stop> {
     Some(Stop { at, seen, last })
 }
 
-/// How often a run of all events stops, with a block more left each time, until there is enough; None where the events
-/// before the stop weren't done exactly, or where the run goes on otherwise with memory.
+/// How often a run of all events stops, with a block more left each time, until there is enough. `None` where the
+/// events before the stop weren't done exactly, or where the run continues otherwise with memory.
 pub(crate) fn count_stops(alloc: Global, given: &Given) -> Option<usize> {
     let wanted = seen_behind(alloc, given, given.events.len())?;
     for blocks in 0..256usize {

@@ -28,8 +28,8 @@ fn is_same(script: &Script<&LocalHeap>, wanted: &Script) -> bool {
             .all(|(turn, other)| turn.times == other.times)
 }
 
-/// Whether the text is read on this heap as with memory, or refused for want of memory; None where it is refused for anything
-/// else, or read otherwise.
+/// Whether the text is read on this heap as with memory, or refused because there is no memory; `None` where it is
+/// refused for anything else, or read otherwise.
 fn is_read(heap: &LocalHeap, text: &str, wanted: &Script) -> Option<bool> {
     match read_script(heap, text) {
         Ok(script) if is_same(&script, wanted) => Some(true),

@@ -1,4 +1,4 @@
-//! What can be seen of two ends.
+//! What can be observed of two ends.
 use std::alloc::Allocator;
 use tcp_conn::{Ending, Phase};
 use tcp_replay::{Side, World};

@@ -1,28 +1,28 @@
-//! One event on a world whose heap has too little left, and the same event again with memory.
+//! One event on a world whose heap has too little left, and that event again with memory.
 use crate::given::Given;
 use crate::heaps::{leave, new_heap};
 use crate::seen::{Seen, see};
 use std::alloc::Global;
 use tcp_replay::{Event, Outcome, StepError, World};
 
-/// What came of an event.
+/// The outcome of an event.
 #[derive(Clone, Copy, PartialEq)]
 struct Answer {
     outcome: Outcome,
     seen: Seen,
 }
 
-/// What came of an event with so many blocks left.
+/// The outcome of an event with some blocks left.
 #[derive(Clone, Copy)]
 struct Tried {
     is_refused: bool,
     /// Whether nothing had changed.
     is_kept: bool,
-    /// What came of it then, with memory where it was refused.
+    /// The outcome then, with memory where it was refused.
     answer: Answer,
 }
 
-/// What comes of the last event where there is memory.
+/// The outcome of the last event where there is memory.
 fn answer_with_memory(alloc: Global, given: &Given) -> Option<Answer> {
     let (last, base) = given.events.split_last()?;
     let mut world = World::new(alloc, given.a, given.b).ok()?;
@@ -32,7 +32,7 @@ fn answer_with_memory(alloc: Global, given: &Given) -> Option<Answer> {
     Some(Answer { outcome, seen })
 }
 
-/// Tries the event with so many blocks left, and then, where it was refused by 34, with memory.
+/// Tries the event with some blocks left, and then, where it was refused by 34, with memory.
 fn try_event(
     alloc: Global,
     given: &Given,
@@ -63,7 +63,7 @@ fn try_event(
     })
 }
 
-/// How often the last event is refused, with a block more left each time, until there is enough; None where a refusal
+/// How often the last event is refused, with a block more left each time, until there is enough. `None` where a refusal
 /// changed anything, or where the outcome isn't the one with memory.
 pub(crate) fn count_refusals(alloc: Global, given: &Given) -> Option<usize> {
     let wanted = answer_with_memory(alloc, given)?;

@@ -48,7 +48,7 @@ struct Refusals {
     last: usize,
 }
 
-/// Whether two logs tell the same.
+/// Whether two logs are the same.
 fn is_same(log: &SoloLog<&LocalHeap>, wanted: &SoloLog) -> bool {
     log.accepted.as_slice() == wanted.accepted.as_slice()
         && log.delivered.as_slice() == wanted.delivered.as_slice()
@@ -58,7 +58,7 @@ fn is_same(log: &SoloLog<&LocalHeap>, wanted: &SoloLog) -> bool {
         && log.endpoint.phase() == wanted.endpoint.phase()
 }
 
-/// Whether the log is the wanted one on this heap; otherwise counts the refusal. None where it is another log or
+/// Whether the log is the wanted one on this heap; otherwise counts the refusal. `None` where it is another log or
 /// refusal, or an earlier event than on a smaller heap.
 fn try_solo(
     heap: &LocalHeap,

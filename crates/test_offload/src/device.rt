@@ -26,7 +26,7 @@ pub(crate) fn complete(bytes: &mut [u8]) {
     }
 }
 
-/// Breaks the checksum field, which a device has checked.
+/// Spoils the checksum field, which a device has checked.
 pub(crate) fn spoil(bytes: &mut [u8]) {
     if let Some(place) = bytes.get_mut(16) {
         *place ^= 255;

@@ -1,5 +1,5 @@
-//! A program of the tests: two ends whose segments are lent or summed by a device, beside two ends that copy and sum themselves. Each
-//! emission and each reading is the same.
+//! A program of the tests: two ends whose segments are lent or summed by a device, beside two ends that copy and sum
+//! themselves. Each emission and each reading is the same.
 #![tactic(auto)]
 
 mod device;
@@ -12,7 +12,7 @@ use tcp_wire::{Addr, Seq};
 
 const TEXT: &[u8] = b"one line of text, and a second one behind it";
 
-/// An end at 10.0.0.`host`, port `host`, with buffers of 50 bytes, over whose ends a text goes on soon.
+/// An end at 10.0.0.`host`, port `host`, with buffers of 50 bytes, over whose ends a text soon continues.
 fn new_end(alloc: Global, host: u8) -> Result<Endpoint, ConfigError> {
     let mut config = Config::new(Addr([10, 0, 0, host]), u16::from(host), Seq(4_294_967_290));
     config.send_capacity = 50;
@@ -51,7 +51,7 @@ struct Twins {
     lent: Endpoint,
 }
 
-/// Carries all that is due from one to the other, and answers whether each emission was the same.
+/// Carries all that is due from one to the other, and returns whether each emission was the same.
 fn carry(alloc: Global, from: &mut Twins, to: &mut Twins) -> Result<bool, AllocError> {
     let mut room = [0u8; EMIT_ROOM];
     let mut bytes = Vec::new(alloc);
@@ -127,7 +127,8 @@ fn send_text(alloc: Global, a: &mut Twins, b: &mut Twins) -> Option<usize> {
     Some(total)
 }
 
-/// Sends the text three times from one to the other, over the ends of their buffers; how many bytes came, if all was the same.
+/// Sends the text three times from one to the other, over the ends of their buffers; how many bytes came, if all was
+/// the same.
 fn talk(alloc: Global, a: &mut Twins, b: &mut Twins) -> Option<usize> {
     if !open(a, b) {
         return None;

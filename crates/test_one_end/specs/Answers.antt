@@ -1,4 +1,4 @@
--- What is printed of a line.
+-- What is printed for a line.
 use Rattle.std.specs.Prelude.{ℕ, List, [], ◌∷◌, ◌++◌, length, codes, decimal, Result, Ok, Err}
 use Rattle.tcp_conn.specs.declared.outcome.CallError.{CallError}
 use Rattle.tcp_conn.specs.Outcome.{call_error_number}
@@ -6,7 +6,7 @@ use Rattle.tcp_conn.specs.State.{State}
 use Rattle.tcp_conn.specs.Names.{phase_name, ending_name}
 use Rattle.kit_report.specs.Answers.{refused_text}
 
--- a call that answers nothing but its refusal
+-- a call that returns nothing but its refusal
 abbrev pub call_text : Result (Unit {0}) CallError → List ℕ
 call_text (Ok done) = codes "ok"
 call_text (Err e) = refused_text (call_error_number e)

@@ -1,4 +1,4 @@
-//! What the answers of kit_report leave out: a call that answers nothing, and where the end is after it.
+//! What the answers of kit_report leave out: a call that returns nothing, and the state of the end after it.
 ghost use Rattle.std.specs.Prelude.{◌≡◌, ◌++◌, OnOk, string_bytes};
 ghost use Rattle.test_one_end.specs.Answers.{call_text, state_text};
 

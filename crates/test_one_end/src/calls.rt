@@ -1,4 +1,4 @@
-//! What the log of the lines so far tells of the last one.
+//! What the log of the lines up to now reports of the last one.
 use crate::answers::{push_call, push_state};
 use kit_report::{push_arrival, push_receive, push_segment, push_send};
 use kit_text::{LineError, push_bytes};
@@ -15,7 +15,7 @@ pub(crate) fn push_timers(text: &mut String, end: &Endpoint) -> Result<(), LineE
     Ok(())
 }
 
-/// The bytes that a `receive` with this answer put out: the last ones of what was handed over.
+/// The bytes that a `receive` with this answer delivered: the last ones of all that were delivered.
 fn handed_over(delivered: &[u8], answer: Result<Received, CallError>) -> &[u8] {
     let count = match answer {
         Ok(Received::Bytes(count)) => count,
@@ -24,7 +24,7 @@ fn handed_over(delivered: &[u8], answer: Result<Received, CallError>) -> &[u8] {
     &delivered[delivered.len().saturating_sub(count)..]
 }
 
-/// Appends where a segment goes, and what it says or its bytes.
+/// Appends where a segment goes, and its content or its bytes.
 fn push_emitted(
     alloc: Global,
     text: &mut String,
@@ -76,8 +76,8 @@ fn push_outcome(
     Ok(())
 }
 
-/// Appends what came of the last event, and where the end is after it. A segment is told by its bytes where these are
-/// asked for.
+/// Appends the outcome of the last event, and the state of the end after it. A segment is printed by its bytes where
+/// these are requested.
 pub(crate) fn push_last(
     alloc: Global,
     text: &mut String,

@@ -5,7 +5,7 @@ use std::alloc::Global;
 use tcp_replay::SoloEvent;
 use tcp_wire::Addr;
 
-/// The greatest count that a line asks to receive.
+/// The greatest count that a line requests to receive.
 const MAX_RECEIVE: u64 = 1_048_576;
 
 fn read_arrival(alloc: Global, words: &[u8]) -> Result<SoloEvent, LineError> {
@@ -22,7 +22,7 @@ fn read_receive(word: &[u8]) -> Result<SoloEvent, LineError> {
     Ok(SoloEvent::Receive(room as usize))
 }
 
-/// The event of a line's first word, and of what stands behind it.
+/// The event of a line's first word, and of what follows it.
 pub(crate) fn read_event(alloc: Global, word: &[u8], rest: &[u8]) -> Result<SoloEvent, LineError> {
     match word {
         b"connect" => Ok(SoloEvent::Connect(Addr([10, 0, 0, 1]), 1)),
@@ -31,6 +31,8 @@ pub(crate) fn read_event(alloc: Global, word: &[u8], rest: &[u8]) -> Result<Solo
         b"abort" => Ok(SoloEvent::Abort),
         b"acknowledge" => Ok(SoloEvent::Acknowledge),
         b"emit" => Ok(SoloEvent::Emit),
+        b"emit-acknowledgement" => Ok(SoloEvent::EmitAcknowledgement),
+        b"resend-first" => Ok(SoloEvent::ResendFirst),
         b"send" => Ok(SoloEvent::Send(read_bytes(alloc, rest)?)),
         b"receive" => read_receive(rest),
         b"timer" => {

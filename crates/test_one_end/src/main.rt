@@ -1,9 +1,9 @@
 //! One end alone, for tests: reads calls and arriving segments, a line each, and prints each answer, each emission and
-//! the phase after it, as the log of `solo` over all lines of that end so far tells them. A line is `new ISN MSS SEND
-//! RECV SHIFT SACK` (a shift of `none` offers none, SACK is 0 or 1), which begins with another end, or says why there
-//! is none; `connect`, `listen`, `close`, `abort`, `acknowledge`, `emit`, `emit bytes` (which prints the segment's
-//! bytes), `timers`; `send HEX`, `receive N`, `timer NAME`; or `arrive SOURCE DESTINATION HEX`. The end is 10.0.0.2,
-//! port 2; it connects to 10.0.0.1, port 1.
+//! the phase after it. They are those of the log of `solo` over all lines of that end up to now. A line `new ISN MSS
+//! SEND RECV SHIFT SACK` begins with another end, or prints why there is none; a shift of `none` offers none, SACK is 0
+//! or 1. Other lines are `connect`, `listen`, `close`, `abort`, `acknowledge`, `emit`, `emit bytes` (which prints the
+//! segment's bytes), `timers`; `send HEX`, `receive N`, `timer NAME`; or `arrive SOURCE DESTINATION HEX`. The end is
+//! 10.0.0.2, port 2; it connects to 10.0.0.1, port 1.
 #![tactic(auto)]
 
 mod answers;
@@ -18,7 +18,7 @@ use std::alloc::Global;
 use std::process::ExitCode;
 use stream::Stream;
 
-/// Takes one line: another end, or an event of the one there is.
+/// Takes one line: another end, or an event of the end there is.
 fn take_line(
     alloc: Global,
     stream: &mut Option<Stream>,
@@ -34,7 +34,7 @@ fn take_line(
     }
 }
 
-/// Takes every line in turn.
+/// Takes every line in order.
 fn take_lines(
     alloc: Global,
     stream: &mut Option<Stream>,

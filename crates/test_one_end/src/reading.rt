@@ -1,4 +1,4 @@
-//! What a line asks for.
+//! The content of a line.
 ghost use Rattle.std.specs.Prelude.{◌≡◌, option_map};
 ghost use Rattle.kit_text.specs.Words.{number_of};
 
@@ -31,7 +31,7 @@ fn read_settings(words: &[u8], isn: Seq, mss: u16) -> Option<Config> {
     })
 }
 
-/// What another end is made from, where the line says so.
+/// The Config of another end, where the line has one.
 pub(crate) fn read_config(line: &[u8]) -> Option<Config> {
     let (b"new", Some(rest)) = cut(SPACE, line) else {
         return None;

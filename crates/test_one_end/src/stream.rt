@@ -1,4 +1,4 @@
-//! One end, and what happened to it so far.
+//! One end, and its events up to now.
 use crate::calls::{push_last, push_timers};
 use crate::events::read_event;
 use kit_text::{LineError, SPACE, cut};
@@ -6,14 +6,14 @@ use std::alloc::Global;
 use tcp_conn::Config;
 use tcp_replay::{SoloError, SoloEvent, solo};
 
-/// What an end is made from, and its events.
+/// The Config of an end, and its events.
 #[derive(Drop)]
 pub(crate) struct Stream {
     config: Config,
     events: Vec<SoloEvent>,
 }
 
-/// Why there is no end of these settings.
+/// Why there is no end of this Config.
 fn refusal_of(alloc: Global, config: Config) -> Option<SoloError> {
     solo(alloc, config, &[]).err()
 }
@@ -41,7 +41,7 @@ pub(crate) fn begin(
 }
 
 impl Stream {
-    /// Appends what the log of all events so far tells of a line.
+    /// Appends what the log of all events up to now reports of a line.
     fn push_answer(
         &self,
         alloc: Global,
@@ -55,7 +55,7 @@ impl Stream {
         }
     }
 
-    /// Takes the event of a line, and appends what came of it. `timers` is a question and no event.
+    /// Takes the event of a line, and appends the outcome. `timers` is a question and no event.
     pub(crate) fn take_line(
         &mut self,
         alloc: Global,

@@ -1,6 +1,6 @@
-//! The allocator over a block, for tests: reads lines, and answers each. `region SIZE N N ..` asks a region of a block of so
-//! many bytes for pieces of N bytes in turn; `end SEND RECV` makes an end of capacities 64 and 17 whose buffers have a region
-//! each, of blocks of these sizes.
+//! The allocator over a block, for tests: reads lines, and answers each. `region SIZE N N ..` requests pieces of N
+//! bytes in turn from a region of a block of SIZE bytes; `end SEND RECV` makes an end of capacities 64 and 17 whose
+//! buffers have a region each, of blocks of these sizes.
 #![tactic(auto)]
 
 use kit_io::{Counted, read_all};
@@ -25,7 +25,7 @@ fn region(alloc: Global, size: &[u8]) -> Result<Region, LineError> {
     Ok(Region::new(block))
 }
 
-/// Whether the region has a piece of so many bytes.
+/// Whether the region has a piece of this many bytes.
 fn is_given(region: &Region, size: usize) -> bool {
     let bytes: Result<Vec<u8, &Region>, AllocError> = Vec::with_capacity(region, size);
     bytes.is_ok()
@@ -64,7 +64,7 @@ fn answer_line(alloc: Global, line: &[u8], answers: &mut String) -> Result<(), L
     Ok(())
 }
 
-/// Takes every line in turn, and answers what is written of them.
+/// Takes every line in order, and returns the answers.
 fn answer_lines(rt: &impl AllocGlobal, text: &[u8]) -> Result<String, LineError> {
     let mut answers = String::new(rt.alloc());
     let lines = Lines::new(text).map_err(|_| LineError::BadForm)?;

@@ -1,4 +1,4 @@
--- What a file's ending says of it.
+-- The form of a file by its ending.
 use Rattle.std.specs.Prelude.{ℕ, true, false, if◌then◌else◌, List, bytes_eq, codes, Option, Some, None}
 use Rattle.test_scripts.specs.declared.form.Kind.TheVariants.{Script, List as ListOfSegments}
 use Rattle.test_scripts.specs.declared.form.Form.{Form}

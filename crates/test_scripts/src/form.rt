@@ -1,8 +1,8 @@
-//! What a file's ending says of it.
+//! The form of a file by its ending.
 ghost use Rattle.std.specs.Prelude.{◌≡◌};
 ghost use Rattle.test_scripts.specs.Forms.{form_of_ending};
 
-/// What a text is.
+/// What a text is: a script or a list.
 #[derive(Clone, Copy, Debug, PartialEq, Eq)]
 pub enum Kind {
     Script,
@@ -18,7 +18,7 @@ pub struct Form {
     pub is_by_lines: bool,
 }
 
-/// The form that a file's ending stands for.
+/// The form of a file with this ending.
 pub fn form_of_ending(ending: &str) -> Option<Form>
     ensures { result ≡ form_of_ending ending.now }
 {

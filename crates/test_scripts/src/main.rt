@@ -1,5 +1,5 @@
-//! `test_scripts FOLDER` replays every script of a folder and shows every list of it, and prints what comes of each.
-//! Its stored run compares all cases below `data/` with the reports that the formats ask for.
+//! `test_scripts FOLDER` replays every script of a folder and lists every list of it, and prints the results. Its
+//! stored run compares all cases below `data/` with the reports that the formats require.
 #![tactic(auto)]
 
 mod cases;

@@ -5,7 +5,7 @@ use kit_text::{LineError, push_bytes, push_named_fault, read_bytes};
 use std::alloc::Global;
 use tcp_wire::{checksum, decode};
 
-/// Writes the checksum with which the segment checks.
+/// Writes the right checksum.
 fn mend(bytes: &mut [u8]) -> Result<(), LineError> {
     if bytes.len() < 20 || bytes.len() > 65_515 {
         return Err(LineError::BadForm);

@@ -7,7 +7,7 @@ const IN_WINDOW: &[u8] = b"in-window";
 
 const FLAGS: &[u8] = b"flags";
 
-/// Appends what a call on a sequence number answers.
+/// Appends the answer of a call on a sequence number.
 pub(crate) fn push_seq(text: &mut String, call: &[u8], rest: &[u8]) -> Result<(), LineError> {
     let (first, rest) = two_words(rest)?;
     let first = Seq(number(first)?);
@@ -32,7 +32,7 @@ fn flags_of(word: &[u8]) -> Result<Flags, LineError> {
     Ok(Flags(bits as u8))
 }
 
-/// Appends the names of control bits, or what a call on two of them answers.
+/// Appends the names of control bits, or the answer of a call on two of them.
 pub(crate) fn push_bits(text: &mut String, call: &[u8], rest: &[u8]) -> Result<(), LineError> {
     if call == FLAGS {
         write!(text, "{}", flags_of(rest)?)?;

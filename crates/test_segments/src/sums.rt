@@ -4,7 +4,7 @@ use kit_text::LineError;
 use std::alloc::{AllocError, Global};
 use tcp_wire::{Addr, checks, checksum, word_sum};
 
-/// The bytes of the longest segment.
+/// The length in bytes of the longest segment.
 const MAX_LEN: usize = 65515;
 
 /// The header of an acknowledgement from port 1 to port 2, with the checksum field of 65495 zero bytes of text.
@@ -56,7 +56,7 @@ pub(crate) fn push_sums(alloc: Global, text: &mut String, rest: &[u8]) -> Result
     Ok(())
 }
 
-/// The header, and so many bytes ff after it.
+/// The header, and `count` bytes ff after it.
 fn header_and_ones(alloc: Global, count: u32) -> Result<Vec<u8>, AllocError> {
     let mut bytes = Vec::new(alloc);
     bytes.extend_from_slice(&HEADER)?;
@@ -66,7 +66,7 @@ fn header_and_ones(alloc: Global, count: u32) -> Result<Vec<u8>, AllocError> {
     Ok(bytes)
 }
 
-/// Appends the checksum of a header and so many bytes ff after it.
+/// Appends the checksum of a header and this many bytes ff after it.
 pub(crate) fn push_ones(alloc: Global, text: &mut String, rest: &[u8]) -> Result<(), LineError> {
     let bytes = header_and_ones(alloc, number(rest)?)?;
     if bytes.len() < 20 || bytes.len() > MAX_LEN {

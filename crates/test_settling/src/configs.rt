@@ -1,14 +1,14 @@
-//! What the two ends of a world are made from.
+//! The Configs of the two ends of a world.
 use crate::generator::Generator;
 use std::alloc::Global;
 use tcp_conn::{Config, DEFAULT_LIMIT, MAX_MSS, MAX_SHIFT, MIN_MSS};
 use tcp_replay::{MAX_LIFE, World};
 use tcp_wire::{Addr, Seq};
 
-/// The least lifetime with which a world is sure to settle, in positions: twice what a queue holds.
+/// The least lifetime with which a world certainly settles, in positions: twice the capacity of a queue.
 pub(crate) const LEAST_LIFE: u32 = 2_097_152;
 
-/// What a world is made from.
+/// What a world is made from: a lifetime and two Configs.
 #[derive(Clone, Copy)]
 pub(crate) struct Shape {
     pub(crate) life: u32,
@@ -17,7 +17,7 @@ pub(crate) struct Shape {
 }
 
 impl Shape {
-    /// The world, which lives at least [`LEAST_LIFE`].
+    /// The world, with a lifetime of at least [`LEAST_LIFE`].
     pub(crate) fn world(&self, alloc: Global) -> Option<World> {
         let life = self.life.clamp(LEAST_LIFE, MAX_LIFE);
         World::with_lifetime(alloc, self.a, self.b, life).ok()
@@ -30,7 +30,7 @@ impl Shape {
     }
 }
 
-/// The defaults at 10.0.0.`host`, port `host`.
+/// The default Config at 10.0.0.`host`, port `host`.
 pub(crate) fn plain(host: u8) -> Config {
     Config::new(Addr([10, 0, 0, host]), u16::from(host), Seq(1000))
 }
@@ -88,7 +88,7 @@ fn config_of(generator: &mut Generator, host: u8) -> Config {
     }
 }
 
-/// The same with large buffers and segments, and windows that are told in steps of 16,384 bytes.
+/// This Config with large buffers and segments, and windows that are advertised in steps of 16,384 bytes.
 fn large(config: Config) -> Config {
     Config {
         mss: config.mss.max(1000),

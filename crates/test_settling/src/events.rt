@@ -10,11 +10,11 @@ use tcp_replay::{Event, Side, World};
 pub(crate) struct Habit {
     /// The lengths of texts.
     pub(crate) lengths: &'static [u32],
-    /// Of so many segments that arrive one is any, and the others are the latest.
+    /// Of this many segments that arrive one is any, and the others are the latest.
     pub(crate) any_of: u32,
-    /// Of so many events one is a `receive`.
+    /// Of this many events one is a `receive`.
     pub(crate) reads: u32,
-    /// Where so many bytes were accepted of a side, it sends no more.
+    /// Where this many bytes were accepted of a side, it sends no more.
     pub(crate) most: usize,
 }
 
@@ -64,7 +64,7 @@ pub(crate) fn side_of(generator: &mut Generator) -> Side {
     }
 }
 
-/// A text of so many bytes.
+/// A text of `len` bytes.
 pub(crate) fn text(alloc: Global, first: u8, len: usize) -> Result<Vec<u8>, AllocError> {
     let mut text = Vec::with_capacity(alloc, len)?;
     let mut byte = first;
@@ -111,13 +111,15 @@ pub(crate) fn next_damage(generator: &mut Generator, side: Side, k: usize) -> Ev
     Event::Damage(side, k, place, value as u8)
 }
 
-/// What happens seldom: at most once or twice in a world.
+/// A rare event: at most once or twice in a world.
 fn next_seldom(generator: &mut Generator, side: Side) -> Event {
     match generator.below(24) {
         0 => Event::Abort(side),
         1..4 => Event::Connect(side),
         4..7 => Event::Listen(side),
-        7..14 => Event::Acknowledge(side),
+        7..10 => Event::Acknowledge(side),
+        10..12 => Event::EmitAcknowledgement(side),
+        12..14 => Event::ResendFirst(side),
         _ => Event::Close(side),
     }
 }
@@ -149,7 +151,7 @@ pub(crate) fn next_event(
     })
 }
 
-/// The handshake from this side: as far as the other's SYN comes back, so that the other end is in SYN-RECEIVED.
+/// The handshake from this side, up to the arrival of the other's SYN, so that the other end is in SYN-RECEIVED.
 pub(crate) fn opening(side: Side) -> [Event; 6] {
     [
         Event::Listen(other(side)),
@@ -161,7 +163,7 @@ pub(crate) fn opening(side: Side) -> [Event; 6] {
     ]
 }
 
-/// The same where the SYN came before the other end listened: a reset with number 0 is under way too.
+/// That handshake where the SYN came before the other end listened: a reset with number 0 is on its way too.
 pub(crate) fn late_opening(side: Side) -> [Event; 9] {
     [
         Event::Connect(side),

@@ -1,4 +1,4 @@
-//! What holds of a settled world, told by plain code.
+//! The facts of a settled world, checked by plain code.
 use crate::places::other;
 use std::alloc::{AllocError, Global};
 use tcp_conn::Ending;
@@ -13,8 +13,8 @@ fn count_failed(facts: &[bool]) -> u32 {
     failed
 }
 
-/// How many facts of the direction of this side didn't hold: all that was accepted is delivered, all of it is released, and
-/// where its user closed the end of the stream was handed over.
+/// How many facts of the direction of this side didn't hold: all that was accepted is delivered, all of it is released,
+/// and where its user closed the end of the stream was delivered.
 fn failed_of(world: &World, side: Side) -> u32 {
     let accepted = world.accepted(side);
     count_failed(&[
@@ -24,7 +24,7 @@ fn failed_of(world: &World, side: Side) -> u32 {
     ])
 }
 
-/// Whether both directions are handed over.
+/// Whether all of both directions is delivered.
 pub(crate) fn is_handed_over(world: &World) -> bool {
     failed_of(world, Side::A) == 0 && failed_of(world, Side::B) == 0
 }
@@ -48,7 +48,7 @@ pub(crate) fn is_settled(world: &World) -> bool {
     failed_in(world) == 0
 }
 
-/// What the user of a side asked for.
+/// What the user of a side requested.
 #[derive(Drop)]
 struct Asked {
     accepted: Vec<u8>,
@@ -63,7 +63,7 @@ impl Asked {
         })
     }
 
-    /// How many of the two are another now.
+    /// How many of the two are different now.
     fn changed(&self, world: &World, side: Side) -> u32 {
         count_failed(&[
             world.accepted(side) == self.accepted.as_slice(),
@@ -72,7 +72,7 @@ impl Asked {
     }
 }
 
-/// What both users asked for.
+/// What both users requested.
 #[derive(Drop)]
 pub(crate) struct AllAsked {
     a: Asked,
@@ -87,7 +87,7 @@ impl AllAsked {
         })
     }
 
-    /// How much of it is another now.
+    /// How much of it is different now.
     pub(crate) fn changed(&self, world: &World) -> u32 {
         self.a
             .changed(world, Side::A)

@@ -1,8 +1,8 @@
-//! Why the program gives up.
+//! Why the program ends.
 use std::alloc::AllocError;
 use tcp_replay::StepError;
 
-/// No memory, or an event on the way that was refused or isn't of network, clock or reader.
+/// There is no memory, or an event on the way was refused or isn't of network, clock or reader.
 #[derive(Clone, Copy, Debug)]
 pub(crate) struct Failure;
 

@@ -29,7 +29,7 @@ pub(crate) fn add<const N: usize>(
     events.append(&mut more)
 }
 
-/// The handshake, as far as B is in SYN-RECEIVED.
+/// The handshake, up to SYN-RECEIVED of B.
 fn half_open(alloc: Global) -> Result<Vec<Event>, AllocError> {
     let mut events = Vec::new(alloc);
     add(alloc, &mut events, opening(Side::A))?;
@@ -44,7 +44,7 @@ pub(crate) fn open(alloc: Global) -> Result<Vec<Event>, AllocError> {
     Ok(events)
 }
 
-/// A sends so much, of which one segment comes to B, and B's answer comes back.
+/// A sends `len` bytes, of which one segment comes to B, and B's answer comes back.
 fn fill(alloc: Global, events: &mut Vec<Event>, len: usize) -> Result<(), AllocError> {
     let more = [
         Event::Send(Side::A, text(alloc, 1, len)?),
@@ -63,7 +63,7 @@ pub(crate) fn told_shut(alloc: Global) -> Result<Vec<Event>, AllocError> {
     Ok(events)
 }
 
-/// B has room for 20 of 40 bytes, and tells 0; ten wait.
+/// B has room for 20 of 40 bytes, and advertises 0; ten wait.
 fn rounded_to_shut(alloc: Global) -> Result<Vec<Event>, AllocError> {
     let mut events = open(alloc)?;
     fill(alloc, &mut events, 20)?;
@@ -143,7 +143,7 @@ fn syn_unknown(alloc: Global) -> Result<Vec<Event>, AllocError> {
     Ok(events)
 }
 
-/// Each has the other's byte, neither was told so, and what B has to send again waits.
+/// Each has the other's byte, neither was acknowledged, and what B has to send again waits.
 pub(crate) fn untold(alloc: Global) -> Result<Vec<Event>, AllocError> {
     let mut events = open(alloc)?;
     let more = [
@@ -182,7 +182,7 @@ fn expired(alloc: Global) -> Result<Vec<Event>, AllocError> {
     Ok(events)
 }
 
-/// Ends with large buffers; or B takes four bytes; or 40, and both tell their windows in steps of 16,384.
+/// Ends with large buffers; or B takes four bytes; or 40, and both advertise their windows in steps of 16,384.
 pub(crate) fn shape_of(number: u32) -> Shape {
     let (recv_capacity, window_shift) = match number {
         0 | 3 => (4, None),
@@ -206,7 +206,7 @@ pub(crate) fn shape_of(number: u32) -> Shape {
     }
 }
 
-/// The world of this number: what it is made from, and its events.
+/// The world of this number: its shape, and its events.
 pub(crate) fn given(alloc: Global, number: u32) -> Result<(Shape, Vec<Event>), AllocError> {
     let events = match number {
         0 => told_shut(alloc)?,

@@ -4,12 +4,12 @@ use std::io;
 use tcp_conn::Phase;
 use tcp_replay::{Side, World};
 
-/// The greatest number of runs that an end marks as held (RFC 2018, 4).
+/// The greatest number of runs that an end marks as received (RFC 2018, 4).
 const MOST_RUNS: u32 = 16;
 
 const COUNT: usize = 8;
 
-/// What is printed of each.
+/// What is printed for each.
 pub(crate) const NAMES: [&str; COUNT] = [
     "window told as 0",
     "window that rounds to 0",
@@ -21,7 +21,7 @@ pub(crate) const NAMES: [&str; COUNT] = [
     "first segments expired",
 ];
 
-/// How many runs of its queue this side marks as held by the other.
+/// How many runs of its queue this side marks as received by the other.
 fn count_marked(world: &World, side: Side) -> u32 {
     let end = world.endpoint(side);
     let mut at = 0;
@@ -36,13 +36,13 @@ fn count_marked(world: &World, side: Side) -> u32 {
     runs
 }
 
-/// Text waits, and the window that was told is 0.
+/// Text waits, and the window that was advertised is 0.
 fn is_told_shut(world: &World, side: Side) -> bool {
     let end = world.endpoint(side);
     end.queued() > end.in_flight() && una(world, side) > 0 && end.windows().1 == 0
 }
 
-/// This side has a window, and tells 0.
+/// This side has a window, and advertises 0.
 fn rounds_to_shut(world: &World, side: Side) -> bool {
     let end = world.endpoint(side);
     let Some(negotiated) = end.negotiated() else {
@@ -63,7 +63,7 @@ fn has_fin_shut_out(world: &World, side: Side) -> bool {
         && world.endpoint(other(side)).windows().0 == 0
 }
 
-/// What is the case of this side's direction.
+/// The kinds that apply to this side's direction.
 fn kinds_of(world: &World, side: Side, life: u32) -> [bool; COUNT] {
     let is_unfinished = taken(world, side) < total(world, side);
     let is_other_unfinished = taken(world, other(side)) < total(world, other(side));

@@ -1,9 +1,9 @@
-//! Worlds that settle: two ends after events of all kinds, made by a fixed generator or by hand, are led by events of
-//! network, clock and reader alone to where each user has all that the other one's end accepted; and then, made anew, by turns of
-//! a caller's loop, whatever the network does between turns and in them. What is printed is how many worlds lived, what plain
-//! code found not to hold before, which kinds that are hard were among them, and what it found not to hold when they were
-//! settled, which is nothing; how many came through by no more turns than there was left, and one, which is all; and what
-//! becomes of worlds under loops that aren't turns.
+//! Worlds that settle. Events of all kinds, made by a fixed generator or by hand, happen to two ends. Then events of
+//! network, clock and reader alone lead them to where each user has all that the other one's end accepted. Made anew,
+//! they are led there by turns of a caller's loop, whatever the network does between turns and in them. Printed is how
+//! many worlds lived, which facts plain code found not to hold before, and which kinds that are hard were among them.
+//! Then which it found not to hold when they were settled: none. Then how many came through by no more turns than what
+//! was left, and one: all; and what becomes of worlds under loops that aren't turns.
 #![tactic(auto)]
 
 mod configs;
@@ -66,7 +66,7 @@ fn run_events(
     Ok(())
 }
 
-/// The world that comes of these numbers, and how long segments live there.
+/// The world of these numbers, and the lifetime of segments there.
 fn make_world(alloc: Global, generator: &mut Generator) -> Result<(World, u32), Failure> {
     let shape = shape_of(generator);
     let Some(mut world) = shape.world(alloc) else {
@@ -85,7 +85,7 @@ fn run_world(alloc: Global, number: u32, tally: &mut Tally) -> Result<(), Failur
     tally.take(alloc, &mut world, life)
 }
 
-/// The same world under turns.
+/// That world under turns.
 fn walk_world(alloc: Global, number: u32, walks: &mut Walks) -> Result<(), Failure> {
     let mut generator = Generator::new(u64::from(number));
     let (mut world, _) = make_world(alloc, &mut generator)?;
@@ -100,7 +100,7 @@ fn run_worlds(alloc: Global, tally: &mut Tally, walks: &mut Walks) -> Result<(),
     Ok(())
 }
 
-/// Runs events, none of which is refused; how much the users ask for by them.
+/// Runs events, none of which is refused; returns how much the users request by them.
 fn run_asking(alloc: Global, world: &mut World, events: &[Event]) -> Result<u32, Failure> {
     let before = AllAsked::of(alloc, world)?;
     if world.run(events).is_err() {
@@ -109,7 +109,7 @@ fn run_asking(alloc: Global, world: &mut World, events: &[Event]) -> Result<u32,
     Ok(before.changed(world))
 }
 
-/// The hand-made world of this number; how much its users asked for.
+/// The hand-made world of this number; returns how much its users requested.
 fn run_given(alloc: Global, number: u32, tally: &mut Tally) -> Result<u32, Failure> {
     let (shape, events) = given(alloc, number)?;
     let Some(mut world) = shape.world(alloc) else {
@@ -120,7 +120,7 @@ fn run_given(alloc: Global, number: u32, tally: &mut Tally) -> Result<u32, Failu
     Ok(asked)
 }
 
-/// Each thing that the users ask for is found, and so it would be on a way.
+/// Each request of a user is found, as it would be on a way.
 fn run_all_given(alloc: Global, tally: &mut Tally) -> Result<(), Failure> {
     let mut asked: u32 = 0;
     for number in 0..COUNT {

@@ -1,4 +1,4 @@
-//! Where a direction stands: what its sender knows to be taken, what is taken, what was sent, and what there is.
+//! The state of a direction: what its sender knows to be taken, what is taken, what was sent, and what there is.
 use crate::segments::segment_at;
 use tcp_conn::Ending;
 use tcp_replay::{Side, World};
@@ -14,11 +14,11 @@ pub(crate) fn other(side: Side) -> Side {
 #[derive(Clone, Copy, Default)]
 struct Seen {
     count: usize,
-    /// The greatest position behind one: SND.NXT.
+    /// The greatest position after one: SND.NXT.
     next: u64,
 }
 
-/// The same of both.
+/// What was found of both sides.
 #[derive(Clone, Copy, Default)]
 pub(crate) struct Nexts {
     a: Seen,
@@ -54,21 +54,21 @@ pub(crate) fn taken(world: &World, side: Side) -> u64 {
     world.endpoint(other(side)).next()
 }
 
-/// The position behind all that this side has to send: its SYN, the text that was accepted, and its FIN.
+/// The position after all that this side has to send: its SYN, the text that was accepted, and its FIN.
 pub(crate) fn total(world: &World, side: Side) -> u64 {
     (world.accepted(side).len() as u64)
         .saturating_add(1)
         .saturating_add(u64::from(world.closed(side)))
 }
 
-/// How much of this side's direction is still to be taken, and to be known to be.
+/// How much of this side's direction isn't taken yet, and isn't known to be taken.
 fn left(world: &World, side: Side) -> u64 {
     let all = total(world, side);
     all.saturating_sub(taken(world, side))
         .saturating_add(all.saturating_sub(una(world, side)))
 }
 
-/// The same of both directions.
+/// How much of both directions isn't.
 pub(crate) fn left_in(world: &World) -> u64 {
     left(world, Side::A).saturating_add(left(world, Side::B))
 }

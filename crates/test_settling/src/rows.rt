@@ -1,5 +1,5 @@
-//! Loops that aren't turns: worlds that such a loop never brings on, however often it goes round, and the same worlds under turns; and
-//! what becomes of an end that is reset.
+//! Loops that aren't turns: worlds that such a loop never moves on, however often it is repeated, and these worlds
+//! under turns; and what becomes of an end that is reset.
 use crate::configs::Shape;
 use crate::events::{late_opening, text};
 use crate::failure::Failure;
@@ -12,13 +12,13 @@ use std::io;
 use tcp_conn::{Ending, Timer};
 use tcp_replay::{Event, Side, World};
 
-/// How often a loop goes round.
+/// How often a loop is repeated.
 const ROUNDS: u32 = 1000;
 
-/// What is done in a loop that isn't one of turns.
+/// A loop that isn't one of turns.
 #[derive(Clone, Copy)]
 enum Loop {
-    /// Between the timeout and the emission an old window arrives, which is shut.
+    /// Between the timeout and the emission an old zero window arrives.
     ShutWindow,
     /// The timeout comes before each single emission.
     EachTimed,
@@ -26,8 +26,8 @@ enum Loop {
     OneServed,
 }
 
-/// B, with four bytes, told a window of 0 in its segment 1 and one of 4 in its segment 2, which bear the same numbers; six of A's bytes
-/// wait.
+/// B, with four bytes, advertised a window of 0 in its segment 1 and one of 4 in its segment 2, which have the same
+/// numbers; six of A's bytes wait.
 fn told_both(alloc: Global) -> Result<Vec<Event>, AllocError> {
     let mut events = told_shut(alloc)?;
     let more = [
@@ -39,7 +39,8 @@ fn told_both(alloc: Global) -> Result<Vec<Event>, AllocError> {
     Ok(events)
 }
 
-/// An old shut window comes between the timeout and the emission, and the open one before the next timeout: A emits nothing.
+/// An old zero window comes between the timeout and the emission, and the open one before the next timeout: A emits
+/// nothing.
 fn round_shut(world: &mut World) -> Result<(), Failure> {
     read_both(world)?;
     happen(world, Event::Deliver(Side::B, 2))?;
@@ -51,7 +52,7 @@ fn round_shut(world: &mut World) -> Result<(), Failure> {
     serve(world, Side::B)
 }
 
-/// The timeout comes before each single emission, and what goes out arrives.
+/// The timeout comes before each single emission, and what is emitted arrives.
 fn round_of_timeouts(world: &mut World, side: Side) -> Result<(), Failure> {
     happen(world, Event::Timer(side, Timer::Retransmit))?;
     let k = world.count(side);
@@ -82,7 +83,7 @@ fn round_of_one(world: &mut World) -> Result<(), Failure> {
 }
 
 impl Loop {
-    /// The world that it doesn't bring on.
+    /// The world that it doesn't move on.
     fn world(self, alloc: Global) -> Result<World, Failure> {
         match self {
             Loop::ShutWindow => make(alloc, shape_of(0), &told_both(alloc)?),
@@ -121,8 +122,8 @@ impl Loop {
     }
 }
 
-/// Both closed, and A is in TIME-WAIT, but its acknowledgement of B's FIN is lost. TIME-WAIT is cut short at A, B's FIN comes again, and
-/// A, which knows of no connection, answers it.
+/// Both closed, and A is in TIME-WAIT, but its acknowledgement of B's FIN is lost. TIME-WAIT is cut short at A, B's FIN
+/// comes again, and A, which knows of no connection, answers it.
 const CUT_SHORT: [Event; 17] = [
     Event::Close(Side::A),
     Event::Emit(Side::A),
@@ -152,7 +153,8 @@ fn cut_short(alloc: Global) -> Result<Ending, Failure> {
     Ok(world.endpoint(Side::B).ending())
 }
 
-/// How B ended: A was closed when B's first SYN came, and the reset that answered it comes late. Its number is 0, as the next that B wants.
+/// How B ended: A was closed when B's first SYN came, and the reset that answered it comes late. Its number is 0, as is
+/// the next that B expects.
 fn reset_late(alloc: Global) -> Result<Ending, Failure> {
     let mut world = make(alloc, shape_of(7), &late_opening(Side::B))?;
     if world.endpoint(Side::B).ending() != Ending::NotEnded {

@@ -1,4 +1,4 @@
-//! What the segments that an end emitted carry, read from their bytes (RFC 9293, 3.1).
+//! The content of the segments that an end emitted, read from their bytes (RFC 9293, 3.1).
 use tcp_replay::{Side, World};
 use tcp_wire::{Flags, Seq};
 
@@ -7,13 +7,13 @@ use tcp_wire::{Flags, Seq};
 pub(crate) struct Segment {
     /// The position of its sequence number in the direction of the end that emitted it.
     pub(crate) start: u64,
-    /// The position behind its text and its SYN or FIN.
+    /// The position after its text and its SYN or FIN.
     pub(crate) end: u64,
     pub(crate) is_reset: bool,
 }
 
 impl Segment {
-    /// Whether it has something that stands at this position.
+    /// Whether it has something at this position.
     pub(crate) fn covers(&self, position: u64) -> bool {
         !self.is_reset && self.start <= position && position < self.end
     }

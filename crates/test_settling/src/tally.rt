@@ -1,4 +1,4 @@
-//! What is counted of the worlds.
+//! The counts of the worlds.
 use crate::facts::{AllAsked, failed_in};
 use crate::failure::Failure;
 use crate::kinds::Kinds;
@@ -11,13 +11,13 @@ use tcp_replay::World;
 #[derive(Clone, Copy, Default)]
 pub(crate) struct Tally {
     worlds: u32,
-    /// Those in which both ends live.
+    /// Worlds in which both ends are live.
     lived: u32,
-    /// Of these those in which a fact didn't hold before, and how many facts.
+    /// Of these, worlds in which a fact didn't hold before, and how many facts.
     unsettled: u32,
     failed_before: u32,
     kinds: Kinds,
-    /// Those that came through, and how many facts didn't hold after.
+    /// Worlds that came through, and how many facts didn't hold after.
     settled: u32,
     failed: u32,
 }
@@ -31,7 +31,7 @@ impl Tally {
         self.kinds.count(world, life);
     }
 
-    /// Counts a world, and settles it where both ends live.
+    /// Counts a world, and settles it where both ends are live.
     pub(crate) fn take(
         &mut self,
         alloc: Global,

@@ -1,5 +1,5 @@
-//! Turns of a caller's loop, there and back, while the network does what it likes between turns and in them: old segments
-//! arrive, some again and some damaged. No reset arrives, so that no end gives up.
+//! Turns of a caller's loop, there and back, while the network is free between turns and in them: old segments arrive,
+//! some again and some damaged. No reset arrives, so that no end is reset.
 use crate::events::{next_damage, side_of};
 use crate::facts::{is_handed_over, is_settled};
 use crate::failure::Failure;
@@ -9,7 +9,7 @@ use crate::segments::segment_at;
 use tcp_conn::Timer;
 use tcp_replay::{Event, Outcome, Side, StepError, World};
 
-/// The most that a user asks for at once, in bytes: as much as an end can hold.
+/// The most that a user requests at once, in bytes: as much as an end can keep.
 const ROOM: usize = 1_048_576;
 
 /// As many emissions as a burst can have: one for each byte that is in flight, the SYN and the FIN; a reset, an
@@ -29,7 +29,7 @@ fn is_calm(event: &Event) -> bool {
     )
 }
 
-/// One calm event, which may be refused; whether a segment went out.
+/// One calm event, which may be refused; returns whether a segment was emitted.
 pub(crate) fn happen(world: &mut World, event: Event) -> Result<bool, Failure> {
     if !is_calm(&event) {
         return Err(Failure);
@@ -58,7 +58,7 @@ fn arrive_old(generator: &mut Generator, world: &mut World, side: Side) -> Resul
     arrive(world, side, generator.below(count) as usize)
 }
 
-/// What the network and the users do besides.
+/// One more event of the network or the users.
 fn disturb_once(generator: &mut Generator, world: &mut World) -> Result<(), Failure> {
     let side = side_of(generator);
     match generator.below(8) {
@@ -80,7 +80,7 @@ fn disturb_once(generator: &mut Generator, world: &mut World) -> Result<(), Fail
     Ok(())
 }
 
-/// None of it, or up to three times; timers run out too where they may.
+/// None of these, or up to three; timers expire too where they may.
 fn disturb(generator: &mut Generator, world: &mut World, timed: bool) -> Result<(), Failure> {
     for _ in 0..generator.below(4) {
         disturb_once(generator, world)?;
@@ -107,7 +107,7 @@ pub(crate) fn emit_all(world: &mut World, side: Side) -> Result<(), Failure> {
     Err(Failure)
 }
 
-/// This side's retransmission timeout comes, and at once it emits.
+/// This side's retransmission timeout expires, and at once it emits.
 pub(crate) fn serve(world: &mut World, side: Side) -> Result<(), Failure> {
     happen(world, Event::Timer(side, Timer::Retransmit))?;
     emit_all(world, side)
@@ -138,7 +138,7 @@ impl Counts {
     }
 }
 
-/// In what order segments come: from one of them on, forward or backward.
+/// The order in which segments come: from one of them on, forward or backward.
 #[derive(Clone, Copy)]
 struct Order {
     first: usize,
@@ -153,7 +153,7 @@ impl Order {
         }
     }
 
-    /// Which of so many comes at place `i`.
+    /// Which of `count` comes at index `i`.
     fn at(self, i: usize, count: usize) -> usize {
         let place = if self.is_backward {
             count.saturating_sub(i).saturating_sub(1)
@@ -167,7 +167,7 @@ impl Order {
     }
 }
 
-/// All that went out between two counts comes, whatever else happens meanwhile.
+/// All that was emitted between two counts arrives, whatever else happens meanwhile.
 fn bring(
     generator: &mut Generator,
     world: &mut World,
@@ -190,8 +190,8 @@ fn bring(
     Ok(())
 }
 
-/// A turn: the users read; one side is served, and then the other; all that both sent comes, and both answer; and what they
-/// answered comes.
+/// A turn: the users read; one side is served, and then the other; all that both sent arrives, and both answer; and
+/// what they answered arrives.
 fn take_turn(generator: &mut Generator, world: &mut World) -> Result<(), Failure> {
     read_both(world)?;
     let start = Counts::of(world);
@@ -205,7 +205,7 @@ fn take_turn(generator: &mut Generator, world: &mut World) -> Result<(), Failure
     bring(generator, world, sent, Counts::of(world), true)
 }
 
-/// TIME-WAIT runs out at both ends.
+/// TIME-WAIT expires at both ends.
 fn wait_out(world: &mut World) -> Result<(), Failure> {
     let at_a: Event = Event::Timer(Side::A, Timer::TimeWait);
     let at_b: Event = Event::Timer(Side::B, Timer::TimeWait);
@@ -217,11 +217,11 @@ fn wait_out(world: &mut World) -> Result<(), Failure> {
 /// What was found on a walk.
 #[derive(Clone, Copy, Default)]
 pub(crate) struct Walk {
-    /// Nothing was left after as many turns as there was left before, and one, at most; and all is handed over.
+    /// Nothing was left after as many turns as there was left before, and one, at most; and all is delivered.
     pub(crate) is_through: bool,
     /// After some turn more was left than before it.
     pub(crate) grew: bool,
-    /// Once TIME-WAIT ran out at both ends, the world is settled.
+    /// Once TIME-WAIT has expired at both ends, the world is settled.
     pub(crate) is_settled: bool,
 }
 

@@ -1,4 +1,4 @@
-//! What is counted of the walks by turns.
+//! The counts of the walks by turns.
 use crate::facts::AllAsked;
 use crate::failure::Failure;
 use crate::generator::Generator;
@@ -10,18 +10,18 @@ use tcp_replay::World;
 
 #[derive(Clone, Copy, Default)]
 pub(crate) struct Walks {
-    /// Those worlds in which both ends live.
+    /// Worlds in which both ends are live.
     walked: u32,
-    /// Of these those that came through by no more turns than there was left, and one.
+    /// Of these, worlds that came through by no more turns than what was left, and one.
     through: u32,
-    /// Those in which after some turn more was left than before it, or something that a user asked for was another.
+    /// Worlds in which after some turn more was left than before it, or a request of a user was different.
     grew: u32,
-    /// Those that were settled once TIME-WAIT ran out at both ends.
+    /// Worlds that were settled once TIME-WAIT had expired at both ends.
     settled: u32,
 }
 
 impl Walks {
-    /// Walks a world where both ends live.
+    /// Walks a world where both ends are live.
     pub(crate) fn take(
         &mut self,
         alloc: Global,

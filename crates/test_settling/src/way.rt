@@ -1,4 +1,4 @@
-//! The way on which a world settles: events of network, clock and reader alone, that hand over all that was accepted.
+//! The way on which a world settles: events of network, clock and reader alone, that deliver all that was accepted.
 //! Each turn is one of three, for one of the directions.
 use crate::facts::is_settled;
 use crate::failure::Failure;
@@ -7,21 +7,21 @@ use crate::segments::{Segment, segment_at};
 use tcp_conn::{Received, Timer};
 use tcp_replay::{Event, Outcome, Side, World};
 
-/// The most that a user asks for at once, in bytes: as much as an end can hold.
+/// The most that a user requests at once, in bytes: as much as an end can keep.
 const ROOM: usize = 1_048_576;
 
 /// As many segments as can be in flight: one for each byte, and the SYN and the FIN.
 const MOST_SEGMENTS: u32 = 1_048_578;
 
-/// The length of a segment without options and text. A reset has it.
+/// The length in bytes of a segment without options and text, as of a reset.
 const HEADER: usize = 20;
 
 /// A turn, for the direction of a side.
 #[derive(Clone, Copy)]
 enum Turn {
-    /// What is to be taken next is sent, again or for the first time, and delivered.
+    /// What has to be taken next is sent, again or for the first time, and delivered.
     Bring(Side),
-    /// All that was sent is taken, and the other side tells so.
+    /// All that was sent is taken, and the other side acknowledges it.
     Tell(Side),
 }
 
@@ -33,7 +33,7 @@ fn is_quiet(event: &Event) -> bool {
     )
 }
 
-/// No other event is on the way.
+/// Applies one event; any but a quiet one is a failure.
 fn do_event(world: &mut World, event: Event) -> Result<Outcome, Failure> {
     if !is_quiet(&event) {
         return Err(Failure);
@@ -41,7 +41,7 @@ fn do_event(world: &mut World, event: Event) -> Result<Outcome, Failure> {
     Ok(world.step(&event)?)
 }
 
-/// Emits what is due, and answers what that is.
+/// Emits what is due, and returns what that is.
 fn emit(world: &mut World, side: Side) -> Result<Option<(usize, Segment)>, Failure> {
     let Outcome::Emitted(Some(k)) = do_event(world, Event::Emit(side))? else {
         return Ok(None);
@@ -60,7 +60,7 @@ fn read_all(world: &mut World, side: Side) -> Result<(), Failure> {
     Ok(())
 }
 
-/// A reset that waits goes out first, and is lost; so may be an acknowledgement or a FIN alone.
+/// A waiting reset is sent first, and is lost; so may be an acknowledgement or a FIN alone.
 fn lose_reset(world: &mut World, side: Side) -> Result<(), Failure> {
     if world.endpoint(side).pending() == Some(HEADER) {
         emit(world, side)?;
@@ -68,7 +68,7 @@ fn lose_reset(world: &mut World, side: Side) -> Result<(), Failure> {
     Ok(())
 }
 
-/// All that is in flight from this side goes out again, and is lost: what goes out next stands at SND.NXT.
+/// All that is in flight from this side is sent again, and is lost: what is sent next is at SND.NXT.
 fn lose_flight(world: &mut World, nexts: &mut Nexts, side: Side) -> Result<(), Failure> {
     do_event(world, Event::Timer(side, Timer::Retransmit))?;
     let next = nexts.of(world, side);
@@ -84,7 +84,7 @@ fn lose_flight(world: &mut World, nexts: &mut Nexts, side: Side) -> Result<(), F
     Ok(())
 }
 
-/// The segment in which this side sends what stands at a position, again or for the first time.
+/// The segment in which this side sends what is at a position, again or for the first time.
 fn send_at(world: &mut World, side: Side, position: u64) -> Result<Option<usize>, Failure> {
     do_event(world, Event::Timer(side, Timer::Retransmit))?;
     for _ in 0..MOST_SEGMENTS {
@@ -111,7 +111,8 @@ fn bring(world: &mut World, side: Side) -> Result<(), Failure> {
     deliver(world, side, segment)
 }
 
-/// The other side has rested, and is sent what it has already: so it owes an acknowledgement, which is delivered.
+/// What the other side has in flight is lost, and it is sent what it has already: an acknowledgement is then pending,
+/// and is delivered.
 fn tell(world: &mut World, nexts: &mut Nexts, side: Side) -> Result<(), Failure> {
     lose_flight(world, nexts, other(side))?;
     let position = una(world, side);
@@ -121,7 +122,7 @@ fn tell(world: &mut World, nexts: &mut Nexts, side: Side) -> Result<(), Failure>
     deliver(world, other(side), answer.map(|(k, _)| k))
 }
 
-/// The next turn, if one is left: what is in flight goes first, then what is to be told, then what wasn't sent.
+/// The next turn, if one is left: first what is in flight, then what has to be acknowledged, then what wasn't sent.
 fn next_turn(world: &World, nexts: &mut Nexts) -> Option<Turn> {
     let (in_a, in_b) = (taken(world, Side::A), taken(world, Side::B));
     if in_a < nexts.of(world, Side::A) {
@@ -141,7 +142,7 @@ fn next_turn(world: &World, nexts: &mut Nexts) -> Option<Turn> {
     }
 }
 
-/// What each turn begins with: both users read, and resets that wait are lost.
+/// The beginning of each turn: both users read, and waiting resets are lost.
 fn clear(world: &mut World) -> Result<(), Failure> {
     read_all(world, Side::A)?;
     read_all(world, Side::B)?;
@@ -162,7 +163,7 @@ fn take_turn(world: &mut World, nexts: &mut Nexts) -> Result<bool, Failure> {
     Ok(true)
 }
 
-/// Both users read what is left, and the TIME-WAIT timers run out.
+/// Both users read what is left, and the TIME-WAIT timers expire.
 fn finish(world: &mut World) -> Result<(), Failure> {
     clear(world)?;
     do_event(world, Event::Timer(Side::A, Timer::TimeWait))?;
@@ -170,8 +171,8 @@ fn finish(world: &mut World) -> Result<(), Failure> {
     Ok(())
 }
 
-/// Leads a world to where all is handed over; whether it came there. Each turn brings on at least one position, or the
-/// knowledge of one.
+/// Leads a world to where all is delivered; returns whether it came there. Each turn moves at least one position on, or
+/// the knowledge of one.
 pub(crate) fn settle(world: &mut World) -> Result<bool, Failure> {
     let mut nexts = Nexts::default();
     for _ in 0..left_in(world) {

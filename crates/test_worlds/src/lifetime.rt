@@ -7,7 +7,7 @@ use tcp_conn::{Arrival, Config};
 use tcp_replay::{Event, Outcome, Side, World};
 use tcp_wire::{Addr, Seq};
 
-/// What the end at 10.0.0.`host`, port `host`, is made from.
+/// The Config of the end at 10.0.0.`host`, port `host`.
 fn config(host: u8, isn: u32) -> Config
     ensures port { result.port ≡ host }
     ensures isn { result.isn.0 ≡ isn }
@@ -29,8 +29,8 @@ fn handshake() -> [Event; 8] {
     ]
 }
 
-/// What comes after the two sends: A's segment 3 moves B on to position 5, so that segment 2, at position 1, is too old; and
-/// B's segment 1 moves A's SND.UNA on to 5, so that B's segment 0, which acknowledges position 1, is.
+/// The events after the two sends. A's segment 3 moves RCV.NXT of B on to position 5, so that segment 2, at position 1,
+/// is too old. B's segment 1 moves A's SND.UNA on to 5, so that B's segment 0, which acknowledges position 1, is too.
 fn later() -> [Event; 6] {
     [
         Event::Emit(Side::A),
@@ -42,7 +42,7 @@ fn later() -> [Event; 6] {
     ]
 }
 
-/// Applies an event, and prints what came of it.
+/// Applies an event, and prints its outcome.
 fn print_step(rt: &impl Print, world: &mut World, event: &Event) -> io::Result<()> {
     match world.step(event) {
         Ok(Outcome::Sent(Ok(count))) => println!(rt; "took {count}"),
@@ -93,7 +93,7 @@ fn new_world(alloc: Global) -> Option<World> {
     World::with_lifetime(alloc, config(1, 1000), config(2, 5000), 4).ok()
 }
 
-/// Two ends whose segments live four positions; whether what came of each event was printed.
+/// Two ends whose segments live four positions; returns whether the outcome of each event was printed.
 pub(crate) fn runs_with_lifetime(rt: &(impl Print + AllocGlobal)) -> bool {
     let Some(mut world) = new_world(rt.alloc()) else {
         return false;

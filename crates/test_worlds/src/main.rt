@@ -1,6 +1,7 @@
-//! Two ends and every segment between them as one value, driven by lists of events: an orderly connection, a run that stops at a
-//! segment that nobody emitted, a call that is refused, an end that can't be made; limits of streams, segments that expire in a
-//! world with a lifetime of four positions, and a stream over the end of the sequence numbers.
+//! Two ends and every segment between them as one value, driven by lists of events: an orderly connection, a run that
+//! stops at a segment that nobody emitted, a call that is refused, an end that can't be made; limits of streams,
+//! segments that expire in a world with a lifetime of four positions, and a stream over the end of the sequence
+//! numbers.
 #![tactic(auto)]
 
 mod events;

@@ -1,5 +1,5 @@
-//! Two ends driven by lists of events: an orderly connection, a run that stops at a segment that nobody emitted, a call that is
-//! refused, and an end that can't be made.
+//! Two ends driven by lists of events: an orderly connection, a run that stops at a segment that nobody emitted, a call
+//! that is refused, and an end that can't be made.
 ghost use Rattle.std.specs.Prelude.{◌≡◌};
 
 use crate::events::{connection, missing_segment};
@@ -9,7 +9,7 @@ use tcp_conn::Config;
 use tcp_replay::{Event, Outcome, Side, World};
 use tcp_wire::{Addr, Seq};
 
-/// What the end at 10.0.0.`host`, port `host`, is made from.
+/// The Config of the end at 10.0.0.`host`, port `host`.
 fn config(host: u8, isn: u32, mss: u16) -> Config
     ensures port { result.port ≡ host }
     ensures isn { result.isn.0 ≡ isn }
@@ -35,7 +35,7 @@ fn print_progress(rt: &impl Print, world: &World, side: Side) -> io::Result<()> 
     println!(rt; "  {released} bytes acknowledged, {ordered} bytes in order")
 }
 
-/// Prints what the side of this name had and did.
+/// Prints what the side of this name did and got.
 fn print_side(rt: &impl Print, name: &str, world: &World, side: Side) -> io::Result<()> {
     let accepted = str::from_utf8(world.accepted(side)).unwrap_or("?");
     let delivered = str::from_utf8(world.delivered(side)).unwrap_or("?");
@@ -62,7 +62,7 @@ fn run_connection(rt: &(impl Print + AllocGlobal), world: &mut World) -> io::Res
     print_run(rt, world, &events)
 }
 
-/// A connection, and both sides behind it.
+/// A connection, and both sides after it.
 fn print_orderly_connection(rt: &(impl Print + AllocGlobal), world: &mut World) -> io::Result<()> {
     run_connection(rt, world)?;
     print_side(rt, "A", world, Side::A)?;

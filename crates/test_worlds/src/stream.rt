@@ -1,4 +1,4 @@
-//! Two ends without a world, which keeps what they carry.
+//! Two ends without a world, which would keep what they carry.
 use std::alloc::Global;
 use std::io;
 use tcp_conn::{Config, ConfigError, EMIT_ROOM, Endpoint, MAX_LIMIT};
@@ -7,7 +7,7 @@ use tcp_wire::{Addr, Seq};
 /// What a user writes or reads at once: the text of two segments, in bytes.
 const PIECE: usize = 2048;
 
-/// So many pieces are 8,388,608 bytes.
+/// This many pieces are 8,388,608 bytes.
 const PIECES: u32 = 4096;
 
 fn new_end(alloc: Global, host: u8, isn: u32, limit: u64) -> Result<Endpoint, ConfigError> {
@@ -75,7 +75,7 @@ pub(crate) fn print_limits(rt: &(impl Print + AllocGlobal)) -> io::Result<()> {
     print_send(rt, &mut a, b"")
 }
 
-/// The bytes of a stream in turn, which nothing keeps.
+/// The bytes of a stream in order, which nothing keeps.
 #[derive(Drop)]
 struct Stream {
     state: u32,
@@ -107,7 +107,7 @@ impl Stream {
     }
 }
 
-/// Moves a piece from A's user to B's, and answers how many of its bytes came as they were sent.
+/// Moves a piece from A's user to B's, and returns how many of its bytes came as they were sent.
 fn move_piece(a: &mut Endpoint, b: &mut Endpoint, sent: &mut Stream, wanted: &mut Stream) -> u32 {
     let mut text = [0; PIECE];
     sent.fill(&mut text);

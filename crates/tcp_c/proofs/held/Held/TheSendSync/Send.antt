@@ -1,4 +1,4 @@
--- What is held says the same to every thread, so it may go to another.
+-- The content of a `Held` is the same for every thread, so it may go to another.
 use base.Fraction.{full_share}
 use base.Shift.{Keyless}
 use denote.RawPtr.{Ptr, block_ptr, null_ptr}

@@ -1,4 +1,4 @@
--- `settled` keeps the pointer and hands the region over: what may free the box owns nothing, with either allocator.
+-- `settled` keeps the pointer and returns the region: what may free the box owns nothing, with either allocator.
 use Rattle.std.proofs.Common.{◌≡◌, List, [], ◌∷◌, ◌++◌, refl, sym, subst}
 use mir.Val.{Val, vptr}
 use base.Logic.{SProp, ent, emp, id⊢}
