@@ -129,6 +129,9 @@ def main():
     kinds = [kind for kind in KINDS if kind.startswith("usernet") or shutil.which(kind.split(",")[0])]
     rows = {kind: [] for kind in kinds}
     with world.World(1 << 20) as place:
+        # Turns follow each other sooner than a port leaves TIME-WAIT.
+        for run in place.server, place.client:
+            run("sysctl", "-qw", "net.ipv4.ip_local_port_range=1024 65000", "net.ipv4.tcp_max_tw_buckets=1000")
         place.server("ip", "link", "add", "outside", "type", "veth", "peer", "name", "inside")
         place.server("ip", "addr", "add", "192.0.2.1/24", "dev", "outside")
         for device in "outside", "inside":

@@ -127,10 +127,18 @@ void congestion_clocked(struct congestion *congestion)
     congestion->allowed = 1;
 }
 
-void congestion_progress(struct congestion *congestion, uint64_t acked, uint64_t again)
+void congestion_progress(struct congestion *congestion, uint64_t released, int is_probed)
 {
-    congestion->is_keeping = acked > again;
-    congestion->allowed = congestion->is_keeping ? 1 : congestion->allowed + 1 + acked / congestion->mss;
+    uint64_t acked = smaller(released, congestion->recover) - congestion->released;
+    if (acked > congestion->again) {
+        congestion->is_keeping = 1;
+        congestion->drops = is_probed ? congestion->drops : 0;
+        congestion->allowed = 1;
+    } else if (released < congestion->recover) {
+        congestion->is_keeping = 0;
+        congestion->drops++;
+        congestion->allowed += 1 + acked / congestion->mss;
+    }
 }
 
 void congestion_idle(struct congestion *congestion)

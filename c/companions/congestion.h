@@ -39,6 +39,7 @@ struct congestion {
     uint32_t is_cubic;  /* the window grows and shrinks by RFC 9438 */
     uint32_t is_clocked; /* what goes out again is paced by acknowledgements, not by time */
     uint32_t is_keeping; /* where no block reports it: the peer was seen to keep what comes out of order */
+    uint32_t drops;     /* and so often in a row it was seen to keep nothing */
     uint32_t loss;      /* CONGESTION_OPEN .. CONGESTION_TIMED_OUT */
     uint32_t losses;    /* how often the window was halved */
     uint32_t timeouts;  /* how often it went down to one segment */
@@ -78,16 +79,18 @@ void congestion_lost(struct congestion *congestion, uint32_t loss, uint32_t coun
 void congestion_duplicate(struct congestion *congestion);
 
 /*
- * What was just found lost was told by duplicate acknowledgements (RFC 5681, 3.2): behind congestion_lost. One segment may go out
- * again, and further ones as congestion_progress says.
+ * What was just found lost was told by duplicate acknowledgements (RFC 5681, 3.2) or by silence: behind congestion_lost. One segment may
+ * go out again, and further ones as congestion_progress says.
  */
 void congestion_clocked(struct congestion *congestion);
 
 /*
- * Where is_clocked `acked` bytes are acknowledged; `again` had gone out again before (RFC 6582, 3.2). More than these: the peer had
- * kept what is behind them, and lacks what comes next: one segment. No more: it may lack all: two for each that was acknowledged.
+ * In a recovery without blocks `released` bytes are acknowledged now: before congestion_acknowledged. More than what had gone out again:
+ * the peer had kept what is behind it, and lacks what comes next: one segment. No more, and not all of what was sent when the loss was
+ * found: it may keep nothing out of order, and lack all: two for each that was acknowledged. Where silence was probed (`is_probed`) it
+ * may have been an acknowledgement that was lost, and that it keeps isn't certain.
  */
-void congestion_progress(struct congestion *congestion, uint64_t acked, uint64_t again);
+void congestion_progress(struct congestion *congestion, uint64_t released, int is_probed);
 
 /* Nothing was sent for so long that nothing is known of the path (RFC 5681, 4.1). */
 void congestion_idle(struct congestion *congestion);

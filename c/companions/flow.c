@@ -8,6 +8,9 @@
 /* So many segments are acknowledged at once (RFC 5681, 4.2), and so many duplicates mean a loss (3.2). */
 enum { ANSWERED = 2, DUPLICATES = 3 };
 
+/* So often a silence is probed, and so many partial acknowledgements in a row say that the peer keeps nothing out of order. */
+enum { PROBES = 2, DROPS = 2, MOST_DOUBLED = 16 };
+
 /* So long, in milliseconds, a peer may delay the acknowledgement of a single segment (RFC 8985, 7.2). */
 enum { DELAYED = 200 };
 
@@ -78,35 +81,80 @@ static uint64_t patience(const struct flow *flow)
     return (trip + (trip > spread ? trip : spread)) / 1000 + 1 + delayed;
 }
 
-/* Silence is probed once for all that comes without progress. */
+/* Silence is probed twice for all that comes without progress. Each probe doubles the time to the next one, until a round trip is
+   measured: where the path has grown longer no more go out than that takes (Karn's rule, of RFC 6298, 5.5 and 5.7). */
 static void await(struct flow *flow, uint64_t now)
 {
-    int is_due = !flow->is_probed && !flow->is_shut && !flow->has_blocks && flow->timers.samples > 0 && flight_of(flow) > 0;
-    flow->probe_at = is_due ? now + patience(flow) : TIMERS_NEVER;
+    int is_due = flow->probed < PROBES && !flow->is_shut && flow->timers.samples > 0 && flight_of(flow) > 0;
+    if (flow->sampled != flow->timers.samples)
+        flow->doubled = 0;
+    flow->sampled = flow->timers.samples;
+    flow->probe_at = is_due ? now + (patience(flow) << flow->doubled) : TIMERS_NEVER;
 }
 
-/* The first segment goes out again at once, and what follows it as more is acknowledged (RFC 5681, 3.2; RFC 6582, 3.2). */
-static int begin_clocked(struct flow *flow, tcpcore_end *end, uint64_t now)
+/* A loss was found by duplicates or silence: what is to be sent again now is all that was sent, or its first segment. */
+static int begin(struct flow *flow, int is_all, uint64_t now)
+{
+    congestion_lost(&flow->congestion, CONGESTION_RECOVERY, 0, now);
+    flow->is_all = is_all != 0;
+    flow->is_resending = 1;
+    return 1;
+}
+
+/* The first segment alone goes out again at once, and the next that lacks as more is acknowledged (RFC 5681, 3.2; RFC 6582, 3.2). */
+static int begin_first(struct flow *flow, tcpcore_end *end, uint64_t now)
+{
+    if (tcpcore_resend_first(end) != TCPCORE_DONE)
+        return 0;
+    begin(flow, 0, now);
+    congestion_clocked(&flow->congestion);
+    return 1;
+}
+
+/* A peer that keeps nothing out of order lacks all behind a loss: it goes out again at the pace of the window, and anew where of that
+   something is lost. */
+static int begin_all(struct flow *flow, tcpcore_end *end, uint64_t now)
+{
+    return tcpcore_timer(end, TCPCORE_TIMER_RETRANSMIT) == TCPCORE_DONE && begin(flow, 1, now);
+}
+
+/* What went out again behind a timeout was lost, too. */
+static int begin_anew(struct flow *flow, tcpcore_end *end, uint64_t now)
 {
     if (tcpcore_timer(end, TCPCORE_TIMER_RETRANSMIT) != TCPCORE_DONE)
         return 0;
-    congestion_lost(&flow->congestion, CONGESTION_RECOVERY, 0, now);
-    congestion_clocked(&flow->congestion);
-    flow->is_resending = 1;
+    congestion_lost(&flow->congestion, CONGESTION_TIMED_OUT, 2, now);
+    flow->is_all = flow->is_resending = 1;
     return 1;
 }
 
 /* Without blocks the third duplicate means a loss (RFC 5681, 3.2). Before that each of two lets a segment more out (RFC 3042). */
 static void duplicate(struct flow *flow, tcpcore_end *end, uint64_t now)
 {
-    if (flow->is_shut || flow->congestion.loss != CONGESTION_OPEN)
+    uint32_t loss = flow->congestion.loss;
+    int is_dropping = flow->congestion.drops >= DROPS;
+    if (flow->is_shut || loss == CONGESTION_TIMED_OUT || (loss == CONGESTION_RECOVERY && !is_dropping))
         return;
     if (++flow->same < DUPLICATES) {
         congestion_duplicate(&flow->congestion);
         return;
     }
-    if (flow->same == DUPLICATES && begin_clocked(flow, end, now))
+    if (flow->same == DUPLICATES && (is_dropping ? begin_all(flow, end, now) : begin_first(flow, end, now)))
         flow->fast++;
+}
+
+/* A partial acknowledgement: of what was sent when the loss was found something still lacks. It is the segment that comes next (RFC
+   6582, 3.2), or, where the peer keeps nothing out of order, all. */
+static void partial(struct flow *flow, tcpcore_end *end)
+{
+    struct congestion *congestion = &flow->congestion;
+    if (congestion->is_keeping && tcpcore_resend_first(end) == TCPCORE_DONE) {
+        congestion_clocked(congestion);
+        flow->is_all = 0;
+    } else if (!flow->is_all) {
+        flow->is_all = tcpcore_timer(end, TCPCORE_TIMER_RETRANSMIT) == TCPCORE_DONE;
+    }
+    flow->is_resending = 1;
 }
 
 /* What an arrival acknowledges, and what it says of losses; of blocks where it has nothing but options. */
@@ -114,19 +162,20 @@ static void acknowledged(struct flow *flow, tcpcore_end *end, const struct tcpco
                          const struct tcpcore_status *after, uint64_t now)
 {
     struct congestion *congestion = &flow->congestion;
-    uint64_t acked = taken->acked, again = congestion->again;
-    int is_same = taken->is_duplicate != 0;
+    int is_same = taken->is_duplicate != 0, is_recovery = congestion->loss == CONGESTION_RECOVERY;
+    int is_partial = taken->acked > 0 && is_recovery && !after->sack;
     if (after->mss > 0)
         congestion_agreed(congestion, after->mss);
     congestion_clock(congestion, now, trip_of(flow));
+    if (is_partial)
+        congestion_progress(congestion, after->released, flow->probed > 0);
     congestion_acknowledged(congestion, after->released, after->sack ? tells_blocks : is_same && congestion->is_keeping);
-    flow->has_blocks = after->sack;
-    if (acked > 0)
-        flow->same = flow->is_probed = 0;
-    if (acked > 0 || is_same)
+    if (taken->acked > 0)
+        flow->same = flow->probed = 0;
+    if (taken->acked > 0 || is_same)
         await(flow, now);
-    if (acked > 0 && congestion->is_clocked)
-        congestion_progress(congestion, acked, again);
+    if (is_partial && congestion->loss == CONGESTION_RECOVERY)
+        partial(flow, end);
     if (is_same && !after->sack)
         duplicate(flow, end, now);
 }
@@ -262,14 +311,19 @@ static uint32_t keep_alive(struct flow *flow, tcpcore_end *end, uint64_t now)
     return TIMERS_RAN;
 }
 
-/* Silence: the first segment goes out again, long before the timeout, which stays what it is (RFC 8985, 7.3). */
+/* Silence: the first segment goes out again, long before the timeout, which stays what it is (RFC 8985, 7.3). Behind a timeout what goes
+   out again was lost, too: all begins anew from one segment. */
 static uint32_t probe(struct flow *flow, tcpcore_end *end, uint64_t now)
 {
     if (flow->probe_at > now)
         return 0;
     flow->probe_at = TIMERS_NEVER;
-    flow->is_probed = 1;
-    if (flow->congestion.loss == CONGESTION_TIMED_OUT || flow->timers.resent > 0 || !begin_clocked(flow, end, now))
+    flow->probed++;
+    if (flow->doubled < MOST_DOUBLED)
+        flow->doubled++;
+    if (flow->timers.resent > 0)
+        return 0;
+    if (flow->congestion.loss != CONGESTION_TIMED_OUT ? !begin_first(flow, end, now) : !begin_anew(flow, end, now))
         return 0;
     flow->probes++;
     return TIMERS_RAN;
@@ -294,24 +348,30 @@ uint32_t flow_run(struct flow *flow, tcpcore_end *end, uint64_t now)
     return found | probe(flow, end, now) | keep_alive(flow, end, now);
 }
 
-/* Whether an acknowledgement is all that is due. */
-static int answers_alone(const tcpcore_end *end)
+/* What becomes of what is due. */
+enum { GOES, WAITS, ANSWERS };
+
+/* Whether an acknowledgement without blocks is all that is due, in a phase in which it may wait for a second segment. */
+static int answers_alone(const tcpcore_end *end, const struct tcpcore_transmit *next)
 {
-    uint32_t phase = status_of(end).phase, length = 0;
-    tcpcore_pending(end, &length);
-    return length == SEGMENT_HEADER && (phase == TCPCORE_PHASE_ESTABLISHED || phase == TCPCORE_PHASE_FIN_WAIT_2);
+    uint32_t phase = status_of(end).phase;
+    return next->kind == TCPCORE_KIND_ACKNOWLEDGEMENT && next->length == SEGMENT_HEADER &&
+           (phase == TCPCORE_PHASE_ESTABLISHED || phase == TCPCORE_PHASE_FIN_WAIT_2);
 }
 
-/* Whether what is due waits: what goes out again for its pace, and an acknowledgement for a second segment. */
-static int waits(struct flow *flow, const tcpcore_end *end, uint64_t now)
+/* What goes out again waits for its pace, and an acknowledgement for a second segment; where only the acknowledgement may not wait it
+   goes out alone. */
+static int fate_of(struct flow *flow, const tcpcore_end *end, uint64_t now)
 {
+    struct tcpcore_transmit next;
     int may_wait = !flow->is_owed && now < flow->answer_at;
-    /* All of it was acknowledged meanwhile. */
-    if (flow->is_resending && answers_alone(end))
+    tcpcore_next(end, &next);
+    /* All of it was acknowledged meanwhile, or has gone out. */
+    if (next.kind != TCPCORE_KIND_TEXT_AGAIN && next.kind != TCPCORE_KIND_FIN_AGAIN)
         flow->is_resending = 0;
     if (flow->is_resending && !congestion_may_resend(&flow->congestion, now, trip_of(flow)))
-        return may_wait;
-    return may_wait && flow->unanswered > 0 && answers_alone(end);
+        return may_wait ? WAITS : ANSWERS;
+    return may_wait && flow->unanswered > 0 && answers_alone(end, &next) ? WAITS : GOES;
 }
 
 /* Nothing that came waits for an acknowledgement. */
@@ -330,8 +390,6 @@ static void sent(struct flow *flow, const tcpcore_end *end, const uint8_t *segme
     if (timers_sent(&flow->timers, transmit, now)) {
         congestion_resent(&flow->congestion, transmit->count);
         flow->resent++;
-    } else {
-        flow->is_resending = 0;
     }
     if (transmit->count > 0) {
         flow->sent_at = now;
@@ -370,37 +428,36 @@ static int goes(struct flow *flow, const tcpcore_end *end, uint8_t *segment, siz
                                                          step_of(flow), now);
 }
 
-/* tcpcore_transmit, with what tcpcore_emit reports. */
-static uint32_t transmitted(tcpcore_end *end, void *out, size_t room, tcpcore_addr *to, size_t *length,
-                            struct tcpcore_transmit *transmit)
+/* What is due is written, with a report of it; or the acknowledgement alone. */
+static uint32_t transmitted(tcpcore_end *end, int is_alone, void *out, size_t room, struct tcpcore_transmit *transmit)
 {
-    uint32_t answer = tcpcore_transmit(end, out, room, transmit);
-    *to = transmit->to;
-    *length = (size_t)transmit->length;
+    size_t length;
+    if (!is_alone)
+        return tcpcore_transmit(end, out, room, transmit);
+    *transmit = (struct tcpcore_transmit){.kind = TCPCORE_KIND_ACKNOWLEDGEMENT};
+    uint32_t answer = tcpcore_emit_acknowledgement(end, out, room, &transmit->to, &length);
+    transmit->length = length;
     return answer;
 }
 
 uint32_t flow_emit(struct flow *flow, tcpcore_end *end, void *out, size_t room, tcpcore_addr *to, size_t *length,
                    uint64_t now)
 {
-    struct tcpcore_transmit transmit;
+    struct tcpcore_transmit transmit = {.kind = TCPCORE_KIND_NONE};
     /* Which tcpcore_emit refuses. */
     if (!to || !length)
         return tcpcore_emit(end, out, room, to, length);
-    if (waits(flow, end, now)) {
-        *to = (tcpcore_addr){{0, 0, 0, 0}};
-        *length = 0;
-        return TCPCORE_NOT_DUE;
-    }
-    uint32_t answer = transmitted(end, out, room, to, length, &transmit);
-    while (answer == TCPCORE_DONE && !goes(flow, end, out, *length, now))
-        answer = transmitted(end, out, room, to, length, &transmit);
+    uint32_t answer = TCPCORE_NOT_DUE;
+    int fate = fate_of(flow, end, now);
+    do
+        answer = fate == WAITS ? TCPCORE_NOT_DUE : transmitted(end, fate == ANSWERS, out, room, &transmit);
+    while (answer == TCPCORE_DONE && !goes(flow, end, out, (size_t)transmit.length, now));
     if (answer == TCPCORE_DONE)
         sent(flow, end, out, &transmit, now);
-    if (answer == TCPCORE_NOT_DUE) {
+    if (answer == TCPCORE_NOT_DUE && fate != WAITS)
         answered(flow);
-        flow->is_resending = 0;
-    }
+    *to = transmit.to;
+    *length = (size_t)transmit.length;
     return answer;
 }
 

@@ -1,11 +1,12 @@
 /*
  * flow.h: one end with its times and its flow: congestion control, what goes out again paced, a loss found by duplicate
- * acknowledgements, and by silence, where the peer reports no blocks (RFC 5681, 3.2; RFC 6582; RFC 8985, 7), acknowledgements
+ * acknowledgements where the peer reports no blocks (RFC 5681, 3.2; RFC 6582), and by silence (RFC 8985, 7), acknowledgements
  * delayed (RFC 9293, 3.8.6.3; RFC 5681, 4.2) and limited (RFC 5961, 7), and no silly windows (RFC 9293, 3.8.6.2): none is
  * advertised, and none is filled.
  *
  * This is C over tcpcore.h, timers.h, congestion.h and answers.h, tested and not proved. tcpcore_taken, tcpcore_send,
- * tcpcore_receive and tcpcore_transmit are called through it, and so is timers_run; all other calls are made as they are.
+ * tcpcore_receive, tcpcore_transmit, tcpcore_emit_acknowledgement and tcpcore_resend_first are called through it, and so is timers_run;
+ * all other calls are made as they are.
  *
  * The caller has the clock: `now` is a count of milliseconds that never goes back. In each turn of its loop it
  *   1. hands a batch of arrivals to flow_arrive, and emits at once where `is_urgent` is set then,
@@ -61,16 +62,18 @@ struct flow {
     uint64_t heard_at;      /* when a segment came last */
     uint64_t asked_at;      /* when a silent peer was asked last */
     struct flow_keep keep;
+    uint32_t sampled;       /* the round trips that were measured when `doubled` was last 0 */
     uint32_t asked;         /* how often a silent peer was asked without an answer */
     uint32_t same;          /* duplicate acknowledgements in a row (RFC 5681, 2) */
     uint32_t options;       /* bytes of options in the last segment behind the handshake, of which its text has so many fewer */
     uint8_t choices;        /* FLOW_CUBIC, FLOW_NAGLE */
     uint8_t is_overridden;  /* it may */
-    uint8_t is_probed;      /* since the last progress a silence was probed: what comes next is the timeout's */
-    uint8_t has_blocks;     /* the peer reports blocks (RFC 2018) */
+    uint8_t probed;         /* how often silence was probed since the last progress: at most twice, then it is the timeout's */
+    uint8_t doubled;        /* how often since a round trip was measured: the time to the next one is doubled as often */
     uint8_t is_asking;      /* the next segment asks whether the peer is there */
     uint8_t is_shut;        /* the peer's window is, as the end has it: an old segment may say another */
     uint8_t is_resending;   /* what goes out next may go out again */
+    uint8_t is_all;         /* and that is all that was sent, not its first segment */
     uint8_t is_owed;        /* an acknowledgement may not wait */
     uint8_t is_urgent;      /* not even for the next arrival: emit now (RFC 5681, 4.2) */
 };
@@ -88,9 +91,10 @@ void flow_choose(struct flow *flow, uint32_t choices);
 void flow_keep_alive(struct flow *flow, const struct flow_keep *keep);
 
 /*
- * tcpcore_take, and its answer. Of duplicate acknowledgements the third one without blocks means a loss: the end has to send
- * again. So it is by a SYN that comes again in SYN-RECEIVED, as the SYN,ACK was lost: it goes out in place of an acknowledgement,
- * at most once in ANSWERS_QUIET milliseconds. Sets is_urgent where that wants an answer at once.
+ * tcpcore_take, and its answer. Of duplicate acknowledgements the third one without blocks means a loss: the first segment goes out
+ * again, and the next that lacks at each partial acknowledgement; all of them where the peer was seen to keep nothing out of order. A
+ * SYN that comes again in SYN-RECEIVED says that the SYN,ACK was lost: it goes out in place of an acknowledgement, at most once in
+ * ANSWERS_QUIET milliseconds. Sets is_urgent where that wants an answer at once.
  */
 uint32_t flow_arrive(struct flow *flow, tcpcore_end *end, tcpcore_addr src, tcpcore_addr dst, const void *bytes,
                      size_t length, uint64_t now);
@@ -115,8 +119,8 @@ uint32_t flow_receive(struct flow *flow, tcpcore_end *end, void *out, size_t roo
 /* It is `now`: timers_run, and its answer. */
 uint32_t flow_run(struct flow *flow, tcpcore_end *end, uint64_t now);
 
-/* tcpcore_emit. It is NOT_DUE, too, where an acknowledgement may wait or is withheld, or what goes out again has to wait. What is
-   withheld was written to `out` all the same. */
+/* tcpcore_emit. It is NOT_DUE, too, where an acknowledgement may wait or is withheld, or what goes out again has to wait: then an
+   acknowledgement that may not goes out alone. What is withheld was written to `out` all the same. */
 uint32_t flow_emit(struct flow *flow, tcpcore_end *end, void *out, size_t room, tcpcore_addr *to, size_t *length,
                    uint64_t now);
 

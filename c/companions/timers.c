@@ -8,6 +8,9 @@
 /* After a SYN that was sent again the timeout begins here (RFC 6298, 5.7). */
 enum { AFTER_SYN_RESENT = 3000 };
 
+/* So often the time for reordering is doubled. */
+enum { MOST_REORDERED = 16 };
+
 const struct timers_rules TIMERS_RULES = {
     .first_rto = 1000, .least_rto = 1000, .greatest_rto = 60000, .granularity = 1, .time_wait = 240000,
     .r1 = 3, .r2 = 100000, .syn_limit = 180000, .syn_ack_limit = 180000};
@@ -22,16 +25,21 @@ void timers_init(struct timers *timers, const struct timers_rules *rules)
         timers->deadline[timer] = TIMERS_NEVER;
 }
 
-/* How long a timer takes, in milliseconds. Reordering is given one round trip, or the timeout where none was
-   measured. */
+/* Reordering is given one round trip; without progress twice as much from the second run-out on, and after each, and the timeout at
+   most: a path that has grown longer isn't filled with what is on its way (as the timeout is backed off: RFC 6298, 5.5). */
+static uint64_t reordering(const struct timers *timers)
+{
+    uint64_t trip = (timers->srtt + 999) / 1000, least = timers->rules.granularity;
+    uint64_t given = (trip > least ? trip : least) << (timers->reordered > 0 ? timers->reordered - 1 : 0);
+    return timers->samples > 0 && given < timers->rto ? given : timers->rto;
+}
+
+/* How long a timer takes, in milliseconds. */
 static uint64_t span(const struct timers *timers, uint32_t timer)
 {
-    uint32_t trip = (timers->srtt + 999) / 1000, least = timers->rules.granularity;
     if (timer == TCPCORE_TIMER_RETRANSMIT)
         return timers->rto;
-    if (timer == TCPCORE_TIMER_TIME_WAIT)
-        return timers->rules.time_wait;
-    return timers->samples == 0 ? timers->rto : trip > least ? trip : least;
+    return timer == TCPCORE_TIMER_TIME_WAIT ? timers->rules.time_wait : reordering(timers);
 }
 
 /* A segment went out that begins at a position, and takes so many numbers (RFC 9293, 3.4). Whether it was sent again. */
@@ -122,6 +130,7 @@ static void progress(struct timers *timers, uint64_t una, uint64_t now)
 {
     int ends_handshake = timers->una == 0;
     timers->una = una;
+    timers->reordered = 0;
     if (ends_handshake && timers->resent > 0 && timers->rules.first_rto < AFTER_SYN_RESENT)
         timers->rto = AFTER_SYN_RESENT;
     if (timers->timed_at != TIMERS_NEVER && una >= timers->timed) {
@@ -209,6 +218,8 @@ uint32_t timers_run(struct timers *timers, tcpcore_end *end, uint64_t now)
             found |= retransmit(timers, end, now);
         else if (tcpcore_timer(end, timer) == TCPCORE_DONE)
             found |= timer == TCPCORE_TIMER_REORDER ? TIMERS_RAN | TIMERS_LOST : TIMERS_RAN;
+        if (timer == TCPCORE_TIMER_REORDER && timers->reordered < MOST_REORDERED)
+            timers->reordered++;
         timers->deadline[timer] = now + span(timers, timer);
     }
     if (found)

@@ -53,6 +53,7 @@ struct timers {
     uint32_t rto;           /* the retransmission timeout, backed off as it may be, in milliseconds */
     uint32_t srtt, rttvar;  /* the smoothed round trip and its variation, in microseconds (RFC 6298, 2) */
     uint32_t samples;       /* how many round trips were measured */
+    uint32_t reordered;     /* how often Reorder ran out without progress */
     uint32_t resent;        /* how often the timeout ran out without progress */
     uint64_t since;         /* when progress was seen last, or sending began */
     uint64_t una;           /* SND.UNA as tcpcore_status told it last */

@@ -63,9 +63,10 @@ static int bring_up(const struct tun_config *config)
     return bad ? fails(config->name) : 0;
 }
 
-static int make(const struct tun_config *config)
+/* One queue of the device, which the first of them makes. */
+static int queue(const struct tun_config *config, short kind)
 {
-    short flags = (short)(IFF_TUN | IFF_NO_PI | (config->offloads ? IFF_VNET_HDR : 0));
+    short flags = (short)(IFF_TUN | IFF_NO_PI | kind | (config->offloads ? IFF_VNET_HDR : 0));
     struct ifreq request = {.ifr_flags = flags};
     int device = open("/dev/net/tun", O_RDWR | O_NONBLOCK | O_CLOEXEC), header = TUN_HEADER;
     snprintf(request.ifr_name, sizeof request.ifr_name, "%s", config->name);
@@ -74,7 +75,7 @@ static int make(const struct tun_config *config)
     if (config->offloads && (ioctl(device, TUNSETVNETHDRSZ, &header) != 0 ||
                              ioctl(device, TUNSETOFFLOAD, TUN_F_CSUM | TUN_F_TSO4) != 0))
         return fails("offloads");
-    return bring_up(config) == 0 ? device : -1;
+    return device;
 }
 
 /* One descriptor over a socket: sent where `device` isn't negative, else received. */
@@ -96,20 +97,32 @@ static int pass(int channel, int device)
     return sendmsg(channel, &message, 0) == 1 ? 0 : -1;
 }
 
-int tun_open(const struct tun_config *config)
+/* What the child does: each queue is handed over as it is made. */
+static int make(const struct tun_config *config, int channel, uint32_t count)
 {
-    int channel[2], device;
-    if (socketpair(AF_UNIX, SOCK_STREAM | SOCK_CLOEXEC, 0, channel) != 0)
-        return fails("socketpair");
-    pid_t child = fork();
-    if (child == 0) {
-        device = enter(config) == 0 ? make(config) : -1;
-        _exit(device < 0 || pass(channel[1], device) != 0);
+    if (enter(config) != 0)
+        return -1;
+    for (uint32_t at = 0; at < count; at++) {
+        int device = queue(config, count > 1 ? IFF_MULTI_QUEUE : 0);
+        if (device < 0 || (at == 0 && bring_up(config) != 0) || pass(channel, device) != 0)
+            return -1;
     }
+    return 0;
+}
+
+int tun_open(const struct tun_config *config, int *queues, uint32_t count)
+{
+    int channel[2], made = 1;
+    if (socketpair(AF_UNIX, SOCK_STREAM | SOCK_CLOEXEC, 0, channel) != 0)
+        return fails("socketpair") == 0;
+    pid_t child = fork();
+    if (child == 0)
+        _exit(make(config, channel[1], count) < 0);
     close(channel[1]);
-    device = child < 0 ? fails("fork") : pass(channel[0], -1);
+    for (uint32_t at = 0; child > 0 && at < count && made; at++)
+        made = (queues[at] = pass(channel[0], -1)) >= 0;
     close(channel[0]);
     if (child > 0)
         waitpid(child, NULL, 0);
-    return device;
+    return child < 0 ? fails("fork") == 0 : made;
 }

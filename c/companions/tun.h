@@ -21,7 +21,11 @@ struct tun_config {
     int offloads;       /* whether packets of more than the MTU are exchanged, each behind a TUN_HEADER */
 };
 
-/* Makes the device and brings it up. Its descriptor doesn't block; -1 where it can't be had, with a line on stderr. */
-int tun_open(const struct tun_config *config);
+/*
+ * Makes the device with `count` queues, 1 to 256, and brings it up. The descriptors of the queues don't block. A packet of the
+ * namespace comes out of the queue that its connection's last packet went into, or else of one by a hash. Whether it could; where
+ * not, there is a line on stderr.
+ */
+int tun_open(const struct tun_config *config, int *queues, uint32_t count);
 
 #endif

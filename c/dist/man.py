@@ -72,6 +72,12 @@ def entries(body, form):
     return [(" ".join(name.split()), text or "") for name, text in found]
 
 
+def fields(body):
+    """A struct's fields, each below its comment, as (declaration, comment)."""
+    form = r"/\*((?:(?!\*/).)*)\*/\s*((?:uint\d+_t|size_t|tcpcore_addr|tcpcore_piece|const void) \*?\w+(?:\[\d+\])?);"
+    return [(declaration, text) for text, declaration in re.findall(form, body, re.S)]
+
+
 def tagged(pairs):
     out = []
     for name, text in pairs:
@@ -116,8 +122,7 @@ def main():
     for tag, body in re.findall(r"struct (tcpcore_\w+) \{\n(.*?)^\}", header, re.M | re.S):
         if tag in ("tcpcore_end", "tcpcore_addr"):
             continue
-        fields = [pair for pair in entries(body, r"((?:uint\d+_t|size_t|tcpcore_addr|tcpcore_piece|const void) \*?\w+(?:\[\d+\])?);")]
-        out += [f'.SH "STRUCT {tag}"', *tagged(fields)]
+        out += [f'.SH "STRUCT {tag}"', *tagged(fields(body))]
     out += [".SH \"SEE ALSO\"", "RFC 9293, RFC 7323, RFC 2018; docs/EMBEDDING.md of the tarball."]
     print("\n".join(out))
 

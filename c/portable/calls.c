@@ -302,6 +302,22 @@ static uint32_t tcp_c_emit_partial(struct handle *handle, uint8_t *out, size_t r
     return answer;
 }
 
+static uint32_t tcp_c_emit_acknowledgement(struct handle *handle, uint8_t *out, size_t room, tcpcore_addr *to, size_t *length)
+{
+    WITH_END(handle);
+    put_written(&call, to, out, room);
+    uint32_t answer = w2c_tcp_c_emit_acknowledgement(M, AT_HANDLE, WINDOW(IN_WRITTEN), length_of(room), AT_DST, AT_FOUND);
+    get_written(&call, to, length);
+    end_with(&call, handle);
+    return answer;
+}
+
+static uint32_t tcp_c_resend_first(struct handle *handle)
+{
+    WITH_END(handle);
+    ANSWER(handle, w2c_tcp_c_resend_first(M, AT_HANDLE));
+}
+
 static uint32_t tcp_c_parts(struct handle *handle, uint8_t *header, size_t room, struct parts *parts)
 {
     WITH_END(handle);

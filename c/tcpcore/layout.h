@@ -1,6 +1,6 @@
 /*
  * Where each field of the library's structs lies, and how many bytes it takes (crate tcp_c, src/records.rt), on any machine.
- * tcpcore.c alone includes it.
+ * tcpcore.c alone includes it. Made by layout.py: change nothing here.
  */
 #ifndef TCPCORE_LAYOUT_H
 #define TCPCORE_LAYOUT_H
@@ -11,7 +11,7 @@
     _Static_assert(offsetof(type, field) == (at) && sizeof((type){0}.field) == (size), #field " isn't the library's")
 
 FIELD(tcpcore_addr, byte, 0, 4);
-_Static_assert(sizeof(tcpcore_addr) == 4, "the address of the library");
+_Static_assert(sizeof(tcpcore_addr) == 4, "the size of tcpcore_addr");
 FIELD(tcpcore_config, addr, 0, 4);
 FIELD(tcpcore_config, port, 4, 2);
 FIELD(tcpcore_config, mss, 6, 2);
@@ -22,7 +22,7 @@ FIELD(tcpcore_config, limit, 32, 8);
 FIELD(tcpcore_config, window_shift, 40, 1);
 FIELD(tcpcore_config, scales, 41, 1);
 FIELD(tcpcore_config, sack, 42, 1);
-_Static_assert(sizeof(tcpcore_config) == 48, "the config of the library");
+_Static_assert(sizeof(tcpcore_config) == 48, "the size of tcpcore_config");
 FIELD(struct tcpcore_status, phase, 0, 4);
 FIELD(struct tcpcore_status, ending, 4, 4);
 FIELD(struct tcpcore_status, unread, 8, 8);
@@ -43,27 +43,26 @@ FIELD(struct tcpcore_status, rcv_wnd, 84, 4);
 FIELD(struct tcpcore_status, nxt, 88, 8);
 FIELD(struct tcpcore_status, closing, 96, 4);
 FIELD(struct tcpcore_status, finished, 100, 4);
-/* The library's status ends here: it writes nothing behind. */
+/* The library writes nothing behind these. */
 FIELD(struct tcpcore_status, reserved, 104, 24);
-_Static_assert(sizeof(struct tcpcore_status) == 128, "the status of every version");
+_Static_assert(sizeof(struct tcpcore_status) == 128, "the size of struct tcpcore_status");
 FIELD(struct tcpcore_taken, at_once, 0, 4);
 FIELD(struct tcpcore_taken, rule, 4, 4);
 FIELD(struct tcpcore_taken, acked, 8, 8);
 FIELD(struct tcpcore_taken, brought, 16, 4);
 FIELD(struct tcpcore_taken, is_duplicate, 20, 4);
 FIELD(struct tcpcore_taken, window_taken, 24, 4);
-/* What the library reports of an arrival ends here. */
+/* The library writes nothing behind these. */
 FIELD(struct tcpcore_taken, reserved, 28, 36);
-_Static_assert(sizeof(struct tcpcore_taken) == 64, "what is reported of an arrival, in every version");
+_Static_assert(sizeof(struct tcpcore_taken) == 64, "the size of struct tcpcore_taken");
 FIELD(struct tcpcore_transmit, to, 0, 4);
 FIELD(struct tcpcore_transmit, kind, 4, 4);
 FIELD(struct tcpcore_transmit, length, 8, 8);
 FIELD(struct tcpcore_transmit, position, 16, 8);
 FIELD(struct tcpcore_transmit, count, 24, 8);
-/* And of a segment. */
+/* The library writes nothing behind these. */
 FIELD(struct tcpcore_transmit, reserved, 32, 32);
-_Static_assert(sizeof(struct tcpcore_transmit) == 64, "what is reported of a segment, in every version");
-
+_Static_assert(sizeof(struct tcpcore_transmit) == 64, "the size of struct tcpcore_transmit");
 FIELD(struct tcpcore_rest, mark, 0, 4);
 FIELD(struct tcpcore_rest, addr, 4, 4);
 FIELD(struct tcpcore_rest, peer_addr, 8, 4);
@@ -80,7 +79,40 @@ FIELD(struct tcpcore_rest, shift, 42, 1);
 FIELD(struct tcpcore_rest, ack, 43, 1);
 FIELD(struct tcpcore_rest, reset, 44, 2);
 FIELD(struct tcpcore_rest, ending, 46, 2);
-_Static_assert(sizeof(struct tcpcore_rest) == 48, "what rests, with no byte between its fields");
+_Static_assert(sizeof(struct tcpcore_rest) == 48, "the size of struct tcpcore_rest");
+
+/* Bytes that are lent where they lie, in two parts. An address has 64 bits on any machine. */
+struct lent {
+    uint64_t first;
+    uint64_t first_length;
+    uint64_t second;
+    uint64_t second_length;
+    uint32_t ends;
+    uint32_t padding; /* where a number of 64 bits is aligned to 4 bytes, too */
+};
+FIELD(struct lent, first, 0, 8);
+FIELD(struct lent, first_length, 8, 8);
+FIELD(struct lent, second, 16, 8);
+FIELD(struct lent, second_length, 24, 8);
+FIELD(struct lent, ends, 32, 4);
+_Static_assert(sizeof(struct lent) == 40, "the size of struct lent");
+
+/* A segment that is due: its header was written, and its text is lent. An address has 64 bits on any machine. */
+struct parts {
+    tcpcore_addr to;
+    uint32_t header;
+    uint64_t first;
+    uint64_t first_length;
+    uint64_t second;
+    uint64_t second_length;
+};
+FIELD(struct parts, to, 0, 4);
+FIELD(struct parts, header, 4, 4);
+FIELD(struct parts, first, 8, 8);
+FIELD(struct parts, first_length, 16, 8);
+FIELD(struct parts, second, 24, 8);
+FIELD(struct parts, second_length, 32, 8);
+_Static_assert(sizeof(struct parts) == 40, "the size of struct parts");
 
 #undef FIELD
 

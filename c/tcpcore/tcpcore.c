@@ -26,26 +26,6 @@ struct block {
 
 #define UNIT 16
 
-/* Bytes that the library lends, in two parts, and a segment of which it lends the text. An address has 64 bits on any machine. */
-struct lent {
-    uint64_t first, first_length, second, second_length;
-    uint32_t ends;
-    uint32_t padding; /* where a number of 64 bits is aligned to 4 bytes, too */
-};
-
-struct parts {
-    tcpcore_addr to;
-    uint32_t header;
-    uint64_t first, first_length, second, second_length;
-};
-
-_Static_assert(offsetof(struct lent, first_length) == 8, "what is lent, of the library");
-_Static_assert(offsetof(struct lent, second) == 16 && offsetof(struct lent, second_length) == 24, "what is lent, of the library");
-_Static_assert(offsetof(struct lent, ends) == 32 && sizeof(struct lent) == 40, "what is lent, of the library");
-_Static_assert(offsetof(struct parts, header) == 4 && offsetof(struct parts, first) == 8, "the parts of the library");
-_Static_assert(offsetof(struct parts, first_length) == 16 && offsetof(struct parts, second) == 24, "the parts of the library");
-_Static_assert(offsetof(struct parts, second_length) == 32 && sizeof(struct parts) == 40, "the parts of the library");
-
 /* The library's own calls (crate tcp_c). Its words have 64 bits. */
 _Static_assert(sizeof(size_t) == 8 && sizeof(void *) == 8, "the words of the library");
 uint32_t tcp_c_new(struct handle *, const tcpcore_config *, struct block);
@@ -69,6 +49,8 @@ uint32_t tcp_c_peek(struct handle *, struct lent *);
 uint32_t tcp_c_consume(struct handle *, size_t, size_t *);
 uint32_t tcp_c_emit(struct handle *, uint8_t *, size_t, tcpcore_addr *, size_t *);
 uint32_t tcp_c_emit_partial(struct handle *, uint8_t *, size_t, tcpcore_addr *, size_t *);
+uint32_t tcp_c_emit_acknowledgement(struct handle *, uint8_t *, size_t, tcpcore_addr *, size_t *);
+uint32_t tcp_c_resend_first(struct handle *);
 uint32_t tcp_c_parts(struct handle *, uint8_t *, size_t, struct parts *);
 uint32_t tcp_c_sent(struct handle *);
 uint32_t tcp_c_transmit(struct handle *, uint8_t *, size_t, struct tcpcore_transmit *);
@@ -202,6 +184,29 @@ uint32_t tcpcore_new(tcpcore_end *end, const tcpcore_config *config, void *block
     return answer;
 }
 
+/* The struct takes whole units at the front of the block, so that what the library takes behind it begins at one. */
+_Static_assert(TCPCORE_STRUCT_ROOM % UNIT == 0 && TCPCORE_STRUCT_ROOM >= sizeof(tcpcore_end), "the struct's room");
+
+uint32_t tcpcore_new_at(tcpcore_end **end, const tcpcore_config *config, void *block, size_t length)
+{
+    /* The config may lie in the block. */
+    struct object from = {config, 0};
+    tcpcore_end *made = NULL;
+    struct place place = {end, sizeof(void *)};
+    uint32_t answer = refusal_beside(from, block, length, place);
+    if (answer == TCPCORE_DONE) {
+        struct block units = units_of(block, length);
+        tcpcore_end empty = TCPCORE_END_INIT, *at = units.size < TCPCORE_STRUCT_ROOM ? &empty : units.at;
+        size_t room = at == &empty ? units.size : TCPCORE_STRUCT_ROOM;
+        tcpcore_config copy = *config;
+        *at = empty;
+        answer = tcpcore_new(at, &copy, (uint8_t *)units.at + room, units.size - room);
+        made = answer == TCPCORE_DONE ? at : NULL;
+    }
+    put(place, from, block, length, &made);
+    return answer;
+}
+
 size_t tcpcore_room(const tcpcore_config *config)
 {
     size_t room = config ? tcp_c_room(config) : 0;
@@ -311,6 +316,12 @@ uint32_t tcpcore_timer(tcpcore_end *end, uint32_t timer)
     return answer != TCPCORE_DONE ? answer : tcp_c_timer(handle(end), timer);
 }
 
+uint32_t tcpcore_resend_first(tcpcore_end *end)
+{
+    uint32_t answer = refusal(end);
+    return answer != TCPCORE_DONE ? answer : tcp_c_resend_first(handle(end));
+}
+
 uint32_t tcpcore_arrive(tcpcore_end *end, tcpcore_addr src, tcpcore_addr dst, const void *bytes, size_t length)
 {
     uint32_t answer = refusal_with(end, bytes, length, (struct place){NOWHERE, 0});
@@ -358,30 +369,44 @@ uint32_t tcpcore_taken_vouched(tcpcore_end *end, tcpcore_addr src, tcpcore_addr 
     return answer;
 }
 
-uint32_t tcpcore_emit(tcpcore_end *end, void *out, size_t room, tcpcore_addr *to, size_t *length)
+/* Which of the library's calls writes a segment and its length: none is called through a pointer (tests/depth.py). */
+enum writer { EMIT, EMIT_PARTIAL, EMIT_ACKNOWLEDGEMENT };
+
+static uint32_t written_by(enum writer writer, struct handle *end, uint8_t *out, size_t room, tcpcore_addr *to, size_t *length)
+{
+    if (writer == EMIT_PARTIAL)
+        return tcp_c_emit_partial(end, out, room, to, length);
+    if (writer == EMIT_ACKNOWLEDGEMENT)
+        return tcp_c_emit_acknowledgement(end, out, room, to, length);
+    return tcp_c_emit(end, out, room, to, length);
+}
+
+static uint32_t write_by(enum writer writer, tcpcore_end *end, void *out, size_t room, tcpcore_addr *to, size_t *length)
 {
     tcpcore_addr address = {{0, 0, 0, 0}};
     size_t found = 0;
     struct place where = {to, sizeof *to}, place = {length, sizeof *length};
     uint32_t answer = refusal_with_two(end, out, room, where, place);
     if (answer == TCPCORE_DONE)
-        answer = tcp_c_emit(handle(end), start(out), room, &address, &found);
+        answer = written_by(writer, handle(end), start(out), room, &address, &found);
     put(where, end_at(end), out, room, &address);
     put(place, end_at(end), out, room, &found);
     return answer;
 }
 
+uint32_t tcpcore_emit(tcpcore_end *end, void *out, size_t room, tcpcore_addr *to, size_t *length)
+{
+    return write_by(EMIT, end, out, room, to, length);
+}
+
 uint32_t tcpcore_emit_partial(tcpcore_end *end, void *out, size_t room, tcpcore_addr *to, size_t *length)
 {
-    tcpcore_addr address = {{0, 0, 0, 0}};
-    size_t found = 0;
-    struct place where = {to, sizeof *to}, place = {length, sizeof *length};
-    uint32_t answer = refusal_with_two(end, out, room, where, place);
-    if (answer == TCPCORE_DONE)
-        answer = tcp_c_emit_partial(handle(end), start(out), room, &address, &found);
-    put(where, end_at(end), out, room, &address);
-    put(place, end_at(end), out, room, &found);
-    return answer;
+    return write_by(EMIT_PARTIAL, end, out, room, to, length);
+}
+
+uint32_t tcpcore_emit_acknowledgement(tcpcore_end *end, void *out, size_t room, tcpcore_addr *to, size_t *length)
+{
+    return write_by(EMIT_ACKNOWLEDGEMENT, end, out, room, to, length);
 }
 
 uint32_t tcpcore_parts(const tcpcore_end *end, void *header, size_t room, struct tcpcore_parts *parts)

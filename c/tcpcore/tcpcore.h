@@ -22,7 +22,7 @@
  *   4. Call tcpcore_receive when you want bytes. What isn't read shuts the window. A window that grows by reading makes a
  *      segment due only where it stood at 0, and a peer that finds it too small waits for a timer of its own: read all that
  *      is there, or call tcpcore_acknowledge where the window has grown by the smaller of a segment and half the
- *      recv_capacity since it was told (RFC 9293, 3.8.6.2.2).
+ *      recv_capacity since it was advertised (RFC 9293, 3.8.6.2.2).
  *   5. Keep real time. tcpcore_timers says which timers have to run. When one has run out call tcpcore_timer, and then emit:
  *
  *      timer                     starts                starts anew                       takes
@@ -60,7 +60,7 @@
  *
  * MEMORY
  *   The library takes no memory from anywhere: an end lies in a block that the caller hands to tcpcore_new, all of it, and no
- *   call asks for more. Any block will do, static or from malloc, of any alignment. tcpcore_room says how many bytes are
+ *   call asks for more. tcpcore_new_at puts the struct there, too. Any block will do, static or from malloc, of any alignment. tcpcore_room says how many bytes are
  *   enough, and TCPCORE_MEMORY(send, receive) the same as a constant: the two capacities, each in whole units of 16 bytes, what
  *   the end takes beside them, and 15 bytes for a block that doesn't begin at a multiple of 16. That these are enough is
  *   measured by the tests (tests/room.c), not proved. The linker is asked for memcpy, memmove and memset alone.
@@ -75,7 +75,8 @@
  *
  * WHO OWNS WHAT
  *   The caller places the struct tcpcore_end, sets it to TCPCORE_END_INIT, and frees what tcpcore_new put into it. The struct
- *   isn't copied or moved while it holds an end: a copy is refused (TCPCORE_COPIED). A struct whose bytes were saved,
+ *   isn't copied or moved while it holds an end: a copy is refused (TCPCORE_COPIED). Whose places move, as a language's values
+ *   do, lets it lie in the block (tcpcore_new_at), and moves the pointer alone. A struct whose bytes were saved,
  *   and put back to the same place after its end was freed, can't be found: it looks as it did while it held the end,
  *   and a call with it uses a block that was given back.
  *   The block is the end's from tcpcore_new to tcpcore_free: nobody else reads, writes, moves or frees it, and no other end
@@ -115,7 +116,7 @@ extern "C" {
 #endif
 
 /* The version of this header: it grows with each change of a struct, a call or an answer. */
-#define TCPCORE_VERSION 5
+#define TCPCORE_VERSION 6
 
 /* The answers; tcpcore_strerror has a text for each. */
 enum {
@@ -133,7 +134,7 @@ enum {
     TCPCORE_ALREADY_OPEN = 12,  /* opened before */
     TCPCORE_CLOSING = 13,       /* behind a tcpcore_close */
     TCPCORE_ENDED = 14,         /* the connection has ended; tcpcore_status says how */
-    TCPCORE_STREAM_FULL = 15,   /* the direction has carried as many bytes as the config's limit says */
+    TCPCORE_STREAM_FULL = 15,   /* the direction has accepted as many bytes as the config's limit allows */
     TCPCORE_NOT_CONNECTED = 16, /* no peer is known: of tcpcore_send in LISTEN, of tcpcore_peer */
     /* tcpcore_new: the config or the block is refused; the block is the caller's. */
     TCPCORE_BAD_CAPACITY = 21, /* a capacity isn't from 1 to 1,048,576 */
@@ -150,13 +151,13 @@ enum {
     TCPCORE_LENGTH = 36,    /* a length is above PTRDIFF_MAX */
     TCPCORE_COPIED = 37,    /* the struct was copied or moved, or never set */
     TCPCORE_OVERLAP = 38,   /* a buffer or a pointer that is written through lies over the struct, or over the buffer */
-    TCPCORE_NO_REST = 39,   /* tcpcore_rest_..: no rest is in the struct: never told, or its bytes are no rest's */
+    TCPCORE_NO_REST = 39,   /* tcpcore_rest_..: the struct has no TIME-WAIT record: never reported, or other bytes */
     /* The call was made and found this. */
     TCPCORE_NOTHING = 51,       /* tcpcore_receive: nothing to read yet */
     TCPCORE_END_OF_STREAM = 52, /* tcpcore_receive: the peer closed, and all its bytes were delivered */
     TCPCORE_NOT_DUE = 53,       /* no segment is due; tcpcore_stray_reset: no reset answers the bytes */
     TCPCORE_NO_RULE = 54,       /* tcpcore_timer: the timer's bit was clear; nothing changed */
-    TCPCORE_DROPPED = 55,       /* an arrival: the segment was passed over; an answer to it may be due */
+    TCPCORE_DROPPED = 55,       /* an arrival: the segment was dropped; an answer to it may be due */
     TCPCORE_NOT_MINE = 56,      /* an arrival: the segment is another connection's; nothing changed */
     TCPCORE_NOT_AT_REST = 57    /* tcpcore_rest: the end isn't in TIME-WAIT, or has bytes unread */
 };
@@ -181,7 +182,7 @@ enum {
     TCPCORE_ENDING_NOT_ENDED = 0,
     TCPCORE_ENDING_ORDERLY = 1,  /* both sides closed, and knew it; what is unread can still be read */
     TCPCORE_ENDING_RESET = 2,    /* the peer reset it; what was queued or unread is discarded */
-    TCPCORE_ENDING_ABORTED = 3   /* this side gave it up; so is what was queued or unread */
+    TCPCORE_ENDING_ABORTED = 3   /* this side aborted it; what was queued or unread is discarded */
 };
 
 /* The timers. Bit 1 << t of tcpcore_timers is timer t's. */
@@ -194,6 +195,10 @@ enum {
 /* How many bytes of a block are enough for an end of these capacities, wherever the block begins. */
 #define TCPCORE_UNITS(size) (((size_t)(size) + 15) / 16 * 16)
 #define TCPCORE_MEMORY(send, receive) (TCPCORE_UNITS(send) + TCPCORE_UNITS(receive) + 704 + 15)
+
+/* How much more of a block tcpcore_new_at wants, in bytes, than tcpcore_new: TCPCORE_MEMORY(send, receive) + TCPCORE_STRUCT_ROOM,
+   or tcpcore_room(config) + TCPCORE_STRUCT_ROOM. */
+#define TCPCORE_STRUCT_ROOM 32
 
 /* The bytes of stack that a call takes at most; and of the portable file, on any machine that it was tried on. */
 #define TCPCORE_STACK 2048
@@ -224,80 +229,112 @@ typedef struct tcpcore_end {
 
 /* An IPv4 address, in network order: 10.0.0.1 is {{10, 0, 0, 1}}. */
 typedef struct tcpcore_addr {
+    /* In network order: 10, 0, 0, 1 for 10.0.0.1. */
     uint8_t byte[4];
 } tcpcore_addr;
 
 /* What an end is made from. */
 typedef struct tcpcore_config {
-    tcpcore_addr addr;      /* its own address */
-    uint16_t port;          /* its own port */
-    uint16_t mss;           /* its own maximum segment size, 64 to 1,460 bytes (RFC 9293, 3.7.1) */
-    uint32_t isn;           /* the initial sequence number; choose it as RFC 9293, 3.4.1 says */
-    unsigned int : 32;      /* unnamed: so that all machines have what follows at the same place */
-    uint64_t send_capacity; /* the most bytes kept for the peer, 1 to 1,048,576 */
-    uint64_t recv_capacity; /* the most bytes kept for the user, 1 to 1,048,576: the greatest receive window */
-    uint64_t limit;         /* the most bytes that its own direction carries, 1 to 2^62; past TCPCORE_LIMIT the network has to keep
-                               a lifetime of segments (RFC 9293, 3.4) */
-    uint8_t window_shift;   /* the shift of the windows that are advertised, 0 to 14 (RFC 7323, 2.2); not looked at where
-                               `scales` is 0. A window behind the SYN's is advertised in steps of 2^shift bytes, rounded
-                               down: with a recv_capacity below 2^shift it is always 0, and the peer sends nothing but
-                               probes of a byte. Take the least shift with recv_capacity >> shift at most 65,535: 0
-                               for 65,535 bytes, 1 for 65,536, 5 for 1,048,576 */
-    uint8_t scales;         /* whether windows may be scaled: 0 is no, anything else yes */
-    uint8_t sack;           /* whether selective acknowledgement may be used (RFC 2018, 2): 0 is no, anything else yes */
+    /* The address of this end. */
+    tcpcore_addr addr;
+    /* The port of this end. */
+    uint16_t port;
+    /* The maximum segment size that this end announces, in bytes, from 64 to 1460 (RFC 9293, 3.7.1). */
+    uint16_t mss;
+    /* The initial sequence number, ISS: choose it as RFC 9293, 3.4.1 says. */
+    uint32_t isn;
+    unsigned int : 32;
+    /* The most bytes that are kept for the peer, from 1 to 1,048,576. */
+    uint64_t send_capacity;
+    /* The most bytes that are kept for the user, from 1 to 1,048,576: the greatest receive window. */
+    uint64_t recv_capacity;
+    /* The most bytes that this end's direction carries, from 1 to 2^62. Past TCPCORE_LIMIT the network has to keep the
+       maximum segment lifetime (RFC 9293, 3.4). */
+    uint64_t limit;
+    /* The shift of the windows that this end advertises, from 0 to 14 (RFC 7323, 2.2). Ignored where `scales` is 0. A window
+       behind the SYN's is advertised in steps of 2^shift bytes, rounded down: with a `recv_capacity` below 2^shift it is
+       always 0, and the peer sends nothing but probes of a byte. Take the least shift with recv_capacity >> shift at most
+       65,535: 0 for 65,535 bytes, 1 for 65,536, 5 for 1,048,576. */
+    uint8_t window_shift;
+    /* Whether this end offers window scaling (RFC 7323, 2.2): 0 is no, anything else yes. */
+    uint8_t scales;
+    /* Whether this end permits selective acknowledgement (RFC 2018, 2): 0 is no, anything else yes. */
+    uint8_t sack;
     unsigned int : 8;
     unsigned int : 32;
 } tcpcore_config;
 
 /* What tcpcore_status reports. (The tag alone is a type: the name without `struct` is the function.) */
 struct tcpcore_status {
-    uint32_t phase;    /* TCPCORE_PHASE_CLOSED .. TCPCORE_PHASE_TIME_WAIT */
-    uint32_t ending;   /* TCPCORE_ENDING_NOT_ENDED .. TCPCORE_ENDING_ABORTED */
-    uint64_t unread;   /* bytes that wait for tcpcore_receive */
-    uint64_t released; /* sent bytes that the peer has acknowledged */
-    uint64_t ordered;  /* received bytes up to now, read or not, in order */
-    uint64_t una;      /* SND.UNA as a position of its own direction: its SYN is at 0, byte i at 1 + i */
-    uint64_t next;     /* RCV.NXT as a position of the peer's direction: its SYN is at 0. It is 1 until that has come */
-    uint64_t room;     /* bytes of a long text that tcpcore_send would take, by send_capacity and limit */
-    uint64_t queued;   /* bytes that were taken and not released */
-    uint64_t in_flight; /* those of them that were sent, at most `queued`; SYN and FIN aren't counted */
-    uint32_t mss;      /* the most text bytes of a segment of this end, the smaller of both MSS; options take of it. This and
-                          what follows, what the two SYNs agreed on, is 0 until the peer's SYN was taken */
-    uint8_t own_shift; /* the shift of the windows that this end advertises; 0 where `scaling` is */
-    uint8_t peer_shift; /* the shift of the windows that the peer advertises */
-    uint8_t scaling;   /* 1 where windows are scaled (RFC 7323, 2.2) */
-    uint8_t sack;      /* 1 where selective acknowledgement is in use (RFC 2018, 2) */
-    uint32_t snd_wnd;  /* SND.WND: the peer's window in bytes, scaled, as the segments told it that the end goes by (RFC 9293,
-                          3.3.1 and 3.10.7.4). It is 0 until its own SYN was acknowledged */
-    uint32_t rcv_wnd;  /* RCV.WND in bytes: how much more this end takes (RFC 9293, 3.3.1) */
-    uint64_t nxt;      /* SND.NXT as a position of its own direction: what is sent next for the first time */
-    uint32_t closing;  /* 1 once tcpcore_close was accepted */
-    uint32_t finished; /* 1 once the peer's FIN was taken */
-    uint32_t reserved[6]; /* 0. Fields of later versions take their place from here: the struct's size stays */
+    /* The state of the connection (RFC 9293, 3.3.2): TCPCORE_PHASE_CLOSED, 0, to TCPCORE_PHASE_TIME_WAIT, 10. */
+    uint32_t phase;
+    /* How it ended: TCPCORE_ENDING_NOT_ENDED, 0, to TCPCORE_ENDING_ABORTED, 3. */
+    uint32_t ending;
+    /* The count of bytes that came in order and wait for `tcpcore_receive`. */
+    uint64_t unread;
+    /* The count of text bytes that acknowledgements have released. */
+    uint64_t released;
+    /* The count of text bytes that came in order up to now, read or not. */
+    uint64_t ordered;
+    /* SND.UNA: the oldest position of this end's direction that isn't acknowledged. The SYN is at 0, byte i at 1 + i. */
+    uint64_t una;
+    /* RCV.NXT: the next position of the peer's direction that is expected. The peer's SYN is at 0; this is 1 until it has
+       come. */
+    uint64_t next;
+    /* How many bytes of a long text `tcpcore_send` would accept, by `send_capacity` and `limit`. */
+    uint64_t room;
+    /* The count of bytes that were accepted and not released. */
+    uint64_t queued;
+    /* The count of text bytes that were sent and aren't acknowledged, at most `queued`. SYN and FIN aren't counted. */
+    uint64_t in_flight;
+    /* The most text bytes of a segment of this end, the smaller of both MSS; options take of it. This and the next fields up
+       to `sack` are what both SYNs agreed on, and 0 until the peer's SYN was taken. */
+    uint32_t mss;
+    /* The shift of the windows that this end advertises; 0 where `scaling` is 0. */
+    uint8_t own_shift;
+    /* The shift of the windows that the peer advertises. */
+    uint8_t peer_shift;
+    /* 1 where windows are scaled (RFC 7323, 2.2). */
+    uint8_t scaling;
+    /* 1 where selective acknowledgement is in use (RFC 2018, 2). */
+    uint8_t sack;
+    /* SND.WND in bytes, scaled: the peer's window, from the segment that it was last taken from (RFC 9293, 3.3.1 and
+       3.10.7.4). It is 0 until this end's SYN was acknowledged. */
+    uint32_t snd_wnd;
+    /* RCV.WND in bytes: how much more this end accepts (RFC 9293, 3.3.1). */
+    uint32_t rcv_wnd;
+    /* SND.NXT: the next position of this end's direction to be sent for the first time. */
+    uint64_t nxt;
+    /* 1 once `tcpcore_close` was accepted. */
+    uint32_t closing;
+    /* 1 once the peer's FIN was taken. */
+    uint32_t finished;
+    /* 0. Fields of later versions take their place from here: the struct's size stays. */
+    uint32_t reserved[6];
 };
 
 /* The rules that an arrival goes by (RFC 9293, 3.10.7), in the order of their tests. */
 enum {
     TCPCORE_RULE_NONE = 0,             /* the bytes are no segment */
-    TCPCORE_RULE_FOREIGN = 1,          /* for another end, or from another peer */
-    TCPCORE_RULE_RESET_IGNORED = 2,    /* a reset that nothing follows from */
+    TCPCORE_RULE_FOREIGN = 1,          /* for another end, or from another source than the peer */
+    TCPCORE_RULE_RESET_IGNORED = 2,    /* a reset that has no effect, or one outside the window (3.10.7.1 to 3.10.7.4) */
     TCPCORE_RULE_STRAY = 3,            /* CLOSED: a reset answers it (3.10.7.1) */
-    TCPCORE_RULE_ACK_OF_LISTEN = 4,    /* LISTEN has sent nothing: a reset answers its acknowledgement (3.10.7.2, second) */
-    TCPCORE_RULE_OPENS_NOTHING = 5,    /* LISTEN, SYN-SENT: nothing follows from it */
+    TCPCORE_RULE_ACK_OF_LISTEN = 4,    /* an acknowledgement in LISTEN: a reset answers it (3.10.7.2, second) */
+    TCPCORE_RULE_OPENS_NOTHING = 5,    /* LISTEN, SYN-SENT: it has no effect (3.10.7.2, fourth; 3.10.7.3, fifth) */
     TCPCORE_RULE_PEER_OPENS = 6,       /* a SYN in LISTEN (3.10.7.2, third) */
-    TCPCORE_RULE_ACK_OF_NO_SYN = 7,    /* SYN-SENT: it acknowledges something else than the SYN: a reset answers it (3.10.7.3, first) */
-    TCPCORE_RULE_PEER_REFUSES = 8,     /* a reset answers the SYN (3.10.7.3, second) */
-    TCPCORE_RULE_PEER_ACCEPTS = 9,     /* a SYN answers the SYN (3.10.7.3, fourth) */
+    TCPCORE_RULE_ACK_OF_NO_SYN = 7,    /* SYN-SENT: an acknowledgement that isn't of the SYN: a reset answers it (3.10.7.3, first) */
+    TCPCORE_RULE_PEER_REFUSES = 8,     /* SYN-SENT: a reset that acknowledges the SYN (3.10.7.3, second) */
+    TCPCORE_RULE_PEER_ACCEPTS = 9,     /* SYN-SENT: a SYN that acknowledges the SYN (3.10.7.3, fourth) */
     TCPCORE_RULE_UNACCEPTABLE = 10,    /* outside the window: an acknowledgement answers it (3.10.7.4, first) */
     TCPCORE_RULE_PEER_RESETS = 11,     /* a reset at RCV.NXT (3.10.7.4, second) */
     TCPCORE_RULE_RESET_ELSEWHERE = 12, /* a reset elsewhere in the window: an acknowledgement answers it (3.10.7.4, second) */
     TCPCORE_RULE_SYN_IN_WINDOW = 13,   /* an acknowledgement answers it (3.10.7.4, fourth) */
-    TCPCORE_RULE_NO_ACK = 14,          /* it acknowledges nothing, and nothing of it counts (3.10.7.4, fifth) */
-    TCPCORE_RULE_ACKS_UNSENT = 15,     /* an acknowledgement answers it (3.10.7.4, fifth) */
-    TCPCORE_RULE_HANDSHAKE_REFUSED = 16, /* SYN-RECEIVED: it acknowledges something else than the SYN: a reset answers it */
-    TCPCORE_RULE_HANDSHAKE_REFUSED_SHUT = 17, /* the same with a window of 0 */
+    TCPCORE_RULE_NO_ACK = 14,          /* without ACK: all of it is dropped (3.10.7.4, fifth) */
+    TCPCORE_RULE_ACKS_UNSENT = 15,     /* an acknowledgement of what wasn't sent: an acknowledgement answers it (3.10.7.4, fifth) */
+    TCPCORE_RULE_HANDSHAKE_REFUSED = 16, /* SYN-RECEIVED: an acknowledgement that isn't of the SYN: a reset answers it (3.10.7.4, fifth) */
+    TCPCORE_RULE_HANDSHAKE_REFUSED_SHUT = 17, /* such a one that is unacceptable at a zero window (3.10.7.4, first and fifth) */
     TCPCORE_RULE_TAKEN = 18,           /* all of it is taken (3.10.7.4, fifth to eighth) */
-    TCPCORE_RULE_TAKEN_SHUT = 19       /* the window is 0: its acknowledgement, window and blocks are taken, its text and FIN aren't */
+    TCPCORE_RULE_TAKEN_SHUT = 19       /* unacceptable at a zero window: only its acknowledgement, window and blocks are taken */
 };
 
 /* What a segment brought of the peer's stream (RFC 9293, 3.10.7.4, seventh and eighth). */
@@ -308,16 +345,24 @@ enum {
     TCPCORE_BROUGHT_NOT_KEPT = 3  /* text or a FIN of which nothing is kept */
 };
 
-/* What tcpcore_taken reports of a segment. All 0 where the answer is a refusal. (The tag alone is a type, as of tcpcore_status.) */
+/* What tcpcore_taken reports of bytes that arrived. All 0 where the answer is a refusal. (The tag alone is a type, as of tcpcore_status.) */
 struct tcpcore_taken {
-    uint32_t at_once;      /* 1 where it has to be answered at once (RFC 5681, 4.2) */
-    uint32_t rule;         /* TCPCORE_RULE_NONE .. TCPCORE_RULE_TAKEN_SHUT */
-    uint64_t acked;        /* bytes of text that its acknowledgement released; SYN and FIN aren't counted */
-    uint32_t brought;      /* TCPCORE_BROUGHT_NOTHING .. TCPCORE_BROUGHT_NOT_KEPT */
-    uint32_t is_duplicate; /* 1 where it is a duplicate acknowledgement (RFC 5681, 2): text was in flight, it has no text, no SYN
-                              and no FIN, it acknowledges up to SND.UNA, and its window is SND.WND */
-    uint32_t window_taken; /* 1 where SND.WND was taken from it (RFC 9293, 3.10.7.4, fifth) */
-    uint32_t reserved[9];  /* 0. Fields of later versions take their place from here: the struct's size stays */
+    /* 1 where they have to be answered at once (RFC 5681, 4.2). */
+    uint32_t at_once;
+    /* The rule that applied: TCPCORE_RULE_FOREIGN, 1, to TCPCORE_RULE_TAKEN_SHUT, 19; TCPCORE_RULE_NONE, 0, where they are
+       no segment. */
+    uint32_t rule;
+    /* The count of text bytes that their acknowledgement released. SYN and FIN aren't counted. */
+    uint64_t acked;
+    /* What they brought: TCPCORE_BROUGHT_NOTHING, 0, to TCPCORE_BROUGHT_NOT_KEPT, 3. */
+    uint32_t brought;
+    /* 1 where they are a duplicate acknowledgement (RFC 5681, 2): text was in flight, they have no text, no SYN and no FIN,
+       they acknowledge up to SND.UNA, and their window is SND.WND. */
+    uint32_t is_duplicate;
+    /* 1 where SND.WND was taken from them (RFC 9293, 3.10.7.4, fifth). */
+    uint32_t window_taken;
+    /* 0. Fields of later versions take their place from here: the struct's size stays. */
+    uint32_t reserved[9];
 };
 
 /* What a segment is that an end emits. */
@@ -334,27 +379,39 @@ enum {
 
 /* What tcpcore_transmit and tcpcore_next report of a segment. (The tag alone is a type, as of tcpcore_status.) */
 struct tcpcore_transmit {
-    tcpcore_addr to;      /* the address that it goes to */
-    uint32_t kind;        /* TCPCORE_KIND_NONE .. TCPCORE_KIND_ACKNOWLEDGEMENT */
-    uint64_t length;      /* its length in bytes, with its header */
-    uint64_t position;    /* where it begins, as a position of its own direction: a SYN at 0, byte i at 1 + i, the FIN after the last
-                             byte, an acknowledgement at SND.NXT; 0 of a reset */
-    uint64_t count;       /* bytes of its text */
-    uint32_t reserved[8]; /* 0, as of tcpcore_taken */
+    /* The address that it goes to. */
+    tcpcore_addr to;
+    /* Its kind: TCPCORE_KIND_RESET, 1, to TCPCORE_KIND_ACKNOWLEDGEMENT, 7; TCPCORE_KIND_NONE, 0, where there is none. */
+    uint32_t kind;
+    /* Its length in bytes, with its header. */
+    uint64_t length;
+    /* Where it begins, as a position of this end's direction: a SYN at 0, byte i at 1 + i, the FIN after the last byte, an
+       acknowledgement at SND.NXT; 0 of a reset. */
+    uint64_t position;
+    /* The length of its text in bytes. */
+    uint64_t count;
+    /* 0. Fields of later versions take their place from here: the struct's size stays. */
+    uint32_t reserved[8];
 };
 
 /* Bytes that are lent where they lie: two fields in the order of POSIX's struct iovec. `at` is NULL where `length` is 0. */
 typedef struct tcpcore_piece {
+    /* Where they lie. */
     const void *at;
+    /* How many they are. */
     size_t length;
 } tcpcore_piece;
 
 /* The unread bytes, as tcpcore_peek lends them: all of `first`, then all of `second`. */
 struct tcpcore_lent {
-    tcpcore_piece first; /* it is empty only where none is lent */
+    /* The first of them; it is empty only where none is lent. */
+    tcpcore_piece first;
+    /* The rest of them. */
     tcpcore_piece second;
-    uint32_t ends;        /* 1 where the peer has closed, so that none comes after these */
-    uint32_t reserved[7]; /* 0, as of tcpcore_taken */
+    /* 1 where the peer has closed, so that none comes after these. */
+    uint32_t ends;
+    /* 0. Fields of later versions take their place from here: the struct's size stays. */
+    uint32_t reserved[7];
 };
 
 /*
@@ -362,11 +419,16 @@ struct tcpcore_lent {
  * alone is a type, as of tcpcore_status.)
  */
 struct tcpcore_parts {
-    tcpcore_addr to;     /* the address that it goes to */
-    uint32_t header;     /* bytes of its header, options and all, at most TCPCORE_HEADER_ROOM */
-    tcpcore_piece first; /* its text; it is empty only where there is none */
+    /* The address that it goes to. */
+    tcpcore_addr to;
+    /* The length of its header in bytes with options, at most TCPCORE_HEADER_ROOM. */
+    uint32_t header;
+    /* The first of its text; it is empty only where there is none. */
+    tcpcore_piece first;
+    /* The rest of its text. */
     tcpcore_piece second;
-    uint32_t reserved[6]; /* 0, as of tcpcore_taken */
+    /* 0. Fields of later versions take their place from here: the struct's size stays. */
+    uint32_t reserved[6];
 };
 
 /*
@@ -374,22 +436,38 @@ struct tcpcore_parts {
  * moved and stored; a copy is another that rests there. All zero there is none. (The tag alone is a type, as of tcpcore_status.)
  */
 struct tcpcore_rest {
-    uint32_t mark;           /* the library's word where there is one */
-    tcpcore_addr addr;       /* its own address */
-    tcpcore_addr peer_addr;  /* the peer's address */
-    uint16_t port;           /* its own port */
-    uint16_t peer_port;      /* the peer's port */
-    uint32_t seq;            /* SND.NXT, as a number: all before it is acknowledged */
-    uint32_t next;           /* RCV.NXT, as a number */
-    uint32_t window;         /* RCV.WND in bytes, at most 1,048,576 */
-    tcpcore_addr reset_addr; /* whom a reset goes to that waits. Not looked at where `reset` is 0; nor are the next three */
-    uint32_t reset_seq;      /* its sequence number */
-    uint32_t reset_ack;      /* what it acknowledges; not looked at where `reset` is 1 */
-    uint16_t reset_port;     /* the port that it goes to */
-    uint8_t shift;           /* the shift by which the window is advertised, at most 14 */
-    uint8_t ack;             /* 1 where an acknowledgement is pending */
-    uint16_t reset;          /* 0 where no reset waits, 1 where one does that acknowledges nothing, 2 where it acknowledges */
-    uint16_t ending;         /* TCPCORE_ENDING_NOT_ENDED .. TCPCORE_ENDING_ABORTED */
+    /* The library's word for it; with any other there is no record. */
+    uint32_t mark;
+    /* The address of this end. */
+    tcpcore_addr addr;
+    /* The peer's address. */
+    tcpcore_addr peer_addr;
+    /* The port of this end. */
+    uint16_t port;
+    /* The peer's port. */
+    uint16_t peer_port;
+    /* SND.NXT, a sequence number: all before it is acknowledged. */
+    uint32_t seq;
+    /* RCV.NXT, a sequence number. */
+    uint32_t next;
+    /* RCV.WND in bytes, at most 1,048,576. */
+    uint32_t window;
+    /* The address that the waiting reset goes to. This and the next three are ignored where `reset` is 0. */
+    tcpcore_addr reset_addr;
+    /* The sequence number of the reset. */
+    uint32_t reset_seq;
+    /* What the reset acknowledges; ignored where `reset` is 1. */
+    uint32_t reset_ack;
+    /* The port that the reset goes to. */
+    uint16_t reset_port;
+    /* The shift by which the window is advertised, at most 14. */
+    uint8_t shift;
+    /* Whether an acknowledgement is pending: 0 is no, anything else yes. */
+    uint8_t ack;
+    /* The waiting reset: 0 none, 1 one that acknowledges nothing, 2 one that acknowledges. */
+    uint16_t reset;
+    /* How the connection ended: TCPCORE_ENDING_NOT_ENDED, 0, to TCPCORE_ENDING_ABORTED, 3. */
+    uint16_t ending;
 };
 
 /*
@@ -401,14 +479,23 @@ struct tcpcore_rest {
 uint32_t tcpcore_new(tcpcore_end *end, const tcpcore_config *config, void *block, size_t length);
 
 /*
+ * As tcpcore_new, with the struct in the block too, at its front: *end is where. So the caller keeps a pointer, which can be copied
+ * and moved, and an end is one piece of memory. The block has TCPCORE_STRUCT_ROOM bytes more. It may hold anything: that an end is in
+ * it already isn't found. tcpcore_free(*end) frees the end, and the whole block is the caller's again.
+ *   DONE; BAD_CAPACITY, BAD_MSS, BAD_SHIFT, BAD_LIMIT, NO_MEMORY, the first that applies; NULL; LENGTH; OVERLAP (`end` lies in the
+ *   block).
+ */
+uint32_t tcpcore_new_at(tcpcore_end **end, const tcpcore_config *config, void *block, size_t length);
+
+/*
  * How many bytes of a block are enough for an end with this config, wherever the block begins; 0 where a capacity isn't from
  * 1 to 1,048,576, or `config` is NULL.
  */
 size_t tcpcore_room(const tcpcore_config *config);
 
 /*
- * Gives the end up, in any phase, and its block back to the caller, without a word to the peer (tcpcore_abort and
- * tcpcore_emit come first where it is to hear of it). *end is TCPCORE_END_INIT behind it.
+ * Frees the end, in any phase: its block is the caller's again. Nothing is sent to the peer: where it has to learn of it,
+ * tcpcore_abort and tcpcore_emit come first. *end is TCPCORE_END_INIT afterwards.
  *   DONE; NO_END (so a second free is refused); NULL; COPIED.
  */
 uint32_t tcpcore_free(tcpcore_end *end);
@@ -426,7 +513,7 @@ uint32_t tcpcore_connect(tcpcore_end *end, tcpcore_addr addr, uint16_t port);
 uint32_t tcpcore_listen(tcpcore_end *end);
 
 /*
- * Takes the front of the `length` bytes at `text` that fits the send capacity, and keeps it until the peer has acknowledged it
+ * Accepts the front of the `length` bytes at `text` that fits the send capacity, and keeps it until the peer has acknowledged it
  * (RFC 9293, 3.10.2). *taken is its length, 0 to `length`: offer the rest once `released` has grown.
  *   DONE; ENDED, NOT_OPEN, NOT_CONNECTED, CLOSING, STREAM_FULL; NO_END; NULL; LENGTH; OVERLAP; COPIED.
  */
@@ -473,13 +560,13 @@ uint32_t tcpcore_acknowledge(tcpcore_end *end);
 uint32_t tcpcore_close(tcpcore_end *end);
 
 /*
- * Gives the connection up (RFC 9293, 3.10.5): CLOSED, aborted; a reset is due where the peer may know of the connection.
+ * Aborts the connection (RFC 9293, 3.10.5): CLOSED, aborted; a reset is due where the peer may know of the connection.
  *   DONE; ENDED, NOT_OPEN; NO_END; NULL; COPIED.
  */
 uint32_t tcpcore_abort(tcpcore_end *end);
 
 /*
- * Timer `timer` has run out (RFC 9293, 3.10.8).
+ * Timer `timer` has expired (RFC 9293, 3.10.8).
  *   DONE: its rule was applied. NO_RULE: there was none; nothing changed. NO_TIMER; NO_END; NULL; COPIED.
  */
 uint32_t tcpcore_timer(tcpcore_end *end, uint32_t timer);
@@ -488,36 +575,37 @@ uint32_t tcpcore_timer(tcpcore_end *end, uint32_t timer);
  * A TCP segment of `length` bytes has come from `src` to `dst` (RFC 9293, 3.10.7). What is no segment, or is for
  * another address or port, changes nothing; nor does what has another source, once a peer is known. In LISTEN and
  * CLOSED none is known, and a segment of another connection is answered by a reset: see WHICH END A SEGMENT IS FOR.
- *   DONE: it was taken. DROPPED: it was passed over; an answer may be due. NOT_MINE. TOO_SHORT .. BAD_PADDING: it is none.
+ *   DONE: it was taken. DROPPED: it wasn't; an answer may be due. NOT_MINE. TOO_SHORT .. BAD_PADDING: it is none.
  *   NO_END; NULL; LENGTH; OVERLAP; COPIED.
  */
 uint32_t tcpcore_arrive(tcpcore_end *end, tcpcore_addr src, tcpcore_addr dst, const void *bytes, size_t length);
 
 /*
- * The same, and reports whether the segment has to be answered at once (RFC 5681, 4.2), by emitting what is due: *at_once is
- * 1 where it came out of order or filled all or part of a gap, had a SYN or a FIN, or wasn't taken and is answered all
- * the same. Where it is 0 an acknowledgement that is due may wait: for a second segment, and at most half a second.
+ * As tcpcore_arrive, and reports whether the segment has to be answered at once (RFC 5681, 4.2), by emitting what is due:
+ * *at_once is 1 where it came out of order or filled all or part of a gap, had a SYN or a FIN, or wasn't taken and has an
+ * answer. Where it is 0 an acknowledgement that is due may wait: for a second segment, and at most half a second.
  *   As tcpcore_arrive.
  */
 uint32_t tcpcore_take(tcpcore_end *end, tcpcore_addr src, tcpcore_addr dst, const void *bytes, size_t length, uint32_t *at_once);
 
 /*
- * The same, and reports more of what the segment is to the end: the rule that applied, the text that it acknowledged, what it
- * brought, whether it is a duplicate acknowledgement (RFC 5681, 2), and whether its window was taken. Of version 5.
+ * As tcpcore_arrive, and reports more of what the segment is to the end: whether it has to be answered at once, the rule
+ * that applied, the text that it acknowledged, what it brought, whether it is a duplicate acknowledgement (RFC 5681, 2),
+ * and whether its window was taken. Of version 5.
  *   As tcpcore_arrive.
  */
 uint32_t tcpcore_taken(tcpcore_end *end, tcpcore_addr src, tcpcore_addr dst, const void *bytes, size_t length,
                        struct tcpcore_taken *taken);
 
 /*
- * As tcpcore_arrive, of a segment whose checksum a device has found right: it isn't summed. Answer and end are those of the same bytes
- * with the right checksum, whatever the bytes are: the caller drops what the device found wrong. Of version 5.
+ * As tcpcore_arrive, of a segment whose checksum a device has found right: it isn't summed. Answer and end are those of the
+ * same bytes with the right checksum, whatever the bytes are: the caller drops what the device found wrong. Of version 5.
  *   As tcpcore_arrive; never BAD_CHECKSUM.
  */
 uint32_t tcpcore_arrive_vouched(tcpcore_end *end, tcpcore_addr src, tcpcore_addr dst, const void *bytes, size_t length);
 
 /*
- * The same, with the report of tcpcore_taken. Of version 5.
+ * As tcpcore_arrive_vouched, with the report of tcpcore_taken. Of version 5.
  *   As tcpcore_arrive; never BAD_CHECKSUM.
  */
 uint32_t tcpcore_taken_vouched(tcpcore_end *end, tcpcore_addr src, tcpcore_addr dst, const void *bytes, size_t length,
@@ -532,16 +620,30 @@ uint32_t tcpcore_emit(tcpcore_end *end, void *out, size_t room, tcpcore_addr *to
 
 /*
  * As tcpcore_emit, for a device that sums segments: the checksum field has the ones' complement sum over the pseudo-header alone (RFC
- * 9293, 3.1; RFC 1071, 2), and no text is summed. The device adds up what was written, from the first byte on, and puts the
+ * 9293, 3.1; RFC 1071, 2), and no text is summed. The device sums what was written, from the first byte on, and puts the
  * complement of that sum into the field, bytes 16 and 17: then the bytes are those of tcpcore_emit. Of version 5.
  *   As tcpcore_emit.
  */
 uint32_t tcpcore_emit_partial(tcpcore_end *end, void *out, size_t room, tcpcore_addr *to, size_t *length);
 
 /*
+ * As tcpcore_emit, but writes the acknowledgement that is pending, without data, even where data or the FIN is due (RFC 9293,
+ * 3.8.6.3): for a sender that paces what it sends again. Of version 6.
+ *   As tcpcore_emit. NOT_DUE: no acknowledgement is pending, or a reset or SYN has to go out before it.
+ */
+uint32_t tcpcore_emit_acknowledgement(tcpcore_end *end, void *out, size_t room, tcpcore_addr *to, size_t *length);
+
+/*
+ * Of what is in flight, the first segment alone must be sent again, and then new data, as after three duplicate acknowledgements
+ * (RFC 5681, 3.2) or a partial one (RFC 6582, 3.2). It takes the place of what was to be sent again until now. Of version 6.
+ *   DONE: it is due. NO_RULE: nothing is in flight. NO_END; NULL; COPIED.
+ */
+uint32_t tcpcore_resend_first(tcpcore_end *end);
+
+/*
  * Writes the header of the segment that is due to `header`, checksum and all, and lends its text where it lies in the end's block:
  * header and text are together what tcpcore_emit would write, for a gathering write such as POSIX's writev. What lies behind the
- * header in `header` stays. Nothing changes in the end: once the segment has gone out, tcpcore_sent says so. The text may be read, and
+ * header in `header` stays. Nothing changes in the end: once the segment was sent, call tcpcore_sent. The text may be read, and
  * not written, until the next call that changes this end. Of version 5.
  *   DONE: parts->header bytes of `header`, and the text. NOT_DUE: no segment is due. ROOM: `room` is below TCPCORE_HEADER_ROOM.
  *   NO_END; NULL; LENGTH; OVERLAP; COPIED.
@@ -549,9 +651,9 @@ uint32_t tcpcore_emit_partial(tcpcore_end *end, void *out, size_t room, tcpcore_
 uint32_t tcpcore_parts(const tcpcore_end *end, void *header, size_t room, struct tcpcore_parts *parts);
 
 /*
- * The segment of the last tcpcore_parts has gone out: the end is as after a tcpcore_emit. For use right after it was sent: a call, an
- * arrival or a timer in between may make another segment due, which then counts as sent. Nothing changes where none is due. Of
- * version 5.
+ * Counts the segment that is due as sent: the end is as after a tcpcore_emit. Call it right after that of tcpcore_parts was
+ * sent: a call, an arrival or a timer in between may make another segment due, which then counts as sent. Nothing changes
+ * where none is due. Of version 5.
  *   DONE; NO_END; NULL; COPIED.
  */
 uint32_t tcpcore_sent(tcpcore_end *end);
@@ -592,8 +694,8 @@ uint32_t tcpcore_stray_reset(tcpcore_addr src, tcpcore_addr dst, const void *byt
 uint32_t tcpcore_timers(const tcpcore_end *end, uint32_t *due);
 
 /*
- * Reports the peer's address and port: from tcpcore_connect on, or from the SYN on that came in LISTEN, and behind an end of
- * the connection too.
+ * Reports the peer's address and port: from tcpcore_connect on, or from the SYN that came in LISTEN on, also after the
+ * connection has ended.
  *   DONE; NOT_CONNECTED before; NO_END; NULL; OVERLAP; COPIED.
  */
 uint32_t tcpcore_peer(const tcpcore_end *end, tcpcore_addr *addr, uint16_t *port);
@@ -620,8 +722,8 @@ uint32_t tcpcore_rest(const tcpcore_end *end, struct tcpcore_rest *rest);
 uint32_t tcpcore_rest_arrive(struct tcpcore_rest *rest, tcpcore_addr src, tcpcore_addr dst, const void *bytes, size_t length);
 
 /*
- * Timer `timer` has run out. TCPCORE_TIMER_TIME_WAIT, which runs on from the end's, closes the connection in order; no other
- * timer has a rule.
+ * Timer `timer` has expired (RFC 9293, 3.10.8). TCPCORE_TIMER_TIME_WAIT, which runs on from the end's, closes the
+ * connection in order; no other timer has a rule.
  *   DONE: its rule was applied. NO_RULE: there was none; nothing changed. NO_TIMER; NO_REST; NULL.
  */
 uint32_t tcpcore_rest_timer(struct tcpcore_rest *rest, uint32_t timer);
@@ -639,7 +741,7 @@ uint32_t tcpcore_rest_emit(struct tcpcore_rest *rest, void *out, size_t room, tc
 uint32_t tcpcore_rest_pending(const struct tcpcore_rest *rest, uint32_t *due);
 
 /*
- * Gives the connection up: CLOSED, aborted; no reset goes out in TIME-WAIT (RFC 9293, 3.10.5).
+ * Aborts the connection: CLOSED, aborted; no reset is sent in TIME-WAIT (RFC 9293, 3.10.5).
  *   DONE; ENDED; NO_REST; NULL.
  */
 uint32_t tcpcore_rest_abort(struct tcpcore_rest *rest);

@@ -12,10 +12,11 @@ import ipaddress
 import os
 from typing import Any, Callable, NamedTuple, NoReturn, Optional, Union
 
-VERSION = 5
+VERSION = 6
 EMIT_ROOM = 1520
 RESET_ROOM = 20
 REST_ROOM = 20
+STRUCT_ROOM = 32
 LIMIT = 2_147_483_632
 
 Address = Union[bytes, bytearray, str, ipaddress.IPv4Address]
@@ -210,7 +211,9 @@ class EndStruct(ctypes.Structure):
 
 
 class AddrStruct(ctypes.Structure):
-    _fields_ = [("byte", ctypes.c_uint8 * 4)]
+    _fields_ = [
+        ("byte", ctypes.c_uint8 * 4),
+    ]
 
 
 class ConfigStruct(ctypes.Structure):
@@ -219,12 +222,14 @@ class ConfigStruct(ctypes.Structure):
         ("port", ctypes.c_uint16),
         ("mss", ctypes.c_uint16),
         ("isn", ctypes.c_uint32),
+        ("unnamed_12", ctypes.c_uint8 * 4),
         ("send_capacity", ctypes.c_uint64),
         ("recv_capacity", ctypes.c_uint64),
         ("limit", ctypes.c_uint64),
         ("window_shift", ctypes.c_uint8),
         ("scales", ctypes.c_uint8),
         ("sack", ctypes.c_uint8),
+        ("unnamed_43", ctypes.c_uint8 * 5),
     ]
 
 
@@ -310,6 +315,7 @@ END, SIZE, OUT = ctypes.POINTER(EndStruct), ctypes.c_size_t, ctypes.POINTER(ctyp
 REST, WORD = ctypes.POINTER(RestStruct), ctypes.POINTER(ctypes.c_uint32)
 CALLS = {
     "new": [END, ctypes.POINTER(ConfigStruct), ctypes.c_char_p, SIZE],
+    "new_at": [ctypes.POINTER(END), ctypes.POINTER(ConfigStruct), ctypes.c_char_p, SIZE],
     "room": [ctypes.POINTER(ConfigStruct)],
     "free": [END],
     "connect": [END, AddrStruct, ctypes.c_uint16],
@@ -329,6 +335,8 @@ CALLS = {
     "consume": [END, SIZE, OUT],
     "emit": [END, ctypes.c_char_p, SIZE, ctypes.POINTER(AddrStruct), OUT],
     "emit_partial": [END, ctypes.c_char_p, SIZE, ctypes.POINTER(AddrStruct), OUT],
+    "emit_acknowledgement": [END, ctypes.c_char_p, SIZE, ctypes.POINTER(AddrStruct), OUT],
+    "resend_first": [END],
     "transmit": [END, ctypes.c_char_p, SIZE, ctypes.POINTER(TransmitStruct)],
     "next": [END, ctypes.POINTER(TransmitStruct)],
     "pending": [END, ctypes.POINTER(ctypes.c_uint32)],
@@ -502,16 +510,18 @@ class End:
             scales=shift is not None,
             sack=bool(config.sack),
         )
-        self.struct, self.calls = EndStruct(), library()
-        self.end = ctypes.pointer(self.struct)
+        self.calls = library()
         self.count, self.due, self.to = ctypes.c_size_t(), ctypes.c_uint32(), AddrStruct()
         self.told = StatusStruct()
         self.segment = ctypes.create_string_buffer(EMIT_ROOM)
         self.text, self.room = ctypes.create_string_buffer(room), room
         # All of the end lies in it, as long as this object keeps it.
-        size = self.calls["room"](told)
+        size = self.calls["room"](told) + STRUCT_ROOM
         self.memory = ctypes.create_string_buffer(size)
-        self.ask("new", told, self.memory, size)
+        self.end = END()
+        answer = self.calls["new_at"](self.end, told, self.memory, size)
+        if answer != DONE:
+            raise Refused(answer)
 
     def ask(self, name: str, *args: Any) -> None:
         """A call that is done or refused."""
@@ -639,6 +649,16 @@ class End:
         if self.calls["emit_partial"](self.end, self.segment, EMIT_ROOM, self.to, self.count) != DONE:
             return None
         return bytes(self.to.byte), ctypes.string_at(self.segment, self.count.value)
+
+    def emit_acknowledgement(self) -> Optional[tuple[bytes, bytes]]:
+        """The acknowledgement that is pending, without data, whatever else is due, or None."""
+        if self.calls["emit_acknowledgement"](self.end, self.segment, EMIT_ROOM, self.to, self.count) != DONE:
+            return None
+        return bytes(self.to.byte), ctypes.string_at(self.segment, self.count.value)
+
+    def resend_first(self) -> bool:
+        """The first segment in flight alone is due again. Whether anything is in flight."""
+        return bool(self.calls["resend_first"](self.end) == DONE)
 
     def transmit(self) -> Optional[tuple[Transmit, bytes]]:
         """What a segment is, and its bytes, or None."""

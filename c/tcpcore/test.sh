@@ -18,9 +18,9 @@ fi
 library=${1:-../../crates/tcp_c/out/libtcp_c.a}
 warnings="-std=c11 -g -Wall -Wextra -Wpedantic -Wcast-qual -Wconversion -Wshadow -Wstrict-prototypes -Werror"
 sanitizers="-O1 -fsanitize=address,undefined -fno-sanitize-recover=all"
-# The header's calls; two of them are the layer's alone.
-calls=$(grep -o '^[a-z].* \**tcpcore_[a-z_]*(' tcpcore.h | sed -n 's/.*tcpcore_\([a-z_]*\)($/\1/p' | grep -vxE 'strerror|version' | sort)
-tests="examples/two_ends tests/misuse tests/misuse_rest tests/room tests/fields tests/answers tests/cautions tests/rest tests/reports tests/misuse_lending tests/lending"
+# The header's calls that are the library's; three are the layer's alone.
+calls=$(grep -o '^[a-z].* \**tcpcore_[a-z_]*(' tcpcore.h | sed -n 's/.*tcpcore_\([a-z_]*\)($/\1/p' | grep -vxE 'strerror|version|new_at' | sort)
+tests="examples/two_ends tests/misuse tests/misuse_rest tests/room tests/fields tests/answers tests/cautions tests/rest tests/reports tests/misuse_lending tests/lending tests/pacing tests/placed"
 passed=0
 
 pass() { passed=$((passed + 1)); }
@@ -91,7 +91,7 @@ check_with() {
     # The shared library: the header's calls and no other name.
     "$compiler" $warnings -O2 -shared -fPIC tcpcore.c "$library" -Wl,--exclude-libs,ALL -Wl,-z,defs \
         -o "$shared"
-    same "exported names" "$(exports -D "$shared")" "$(printf 'tcpcore_%s\n' $calls strerror version | sort)"
+    same "exported names" "$(exports -D "$shared")" "$(printf 'tcpcore_%s\n' $calls strerror version new_at | sort)"
     for source in examples/two_ends examples/lossy_link tests/fields tests/answers tests/lifetime tests/calls; do
         prints "${source#*/}" env LIBTCPCORE="$shared" python3 "$source.py"
     done

@@ -1,6 +1,7 @@
 /*
- * The cases of one peer (see peer.h): PROGRAM [--long] [--only NUMBER]. Prints each case that failed and what it saw, and as its last
- * line `N cases, M failed`.
+ * The cases of one peer (see peer.h): PROGRAM [--long] [--only NUMBER] [--part K N], of which the last runs the K-th of N parts, from 0
+ * on. Prints each case that failed and what it saw, and as its last line `N cases, M failed`. With --bulk SEEDS it runs 20 MB at 2 percent loss alone, so many times with Reno and with CUBIC, and
+ * prints the means.
  */
 #include "peer.h"
 
@@ -11,8 +12,9 @@
 struct trial trial;
 uint64_t now, began;
 
-static int count, failed, only, is_long;
+static int count, ran, failed, only, is_long, part, parts = 1;
 static uint64_t in_pause; /* segments that went out while a user paused */
+static uint64_t read_at;  /* when all of our user's bytes were read, or 0 */
 
 /* ---- Users. */
 
@@ -103,8 +105,12 @@ static const char *fault_of(void)
         if (user->saw_end && user->read < trial.users[1 - side].size && !aborts)
             return "an end of stream before its end";
     }
+    if (trial.pace > 0 && (read_at == 0 || read_at - began > trial.pace))
+        return "too slow";
     if ((trial.segments > 0 && in_pause > trial.segments) || (trial.most > 0 && wire_count(OWN) > trial.most))
         return "too many segments";
+    if (trial.again > 0 && own_resent(OWN) > trial.again)
+        return "too many segments again";
     if (trial.vanishes_at > 0)
         return own_fault(OWN) ? 0 : "not given up";
     if (own_fault(OWN) && !aborts)
@@ -130,14 +136,15 @@ static void tell(const char *fault)
     peer_tell();
 }
 
-/* Runs the case in `trial`. Answers the milliseconds that it took. */
+/* Runs the case in `trial`. Answers the milliseconds until the peer's user had read all. */
 static uint64_t run(void)
 {
     count++;
-    if (only > 0 && only != count)
+    if ((only > 0 && only != count) || count % parts != part)
         return 0;
+    ran++;
     began = now += 1000000;
-    in_pause = 0;
+    in_pause = read_at = 0;
     if (trial.vanishes_at > 0)
         trial.vanishes_at += now;
     wire_begin();
@@ -146,9 +153,11 @@ static uint64_t run(void)
     for (step(); !is_over() && now - began < trial.limit; step()) {
         if (now - began < trial.users[OWN].pause || now - began < trial.users[PEER].pause)
             in_pause = wire_count(OWN) + wire_count(PEER);
+        if (read_at == 0 && trial.users[PEER].read == trial.users[OWN].size)
+            read_at = now;
         if (trial.segments > 0 && in_pause > trial.segments)
             break;
-        now = next_time();
+        now = peer_wait(next_time());
     }
     const char *fault = fault_of();
     if (fault && peer_fault() && !own_fault(OWN)) {
@@ -158,7 +167,7 @@ static uint64_t run(void)
     if (fault)
         tell(fault);
     failed += fault != 0;
-    return now - began;
+    return read_at > 0 ? read_at - began : now - began;
 }
 
 /* A case to begin with: 5 ms each way. */
@@ -221,7 +230,7 @@ static void faults(int seeds)
             for (int kind = 0; kind < 5; kind++)
                 for (int way = 1; way <= 3; way++)
                     for (int mss = 0; mss < 3; mss++) {
-                        uint32_t size = rate == 2 ? 20000 : 100000;
+                        uint32_t size = rate < 2 ? 100000 : PEER_IS_REAL ? 2000 : 20000;
                         set("faults", way & 1 ? size : 100, way & 2 ? size : 100);
                         trial.mss = MSS[mss];
                         trial.sack = seed % 2;
@@ -233,9 +242,9 @@ static void faults(int seeds)
                         trial.doubled = kind == 1 || kind == 4 ? RATES[rate] : 0;
                         trial.late = kind == 2 || kind == 4 ? RATES[rate] : 0;
                         trial.damaged = kind == 3 ? RATES[rate] : 0;
-                        /* A fifth is lost each way: the end is patient, or it gives up as it has to. */
+                        /* A fifth is lost each way: the end is patient, or it gives up as it has to, and a peer's timeout grows. */
                         trial.r2 = rate == 2 ? 1000000 : 0;
-                        trial.limit = 4000000;
+                        trial.limit = rate == 2 ? 20000000 : 4000000;
                         run();
                     }
 }
@@ -341,6 +350,23 @@ static void shut(void)
         }
 }
 
+/* Both send all that they can into windows that the loss of a first segment fills: its acknowledgements lie at RCV.NXT + RCV.WND then,
+   which isn't acceptable (RFC 9293, 3.4). What goes out again is what was lost, and little more. */
+static void both_full(void)
+{
+    for (int variant = 0; variant < 8; variant++) {
+        set("both full", 300000, 300000);
+        trial.opens = variant & 1;
+        trial.sack = variant >> 1 & 1;
+        trial.keeps = variant & 4 ? 65535 : 16384;
+        trial.lost = 20;
+        trial.seed = (uint32_t)variant;
+        trial.again = 200;
+        trial.limit = 400000;
+        run();
+    }
+}
+
 /* Either aborts, with and without losses. */
 static void aborts(void)
 {
@@ -369,29 +395,65 @@ static void vanishes(void)
     }
 }
 
-/* Throughput: 2 percent of the segments are lost, 10 ms there and back. Proportional to the loss, and not to timeouts of a second. */
+/* A case of throughput: 2 percent of the segments are lost, 10 ms there and back. Proportional to the loss, and not to timeouts of a
+   second. */
+static uint64_t bulk_case(uint64_t size, int cubic, uint32_t seed)
+{
+    set(cubic ? "bulk, CUBIC" : "bulk", size, 0);
+    trial.opens = OWN;
+    trial.sack = 1;
+    trial.cubic = cubic;
+    trial.lost = 20;
+    trial.seed = seed;
+    trial.pace = size / 1000000 * PEER_PACE;
+    trial.limit = trial.pace + 60000;
+    return run();
+}
+
 static void bulk(uint64_t size)
 {
     for (int variant = 0; variant < 4; variant++) {
-        set(variant % 2 ? "bulk, CUBIC" : "bulk", size, 0);
-        trial.opens = OWN;
-        trial.sack = 1;
-        trial.cubic = variant % 2;
-        trial.lost = 20;
-        trial.seed = (uint32_t)(1 + variant / 2);
-        trial.limit = size / 1000000 * PEER_PACE;
-        uint64_t took = run();
+        uint64_t took = bulk_case(size, variant % 2, (uint32_t)(1 + variant / 2));
         if (took > 0)
             printf("    %s: %llu bytes at 2 percent loss: %llu ms\n", trial.name, (unsigned long long)size, (unsigned long long)took), own_tell(OWN);
     }
 }
 
-int main(int words, char **word)
+/* The means of so many runs. */
+static void measure(int seeds)
 {
-    for (int at = 1; at < words; at++) {
-        is_long |= strcmp(word[at], "--long") == 0;
-        only = strcmp(word[at], "--only") == 0 && at + 1 < words ? atoi(word[at + 1]) : only;
+    for (int cubic = 0; cubic <= 1; cubic++) {
+        uint64_t sum = 0, resent = 0, segments = 0, timeouts = 0;
+        for (int seed = 1; seed <= seeds; seed++) {
+            sum += bulk_case(20000000, cubic, (uint32_t)seed);
+            segments += wire_count(OWN);
+            resent += own_resent(OWN);
+            timeouts += own_timeouts(OWN);
+        }
+        printf("    %s, %s: %llu ms for 20 MB, %llu segments, of which %llu again, %llu timeouts\n", PEER_NAME, cubic ? "CUBIC" : "Reno",
+               (unsigned long long)sum / (unsigned)seeds, (unsigned long long)segments / (unsigned)seeds,
+               (unsigned long long)resent / (unsigned)seeds, (unsigned long long)timeouts / (unsigned)seeds);
     }
+}
+
+/* 20 MiB up, down and both ways, with and without blocks, scaled windows and losses. */
+static void large(void)
+{
+    for (int way = 1; way <= 3; way++)
+        for (int variant = 0; variant < 8; variant++) {
+            set("large", way & 1 ? 20 << 20 : 100, way & 2 ? 20 << 20 : 100);
+            trial.opens = way % 2;
+            trial.sack = variant & 1;
+            trial.lost = variant & 2 ? 10 : 0;
+            trial.shift = variant & 4 ? 5 : 0;
+            trial.sends = trial.keeps = variant & 4 ? 1 << 20 : 65535;
+            trial.limit = 4000000;
+            run();
+        }
+}
+
+static void all(void)
+{
     plain();
     drops();
     openings();
@@ -402,9 +464,33 @@ int main(int words, char **word)
     slow();
     pieces();
     shut();
+    both_full();
     aborts();
     vanishes();
+    if (is_long)
+        large();
     bulk(is_long ? 20000000 : 2000000);
-    printf("%s: %d cases, %d failed\n", PEER_NAME, count, failed);
+}
+
+int main(int words, char **word)
+{
+    int seeds = 0;
+    setvbuf(stdout, NULL, _IOLBF, 0);
+    for (int at = 1; at < words; at++) {
+        is_long |= strcmp(word[at], "--long") == 0;
+        only = strcmp(word[at], "--only") == 0 && at + 1 < words ? atoi(word[at + 1]) : only;
+        seeds = strcmp(word[at], "--bulk") == 0 && at + 1 < words ? atoi(word[at + 1]) : seeds;
+        if (strcmp(word[at], "--part") == 0 && at + 2 < words) {
+            part = atoi(word[at + 1]);
+            parts = atoi(word[at + 2]);
+        }
+    }
+    if (parts < 1)
+        return 2;
+    if (seeds > 0)
+        measure(seeds);
+    else
+        all();
+    printf("%s: %d cases, %d failed\n", PEER_NAME, ran, failed);
     return failed > 0;
 }

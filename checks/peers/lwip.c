@@ -18,6 +18,7 @@ const char *const PEER_NAME =
 
 /* With four segments in flight most losses are found by silence, and a lost window update by a probe after a second. */
 const uint64_t PEER_PACE = BUILD == TINY ? 25000 : BUILD == BARE ? 5000 : 4000;
+const int PEER_IS_REAL = 0;
 
 /* Its timers have ticks of so many milliseconds; a packet has room for so many bytes, and a write has so many segments. */
 enum { TICK = TCP_TMR_INTERVAL, PACKET = 1700, PIECES = 2 };
@@ -200,6 +201,8 @@ void peer_turn(void)
 }
 
 uint64_t peer_next(void) { return ticked + TICK; }
+
+uint64_t peer_wait(uint64_t until) { return until; }
 
 int peer_is_over(void) { return is_gone && !held; }
 

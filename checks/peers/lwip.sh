@@ -2,48 +2,21 @@
 # One end of ours, with its companions, against lwIP 2.1.3 in four builds and against another end of ours, in one process each, on a
 # clock and over a wire of the driver's: checks/peers/lwip.sh [LIBRARY] [--long]. Sizes, openings and closes of all kinds, the k-th
 # segment lost, losses, repeats, reordering and damage, slow readers, aborts, numbers that wrap, a peer that vanishes, and how long
-# 2 MB take where 2 percent are lost. Every byte is compared. --long has more of the random ones, and 20 MB. lwIP's source is Debian's,
-# in bench/out, as the benches have it. The last line is `N cases, M failed`; what is lwIP's own fault isn't counted as failed, but
-# named, with the line of its source.
+# 2 MB take where 2 percent are lost. Every byte is compared. --long has more of the random ones, and 20 MB. Last come the means of ten
+# runs of 20 MB at 2 percent loss: without blocks, and where nothing is kept out of order, they take no longer than 1.5 times of what
+# they take with blocks; a loss costs one segment, or a little more; and CUBIC takes no longer than Reno, or a little. lwIP's source is
+# Debian's, in bench/out, as the benches have it. The last line is `N cases, M failed`; what is lwIP's own fault isn't counted as failed,
+# but named, with the line of its source. --build only builds the programs, into checks/peers/out.
 set -euo pipefail
-cd "$(dirname "$0")/../.."
-top=$PWD
-library=$top/crates/tcp_c/out/libtcp_c.a
-words=()
-for word in "$@"; do
-    if [[ $word == --* ]]; then words+=("$word"); else library=$(realpath "$word"); fi
-done
-[[ -e $library ]] || { echo "peers: no $library: run 'rt lib' in crates/tcp_c"; exit 1; }
+cd "$(dirname "$0")"
+. ./common.sh
 out=$top/bench/out
 mkdir -p "$out"
-. bench/common.sh
+. ../../../bench/common.sh
 [[ -d $out/lwip-2.1.3 ]] || fetch_lwip
 lwip=$out/lwip-2.1.3/src
-made=$top/checks/peers/out
-mkdir -p "$made"
-cd "$made"
-warnings="-std=gnu11 -g -O2 -Wall -Wextra -Wpedantic -Werror"
-ours="-I$top/checks/peers -I$top/c/tcpcore -I$top/c/companions"
-companions=$(printf " $top/c/companions/%s.c" answers congestion cubic flow timers ip)
 
-# The objects of a folder, from these words for the compiler.
-objects() {
-    local folder=$1
-    shift
-    mkdir -p "$folder"
-    rm -f "$folder"/*.o
-    (cd "$folder" && gcc "$@")
-}
-
-# A program of ours against the peer that these words make.
-program() {
-    local name=$1
-    shift
-    gcc $warnings $ours "$top"/checks/peers/{cases,wire,own}.c "$@" common/*.o "$library" -o "$name"
-}
-
-cases=0 failed=0
-objects common $warnings $ours -c $companions "$top/c/tcpcore/tcpcore.c"
+common_objects
 program second "$top/checks/peers/second.c"
 programs=(second)
 for build in SHIPPED BLOCKS TINY BARE; do
@@ -52,11 +25,34 @@ for build in SHIPPED BLOCKS TINY BARE; do
     program "lwip.$build" -DBUILD="$build" -I"$top/bench/peer" -isystem "$lwip/include" "$top/checks/peers/lwip.c" "$build"/*.o
     programs+=("lwip.$build")
 done
+[[ -z $only_builds ]] || exit 0
 for program in "${programs[@]}"; do
     "./$program" "${words[@]}" >"$program.log" || true
     cat "$program.log"
-    read -r of_these bad < <(sed -n 's/.*: \([0-9]*\) cases, \([0-9]*\) failed$/\1 \2/p' <(tail -1 "$program.log"))
-    cases=$((cases + of_these)) failed=$((failed + bad))
+    count "$program.log"
 done
-echo "$cases cases, $failed failed"
-((failed == 0 && cases > 0))
+
+# The mean of ten runs: milliseconds, segments, and of these those that went out again.
+mean() { sed -nE "s/.*, $2: ([0-9]+) ms for 20 MB, ([0-9]+) segments, of which ([0-9]+) again.*/\\1 \\2 \\3/p" "$1.bulk"; }
+
+# A bound on such a mean.
+holds() {
+    cases=$((cases + 1))
+    (($2)) || { echo "$1: $2 doesn't hold"; failed=$((failed + 1)); }
+}
+
+for program in "${programs[@]}"; do
+    "./$program" --bulk 10 >"$program.bulk" || true
+    grep 'for 20 MB' "$program.bulk"
+    read -r reno sent again < <(mean "$program" Reno)
+    read -r cubic _ < <(mean "$program" CUBIC)
+    holds "$program, CUBIC beside Reno" "$cubic * 10 <= $reno * 11"
+    # 2 percent of them, and a fifth more.
+    [[ $program == lwip.BARE ]] || holds "$program, segments again" "$again * 1000 <= $sent * 24"
+done
+read -r blocks _ < <(mean lwip.BLOCKS Reno)
+for program in lwip.SHIPPED lwip.BARE; do
+    read -r reno _ < <(mean "$program" Reno)
+    holds "$program beside lwip.BLOCKS" "$reno * 10 <= $blocks * 15"
+done
+total

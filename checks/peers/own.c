@@ -123,6 +123,9 @@ const char *own_fault(int side)
     return status.ending == TCPCORE_ENDING_RESET ? "was reset" : status.ending == TCPCORE_ENDING_ABORTED ? "aborted" : 0;
 }
 
+uint64_t own_resent(int side) { return owns[side].flow.resent; }
+uint64_t own_timeouts(int side) { return owns[side].flow.congestion.timeouts; }
+
 void own_tell(int side)
 {
     struct tcpcore_status status = status_of(side);

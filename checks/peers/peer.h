@@ -1,7 +1,7 @@
 /*
  * peer.h: one end of ours with its companions against another stack, in one process, on a clock and over a wire of the driver's:
  * the same numbers at first give the same run. What a program is linked from: cases.c (the cases), wire.c, own.c (our side), and
- * one of lwip.c and second.c (the other side: lwIP, or an end of ours).
+ * one file for the other side: lwip.c, slirp.c, gvisor.c, kernel.c, or second.c, an end of ours. The kernel's clock is the machine's.
  */
 #ifndef CHECKS_PEER_H
 #define CHECKS_PEER_H
@@ -42,8 +42,10 @@ struct trial {
     int drops_to[2];      /* and all up to this one */
     uint64_t vanishes_at; /* nothing arrives from then on, or 0 */
     uint64_t limit;       /* in milliseconds */
+    uint64_t pace;        /* no more than these until the peer's user has read all, or 0 */
     uint64_t segments;    /* no more than these while a user pauses, or 0 */
     uint64_t most;        /* no more than these of our end in all, or 0 */
+    uint64_t again;       /* no more than these of our end again, or 0 */
     uint32_t r2;          /* how long our end is patient, in milliseconds; 0: the standard's least */
 };
 
@@ -84,14 +86,18 @@ uint64_t own_next(int side);
 int own_is_over(int side);
 const char *own_fault(int side);
 void own_tell(int side);
+uint64_t own_resent(int side); /* segments that it sent again, as its emissions were reported */
+uint64_t own_timeouts(int side);
 
 /* The other side. */
 extern const char *const PEER_NAME;
+extern const int PEER_IS_REAL;   /* its clock is the machine's: what takes minutes is left out */
 extern const uint64_t PEER_PACE; /* the milliseconds that 1 MB to it may take where 2 percent are lost, 10 ms there and back */
 void peer_begin(void);
 void peer_arrive(const uint8_t *segment, size_t length);
 void peer_turn(void);
 uint64_t peer_next(void);
+uint64_t peer_wait(uint64_t until); /* the time when that comes, or something arrives before */
 int peer_is_over(void);
 void peer_tell(void);
 

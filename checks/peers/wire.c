@@ -1,5 +1,10 @@
-/* The wire between two sides (see peer.h): delays, losses, repeats, reordering, damage, and numbers that are shifted. */
+/*
+ * The wire between two sides (see peer.h): delays, losses, repeats, reordering, damage, and numbers that are shifted.
+ * With CAPTURE=PREFIX in the environment a case leaves PREFIX.own and PREFIX.peer: captures (pcap, raw packets) of what
+ * that side sent and of what arrived there.
+ */
 #include "peer.h"
+#include "ip.h"
 #include "tests/made.h"
 
 #include <stdio.h>
@@ -17,9 +22,41 @@ static struct flight {
 static unsigned first[2], next[2];
 static uint64_t counts[2];
 static uint32_t state;
+static FILE *captures[2];
+
+/* Begins the captures anew. */
+static void capture_begin(void)
+{
+    static const uint32_t HEAD[] = {0xa1b2c3d4, 2 | 4 << 16, 0, 0, 65535, 101};
+    const char *prefix = getenv("CAPTURE");
+    for (int side = OWN; prefix && side <= PEER; side++) {
+        char path[4096];
+        snprintf(path, sizeof path, "%s.%s", prefix, side == OWN ? "own" : "peer");
+        captures[side] = captures[side] ? freopen(path, "wb", captures[side]) : fopen(path, "wb");
+        if (!captures[side] || fwrite(HEAD, sizeof HEAD, 1, captures[side]) != 1) {
+            perror(path);
+            exit(2);
+        }
+    }
+}
+
+/* A segment of one side, at `place`. */
+static void capture(int place, int from, const uint8_t *segment, size_t length)
+{
+    uint8_t packet[IP_HEADER + MOST];
+    tcpcore_addr ends[2] = {{{10, 0, 0, 1}}, {{10, 0, 0, 2}}};
+    if (!captures[place] || length > MOST)
+        return;
+    uint32_t total = (uint32_t)ip_write(packet, ends[from], ends[1 - from], length);
+    memcpy(packet + IP_HEADER, segment, length);
+    uint32_t head[] = {(uint32_t)(now / 1000), (uint32_t)(now % 1000 * 1000), total, total};
+    fwrite(head, sizeof head, 1, captures[place]);
+    fwrite(packet, total, 1, captures[place]);
+}
 
 void wire_begin(void)
 {
+    capture_begin();
     first[OWN] = next[OWN] = first[PEER] = next[PEER] = 0;
     counts[OWN] = counts[PEER] = 0;
     state = trial.seed * 2654435761u + 12345;
@@ -75,6 +112,7 @@ void wire_put(int side, const void *segment, size_t length)
     uint8_t bytes[MOST];
     memcpy(bytes, segment, length < MOST ? length : MOST);
     counts[side]++;
+    capture(side, side, segment, length);
     move(side, bytes, length);
     if (getenv("WIRE"))
         printf("%8llu %s seq %u ack %u bits %u window %u text %zu header %zu\n", (unsigned long long)now, side == OWN ? "own " : "peer",
@@ -112,6 +150,7 @@ int wire_carry(void)
             if (flight->is_on && flight->at <= now) {
                 flight->is_on = 0;
                 count++;
+                capture(1 - side, side, flight->bytes, flight->length);
                 if (side == OWN)
                     peer_arrive(flight->bytes, flight->length);
                 else

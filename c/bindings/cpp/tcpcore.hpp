@@ -18,21 +18,24 @@ struct refused : std::runtime_error {
 };
 
 class end {
-    // The C struct stays where it is; the object that holds it may move. One that was moved from can only be assigned or destroyed.
-    struct place {
+    // The C struct lies in its block; the object that holds both may move. One that was moved from can only be assigned or destroyed.
+    // The end is freed before its block.
+    struct owner {
         std::unique_ptr<unsigned char[]> block;
-        tcpcore_end raw = TCPCORE_END_INIT;
-        explicit place(std::size_t size) : block(new unsigned char[size]) {}
-        ~place() { tcpcore_free(&raw); }
+        void operator()(tcpcore_end *raw) const { tcpcore_free(raw); }
     };
-    std::unique_ptr<place> held;
+    std::unique_ptr<tcpcore_end, owner> held;
 
     static void done(std::uint32_t answer) { if (answer != TCPCORE_DONE) throw refused(answer); }
 
 public:
-    explicit end(const tcpcore_config &config) : held(new place(tcpcore_room(&config)))
+    explicit end(const tcpcore_config &config)
     {
-        done(tcpcore_new(&held->raw, &config, held->block.get(), tcpcore_room(&config)));
+        std::size_t room = tcpcore_room(&config) + TCPCORE_STRUCT_ROOM;
+        std::unique_ptr<unsigned char[]> block(new unsigned char[room]);
+        tcpcore_end *made;
+        done(tcpcore_new_at(&made, &config, block.get(), room));
+        held = {made, owner{std::move(block)}};
     }
 
     void connect(tcpcore_addr addr, std::uint16_t port) { done(tcpcore_connect(raw(), addr, port)); }
@@ -77,7 +80,15 @@ public:
         std::size_t length;
         return tcpcore_emit(raw(), out, sizeof out, &to, &length), length;
     }
-    // The same, with a report: its length is 0 where none was.
+    // The length of the acknowledgement that was pending, alone, though data is due; 0 where none goes out before that.
+    std::size_t emit_acknowledgement(unsigned char (&out)[TCPCORE_EMIT_ROOM], tcpcore_addr &to)
+    {
+        std::size_t length;
+        return tcpcore_emit_acknowledgement(raw(), out, sizeof out, &to, &length), length;
+    }
+    // Of what is in flight the first segment alone must be sent again: whether anything is.
+    bool resend_first() { return tcpcore_resend_first(raw()) == TCPCORE_DONE; }
+    // As emit, with a report: its length is 0 where none was.
     struct tcpcore_transmit transmit(unsigned char (&out)[TCPCORE_EMIT_ROOM])
     {
         struct tcpcore_transmit told;
@@ -103,7 +114,7 @@ public:
         return done(tcpcore_status(raw(), &told)), told;
     }
     // For the calls of tcpcore.h that aren't here.
-    tcpcore_end *raw() const { return &held->raw; }
+    tcpcore_end *raw() const { return held.get(); }
 };
 
 }

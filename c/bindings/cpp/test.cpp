@@ -87,6 +87,34 @@ static void beside()
     }
 }
 
+// Three segments are lost. An acknowledgement goes out alone before what is due again, and of that the first segment alone.
+static void pacing()
+{
+    tcpcore::end a(config(A, 7)), b(config(B, 7));
+    unsigned char out[TCPCORE_EMIT_ROOM];
+    tcpcore_addr dst;
+    CHECK(!a.resend_first() && a.emit_acknowledgement(out, dst) == 0);
+    connect(a, b);
+    CHECK(!a.resend_first() && a.emit_acknowledgement(out, dst) == 0);
+    std::string text(3000, 'z');
+    CHECK(a.send(text.data(), text.size()) == text.size());
+    for (std::uint64_t position = 1; position < 3001; position += 1000) {
+        struct tcpcore_transmit told = a.transmit(out);
+        CHECK(told.kind == TCPCORE_KIND_NEW_TEXT && told.position == position && told.count == 1000);
+    }
+    CHECK(a.timer(TCPCORE_TIMER_RETRANSMIT) && b.send("x", 1) == 1);
+    std::size_t length = b.emit(out, dst);
+    CHECK(length == 21 && a.arrive(B, A, out, length).first == TCPCORE_DONE);
+    CHECK(a.emit_acknowledgement(out, dst) == 20 && dst.byte[3] == 2);
+    CHECK(out[11] == 3 && a.emit_acknowledgement(out, dst) == 0); // B's number is 1, its text 2, and 3 is next
+    struct tcpcore_transmit again = a.transmit(out);
+    CHECK(again.kind == TCPCORE_KIND_TEXT_AGAIN && again.position == 1 && again.count == 1000);
+    CHECK(a.resend_first());
+    again = a.transmit(out);
+    CHECK(again.kind == TCPCORE_KIND_TEXT_AGAIN && again.position == 1 && again.count == 1000);
+    CHECK(a.transmit(out).length == 0);
+}
+
 int main()
 {
     std::vector<tcpcore::end> ends;
@@ -129,6 +157,7 @@ int main()
         CHECK(found.answer == TCPCORE_ALREADY_OPEN);
     }
     beside();
+    pacing();
     a = tcpcore::end(config(A, 9));
     CHECK(a.status().phase == TCPCORE_PHASE_CLOSED);
     std::printf("cpp: %d checks\n", checks);

@@ -76,7 +76,10 @@ type Config struct {
 }
 
 // End is one end.
-type End struct{ raw *C.tcpcore_end }
+type End struct {
+	raw   *C.tcpcore_end // in the block
+	block unsafe.Pointer
+}
 
 // New makes an end: CLOSED, empty, nothing due.
 func New(config Config) (*End, error) {
@@ -91,25 +94,24 @@ func New(config Config) (*End, error) {
 	if config.Sack {
 		c.sack = 1
 	}
-	// The struct, and behind it the block.
-	size := C.size_t(unsafe.Sizeof(C.tcpcore_end{}))
-	room := C.tcpcore_room(&c)
-	raw := (*C.tcpcore_end)(C.calloc(1, size+room))
-	if raw == nil {
+	room := C.tcpcore_room(&c) + C.TCPCORE_STRUCT_ROOM
+	block := C.malloc(room)
+	if block == nil {
 		return nil, Refused(C.TCPCORE_NO_MEMORY)
 	}
-	if answer := C.tcpcore_new(raw, &c, unsafe.Add(unsafe.Pointer(raw), size), room); answer != C.TCPCORE_DONE {
-		C.free(unsafe.Pointer(raw))
+	end := &End{block: block}
+	if answer := C.tcpcore_new_at(&end.raw, &c, block, room); answer != C.TCPCORE_DONE {
+		C.free(block)
 		return nil, Refused(answer)
 	}
-	return &End{raw}, nil
+	return end, nil
 }
 
 // Free gives the end up, and its memory back. No call may follow.
 func (end *End) Free() {
 	C.tcpcore_free(end.raw)
-	C.free(unsafe.Pointer(end.raw))
-	end.raw = nil
+	C.free(end.block)
+	end.raw, end.block = nil, nil
 }
 
 func (end *End) Connect(addr Addr, port uint16) error {
@@ -180,6 +182,16 @@ func (end *End) Emit(room *[EmitRoom]byte) (to Addr, length int) {
 	C.tcpcore_emit(end.raw, unsafe.Pointer(room), EmitRoom, (*C.tcpcore_addr)(unsafe.Pointer(&to)), &count)
 	return to, int(count)
 }
+
+// EmitAcknowledgement writes the acknowledgement that is pending, alone, though data is due; 0 where none goes out before that.
+func (end *End) EmitAcknowledgement(room *[EmitRoom]byte) (to Addr, length int) {
+	var count C.size_t
+	C.tcpcore_emit_acknowledgement(end.raw, unsafe.Pointer(room), EmitRoom, (*C.tcpcore_addr)(unsafe.Pointer(&to)), &count)
+	return to, int(count)
+}
+
+// ResendFirst says that of what is in flight the first segment alone must be sent again, and tells whether anything is.
+func (end *End) ResendFirst() bool { return C.tcpcore_resend_first(end.raw) == C.TCPCORE_DONE }
 
 // Transmit is a segment that was emitted, by the fields of struct tcpcore_transmit; all 0 where none was due.
 type Transmit struct {

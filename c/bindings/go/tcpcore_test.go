@@ -174,6 +174,46 @@ func TestBeside(t *testing.T) {
 	}
 }
 
+// Three segments are lost. An acknowledgement goes out alone before what is due again, and of that the first segment alone.
+func TestPacing(t *testing.T) {
+	one, other := connected(t)
+	defer one.Free()
+	defer other.Free()
+	var room [EmitRoom]byte
+	if _, length := one.EmitAcknowledgement(&room); one.ResendFirst() || length != 0 {
+		t.Fatal(length)
+	}
+	one.Send(make([]byte, 3000))
+	for position := uint64(1); position < 3001; position += 1000 {
+		if told := one.Transmit(&room); told.Kind != NewText || told.Position != position || told.Count != 1000 {
+			t.Fatal(told)
+		}
+	}
+	other.Send([]byte("x"))
+	dst, length := other.Emit(&room)
+	if _, err := one.Arrive(b, dst, room[:length]); !one.Timer(Retransmit) || length != 21 || err != nil {
+		t.Fatal(length, err)
+	}
+	// The other's number is 1, its text 2, and 3 is next.
+	if dst, length := one.EmitAcknowledgement(&room); dst != b || length != 20 || room[11] != 3 {
+		t.Fatal(dst, length, room[:20])
+	}
+	if _, length := one.EmitAcknowledgement(&room); length != 0 {
+		t.Fatal(length)
+	}
+	for turn := 0; turn < 2; turn++ {
+		if told := one.Transmit(&room); told.Kind != TextAgain || told.Position != 1 || told.Count != 1000 {
+			t.Fatal(told)
+		}
+		if turn == 0 && !one.ResendFirst() {
+			t.Fatal("nothing is in flight")
+		}
+	}
+	if told := one.Transmit(&room); told != (Transmit{}) {
+		t.Fatal(told)
+	}
+}
+
 func TestRefusals(t *testing.T) {
 	_, err := New(Config{Addr: a, MSS: 1, SendCapacity: 1, RecvCapacity: 1})
 	if err == nil || err.Error() != "the maximum segment size isn't from 64 to 1,460 bytes" {

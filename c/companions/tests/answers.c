@@ -79,8 +79,8 @@ static void both_full_behind_a_hole(int is_limited)
     for (int at = 1; at < 60; at++)
         CHECK(deliver(&b, &a, at), TCPCORE_DONE);
     /* Up to the timeout nothing else is done: silence isn't probed. */
-    a.flow.is_probed = b.flow.is_probed = 1;
-    a.flow.probe_at = b.flow.probe_at = TIMERS_NEVER;
+    no_probes(&a);
+    no_probes(&b);
     int count = war(900);
     CHECK(is_limited ? count <= 6 : count > 1000, 1);
     CHECK(a.flow.resent + b.flow.resent, 0);

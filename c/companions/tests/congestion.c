@@ -185,6 +185,48 @@ static void pace_of_little(void)
     CHECK(congestion_may_resend(&c, 5000 + 3615, 1000 * TRIP), 1);
 }
 
+/* RFC 6582, 3.2: more is acknowledged than had gone out again: the peer kept it, and one segment goes out. No more: two for each. */
+static void partial(void)
+{
+    struct congestion c;
+    congestion_init(&c, MSS);
+    c.cwnd = c.given = 10 * MSS;
+    congestion_lost(&c, CONGESTION_RECOVERY, 0, 5);
+    CHECK(congestion_may_resend(&c, 5, 10000), 1);
+    congestion_clocked(&c);
+    CHECK(congestion_may_resend(&c, 5, 10000), 1);
+    congestion_resent(&c, MSS);
+    CHECK(congestion_may_resend(&c, 50, 10000), 0);
+    CHECK(congestion_resend_at(&c, 10000) == UINT64_MAX, 1);
+    congestion_progress(&c, 4 * MSS, 0);
+    congestion_acknowledged(&c, 4 * MSS, 0);
+    CHECK(c.is_keeping, 1);
+    CHECK(c.allowed, 1);
+    congestion_resent(&c, MSS);
+    congestion_progress(&c, 5 * MSS, 0);
+    congestion_acknowledged(&c, 5 * MSS, 0);
+    CHECK(c.is_keeping, 0);
+    CHECK(c.drops, 1);
+    CHECK(c.allowed, 2);
+    congestion_resent(&c, MSS);
+    congestion_resent(&c, MSS);
+    congestion_progress(&c, 7 * MSS, 0);
+    congestion_acknowledged(&c, 7 * MSS, 0);
+    CHECK(c.drops, 2);
+    CHECK(c.allowed, 3);
+    /* What was given behind the loss and is acknowledged with the rest says nothing; nor does what may have come long before. */
+    congestion_resent(&c, 3 * MSS);
+    c.given = 14 * MSS;
+    congestion_progress(&c, 14 * MSS, 0);
+    CHECK(c.is_keeping, 0);
+    CHECK(c.drops, 2);
+    c.again = MSS;
+    congestion_progress(&c, 9 * MSS, 1);
+    CHECK(c.drops, 2);
+    congestion_progress(&c, 9 * MSS, 0);
+    CHECK(c.drops, 0);
+}
+
 int main(void)
 {
     slow_start();
@@ -194,6 +236,7 @@ int main(void)
     idle();
     pace();
     pace_of_little();
+    partial();
     printf("congestion: %d checks\n", checks);
     return 0;
 }

@@ -126,6 +126,7 @@ static void after_timeout(void)
     open_both(0);
     CHECK(give(&a, 10 * MSS), 10 * MSS);
     CHECK(emit(&a), 10);
+    no_probes(&a);
     now += (uint64_t)flow_wait(&a.flow, now);
     CHECK(emit(&a), 1);
     CHECK(a.flow.congestion.timeouts, 1);
@@ -142,12 +143,13 @@ static void after_timeout(void)
     now += 5;
     CHECK(emit(&a), 0);
     CHECK(a.flow.resent, 3);
-    /* An acknowledgement doesn't wait for the pace: the next one that goes out again carries it. */
+    /* An acknowledgement doesn't wait for the pace, and goes out alone: nothing goes out again before its time. */
     CHECK(give(&b, 2 * MSS), 2 * MSS);
     CHECK(carry(&b, &a), 2);
     CHECK(emit(&a), 1);
-    CHECK(lengths[0], 20 + MSS);
+    CHECK(lengths[0], 20);
     CHECK(emit(&a), 0);
+    CHECK(a.flow.resent, 3);
     free_both();
 }
 
@@ -196,6 +198,7 @@ static void shut_by_an_old_segment(void)
     CHECK(carry(&a, &b), 1);
     CHECK(give(&a, MSS), MSS);
     CHECK(emit(&a), 1);
+    no_probes(&a);
     now += (uint64_t)flow_wait(&a.flow, now);
     CHECK(emit(&a), 1);
     CHECK(a.flow.congestion.timeouts, 1);
@@ -347,8 +350,8 @@ static size_t read_all(struct side *side)
     return count;
 }
 
-/* Segments of 64 bytes over a path of 300 and of 900 ms that loses one of ten, asked each millisecond: what is lost goes out
-   again at the path's pace, however little a millisecond is worth. `wanted` bytes go from A to B, and `back` from B to A, where
+/* Segments of 64 bytes over a path of 300 and of 900 ms, where the handshake took 10, that loses one of ten, asked each millisecond:
+   what is lost goes out again at the path's pace, however little a millisecond is worth, and nothing else does. `wanted` bytes go from A to B, and `back` from B to A, where
    what goes out again carries acknowledgements, too; all are there within so many seconds. */
 static void slow_path(uint64_t trip, size_t wanted, size_t back, uint64_t seconds)
 {
@@ -391,6 +394,9 @@ int main(void)
     slow_path(900, 20000, 0, 150);
     slow_path(300, 20000, 20000, 60);
     slow_path(900, 20000, 20000, 150);
+    uses_blocks = 0;
+    slow_path(300, 20000, 0, 60);
+    slow_path(300, 20000, 20000, 60);
     printf("flow: %d checks\n", checks);
     return 0;
 }

@@ -70,7 +70,7 @@ static void slow(void)
     begin();
     launch(10);
     a.flow.same = 3;
-    a.flow.is_probed = 1;
+    no_probes(&a);
     for (int at = 1; at < 10; at++) {
         land(at);
         CHECK(emit(&a), 0);
@@ -107,6 +107,96 @@ static void keeps_nothing(void)
     CHECK(went, 10);
     CHECK(a.flow.congestion.loss, CONGESTION_OPEN);
     CHECK(a.flow.congestion.losses, 1);
+    free_both();
+}
+
+/* Once a peer was seen to keep nothing, all goes out again at the third duplicate, at the pace of the window: five segments in a round
+   trip of 10 ms. */
+static void keeps_nothing_again(void)
+{
+    begin();
+    a.flow.congestion.drops = 2;
+    launch(10);
+    uint8_t answer[TCPCORE_EMIT_ROOM];
+    tcpcore_addr to;
+    size_t length;
+    CHECK(tcpcore_acknowledge(&b.end), TCPCORE_DONE);
+    CHECK(tcpcore_emit(&b.end, answer, sizeof answer, &to, &length), TCPCORE_DONE);
+    int went = 0;
+    for (int at = 1; at < 10; at++)
+        CHECK(flow_arrive(&a.flow, &a.end, b.addr, a.addr, answer, length, now), TCPCORE_DONE);
+    CHECK(a.flow.fast, 1);
+    CHECK(a.flow.congestion.cwnd, 5 * MSS);
+    for (uint64_t until = now + 10; now < until; now++)
+        for (int count = emit(&a), at = 0; at < count; at++)
+            CHECK(place_of(segments[at]), went++);
+    CHECK(went, 5);
+    CHECK(a.flow.congestion.losses, 1);
+    free_both();
+}
+
+/* In a recovery the first segment alone goes out again, and no text that comes from the peer makes another one go: what it owes an
+   acknowledgement goes out alone. New text goes out as soon as the duplicates leave room for it (RFC 5681, 3.2). */
+static void one_segment(void)
+{
+    begin();
+    a.flow.congestion.is_keeping = 1;
+    launch(10);
+    for (int at = 1; at < 4; at++)
+        land(at);
+    CHECK(emit(&a), 1);
+    CHECK(place_of(segments[0]), 0);
+    for (int at = 0; at < 4; at++) {
+        CHECK(give(&b, MSS), MSS);
+        CHECK(emit(&b), 1);
+        CHECK(deliver(&b, &a, 0), TCPCORE_DONE);
+        CHECK(emit(&a), 1);
+        CHECK(lengths[0], SEGMENT_HEADER);
+    }
+    CHECK(a.flow.resent, 1);
+    /* The window is of five; ten were sent, and three are known to be out of the network, then nine. */
+    CHECK(give(&a, 10 * MSS), 0);
+    for (int at = 4; at < 10; at++)
+        land(at);
+    CHECK(give(&a, 10 * MSS), 4 * MSS);
+    CHECK(emit(&a), 4);
+    CHECK(place_of(segments[0]), 10);
+    CHECK(a.flow.resent, 1);
+    land(0);
+    CHECK(a.flow.congestion.loss, CONGESTION_OPEN);
+    free_both();
+}
+
+/* So it is behind a partial acknowledgement (RFC 6582, 3.2): of ten the first and the fifth are lost. */
+static void two_segments(void)
+{
+    begin();
+    a.flow.congestion.is_keeping = 1;
+    launch(10);
+    for (int at = 1; at < 10; at++)
+        if (at != 4)
+            land(at);
+    CHECK(emit(&a), 1);
+    CHECK(place_of(segments[0]), 0);
+    /* A window of five, and eight of ten are out of the network. */
+    CHECK(give(&a, 10 * MSS), 3 * MSS);
+    CHECK(emit(&a), 3);
+    for (int at = 0; at < 3; at++) {
+        memcpy(flight[10 + at], segments[at], lengths[at]);
+        flight_lengths[10 + at] = lengths[at];
+    }
+    land(0);
+    CHECK(emit(&a), 1);
+    CHECK(place_of(segments[0]), 4);
+    CHECK(give(&a, 10 * MSS), 0);
+    for (int at = 10; at < 13; at++)
+        land(at);
+    CHECK(give(&a, 10 * MSS), 3 * MSS);
+    CHECK(emit(&a), 3);
+    CHECK(place_of(segments[0]), 13);
+    land(4);
+    CHECK(a.flow.congestion.loss, CONGESTION_OPEN);
+    CHECK(a.flow.resent, 2);
     free_both();
 }
 
@@ -154,8 +244,8 @@ static void no_duplicates(void)
 }
 
 /* RFC 8985, 7: all of two segments are lost, and nothing comes. After a round trip of 10 ms and four times its variation of 5 ms the
-   first goes out again, long before the timeout; once, and where that is lost, too, the timeout is what it was. A single one is
-   given 200 ms more. */
+   first goes out again, long before the timeout; and once more after twice the time. Where that is lost, too, the timeout is what it
+   was. A single one is given 200 ms more. */
 static void silence(void)
 {
     begin();
@@ -167,20 +257,28 @@ static void silence(void)
     CHECK(place_of(segments[0]), 0);
     CHECK(a.flow.probes, 1);
     CHECK(emit(&a), 0);
+    CHECK(flow_wait(&a.flow, now), 62);
+    now += 62;
+    CHECK(emit(&a), 1);
+    CHECK(place_of(segments[0]), 0);
+    CHECK(a.flow.probes, 2);
     now += (uint64_t)flow_wait(&a.flow, now);
     CHECK(now - sent_at, 1000);
     CHECK(emit(&a), 1);
     CHECK(a.flow.congestion.timeouts, 1);
-    CHECK(a.flow.probes, 1);
+    CHECK(a.flow.probes, 2);
     free_both();
     begin();
     launch(1);
     CHECK(flow_wait(&a.flow, now), 231);
     free_both();
-    /* A peer that tells blocks isn't probed so. */
+    /* And so it is where the peer tells blocks: of what is lost at the end of all it has none to tell. */
     open_both(0);
     launch(2);
-    CHECK(flow_wait(&a.flow, now), 1000);
+    CHECK(flow_wait(&a.flow, now), 31);
+    now += 31;
+    CHECK(emit(&a), 1);
+    CHECK(place_of(segments[0]), 0);
     free_both();
 }
 
@@ -300,6 +398,9 @@ int main(void)
     fast();
     slow();
     keeps_nothing();
+    keeps_nothing_again();
+    one_segment();
+    two_segments();
     limited();
     no_duplicates();
     silence();

@@ -72,8 +72,9 @@ static inline void open_with(uint16_t mss, uint32_t delay)
     CHECK(tcpcore_listen(&b.end), TCPCORE_DONE);
     CHECK(tcpcore_connect(&a.end, b.addr, 2), TCPCORE_DONE);
     CHECK(carry(&a, &b), 1);
+    CHECK(emit(&b), 1);
     now += 10;
-    CHECK(carry(&b, &a), 1);
+    CHECK(deliver(&b, &a, 0), TCPCORE_DONE);
     CHECK(carry(&a, &b), 1);
     CHECK(emit(&b), 0);
 }
@@ -84,6 +85,13 @@ static inline void free_both(void)
 {
     CHECK(tcpcore_free(&a.end), TCPCORE_DONE);
     CHECK(tcpcore_free(&b.end), TCPCORE_DONE);
+}
+
+/* Silence isn't probed any more: what comes next is the timeout's. */
+static inline void no_probes(struct side *side)
+{
+    side->flow.probed = 2;
+    side->flow.probe_at = TIMERS_NEVER;
 }
 
 /* Gives so many bytes to send; how many of them were taken. */

@@ -320,7 +320,8 @@ static void shut_window(void)
     free_both();
 }
 
-/* What the peer's blocks passed over is sent again after one round trip, and no more than that (RFC 2018, 5.1). */
+/* What the peer's blocks passed over is sent again after one round trip, and no more than that (RFC 2018, 5.1); without progress after
+   another one, then two, and four. */
 static void reordering(void)
 {
     make_both(&TIMERS_RULES, 65535);
@@ -332,6 +333,10 @@ static void reordering(void)
     CHECK(wait_for(&a), 40);
     CHECK(carry(&a, &b, NOBODY), 1);
     CHECK(wait_for(&a), 40);
+    CHECK(carry(&a, &b, NOBODY), 1);
+    CHECK(wait_for(&a), 80);
+    CHECK(carry(&a, &b, NOBODY), 1);
+    CHECK(wait_for(&a), 160);
     CHECK(carry(&a, &b, ALL), 1);
     CHECK(carry(&b, &a, ALL), 1);
     CHECK(timers_wait(&a.timers, now), -1);

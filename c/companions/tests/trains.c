@@ -41,9 +41,19 @@ static size_t make(uint8_t *out, uint32_t number, uint8_t flags, size_t text)
 
 static int add(uint32_t number, uint8_t flags, size_t text)
 {
-    uint8_t segment[2000];
-    size_t length = make(segment, number, flags, text);
-    return trains_add(&train, SRC, DST, segment, length);
+    return trains_add(&train, SRC, DST, make(trains_place(&train), number, flags, text));
+}
+
+/* The device completes the checksum of what it takes: the sum over what stands there is right then. */
+static uint32_t completed(uint8_t *segment, size_t length)
+{
+    uint32_t sum = 0;
+    for (size_t at = 0; at < length; at++)
+        sum += at % 2 ? segment[at] : (uint32_t)segment[at] << 8;
+    while (sum >> 16)
+        sum = (sum & 0xffff) + (sum >> 16);
+    segment[16] = (uint8_t)(~sum >> 8), segment[17] = (uint8_t)~sum;
+    return sum_of(segment, length);
 }
 
 /* Finishes the train; it has to stand for `count` segments from `number` on, of `each` bytes and the last of `last`,
@@ -51,7 +61,7 @@ static int add(uint32_t number, uint8_t flags, size_t text)
 static void is_train(uint32_t number, size_t count, size_t each, size_t last, uint8_t flags)
 {
     struct virtio_net_hdr front;
-    const uint8_t *packet = train.bytes + TUN_HEADER, *segment = packet + IP_HEADER;
+    uint8_t *packet = train.bytes + TUN_HEADER, *segment = packet + IP_HEADER;
     size_t text = (count - 1) * each + last;
     trains_finish(&train);
     memcpy(&front, train.bytes, sizeof front);
@@ -64,31 +74,33 @@ static void is_train(uint32_t number, size_t count, size_t each, size_t last, ui
     while (same < text && segment[HEADER + same] == (uint8_t)(number + same))
         same++;
     CHECK(same, text);
-    if (count == 1) {
-        CHECK(front.flags, 0);
-        CHECK(front.gso_type, VIRTIO_NET_HDR_GSO_NONE);
-        CHECK(sum_of(segment, HEADER + text), 0xffff);
-    } else {
-        CHECK(front.flags, VIRTIO_NET_HDR_F_NEEDS_CSUM);
-        CHECK(front.gso_type, VIRTIO_NET_HDR_GSO_TCPV4);
+    CHECK(front.flags, VIRTIO_NET_HDR_F_NEEDS_CSUM);
+    CHECK(front.csum_start, IP_HEADER);
+    CHECK(front.csum_offset, 16);
+    CHECK(front.gso_type, count == 1 ? VIRTIO_NET_HDR_GSO_NONE : VIRTIO_NET_HDR_GSO_TCPV4);
+    if (count > 1) {
         CHECK(front.gso_size, each);
         CHECK(front.hdr_len, IP_HEADER + HEADER);
-        CHECK(front.csum_start, IP_HEADER);
-        CHECK(front.csum_offset, 16);
     }
+    CHECK(completed(segment, HEADER + text), 0xffff);
 }
 
-/* The other way: the device leaves the checksum to the reader, who makes it whole. */
+/* The other way: the device leaves the checksum out, of which the reader learns, and which it may write. */
 static void is_read(void)
 {
     size_t length = train.length, count = 0;
-    const uint8_t *packet = trains_read(train.bytes, length, &count);
+    int vouched = 0;
+    const uint8_t *packet = trains_read(train.bytes, length, &count, &vouched);
+    uint8_t *segment = train.bytes + TUN_HEADER + IP_HEADER;
     CHECK(packet == train.bytes + TUN_HEADER, 1);
     CHECK(count, length - TUN_HEADER);
-    CHECK(sum_of(packet + IP_HEADER, count - IP_HEADER), 0xffff);
+    CHECK(vouched, 1);
+    segment[16] ^= 0x55;
+    trains_sum(segment, count - IP_HEADER, SRC, DST);
+    CHECK(sum_of(segment, count - IP_HEADER), 0xffff);
 }
 
-static void start(void) { train.length = 0; }
+static void start(void) { train.length = train.waits = 0; }
 
 static void joined(void)
 {
@@ -106,12 +118,30 @@ static void joined(void)
     CHECK(add(234, ACK, 100), 0); /* a shorter one ends it */
     is_train(1, 3, 100, 33, ACK | PSH);
     is_read();
+    trains_sent(&train); /* and the segment that waited begins the next */
+    CHECK(add(334, ACK, 100), 1);
+    is_train(234, 2, 100, 100, ACK);
+    is_read();
+    trains_sent(&train);
+    CHECK(train.length, 0);
+    CHECK(add(7, ACK, 0), 1); /* without text nothing follows, and all of it waits */
+    CHECK(add(7, ACK, 1460), 0);
+    is_train(7, 1, 0, 0, ACK);
+    trains_sent(&train);
+    is_train(7, 1, 1460, 1460, ACK);
+}
+
+/* A segment with another byte in its header, which doesn't join. */
+static void differs_at(size_t at)
+{
+    uint8_t *segment = trains_place(&train);
+    size_t length = make(segment, 101, ACK, 100);
+    segment[at] ^= 0x40;
+    CHECK(trains_add(&train, SRC, DST, length), 0);
 }
 
 static void not_joined(void)
 {
-    uint8_t segment[2000];
-    size_t length = make(segment, 101, ACK, 100);
     start();
     CHECK(add(1, ACK, 100), 1);
     CHECK(add(102, ACK, 100), 0);             /* not the next number */
@@ -119,14 +149,10 @@ static void not_joined(void)
     CHECK(add(101, ACK, 101), 0);             /* longer than the first */
     CHECK(add(101, ACK, 0), 0);               /* no text */
     CHECK(add(101, ACK | FIN, 100), 0);       /* another bit */
-    CHECK(trains_add(&train, SRC, OTHER, segment, length), 0);
-    for (size_t at = 0; at < 16; at++) {      /* ports, acknowledgement, offset, bits, window */
-        if (at >= 4 && at < 8)
-            continue;
-        segment[at] ^= 0x40;
-        CHECK(trains_add(&train, SRC, DST, segment, length), 0);
-        segment[at] ^= 0x40;
-    }
+    CHECK(trains_add(&train, SRC, OTHER, make(trains_place(&train), 101, ACK, 100)), 0);
+    for (size_t at = 0; at < 16; at++)        /* ports, number, acknowledgement, offset, bits, window */
+        differs_at(at);
+    is_train(1, 1, 100, 100, ACK);            /* it stays as it was */
     start();
     CHECK(add(1, ACK | FIN, 100), 1);
     CHECK(add(101, ACK, 100), 0);
@@ -138,24 +164,20 @@ static void not_joined(void)
 static void bounds(void)
 {
     size_t count = 0, added = 0;
-    uint8_t bytes[TUN_HEADER + 30] = {VIRTIO_NET_HDR_F_NEEDS_CSUM};
-    struct virtio_net_hdr front = {.flags = VIRTIO_NET_HDR_F_NEEDS_CSUM, .csum_start = 10, .csum_offset = 18};
+    int vouched = 1;
+    uint8_t bytes[TUN_HEADER + 30] = {0};
     start();
     while (add((uint32_t)(1460 * added), ACK, 1460))
         added++;
     CHECK(added > 40 && train.length <= 65535, 1);
-    CHECK(trains_read(bytes, TUN_HEADER - 1, &count) == NULL, 1);
-    memcpy(bytes, &front, sizeof front);
-    CHECK(trains_read(bytes, sizeof bytes, &count) != NULL, 1);
-    front.csum_offset = 19;
-    memcpy(bytes, &front, sizeof front);
-    CHECK(trains_read(bytes, sizeof bytes, &count) == NULL, 1);
-    front.csum_start = 60000, front.csum_offset = 16;
-    memcpy(bytes, &front, sizeof front);
-    CHECK(trains_read(bytes, sizeof bytes, &count) == NULL, 1);
-    bytes[0] = 0;
-    CHECK(trains_read(bytes, sizeof bytes, &count) == bytes + TUN_HEADER, 1);
+    CHECK(trains_read(bytes, TUN_HEADER - 1, &count, &vouched) == NULL, 1);
+    CHECK(trains_read(bytes, sizeof bytes, &count, &vouched) == bytes + TUN_HEADER, 1);
     CHECK(count, 30);
+    CHECK(vouched, 0);
+    bytes[0] = VIRTIO_NET_HDR_F_DATA_VALID;
+    CHECK(trains_read(bytes, TUN_HEADER, &count, &vouched) == bytes + TUN_HEADER, 1);
+    CHECK(count, 0);
+    CHECK(vouched, 1);
 }
 
 int main(void)

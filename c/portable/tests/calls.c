@@ -182,7 +182,9 @@ static void emit(struct side *side, int rests)
 {
     struct kept *kept = &side->kept[side->emitted % KEPT];
     size_t given = next(50) ? TCPCORE_EMIT_ROOM : next(TCPCORE_EMIT_ROOM), length;
-    uint32_t answer = rests                    ? tcpcore_rest_emit(&side->rest, kept->bytes, given, &kept->to, &length)
+    uint32_t alone = !rests && next(8) == 0;
+    uint32_t answer = alone                    ? tcpcore_emit_acknowledgement(&side->end, kept->bytes, given, &kept->to, &length)
+                      : rests                  ? tcpcore_rest_emit(&side->rest, kept->bytes, given, &kept->to, &length)
                       : side->emitted % 4 == 1 ? transmit(side, kept, given, &length)
                       : side->emitted % 4 == 2 ? partial(side, kept, given, &length)
                       : side->emitted % 4 == 3 ? parts(side, kept, given, &length)
@@ -391,7 +393,7 @@ static void step(void)
     else if (kind < 88)
         arrive(other, side);
     else if (kind < 93)
-        told(tcpcore_timer(&side->end, next(4)));
+        told(next(4) ? tcpcore_timer(&side->end, next(4)) : tcpcore_resend_first(&side->end));
     else if (kind < 94)
         told(tcpcore_acknowledge(&side->end));
     else if (kind < 97)

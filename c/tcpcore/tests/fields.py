@@ -66,7 +66,7 @@ class Side:
 def layout():
     for name in ("end", "addr", "config", "status", "taken", "transmit", "rest"):
         struct = getattr(tcpcore, f"{name.capitalize()}Struct")
-        fields = ((field, getattr(struct, field)) for field, _ in struct._fields_)
+        fields = ((field, getattr(struct, field)) for field, _ in struct._fields_ if not field.startswith("unnamed"))
         told = " ".join(f"{field} {place.offset}+{place.size}" for field, place in fields)
         print(f"tcpcore_{name}: {told} of {ctypes.sizeof(struct)}")
 

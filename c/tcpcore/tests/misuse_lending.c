@@ -68,6 +68,12 @@ static void every_call(tcpcore_end *end, uint32_t wanted)
     CHECK(tcpcore_parts(end, buffer, sizeof buffer, &parts), wanted);
     no_parts(&parts);
     CHECK(tcpcore_sent(end), wanted);
+    to = THERE;
+    count = 7;
+    CHECK(tcpcore_emit_acknowledgement(end, buffer, sizeof buffer, &to, &count), wanted);
+    CHECK(count, 0);
+    CHECK(memcmp(&to, &NOWHERE, sizeof to), 0);
+    CHECK(tcpcore_resend_first(end), wanted);
     for (size_t i = 0; i < sizeof buffer; i++)
         CHECK(buffer[i], 0xee);
 }
@@ -109,6 +115,11 @@ static void pointers(tcpcore_end *end)
     CHECK(tcpcore_emit_partial(end, buffer, sizeof buffer, &to, NULL), TCPCORE_NULL);
     CHECK(tcpcore_emit_partial(end, buffer, SIZE_MAX, &to, &count), TCPCORE_LENGTH);
     CHECK(tcpcore_emit_partial(end, buffer, TCPCORE_EMIT_ROOM - 1, &to, &count), TCPCORE_ROOM);
+    CHECK(tcpcore_emit_acknowledgement(end, NULL, sizeof buffer, &to, &count), TCPCORE_NULL);
+    CHECK(tcpcore_emit_acknowledgement(end, buffer, sizeof buffer, NULL, &count), TCPCORE_NULL);
+    CHECK(tcpcore_emit_acknowledgement(end, buffer, sizeof buffer, &to, NULL), TCPCORE_NULL);
+    CHECK(tcpcore_emit_acknowledgement(end, buffer, SIZE_MAX, &to, &count), TCPCORE_LENGTH);
+    CHECK(tcpcore_emit_acknowledgement(end, buffer, TCPCORE_EMIT_ROOM - 1, &to, &count), TCPCORE_ROOM);
     CHECK(tcpcore_parts(end, NULL, TCPCORE_HEADER_ROOM, &parts), TCPCORE_NULL);
     CHECK(tcpcore_parts(end, buffer, TCPCORE_HEADER_ROOM, NULL), TCPCORE_NULL);
     CHECK(tcpcore_parts(end, buffer, SIZE_MAX, &parts), TCPCORE_LENGTH);
@@ -150,6 +161,7 @@ static void overlaps(void)
         CHECK(tcpcore_taken_vouched(&place.end, THERE, HERE, over, 20, &report), TCPCORE_OVERLAP);
         CHECK(tcpcore_taken_vouched(&place.end, THERE, HERE, place.behind, 20, over), TCPCORE_OVERLAP);
         CHECK(tcpcore_emit_partial(&place.end, over, TCPCORE_EMIT_ROOM, &to, &count), TCPCORE_OVERLAP);
+        CHECK(tcpcore_emit_acknowledgement(&place.end, over, TCPCORE_EMIT_ROOM, &to, &count), TCPCORE_OVERLAP);
         CHECK(tcpcore_emit_partial(&place.end, place.behind, TCPCORE_EMIT_ROOM, over, &count), TCPCORE_OVERLAP);
         CHECK(tcpcore_emit_partial(&place.end, place.behind, TCPCORE_EMIT_ROOM, &to, over), TCPCORE_OVERLAP);
         CHECK(tcpcore_parts(&place.end, over, TCPCORE_HEADER_ROOM, &parts), TCPCORE_OVERLAP);

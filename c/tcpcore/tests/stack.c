@@ -62,6 +62,10 @@ static void carry(tcpcore_end *from, tcpcore_addr src, tcpcore_end *to)
     size_t length;
     uint32_t answer;
     for (;;) {
+        DEPTH(answer = tcpcore_emit_acknowledgement(from, segment, sizeof segment, &dst, &length));
+        if (answer == TCPCORE_DONE && ++count % 5 != 0)
+            DEPTH(tcpcore_arrive(to, src, dst, segment, length));
+        DEPTH(tcpcore_resend_first(from));
         DEPTH(answer = tcpcore_emit(from, segment, sizeof segment, &dst, &length));
         if (answer == TCPCORE_DONE && ++count % 5 != 0)
             DEPTH(tcpcore_arrive(to, src, dst, segment, length));

@@ -20,14 +20,14 @@ impl Config {
             port,
             mss: 1460,
             isn,
-            unnamed: 0,
+            unnamed_12: [0; 4],
             send_capacity: 65535,
             recv_capacity: 65535,
             limit: LIMIT,
             window_shift: 0,
             scales: 0,
             sack: 1,
-            behind: [0; 5],
+            unnamed_43: [0; 5],
         })
     }
 
@@ -82,7 +82,7 @@ impl Config {
         // SAFETY: it is read alone.
         match unsafe { sys::tcpcore_room(&self.0) } {
             0 => 0,
-            room => room + crate::placed::STRUCT_ROOM,
+            room => room + crate::sys::STRUCT_ROOM,
         }
     }
 }

@@ -184,6 +184,20 @@ impl End {
         (answer == 0).then(|| (to.byte, &room[..length]))
     }
 
+    /// As [`End::emit`], but writes the acknowledgement that is pending, without data, even where data or the FIN is due (RFC 9293,
+    /// 3.8.6.3). `None` where none is pending, or a reset or SYN has to go out before it.
+    pub fn emit_acknowledgement<'r>(&mut self, room: &'r mut [u8; EMIT_ROOM]) -> Option<(Addr, &'r [u8])> {
+        let (mut to, mut length) = (sys::Addr::default(), 0);
+        let answer = unsafe { sys::tcpcore_emit_acknowledgement(&mut self.raw, room.as_mut_ptr().cast(), EMIT_ROOM, &mut to, &mut length) };
+        (answer == 0).then(|| (to.byte, &room[..length]))
+    }
+
+    /// Of what is in flight, the first segment alone is to be sent again, and then new data (RFC 5681, 3.2; RFC 6582, 3.2). Answers
+    /// whether anything is in flight: where nothing is, nothing changed.
+    pub fn resend_first(&mut self) -> bool {
+        unsafe { sys::tcpcore_resend_first(&mut self.raw) == 0 }
+    }
+
     /// The length of the segment that [`End::emit`] would write now, 0 where none is due.
     pub fn pending(&self) -> usize {
         let mut due = 0;

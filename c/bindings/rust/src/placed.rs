@@ -2,17 +2,14 @@
 use crate::answers::done;
 use crate::{sys, Config, End, Error};
 use core::marker::PhantomData;
-use core::mem::{align_of, size_of, MaybeUninit};
+use core::mem::MaybeUninit;
 use core::ops::{Deref, DerefMut};
 use core::ptr::{self, NonNull};
-
-/// What the C struct takes of the block, wherever that begins.
-pub(crate) const STRUCT_ROOM: usize = size_of::<sys::End>() + align_of::<sys::End>() - 1;
 
 /// How many bytes of a block are enough for an end of these capacities, wherever the block begins.
 pub const fn memory(send: usize, receive: usize) -> usize {
     let units = (send + sys::UNIT - 1) / sys::UNIT + (receive + sys::UNIT - 1) / sys::UNIT;
-    units * sys::UNIT + sys::END_SIZE + sys::UNIT - 1 + STRUCT_ROOM
+    units * sys::UNIT + sys::END_SIZE + sys::UNIT - 1 + sys::STRUCT_ROOM
 }
 
 /// An end in a block that it borrows. It can be moved, and is freed when it is dropped.
@@ -44,23 +41,10 @@ impl<'m> Placed<'m> {
     /// [`Error::BadCapacity`], [`Error::BadMss`], [`Error::BadShift`], [`Error::BadLimit`], [`Error::NoMemory`], the first that
     /// applies.
     pub fn new(config: &Config, block: &'m mut [MaybeUninit<u8>]) -> Result<Placed<'m>, Error> {
-        let empty = sys::End { opaque: [0; 3] };
-        let before = block.as_ptr().align_offset(align_of::<sys::End>());
-        if before.checked_add(size_of::<sys::End>()).map_or(true, |front| front > block.len()) {
-            // No room for the struct; the config's own faults come first.
-            let mut other = empty;
-            // SAFETY: a struct with no end in it, and no block.
-            let answer = unsafe { sys::tcpcore_new(&mut other, &config.0, ptr::null_mut(), 0) };
-            return Err(done(answer).err().unwrap_or(Error::NoMemory));
-        }
-        let (front, rest) = block[before..].split_at_mut(size_of::<sys::End>());
-        let raw = NonNull::from(front).cast::<sys::End>();
-        // SAFETY: the struct's place is aligned, and it and the rest are borrowed for as long as the end lives.
-        unsafe {
-            raw.as_ptr().write(empty);
-            done(sys::tcpcore_new(raw.as_ptr(), &config.0, rest.as_mut_ptr().cast(), rest.len()))?;
-        }
-        Ok(Placed { raw, block: PhantomData })
+        let mut raw = ptr::null_mut();
+        // SAFETY: the block is borrowed for as long as the end lives.
+        done(unsafe { sys::tcpcore_new_at(&mut raw, &config.0, block.as_mut_ptr().cast(), block.len()) })?;
+        Ok(Placed { raw: NonNull::new(raw).ok_or(Error::NoMemory)?, block: PhantomData })
     }
 
     fn end(&self) -> *mut End {

@@ -1,10 +1,11 @@
-//! tcpcore.h by hand: its structs, whose layouts the tests below compare with the C compiler's, and its calls.
+//! tcpcore.h: its structs, whose fields c/tcpcore/layout.py writes and the tests below compare with the C compiler's, and its calls.
 use core::ffi::c_void;
 use core::ptr;
 
-pub(crate) const VERSION: u32 = 5;
+pub(crate) const VERSION: u32 = 6;
 pub(crate) const END_SIZE: usize = 704;
 pub(crate) const UNIT: usize = 16;
+pub(crate) const STRUCT_ROOM: usize = 32;
 
 #[repr(C)]
 pub struct End {
@@ -12,7 +13,7 @@ pub struct End {
 }
 
 #[repr(C)]
-#[derive(Clone, Copy, Default)]
+#[derive(Clone, Copy, Debug, Default, PartialEq, Eq)]
 pub struct Addr {
     pub byte: [u8; 4],
 }
@@ -24,14 +25,14 @@ pub struct Config {
     pub port: u16,
     pub mss: u16,
     pub isn: u32,
-    pub unnamed: u32,
+    pub unnamed_12: [u8; 4],
     pub send_capacity: u64,
     pub recv_capacity: u64,
     pub limit: u64,
     pub window_shift: u8,
     pub scales: u8,
     pub sack: u8,
-    pub behind: [u8; 5],
+    pub unnamed_43: [u8; 5],
 }
 
 #[repr(C)]
@@ -118,11 +119,25 @@ pub struct Parts {
 #[derive(Clone, Debug, Default, PartialEq, Eq)]
 pub struct Rest {
     pub mark: u32,
-    pub words: [u32; 11],
+    pub addr: Addr,
+    pub peer_addr: Addr,
+    pub port: u16,
+    pub peer_port: u16,
+    pub seq: u32,
+    pub next: u32,
+    pub window: u32,
+    pub reset_addr: Addr,
+    pub reset_seq: u32,
+    pub reset_ack: u32,
+    pub reset_port: u16,
+    pub shift: u8,
+    pub ack: u8,
+    pub reset: u16,
+    pub ending: u16,
 }
 
 extern "C" {
-    pub fn tcpcore_new(end: *mut End, config: *const Config, block: *mut c_void, length: usize) -> u32;
+    pub fn tcpcore_new_at(end: *mut *mut End, config: *const Config, block: *mut c_void, length: usize) -> u32;
     pub fn tcpcore_room(config: *const Config) -> usize;
     pub fn tcpcore_free(end: *mut End) -> u32;
     pub fn tcpcore_connect(end: *mut End, addr: Addr, port: u16) -> u32;
@@ -139,6 +154,8 @@ extern "C" {
     pub fn tcpcore_taken(end: *mut End, src: Addr, dst: Addr, bytes: *const c_void, length: usize, taken: *mut Taken) -> u32;
     pub fn tcpcore_taken_vouched(end: *mut End, src: Addr, dst: Addr, bytes: *const c_void, length: usize, taken: *mut Taken) -> u32;
     pub fn tcpcore_emit(end: *mut End, out: *mut c_void, room: usize, to: *mut Addr, length: *mut usize) -> u32;
+    pub fn tcpcore_emit_acknowledgement(end: *mut End, out: *mut c_void, room: usize, to: *mut Addr, length: *mut usize) -> u32;
+    pub fn tcpcore_resend_first(end: *mut End) -> u32;
     pub fn tcpcore_emit_partial(end: *mut End, out: *mut c_void, room: usize, to: *mut Addr, length: *mut usize) -> u32;
     pub fn tcpcore_parts(end: *const End, header: *mut c_void, room: usize, parts: *mut Parts) -> u32;
     pub fn tcpcore_sent(end: *mut End) -> u32;
@@ -218,7 +235,6 @@ mod tests {
     #[test]
     fn layouts() {
         let all = [
-            places!(End, "struct tcpcore_end", opaque),
             places!(Addr, "struct tcpcore_addr", byte),
             places!(Config, "struct tcpcore_config", addr, port, mss, isn, send_capacity, recv_capacity, limit, window_shift, scales, sack),
             places!(
@@ -248,16 +264,36 @@ mod tests {
             ),
             places!(Taken, "struct tcpcore_taken", at_once, rule, acked, brought, is_duplicate, window_taken, reserved),
             places!(Transmit, "struct tcpcore_transmit", to, kind, length, position, count, reserved),
+            places!(
+                Rest,
+                "struct tcpcore_rest",
+                mark,
+                addr,
+                peer_addr,
+                port,
+                peer_port,
+                seq,
+                next,
+                window,
+                reset_addr,
+                reset_seq,
+                reset_ack,
+                reset_port,
+                shift,
+                ack,
+                reset,
+                ending
+            ),
+            places!(End, "struct tcpcore_end", opaque),
             places!(Piece, "struct tcpcore_piece", at, length),
             places!(Lent, "struct tcpcore_lent", first, second, ends, reserved),
             places!(Parts, "struct tcpcore_parts", to, header, first, second, reserved),
-            places!(Rest, "struct tcpcore_rest", mark),
         ];
         let (expressions, found): (Vec<_>, Vec<_>) = all.into_iter().unzip();
         let (expressions, found) = (expressions.concat(), found.concat());
-        let constants = "TCPCORE_EMIT_ROOM, TCPCORE_HEADER_ROOM, TCPCORE_RESET_ROOM, TCPCORE_REST_ROOM, TCPCORE_MEMORY(17, 1), \
-                         TCPCORE_LIMIT, TCPCORE_VERSION";
-        let memory = crate::memory(17, 1) - crate::placed::STRUCT_ROOM;
+        let constants = "TCPCORE_EMIT_ROOM, TCPCORE_HEADER_ROOM, TCPCORE_RESET_ROOM, TCPCORE_REST_ROOM, \
+                         TCPCORE_MEMORY(17, 1) + TCPCORE_STRUCT_ROOM, TCPCORE_LIMIT, TCPCORE_VERSION";
+        let memory = crate::memory(17, 1);
         let constants_found = [crate::EMIT_ROOM, crate::HEADER_ROOM, crate::RESET_ROOM, crate::RESET_ROOM, memory].map(|it| it as u64);
         let wanted: Vec<u64> = found.into_iter().map(|it| it as u64).chain(constants_found).chain([crate::LIMIT, VERSION.into()]).collect();
         assert_eq!(told("layouts", &format!("{}, {constants}", expressions.join(", "))), wanted);

@@ -1,0 +1,105 @@
+/*
+ * handed MODE COUNT: two ends of the C library, in memory that the program hands in.
+ * - connection: makes two ends, opens, closes them one after the other, and frees them, COUNT times.
+ * - copied: COUNT bursts of two segments in order with an acknowledgement, as crates/bench_transfer has them: the user's text is
+ *   copied in and out.
+ * - lent: the same, but the reader has the text lent, and both ends leave sums to a device.
+ */
+#include "tcpcore.h"
+
+#include <stdio.h>
+#include <stdlib.h>
+#include <string.h>
+
+enum { SEGMENT = 1460, CAPACITY = 65536 };
+
+static const tcpcore_addr A = {{10, 0, 0, 1}}, B = {{10, 0, 0, 2}};
+static unsigned char blocks[2][TCPCORE_MEMORY(CAPACITY, CAPACITY)], text[2 * SEGMENT], read_bytes[2 * SEGMENT];
+static tcpcore_end a = TCPCORE_END_INIT, b = TCPCORE_END_INIT;
+static int is_lent;
+
+static void make(tcpcore_end *end, tcpcore_addr addr, uint16_t port)
+{
+    tcpcore_config config = {.addr = addr, .port = port, .mss = SEGMENT, .isn = 1000, .send_capacity = CAPACITY,
+                             .recv_capacity = CAPACITY, .limit = TCPCORE_LIMIT << 30, .window_shift = 5, .scales = 1, .sack = 1};
+    if (tcpcore_new(end, &config, blocks[end == &b], sizeof blocks[0]) != TCPCORE_DONE)
+        exit(1);
+}
+
+/* Carries the segment that is due, if one is. */
+static void carry(tcpcore_end *from, tcpcore_addr src, tcpcore_end *to)
+{
+    unsigned char segment[TCPCORE_EMIT_ROOM];
+    tcpcore_addr dst;
+    size_t length;
+    if (is_lent && tcpcore_emit_partial(from, segment, sizeof segment, &dst, &length) == TCPCORE_DONE)
+        tcpcore_arrive_vouched(to, src, dst, segment, length);
+    else if (!is_lent && tcpcore_emit(from, segment, sizeof segment, &dst, &length) == TCPCORE_DONE)
+        tcpcore_arrive(to, src, dst, segment, length);
+}
+
+static void open_both(void)
+{
+    make(&a, A, 1);
+    make(&b, B, 2);
+    tcpcore_listen(&b);
+    tcpcore_connect(&a, B, 2);
+    carry(&a, A, &b);
+    carry(&b, B, &a);
+    carry(&a, A, &b);
+}
+
+static int connection(void)
+{
+    struct tcpcore_status of_a, of_b;
+    open_both();
+    tcpcore_close(&a);
+    carry(&a, A, &b);
+    carry(&b, B, &a);
+    tcpcore_close(&b);
+    carry(&b, B, &a);
+    carry(&a, A, &b);
+    tcpcore_status(&a, &of_a);
+    tcpcore_status(&b, &of_b);
+    tcpcore_free(&a);
+    tcpcore_free(&b);
+    /* So that each program has a call of memcpy here, by which the time is taken. */
+    memcpy(read_bytes, text, (size_t)of_a.phase);
+    return of_a.phase == TCPCORE_PHASE_TIME_WAIT && of_b.phase == TCPCORE_PHASE_CLOSED;
+}
+
+static void burst(void)
+{
+    struct tcpcore_lent lent;
+    size_t count;
+    tcpcore_send(&a, text, sizeof text, &count);
+    carry(&a, A, &b);
+    carry(&a, A, &b);
+    carry(&b, B, &a);
+    if (!is_lent)
+        tcpcore_receive(&b, read_bytes, sizeof read_bytes, &count);
+    else if (tcpcore_peek(&b, &lent) == TCPCORE_DONE)
+        tcpcore_consume(&b, lent.first.length + lent.second.length, &count);
+}
+
+int main(int number, char **words)
+{
+    struct tcpcore_status status;
+    if (number != 3)
+        return 2;
+    unsigned long count = strtoul(words[2], NULL, 10), closed = 0;
+    memset(text, 'a', sizeof text);
+    if (strcmp(words[1], "connection") == 0) {
+        for (unsigned long k = 0; k < count; k++)
+            closed += (unsigned long)connection();
+        printf("%lu connections were opened and closed\n", closed);
+        return 0;
+    }
+    open_both();
+    is_lent = strcmp(words[1], "lent") == 0;
+    for (unsigned long k = 0; k < count; k++)
+        burst();
+    tcpcore_status(&a, &status);
+    printf("%llu bytes were moved and acknowledged\n", (unsigned long long)status.released);
+    return 0;
+}

@@ -1,0 +1,148 @@
+/*
+ * The test of tcpcore_emit_acknowledgement and tcpcore_resend_first: each number is worked out by hand from RFC 9293, 3.8, RFC 5681,
+ * 3.2, and RFC 6582, 3.2. A is at 10.0.0.1 port 1 with the initial sequence number 1000, B at 10.0.0.2 port 2 with 5000; the MSS is
+ * 100.
+ */
+#include "carry.h"
+#include "check.h"
+#include "tcpcore.h"
+
+#include <string.h>
+
+static const tcpcore_addr A = {{10, 0, 0, 1}}, B = {{10, 0, 0, 2}};
+static tcpcore_end a = TCPCORE_END_INIT, b = TCPCORE_END_INIT;
+
+struct segment {
+    tcpcore_addr to;
+    size_t length;
+    unsigned char bytes[TCPCORE_EMIT_ROOM];
+};
+
+static void make(tcpcore_end *end, tcpcore_addr addr, uint16_t port, uint32_t isn)
+{
+    static unsigned char blocks[2][TCPCORE_MEMORY(1000, 1000)];
+    tcpcore_config config = {.addr = addr, .port = port, .mss = 100, .isn = isn, .send_capacity = 1000, .recv_capacity = 1000,
+                             .limit = TCPCORE_LIMIT};
+    CHECK(tcpcore_new(end, &config, blocks[end == &b], sizeof *blocks), TCPCORE_DONE);
+}
+
+static void send_bytes(tcpcore_end *end, size_t count)
+{
+    static const unsigned char text[1000] = {0};
+    size_t taken;
+    CHECK(tcpcore_send(end, text, count, &taken), TCPCORE_DONE);
+    CHECK(taken, count);
+}
+
+static uint32_t number_at(const unsigned char *bytes)
+{
+    return (uint32_t)bytes[0] << 24 | (uint32_t)bytes[1] << 16 | (uint32_t)bytes[2] << 8 | bytes[3];
+}
+
+/* It begins at this sequence number, acknowledges up to that one, and has so much text. */
+static void says(const struct segment *segment, uint32_t seq, uint32_t ack, size_t text)
+{
+    CHECK(number_at(segment->bytes + 4), seq);
+    CHECK(number_at(segment->bytes + 8), ack);
+    CHECK(segment->length, 20 + text);
+}
+
+static struct segment emitted(tcpcore_end *end)
+{
+    struct segment segment;
+    CHECK(tcpcore_emit(end, segment.bytes, sizeof segment.bytes, &segment.to, &segment.length), TCPCORE_DONE);
+    return segment;
+}
+
+static struct segment acknowledged(tcpcore_end *end)
+{
+    struct segment segment;
+    CHECK(tcpcore_emit_acknowledgement(end, segment.bytes, sizeof segment.bytes, &segment.to, &segment.length), TCPCORE_DONE);
+    return segment;
+}
+
+static void none(tcpcore_end *end)
+{
+    struct segment segment;
+    segment.length = 7;
+    CHECK(tcpcore_emit_acknowledgement(end, segment.bytes, sizeof segment.bytes, &segment.to, &segment.length), TCPCORE_NOT_DUE);
+    CHECK(segment.length, 0);
+}
+
+static void none_at_all(tcpcore_end *end)
+{
+    struct segment segment;
+    none(end);
+    CHECK(tcpcore_emit(end, segment.bytes, sizeof segment.bytes, &segment.to, &segment.length), TCPCORE_NOT_DUE);
+}
+
+/* Before a handshake, and where a SYN comes first, there is no acknowledgement alone, and nothing to be sent again. */
+static void opening(void)
+{
+    none_at_all(&a);
+    CHECK(tcpcore_resend_first(&a), TCPCORE_NO_RULE);
+    CHECK(tcpcore_listen(&b), TCPCORE_DONE);
+    CHECK(tcpcore_connect(&a, B, 2), TCPCORE_DONE);
+    none(&a);
+    carry(&a, A, &b);
+    none(&b);
+    CHECK(tcpcore_resend_first(&b), TCPCORE_NO_RULE);
+    carry(&b, B, &a);
+    carry(&a, A, &b);
+    none_at_all(&a);
+    none_at_all(&b);
+}
+
+/* Three segments of A are lost and all are due again, as B's text arrives: its acknowledgement goes out before them. */
+static void alone(void)
+{
+    struct segment segment;
+    send_bytes(&a, 250);
+    for (uint32_t i = 0; i < 3; i++) {
+        segment = emitted(&a);
+        says(&segment, 1001 + 100 * i, 5001, i < 2 ? 100 : 50);
+    }
+    CHECK(tcpcore_timer(&a, TCPCORE_TIMER_RETRANSMIT), TCPCORE_DONE);
+    send_bytes(&b, 10);
+    carry(&b, B, &a);
+    segment = acknowledged(&a);
+    says(&segment, 1251, 5011, 0);
+    none(&a);
+    segment = emitted(&a);
+    says(&segment, 1001, 5011, 100);
+}
+
+/* The first segment takes the place of the two that were left; B has had nothing before it. Then there is nothing due. */
+static void first(void)
+{
+    struct segment segment;
+    CHECK(tcpcore_resend_first(&a), TCPCORE_DONE);
+    segment = emitted(&a);
+    says(&segment, 1001, 5011, 100);
+    none_at_all(&a);
+    CHECK(tcpcore_arrive(&b, A, B, segment.bytes, segment.length), TCPCORE_DONE);
+    carry(&b, B, &a);
+    /* A partial acknowledgement: the next segment. */
+    CHECK(tcpcore_resend_first(&a), TCPCORE_DONE);
+    send_bytes(&a, 30);
+    segment = emitted(&a);
+    says(&segment, 1101, 5011, 100);
+    CHECK(tcpcore_arrive(&b, A, B, segment.bytes, segment.length), TCPCORE_DONE);
+    segment = emitted(&a);
+    says(&segment, 1251, 5011, 30);
+    none_at_all(&a);
+}
+
+int main(void)
+{
+    make(&a, A, 1, 1000);
+    make(&b, B, 2, 5000);
+    opening();
+    alone();
+    first();
+    CHECK(tcpcore_abort(&a), TCPCORE_DONE);
+    none(&a);
+    CHECK(tcpcore_resend_first(&a), TCPCORE_NO_RULE);
+    printf("pacing: %d checks\n", checks);
+    return 0;
+}

@@ -1,0 +1,54 @@
+# shellcheck shell=bash
+# What the scripts of this folder share: `top` is the repository's folder, the working directory is checks/peers/out, `library` is the
+# static library and `words` what the programs are run with, both from the script's own words; `only_builds` is set by --build.
+top=$(realpath ../..)
+library=$top/crates/tcp_c/out/libtcp_c.a
+words=() only_builds=
+# shellcheck disable=SC2034
+for word in "$@"; do
+    case $word in
+        --build) only_builds=1 ;;
+        --*) words+=("$word") ;;
+        *) library=$(realpath "$word") ;;
+    esac
+done
+[[ -e $library ]] || { echo "peers: no $library: run 'rt lib' in crates/tcp_c"; exit 1; }
+mkdir -p out
+cd out || exit 1
+warnings="-std=gnu11 -g -O2 -Wall -Wextra -Wpedantic -Werror"
+ours="-I$top/checks/peers -I$top/c/tcpcore -I$top/c/companions"
+cases=0 failed=0
+
+# The objects of a folder, from these words for the compiler.
+objects() {
+    local folder=$1
+    shift
+    mkdir -p "$folder"
+    rm -f "$folder"/*.o
+    (cd "$folder" && gcc "$@")
+}
+
+# What all programs have of ours.
+common_objects() {
+    objects common $warnings $ours -c "$top"/c/companions/{answers,congestion,cubic,flow,timers,ip}.c "$top/c/tcpcore/tcpcore.c"
+}
+
+# A program of ours against the peer that these words make.
+program() {
+    local name=$1
+    shift
+    gcc $warnings $ours "$top"/checks/peers/{cases,wire,own}.c common/*.o "$@" "$library" -o "$name"
+}
+
+# Adds up what a program said in its last line.
+count() {
+    local of_these bad
+    read -r of_these bad < <(sed -n 's/.*: \([0-9]*\) cases, \([0-9]*\) failed$/\1 \2/p' <(tail -1 "$1"))
+    cases=$((cases + of_these)) failed=$((failed + bad))
+}
+
+# The last line of all.
+total() {
+    echo "$cases cases, $failed failed"
+    ((failed == 0 && cases > 0))
+}
