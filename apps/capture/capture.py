@@ -3,6 +3,8 @@
 
     capture.py streams CAPTURE                       its TCP connections, numbered as tshark numbers them
     capture.py listing CAPTURE [--stream N] [--mend] their segments, as `tcpkit decode` reads them
+    capture.py judge CAPTURE --at SIDE [--stream N] [--mend]
+                                                     one connection as a log of one end, as `tcpjudge` reads it
     capture.py replay SCRIPT CAPTURE                 what both ends of a script emit, line N in second N
 
 Of a capture (pcap or pcapng; Ethernet, cooked or raw) IPv4 and TCP are taken. Fragments, packets that were cut short and
@@ -10,6 +12,10 @@ those of IPv6 are left out and told; connections of IPv6 have their numbers all 
 which only fragments came has none. With --mend a checksum is made right: of packets that were captured where they were
 sent, a device may still have had to fill it in. `replay` takes a script that `tcpkit replay` takes, and makes its segments
 with the second program of checks/differential/. It wants dpkt (Debian's python3-dpkt).
+
+SIDE is the end that is judged: A, whose packet is the connection's first, or B, or an address, with its port as 10.0.0.1:80
+where that is needed. Line N of the log is packet N of the capture; what isn't of the connection is an empty line. A checksum
+that is the sum over the pseudo-header alone was left to a device: it is made right. What is left out is reported.
 
 What can't be read, or is no script or no capture, is one line on standard error and status 2; nothing is written then.
 """
@@ -34,19 +40,19 @@ from script_form import first_fault
 
 RAW, TCP, SYN, ACK = 101, 6, 2, 16
 IPV4, IPV6 = 0x0800, 0x86DD
-# The bytes of a link's header, and where the EtherType stands in it.
+# The bytes of a link's header, and where the EtherType is in it.
 LINKS = {1: (14, 12), 12: (0, None), 14: (0, None), 101: (0, None), 113: (16, 14), 228: (0, None), 229: (0, None), 276: (20, 0)}
 VLAN = (0x8100, 0x88A8)
 # Headers of IPv6 between its own and TCP's, but for a fragment's (RFC 8200, 4.1).
 OPTIONS_6 = (0, 43, 60)
-# tshark tells a connection by so much of a header.
+# tshark finds a connection by so much of a header.
 LEAST_HEADER = 16
 # Why a segment is left out.
 LACKS = {"fragment": "fragments", "cut": "packets that were cut short", "IPv6": "packets of IPv6"}
 
 
 class Fault(Exception):
-    """What is told in one line."""
+    """What is reported in one line."""
 
 
 def packet_of(link, data):
@@ -68,10 +74,22 @@ class Segment:
 
     def __init__(self, source, target, data, lack=None):
         self.source, self.target, self.data, self.lack = source, target, data, lack
+        self.number = 0  # among the capture's packets, from 1 on
 
     def is_wrong(self):
         """Whether its checksum is."""
         return word_sum(self.source, self.target, self.data) % 65535 != 0
+
+    def is_left_to_device(self):
+        """Whether its checksum is the sum over the pseudo-header alone (RFC 9293, 3.1), to which a device adds the rest."""
+        blank = word_sum(self.source, self.target, bytes(len(self.data)))
+        return self.is_wrong() and blank % 65535 == int.from_bytes(self.data[16:18], "big") % 65535
+
+    def side(self):
+        return self.source, self.data[0:2]
+
+    def other_side(self):
+        return self.target, self.data[2:4]
 
 
 def segment_of(packet):
@@ -99,7 +117,13 @@ def segments(path):
             packets = [packet_of(reader.datalink(), data) for _, data in reader]
         except (dpkt.dpkt.Error, ValueError, struct.error):
             raise Fault(f"{path} is no capture (pcap or pcapng), or is cut short") from None
-    return [found for packet in packets if packet is not None and (found := segment_of(packet)) is not None]
+    found = []
+    for number, packet in enumerate(packets, 1):
+        segment = None if packet is None else segment_of(packet)
+        if segment is not None:
+            segment.number = number
+            found.append(segment)
+    return found
 
 
 def streams(all_segments):
@@ -111,7 +135,7 @@ def streams(all_segments):
         if len(data) < LEAST_HEADER:
             yield None, segment
             continue
-        side, other = (segment.source, data[0:2]), (segment.target, data[2:4])
+        side, other = segment.side(), segment.other_side()
         (number,), bits = struct.unpack(">I", data[4:8]), data[13]
         key, opens = frozenset([side, other]), bits & (SYN | ACK) == SYN
         if key not in found or (opens and found[key][1].get(side, number) != number):
@@ -148,6 +172,52 @@ def listing_lines(all_segments, wanted, mends):
             lines.append(f"{dotted(segment.source)} {dotted(segment.target)} {data.hex()}")
     if 2 * wrong > len(lines) and not mends:
         warn(f"{wrong} of {len(lines)} checksums are wrong: of packets captured where they were sent --mend makes them right")
+    return lines
+
+
+def one_stream(all_segments, wanted):
+    """The segments of the connection that is wanted, or of the only one."""
+    rows = [(stream, segment) for stream, segment in streams(all_segments) if stream is not None]
+    known = {stream for stream, segment in rows if segment.lack != "IPv6"}
+    if wanted is None and len(known) != 1:
+        raise Fault(f"{len(known)} connections of IPv4: --stream chooses one of those that 'streams' shows")
+    if wanted is not None and wanted not in known:
+        raise Fault(f"no connection {wanted} of IPv4")
+    return [segment for stream, segment in rows if stream in (known if wanted is None else {wanted})]
+
+
+def judged_side(segments_of_stream, name):
+    """The side of a connection that this names."""
+    sides = [segments_of_stream[0].side(), segments_of_stream[0].other_side()]
+    if name in ("A", "B"):
+        return sides["AB".index(name)]
+    names = [(dotted(address), f"{dotted(address)}:{int.from_bytes(port, 'big')}") for address, port in sides]
+    found = [side for side, both in zip(sides, names) if name in both]
+    if len(found) != 1:
+        raise Fault(f"{name} isn't one of {names[0][1]} and {names[1][1]}")
+    return found[0]
+
+
+def judge_lines(all_segments, wanted, at, mends):
+    """The log of one end: line N is packet N."""
+    rows = one_stream(all_segments, wanted)
+    side, lines, devices, wrong = judged_side(rows, at), [], 0, 0
+    for segment in rows:
+        if segment.lack is not None:
+            continue
+        lines += [""] * (segment.number - len(lines) - 1)
+        is_left = segment.is_left_to_device()
+        devices += is_left
+        wrong += segment.is_wrong() and not is_left
+        data = with_checksum(segment.source, segment.target, segment.data) if is_left or mends else segment.data
+        word = "went" if segment.side() == side else "came"
+        lines.append(f"{word} {dotted(segment.source)} {dotted(segment.target)} {data.hex()}")
+    if devices:
+        warn(f"{devices} checksums were left to a device, and are made right")
+    if wrong and not mends:
+        warn(f"{wrong} checksums are wrong: of packets captured where they were sent --mend makes them right")
+    if any(segment.lack in ("fragment", "cut") for segment in all_segments):
+        warn("packets are left out: the log may not be complete")
     return lines
 
 
@@ -207,15 +277,25 @@ def write_replay(script, path):
 def read_words():
     parser = argparse.ArgumentParser(description=__doc__, formatter_class=argparse.RawDescriptionHelpFormatter)
     commands = parser.add_subparsers(dest="command", required=True)
-    for name in "streams", "listing":
+    commands.add_parser("streams").add_argument("capture")
+    for name in "listing", "judge":
         command = commands.add_parser(name)
         command.add_argument("capture")
-    command.add_argument("--stream", type=int)
-    command.add_argument("--mend", action="store_true")
+        command.add_argument("--stream", type=int)
+        command.add_argument("--mend", action="store_true")
+    command.add_argument("--at", required=True, metavar="SIDE")
     command = commands.add_parser("replay")
     command.add_argument("script")
     command.add_argument("capture")
     return parser.parse_args()
+
+
+def lines_for(words, found):
+    if words.command == "streams":
+        return stream_lines(found)
+    if words.command == "judge":
+        return judge_lines(found, words.stream, words.at, words.mend)
+    return listing_lines(found, words.stream, words.mend)
 
 
 def main():
@@ -225,15 +305,14 @@ def main():
             write_replay(words.script, words.capture)
             return 0
         found = segments(words.capture)
-        lines = stream_lines(found) if words.command == "streams" else listing_lines(found, words.stream, words.mend)
-        sys.stdout.write("".join(f"{line}\n" for line in lines))
+        sys.stdout.write("".join(f"{line}\n" for line in lines_for(words, found)))
         sys.stdout.flush()
         tell_lacks(found)
         return 0
     except Fault as fault:
         warn(fault)
     except BrokenPipeError:
-        # Whoever read it has enough; nothing more is to be flushed at the end.
+        # Whoever read it has enough; nothing more must be flushed at the end.
         os.dup2(os.open(os.devnull, os.O_WRONLY), sys.stdout.fileno())
     except OSError as fault:
         warn(f"{fault.filename or 'output'}: {fault.strerror}")

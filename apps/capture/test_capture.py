@@ -3,7 +3,7 @@
 
 Scripts become captures whose segments tshark reads as the program's report has them, and those that the program refuses
 are refused alike; connections of two kernels are captured, and the program reads of their listing what tshark reads of the
-capture. What isn't there, or is no capture, is told in one line. It wants root, ip, tshark and dpkt.
+capture. What isn't there, or is no capture, is reported in one line. It wants root, ip, tshark and dpkt.
 """
 
 import os
@@ -202,7 +202,7 @@ def write_capture(path, packets):
 
 
 def check_streams(folder):
-    """Connections have tshark's numbers, with IPv6 and packets that were cut short between them; what is left out is told."""
+    """Connections have tshark's numbers, with IPv6 and packets that were cut short between them; what is left out is reported."""
     syn, path, whole = 2, folder / "streams.pcap", 65535
     packets = [
         (packet_6(segment((1, 2), 10, syn)), whole),

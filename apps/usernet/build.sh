@@ -8,4 +8,4 @@ shift || true
 companions=$(printf ' ../../c/companions/%s.c' faults ip pairs table timers trains tun wheel)
 mkdir -p out
 ${CC:-gcc} -std=c11 -O2 -g -Wall -Wextra -Wpedantic -Wconversion -Wshadow -Wcast-qual -Werror -I../../c -I../../c/tcpcore "$@" \
-    usernet.c conn.c $companions ../../c/tcpcore/tcpcore.c "$library" -o out/usernet
+    -pthread usernet.c loop.c conn.c $companions ../../c/tcpcore/tcpcore.c "$library" -o out/usernet

@@ -10,6 +10,7 @@
 #include <string.h>
 #include <sys/epoll.h>
 #include <sys/socket.h>
+#include <sys/uio.h>
 #include <unistd.h>
 
 static const struct timers_rules RULES = {
@@ -49,18 +50,29 @@ static void drop(struct usernet *net, struct conn *conn, int resets)
         close(conn->socket);
     if (conn->is_open)
         tcpcore_free(&conn->end);
-    free(conn->kept);
+    free(conn->syn);
     free(conn);
+}
+
+/* Writes the segment that is due where the next packet is put together, and reports it; whether there was one. A device with
+   offloads sums it. */
+static int write_due(struct usernet *net, struct conn *conn, struct tcpcore_transmit *sent)
+{
+    uint8_t *out = segment_place(net);
+    size_t length;
+    if (!net->offloads)
+        return tcpcore_transmit(&conn->end, out, TCPCORE_EMIT_ROOM, sent) == TCPCORE_DONE;
+    return tcpcore_next(&conn->end, sent) == TCPCORE_DONE &&
+           tcpcore_emit_partial(&conn->end, out, TCPCORE_EMIT_ROOM, &sent->to, &length) == TCPCORE_DONE;
 }
 
 /* Emits all that is due. */
 static void emit(struct usernet *net, struct conn *conn)
 {
-    uint8_t segment[TCPCORE_EMIT_ROOM];
     struct tcpcore_transmit sent;
-    while (tcpcore_transmit(&conn->end, segment, sizeof segment, &sent) == TCPCORE_DONE) {
+    while (write_due(net, conn, &sent)) {
         timers_sent(&conn->timers, &sent, net->now);
-        send_segment(net, segment, (size_t)sent.length, conn->pair.server, sent.to);
+        send_segment(net, (size_t)sent.length, conn->pair.server, sent.to);
     }
     send_rest(net);
 }
@@ -77,17 +89,22 @@ static int make_end(struct usernet *net, struct conn *conn)
     return conn->is_open;
 }
 
-/* Answers a segment for which there is no end (RFC 9293, 3.10.7.1). */
-static void stray(struct usernet *net, const struct ip_packet *from)
+/* Answers a segment for which there is no end (RFC 9293, 3.10.7.1). Its checksum is looked at: one that was left out is made. */
+static void stray(struct usernet *net, const struct ip_packet *from, int vouched)
 {
-    uint8_t segment[TCPCORE_RESET_ROOM];
+    const uint8_t *bytes = from->segment;
     size_t length;
-    if (tcpcore_stray_reset(from->src, from->dst, from->segment, from->length, segment, sizeof segment, &length) !=
+    if (vouched) {
+        memcpy(net->text, bytes, from->length);
+        trains_sum(net->text, from->length, from->src, from->dst);
+        bytes = net->text;
+    }
+    if (tcpcore_stray_reset(from->src, from->dst, bytes, from->length, segment_place(net), TCPCORE_RESET_ROOM, &length) !=
         TCPCORE_DONE)
         return;
-    send_segment(net, segment, length, from->dst, from->src);
+    send_segment(net, length, from->dst, from->src);
     send_rest(net);
-    net->counters[STRAYS]++;
+    count(net, STRAYS, 1);
 }
 
 static int watch(struct usernet *net, struct conn *conn)
@@ -105,41 +122,44 @@ static int host_answered(struct usernet *net, struct conn *conn)
     getsockopt(conn->socket, SOL_SOCKET, SO_ERROR, &fault, &(socklen_t){sizeof fault});
     if (fault == 0 && conn->can_write && make_end(net, conn)) {
         tcpcore_listen(&conn->end);
-        tcpcore_arrive(&conn->end, conn->pair.client, conn->pair.server, conn->kept, conn->kept_end);
-        conn->kept_end = 0;
-        net->counters[OPENED]++;
+        tcpcore_arrive(&conn->end, conn->pair.client, conn->pair.server, conn->syn, conn->syn_length);
+        free(conn->syn);
+        conn->syn = NULL;
+        count(net, OPENED, 1);
         return 1;
     }
-    net->counters[REFUSED]++;
-    stray(net, &(struct ip_packet){conn->pair.client, conn->pair.server, conn->kept, conn->kept_end});
+    count(net, REFUSED, 1);
+    stray(net, &(struct ip_packet){conn->pair.client, conn->pair.server, conn->syn, conn->syn_length}, 0);
     drop(net, conn, 1);
     return 0;
 }
 
 /* A SYN came: the host connects to the same address and port, and keeps the SYN until it has. */
-static void open_conn(struct usernet *net, const struct pair *key, const struct ip_packet *packet)
+static void open_conn(struct usernet *net, const struct pair *key, const struct ip_packet *packet, int vouched)
 {
     struct sockaddr_in to = {.sin_family = AF_INET, .sin_port = htons(key->server_port)};
     int host = socket(AF_INET, SOCK_STREAM | SOCK_NONBLOCK | SOCK_CLOEXEC, 0);
-    uint8_t *kept = malloc(packet->length);
-    struct conn *conn = host >= 0 && kept ? conn_new(net, key, host) : NULL;
+    uint8_t *syn = malloc(packet->length);
+    struct conn *conn = host >= 0 && syn ? conn_new(net, key, host) : NULL;
     memcpy(&to.sin_addr, &packet->dst, sizeof to.sin_addr);
     if (memcmp(&packet->dst, &net->gateway, sizeof net->gateway) == 0)
         to.sin_addr.s_addr = htonl(INADDR_LOOPBACK);
     if (conn) {
-        memcpy(kept, packet->segment, packet->length);
-        conn->kept = kept, conn->kept_end = packet->length;
-        conn->first = read32(kept + AT_SEQ);
+        memcpy(syn, packet->segment, packet->length);
+        if (vouched)
+            trains_sum(syn, packet->length, packet->src, packet->dst);
+        conn->syn = syn, conn->syn_length = packet->length;
+        conn->first = read32(syn + AT_SEQ);
         if ((connect(host, (struct sockaddr *)&to, sizeof to) == 0 || errno == EINPROGRESS) && watch(net, conn))
             return;
         drop(net, conn, 1);
     } else {
-        free(kept);
+        free(syn);
         if (host >= 0)
             close(host);
     }
-    net->counters[REFUSED]++;
-    stray(net, packet);
+    count(net, REFUSED, 1);
+    stray(net, packet, vouched);
 }
 
 void conn_publish(struct usernet *net, int socket, uint16_t port)
@@ -148,7 +168,7 @@ void conn_publish(struct usernet *net, int socket, uint16_t port)
     struct conn *conn;
     do
         key.server_port = net->next_port = (uint16_t)(net->next_port < 32768 ? 32768 : net->next_port + 1);
-    while (pairs_find(&net->pairs, &key));
+    while (owner_of(net, &key) != net->index || pairs_find(&net->pairs, &key));
     conn = conn_new(net, &key, socket);
     if (!conn) {
         close(socket);
@@ -156,7 +176,7 @@ void conn_publish(struct usernet *net, int socket, uint16_t port)
         drop(net, conn, 1);
     } else {
         tcpcore_connect(&conn->end, conn->pair.client, port);
-        net->counters[PUBLISHED]++;
+        count(net, PUBLISHED, 1);
         wheel_wake(&net->wheel, &conn->node);
     }
 }
@@ -169,88 +189,79 @@ static int reopens(const struct conn *conn, const uint8_t *bytes)
     return status.phase == TCPCORE_PHASE_TIME_WAIT && after < UINT32_C(1) << 31;
 }
 
-void arrive(struct usernet *net, const struct ip_packet *packet)
+/* A segment of a connection that has an end. */
+static void take(struct usernet *net, struct conn *conn, const struct ip_packet *packet, int vouched)
+{
+    struct tcpcore_taken taken;
+    uint32_t answer =
+        vouched ? tcpcore_taken_vouched(&conn->end, packet->src, packet->dst, packet->segment, packet->length, &taken)
+                : tcpcore_taken(&conn->end, packet->src, packet->dst, packet->segment, packet->length, &taken);
+    count(net, MALFORMED, answer >= TCPCORE_TOO_SHORT && answer <= TCPCORE_BAD_PADDING);
+    timers_taken(&conn->timers, &conn->end, &taken, net->now);
+    if (taken.at_once)
+        emit(net, conn); /* out of order, or a gap was filled (RFC 5681, 4.2) */
+    wheel_wake(&net->wheel, &conn->node);
+}
+
+void arrive(struct usernet *net, const struct ip_packet *packet, int vouched)
 {
     const uint8_t *bytes = packet->segment;
-    if (packet->length < 20) {
-        net->counters[MALFORMED]++;
-        return;
-    }
     struct pair key = {packet->src, packet->dst, read16(bytes), read16(bytes + 2), NULL};
     struct conn *conn = conn_of(pairs_find(&net->pairs, &key));
     int opens = bits_of(bytes, SYN | ACK | RST | FIN) == SYN;
     if (conn && conn->is_open && opens && reopens(conn, bytes))
         drop(net, conn, 0), conn = NULL;
-    if (!conn && opens) {
-        open_conn(net, &key, packet);
-    } else if (!conn) {
-        stray(net, packet);
-    } else if (conn->is_open) {
-        struct tcpcore_taken taken;
-        uint32_t answer = tcpcore_taken(&conn->end, packet->src, packet->dst, bytes, packet->length, &taken);
-        net->counters[MALFORMED] += answer >= TCPCORE_TOO_SHORT && answer <= TCPCORE_BAD_PADDING;
-        timers_taken(&conn->timers, &conn->end, &taken, net->now);
-        if (taken.at_once)
-            emit(net, conn); /* out of order, or a gap was filled (RFC 5681, 4.2) */
-        wheel_wake(&net->wheel, &conn->node);
-    } else if (bits_of(bytes, RST)) {
+    if (!conn && opens)
+        open_conn(net, &key, packet, vouched);
+    else if (!conn)
+        stray(net, packet, vouched);
+    else if (conn->is_open)
+        take(net, conn, packet, vouched);
+    else if (bits_of(bytes, RST))
         drop(net, conn, 1); /* the client doesn't wait for the host any longer */
-    }
 }
 
-/* What the client sent goes to the host's socket, as far as that takes it; 0 where the connection can't go on. */
+/* What the client sent goes to the host's socket from where it lies, as far as that takes it; 0 where the connection can't go on. */
 static int carry_up(struct usernet *net, struct conn *conn)
 {
-    static uint8_t text[65536];
+    struct tcpcore_lent lent;
     uint32_t answer = TCPCORE_DONE;
-    while (conn->can_write && !conn->client_done && answer == TCPCORE_DONE) {
-        const uint8_t *from = conn->kept + conn->kept_at;
-        size_t count = conn->kept_end - conn->kept_at;
-        if (count == 0) {
-            answer = tcpcore_receive(&conn->end, text, sizeof text, &count);
-            from = text;
-        }
-        if (answer == TCPCORE_END_OF_STREAM)
-            shutdown(conn->socket, SHUT_WR), conn->client_done = 1;
-        if (answer != TCPCORE_DONE || count == 0)
-            continue;
-        ssize_t taken = send(conn->socket, from, count, MSG_NOSIGNAL);
-        if (taken < 0 && errno != EAGAIN)
+    while (conn->can_write && !conn->client_done && (answer = tcpcore_peek(&conn->end, &lent)) == TCPCORE_DONE) {
+        size_t length = lent.first.length + lent.second.length, taken;
+        struct iovec pieces[2];
+        memcpy(&pieces[0], &lent.first, sizeof pieces[0]);
+        memcpy(&pieces[1], &lent.second, sizeof pieces[1]);
+        ssize_t sent = sendmsg(conn->socket, &(struct msghdr){.msg_iov = pieces, .msg_iovlen = 2}, MSG_NOSIGNAL);
+        if (sent < 0 && errno != EAGAIN)
             return 0;
-        size_t left = count - (size_t)(taken > 0 ? taken : 0);
-        net->counters[UP] += count - left;
-        conn->can_write = left == 0;
-        if (from != text) {
-            conn->kept_at = conn->kept_end - left;
-        } else if (left > 0) {
-            uint8_t *kept = realloc(conn->kept, left);
-            if (!kept)
-                return 0;
-            memcpy(kept, text + count - left, left);
-            conn->kept = kept, conn->kept_at = 0, conn->kept_end = left;
-        }
+        tcpcore_consume(&conn->end, sent > 0 ? (size_t)sent : 0, &taken);
+        if (length > CAPACITY / 2 && taken >= net->mss)
+            tcpcore_acknowledge(&conn->end); /* the client learns of the room (RFC 9293, 3.8.6.2.2) */
+        count(net, UP, taken);
+        conn->can_write = taken == length;
     }
+    if (answer == TCPCORE_END_OF_STREAM)
+        shutdown(conn->socket, SHUT_WR), conn->client_done = 1;
     return 1;
 }
 
 /* What the host sent goes into the end's queue, as far as it has room; 0 where the connection can't go on. */
 static int carry_down(struct usernet *net, struct conn *conn)
 {
-    static uint8_t text[CAPACITY];
     while (conn->can_read && !conn->host_done) {
         size_t room = (size_t)status_of(conn).room, taken = 0;
-        ssize_t count = room == 0 ? 0 : recv(conn->socket, text, room, 0);
-        if (room == 0 || (count < 0 && errno == EAGAIN)) {
+        ssize_t got = room == 0 ? 0 : recv(conn->socket, net->text, room, 0);
+        if (room == 0 || (got < 0 && errno == EAGAIN)) {
             conn->can_read = room == 0;
             return 1;
         }
-        if (count == 0) {
+        if (got == 0) {
             conn->host_done = 1;
             tcpcore_close(&conn->end);
-        } else if (count < 0 || tcpcore_send(&conn->end, text, (size_t)count, &taken) != TCPCORE_DONE) {
+        } else if (got < 0 || tcpcore_send(&conn->end, net->text, (size_t)got, &taken) != TCPCORE_DONE) {
             return 0;
         }
-        net->counters[DOWN] += taken;
+        count(net, DOWN, taken);
     }
     return 1;
 }
@@ -261,7 +272,7 @@ static void turn(struct usernet *net, struct conn *conn)
     if (!conn->is_open && !host_answered(net, conn))
         return;
     if (timers_run(&conn->timers, &conn->end, net->now) & TIMERS_GAVE_UP)
-        net->counters[GAVE_UP]++;
+        count(net, GAVE_UP, 1);
     if (conn->socket >= 0 && conn->timers.phase >= TCPCORE_PHASE_ESTABLISHED &&
         (!carry_up(net, conn) || !carry_down(net, conn)))
         tcpcore_abort(&conn->end);

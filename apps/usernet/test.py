@@ -153,8 +153,7 @@ def killed_clients(place):
     """Clients that are killed in mid-transfer: nothing of them is left."""
     clients = [place.start_client("curl", "-s", "-o", "/dev/null", "--limit-rate", "100k",
                                   f"http://{GATEWAY}:8080/large") for _ in range(20)]
-    time.sleep(1)
-    need("connections", place.counters()["now"] >= 20, True)
+    place.until(lambda: place.counters()["now"] >= 20, 20)
     for client in clients:
         client.kill()
         client.wait()
@@ -234,16 +233,17 @@ def main():
     signal.signal(signal.SIGALRM, take_too_long)
     count = 0
     with world.World(16 * MIB if words.short else 1024 * MIB) as place:
-        for fault in [0, 1]:
-            with place.usernet(fault):
+        for fault, threads in [(0, 1), (1, 1), (0, 3), (1, 3)]:
+            with place.usernet(fault, "--threads", threads):
                 calls = [(call, ()) for call in CLIENTS]
                 calls.append((many, ((2000, 1000) if words.short else (10000, 100000)) if fault == 0 else (200, 200)))
-                if fault == 0 and not words.short:
+                if fault == 0 and threads == 1 and not words.short:
                     calls.append((download_past_all_numbers, ()))
                 calls.append((killed_program, ()))
                 for call, rest in calls:
                     if not words.only or words.only in call.__name__:
-                        run(place, call.__name__ + (", faults" if fault else ""), call, *rest)
+                        name = call.__name__ + (", faults" if fault else "") + (f", {threads} threads" if threads > 1 else "")
+                        run(place, name, call, *rest)
                         count += 1
     need("tests", count > 0, True)
     print(f"usernet: {count} passed")

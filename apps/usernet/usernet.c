@@ -1,124 +1,61 @@
 /*
  * usernet: the TCP of a network namespace, in user space.
- *     usernet PID|--netns NAME [--publish HOST:PORT:PORT ..] [--mtu 1500] [--no-offloads] [--stats] [--fault PERCENT]
+ *     usernet PID|--netns NAME [--publish HOST:PORT:PORT ..] [--threads 1] [--mtu 1500] [--no-offloads] [--stats] [--fault PERCENT]
  * Each connection of the namespace ends in an end of ours (../../c/tcpcore/tcpcore.h), behind which a socket of the host goes
  * on to the same address and port; 10.0.2.2 is the host's loopback. The namespace is 10.0.2.100. IPv4 and TCP alone:
  * all else is passed over. It prints "ready", ends on SIGTERM or SIGINT with every connection reset, and reports counts
- * and bytes held with --stats, at its end and on SIGUSR1. --fault loses, doubles and delays so many percent, for tests.
+ * and bytes held with --stats, at its end and on SIGUSR1. --threads runs so many, each with a queue of the device and the
+ * connections that a hash deals to it. --fault loses, doubles and delays so many percent, for tests.
  */
 #define _GNU_SOURCE
-#include "companions/faults.h"
-#include "companions/trains.h"
 #include "usernet.h"
 
 #include <arpa/inet.h>
 #include <malloc.h>
+#include <pthread.h>
 #include <signal.h>
 #include <stdio.h>
 #include <stdlib.h>
 #include <string.h>
-#include <sys/epoll.h>
 #include <sys/resource.h>
 #include <sys/signalfd.h>
 #include <sys/socket.h>
-#include <time.h>
 #include <unistd.h>
 
-enum { EVENTS = 256, BATCH = 128, LISTENERS = 16, DEVICE = LISTENERS, SIGNALS, HEADERS = 40 };
+enum { HEADERS = 40 };
 
-/* A socket that listens, and the port of the namespace behind it. */
-struct published { int socket; uint16_t port; };
-
-static struct usernet net = {.mss = 1460, .offloads = 1, .own = {{10, 0, 2, 100}}, .gateway = {{10, 0, 2, 2}}};
-static struct published published[LISTENERS];
-static int signals, shows, stops;
-static struct faults up, down = {.state = 1}; /* the path between device and ends */
-static struct train train;
-
-static uint64_t milliseconds(void)
-{
-    struct timespec time;
-    clock_gettime(CLOCK_MONOTONIC, &time);
-    return (uint64_t)time.tv_sec * 1000 + (uint64_t)time.tv_nsec / 1000000;
-}
-
-static void to_device(const void *packet, size_t length, void *context)
-{
-    (void)context;
-    net.counters[EMITTED] += write(net.device, packet, length) > 0; /* what it can't take is lost, and sent again */
-}
-
-void send_rest(struct usernet *of)
-{
-    size_t front = of->offloads ? 0 : TUN_HEADER;
-    if (train.length == 0)
-        return;
-    trains_finish(&train);
-    faults_pass(&down, train.bytes + front, train.length - front, to_device, NULL);
-    train.length = 0;
-}
-
-void send_segment(struct usernet *of, const uint8_t *segment, size_t length, tcpcore_addr from, tcpcore_addr to)
-{
-    if (!trains_add(&train, from, to, segment, length)) {
-        send_rest(of);
-        trains_add(&train, from, to, segment, length);
-    }
-    if (!of->offloads)
-        send_rest(of);
-}
-
-static void from_device(const void *packet, size_t length, void *context)
-{
-    (void)context;
-    struct ip_net to = {.prefix = 32};
-    struct ip_packet found;
-    net.counters[ARRIVED]++;
-    if (length >= IP_HEADER)
-        memcpy(&to.addr, (const uint8_t *)packet + 16, sizeof to.addr);
-    if (ip_read(to, packet, length, &found) == IP_DONE)
-        arrive(&net, &found);
-}
-
-static void read_device(void)
-{
-    static uint8_t bytes[TUN_HEADER + 65535];
-    for (int count = 0; count < BATCH; count++) {
-        ssize_t got = read(net.device, bytes, sizeof bytes);
-        size_t length = got > 0 ? (size_t)got : 0;
-        const uint8_t *packet = net.offloads ? trains_read(bytes, length, &length) : bytes;
-        if (got <= 0)
-            return;
-        if (packet)
-            faults_pass(&up, packet, length, from_device, NULL);
-    }
-}
+static struct usernet *all[THREADS];
+static uint32_t threads = 1, fault;
+static struct published published[LISTENERS + 1];
+static int listeners, signals, shows;
+static _Atomic int stops;
 
 static void tell(void)
 {
     static const char *const names[COUNTERS] = {"opened", "refused", "published", "strays", "gave_up", "malformed",
                                                 "arrived", "emitted", "up", "down"};
     struct mallinfo2 held = mallinfo2();
-    printf("now %u most %u held %zu", net.pairs.used, net.pairs.most, held.uordblks + held.hblkhd);
-    for (int at = 0; at < COUNTERS; at++)
-        printf(" %s %llu%s", names[at], (unsigned long long)net.counters[at], at == DOWN ? "\n" : "");
+    unsigned long long sums[COUNTERS] = {0};
+    for (uint32_t net = 0; net < threads; net++)
+        for (int at = 0; at < COUNTERS; at++)
+            sums[at] += atomic_load_explicit(&all[net]->counters[at], memory_order_relaxed);
+    printf("now %llu most %llu held %zu", sums[NOW], sums[MOST], held.uordblks + held.hblkhd);
+    for (int at = 0; at < NOW; at++)
+        printf(" %s %llu%s", names[at], sums[at], at == DOWN ? "\n" : "");
     fflush(stdout);
 }
 
-/* SIGUSR1 asks for the counts, another signal ends the program. */
+/* SIGUSR1 asks for the counts, another signal ends the program: then a packet of no bytes wakes each thread. */
 static void read_signal(void)
 {
     struct signalfd_siginfo found = {0};
-    if (read(signals, &found, sizeof found) < 0 || found.ssi_signo != SIGUSR1)
+    if (read(signals, &found, sizeof found) < 0 || found.ssi_signo != SIGUSR1) {
         stops = 1;
-    else if (shows)
+        for (uint32_t net = 0; net < threads; net++)
+            send(all[net]->to_inbox, "", 0, MSG_DONTWAIT);
+    } else if (shows) {
         tell();
-}
-
-static int watch(int descriptor, uint64_t number)
-{
-    struct epoll_event event = {.events = EPOLLIN, .data.u64 = number};
-    return epoll_ctl(net.events, EPOLL_CTL_ADD, descriptor, &event) == 0;
+    }
 }
 
 /* Listens for HOST:PORT:PORT. */
@@ -127,16 +64,14 @@ static int publish(const char *word)
     struct sockaddr_in at = {.sin_family = AF_INET};
     char host[16];
     uint16_t port, inner;
-    static uint64_t count;
     int listener = socket(AF_INET, SOCK_STREAM | SOCK_NONBLOCK | SOCK_CLOEXEC, 0);
-    if (count == LISTENERS || sscanf(word, "%15[0-9.]:%hu:%hu", host, &port, &inner) != 3 ||
+    if (listeners == LISTENERS || sscanf(word, "%15[0-9.]:%hu:%hu", host, &port, &inner) != 3 ||
         inet_pton(AF_INET, host, &at.sin_addr) != 1)
         return 0;
     at.sin_port = htons(port);
-    published[count] = (struct published){listener, inner};
+    published[listeners++] = (struct published){listener, inner};
     setsockopt(listener, SOL_SOCKET, SO_REUSEADDR, &(int){1}, sizeof(int));
-    return bind(listener, (struct sockaddr *)&at, sizeof at) == 0 && listen(listener, 1024) == 0 &&
-           watch(listener, count++);
+    return bind(listener, (struct sockaddr *)&at, sizeof at) == 0 && listen(listener, 1024) == 0;
 }
 
 /* Reads the program's words; whether they are any. */
@@ -148,13 +83,15 @@ static int read_words(char **words, struct tun_config *device)
         if (strcmp(*word, "--stats") == 0)
             shows = 1;
         else if (strcmp(*word, "--no-offloads") == 0)
-            net.offloads = 0;
+            device->offloads = 0;
         else if (strcmp(*word, "--netns") == 0 && has_more)
             snprintf(space, sizeof space, "/run/netns/%s", *++word);
         else if (strcmp(*word, "--mtu") == 0 && has_more)
             device->mtu = (uint32_t)strtoul(*++word, NULL, 10);
+        else if (strcmp(*word, "--threads") == 0 && has_more)
+            threads = (uint32_t)strtoul(*++word, NULL, 10);
         else if (strcmp(*word, "--fault") == 0 && has_more)
-            up.percent = down.percent = (uint32_t)strtoul(*++word, NULL, 10);
+            fault = (uint32_t)strtoul(*++word, NULL, 10);
         else if (strcmp(*word, "--publish") == 0 && has_more && publish(word[1]))
             word++;
         else if ((device->pid = (pid_t)strtol(*word, NULL, 10)) > 0)
@@ -163,74 +100,70 @@ static int read_words(char **words, struct tun_config *device)
             return 0;
     }
     device->space = space;
-    device->offloads = net.offloads;
-    net.mss = (uint16_t)(device->mtu < 1500 ? device->mtu - HEADERS : 1460);
-    return *space && device->mtu >= 576 && device->mtu <= 65535 && up.percent <= 20;
+    return *space && device->mtu >= 576 && device->mtu <= 65535 && fault <= 20 && threads > 0 && threads <= THREADS;
+}
+
+static struct usernet *make(uint32_t index, const struct tun_config *device, int queue, const uint8_t secret[16])
+{
+    struct usernet *net = calloc(1, sizeof *net);
+    if (!net)
+        return NULL;
+    net->index = index, net->count = threads, net->all = all, net->published = published;
+    net->device = queue, net->offloads = device->offloads;
+    net->mss = (uint16_t)(device->mtu < 1500 ? device->mtu - HEADERS : 1460);
+    net->own = (tcpcore_addr){{10, 0, 2, 100}}, net->gateway = (tcpcore_addr){{10, 0, 2, 2}};
+    net->up.percent = net->down.percent = fault;
+    net->up.state = 2 * index, net->down.state = 2 * index + 1;
+    return loop_init(net, secret) ? net : NULL;
 }
 
 static int set_up(char **words)
 {
-    struct tun_config device = {.name = "tun0", .addr = 0x0a000264, .prefix = 24, .mtu = 1500};
+    struct tun_config device = {.name = "tun0", .addr = 0x0a000264, .prefix = 24, .mtu = 1500, .offloads = 1};
     struct rlimit files;
     uint8_t secret[16];
+    int queues[THREADS];
     sigset_t taken;
-    net.events = epoll_create1(EPOLL_CLOEXEC);
     if (!read_words(words, &device))
-        return fputs("usernet PID|--netns NAME [--publish HOST:PORT:PORT] [--mtu N] [--no-offloads] [--stats]"
-                     " [--fault PERCENT]\n", stderr), 0;
+        return fputs("usernet PID|--netns NAME [--publish HOST:PORT:PORT] [--threads N] [--mtu N] [--no-offloads]"
+                     " [--stats] [--fault PERCENT]\n", stderr), 0;
     getrlimit(RLIMIT_NOFILE, &files);
     files.rlim_cur = files.rlim_max;
     setrlimit(RLIMIT_NOFILE, &files);
-    net.device = tun_open(&device);
-    net.now = milliseconds();
-    wheel_init(&net.wheel, net.now);
+    if (shows)
+        mallopt(M_ARENA_MAX, 1); /* so that what is held is told of all threads */
     sigemptyset(&taken);
     sigaddset(&taken, SIGTERM), sigaddset(&taken, SIGINT), sigaddset(&taken, SIGUSR1);
     sigprocmask(SIG_BLOCK, &taken, NULL);
     signals = signalfd(-1, &taken, SFD_NONBLOCK | SFD_CLOEXEC);
-    if (net.device < 0 || getentropy(secret, sizeof secret) || !watch(net.device, DEVICE) || !watch(signals, SIGNALS))
+    published[listeners].socket = -1;
+    if (signals < 0 || getentropy(secret, sizeof secret) || !tun_open(&device, queues, threads))
         return 0;
-    pairs_init(&net.pairs, net.buckets, BUCKETS, secret);
+    for (uint32_t net = 0; net < threads; net++)
+        if (!(all[net] = make(net, &device, queues[net], secret)))
+            return 0;
     return 1;
 }
 
-/* An event's number is that of what listens, DEVICE, SIGNALS, and else the place of a connection. */
-static void take_event(const struct epoll_event *event)
+static void *run(void *net)
 {
-    struct conn *conn = event->data.ptr;
-    if (event->data.u64 < LISTENERS) {
-        int socket = accept4(published[event->data.u64].socket, NULL, NULL, SOCK_NONBLOCK | SOCK_CLOEXEC);
-        if (socket >= 0)
-            conn_publish(&net, socket, published[event->data.u64].port);
-        return;
-    }
-    conn->can_read |= (event->events & (EPOLLIN | EPOLLRDHUP | EPOLLHUP | EPOLLERR)) != 0;
-    conn->can_write |= (event->events & (EPOLLOUT | EPOLLHUP | EPOLLERR)) != 0;
-    wheel_wake(&net.wheel, &conn->node);
+    loop_run(net, -1, NULL, &stops);
+    return NULL;
 }
 
-int main(int count, char **words)
+int main(int number, char **words)
 {
-    struct epoll_event events[EVENTS];
-    if (count == 0 || !set_up(words))
+    pthread_t others[THREADS] = {0};
+    if (number == 0 || !set_up(words))
         return 1;
+    for (uint32_t net = 1; net < threads; net++)
+        if (pthread_create(&others[net], NULL, run, all[net]) != 0)
+            return perror("threads"), 1;
     puts("ready");
     fflush(stdout);
-    while (!stops) {
-        int has_packets = 0, found = epoll_wait(net.events, events, EVENTS, wheel_wait(&net.wheel, net.now));
-        net.now = milliseconds();
-        for (int at = 0; at < found; at++)
-            if (events[at].data.u64 == DEVICE)
-                has_packets = 1;
-            else if (events[at].data.u64 == SIGNALS)
-                read_signal();
-            else
-                take_event(&events[at]);
-        if (has_packets)
-            read_device();
-        turn_all(&net);
-    }
-    end_all(&net);
+    loop_run(all[0], signals, read_signal, &stops);
+    for (uint32_t net = 1; net < threads; net++)
+        pthread_join(others[net], NULL);
     if (shows)
         tell();
     return 0;

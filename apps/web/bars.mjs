@@ -1,4 +1,5 @@
-// How an end stands after an event, from its state line (MODULE.md): the words of the report's last lines, and bars.
+// What an end is after an event, from its state line and its numbers (MODULE.md): the words of the report's last lines, bars, the
+// sequence spaces of RFC 9293, 3.3.1, and the timers that run.
 import { runs_of } from "./run.mjs";
 import { escaped } from "./draw.mjs";
 
@@ -19,12 +20,20 @@ function piece(kind, from, to, span) {
         : `<span class="${kind}" style="left:${left.toFixed(3)}%;width:max(3px,${width.toFixed(3)}%)"></span>`;
 }
 
-function bar(name, told, pieces, span, is_cut, edges) {
+function bar(name, told, pieces, span, is_cut) {
     const [classes, end] = is_cut ? ["bar is-cut", `${span} …`] : ["bar", span];
-    return `<figure><figcaption>${name}: <b>${told}</b></figcaption>` +
+    return `<figcaption>${name}: <b>${told}</b></figcaption>` +
         `<div class="${classes}" aria-hidden="true">${pieces.join("")}</div>` +
-        `<div class="scale" aria-hidden="true"><span>0</span><span>${end}</span></div>` +
-        `<p class="edges">${edges}</p></figure>`;
+        `<div class="scale" aria-hidden="true"><span>0</span><span>${end}</span></div>`;
+}
+
+// A sequence space as the RFC draws it, not to scale: what lies between the edges, and each edge's name and number.
+function space(name, zones, edges) {
+    const told = edges.map(([edge, number]) => `${edge} ${number}`).join(", ");
+    return `<div class="space" role="img" aria-label="${name}: ${told}">` +
+        zones.map((words, at) => `<span class="zone" style="--at:${at + 1}">${words}</span>`).join("") +
+        edges.map(([edge, number], at) => `<span class="edge" data-edge="${edge}" style="--at:${at + 1}">` +
+            `<b>${number}</b>${edge.replace(" + ", "<br>+ ")}</span>`).join("") + "</div>";
 }
 
 // What lies between the runs, up to an end.
@@ -50,10 +59,12 @@ function send_bar(state) {
         : `${queued} queued, ${flight} in flight` + (marked.length ? `, marked ${runs_told(marked)}` : "");
     const pieces = [piece("flight", 0, flight, span), piece("waiting", flight, queued, span),
         ...marked.map(([from, to]) => piece("marked", from, to, span)), piece("limit", peer, peer + span / 200, span)];
-    // Places of the stream in bytes, as the drawing of RFC 9293, 3.3.1 has them; SYN and FIN aren't counted.
-    const una = BigInt(state.released), edges = `SND.UNA ${una} · SND.NXT ${una + BigInt(flight)} · ` +
-        `SND.UNA + SND.WND ${una + BigInt(peer)}`;
-    return bar("Send queue", told, pieces, span, false, edges);
+    return bar("Send queue", told, pieces, span, false);
+}
+
+function send_space({ una, nxt, edge }) {
+    return space("Send space", ["acknowledged", "in flight", "may be sent", "not yet"],
+        [["SND.UNA", una], ["SND.NXT", nxt], ["SND.UNA + SND.WND", edge]]);
 }
 
 function receive_bar(state) {
@@ -63,8 +74,23 @@ function receive_bar(state) {
     const told = `${unread} unread, window ${room}` + (held.length ? `, held ${runs_told(held)}` : "");
     const pieces = [piece("unread", 0, unread, span), piece("window", unread, whole, span),
         ...held.map(([from, to]) => piece("held", unread + from, unread + to, span))];
-    const next = BigInt(state.ordered), edges = `RCV.NXT ${next} · RCV.NXT + RCV.WND ${next + BigInt(room)}`;
-    return bar("Receive buffer", told, pieces, span, span < whole, edges);
+    return bar("Receive buffer", told, pieces, span, span < whole);
+}
+
+function receive_space({ next, limit }) {
+    return space("Receive space", ["received", "window", "not yet"], [["RCV.NXT", next], ["RCV.NXT + RCV.WND", limit]]);
+}
+
+// The timers by the module's words, and their names.
+const TIMERS = [["retransmit", "retransmission"], ["reorder", "reordering"], ["timewait", "TIME-WAIT"]];
+const UNKNOWN = "…";
+
+function timers(side, numbers) {
+    const parts = TIMERS.map(([name, words]) => {
+        const runs = numbers[name] === "yes", now = numbers[name] === "no" ? "off" : runs ? "runs" : UNKNOWN;
+        return `<li class="timer${runs ? " runs" : ""}" data-timer="${name}">${words} <b>${now}</b></li>`;
+    });
+    return `<ul class="timers" aria-label="Timers of ${side}">${parts.join("")}</ul>`;
 }
 
 // The counts of a side, and what they mean.
@@ -72,14 +98,25 @@ const COUNTS = [
     ["accepted", "bytes that the user sent and the end took"],
     ["released", "of these, acknowledged by the peer, and gone from the send queue"],
     ["ordered", "bytes that came in order from the peer"],
-    ["delivered", "of these, handed to the user"],
+    ["delivered", "of these, delivered to the user"],
     ["sent", "segments that the side emitted"],
-    ["ended", "whether the user was handed the end of the peer's stream"],
+    ["ended", "whether the user received the end of the peer's stream"],
 ];
 
-export function end_drawn(state) {
-    const counts = COUNTS.map(([name, meaning]) => `<div title="${meaning}"><dt>${name}</dt><dd>${escaped(state[name])}</dd></div>`);
+const NO_NUMBERS = { una: UNKNOWN, nxt: UNKNOWN, edge: UNKNOWN, next: UNKNOWN, limit: UNKNOWN };
+
+// An end; `numbers` is null until the module has been asked for them.
+export function end_drawn(state, numbers) {
+    const known = numbers ?? NO_NUMBERS;
+    const counts = COUNTS.map(
+        ([name, meaning]) => `<div title="${meaning}"><dt>${name}</dt><dd>${escaped(state[name])}</dd></div>`);
     return `<h3>${state.side} <span class="phase">${escaped(state.phase)}</span> ` +
-        `<small>${escaped(state.ending)}</small></h3>` + send_bar(state) + receive_bar(state) +
+        `<small>${escaped(state.ending)}</small></h3>${timers(state.side, known)}` +
+        `<figure>${send_bar(state)}${send_space(known)}</figure><figure>${receive_bar(state)}${receive_space(known)}</figure>` +
         `<p class="peer">The peer's window: <b>${escaped(state.peer)}</b></p><dl>${counts.join("")}</dl>`;
+}
+
+// What the counts of an end mean, as a list.
+export function counts_told() {
+    return COUNTS.map(([name, meaning]) => `<dt>${name}</dt><dd>${meaning}</dd>`).join("");
 }

@@ -61,7 +61,7 @@ const IDLE = /^\d+ emit [AB] none$| refused [1-9]\d$/;
 
 const PHASE = /^(\d+) (\w+) ([AB]) .*\b(?:ok|processed|dropped|not-mine|malformed \d) ([A-Z0-9-]+)$/;
 
-// The phases that the lines of a report tell: of which side, after which event.
+// The phases that the lines of a report have: of which side, after which event.
 export function phases(report) {
     const found = report.split("\n").map(line => PHASE.exec(line)).filter(told => told !== null);
     return found.map(([, row, kind, side, phase]) => ({

@@ -25,7 +25,7 @@ const NARROW = 620;
 // An arrow over so many rows has its segment's number at its head, too.
 const FAR = 2;
 
-// Where things stand in a ladder of a width, in pixels. Where it is narrow, what a user or a timer does is written
+// Where things are in a ladder of a width, in pixels. Where it is narrow, what a user or a timer does is written
 // between the lifelines; else in the margins.
 export function form_of(run, width) {
     const is_narrow = width < NARROW, size = is_narrow ? 11 : 12;
@@ -98,9 +98,11 @@ function longest_line(run) {
     return run.longest;
 }
 
-// The label over the place where a segment is emitted: one line where that is wide enough, else two.
-function label(form, event, chosen, is_now) {
-    const { segment, side } = event, y = y_of(form, segment.row) - 6, x = x_of(form, side) + (side === "A" ? 10 : -10);
+// The label over the place where a segment is emitted: one line where that is wide enough, else two. It leaves room for the mark of
+// a resend.
+function label(form, event, chosen, is_now, is_again) {
+    const { segment, side } = event, away = is_again ? 15 : 10;
+    const y = y_of(form, segment.row) - 6, x = x_of(form, side) + (side === "A" ? away : -away);
     const lines = lines_of(event), [name, numbers, blocks] = lines;
     const whole = lines.filter(line => line !== "").join(" ");
     const two = form.is_narrow && numbers ? [blocks, numbers] : [numbers, blocks];
@@ -126,13 +128,13 @@ function ends_of(form, arrow) {
     const { side } = arrow.segment, from = x_of(form, side), to = x_of(form, other(side));
     const y = y_of(form, arrow.from);
     if (arrow.kind === "lost") {
-        // Half the way, as steep as if it came a row later.
-        return [from, y, from + (to - from) * 0.6, y + form.row * 0.45];
+        // Half the way, and so little down that its word is above the next row's label.
+        return [from, y, from + (to - from) * 0.6, y + form.row * 0.32];
     }
     return [from, y, to, y_of(form, arrow.to)];
 }
 
-function head_at(x, y, dx, dy, is_full) {
+export function head_at(x, y, dx, dy, is_full) {
     const length = Math.hypot(dx, dy), ux = dx / length, uy = dy / length;
     const back = [x - 10 * ux, y - 10 * uy];
     const point = sign => `${(back[0] + sign * 4.5 * uy).toFixed(1)} ${(back[1] - sign * 4.5 * ux).toFixed(1)}`;
@@ -287,8 +289,9 @@ export function rows_drawn(run, form, first, last, { now = 0, chosen = null } = 
     for (let row = first; row <= last; row += 1) {
         const event = event_at(run, row);
         if (event.segment) {
-            parts.push(label(form, event, chosen, row === now));
-            if (is_resent(run, event.segment)) {
+            const is_again = is_resent(run, event.segment);
+            parts.push(label(form, event, chosen, row === now, is_again));
+            if (is_again) {
                 parts.push(resend_drawn(x_of(form, event.side), y_of(form, row)));
             }
         }

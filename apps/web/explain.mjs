@@ -1,19 +1,20 @@
-// Explains a script in sentences, or as a ladder of letters: node apps/web/explain.mjs [--ladder] [--module FILE] FILE, or - for
+// Explains a script or a report in sentences, or as a ladder of letters: node apps/web/explain.mjs [--ladder] [--module FILE] FILE, or - for
 // standard input. What comes of the script is computed by the module, as in the page.
 import fs from "node:fs";
 import path from "node:path";
 import { fileURLToPath } from "node:url";
 import { calls, FAULT, WELL } from "./module.mjs";
-import { SIDES, event_at, fields_of, other, phase_of, read_run, state_of } from "./run.mjs";
-import { fault_of, rule_told, segments_told, sentence } from "./told.mjs";
+import { SIDES, event_at, fields_of, is_report, other, phase_of, read_report, read_run } from "./run.mjs";
+import { fault_of, judged_told, segments_told, sentence } from "./told.mjs";
 
 const HELP = `Usage: node apps/web/explain.mjs [--ladder] [--module FILE] FILE
 
 Explains what a script of tcpkit replay does, a sentence for each event; with --ladder draws it with letters. FILE is a
-script, or - for standard input (docs/FORMATS.md). The module is apps/web/out/tcp_web.wasm, or what --module names.
+script or the report of one, or - for standard input (docs/FORMATS.md). Of a script it is said, too, by which rule each
+segment was judged. The module is apps/web/out/tcp_web.wasm, or what --module names; a report needs none.
 
-It ends with 0, with 1 where the script has a fault, which is told with its cause and cure, and with 2 where the words
-of the command can't be taken or a file can't be read.
+It ends with 0, with 1 where the script has a fault, whose cause and cure it writes, and with 2 where the words of the
+command can't be taken or a file can't be read.
 `;
 const BETWEEN = 56, MOST_NOTE = 40, HERE = path.dirname(fileURLToPath(import.meta.url));
 
@@ -47,7 +48,7 @@ function read(file) {
     }
 }
 
-// What goes between the two lines of the ladder in an event's row, and what stands beside each line.
+// What goes between the two lines of the ladder in an event's row, and what is beside each line.
 function row_of(run, row) {
     const event = event_at(run, row), beside = { A: "", B: "" };
     for (const side of SIDES) {
@@ -64,7 +65,7 @@ function row_of(run, row) {
             word === "malformed" ? number : ""].filter(part => part !== "").join(" "));
         return { way: coming(event), beside };
     }
-    // The phase that a call leads to stands beside its line anyway.
+    // The phase that a call leads to is beside its line anyway.
     const came = event.refused ? `: refused ${event.refused}` : event.outcome[0] === "ok" ? "" : `: ${event.outcome.join(" ")}`;
     const words = [event.is_repeat ? `${event.turns}x` : "", event.kind, ...event.words.slice(0, 1)];
     note(event.side, (words.filter(part => part !== "").join(" ") + came).slice(0, MOST_NOTE));
@@ -95,13 +96,13 @@ function ladder(run) {
     return lines.join("\n");
 }
 
-// By which rule a delivered segment was judged, behind the event's sentence.
+// By which rule a delivered segment was judged, behind the event's sentence; of a report, where there is no module, nothing.
 function why(core, script, run, event) {
-    if (event.kind !== "deliver" || event.refused || event.is_repeat) {
+    if (core === null || event.kind !== "deliver" || event.refused || event.is_repeat) {
         return "";
     }
-    const { answer, text } = core.rule(script, event.row - 1), side = other(event.side);
-    return answer !== WELL ? "" : ` ${rule_told(text, state_of(run, event.row - 1, side), state_of(run, event.row, side))}`;
+    const { answer, text } = core.rule(script, event.row - 1);
+    return answer !== WELL ? "" : ` ${judged_told(run, event, text)}`;
 }
 
 function sentences(core, script, run) {
@@ -109,12 +110,22 @@ function sentences(core, script, run) {
         event => `${event.row}. ${sentence(event)}${why(core, script, run, event)}`).join("\n");
 }
 
+function write(words, run, core, script) {
+    if (run.count > 0) {
+        console.log(words.ladder ? ladder(run) : sentences(core, script, run));
+    }
+}
+
 async function main(args) {
     if (args.includes("--help")) {
         process.stdout.write(HELP);
         return 0;
     }
-    const words = words_of(args), script = read(words.file);
+    const words = words_of(args), script = read(words.file), letters = script.toString("latin1");
+    if (is_report(letters)) {
+        write(words, read_report(letters), null, script);
+        return 0;
+    }
     const core = await calls(await WebAssembly.compile(read(words.module)));
     const { answer, text } = core.steps(script);
     if (answer === FAULT) {
@@ -126,10 +137,7 @@ async function main(args) {
         console.log("Memory ran out. Cure: a shorter script.");
         return 1;
     }
-    const run = read_run(text);
-    if (run.count > 0) {
-        console.log(words.ladder ? ladder(run) : sentences(core, script, run));
-    }
+    write(words, read_run(text), core, script);
     return 0;
 }
 

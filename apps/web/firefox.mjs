@@ -13,7 +13,7 @@ const CONTROL = "\uE009";
 
 function preferences(downloads) {
     const values = { "browser.download.folderList": 2, "browser.download.dir": downloads,
-        "browser.download.useDownloadDir": true, "browser.helperApps.neverAsk.saveToDisk": "image/svg+xml,text/plain",
+        "browser.download.useDownloadDir": true, "browser.helperApps.neverAsk.saveToDisk": "image/svg+xml,text/plain,application/vnd.tcpdump.pcap",
         "browser.shell.checkDefaultBrowser": false, "datareporting.policy.dataSubmissionEnabled": false };
     return Object.entries(values).map(([name, value]) => `user_pref("${name}", ${JSON.stringify(value)});\n`).join("");
 }

@@ -8,7 +8,7 @@ function rounded(n) {
 
 export const WELL = 0, REFUSED = 1, FAULT = 2, NO_MEMORY = 3, NO_ROOM = 4, NO_SEGMENT = 5;
 
-// The five calls over a compiled module. Each answers { answer, text }: `text` is empty where nothing is told.
+// The calls over a compiled module. Each answers { answer, text }: `text` is empty where there is none.
 export async function calls(module) {
     const { exports } = await WebAssembly.instantiate(module, {});
     const encoder = new TextEncoder(), decoder = new TextDecoder();
@@ -46,11 +46,24 @@ export async function calls(module) {
                 exports.tcp_web_list(record, at, length, out, room, count, count + 8n), list);
             return { ...found, line: Number(new DataView(exports.memory.buffer).getBigUint64(Number(count) + 8, true)) };
         },
+        // The findings of a log of one end, each with its line; `line` is that of the first bad one, or 0.
+        judge(log, is_complete) {
+            const found = call((record, at, length, out, room, count) =>
+                exports.tcp_web_judge(record, at, length, is_complete ? 1 : 0, out, room, count, count + 8n), log);
+            return { ...found, line: Number(new DataView(exports.memory.buffer).getBigUint64(Number(count) + 8, true)) };
+        },
         // By which rule the segment is judged that an event delivers, counted from 0.
         rule: (script, number) => call(
             (record, at, length, out, room, count) =>
                 exports.tcp_web_rule(record, at, length, BigInt(number), out, room, count),
             script),
+        // Numbers and timers of both ends after so many events.
+        numbers: (script, count) => call(
+            (record, at, length, out, room, count_at) =>
+                exports.tcp_web_numbers(record, at, length, BigInt(count), out, room, count_at),
+            script),
+        // All segments that both ends emit, as a list.
+        sent: script => call(exports.tcp_web_sent, script),
         show: (script, side, number) => call(
             (record, at, length, out, room, count) =>
                 exports.tcp_web_show(record, at, length, side === "A" ? 0 : 1, BigInt(number), out, room, count),

@@ -4,13 +4,15 @@ import fs from "node:fs";
 import path from "node:path";
 import { fileURLToPath } from "node:url";
 import { calls, WELL, REFUSED, FAULT, NO_SEGMENT } from "./module.mjs";
+import { capture_lines } from "./captures.mjs";
+import { connections_of, findings_of, log_of } from "./connections.mjs";
 
 const here = path.dirname(fileURLToPath(import.meta.url));
 const at = (...parts) => path.join(here, "..", "..", ...parts);
 const module = new WebAssembly.Module(fs.readFileSync(process.argv[2] ?? at("apps/web/out/tcp_web.wasm")));
 let passed = 0, failed = 0;
-// Asking for the rule of each event replays the script each time: of long ones no rule is asked for.
-const LONG = 20000, LEAST_MET = 8;
+// Asking for the rule of each event, or the numbers after it, replays the script each time: of long ones they aren't asked for.
+const LONG = 20000, LEAST_MET = 8, MOST_SHOWN = 200;
 
 function expect(name, found, wanted) {
     if (found === wanted) {
@@ -49,7 +51,7 @@ function expect_steps(name, module_calls, script, report) {
     expect(`${name}, steps' events`, lines.filter(line => !line.startsWith("state ")).join("\n"), events.join("\n"));
     const forms = lines.map(line => line.startsWith("state A ") ? "A" : line.startsWith("state B ") ? "B" : "e").join("");
     expect(`${name}, steps' form`, forms, "AB" + "eAB".repeat(events.length));
-    // The last states tell what the last lines of the report tell.
+    // The last states say what the last lines of the report say.
     const ends = report.text.split("\n").slice(-3, -1);
     const states = lines.slice(-2).map(line => line.replace(/^state /, "end ").replace(/ queued .*$/, ""));
     expect(`${name}, steps' end`, states.join("\n"), ends.join("\n"));
@@ -96,6 +98,113 @@ function expect_rules(name, module_calls, script, report) {
     return rules;
 }
 
+// The listing of all emitted segments is what is shown of each, those of A first.
+function expect_sent(name, module_calls, script, report) {
+    const { answer, text } = module_calls.sent(script);
+    if (report.answer === FAULT) {
+        expect(`${name}, sent's fault`, [answer, text].join(), [FAULT, report.text].join());
+        return;
+    }
+    const [a, b] = report.text.split("\n").slice(-3, -1).map(line => Number(/ sent (\d+) /.exec(line)[1])), lines = text.split("\n").slice(0, -1);
+    const addresses = ["10.0.0.1 10.0.0.2", "10.0.0.2 10.0.0.1"], shown = [];
+    expect(`${name}, how many are sent`, [answer, lines.length].join(), [WELL, a + b].join());
+    expect(`${name}, whose they are`, lines.every((line, at) => line.startsWith(`${addresses[at < a ? 0 : 1]} `)), true);
+    if (a + b > MOST_SHOWN) {
+        return;
+    }
+    for (let at = 0; at < a + b; at += 1) {
+        shown.push(`${at + 1} ${module_calls.show(script, at < a ? "A" : "B", at < a ? at : at - a).text}\n`);
+    }
+    expect(`${name}, what they are`, module_calls.list(text).text, `${shown.join("")}total ${a + b} malformed 0\n`);
+}
+
+// The initial numbers of both sides.
+function initials_of(script) {
+    const text = script.toString("latin1"), initial = { A: 1000, B: 5000 };
+    for (const [, side, number] of text.matchAll(/^config ([AB]) isn (\d+)$/gm)) {
+        initial[side] = Number(number);
+    }
+    return initial;
+}
+
+// What the numbers and timers say after each event agrees with the state lines there, with the segment that the event emits, and with
+// what the report says of a timer's line at that place.
+function expect_numbers(name, module_calls, script, report) {
+    const lines = script.toString("latin1").split("\n"), rows = lines.flatMap((line, at) => /^(#|config |tcpkit |$)/.test(line) ? [] : [at]);
+    const steps = module_calls.steps(script).text.split("\n"), initial = initials_of(script), ahead = (from, to) => (to - from + 2 ** 32) % 2 ** 32;
+    for (let row = 0; row <= rows.length; row += 1) {
+        const { answer, text } = module_calls.numbers(script, row), found = text.split("\n").slice(0, -1).map(line => line.split(" "));
+        expect(`${name}, numbers after event ${row}`, [answer, found.length].join(), [WELL, 2].join());
+        const before = row === 0 ? lines.filter(line => /^(config |tcpkit )/.test(line)) : lines.slice(0, rows[row - 1] + 1);
+        found.forEach((words, at) => {
+            const side = "AB"[at], peer = "BA"[at], where = `${name}, ${side} after event ${row}`, state = steps[row === 0 ? at : 3 * row + at].split(" ");
+            const told = Object.fromEntries(words.slice(2).flatMap((word, place, all) => place % 2 === 0 ? [[word, all[place + 1]]] : []));
+            const count = word => Number(state[state.indexOf(word) + 1]);
+            expect(`${where}: its name`, words.slice(0, 2).join(" "), `numbers ${side}`);
+            // SYN and FIN take a number each, which no count of bytes has.
+            if (told.una !== "-") {
+                const una = ahead((initial[side] + count("released")) % 2 ** 32, Number(told.una)), flight = ahead(Number(told.una), Number(told.nxt));
+                expect(`${where}: SND.UNA`, una <= 2, true);
+                expect(`${where}: SND.NXT`, state[2] === "CLOSED" || flight - count("flight") <= 2 && flight >= count("flight"), true);
+                expect(`${where}: the edge`, ahead(Number(told.una), Number(told.edge)), count("peer"));
+            }
+            if (told.next !== "-") {
+                const next = ahead((initial[peer] + 1 + count("ordered")) % 2 ** 32, Number(told.next));
+                expect(`${where}: RCV.NXT`, next <= 1, true);
+                expect(`${where}: the limit`, ahead(Number(told.next), Number(told.limit)), count("window"));
+            }
+            for (const timer of ["retransmit", "reorder", "timewait"]) {
+                const asked = module_calls.replay([...before, `timer ${side} ${timer}`, ""].join("\n")).text.split("\n").at(-4).split(" ").at(-1);
+                expect(`${where}: ${timer}`, told[timer], asked);
+            }
+            const emitted = row === 0 ? null : /^\d+ emit ([AB]) \d+ flags (\S+) seq (\d+) ack (\d+) /.exec(steps[3 * row - 1]);
+            if (emitted && emitted[1] === side && emitted[2].includes("ACK") && !emitted[2].includes("RST")) {
+                expect(`${where}: what it acknowledges`, told.next, emitted[4]);
+            }
+        });
+    }
+    expect(`${name}, numbers past the last event`, module_calls.numbers(script, 1000000000).text, module_calls.numbers(script, rows.length).text);
+}
+
+// What the program's stored run (crates/tcpjudge) leaves out, as its rule has a finding before; and the lines of that log whose
+// findings compare with what came, by the comments there.
+const AGAIN = "line 38: an acknowledgement of 1, up to which not all came (RFC 9293, 3.4)\n", AGAINST_CAME = [26, 34, 36, 38];
+
+// A log is judged as the program judges it, but each finding has its line.
+function expect_judged(module_calls) {
+    const log = fs.readFileSync(at("crates/tcpjudge/data/faults.log")), stored_run = fs.readFileSync(at("crates/tcpjudge/stdout"), "utf8");
+    const all = stored_run.replace(/^segments/m, `${AGAIN}segments`), form = all.split("\n").filter(
+        line => !AGAINST_CAME.includes(Number(/^line (\d+)/.exec(line)?.[1]))).join("\n").replace(/findings \d+/, "findings 7");
+    const told = ({ answer, text, line }) => [answer, line, text].join(" ");
+    expect("a complete log", told(module_calls.judge(log, true)), `${REFUSED} 0 ${all}`);
+    expect("a log that isn't complete", told(module_calls.judge(log, false)), `${REFUSED} 0 ${form}`);
+    expect("a log's bad line", told(module_calls.judge("# one\nwent 1.2.3.4 5.6.7.8 00\ncame 1.2.3.4 00\n", true)), `${FAULT} 3 `);
+    expect("no log", told(module_calls.judge("", false)), `${WELL} 0 segments 0 findings 0\n`);
+    expect("a report's findings", [...findings_of(all).keys()].join(), "10,20,22,24,26,28,30,32,34,36,38");
+}
+
+// A line of a list with the checksum that is left to a device: the sum over the pseudo-header alone (RFC 9293, 3.1).
+function with_sum_left(line) {
+    const [source, target, hex] = line.split(" "), bytes = Buffer.from(hex, "hex");
+    const pseudo = Buffer.from([...source.split("."), ...target.split("."), 0, 6, bytes.length >> 8, bytes.length & 255].map(Number));
+    bytes.writeUInt16BE([0, 2, 4, 6, 8, 10].reduce((sum, place) => sum + pseudo.readUInt16BE(place), 0) % 0xffff, 16);
+    return `${source} ${target} ${bytes.toString("hex")}`;
+}
+
+// Captures of three stacks that break no rule: the name says at which end each was taken.
+function expect_clean(module_calls) {
+    for (const [name, taken, count] of [["kernel-A", "A", 23], ["gVisor-B", "B", 33], ["plain-B", "B", 24]]) {
+        const { lines } = capture_lines(fs.readFileSync(at("checks/judge/data", `${name}.pcap`))), connections = connections_of(lines);
+        expect(`${name}: connections`, connections.length, 1);
+        for (const end of ["A", "B"]) {
+            const { answer, text } = module_calls.judge(log_of(connections[0], end).log, end === taken);
+            expect(`${name}: the verdict on ${end}`, [answer, text].join(), [WELL, `segments ${count} findings 0\n`].join());
+        }
+        const left = log_of(connections_of(lines.map(with_sum_left))[0], taken), whole = log_of(connections[0], taken);
+        expect(`${name}: checksums that are left to a device`, [left.left, whole.left, left.log === whole.log].join(), [count, 0, true].join());
+    }
+}
+
 const module_calls = await calls(module);
 const reports = stored();
 const met = new Set();
@@ -112,6 +221,12 @@ for (const file of fs.readdirSync(at("crates/test_scripts/data/cases")).sort()) 
     expect(`${file}, answer`, answer, report.answer);
     expect_steps(file, module_calls, script, report);
     expect_shown(file, module_calls, script, report);
+    expect_sent(file, module_calls, script, report);
+    if (report.answer === FAULT) {
+        expect(`${file}, numbers' fault`, module_calls.numbers(script, 0).text, report.text);
+    } else if (report.text.length < LONG) {
+        expect_numbers(file, module_calls, script, report);
+    }
     if (report.answer !== FAULT && report.text.length < LONG) {
         expect_rules(file, module_calls, script, report).forEach(rule => met.add(rule));
     }
@@ -119,6 +234,8 @@ for (const file of fs.readdirSync(at("crates/test_scripts/data/cases")).sort()) 
 expect("rules that the cases meet", met.size >= LEAST_MET, true);
 const first = module_calls.replay(fs.readFileSync(at("crates/tcpkit/data/first-run.script")));
 expect("the first run", first.text, fs.readFileSync(at("crates/tcpkit/stdout"), "utf8"));
+expect_judged(module_calls);
+expect_clean(module_calls);
 expect("what is imported", WebAssembly.Module.imports(module).length, 0);
 console.log(`${scripts} scripts: ${passed} comparisons passed, ${failed} failed`);
 process.exit(failed === 0 ? 0 : 1);

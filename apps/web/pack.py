@@ -11,7 +11,7 @@ import re
 import sys
 
 WEB = pathlib.Path(__file__).resolve().parent
-SCRIPTS = ["module", "run", "words", "told", "draw", "bars", "editor", "ladder", "link", "actions", "acts", "history", "files", "captures", "listing", "page"]
+SCRIPTS = ["module", "run", "words", "told", "draw", "bars", "editor", "ladder", "link", "actions", "acts", "history", "files", "captures", "packets", "connections", "captured", "listing", "page"]
 PICTURES = ["first-run", "loss-and-blocks", "shut-window"]
 IMPORT = re.compile(r"^import .*?;\n", re.MULTILINE | re.DOTALL)
 NAME = re.compile(r"^(?:async )?(?:function|const|let) (\w+)", re.MULTILINE)

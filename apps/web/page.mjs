@@ -1,9 +1,9 @@
 // The page: the script is replayed by the module as it is edited, and what comes of it is shown.
 import { calls, WELL, REFUSED, FAULT } from "./module.mjs";
-import { comment_at, event_at, other, places_of, read_run, segment_at, state_of } from "./run.mjs";
-import { fault_of, FORMS, NO_MEMORY_FAULT, printable, rule_told, segments_told, sentence } from "./told.mjs";
+import { SIDES, comment_at, event_at, other, places_of, read_run, segment_at, spaces_of, state_of } from "./run.mjs";
+import { fault_of, FORMS, judged_told, NO_MEMORY_FAULT, printable, segments_told, sentence } from "./told.mjs";
 import { key_drawn, whole_drawn } from "./draw.mjs";
-import { end_drawn } from "./bars.mjs";
+import { counts_told, end_drawn } from "./bars.mjs";
 import { editor } from "./editor.mjs";
 import { ladder } from "./ladder.mjs";
 import { fragment_of, script_of } from "./link.mjs";
@@ -11,11 +11,15 @@ import { lossy_script, run_to_end, with_lines } from "./actions.mjs";
 import { acts } from "./acts.mjs";
 import { history } from "./history.mjs";
 import { on_file, save_file } from "./files.mjs";
+import { captured } from "./captured.mjs";
 import { listing } from "./listing.mjs";
+import { capture_of } from "./captures.mjs";
+import { packets_of } from "./packets.mjs";
 
 const at = id => document.getElementById(id);
 const field = at("script"), slider = at("step"), report = at("report");
 const examples = JSON.parse(at("examples").textContent);
+const ONE_COLUMN = matchMedia("(max-width: 899.98px)");
 const PICTURE_WIDTH = 760, SLOW = 1000, JUMP = 10, PLAY_MS = 900;
 
 const text_view = editor(field, at("gutter"), at("marks"), at("callout"));
@@ -24,14 +28,28 @@ const buttons = acts({
     sides: { A: at("acts-A"), B: at("acts-B") }, wire: at("wire"), text: at("text"), arrive: at("arrive"),
     damage: at("damage"), lose: at("lose"),
 }, lines => change(with_lines(field.value, lines), true));
+const judged = captured({ part: at("judged"), choice: at("connection"), complete: { A: at("complete-A"), B: at("complete-B") },
+    told: at("judged-told"), box: at("captured"), canvas: at("captured-canvas"), picture: at("captured-picture"),
+    heads: at("captured-heads"), listed: at("findings") }, () => core);
 const segments = listing({ part: at("listing-part"), list: at("segments"), told: at("segments-told"),
-    shown: at("segments-listing") }, () => core);
+    shown: at("segments-listing"), ladder_of: judged }, () => core);
 const view = ladder(at("ladder"), at("heads"), at("canvas"), at("picture"), { on_row: go, on_segment: choose });
 
 // What is shown: the last script that was taken, its run, and the current event.
-let core = null, taken = "", run = null, places = null, refused_lines = new Set(), step = 0, chosen = null, waiting = 0;
-// The script that was saved or linked last, and the timers of a play and of a rule that is asked for.
-let kept = "", playing = 0, asking = 0;
+let core = null, taken = "", run = null, places = null, refused_lines = new Set(), step = 0, chosen = null;
+// The script that was saved or linked last, the timer of a play, and the timers of what the module is asked for.
+let kept = "", playing = 0;
+const asked = new Map();
+
+// Does what replays the script once more. Of a long script it waits until the stepping rests.
+function ask(name, act) {
+    clearTimeout(asked.get(name));
+    if (act !== null && run.count < SLOW) {
+        act();
+    } else if (act !== null) {
+        asked.set(name, setTimeout(act, 100));
+    }
+}
 
 function replay(is_typing) {
     const script = field.value;
@@ -40,7 +58,7 @@ function replay(is_typing) {
     const is_taken = answer === WELL || answer === REFUSED;
     document.body.classList.toggle("is-stale", !is_taken && run !== null);
     at("stale").hidden = is_taken || run === null;
-    at("save").disabled = !is_taken;
+    at("save").disabled = at("save-capture").disabled = !is_taken;
     at("acts").querySelectorAll("button").forEach(part => { part.disabled = !is_taken && part.id !== "lossy"; });
     if (!is_taken) {
         const fault = answer === FAULT ? fault_of(text, script) : NO_MEMORY_FAULT;
@@ -87,9 +105,7 @@ function go(row) {
     at("comment").textContent = comment_at(places, step);
     show_rule(event);
     at("ends-place").textContent = step === 0 ? "before the first event" : `after event ${step}`;
-    for (const side of ["A", "B"]) {
-        at(`end-${side}`).innerHTML = end_drawn(state_of(run, step, side));
-    }
+    show_ends(step);
     chosen = null;
     const segment = event?.segment ?? event?.arrow?.segment ?? null;
     view.show_step(step, segment);
@@ -101,23 +117,30 @@ function go(row) {
     }
 }
 
-// By which rule a segment was judged that arrived. A long script is replayed for it once the stepping rests.
-function show_rule(event) {
-    clearTimeout(asking);
-    at("rule").textContent = "";
-    if (event === null || event.kind !== "deliver" || event.refused || event.is_repeat) {
-        return;
-    }
-    const show = () => {
-        const { answer, text } = core.rule(taken, event.row - 1), side = other(event.side);
-        at("rule").textContent = answer !== WELL ? ""
-            : rule_told(text, state_of(run, event.row - 1, side), state_of(run, event.row, side));
+// The states of both ends, and their numbers and timers.
+function show_ends(row) {
+    const draw = numbers => {
+        for (const side of SIDES) {
+            at(`end-${side}`).innerHTML = end_drawn(state_of(run, row, side), numbers[side] ?? null);
+        }
     };
-    if (run.count < SLOW) {
-        show();
-    } else {
-        asking = setTimeout(show, 100);
+    if (run.count >= SLOW) {
+        draw({});
     }
+    ask("numbers", () => {
+        const { answer, text } = core.numbers(taken, row);
+        draw(answer === WELL ? spaces_of(text) : {});
+    });
+}
+
+// By which rule a segment was judged that arrived, and what came of it.
+function show_rule(event) {
+    at("rule").textContent = "";
+    const is_judged = event !== null && event.kind === "deliver" && !event.refused && !event.is_repeat;
+    ask("rule", is_judged ? () => {
+        const { answer, text } = core.rule(taken, event.row - 1);
+        at("rule").textContent = answer === WELL ? judged_told(run, event, text) : "";
+    } : null);
 }
 
 function choose(side, number) {
@@ -126,10 +149,9 @@ function choose(side, number) {
     show_segment(segment, number);
 }
 
-// The segment as the listing has it, and what became of it. A long script is replayed for it once the stepping rests.
+// The segment as the listing has it, and what became of it.
 function show_segment(segment, number) {
     chosen = segment && { side: segment.side, number };
-    clearTimeout(waiting);
     at("segment-back").disabled = segment === null || segment_at(run, segment.side, number - 1) === null;
     at("segment-next").disabled = segment === null || segment_at(run, segment.side, number + 1) === null;
     at("listing").textContent = "";
@@ -137,6 +159,7 @@ function show_segment(segment, number) {
     if (segment === null) {
         at("segment-told").textContent = "A click on an arrow shows its segment here.";
         buttons.show_segment(null, false);
+        ask("segment", null);
         return;
     }
     const group = segment.count > 1 ? ` (one of ${segments_told(segment)})` : "";
@@ -144,17 +167,12 @@ function show_segment(segment, number) {
     at("segment-told").textContent = `${segment.side}'s segment ${number}${group}, emitted at event ${segment.row}: ` +
         `${arrows.map(fate).join("; ")}.`;
     buttons.show_segment(chosen, arrows.some(arrow => arrow.kind !== "lost"));
-    const show = () => {
+    ask("segment", () => {
         const { text } = core.show(taken, segment.side, number);
         at("listing").textContent = text;
         const letters = printable(text.slice(text.lastIndexOf(" ") + 1));
         at("segment-text").textContent = letters === null ? "" : `Its text in letters: “${letters}”`;
-    };
-    if (run.count < SLOW) {
-        show();
-    } else {
-        waiting = setTimeout(show, 100);
-    }
+    });
 }
 
 function fate(arrow) {
@@ -230,6 +248,14 @@ function save_script() {
     save_file("tcp.script", "text/plain", field.value);
     kept = field.value;
     say("The script is saved as tcp.script.");
+}
+
+// What both ends emit, or what is seen at one of them, as packets.
+function save_capture() {
+    const where = at("capture-at").value, { answer, text } = core.sent(taken);
+    const packets = answer === WELL ? packets_of(run, places, text, where) : [];
+    save_file("tcp.pcap", "application/vnd.tcpdump.pcap", capture_of(packets));
+    say(`The capture is saved as tcp.pcap. It has ${packets.length} packet${packets.length === 1 ? "" : "s"}.`);
 }
 
 // A capture is listed, and any other file is a script.
@@ -335,15 +361,14 @@ function listen() {
         }
     });
     slider.addEventListener("input", () => { stop(); go(Number(slider.value)); });
-    at("back").addEventListener("click", () => { stop(); go(step - 1); });
-    at("next").addEventListener("click", () => { stop(); go(step + 1); });
-    at("play").addEventListener("click", play);
-    at("undo").addEventListener("click", texts.undo);
-    at("redo").addEventListener("click", texts.redo);
-    at("finish").addEventListener("click", finish);
-    at("lossy").addEventListener("click", lossy);
-    at("segment-back").addEventListener("click", () => choose(chosen.side, chosen.number - 1));
-    at("segment-next").addEventListener("click", () => choose(chosen.side, chosen.number + 1));
+    for (const [id, act] of Object.entries({
+        play, finish, lossy, undo: texts.undo, redo: texts.redo, link: give_link, save, "save-script": save_script,
+        "save-capture": save_capture, back: () => { stop(); go(step - 1); }, next: () => { stop(); go(step + 1); },
+        "segment-back": () => choose(chosen.side, chosen.number - 1), "segment-next": () => choose(chosen.side, chosen.number + 1),
+        open: () => at("file").click(), "open-capture": () => at("capture").click(),
+    })) {
+        at(id).addEventListener("click", act);
+    }
     at("example").addEventListener("change", choose_example);
     at("gutter").addEventListener("click", event => {
         const row = places.at.indexOf(Number(event.target.dataset.line));
@@ -351,11 +376,6 @@ function listen() {
             go(row);
         }
     });
-    at("link").addEventListener("click", give_link);
-    at("save").addEventListener("click", save);
-    at("save-script").addEventListener("click", save_script);
-    at("open").addEventListener("click", () => at("file").click());
-    at("open-capture").addEventListener("click", () => at("capture").click());
     on_file([at("file"), at("capture")], open_file);
     addEventListener("beforeunload", event => {
         if (is_own()) {
@@ -376,10 +396,21 @@ function fill() {
         at("forms").append(name, told);
     }
     at("key").innerHTML = key_drawn();
+    at("counts").innerHTML = counts_told();
+}
+
+// Where all is in one column the ladder comes first, for the eye and for the keys.
+function order_parts() {
+    at("main").insertBefore(at("ladder-part"), at(ONE_COLUMN.matches ? "script-part" : "ends-part"));
+    if (run !== null) {
+        view.show_step(step, chosen && segment_at(run, chosen.side, chosen.number));
+    }
 }
 
 async function start() {
     fill();
+    order_parts();
+    ONE_COLUMN.addEventListener("change", order_parts);
     try {
         const bytes = Uint8Array.from(atob(at("module").textContent.trim()), letter => letter.charCodeAt(0));
         core = await calls(await WebAssembly.compile(bytes));

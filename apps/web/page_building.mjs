@@ -1,7 +1,9 @@
 // Tests what builds a script by buttons, what brings a text back, and files.
+import { spawnSync } from "node:child_process";
 import fs from "node:fs";
 import path from "node:path";
 import { at } from "./cases.mjs";
+import { bytes_of, capture_of } from "./captures.mjs";
 
 const FIRST = fs.readFileSync(at("crates/tcpkit/data/first-run.script"), "utf8");
 const OWN = "# my own\nlisten B\n";
@@ -120,7 +122,7 @@ async function kept(tab, tools, expect) {
     await tools.edit(OWN);
     expect("one's own is asked for", await asks(), true);
     await choose(1);
-    expect("who chooses an example is told", (await tools.shown()).said, "Undo brings your script back.");
+    expect("what is said of an example", (await tools.shown()).said, "Undo brings your script back.");
     await tools.run(press, "Undo");
     expect("an example can be undone", await script(tools), OWN);
     await tools.run(() => document.getElementById("script").focus());
@@ -154,6 +156,12 @@ async function listed(tab, tools, expect) {
     expect("a list", await type(list), [wanted, ""]);
     expect("a bad line", (await type("10.0.0.1 10.0.0.2 616\n"))[1].startsWith("Line 1 isn't of this form"), true);
     const segments = list.split("\n").filter(line => /^\d/.test(line)).map(line => line.split(" ")[2]);
+    // The same segments as digits alone: each as it is, as an IPv4 packet, and as a frame.
+    const digits = segments.flatMap(hex => [hex, ip_packet(6, hex), [...number_of(0, 12), 8, 0, ...ip_packet(6, hex)]]).map(
+        one => typeof one === "string" ? one : Buffer.from(one).toString("hex"));
+    const lines = wanted.split("\n").slice(0, -2).map(line => line.slice(line.indexOf(" ")));
+    expect("digits alone", (await type(digits.join("\n")))[0], `${lines.flatMap(line => [line, line, line]).map(
+        (line, place) => `${place + 1}${line}\n`).join("")}total 9 malformed 3\n`);
     for (const link of [1, 101]) {
         const file = path.join(tab.folder, `link-${link}.pcap`);
         fs.writeFileSync(file, capture(link, segments));
@@ -169,17 +177,165 @@ async function listed(tab, tools, expect) {
     }
 }
 
+// A log as a capture: its segments, each in the second of its line.
+function capture_of_log(log) {
+    return capture_of(log.split("\n").flatMap((line, seconds) => {
+        const [, source, target, hex] = line.split(" ");
+        return /^(?:came|went) /.test(line) ? [{ seconds, turn: 0, source, target, bytes: bytes_of(hex) }] : [];
+    }));
+}
+
+// What is shown of a capture that is judged. The numbers are those of lines of the list.
+const judged_shown = () => {
+    const text = id => document.getElementById(id).textContent, all = kind => [...document.querySelectorAll(kind)];
+    const accused = all("#captured-picture .accused");
+    return {
+        is_shown: !document.getElementById("judged").hidden, told: text("judged-told").split(". ")[0], heads: all("#captured-heads b").map(
+            part => part.textContent),
+        segments: all("#captured-picture .arrow").length, connections: document.getElementById("connection").options.length,
+        findings: all("#findings li").map(part => part.textContent),
+        accused: accused.map(part => [part.dataset.side, part.dataset.number, [...part.querySelectorAll(".finding")].map(
+            line => line.textContent).join(" ")].join(" ")),
+        colour: accused.length > 0 && getComputedStyle(accused[0].querySelector(".finding")).fill,
+    };
+};
+
+// A capture of a connection with planted faults shows each at its arrow, in the words of the program; one of a stack that breaks no
+// rule shows none.
+async function judged(tab, tools, expect) {
+    const log = fs.readFileSync(at("crates/tcpjudge/data/faults.log"), "utf8"), run = fs.readFileSync(at("crates/tcpjudge/stdout"), "utf8");
+    const places = log.split("\n").flatMap((line, place) => /^(?:came|went) /.test(line) ? [place + 1] : []);
+    const again = "line 38: an acknowledgement of 1, up to which not all came (RFC 9293, 3.4)";
+    const found = [...run.split("\n").slice(0, -2), again].map(line => {
+        const [, number, rule] = /^line (\d+): (.*)$/.exec(line);
+        return { number: places.indexOf(Number(number)) + 1, is_against_came: ["26", "34", "36", "38"].includes(number), rule };
+    });
+    const lines_of = findings => findings.map(({ number, rule }) => `line ${number}, B (10.0.0.2:2): ${rule}`);
+    const arrows_of = findings => findings.map(({ number, rule }) => `B ${number} ${rule}`);
+    const open = async (name, bytes) => {
+        const file = path.join(tab.folder, name);
+        fs.writeFileSync(file, bytes);
+        await tab.choose_file("#capture", file);
+        await tab.until(asked => document.getElementById("said").textContent === `${asked} is open.`, name);
+        return tools.run(judged_shown);
+    };
+    const check = (id, is_checked) => tools.run((box, value) => {
+        document.getElementById(box).checked = value;
+        document.getElementById(box).dispatchEvent(new Event("change"));
+    }, id, is_checked);
+    const form = found.filter(one => !one.is_against_came);
+    const faults = await open("faults.pcap", capture_of_log(log)), accent = await tools.run(() => getComputedStyle(
+        document.querySelector("#heads .phase")).fill);
+    expect("planted faults", faults, {
+        is_shown: true, told: "7 findings in 25 segments: 0 of A's, 7 of B's", heads: ["A 10.0.0.1:1", "B 10.0.0.2:2"], segments: 25, connections: 1,
+        findings: lines_of(form), accused: arrows_of(form), colour: accent,
+    });
+    await check("complete-A", true);
+    expect("A breaks no rule", (await tools.run(judged_shown)).findings, lines_of(form));
+    await check("complete-B", true);
+    const whole = await tools.run(judged_shown);
+    expect("planted faults against what came", [whole.told, whole.findings, whole.accused],
+        ["11 findings in 25 segments: 0 of A's, 11 of B's", lines_of(found), arrows_of(found)]);
+    const [plain, kernel] = ["plain-B", "kernel-A"].map(name => fs.readFileSync(at("checks/judge/data", `${name}.pcap`)));
+    const clean = await open("plain.pcap", plain);
+    expect("a clean capture", [clean.is_shown, clean.told, clean.segments, clean.findings, clean.accused],
+        [true, "No finding in 24 segments", 24, [], []]);
+    // The packets of another file after those of one, behind its header of 24 bytes.
+    const two = await open("two.pcap", Buffer.concat([plain, kernel.subarray(24)]));
+    expect("two connections", [two.connections, two.told, two.segments], [2, "No finding in 24 segments", 24]);
+    await tools.run(() => {
+        document.getElementById("connection").value = "1";
+        document.getElementById("connection").dispatchEvent(new Event("change"));
+    });
+    const second = await tools.run(judged_shown);
+    expect("the second connection", [second.told, second.segments, second.heads],
+        ["No finding in 23 segments", 23, ["A 10.7.0.1:55928", "B 10.7.0.2:7"]]);
+    await tools.run(() => document.getElementById("segments").dispatchEvent(new Event("input")));
+    expect("a list that is typed isn't judged", (await tools.run(judged_shown)).is_shown, false);
+}
+
+function number_of(value, size) {
+    return Array.from({ length: size }, (_, at) => (value >>> (8 * at)) & 255);
+}
+
+// An IPv4 packet with these digits behind its header.
+function ip_packet(protocol, hex) {
+    const text = Buffer.from(hex, "hex"), total = 20 + text.length;
+    return [0x45, 0, total >> 8, total & 255, 0, 0, 0, 0, 64, protocol, 0, 0, 10, 0, 0, 1, 10, 0, 0, 2, ...text];
+}
+
 // A pcap file with these segments from 10.0.0.1 to 10.0.0.2, and a packet of UDP.
 function capture(link, segments) {
-    const number = (value, size) => Array.from({ length: size }, (_, at) => (value >>> (8 * at)) & 255);
-    const bytes = [...number(0xa1b2c3d4, 4), 2, 0, 4, 0, ...number(0, 8), ...number(65535, 4), ...number(link, 4)];
+    const bytes = [...number_of(0xa1b2c3d4, 4), 2, 0, 4, 0, ...number_of(0, 8), ...number_of(65535, 4), ...number_of(link, 4)];
     for (const [protocol, hex] of [...segments.map(one => [6, one]), [17, "0001000200080000"]]) {
-        const text = Buffer.from(hex, "hex"), total = 20 + text.length;
-        const packet = [...(link === 1 ? [...number(0, 12), 8, 0] : []), 0x45, 0, total >> 8, total & 255, 0, 0, 0, 0, 64, protocol, 0, 0,
-            10, 0, 0, 1, 10, 0, 0, 2, ...text];
-        bytes.push(...number(0, 8), ...number(packet.length, 4), ...number(packet.length, 4), ...packet);
+        const packet = [...(link === 1 ? [...number_of(0, 12), 8, 0] : []), ...ip_packet(protocol, hex)];
+        bytes.push(...number_of(0, 8), ...number_of(packet.length, 4), ...number_of(packet.length, 4), ...packet);
     }
     return Buffer.from(bytes);
+}
+
+function command(...words) {
+    const { status, stdout, stderr } = spawnSync("/usr/bin/python3", [at("apps/capture/capture.py"), ...words], { encoding: "utf8" });
+    if (status !== 0) {
+        throw new Error(`capture.py ${words.join(" ")}: ${stderr}`);
+    }
+    return stdout;
+}
+
+// What capture.py lists of a capture, by the report of its script: what a side has emitted and what has arrived there, changed where
+// the report says so.
+function seen_at(side, report, emitted) {
+    const lines = [];
+    for (const line of report.split("\n").slice(0, -3)) {
+        const words = line.replace(/ repeat \d+/, "").split(" "), [, kind, from, number] = words, turns = Number(/ repeat (\d+) /.exec(line)?.[1] ?? 1);
+        if (kind === "emit" && from === side && number !== "none") {
+            const first = turns > 1 ? emitted[from].used : Number(number), done = / done (\d+)/.exec(line)?.[1] ?? 1;
+            lines.push(...emitted[from].lines.slice(first, first + Number(done)));
+        } else if ((kind === "deliver" || kind === "damage") && from !== side && !/ refused [1-9]/.test(line)) {
+            for (let turn = 0; turn < turns; turn += 1) {
+                const [source, target, hex] = emitted[from].lines[Number(number) + turn].split(" "), bytes = Buffer.from(hex, "hex");
+                if (kind === "damage") {
+                    bytes[Number(words[4])] ^= Number(words[5]);
+                }
+                lines.push(`${source} ${target} ${bytes.toString("hex")}`);
+            }
+        }
+        if (kind === "emit") {
+            emitted[from].used += number === "none" ? 0 : turns;
+        }
+    }
+    return lines;
+}
+
+// A capture of both ends is byte for byte what capture.py makes of the script with the second program; at one end it has what goes
+// out there and what arrives, damaged where it is.
+async function captured(tab, tools, expect) {
+    const folder = at("crates/test_scripts/data/cases");
+    // Segments of 64 bytes, more than are emitted.
+    const repeats = "tcpkit 2\nconfig A mss 64\nlisten B\nconnect A\nemit A\ndeliver A 0\nemit B\ndeliver B 0\n" +
+        `repeat 5 send A ${"61".repeat(64)}\nrepeat 4 emit A\nrepeat 2 deliver A 1\ndamage A 3 25 255\nrepeat 2 damage A 3 24 1\n`;
+    const texts = [FIRST, fs.readFileSync(at("apps/web/examples/2-loss-and-blocks.script"), "utf8"), repeats, "listen B\n",
+        ...["gap-held", "first-run-wrapped", "old-copies-damaged", "no-listener", "no-such-segment"].map(
+            name => fs.readFileSync(path.join(folder, `${name}.script`), "utf8"))];
+    await tools.run(() => { document.getElementById("report").open = true; });
+    for (const text of texts) {
+        await tools.edit(text);
+        const name = JSON.stringify(text.slice(0, 24)), { report } = await tools.shown(), file = path.join(tab.folder, "wanted");
+        fs.writeFileSync(`${file}.script`, text);
+        command("replay", `${file}.script`, `${file}.pcap`);
+        const saved = await tools.saved_capture("both");
+        expect(`${name}: the capture of both ends`, saved.equals(fs.readFileSync(`${file}.pcap`)), true);
+        const all = command("listing", `${file}.pcap`).split("\n").slice(0, -1);
+        expect(`${name}: what is said`, (await tools.shown()).said.includes(`It has ${all.length} packet`), true);
+        for (const side of ["A", "B"]) {
+            const source = side === "A" ? "10.0.0.1 " : "10.0.0.2 ", emitted = Object.fromEntries([["A", "10.0.0.1 "], ["B", "10.0.0.2 "]].map(
+                ([one, address]) => [one, { used: 0, lines: all.filter(line => line.startsWith(address)) }]));
+            fs.writeFileSync(`${file}.pcap`, await tools.saved_capture(side));
+            const found = command("listing", `${file}.pcap`).split("\n").slice(0, -1);
+            expect(`${name}: the capture at ${side}`, found, seen_at(side, report, emitted));
+            expect(`${name}: what ${side} sends is in it`, found.filter(line => line.startsWith(source)), emitted[side].lines);
+        }
+    }
 }
 
 // The script's line is reached by keys; a play steps to the end.
@@ -206,5 +362,7 @@ export async function building(tab, tools, expect) {
     await kept(tab, tools, expect);
     await opened(tab, tools, expect);
     await listed(tab, tools, expect);
+    await captured(tab, tools, expect);
+    await judged(tab, tools, expect);
     await moved(tab, tools, expect);
 }

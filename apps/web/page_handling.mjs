@@ -3,6 +3,7 @@ import fs from "node:fs";
 import { at, wanted } from "./cases.mjs";
 
 const FIRST = fs.readFileSync(at("crates/tcpkit/data/first-run.script"), "utf8");
+const SEEDS = [3, 77];
 const FIRST_REPORT = fs.readFileSync(at("crates/tcpkit/stdout"), "utf8");
 
 async function keys(tab, tools, expect) {
@@ -130,7 +131,7 @@ async function faults(tab, tools, expect) {
     expect("no fault any more", [await visible(), (await tools.shown()).is_fault], [null, false]);
 }
 
-// What is told of a fault doesn't cover its line, also where there is little room.
+// What is said of a fault doesn't cover its line, also where there is little room.
 async function covered(tab, tools, expect) {
     await tab.size(360, 1200);
     for (const line of [0, 3, 7, 11, 19]) {
@@ -183,7 +184,25 @@ async function links(tab, tools, expect, address) {
         script);
 }
 
-// Nothing sticks out of a window, and no words of the ladder.
+// A ladder whose rows are all full: emissions that are lost, one behind the other, from both sides.
+const DENSE = "listen B\nconnect A\nemit A\ndeliver A 0\nemit B\ndeliver B 0\nemit A\ndeliver A 1\n" +
+    "send A 616263\nemit A\nsend A 616263\nemit A\nsend A 61\nsend B 62\nemit A\nemit B\nemit B\n" +
+    "timer A retransmit\nemit A\nemit A\ntimer B retransmit\nemit B\ndeliver A 2\ndeliver A 3\nemit B\n";
+
+// Pairs of words in the ladder that lie over one another, by what letters take of a line: so much of their size above the line on
+// which they are, and so much below.
+const colliding = () => {
+    const parts = [...document.querySelectorAll("#picture text")].map(part => {
+        const { left, right } = part.getBoundingClientRect(), y = Number(part.getAttribute("y"));
+        const size = parseFloat(getComputedStyle(part).fontSize);
+        return { words: part.textContent, left, right, top: y - 0.76 * size, bottom: y + 0.22 * size };
+    });
+    return parts.flatMap((one, at) => parts.slice(at + 1).filter(two =>
+        Math.min(one.right, two.right) - Math.max(one.left, two.left) > 1 && Math.min(one.bottom, two.bottom) > Math.max(one.top, two.top))
+        .map(two => `${one.words} over ${two.words}`));
+};
+
+// Nothing sticks out of a window, and no words of the ladder; none lie over others.
 async function widths(tab, tools, expect, height) {
     for (const width of [360, 500, 900, 1600]) {
         await tab.size(width, height);
@@ -204,6 +223,11 @@ async function widths(tab, tools, expect, height) {
                 };
             });
             expect(`example ${example} at ${width}`, out, { page: 0, boxes: 0, words: 0, shown: true });
+            expect(`words of example ${example} at ${width}`, await tools.run(colliding), []);
+        }
+        for (const [name, text] of [["full rows", DENSE], ...SEEDS.map(seed => [`seed ${seed}`, seed])]) {
+            await tools.edit(typeof text === "string" ? text : await tools.run(seed => globalThis.lossy_text(seed), text));
+            expect(`words of ${name} at ${width}`, await tools.run(colliding), []);
         }
     }
     await tab.size(1600, height);
@@ -257,8 +281,10 @@ async function themes(tab, tools, expect) {
             };
             const style = (part, name) => getComputedStyle(document.querySelector(part))[name];
             const colours = [style("body", "color"), style("footer p", "color"), style("#picture text", "fill"),
-                style("#heads .phase", "fill"), style(".shaft", "stroke"), style("#gutter span", "color")];
-            const lines = [style(".life", "stroke"), style("#ladder", "borderTopColor"), style("button", "borderTopColor")];
+                style("#heads .phase", "fill"), style(".shaft", "stroke"), style("#gutter span", "color"), style(".zone", "color"),
+                style(".timer", "color")];
+            const lines = [style(".life", "stroke"), style("#ladder", "borderTopColor"), style("button", "borderTopColor"),
+                style(".zone", "borderBottomColor"), style(".timer", "borderTopColor")];
             return { is_dark: luminance(ground) < 0.1, least: Math.min(...colours.map(from)),
                 lines: Math.min(...lines.map(from)) };
         });
@@ -281,22 +307,30 @@ async function forced(tab, tools, expect) {
     await tab.prefer("forced-colors");
 }
 
-// On a phone the ladder comes first; and once it is turned, the current row is in sight.
+// In one column the ladder comes first, for the eye and for the Tab key; and once the window is turned, or grows to several columns,
+// the current row is in sight.
 async function phone(tab, tools, expect) {
     await tools.edit(FIRST + "receive B 1\n".repeat(60));
     await tab.size(360, 740);
     await tools.go(70);
-    const tops = () => tools.run(() => ["ladder-part", "script-part"].map(
-        id => document.getElementById(id).getBoundingClientRect().top));
-    const [ladder_top, script_top] = await tops();
-    expect("the ladder is first", ladder_top < script_top, true);
-    await tab.size(740, 360);
-    await tab.until(() => document.getElementById("picture").getAttribute("width") > 500);
-    expect("the row is in sight", await tools.run(() => {
+    const order = () => tools.run(() => {
+        const [ladder, script] = ["ladder-part", "script-part"].map(id => document.getElementById(id));
+        return [ladder.getBoundingClientRect().top < script.getBoundingClientRect().top,
+            (ladder.compareDocumentPosition(script) & Node.DOCUMENT_POSITION_FOLLOWING) !== 0];
+    });
+    const is_in_sight = () => tools.run(() => {
         const band = document.querySelector("#picture .band").getBoundingClientRect();
         const box = document.getElementById("ladder").getBoundingClientRect();
         return band.top >= box.top && band.bottom <= box.bottom + 1;
-    }), true);
+    });
+    expect("the ladder is first", await order(), [true, true]);
+    for (const [width, height, is_first] of [[740, 360, true], [1024, 768, false], [360, 740, true]]) {
+        await tab.size(width, height);
+        await tab.until(most => Math.abs(document.getElementById("picture").getAttribute("width") - document.getElementById("ladder").clientWidth) < 2
+            && innerWidth === most, width);
+        expect(`the row is in sight at ${width}`, await is_in_sight(), true);
+        expect(`the ladder's place at ${width}`, (await order())[1], is_first);
+    }
     await tab.size(1600, 6000);
 }
 
@@ -326,7 +360,7 @@ async function access(tab, tools, expect) {
             expect(`focus on ${found[0]}`, found[1], true);
         }
     }
-    const asked = ["example", "script", "open", "save-script", "link", "save", "back", "step", "next", "play", "ladder",
+    const asked = ["example", "script", "open", "save-script", "link", "save", "save-capture", "capture-at", "back", "step", "next", "play", "ladder",
         "text", "finish", "lossy"];
     expect("reached by Tab", asked.filter(name => !reached.has(name)), []);
     const foot = await tools.run(() => document.querySelector("footer").textContent);

@@ -50,15 +50,51 @@ async function bars(tools, expect) {
     expect("B's buffer in words", found.B1.told, `0 unread, window 65536, held ${marked.join("–")}`);
     expect("B's buffer", [near(found.B1.pieces.held, ...marked, found.B1.span), "unread" in found.B1.pieces],
         [true, false]);
-    const edges = await tools.run(() => Object.fromEntries(["A", "B"].map(side => [side, [...document.querySelectorAll(
-        `#end-${side} .edges`)].map(part => part.textContent)])));
-    expect("A's places", edges.A[0], `SND.UNA 4 · SND.NXT ${4 + queued} · SND.UNA + SND.WND ${4 + 65535}`);
-    expect("B's places", edges.B[1], "RCV.NXT 4 · RCV.NXT + RCV.WND 65540");
+    await spaces(tools, expect, { ack, right });
     expect("the comment", await tools.run(() => document.getElementById("comment").textContent),
         "A marks these bytes in its queue: they needn't be sent again.");
     await tools.go(row - 2);
     const unread = await tools.run(() => document.querySelector("#end-B figure:nth-of-type(2) b").textContent);
     expect("what is unread", unread, `4 unread, window 65532, held ${marked.join("–")}`);
+}
+
+// The sequence spaces of both ends after B's blocks arrived at A, by B's segment that has them: its acknowledgement is A's SND.UNA and
+// B's RCV.NXT, the end of its block is A's SND.NXT. And the timers that run.
+async function spaces(tools, expect, { ack, right }) {
+    const found = await tools.run(() => Object.fromEntries(["A", "B"].map(side => [side, Object.fromEntries([...document.querySelectorAll(
+        `#end-${side} .edge`)].map(part => [part.dataset.edge, part.querySelector("b").textContent]))])));
+    const of_a = [["SND.UNA", ack], ["SND.NXT", right], ["SND.UNA + SND.WND", ack + 65535], ["RCV.NXT", 5001], ["RCV.NXT + RCV.WND", 5001 + 65536]];
+    const of_b = [["SND.UNA", 5001], ["SND.NXT", 5001], ["SND.UNA + SND.WND", 5001 + 65535], ["RCV.NXT", ack], ["RCV.NXT + RCV.WND", ack + 65536]];
+    const words = pairs => Object.fromEntries(pairs.map(([edge, number]) => [edge, String(number)]));
+    expect("the spaces of both ends", found, { A: words(of_a), B: words(of_b) });
+    expect("the timers of both ends", await running(tools), { A: ["retransmit", "reorder"], B: [] });
+}
+
+// Which timers run, by side.
+function running(tools) {
+    return tools.run(() => Object.fromEntries(["A", "B"].map(side => [side, [...document.querySelectorAll(
+        `#end-${side} .timer.runs`)].map(part => part.dataset.timer)])));
+}
+
+// A timer runs where its expiry at the next event has an effect: by the report of the script up to there and one line more.
+async function timers(tools, expect) {
+    const texts = ["1-opening-and-close", "2-loss-and-blocks", "3-shut-window"].map(name => `apps/web/examples/${name}.script`);
+    const names = ["retransmit", "reorder", "timewait"], met = new Set();
+    for (const text of texts.map(name => fs.readFileSync(at(name), "utf8"))) {
+        await tools.edit(text);
+        const lines = text.split("\n"), rows = lines.flatMap((line, number) => /^(#|config |$)/.test(line) ? [] : [number]);
+        for (let row = 0; row <= rows.length; row += 1) {
+            const before = row === 0 ? lines.filter(line => line.startsWith("config ")) : lines.slice(0, rows[row - 1] + 1);
+            const asked = await tools.run((script, all) => Object.fromEntries(["A", "B"].map(side => [side, all.filter(name => {
+                const { text: report } = replay_bytes(new TextEncoder().encode(`${script}\ntimer ${side} ${name}\n`));
+                return report.split("\n").at(-4).endsWith(" yes");
+            })])), before.join("\n"), names);
+            await tools.go(row);
+            expect(`timers after event ${row} of ${lines[0]}`, await running(tools), asked);
+            [...asked.A, ...asked.B].forEach(name => met.add(name));
+        }
+    }
+    expect("timers that ran", [...met].sort(), [...names].sort());
 }
 
 async function sentences(tools, expect) {
@@ -67,9 +103,9 @@ async function sentences(tools, expect) {
         [0, "Before the first event"], [1, "B's user waits"], [2, "A's user opens a connection to B"],
         [3, "A emits segment 0: SYN", "no text"], [4, "A's segment 0 arrives at B", "B processes it"],
         [9, "A's user sends", "3 bytes"], [11, "byte 20 changed", "malformed (BadChecksum)"],
-        [12, "nothing for B's user"], [13, "A's retransmit timer runs out"],
+        [12, "nothing for B's user"], [13, "A's retransmit timer expires"],
         [16, "segment 2 arrives at B again", "B drops it"],
-        [19, "B's user is handed 3 bytes", "abc"], [20, "A has nothing to emit"],
+        [19, "B's user receives 3 bytes", "abc"], [20, "A has nothing to emit"],
     ]) {
         await tools.go(row);
         const { sentence } = await tools.shown();
@@ -77,8 +113,9 @@ async function sentences(tools, expect) {
     }
     for (const [row, ...words] of [
         [3], [4, "“peer-opens”: a SYN in LISTEN opens the connection (RFC 9293, 3.10.7.2, third)."],
-        [6, "“peer-accepts”", "3.10.7.3, fourth"], [11], [15, "“taken”: all of it is taken", "Its text comes in order."],
-        [16, "“unacceptable”: it lies outside the window", "3.10.7.4, first"], [20],
+        [6, "“peer-accepts”", "3.10.7.3, fourth", "The peer's window is 65535 now."], [11], [15, "“taken”: all of it is taken", "Its text comes in order."],
+        [16, "“unacceptable”: it lies outside the window", "3.10.7.4, first"],
+        [18, "“taken”", "It acknowledges 3 bytes.", "The peer's window is 65533 now."], [20],
     ]) {
         await tools.go(row);
         const rule = await tools.run(() => document.getElementById("rule").textContent);
@@ -86,16 +123,19 @@ async function sentences(tools, expect) {
             [words.length === 0, ...words.map(() => true)]);
     }
     await tools.edit(fs.readFileSync(at("apps/web/examples/2-loss-and-blocks.script"), "utf8"));
-    const held = await tools.run(() => {
-        const rules = [];
+    const rules = await tools.run(() => {
+        const found = [];
         for (let row = 1; row <= Number(document.getElementById("step").max); row += 1) {
             document.getElementById("step").value = row;
             document.getElementById("step").dispatchEvent(new Event("input"));
-            rules.push(document.getElementById("rule").textContent);
+            found.push(document.getElementById("rule").textContent);
         }
-        return rules.filter(rule => rule.endsWith("Its text comes early and is held.")).length;
+        return found;
     });
-    expect("text that is held", held > 0, true);
+    const count = words => rules.filter(rule => rule.includes(words)).length;
+    // Segments 4 and 5 come early, their blocks mark 11 bytes, and segment 6 closes the gap before them.
+    expect("what comes of the blocks", ["Its text comes early and is held.", "Its blocks report 11 bytes as held.",
+        "Its text comes in order, and 11 bytes that were held follow it.", "It acknowledges 15 bytes."].map(count), [2, 1, 1, 1]);
 }
 
 // Arrows whose ends are both out of sight are drawn through.
@@ -137,6 +177,7 @@ export async function looks(tab, tools, expect, address) {
     await arrows(tools, expect);
     await bars(tools, expect);
     await sentences(tools, expect);
+    await timers(tools, expect);
     await passing(tab, tools, expect);
     await unable(tab, tools, expect, address);
 }

@@ -41,7 +41,7 @@ async function reports(tools, all) {
         const shown = await tools.shown();
         if (one.answer === 2) {
             const line = /41 line (\d+)/.exec(one.report)?.[1];
-            expect(`${one.name}: a fault is told`, [shown.is_fault, shown.cause !== "", shown.cure !== ""],
+            expect(`${one.name}: a fault is reported`, [shown.is_fault, shown.cause !== "", shown.cure !== ""],
                 [true, true, true]);
             expect(`${one.name}: what the program writes`, shown.report, one.report);
             expect(`${one.name}: its line`, line === undefined || shown.cause.startsWith(`Line ${line}: `), true);
@@ -70,7 +70,7 @@ async function pictures(tools, { name, report }) {
     }
 }
 
-// Each refusal that a stored report has is told with the cause and cure of docs/FORMATS.md.
+// Each refusal that a stored report has is shown with the cause and cure of docs/FORMATS.md.
 async function refused(tools, all) {
     const table = refusals(), seen = new Set();
     for (const one of all.filter(({ bytes, answer }) => answer === 1 && is_text(bytes))) {
@@ -96,7 +96,7 @@ async function ten_thousand(tab, tools) {
     const { place } = await tools.shown();
     expect("10,000 events", place.endsWith(` of ${TEN_THOUSAND}`), true);
     const told = times.map(({ time, spent }) => `${Math.round(time)} (${Math.round(spent)})`).join(", ");
-    console.log(`page: 10,000 events in ${told} ms (of a processor's time, where it is told), the first with a cold module`);
+    console.log(`page: 10,000 events in ${told} ms (of a processor's time, where it is known), the first with a cold module`);
     if (tab.spent) {
         expect(`10,000 events within ${MOST_MS} ms`, Math.min(...times.map(({ spent }) => spent)) <= MOST_MS, true);
     }

@@ -41,7 +41,7 @@ export async function setup(tab) {
                 listing: read("listing"), told: read("segment-told"), letters: read("segment-text"), said: read("said"),
             };
         }),
-        // What stands in the picture.
+        // What is in the picture.
         drawn: () => run(() => {
             const picture = document.getElementById("picture"), count = kind => picture.querySelectorAll(kind).length;
             const labels = [...picture.querySelectorAll(".label")];
@@ -107,8 +107,13 @@ export async function setup(tab) {
             return { median: times[times.length >> 1], slowest: times.at(-1), nodes, rows };
         }),
         // What the buttons save.
-        saved: () => saved("ladder.svg", "save"),
-        saved_script: () => saved("tcp.script", "save-script"),
+        saved: async () => (await saved("ladder.svg", "save")).toString("utf8"),
+        saved_script: async () => (await saved("tcp.script", "save-script")).toString("utf8"),
+        // At this side, or of both ends.
+        async saved_capture(where) {
+            await run(value => { document.getElementById("capture-at").value = value; }, where);
+            return saved("tcp.pcap", "save-capture");
+        },
     };
 
     async function saved(name, button) {
@@ -122,6 +127,6 @@ export async function setup(tab) {
             }
             await new Promise(resolve => setTimeout(resolve, 20));
         }
-        return fs.readFileSync(file, "utf8");
+        return fs.readFileSync(file);
     }
 }

@@ -1,5 +1,5 @@
 // Reads what the module writes of a script (MODULE.md, The texts) into what is drawn. There is no TCP here: what is
-// drawn of an event stands in its line of the report, or in the state lines around it.
+// drawn of an event is in its line of the report, or in the state lines around it.
 
 export const SIDES = ["A", "B"];
 
@@ -18,6 +18,41 @@ export function read_run(text) {
     }
     add_lost(run);
     return run;
+}
+
+const COUNTED = "ended no queued 0 flight 0 unmarked - unread 0 window 0 held - peer 0";
+
+// The run of a report alone. Its lines say phases, and how many segments a side has emitted; of the states that is all.
+export function read_report(report) {
+    const lines = report.trimEnd().split("\n"), events = lines.slice(0, -2);
+    const known = { A: ["CLOSED", 0], B: ["CLOSED", 0] };
+    const states = () => SIDES.map(side => `state ${side} ${known[side][0]} not-ended accepted 0 delivered 0 released 0 ` +
+        `ordered 0 sent ${known[side][1]} ${COUNTED}\n`).join("");
+    let text = states();
+    events.forEach((line, at) => {
+        const [, , kind, side, number] = /^(\d+) (?:repeat \d+ )?(\w+) ([AB]) ?(\S*)/.exec(line);
+        const phase = / (?:ok|processed|dropped|not-mine|malformed \d) (\S+)$/.exec(line);
+        if (phase !== null) {
+            known[kind === "deliver" || kind === "damage" ? other(side) : side][0] = phase[1];
+        }
+        if (kind === "emit" && number !== "none") {
+            known[side][1] = line.includes(" repeat ") ? sent_before(lines, at + 1, side) : Number(number) + 1;
+        }
+        text += `${line}\n${states()}`;
+    });
+    return read_run(text);
+}
+
+// What a side has emitted before its next line of a report with a number; the last line of the side has all.
+function sent_before(lines, from, side) {
+    const form = new RegExp(`^\\d+ emit ${side} (\\d+) |^end ${side} .* sent (\\d+) `);
+    const [, number, all] = lines.slice(from).map(line => form.exec(line)).find(found => found !== null);
+    return Number(number ?? all);
+}
+
+// Whether a text is a report, and no script: its lines are counted.
+export function is_report(text) {
+    return /^(?:1 [^\n]*\n[^]*)?end A [^\n]*\nend B [^\n]*\n$/.test(text);
 }
 
 // An event, which is read once it is looked at; null before the first.
@@ -85,6 +120,17 @@ export function state_of(run, row, side) {
     return state;
 }
 
+// What the module says of both ends' numbers and timers, by side.
+export function spaces_of(text) {
+    return Object.fromEntries(text.trimEnd().split("\n").map(line => {
+        const [, side, ...words] = line.split(" "), found = {};
+        for (let at = 0; at < words.length; at += 2) {
+            found[words[at]] = words[at + 1];
+        }
+        return [side, found];
+    }));
+}
+
 export function phase_of(run, row, side) {
     return line_at(run, 3 * row + SIDES.indexOf(side)).split(" ", 3)[2];
 }
@@ -123,7 +169,7 @@ function sent_at(run, row, side) {
     return Number(state_of(run, row, side).sent);
 }
 
-// What the report tells of an emitted segment; null of those of a `repeat`, whose fields it leaves out.
+// What the report says of an emitted segment; null of those of a `repeat`, whose fields it leaves out.
 export function fields_of(event) {
     if (event.is_repeat) {
         return null;
@@ -172,7 +218,7 @@ export function segment_at(run, side, number) {
     return segment && segment.number <= number ? segment : null;
 }
 
-// An arrow for each segment, or group, that an event hands over. Where it was refused none arrived.
+// An arrow for each segment, or group, that an event delivers. Where it was refused none arrived.
 function add_arrivals(run, event) {
     const done = event.is_repeat ? Number(event.outcome[1]) : event.refused ? 0 : 1;
     if (done === 0) {
@@ -204,7 +250,7 @@ function kind_of(event, arrow) {
     return arrow.is_again ? "again" : "arrived";
 }
 
-// Segments that no event hands over are lost.
+// Segments that no event delivers are lost.
 function add_lost(run) {
     for (const side of SIDES) {
         for (const segment of run.segments[side]) {
@@ -230,7 +276,7 @@ function arrived_of(segment) {
     return count;
 }
 
-// The lines of a script, and in which of them, from 0, each event stands. A script that was taken has no line of
+// The lines of a script, and in which of them, from 0, each event is. A script that was taken has no line of
 // another form.
 export function places_of(script) {
     const lines = script.split("\n"), at = [null];

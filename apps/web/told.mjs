@@ -1,5 +1,5 @@
 // What the page says in words: of an event, of a refusal, of a fault (docs/FORMATS.md).
-import { fields_of, other } from "./run.mjs";
+import { event_at, fields_of, other, runs_of, state_of } from "./run.mjs";
 import { word_fault } from "./words.mjs";
 
 // Of a refused call or step: its cause, and its cure.
@@ -32,7 +32,7 @@ const SETTINGS = {
 // The forms of a script's lines, by their first word. SIDE is A or B.
 export const FORMS = [
     ["config", "config SIDE isn N", "the initial sequence number, 0 to 4294967295"],
-    ["config", "config SIDE mss N", "the own maximum segment size, 64 to 1460"],
+    ["config", "config SIDE mss N", "the maximum segment size, 64 to 1460"],
     ["config", "config SIDE send N", "the capacity of the send buffer, 1 to 1048576"],
     ["config", "config SIDE recv N", "the capacity of the receive buffer, 1 to 1048576"],
     ["config", "config SIDE shift N", "the window shift that the side offers, 0 to 14, or none"],
@@ -40,11 +40,11 @@ export const FORMS = [
     ["connect", "connect SIDE", "the user opens to the other side's address and port"],
     ["listen", "listen SIDE", "the user waits for a connection"],
     ["close", "close SIDE", "the user sends no more"],
-    ["abort", "abort SIDE", "the user gives the connection up"],
+    ["abort", "abort SIDE", "the user aborts the connection"],
     ["send", "send SIDE HEX", "the user sends these bytes, as in send A 616263"],
     ["receive", "receive SIDE N", "the user asks for at most N bytes, 0 to 1048576"],
     ["emit", "emit SIDE", "the side emits the segment that is due, if one is"],
-    ["timer", "timer SIDE retransmit", "this timer runs out; also reorder and timewait"],
+    ["timer", "timer SIDE retransmit", "this timer expires; also reorder and timewait"],
     ["deliver", "deliver SIDE K", "segment K, from 0, that SIDE emitted arrives at the other side"],
     ["damage", "damage SIDE K PLACE XOR",
         "the same, with the byte at PLACE changed by exclusive or, XOR from 0 to 255"],
@@ -60,7 +60,7 @@ export function refusal_of(event) {
 }
 
 function plural(count, word) {
-    return `${count} ${word}${count === 1 ? "" : "s"}`;
+    return `${count} ${word}${Number(count) === 1 ? "" : "s"}`;
 }
 
 // The bytes of a word of hexadecimal digits as text, where all of them are printable.
@@ -102,19 +102,58 @@ const RULES = {
     "taken-shut": "the window is 0: its acknowledgement and window are taken, its text and FIN are not",
 };
 
-// The rule as the module has it, `NAME SECTION`, and what the states before and after say that it brought.
-export function rule_told(text, before, after) {
+// The rules by which something of a segment is taken.
+const TAKING = ["peer-opens", "peer-accepts", "taken", "taken-shut"];
+
+// How many bytes of the send queue are marked.
+function marked_in(state) {
+    return runs_of(state.unmarked).reduce((left, [from, to]) => left - (to - from), Number(state.queued));
+}
+
+// What a segment brought to an end, by the end's states before and after it; `text` is the count of its bytes, null where
+// that isn't known.
+function brought(before, after, text) {
+    const grown = name => BigInt(after[name]) - BigInt(before[name]), ordered = grown("ordered"), parts = [];
+    if (ordered > 0n) {
+        const held = text === null ? 0n : ordered - BigInt(text);
+        parts.push(held > 0n ? `Its text comes in order, and ${plural(held, "byte")} that were held follow it.`
+            : "Its text comes in order.");
+    } else if (after.held !== before.held) {
+        parts.push("Its text comes early and is held.");
+    } else if (text !== null && text !== "0") {
+        parts.push("None of its text is kept.");
+    }
+    if (grown("released") > 0n) {
+        parts.push(`It acknowledges ${plural(grown("released"), "byte")}.`);
+    }
+    const marked = marked_in(after) - marked_in(before);
+    if (marked > 0) {
+        parts.push(`Its blocks report ${plural(marked, "byte")} as held.`);
+    }
+    if (after.peer !== before.peer) {
+        parts.push(`The peer's window is ${after.peer} now.`);
+    }
+    return parts;
+}
+
+// The rule as the module has it, `NAME SECTION`, and what came of it.
+function rule_told(text, before, after, fields) {
     const name = text.slice(0, text.indexOf(" ")), section = text.slice(name.length + 1);
-    const came = after.ordered !== before.ordered ? " Its text comes in order."
-        : after.held !== before.held ? " Its text comes early and is held." : "";
-    return `Rule “${name}”: ${RULES[name] ?? ""} (RFC 9293, ${section}).${came}`;
+    const parts = TAKING.includes(name) ? brought(before, after, fields?.text ?? null) : [];
+    return [`Rule “${name}”: ${RULES[name] ?? ""} (RFC 9293, ${section}).`, ...parts].join(" ");
+}
+
+// The same of an event that delivers a segment.
+export function judged_told(run, event, text) {
+    const { row, side } = event, at = other(side);
+    return rule_told(text, state_of(run, row - 1, at), state_of(run, row, at), fields_of(event_at(run, event.arrow.segment.row)));
 }
 
 const CALLS = {
     listen: side => `${side}'s user waits for a connection.`,
     connect: side => `${side}'s user opens a connection to ${other(side)}.`,
     close: side => `${side}'s user closes: it sends no more.`,
-    abort: side => `${side}'s user gives the connection up.`,
+    abort: side => `${side}'s user aborts the connection.`,
 };
 
 const OUTCOMES = {
@@ -137,11 +176,11 @@ export function sentence(event) {
     case "send":
         return `${side}'s user sends: the end takes ${plural(Number(outcome[1]), "byte")}.`;
     case "receive":
-        return outcome[0] === "bytes" ? `${side}'s user is handed ${bytes_told(outcome[1])}.`
-            : outcome[0] === "end" ? `${side}'s user is told the end of the stream.`
+        return outcome[0] === "bytes" ? `${side}'s user receives ${bytes_told(outcome[1])}.`
+            : outcome[0] === "end" ? `${side}'s user receives the end of the stream.`
                 : `There is nothing for ${side}'s user.`;
     case "timer":
-        return `${side}'s ${event.words[0]} timer runs out` +
+        return `${side}'s ${event.words[0]} timer expires` +
             (outcome[0] === "yes" ? "." : ": nothing follows from it.");
     case "emit":
         return event.segment ? emission_told(event) : `${side} has nothing to emit.`;
@@ -197,13 +236,13 @@ export function fault_of(text, script) {
 
 export const NO_MEMORY_FAULT = { line: null, text: "tcpkit: 42", cause: "memory ran out", cure: "a shorter script" };
 
-// Why a line has no form. What can be seen without reading it as a line is told so; else its forms are shown.
+// Why a line has no form. What can be seen without reading it as a line is said first; else its forms are shown.
 function cause_of(lines, at) {
     const line = lines[at] ?? "", word = line.split(" ", 1)[0];
     const is_late = lines.slice(0, at).some(one => one !== "" && !/^(#|config |tcpkit 2$)/.test(one));
     const forms = FORMS.filter(form => form[0] === word).map(form => form[1]);
     if (/[^\x00-\x7f]/.test(line)) {
-        return { cause: "a byte above 7f stands in it", cure: "ASCII letters, also in comments" };
+        return { cause: "a byte above 7f is in it", cure: "ASCII letters, also in comments" };
     }
     if (/^ |  | $|\r|\t/.test(line)) {
         return { cause: "a stray or doubled space, a tab, or a CR",

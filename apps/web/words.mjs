@@ -27,7 +27,7 @@ const KEYS = {
     limit: number(0, "9223372036854775807"),
 };
 
-// The words behind the first, in order: a name for who is told, and the test.
+// The words behind the first, in order: a name for the reader, and the test.
 const EVENTS = {
     connect: [["SIDE", side]], listen: [["SIDE", side]], close: [["SIDE", side]], abort: [["SIDE", side]],
     send: [["SIDE", side], ["HEX", hex]], receive: [["SIDE", side], ["N", number(0, 1048576)]], emit: [["SIDE", side]],
