@@ -3,7 +3,7 @@
 # whether the documents show what is in the repository and their commands can be pasted, scripts and C as linters read them, the
 # programs against second ones, the C library under its tests, against lwIP and against this machine's kernel, the portable file on
 # two other machines, what stands on it for Rust, C++, Go and Python, the program as one C file, the tarball in a place without the
-# kit, real clients over usernet, captures, and the replay as a WebAssembly module.
+# kit, real clients over usernet, captures, the judge of captures, and the replay as a WebAssembly module.
 # checks/behind.sh FOLDER writes how many of these passed into FOLDER/behind. The libraries and the module are built over what the
 # gate has proved, and after it: two builds at once wait for one another.
 set -euo pipefail
@@ -44,6 +44,7 @@ behind c/dist/test.sh
 behind checks/live/run.sh
 behind apps/usernet/test.sh "$library" --short
 behind apps/capture/test.sh
+behind checks/judge/test.sh "$PWD/crates/tcpjudge/out/tcpjudge" "$library" --short
 behind apps/web/test.sh apps/web/out/tcp_web.wasm
 behind docs/site/test.sh
 echo "$passed" >"$folder/behind"

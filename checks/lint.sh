@@ -19,14 +19,17 @@ if has shellcheck shellcheck --version; then
     passed=$((passed + 1 + ${#scripts[@]}))
 fi
 if has clang-tidy clang-tidy --version; then
-    # lwip.c is read with lwIP's headers, by its compiler.
-    for source in c/tcpcore/*.c c/companions/*.c checks/peers/{cases,wire,own,second,segments}.c apps/usernet/*.c; do
+    # lwip.c, slirp.c and gvisor.c are read with headers of their own, by their compiler.
+    for source in c/tcpcore/*.c c/companions/*.c checks/peers/{cases,wire,own,second,segments,sockets,kernel}.c apps/usernet/*.c; do
         clang-tidy --quiet --warnings-as-errors='*' --checks="$checks" "$source" -- -std=c11 -Ic -Ic/tcpcore -Ic/companions 2>/dev/null
         passed=$((passed + 1))
     done
 fi
 if has mypy mypy --version; then
-    mypy --strict --no-error-summary --cache-dir=/dev/null c/tcpcore/tcpcore.py
+    mypy --strict --no-error-summary --cache-dir=/dev/null c/tcpcore/tcpcore.py c/tcpcore/layout.py
     passed=$((passed + 1))
 fi
+# What repeats the library's records is what the records make.
+c/tcpcore/layout.py --check
+passed=$((passed + 1))
 echo "lint: $passed passed, $left_out left out"

@@ -250,6 +250,14 @@ class End:
             self.end("orderly")
         return rule is not None
 
+    def resend_first(self):
+        """What is in flight goes out again as far as one segment carries it (RFC 5681, 3.2; RFC 6582, 3.2); whether anything is."""
+        flight = (self.snd_nxt - self.snd_una) % SPACE
+        if self.phase not in SENDS_TEXT or flight == 0:
+            return False
+        self.again = (self.snd_una, (self.snd_una + min(flight, self.text_limit())) % SPACE)
+        return True
+
     # ---- emission (RFC 9293, 3.7, 3.8 and 3.10; RFC 2018, 4)
 
     def blocks(self):
@@ -286,7 +294,18 @@ class End:
             if not self.owes_ack:
                 return None
             due = (self.snd_nxt, b"", 0)
-        seq, text, fin = due
+        return self.plain(*due)
+
+    def emit_acknowledgement(self):
+        """The address and the bytes of the acknowledgement that is pending, whatever data or FIN is due, or None."""
+        if self.reset or self.owes_syn or not self.owes_ack:
+            return None
+        if self.phase in SENDS_TEXT and self.again:
+            self.note("acknowledgement before what goes out again")
+        return self.plain(self.snd_nxt, b"", 0)
+
+    def plain(self, seq, text, fin):
+        """A segment with the acknowledgement and the blocks."""
         self.owes_ack = False
         ends = bool(text) and self.place(seq) + len(text) == len(self.queue)
         options = b""
@@ -313,11 +332,14 @@ class End:
         flags, ack = (SYN | ACK, self.rcv_nxt) if answer else (SYN, 0)
         return self.segment(self.peer, self.iss, ack, flags, min(65535, self.window()), options, b"")
 
+    def text_limit(self):
+        """The text that fits one segment (RFC 9293, 3.7.1)."""
+        count_blocks = len(self.blocks()) if self.sack else 0
+        return min(self.config["mss"], self.peer_mss) - (4 + 8 * count_blocks if count_blocks else 0)
+
     def text_due(self):
         """The number, the text and the FIN bit of what is due, as it goes out."""
-        limit = min(self.config["mss"], self.peer_mss)
-        count_blocks = len(self.blocks()) if self.sack else 0
-        limit -= 4 + 8 * count_blocks if count_blocks else 0
+        limit = self.text_limit()
         fin_number = (self.queue_start + len(self.queue)) % SPACE
         if self.again:
             start, stop = self.again

@@ -102,8 +102,8 @@ def answer_of(call):
 def line(rng, end):
     """One line, and what is answered."""
     kind = rng.choices(
-        ["arrive", "emit", "send", "receive", "timer", "timers", "close", "abort", "connect", "listen", "acknowledge"],
-        [50, 30, 15, 8, 8, 3, 1.5, 0.3, 0.3, 0.3, 3],
+        ["arrive", "emit", "send", "receive", "timer", "timers", "close", "abort", "connect", "listen", "acknowledge", "emit-acknowledgement", "resend-first"],
+        [50, 30, 15, 8, 8, 3, 1.5, 0.3, 0.3, 0.3, 3, 4, 3],
     )[0]
     if kind == "arrive":
         return arrival(rng, end)
@@ -127,6 +127,11 @@ def line(rng, end):
     if kind == "timers":
         rules = [end.timer_rule(which) is not None for which in ("retransmit", "reorder", "timewait")]
         return "timers", " ".join("true" if rule else "false" for rule in rules)
+    if kind == "emit-acknowledgement":
+        emitted = end.emit_acknowledgement()
+        return kind, "none" if emitted is None else f"{dotted(emitted[0])} {Segment(emitted[1]).told()}"
+    if kind == "resend-first":
+        return kind, "true" if end.resend_first() else "false"
     if kind == "connect":
         return kind, answer_of(end.connect(PEER))
     return kind, answer_of(getattr(end, kind)())

@@ -131,6 +131,10 @@ class Reporting(End):
             self.sent = Transmit(emitted[0], kind, len(emitted[1]), position, len(s.text))
         return emitted
 
+    def emit_acknowledgement(self):
+        self.alone = super().emit_acknowledgement()
+        return self.alone
+
     def status(self):
         nxt = (self.snd_nxt - self.iss) % SPACE
         return self.snd_wnd, self.window(), nxt, int(self.closing), int(self.fin_taken)
@@ -152,6 +156,8 @@ def call(library, words):
     if name == "emit":
         before, sent = library.next(), library.transmit()
         return (before, sent and sent[0])
+    if name == "emit-acknowledgement":
+        return library.emit_acknowledgement()
     if name == "receive":
         library.room = int(rest[0])
     try:
@@ -162,7 +168,7 @@ def call(library, words):
         elif name == "connect":
             library.connect(*PEER)
         else:
-            getattr(library, name)()
+            getattr(library, name.replace("-", "_"))()
     except tcpcore.Refused:
         pass
     return None
@@ -193,6 +199,8 @@ def one(seed, seen):
             differs(seed, words, found, end.taken)
             seen.update([f"rule {found.rule.name}", f"brought {found.brought.name}"])
             seen.update(name for name in ("at_once", "acked", "is_duplicate", "window_taken") if getattr(found, name))
+        elif words == "emit-acknowledgement":
+            differs(seed, words, found, end.alone)
         elif words.startswith("emit"):
             differs(seed, words, found, (end.sent, end.sent))
             seen.update([f"kind {end.sent.kind.name}" if end.sent else "none due"])

@@ -73,6 +73,14 @@ class Row:
             self.say("emit", told)
         return self
 
+    def emit_acknowledgement(self):
+        sent = self.end.emit_acknowledgement()
+        told = "none" if sent is None else f"{'.'.join(map(str, sent[0]))} {Segment(sent[1]).told()}"
+        return self.say("emit-acknowledgement", told)
+
+    def resend_first(self):
+        return self.say("resend-first", "true" if self.end.resend_first() else "false")
+
     def emit_bytes(self, area=None, whole=None):
         """An emission told by its bytes, whose options, or which itself, are to be these (hexadecimal)."""
         addr, data = self.end.emit()
@@ -272,9 +280,39 @@ def rows():
         yield reach(Row(f"{phase}: send, receive and the timers")).send(b"de").receive(10).timers().timer("retransmit").emit(3).timer("reorder").timer("timewait").emit()
         for name, segment in segments(phase).items():
             yield reach(Row(f"{phase}: {name}")).arrive(**segment).emit(2).receive(10)
+    yield from pacing_rows()
     yield from single_rows()
     yield from option_rows()
     yield from hostile_rows()
+
+
+def pacing_rows():
+    """An acknowledgement alone, and the first segment alone again."""
+    for phase, reach in PHASES.items():
+        yield reach(Row(f"{phase}: an acknowledgement alone")).emit_acknowledgement().call("acknowledge").emit_acknowledgement().emit_acknowledgement().emit(2)
+        yield reach(Row(f"{phase}: the first segment alone again")).resend_first().emit(2).timers()
+    r = Row("an acknowledgement alone comes before what goes out again, and takes nothing of it", own_mss=64).opened().send(b"a" * 150).emit(3)
+    r.timer("retransmit").arrive(ACK, text=b"x").emit_acknowledgement().is_told("10.0.0.1 flags ACK seq 5151 ack 1002 window 65535 text 0")
+    yield r.emit_acknowledgement().is_told("none").emit().is_told("10.0.0.1 flags ACK seq 5001 ack 1002 window 65535 text 64").emit(3)
+    r = Row("an acknowledgement alone reports blocks").opened().send(b"abc").arrive(ACK, seq=5, text=b"z")
+    yield r.emit_acknowledgement().is_told("10.0.0.1 flags ACK seq 5001 ack 1001 window 65535 text 0 sack 1006-1007").emit().is_told("10.0.0.1 flags ACK,PSH seq 5001").emit()
+    r = Row("no acknowledgement alone before a reset that waits").opened().arrive(ACK, text=b"x").call("abort").emit_acknowledgement().is_told("none")
+    yield r.emit(2)
+    r = Row("no acknowledgement alone before a SYN,ACK that is sent again").call("listen").arrive(SYN, seq=-1, options=BOTH).emit_acknowledgement().is_told("none").emit()
+    yield r.timer("retransmit").arrive(SYN, seq=-1, options=BOTH).emit_acknowledgement().is_told("none").emit().is_told("10.0.0.1 flags ACK,SYN").emit_acknowledgement()
+    r = Row("of three segments the first alone goes out again, and then new text", own_mss=64).opened().send(b"a" * 192).emit(3)
+    r.resend_first().is_told("true").send(b"b" * 10).emit().is_told("10.0.0.1 flags ACK seq 5001 ack 1001 window 65535 text 64")
+    yield r.emit().is_told("10.0.0.1 flags ACK,PSH seq 5193 ack 1001 window 65535 text 10").emit().is_told("none").timers()
+    r = Row("an acknowledgement of a part, and the first segment of the rest again", own_mss=64).opened().send(b"a" * 192).emit(3)
+    yield r.resend_first().emit().arrive(ACK, ack=64).resend_first().emit(2).arrive(ACK, ack=192).resend_first().is_told("false").emit()
+    r = Row("the first segment again stands in the place of all again", own_mss=64).opened().send(b"a" * 192).emit(3)
+    yield r.timer("retransmit").emit(2).resend_first().emit(2).timer("retransmit").emit(4)
+    r = Row("the first segment again, of which the peer has a later part", own_mss=64).opened().send(b"a" * 192).emit(3)
+    yield r.arrive(ACK, options=sack((5011, 5129))).resend_first().emit(2).timer("reorder").emit(3)
+    r = Row("a FIN alone in flight is the first segment").opened().call("close").emit().resend_first().is_told("true")
+    yield r.emit().is_told("10.0.0.1 flags ACK,FIN").emit().is_told("none")
+    r = Row("nothing in flight, nothing to be sent again").opened(window=0).send(b"abc").resend_first().is_told("false").emit()
+    yield r.timer("retransmit").emit().resend_first().is_told("true").emit(2)
 
 
 def single_rows():

@@ -36,8 +36,11 @@ LONG = {
     r"(apps/(web|usernet|tcpkit)|c/(dist|portable))/\w+\.sh\b": "builds over proofs",
     r"node apps/web/": "wants the module that 'apps/web/build.sh' builds",
     r"c/(tcpcore|companions)/test\.sh\b": "wants the library that 'rt lib' builds",
-    r"checks/(live|behind|differential)\b": "wants the library that 'rt lib' builds, or the program",
+    r"checks/(live|behind|differential|judge)\b": "wants the library that 'rt lib' builds, or the program",
 }
+if subprocess.run(["/usr/bin/python3", "-c", "import dpkt"], capture_output=True, check=False).returncode:
+    LONG[r"apps/capture/capture\.py\b"] = "wants python3-dpkt"
+    LONG[r"python3 checks/differential/judge\.py --complete /tmp/"] = "wants what capture.py writes"
 # A placeholder of the reader's own.
 YOURS = re.compile(r"yours|NAME|\$|\*")
 MARK = "--- pasted ---"

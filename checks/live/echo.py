@@ -61,9 +61,11 @@ class Server:
             self.process.wait()
 
 
-def connect(source=CLIENT, port=PORT):
+def connect(source=CLIENT, port=PORT, receive_buffer=None):
     sock = socket.socket()
     sock.settimeout(LIMIT)
+    if receive_buffer is not None:
+        sock.setsockopt(socket.SOL_SOCKET, socket.SO_RCVBUF, receive_buffer)
     sock.bind((source, 0))
     sock.connect((SERVER, port))
     return sock
@@ -192,7 +194,8 @@ def flooded(server):
 
 
 def vanished(server):
-    gone = connect(VANISHING)
+    # It reads nothing, and has room for little: text waits at the program however soon it echoes.
+    gone = connect(VANISHING, receive_buffer=4096)
     gone.sendall(random.Random(3).randbytes(20000))
     # Its kernel keeps silent from here on: the address isn't its own any more.
     run("ip", "addr", "del", f"{VANISHING}/24", "dev", DEVICE)

@@ -1,4 +1,5 @@
-"""Makes the documents a site that any web server shows: python3 docs/site/build.py [--page FILE] [OUT].
+"""Makes the documents a site that any web server shows: python3 docs/site/build.py [--page FILE] [OUT]; or, with --layers, draws
+the layers' diagram of docs/ARCHITECTURE.md anew as docs/layers.svg.
 
 README.md becomes index.html, and each other page NAME.html. cmark-gfm (Debian's), which renders as GitHub does, makes the HTML; a
 Mermaid diagram is drawn by dot (graphviz). Pictures are copied. The page of apps/web, FILE or what apps/web/build.sh has made, lies beside
@@ -45,8 +46,8 @@ def title_of(name):
     return TITLES.get(name, name.capitalize())
 
 
-def drawn(diagram):
-    """A flowchart as SVG; its words as text for who doesn't see it."""
+def parts_of(diagram):
+    """The boxes of a flowchart, each with its label where it has one, and its arrows."""
     labels, edges = {}, []
     for line in diagram.split("\n")[1:]:
         if not line.strip():
@@ -57,14 +58,24 @@ def drawn(diagram):
         for name, label in ((edge[1], edge[2]), (edge[3], edge[4])):
             if label:
                 labels[name] = label.replace("<br>", "\\n")
-        edges.append(f"{edge[1]} -> {edge[3]}")
-    nodes = [f'{name} [label="{labels.get(name, name)}"]' for name in dict.fromkeys(re.findall(r"\w+", " ".join(edges)))]
+        edges.append((edge[1], edge[3]))
+    return {name: labels.get(name, name) for edge in edges for name in edge}, edges
+
+
+def drawn(diagram, ground="transparent"):
+    """A flowchart as SVG."""
+    nodes, edges = parts_of(diagram)
     way = "LR" if len(nodes) <= MOST_ACROSS else "TB"
-    style = f'bgcolor="transparent" rankdir={way} nodesep=0.15 ranksep=0.3 node [shape=box fontname="sans-serif" fontsize=11] edge [arrowsize=0.6]'
-    text = "digraph { %s %s }" % (style, "; ".join(nodes + edges))
+    style = f'bgcolor="{ground}" rankdir={way} nodesep=0.15 ranksep=0.3 node [shape=box fontname="sans-serif" fontsize=11] edge [arrowsize=0.6]'
+    boxes = [f'{name} [label="{label}"]' for name, label in nodes.items()]
+    text = "digraph { %s %s }" % (style, "; ".join(boxes + [f"{start} -> {end}" for start, end in edges]))
     svg = subprocess.run(["dot", "-Tsvg"], input=text, capture_output=True, text=True, check=True).stdout
-    svg = re.sub(r"<!--.*?-->\n?", "", svg[svg.index("<svg") :], flags=re.DOTALL)
-    return f'<figure class="diagram">{svg.strip()}</figure>\n'
+    return re.sub(r"<!--.*?-->\n?", "", svg[svg.index("<svg") :], flags=re.DOTALL).strip()
+
+
+def layers():
+    """The diagram of docs/ARCHITECTURE.md."""
+    return DIAGRAM.search((TOP / "docs/ARCHITECTURE.md").read_text())[1]
 
 
 def rendered(text):
@@ -117,13 +128,17 @@ def whole(name, body, names, has_page):
 def main():
     parser = argparse.ArgumentParser(description="Makes the documents a site.")
     parser.add_argument("--page", type=pathlib.Path, default=TOP / "apps/web/out/tcp.html")
+    parser.add_argument("--layers", action="store_true")
     parser.add_argument("out", nargs="?", type=pathlib.Path, default=HERE / "out")
     words = parser.parse_args()
+    if words.layers:
+        (TOP / "docs/layers.svg").write_text(drawn(layers(), "white") + "\n")
+        return
     names, has_page = pages(), words.page.exists()
     words.out.mkdir(parents=True, exist_ok=True)
     for name, path in names.items():
         parts = DIAGRAM.split(path.read_text())
-        text = "".join(drawn(part) if place % 2 else part for place, part in enumerate(parts))
+        text = "".join(f'<figure class="diagram">{drawn(part)}</figure>\n' if place % 2 else part for place, part in enumerate(parts))
         body = anchored(linked(rendered(text), names))
         (words.out / file_of(name)).write_text(whole(name, body, names, has_page))
     for picture in sorted((TOP / "docs").glob("*.svg")):
@@ -134,4 +149,5 @@ def main():
     print(f"{words.out}: {len(names)} pages{', and tcp.html' if has_page else '; apps/web/build.sh makes the page that lies beside them'}")
 
 
-main()
+if __name__ == "__main__":
+    main()

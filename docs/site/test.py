@@ -1,10 +1,14 @@
 """Tests the site that docs/site/build.py has made: python3 docs/site/test.py [OUT]. Each link leads to a file or an anchor that is there,
-each page has the headings of its Markdown, one h1 and no Markdown left over, and nothing is loaded from elsewhere."""
+each page has the headings of its Markdown, one h1 and no Markdown left over, and nothing is loaded from elsewhere. docs/layers.svg has the
+boxes and arrows of the diagram beside it."""
 
 import html.parser
 import pathlib
 import re
 import sys
+import xml.etree.ElementTree
+
+import build
 
 HERE = pathlib.Path(__file__).resolve().parent
 TOP = HERE.parents[1]
@@ -53,6 +57,20 @@ def headings_of(markdown):
     return [re.sub(r"[`*]", "", line.lstrip("# ")) for line in text.split("\n") if re.match(r"#{1,6} ", line)]
 
 
+def layers_wrong():
+    """What docs/layers.svg lacks of the diagram of docs/ARCHITECTURE.md, or has beside it; and arrows that crates.txt hasn't."""
+    nodes, edges = build.parts_of(build.layers())
+    root = xml.etree.ElementTree.parse(TOP / "docs/layers.svg").getroot()
+    groups = [group for group in root.iter() if group.get("class") in ("node", "edge")]
+    found = {(group.findtext("{*}title"), " ".join(text.text for text in group.iterfind("{*}text"))) for group in groups}
+    asked = {(name, label.replace("\\n", " ")) for name, label in nodes.items()} | {(f"{start}->{end}", "") for start, end in edges}
+    uses = dict(line.split(":", 1) for line in (TOP / "crates.txt").read_text().split("\n") if line and not line.startswith("#"))
+    crates = {name: label.split("\\n")[0] for name, label in nodes.items()}
+    uses = {names.split(" ")[0]: below.split() for names, below in uses.items()}
+    return [f"docs/layers.svg: {one}: draw it anew with build.py --layers" for one in sorted(found ^ asked)] + [
+        f"docs/ARCHITECTURE.md: {crates[end]} doesn't use {crates[start]}" for start, end in edges if crates[start] not in uses.get(crates[end], [])]
+
+
 def main():
     pages = {path.name: Page(path.read_text()) for path in sorted(OUT.glob("*.html")) if path.name != "tcp.html"}
     sources = {"index.html": TOP / "README.md", "changelog.html": TOP / "CHANGELOG.md", "contributing.html": TOP / "CONTRIBUTING.md"}
@@ -70,7 +88,7 @@ def main():
             elif anchor and anchor not in pages[target or name].ids:
                 wrong.append(f"{name}: no anchor {link}")
         wrong += [f"{name}: loads {one}" for one in page.loaded if "//" in one or not (OUT / one).exists()]
-        wrong += [f"{name}: an anchor stands twice: {one}" for one in set(page.ids) if page.ids.count(one) > 1]
+        wrong += [f"{name}: an anchor is there twice: {one}" for one in set(page.ids) if page.ids.count(one) > 1]
         told = [re.sub(r"\s+", " ", text.replace("’", "'")).strip() for _, text in page.headings]
         asked = headings_of(sources[name].read_text())
         if told != asked:
@@ -78,6 +96,7 @@ def main():
         if [tag for tag, _ in page.headings].count("h1") != 1:
             wrong.append(f"{name}: not one h1")
         wrong += [f"{name}: Markdown is left over: {line[:60]}" for line in page.text.split("\n") if re.match(r"\s*(```|\|---|#+ |!\[)", line)]
+    wrong += layers_wrong()
     for one in wrong:
         print(one)
     print(f"site: {len(pages)} pages, {links} links, {len(wrong)} wrong")

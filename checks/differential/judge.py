@@ -1,0 +1,257 @@
+"""A judge of one end after docs/JUDGE.md: a second program, written apart from the first.
+
+    python3 checks/differential/judge.py [--complete] LOG
+
+It keeps each byte of the stream by its position and the numbers of each segment that came in a set, as far as they aren't
+acknowledged, and writes what `tcpjudge` writes.
+"""
+
+import struct
+import sys
+
+from end import ACK, FIN, HALF, RST, SPACE, SYN
+from program import word_sum
+
+MSS, SHIFT, PERMITTED, BLOCKS = 2, 3, 4, 5
+SIZES = {MSS: [2], SHIFT: [1], PERMITTED: [0], BLOCKS: [8, 16, 24, 32]}
+OF_SYNS = {MSS, SHIFT, PERMITTED}
+# Rules that hold a segment against what came.
+AGAINST_CAME = ("AckBeyond", "Unoffered", "Unpermitted", "BlockBeyond")
+
+
+class Malformed(Exception):
+    """Why bytes are no segment."""
+
+
+def options_of(data, end):
+    """The options that a rule speaks of, each as (kind, body); the faults of all (RFC 9293, 3.1 and 3.2)."""
+    found, at = [], 20
+    while at < end and data[at] != 0:
+        if data[at] == 1:
+            at += 1
+            continue
+        length = data[at + 1] if at + 1 < end else 0
+        if length < 2 or at + length > end:
+            raise Malformed(f"no option begins at byte {at}")
+        if length - 2 in SIZES.get(data[at], []):
+            found.append((data[at], data[at + 2 : at + length]))
+        at += length
+    for place in range(at, end):
+        if data[place]:
+            raise Malformed(f"the padding at byte {place} is not zero")
+    return found
+
+
+class Seen:
+    """A segment as a judge sees it."""
+
+    def __init__(self, source, target, data):
+        if len(data) < 20:
+            raise Malformed("a segment has at least 20 bytes")
+        if len(data) > 65515:
+            raise Malformed("a segment has at most 65515 bytes")
+        if word_sum(source, target, data) % 65535:
+            raise Malformed("the checksum is wrong")
+        end = 4 * (data[12] >> 4)
+        if not 20 <= end <= len(data):
+            raise Malformed("the data offset is wrong")
+        self.seq, self.ack = struct.unpack(">II", data[4:12])
+        self.flags, self.text = data[13], data[end:]
+        self.options = options_of(data, end)
+        self.kinds = {kind for kind, _ in self.options}
+
+    def has(self, flag):
+        return bool(self.flags & flag)
+
+    def numbers(self):
+        """SEG.LEN: the numbers of SYN, text and FIN (RFC 9293, 3.4)."""
+        return len(self.text) + self.has(SYN) + self.has(FIN)
+
+
+class Judge:
+    """What one end has said and heard so far. Each rule is a method that answers its line, or None."""
+
+    def __init__(self):
+        self.initial, self.fin = None, None
+        # the position of the last byte that is acknowledged, and the byte at each behind it, as far as none is missing
+        self.released, self.stream = 0, {}
+        self.segments, self.syns, self.offered = [], [], set()
+        # the acknowledgement that went, the furthest one
+        self.told = None
+
+    def last(self):
+        """The position of the last byte that went without a gap."""
+        return self.released + len(self.stream)
+
+    def nearest(self, number, initial):
+        """The position of a number that is the nearest to that."""
+        ahead = (number - initial - self.last()) % SPACE
+        return max(0, self.last() + (ahead if ahead < HALF else ahead - SPACE))
+
+    def came(self, seen):
+        if self.initial is not None and seen.has(ACK) and not seen.has(RST):
+            self.release(self.nearest(seen.ack, self.initial))
+        self.segments.append({(seen.seq + i) % SPACE for i in range(seen.numbers())})
+        if seen.has(SYN):
+            self.offered |= seen.kinds
+            if self.told is None:
+                self.syns.append(seen.seq)
+
+    def release(self, position):
+        """Forgets the bytes before the position that is acknowledged, unless that is beyond all that went."""
+        last = self.last()
+        if position <= last + 1 + (self.fin is not None):
+            for place in range(self.released + 1, min(position, last + 1)):
+                del self.stream[place]
+                self.released = place
+
+    def went(self, seen):
+        """The first rule that is broken, as (name, words), or None. The segment is known from then on."""
+        place = self.place(seen)
+        rules = self.form, self.initial_number, self.bytes_stay, self.fin_stays, self.acknowledgement, self.answer, self.permission, self.blocks
+        found = next((broken for rule in rules if (broken := rule(seen, place))), None)
+        self.learn(seen, place)
+        return found
+
+    # ---- positions (RFC 9293, 3.4)
+
+    def place(self, seen):
+        """Where the text begins: the position nearest to the last byte that went. None before a SYN, in a reset and before
+        position 1, that of the first byte."""
+        initial = self.initial
+        if initial is None and seen.has(SYN):
+            initial = seen.seq
+        if initial is None or seen.has(RST):
+            return None
+        place = self.nearest(seen.seq, initial) + seen.has(SYN)
+        return place if place > 0 else None
+
+    def learn(self, seen, place):
+        if self.initial is None and seen.has(SYN) and not seen.has(RST):
+            self.initial = seen.seq
+        if place is not None and place <= self.last() + 1:
+            for position, byte in enumerate(seen.text, place):
+                if position > self.released:
+                    self.stream.setdefault(position, byte)
+        if place is not None and seen.has(FIN):
+            self.fin = place + len(seen.text)
+        if self.goes_further(seen):
+            self.told, self.syns = seen.ack, []
+            self.segments = [numbers for numbers in self.segments if not all(is_before(number, seen.ack) for number in numbers)]
+
+    def goes_further(self, seen):
+        """Whether it has an acknowledgement that isn't less than the furthest one."""
+        return seen.has(ACK) and not seen.has(RST) and is_from(self.told, seen.ack)
+
+    # ---- rules
+
+    def form(self, seen, place):
+        if seen.kinds & OF_SYNS and not seen.has(SYN):
+            return "SynOption", "an option of SYNs in another segment (RFC 9293, 3.2)"
+        if any(kind == SHIFT and body[0] > 14 for kind, body in seen.options):
+            return "GreatShift", "a shift above 14 (RFC 7323, 2.3)"
+        if not seen.flags & (ACK | SYN | RST):
+            return "NoAck", "no ACK (RFC 9293, 3.1)"
+        return None
+
+    def initial_number(self, seen, place):
+        if self.initial in (None, seen.seq) or not seen.has(SYN) or seen.has(RST):
+            return None
+        return "OtherInitial", f"a SYN at {seen.seq}, and the first at {self.initial} (RFC 9293, 3.4)"
+
+    def bytes_stay(self, seen, place):
+        if place is None or all(self.stream.get(position, byte) == byte for position, byte in enumerate(seen.text, place)):
+            return None
+        return "OtherByte", f"another byte where one went before, in the text at {seen.seq} (RFC 9293, 3.4)"
+
+    def fin_stays(self, seen, place):
+        if place is None:
+            return None
+        end, behind = place + len(seen.text), self.last() + 1
+        if self.fin is None:
+            fin = end
+            is_broken = seen.has(FIN) and end < behind
+            end = behind
+        else:
+            fin = self.fin
+            is_broken = (len(seen.text) > 0 and end > fin) or (seen.has(FIN) and end != fin)
+        return ("BeyondFin", f"text or FIN up to position {end}, and the FIN at {fin} (RFC 9293, 3.4)") if is_broken else None
+
+    def acknowledgement(self, seen, place):
+        if not seen.has(ACK) or seen.has(RST):
+            return None
+        starts = [(syn + 1) % SPACE for syn in self.syns] if self.told is None else [self.told]
+        if any(self.all_came(start, seen.ack) for start in starts):
+            return None
+        return "AckBeyond", f"an acknowledgement of {seen.ack}, up to which not all came (RFC 9293, 3.4)"
+
+    def all_came(self, start, end):
+        return all(any((start + i) % SPACE in numbers for numbers in self.segments) for i in range((end - start) % SPACE))
+
+    def answer(self, seen, place):
+        if not (seen.has(SYN) and seen.has(ACK)) or SHIFT not in seen.kinds - self.offered:
+            return None
+        return "Unoffered", "a SYN answers with a window scale that no SYN offered (RFC 7323, 2.2)"
+
+    def permission(self, seen, place):
+        if BLOCKS not in seen.kinds or PERMITTED in self.offered:
+            return None
+        return "Unpermitted", "blocks, which no SYN that came permitted (RFC 2018, 4)"
+
+    def blocks(self, seen, place):
+        told = seen.ack if self.goes_further(seen) else self.told
+        for body in (body for kind, body in seen.options if kind == BLOCKS):
+            for left, right in struct.iter_unpack(">II", body):
+                if not is_from(left, right) or (is_from(told, left) and not self.all_came(left, right)):
+                    return "BlockBeyond", f"a block from {left} to {right}, of which not all came (RFC 2018, 3)"
+        return None
+
+
+def is_from(first, number):
+    """Whether a number is this one or less than 2^31 ahead of it; any is where there is none."""
+    return first is None or (number - first) % SPACE < HALF
+
+
+def is_before(number, other):
+    """Whether the other is 1 to 2^31 - 1 ahead of it."""
+    return 0 < (other - number) % SPACE < HALF
+
+
+def octets(word):
+    return bytes(map(int, word.split(".")))
+
+
+def findings(lines, is_complete=True):
+    """Of each segment of a log that breaks a rule its line, the rule's name and its words; and how many segments there are."""
+    judge, found, count = Judge(), [], 0
+    for number, line in enumerate(lines, 1):
+        if line == "" or line.startswith("#"):
+            continue
+        count += 1
+        word, source, target, digits = line.split(" ")
+        data = b"" if digits == "-" else bytes.fromhex(digits)
+        try:
+            seen = Seen(octets(source), octets(target), data)
+        except Malformed as fault:
+            broken = ("Unreadable", f"no segment: {fault} (RFC 9293, 3.1)") if word == "went" else None
+        else:
+            broken = judge.went(seen) if word == "went" else judge.came(seen)
+        if broken and (is_complete or broken[0] not in AGAINST_CAME):
+            found.append((number, *broken))
+    return found, count
+
+
+def report(lines, is_complete=True):
+    """What `tcpjudge` writes of a log, and its status."""
+    found, count = findings(lines, is_complete)
+    # The first of each rule has its line.
+    firsts = {rule: f"line {number}: {words}\n" for number, rule, words in reversed(found)}
+    text = "".join(firsts[rule] for rule in dict.fromkeys(rule for _, rule, _ in found))
+    return f"{text}segments {count} findings {len(found)}\n", int(bool(found))
+
+
+if __name__ == "__main__":
+    with open(sys.argv[-1], encoding="ascii") as log:
+        told, status = report(log.read().split("\n"), "--complete" in sys.argv)
+    sys.stdout.write(told)
+    sys.exit(status)
