@@ -1,5 +1,5 @@
 #!/usr/bin/env bash
-# What the gate doesn't look at: the program's exit statuses and its lines on standard error, what it does where memory is refused,
+# What the gate doesn't look at: the programs' exit statuses and their lines on standard error, what tcpkit does where memory is refused,
 # whether the documents show what is in the repository and their commands can be pasted, scripts and C as linters read them, the
 # programs against second ones, the C library under its tests, against lwIP and against this machine's kernel, the portable file on
 # two other machines, what stands on it for Rust, C++, Go and Python, the program as one C file, the tarball in a place without the
