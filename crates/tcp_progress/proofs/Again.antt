@@ -1,11 +1,10 @@
 -- A text or FIN that is due covers the positions from its start on and before its end.
-use Rattle.std.proofs.Common.{if◌then◌else◌, ◌&&◌, ◌+◌, ◌-◌, ◌<◌, ◌∙◌, ◌≡◌, ◌≤◌, ◌⊎◌, ap, arith, drop, false, inl, inr, length, length-drop, max, min, nat_le}
-use Rattle.std.proofs.Common.{nat_lt, None, refl, replicate, Some, suc, sym, true, zero, ℕ}
-use Rattle.tcp_replay.proofs.Words.{after_emission, after_retransmit, and_from, bytes_of, cases_Bool, cases_lt, count_leading, count_numbers, count_of}
-use Rattle.tcp_replay.proofs.Words.{destination_of, drop-replicate, Due, due_of, emitted_bytes, end_of, end_of_text, is_fin, is_handshake, length-replicate}
-use Rattle.tcp_replay.proofs.Words.{length-take, nat_tests, next_unmarked, Owed, owed_after, Phase, place_of, plain_segment, position_at, pushes, Queue}
-use Rattle.tcp_replay.proofs.Words.{range_after, Resend, resend_after, resend_of, resent_run, ResentFin, segment_of, Sending, sends_text, start_of, State}
-use Rattle.tcp_replay.proofs.Words.{state_after, text_limit, with_all_resent, without_marks}
+use Rattle.tcp_replay.proofs.Words.{◌&&◌, ◌+◌, ◌-◌, ◌<◌, after_emission, after_retransmit, and_from, ap, arith, bytes_of, cases_Bool, cases_lt, count_leading}
+use Rattle.tcp_replay.proofs.Words.{count_numbers, count_of, destination_of, drop, drop-replicate, Due, due_of, emitted_bytes, end_of, end_of_text, false}
+use Rattle.tcp_replay.proofs.Words.{if◌then◌else◌, inl, inr, is_fin, is_handshake, length, length-drop, length-replicate, length-take, max, min, nat_le, nat_lt}
+use Rattle.tcp_replay.proofs.Words.{nat_tests, next_unmarked, None, Owed, owed_after, Phase, place_of, plain_segment, position_at, pushes, Queue, range_after}
+use Rattle.tcp_replay.proofs.Words.{refl, replicate, Resend, resend_after, resend_of, resent_run, ResentFin, segment_of, Sending, sends_text, Some, start_of}
+use Rattle.tcp_replay.proofs.Words.{State, state_after, suc, sym, text_limit, true, with_all_resent, without_marks, zero, ℕ, ◌∙◌, ◌≡◌, ◌≤◌, ◌⊎◌}
 use Rattle.tcp_progress.proofs.Words.{after_emissions, CoversNext, FlightGoesOutAgain, GoesOut, is_synchronized, IsInFlight, KeepsFlight, MaySend}
 use Rattle.tcp_replay.proofs.Lemmas.{one_if, plain-bits}
 

@@ -1,15 +1,11 @@
 -- WHAT EVERY WORLD KEEPS is enough for it to be steady.
-use Rattle.std.proofs.Common.{◌≡◌, ◌≤◌, arith, None, ℕ}
-use Rattle.tcp_replay.proofs.Words.{Config, IsConfig}
-use Rattle.tcp_replay.proofs.WorldWords.{EventContent, HasBytes, IsSound, IsSoundPair, max_life, new_world_with, other, party_of, PartyState, refusal_of}
-use Rattle.tcp_replay.proofs.WorldWords.{world_with_effect, WorldState}
+use Rattle.tcp_replay.proofs.Words.{arith, Config, EventContent, HasBytes, IsConfig, IsSound, IsSoundPair, max_life, new_world_with, None, other, party_of}
+use Rattle.tcp_replay.proofs.Words.{PartyState, refusal_of, world_with_effect, WorldState, ℕ, ◌≡◌, ◌≤◌}
 use Rattle.tcp_replay.proofs.Lemmas.{Both, both-swapped, in-world, kept-after_all, kept-run, life-after, pair-swapped, sound-after, sound-new}
 use Rattle.tcp_progress.proofs.Words.{A, B, EveryWorldIsSteady, InEveryWorld, IsSteady, IsSteadyEnd, IsSteadyPair, least_life, Side}
-use Rattle.tcp_progress.proofs.OnlySent.{KeepsSent, new-sent, sent-kept, takes-only_sent}
-use Rattle.tcp_progress.proofs.ToldWindows.{KeepsTold, new-told, tells-within, told-kept}
-use Rattle.tcp_progress.proofs.Edges.{edges-kept, KeepsEdges, new-edge}
-use Rattle.tcp_progress.proofs.Stages.{KeepsStages, new-stages, stage-says, stages-kept}
-use Rattle.tcp_progress.proofs.Live.{steady-back}
+use Rattle.tcp_progress.proofs.{OnlySent.KeepsSent, OnlySent.new-sent, OnlySent.sent-kept, OnlySent.takes-only_sent, ToldWindows.KeepsTold}
+use Rattle.tcp_progress.proofs.{ToldWindows.new-told, ToldWindows.tells-within, ToldWindows.told-kept, Edges.edges-kept, Edges.KeepsEdges, Edges.new-edge}
+use Rattle.tcp_progress.proofs.{Stages.KeepsStages, Stages.new-stages, Stages.stage-says, Stages.stages-kept, Live.steady-back}
 
 -- two parties
 pub record KeepAll (x y : PartyState) : Type 0 where

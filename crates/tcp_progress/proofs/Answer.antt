@@ -1,19 +1,16 @@
 -- What is unsent goes out: with nothing in flight nothing is sent again, and the window or the probe allows a byte.
-use Rattle.std.proofs.Common.{◌&&◌, ◌<◌, ◌==◌, ◌∙◌, ◌≡◌, ◌≤◌, ◌⊎◌, ap, arith, Bool, false, IfSome, inl, inr, List, max, nat_lt, None, Ok, Option, refl, Some}
-use Rattle.std.proofs.Common.{subst, suc, sym, true, ℕ}
-use Rattle.tcp_replay.proofs.Words.{after_arrival, after_emission, after_retransmit, arrival_answer, bytes_of, cases_Bool, cases_lt, Content, count_allowed}
-use Rattle.tcp_replay.proofs.Words.{count_unsent, decode_answer, destination_of, Dropped, Due, due_of, emitted_bytes, end_of, end_of_text, false≢true, Fin}
-use Rattle.tcp_replay.proofs.Words.{is_fin, judgement, nat_tests, new_count, new_text_of, NewText, number, phase_judgement, plain_segment, present_judgement}
-use Rattle.tcp_replay.proofs.Words.{pushes, Range, resend_of, segment_of, Sending, sends_text, start_of, State, text_limit, true≢false, Unacceptable}
-use Rattle.tcp_replay.proofs.Words.{unacceptable_judgement, with_ack_owed}
+use Rattle.tcp_replay.proofs.Words.{◌&&◌, ◌<◌, ◌==◌, after_arrival, after_emission, after_retransmit, ap, arith, arrival_answer, Bool, bytes_of, cases_Bool}
+use Rattle.tcp_replay.proofs.Words.{cases_lt, Content, count_allowed, count_unsent, decode_answer, destination_of, Dropped, Due, due_of, emitted_bytes, end_of}
+use Rattle.tcp_replay.proofs.Words.{end_of_text, false, false≢true, Fin, IfSome, inl, inr, is_fin, judgement, List, max, nat_lt, nat_tests, new_count}
+use Rattle.tcp_replay.proofs.Words.{new_text_of, NewText, None, number, Ok, Option, phase_judgement, plain_segment, present_judgement, pushes, Range, refl}
+use Rattle.tcp_replay.proofs.Words.{resend_of, segment_of, Sending, sends_text, Some, start_of, State, subst, suc, sym, text_limit, true, true≢false}
+use Rattle.tcp_replay.proofs.Words.{Unacceptable, unacceptable_judgement, with_ack_owed, ℕ, ◌∙◌, ◌≡◌, ◌≤◌, ◌⊎◌}
 use Rattle.tcp_progress.proofs.Words.{after_emissions, CoversNext, IsUnacceptable, KeepsFlight, MayAnswer, MaySend, MovesOn, SpokenToAnswers, StandsAtNext}
 use Rattle.tcp_progress.proofs.Words.{UnsentGoesOut}
-use Rattle.tcp_progress.proofs.Dues.{done-none, due-kept, none-some, some-due}
 use Rattle.tcp_progress.proofs.Again.{at-rest, covering, emission, Exhausts, exhausts, IsRested, kept, may-after_retransmit, no-syn, timeout-keeps}
 use Rattle.tcp_progress.proofs.Again.{timeout-resends}
-use Rattle.tcp_progress.proofs.Taken.{is-synchronized, IsPresent}
-use Rattle.tcp_replay.proofs.Lemmas.{plain-bits}
-use Rattle.tcp_progress.proofs.Told.{owing-due}
+use Rattle.tcp_replay.proofs.Lemmas.{done-none, due-kept, none-some, plain-bits, some-due}
+use Rattle.tcp_progress.proofs.{Taken.is-synchronized, Taken.IsPresent, Told.owing-due}
 
 -- nothing goes out again where nothing is in flight
 pub still-done : (range : Option (Range ℕ)) (una nxt : ℕ) → nxt ≤ una → IfSome range (λ range. range.end ≤ nxt)

@@ -1,12 +1,10 @@
 -- WHO HAS NOTHING TO SEND AGAIN stays so until a timer expires, and whatever is due there is at SND.NXT.
-use Rattle.std.proofs.Common.{◌&&◌, ◌∙◌, ◌≡◌, ◌≤◌, arith, Bool, false, IfSome, List, max, not, Option, refl, sym, true, ℕ}
-use Rattle.tcp_replay.proofs.Words.{acks_more, after_ack, after_acked_text, after_fin, after_its_ack, after_its_text, after_judgement, after_news}
-use Rattle.tcp_replay.proofs.Words.{after_own_fin, after_own_syn, after_peer_accepts, after_peer_opens, after_taking, after_taking_shut, cond_both, Content}
-use Rattle.tcp_replay.proofs.Words.{false≢true, is_listening, is_syn_received, Judgement, judgement, nat_tests, NotEnded, PeerAccepts, PeerOpens, PeerResets}
-use Rattle.tcp_replay.proofs.Words.{position_near, Range, Sending, State, Taken, TakenShut, window_from, with_acked, with_syn_acked, with_window}
-use Rattle.tcp_replay.proofs.WorldWords.{IsAlone}
-use Rattle.tcp_replay.proofs.Lemmas.{at-listen, judged, news-cases, own_fin-cases}
-use Rattle.tcp_replay.proofs.Judgements.{IsSyn}
+use Rattle.tcp_replay.proofs.Words.{◌&&◌, acks_more, after_ack, after_acked_text, after_fin, after_its_ack, after_its_text, after_judgement, after_news}
+use Rattle.tcp_replay.proofs.Words.{after_own_fin, after_own_syn, after_peer_accepts, after_peer_opens, after_taking, after_taking_shut, arith, Bool, cond_both}
+use Rattle.tcp_replay.proofs.Words.{Content, false, false≢true, IfSome, is_listening, is_syn_received, IsAlone, Judgement, judgement, List, max, nat_tests, not}
+use Rattle.tcp_replay.proofs.Words.{NotEnded, Option, PeerAccepts, PeerOpens, PeerResets, position_near, Range, refl, Sending, State, sym, Taken, TakenShut}
+use Rattle.tcp_replay.proofs.Words.{true, window_from, with_acked, with_syn_acked, with_window, ℕ, ◌∙◌, ◌≡◌, ◌≤◌}
+use Rattle.tcp_replay.proofs.{Lemmas.at-listen, Lemmas.judged, Lemmas.news-cases, Lemmas.own_fin-cases, Judgements.IsSyn}
 
 -- NOTHING IS TO BE SENT AGAIN, whatever is marked
 abbrev pub RangeDone : Sending → Type 0

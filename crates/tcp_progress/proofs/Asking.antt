@@ -1,14 +1,14 @@
 -- WHAT THE OTHER HAS AND DIDN'T ACKNOWLEDGE goes out again where one side is served, and is old to the other.
-use Rattle.std.proofs.Common.{◌++◌, ◌<◌, ◌∙◌, ◌≡◌, ◌≤◌, ◌⊎◌, ap, arith, false, inl, inr, length, List, refl, Some, subst, suc, sym, true, zero, ℕ}
-use Rattle.tcp_replay.proofs.Words.{after_emission, after_retransmit, AllByRecursion, Content, Due, due_of, has_peer, is_handshake, Retransmit, sends_text}
-use Rattle.tcp_replay.proofs.Words.{start_of, State, Syn, syn_segment, SynReceived}
-use Rattle.tcp_replay.proofs.WorldWords.{Emit, EventContent, next_position, other, party_after_emission, party_of, PartyState, Timer, world_after}
-use Rattle.tcp_replay.proofs.WorldWords.{world_after_all, WorldState}
+use Rattle.tcp_replay.proofs.Words.{◌++◌, ◌<◌, after_emission, after_retransmit, AllByRecursion, ap, arith, Content, Due, due_of, Emit, EventContent, false}
+use Rattle.tcp_replay.proofs.Words.{has_peer, inl, inr, is_handshake, length, List, next_position, other, party_after_emission, party_of, PartyState, refl}
+use Rattle.tcp_replay.proofs.Words.{Retransmit, sends_text, Some, start_of, State, subst, suc, sym, Syn, syn_segment, SynReceived, Timer, true, world_after}
+use Rattle.tcp_replay.proofs.Words.{world_after_all, WorldState, zero, ℕ, ◌∙◌, ◌≡◌, ◌≤◌, ◌⊎◌}
 use Rattle.tcp_progress.proofs.Words.{after_emissions, AllCome, Comes, CoversNext, Delivers, emissions, is_reset, IsCalm, IsIdle, IsLive, IsSteadyPair}
 use Rattle.tcp_progress.proofs.Words.{NoneGaveUp, served, Side}
 use Rattle.tcp_progress.proofs.Lemmas.{acked-all, again_lem, emissions-last, emit-at, emit-endpoint, emit-other, emit-party, fresh-emitted, going-live}
-use Rattle.tcp_progress.proofs.Lemmas.{in-flight, IsGoing, IsOld, IsStillFrom, KeepsReady, live-in, Lowers, none-some, over-served, side-pair, steps-event}
-use Rattle.tcp_progress.proofs.Lemmas.{still-emission, syn-due, syn-old, text-old, timer-endpoint}
+use Rattle.tcp_progress.proofs.Lemmas.{in-flight, IsGoing, IsOld, IsStillFrom, KeepsReady, live-in, Lowers, over-served, side-pair, steps-event, still-emission}
+use Rattle.tcp_progress.proofs.Lemmas.{syn-due, syn-old, text-old, timer-endpoint}
+use Rattle.tcp_replay.proofs.Lemmas.{none-some}
 use Rattle.tcp_progress.proofs.Serving.{cleared, comes-due, idle-stays, may-send-cleared, not-reset, uncleared}
 use Rattle.tcp_progress.proofs.Speaking.{old-still}
 

@@ -1,13 +1,11 @@
 -- WHAT ISN'T ACKNOWLEDGED, and nothing is on its way: who sent it sends it again, the other is spoken to by what is old to it, and answers.
-use Rattle.std.proofs.Common.{◌++◌, ◌<◌, ◌∙◌, ◌≡◌, ap, arith, inl, inr, List, refl, suc, sym, zero, ℕ}
-use Rattle.tcp_replay.proofs.Words.{AllByRecursion, Retransmit}
-use Rattle.tcp_replay.proofs.WorldWords.{Emit, EventContent, next_position, other, party_of, PartyState, Timer, world_after, world_after_all, WorldState}
+use Rattle.tcp_replay.proofs.Words.{◌++◌, ◌<◌, AllByRecursion, ap, arith, Emit, EventContent, inl, inr, List, next_position, other, party_of, PartyState, refl}
+use Rattle.tcp_replay.proofs.Words.{Retransmit, suc, sym, Timer, world_after, world_after_all, WorldState, zero, ℕ, ◌∙◌, ◌≡◌}
 use Rattle.tcp_progress.proofs.Words.{A, AllCome, B, emissions, IsCalm, IsIdle, IsUntimed, left_in, NoneGaveUp, served, Side}
 use Rattle.tcp_progress.proofs.Lemmas.{after-append, all-untimed, calm-append, calm-served, emit-other, IsGoing, IsStillFrom, KeepsOwed, Lowers, lowers-only}
 use Rattle.tcp_progress.proofs.Lemmas.{over-all, owed-same, Steps, steps-all, steps-both, steps-left, timer-other, twice}
-use Rattle.tcp_progress.proofs.Asking.{asks, IsPending, past-served}
-use Rattle.tcp_progress.proofs.Replying.{replies}
-use Rattle.tcp_progress.proofs.Speaking.{old-still, spoken-lowers, Waits, waits-later}
+use Rattle.tcp_progress.proofs.{Asking.asks, Asking.IsPending, Asking.past-served, Replying.replies, Speaking.old-still, Speaking.spoken-lowers, Speaking.Waits}
+use Rattle.tcp_progress.proofs.{Speaking.waits-later}
 
 -- ---- one sent what is taken and not acknowledged, and nothing is on its way
 pub record IsBehind (p q : PartyState) : Type 0 where

@@ -1,11 +1,10 @@
 -- A text that covers place 0 and ends within the window comes in order, whatever is held.
-use Rattle.std.proofs.Common.{if◌then◌else◌, ◌%◌, ◌++◌, ◌+ℤ◌, ◌+◌, ◌-◌, ◌<◌, ◌==◌, ◌^◌, ◌||◌, ◌∙◌, ◌∷◌, ◌≡◌, ◌≤ℤ◌, ◌≤◌, ◌⊎◌, [], ap, append-nil, arith, Bool}
-use Rattle.std.proofs.Common.{drop, false, inl, inr, length, length-append, length-drop, List, min, nat_lt, negsuc, None, not, Option, pos, refl, Some, suc}
-use Rattle.std.proofs.Common.{sym, true, zero, ℕ, ℤ}
-use Rattle.tcp_replay.proofs.Words.{advance_of, advance_of-answer_for, after_place, after_text, and_from, answer_for, bytes_in_order, cases_Bool, cases_lt}
-use Rattle.tcp_replay.proofs.Words.{Cell, distance, greatest_stamp, Inbox, ints, is_fin_due, is_refused, max_ordered, nat_tests, near_ahead, near_behind}
-use Rattle.tcp_replay.proofs.Words.{NotKept, number, offset, or_right, overlay, overlay_of, Piece, place_answer, Receiving, true≢false, window, with_fin}
-use Rattle.tcp_replay.proofs.Words.{with_overlay}
+use Rattle.tcp_replay.proofs.Words.{◌%◌, ◌++◌, ◌+ℤ◌, ◌+◌, ◌-◌, ◌<◌, ◌==◌, [], ◌^◌, advance_of, advance_of-answer_for, after_place, after_text, and_from}
+use Rattle.tcp_replay.proofs.Words.{answer_for, ap, append-nil, arith, Bool, bytes_in_order, cases_Bool, cases_lt, Cell, distance, drop, false, greatest_stamp}
+use Rattle.tcp_replay.proofs.Words.{if◌then◌else◌, Inbox, inl, inr, ints, is_fin_due, is_refused, length, length-append, length-drop, List, max_ordered, min}
+use Rattle.tcp_replay.proofs.Words.{nat_lt, nat_tests, near_ahead, near_behind, negsuc, None, not, NotKept, number, offset, Option, or_right, overlay}
+use Rattle.tcp_replay.proofs.Words.{overlay_of, Piece, place_answer, pos, Receiving, refl, Some, suc, sym, true, true≢false, window, with_fin, with_overlay}
+use Rattle.tcp_replay.proofs.Words.{zero, ◌||◌, ℕ, ℤ, ◌∙◌, ◌∷◌, ◌≡◌, ◌≤ℤ◌, ◌≤◌, ◌⊎◌}
 use Rattle.tcp_progress.proofs.Words.{BringsOn}
 
 -- what is laid over the first places is in order

@@ -1,11 +1,9 @@
 -- AFTER THE RETRANSMISSION TIMEOUT each emission goes on through what is sent again, until nothing is, whatever is marked later; or it is at SND.NXT.
-use Rattle.std.proofs.Common.{◌+◌, ◌≡◌, ◌≤◌, ◌⊎◌, ap, arith, IfSome, inl, inr, length, max, None, Option, Some, subst, sym, ℕ}
-use Rattle.tcp_replay.proofs.Words.{after_emission, after_retransmit, cases_lt, Due, due_of, end_of_text, Range, Sending, State, text_limit}
-use Rattle.tcp_progress.proofs.Words.{KeepsFlight, MaySend, StandsAtNext}
-use Rattle.tcp_progress.proofs.Answer.{nothing-resent, stands-or-none, still-done}
-use Rattle.tcp_progress.proofs.Again.{may-after_retransmit, Resends, resent, timeout-keeps, timeout-resends}
-use Rattle.tcp_progress.proofs.Answering.{RangeDone}
-use Rattle.tcp_progress.proofs.Dues.{done-none}
+use Rattle.tcp_replay.proofs.Words.{◌+◌, after_emission, after_retransmit, ap, arith, cases_lt, Due, due_of, end_of_text, IfSome, inl, inr, length, max, None}
+use Rattle.tcp_replay.proofs.Words.{Option, Range, Sending, Some, State, subst, sym, text_limit, ℕ, ◌≡◌, ◌≤◌, ◌⊎◌}
+use Rattle.tcp_replay.proofs.Lemmas.{done-none}
+use Rattle.tcp_progress.proofs.{Words.KeepsFlight, Words.MaySend, Words.StandsAtNext, Answer.nothing-resent, Answer.stands-or-none, Answer.still-done}
+use Rattle.tcp_progress.proofs.{Again.may-after_retransmit, Again.Resends, Again.resent, Again.timeout-keeps, Again.timeout-resends, Answering.RangeDone}
 
 -- what the invariant of two ends says of the numbers
 pub record IsBounded (d : Sending) : Type 0 where

@@ -1,18 +1,17 @@
 -- WHO IS SERVED IN THE HANDSHAKE has its SYN due, which goes out; and when that comes, LISTEN becomes SYN-RECEIVED, or both are open.
-use Rattle.std.proofs.Common.{◌++◌, ◌<◌, ◌∙◌, ◌∷◌, ◌≡◌, ◌≤◌, ◌⊎◌, [], ap, arith, Bool, false, inl, inr, length, List, refl, Some, subst, suc, sym, true, zero}
-use Rattle.std.proofs.Common.{ℕ}
-use Rattle.tcp_replay.proofs.Words.{AllByRecursion, Config, due_of, is_handshake, number, Retransmit, State, Syn, SynReceived}
-use Rattle.tcp_replay.proofs.WorldWords.{Deliver, Emit, EventContent, next_position, other, party_after_emission, party_after_timer, party_of, PartyState}
-use Rattle.tcp_replay.proofs.WorldWords.{Timer, world_after, world_after_all, WorldState}
+use Rattle.tcp_replay.proofs.Words.{◌++◌, ◌<◌, [], AllByRecursion, ap, arith, Bool, Config, Deliver, due_of, Emit, EventContent, false, inl, inr, is_handshake}
+use Rattle.tcp_replay.proofs.Words.{length, List, next_position, number, other, party_after_emission, party_after_timer, party_of, PartyState, refl, Retransmit}
+use Rattle.tcp_replay.proofs.Words.{Some, State, subst, suc, sym, Syn, SynReceived, Timer, true, world_after, world_after_all, WorldState, zero, ℕ, ◌∙◌, ◌∷◌}
+use Rattle.tcp_replay.proofs.Words.{◌≡◌, ◌≤◌, ◌⊎◌}
 use Rattle.tcp_progress.proofs.Words.{A, after_emissions, AllCome, AreOpen, B, Delivers, emissions, IsCalm, IsIdle, IsLive, NoneGaveUp, served, Side}
 use Rattle.tcp_progress.proofs.Lemmas.{calm-emissions, calm-served, deliver-at, deliver-to, emit-at, emit-endpoint, emit-party, Grows, IsKept, IsStill, IsSyn}
-use Rattle.tcp_progress.proofs.Lemmas.{kept-steady, none-some, side-pair, steady-back, steps-all, steps-event, still-emission, still-next, still-retransmit}
-use Rattle.tcp_progress.proofs.Lemmas.{syn-emitted, timer-at, timer-endpoint, way-later}
-use Rattle.tcp_progress.proofs.Handshake.{answering, answering-first, listen-takes, syn_sent-takes, unopened-first}
-use Rattle.tcp_progress.proofs.Asking.{past-emissions, syn-after}
-use Rattle.tcp_progress.proofs.Serving.{comes-due, idle-stays}
+use Rattle.tcp_progress.proofs.Lemmas.{kept-steady, side-pair, steady-back, steps-all, steps-event, still-emission, still-next, still-retransmit, syn-emitted}
+use Rattle.tcp_progress.proofs.Lemmas.{timer-at, timer-endpoint, way-later}
 use Rattle.tcp_progress.proofs.Shaking.{answerer, Answers, both-open, caller, GoesOn, IsShaking, opens-here, OpensOr, shake-then, shakes-all, shakes-event}
 use Rattle.tcp_progress.proofs.Shaking.{StillShakes, up-before}
+use Rattle.tcp_replay.proofs.Lemmas.{none-some}
+use Rattle.tcp_progress.proofs.{Handshake.answering, Handshake.answering-first, Handshake.listen-takes, Handshake.syn_sent-takes, Handshake.unopened-first}
+use Rattle.tcp_progress.proofs.{Asking.past-emissions, Asking.syn-after, Serving.comes-due, Serving.idle-stays}
 
 -- ---- A SYN that went out is there later
 syn-later : (p q p' q' : PartyState) (k : ℕ) (told : Bool) → Grows p p' → Grows q q' → IsSyn p q k told → IsSyn p' q' k told

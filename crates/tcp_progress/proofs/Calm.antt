@@ -1,21 +1,18 @@
 -- CALM EVENTS only bring both ends on: SND.UNA, SND.NXT and RCV.NXT don't go back, nothing more is accepted, and no end that lives comes to
 -- an end but by a reset, or in order and with nothing left.
-use Rattle.std.proofs.Common.{if◌then◌else◌, ◌++◌, ◌∙◌, ◌∷◌, ◌≡◌, ◌≤◌, ◌⊎◌, [], arith, Bool, false, inl, inr, length, List, None, refl, slice_get, Some, subst}
-use Rattle.std.proofs.Common.{suc, sym, true, zero, ℕ}
-use Rattle.tcp_replay.proofs.Words.{after_acked_text, after_its_ack, after_judgement, after_news, after_own_syn, after_peer_accepts, after_peer_opens}
-use Rattle.tcp_replay.proofs.Words.{after_taking, after_taking_shut, cases_Bool, closed_judgement, cond_both, Content, Ending, false≢true, Foreign, gives_up}
-use Rattle.tcp_replay.proofs.Words.{has, is_closed, is_foreign, is_listening, Judgement, judgement, LastAck, NotEnded, Orderly, PeerRefuses, PeerResets, Phase}
-use Rattle.tcp_replay.proofs.Words.{phase_judgement, ResetIgnored, rst, State, Stray, Taken, TakenShut, Timer as Which}
-use Rattle.tcp_replay.proofs.WorldWords.{delivery_refusal, gave_up, IsAlone, IsSoundPair, max_life, next_position, party_after_arrival, party_after_emission}
-use Rattle.tcp_replay.proofs.WorldWords.{party_after_timer, PartyState, segment_at, SentSegment, Timer}
+use Rattle.tcp_replay.proofs.Words.{◌++◌, [], after_acked_text, after_its_ack, after_judgement, after_news, after_own_syn, after_peer_accepts, after_peer_opens}
+use Rattle.tcp_replay.proofs.Words.{after_taking, after_taking_shut, arith, Bool, cases_Bool, closed_judgement, cond_both, Content, delivery_refusal, Ending}
+use Rattle.tcp_replay.proofs.Words.{false, false≢true, Foreign, gave_up, gives_up, has, if◌then◌else◌, inl, inr, is_closed, is_foreign, is_listening, IsAlone}
+use Rattle.tcp_replay.proofs.Words.{IsSoundPair, Judgement, judgement, LastAck, length, List, max_life, next_position, None, NotEnded, Orderly}
+use Rattle.tcp_replay.proofs.Words.{party_after_arrival, party_after_emission, party_after_timer, PartyState, PeerRefuses, PeerResets, Phase, phase_judgement}
+use Rattle.tcp_replay.proofs.Words.{refl, ResetIgnored, rst, segment_at, SentSegment, slice_get, Some, State, Stray, subst, suc, sym, Taken, TakenShut, Timer}
+use Rattle.tcp_replay.proofs.Words.{true, zero, ℕ, ◌∙◌, ◌∷◌, ◌≡◌, ◌≤◌, ◌⊎◌}
 use Rattle.tcp_replay.proofs.Lemmas.{after_segment, at-listen, Both, fair-judgement, judged, kept-same, not-closed-ended}
-use Rattle.tcp_replay.proofs.Judgements.{IsSyn}
-use Rattle.tcp_progress.proofs.Words.{IsCalm, Side}
-use Rattle.tcp_progress.proofs.Emitted.{delivered, IsOnItsWay}
-use Rattle.tcp_progress.proofs.OnlySent.{KeepsSent, reaches-arrive}
 use Rattle.tcp_progress.proofs.Delivered.{last-before, own_fin-ends, same-ending, same-phase, shut-as, taken-as}
-use Rattle.tcp_progress.proofs.Live.{IsStill, still-emission, still-next, still-reorder, still-retransmit, still-same}
-use Rattle.tcp_progress.proofs.Answering.{its_ack-range}
+use Rattle.tcp_conn.specs.declared.phase.Timer.{Timer as Which}
+use Rattle.tcp_progress.proofs.{Words.IsCalm, Words.Side, Emitted.delivered, Emitted.IsOnItsWay, OnlySent.KeepsSent, OnlySent.reaches-arrive, Live.IsStill}
+use Rattle.tcp_progress.proofs.{Live.still-emission, Live.still-next, Live.still-reorder, Live.still-retransmit, Live.still-same, Answering.its_ack-range}
+use Rattle.tcp_replay.proofs.Judgements.{IsSyn}
 use Rattle.tcp_conn.specs.declared.phase.Timer.TheVariants as timers
 
 -- ---- HOW AN END MAY COME TO ITS END: in order from LAST-ACK, or by a reset

@@ -1,19 +1,16 @@
 -- CALM EVENTS in a world: over them both ends are only brought on, what is left never grows, and both go on while no end is reset.
-use Rattle.std.proofs.Common.{◌+◌, ◌<◌, ◌∙◌, ◌∷◌, ◌≡◌, ◌≤◌, ◌⊎◌, [], ap, arith, false, inl, inr, length, length-append, List, None, refl, subst, sym, true, ℕ}
-use Rattle.tcp_replay.proofs.Words.{AllByRecursion, Closed, gives_up, LastAck, NotEnded, Orderly, Phase, State}
-use Rattle.tcp_replay.proofs.WorldWords.{Acknowledge, Damage, Deliver, effect_of, Emit, EventContent, FitsPhase, gave_up, HasBytes, IsSoundPair, max_life}
-use Rattle.tcp_replay.proofs.WorldWords.{next_position, other, party_after_acknowledge, party_after_receive, party_of, PartyState, Receive, refusal_of, Send}
-use Rattle.tcp_replay.proofs.WorldWords.{Sends, side_of, Timer, world_after, world_after_all, world_with_effect, WorldState}
+use Rattle.tcp_replay.proofs.Words.{◌+◌, ◌<◌, [], Acknowledge, AllByRecursion, ap, arith, Closed, Damage, Deliver, effect_of, Emit, EventContent, false}
+use Rattle.tcp_replay.proofs.Words.{FitsPhase, gave_up, gives_up, HasBytes, inl, inr, IsSoundPair, LastAck, length, length-append, List, max_life}
+use Rattle.tcp_replay.proofs.Words.{next_position, None, NotEnded, Orderly, other, party_after_acknowledge, party_after_receive, party_of, PartyState, Phase}
+use Rattle.tcp_replay.proofs.Words.{Receive, refl, refusal_of, Send, Sends, side_of, State, subst, sym, Timer, true, world_after, world_after_all}
+use Rattle.tcp_replay.proofs.Words.{world_with_effect, WorldState, ℕ, ◌∙◌, ◌∷◌, ◌≡◌, ◌≤◌, ◌⊎◌}
 use Rattle.tcp_replay.proofs.Lemmas.{Both, both-swapped, finds-damage, gives_up-not_ended, one_if, one_if-most, pair-swapped}
 use Rattle.tcp_progress.proofs.Words.{A, B, HasStreamsOf, IsCalm, IsLive, IsSteadyPair, left_in, left_of_both, NeverGrows, NoneGaveUp, Says, SaysByPhase, Side}
 use Rattle.tcp_progress.proofs.Words.{WhatIsLeftNeverGrows}
-use Rattle.tcp_progress.proofs.OnlySent.{KeepsSent}
-use Rattle.tcp_progress.proofs.Delivered.{nothing-left}
-use Rattle.tcp_progress.proofs.Live.{acked-all, GoOn, steady-back, still-acknowledging, still-reading, swapped}
 use Rattle.tcp_progress.proofs.AlwaysSteady.{in-every-world, IsKept, kept-after, kept-steady, side-pair, side-sent}
 use Rattle.tcp_progress.proofs.Calm.{ends-plainly, Grows, grows-then, IsMoved, moves-arrival, moves-emission, moves-same, moves-still, moves-timer, not-both}
-use Rattle.tcp_progress.proofs.Sides.{after-either, at-event}
-use Rattle.tcp_progress.proofs.Table.{own_fin-acked}
+use Rattle.tcp_progress.proofs.{OnlySent.KeepsSent, Delivered.nothing-left, Live.acked-all, Live.GoOn, Live.steady-back, Live.still-acknowledging}
+use Rattle.tcp_progress.proofs.{Live.still-reading, Live.swapped, Sides.after-either, Sides.at-event, Table.own_fin-acked}
 
 -- ---- ONE OF TWO PARTIES MOVES
 abbrev pub OneMoves : PartyState → PartyState → PartyState → PartyState → Type 0

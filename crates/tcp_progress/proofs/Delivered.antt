@@ -1,22 +1,21 @@
 -- WHAT A FRESH SEGMENT DOES when it is delivered (RFC 9293, 3.10.7.4): it hasn't expired, it is the peer's, all that it acknowledges
 -- is SND.UNA, and the connection goes on, or has ended in order with nothing left.
-use Rattle.std.proofs.Common.{◌+◌, ◌-ℤ◌, ◌<ℤ◌, ◌<◌, ◌==◌, ◌^◌, ◌||◌, ◌∙◌, ◌≡◌, ◌≤◌, ◌⊎◌, [], ap, arith, Bool, false, inl, inr, length, None, Ok, pos, refl}
-use Rattle.std.proofs.Common.{subst, sym, true, ℕ, ℤ}
-use Rattle.tcp_replay.proofs.Words.{after_acked_text, after_arrival, after_fin, after_its_ack, after_its_text, after_judgement, after_news, after_own_fin}
-use Rattle.tcp_replay.proofs.Words.{after_own_syn, after_taking, after_taking_shut, cases_Bool, cases_lt, Content, count_numbers, decode_answer, distance, fin}
-use Rattle.tcp_replay.proofs.Words.{first_inside, gives_up, has, ints, is_acceptable, is_acceptable_segment, is_fin_acked, is_foreign, is_inside, is_last_ack}
-use Rattle.tcp_replay.proofs.Words.{Judgement, judgement, LastAck, lt-ltb, max_ordered, nat_tests, near, NotEnded, number, offset, or_left, Orderly, Phase}
-use Rattle.tcp_replay.proofs.Words.{phase_after_own_syn, position_near, position_of_number, Receiving, State, Taken, takes_text, window}
-use Rattle.tcp_replay.proofs.WorldWords.{delivery_refusal, is_expired, max_life, next_position, party_after_arrival, PartyState, segment_at, Sends, SentSegment}
+use Rattle.tcp_replay.proofs.Words.{◌+◌, ◌-ℤ◌, ◌<ℤ◌, ◌<◌, ◌==◌, [], ◌^◌, after_acked_text, after_arrival, after_fin, after_its_ack, after_its_text}
+use Rattle.tcp_replay.proofs.Words.{after_judgement, after_news, after_own_fin, after_own_syn, after_taking, after_taking_shut, ap, arith, Bool, cases_Bool}
+use Rattle.tcp_replay.proofs.Words.{cases_lt, Content, count_numbers, decode_answer, delivery_refusal, distance, false, fin, first_inside, gives_up, has, inl}
+use Rattle.tcp_replay.proofs.Words.{inr, ints, is_acceptable, is_acceptable_segment, is_expired, is_fin_acked, is_foreign, is_inside, is_last_ack, Judgement}
+use Rattle.tcp_replay.proofs.Words.{judgement, LastAck, length, lt-ltb, max_life, max_ordered, nat_tests, near, next_position, None, NotEnded, number, offset}
+use Rattle.tcp_replay.proofs.Words.{Ok, or_left, Orderly, party_after_arrival, PartyState, Phase, phase_after_own_syn, pos, position_near, position_of_number}
+use Rattle.tcp_replay.proofs.Words.{Receiving, refl, segment_at, Sends, SentSegment, State, subst, sym, Taken, takes_text, true, window, ◌||◌, ℕ, ℤ, ◌∙◌, ◌≡◌}
+use Rattle.tcp_replay.proofs.Words.{◌≤◌, ◌⊎◌}
 use Rattle.tcp_replay.proofs.Lemmas.{acked_text-to, end-syn_received, Fair, fair-judgement, gives_up-not_ended, IsAck, IsPresent as IsHere, Kept}
 use Rattle.tcp_replay.proofs.Lemmas.{kept-acked_text, kept-news, kept-own_syn, kept-same, next_of, one_if, one_if-most, own_fin-cases, own_syn-near}
 use Rattle.tcp_replay.proofs.Lemmas.{own_syn-nxt, pair-swapped, same-news}
 use Rattle.tcp_progress.proofs.Words.{all_of, begins_at, BringsOn, ends_at, IsLive, IsNext, IsPlainAck, IsSteadyPair, least_life, left_of_both, SaysByPhase}
-use Rattle.tcp_progress.proofs.Taken.{IsPresent, IsReady, judged-acceptable, judged-next, own_fin-keeps, ready-takes}
-use Rattle.tcp_progress.proofs.Emitted.{arrives, goes, is-there, IsFresh, of_peer, sent-arrives, unexpired}
-use Rattle.tcp_progress.proofs.Live.{live-present, steady-back}
 use Rattle.tcp_numbers.proofs.Positions.{offset_of_earlier, offset_of_later}
-use Rattle.tcp_progress.proofs.Table.{own_fin-acked}
+use Rattle.tcp_progress.proofs.{Taken.IsPresent, Taken.IsReady, Taken.judged-acceptable, Taken.judged-next, Taken.own_fin-keeps, Taken.ready-takes}
+use Rattle.tcp_progress.proofs.{Emitted.arrives, Emitted.goes, Emitted.is-there, Emitted.IsFresh, Emitted.of_peer, Emitted.sent-arrives, Emitted.unexpired}
+use Rattle.tcp_progress.proofs.{Live.live-present, Live.steady-back, Table.own_fin-acked}
 
 -- OPEN: it lives, and its user has read all
 pub record IsOpenTo (q : PartyState) : Type 0 where

@@ -1,13 +1,10 @@
 -- EACH BURST ENDS: with no arrival between, an end has something due only so often.
-use Rattle.std.proofs.Common.{◌&&◌, ◌+◌, ◌-◌, ◌<◌, ◌∙◌, ◌≡◌, ◌≤◌, ap, arith, Bool, IfSome, is_some, length, max, None, not, Option, refl, Some, subst, suc}
-use Rattle.std.proofs.Common.{true, zero, ℕ}
-use Rattle.tcp_replay.proofs.Words.{Acknowledgement, Due, due_of, Fin, NewText, Range, range_after, Resend, ResentFin, Reset, Sending, State, state_after, Syn}
-use Rattle.tcp_replay.proofs.Words.{text_limit}
-use Rattle.tcp_replay.proofs.WorldWords.{Emit, other, party_of, world_after, world_after_all, WorldState}
-use Rattle.tcp_replay.proofs.Lemmas.{one_if}
+use Rattle.tcp_replay.proofs.Words.{◌&&◌, ◌+◌, ◌-◌, ◌<◌, Acknowledgement, ap, arith, Bool, Due, due_of, Emit, Fin, IfSome, is_some, length, max, NewText, None}
+use Rattle.tcp_replay.proofs.Words.{not, Option, other, party_of, Range, range_after, refl, Resend, ResentFin, Reset, Sending, Some, State, state_after, subst}
+use Rattle.tcp_replay.proofs.Words.{suc, Syn, text_limit, true, world_after, world_after_all, WorldState, zero, ℕ, ◌∙◌, ◌≡◌, ◌≤◌}
+use Rattle.tcp_progress.proofs.Lemmas.{emission, emit-endpoint, emit-party, has-room, in-every-world, IsKept, side-pair, steps-event, still-emission}
+use Rattle.tcp_replay.proofs.Lemmas.{again-kept, due-kept, IsAgain, one_if}
 use Rattle.tcp_progress.proofs.Words.{all_of, BurstEnds, EachBurstEnds, Side}
-use Rattle.tcp_progress.proofs.Lemmas.{again-kept, due-kept, emission, emit-endpoint, emit-party, has-room, in-every-world, IsAgain, IsKept, side-pair}
-use Rattle.tcp_progress.proofs.Lemmas.{steps-event, still-emission}
 
 -- ---- WHAT IS DUE ADVANCES: of what is sent again, or SND.NXT; or something is pending no more
 abbrev Settles : State → Due → Type 0

@@ -1,20 +1,18 @@
 -- NO END SENDS PAST WHAT THE OTHER HAS ROOM FOR, on the definitions: every event keeps it, where the windows that the ends advertise fit their room.
-use Rattle.std.proofs.Common.{◌&&◌, ◌++◌, ◌+◌, ◌-◌, ◌<◌, ◌==◌, ◌||◌, ◌≡◌, ◌≤◌, arith, Bool, false, IfSome, inl, inr, length, length-append, List, max, min}
-use Rattle.std.proofs.Common.{nat_le, nat_lt, None, Option, Some, subst, take, true, ℕ, ⊎_elim}
-use Rattle.tcp_replay.proofs.Words.{Aborted, acks_more, after_ack, after_acked_text, after_gaps, after_giving_up, after_mark, after_news, after_own_syn}
-use Rattle.tcp_replay.proofs.Words.{after_peer_accepts, after_peer_opens, after_release, and_parts, can_mark, cond_both, Config, Content, count_allowed}
-use Rattle.tcp_replay.proofs.Words.{count_below, count_sendable, count_unsent, Due, end_of_marks, end_of_marks-marked, end_of_text, eqb-true, gives_up}
-use Rattle.tcp_replay.proofs.Words.{is_of_flight, is_probe_needed, is_syn_received, IsMarked, IsMarked-after_offer, IsMarked-after_release}
-use Rattle.tcp_replay.proofs.Words.{IsMarked-without_marks, last_mark_end, leb-true, ltb-true, marks_text, marks_with, marks_with-only, nat_tests, needs_probe}
-use Rattle.tcp_replay.proofs.Words.{new_count, NewText, or_cases, Owed, owed_after, place_of, position_at, position_near, Range, range_after, send_refusal}
-use Rattle.tcp_replay.proofs.Words.{Sending, sending_after, sends_text, slice_get_within, State, text_limit, window_from, with_acked, with_marks}
-use Rattle.tcp_replay.proofs.Words.{with_syn_acked, with_syn_sent, with_text, with_window, without_resend, without_text}
-use Rattle.tcp_replay.proofs.WorldWords.{address_of, IsAlone, IsSoundPair, new_party, next_position, PartyState, Sends, SentSegment}
-use Rattle.tcp_replay.proofs.Lemmas.{after_segment, Arrives, Both, both-swapped, end-closed, end-is, end-listen, going-on, IsAckOnly, IsPresent, kept-same}
-use Rattle.tcp_replay.proofs.Lemmas.{KeptByCalls, marked-sends, news-cases, on-arrival, one_if-false, PairKept, present-opened, range-more, range_after-ends}
-use Rattle.tcp_replay.proofs.Lemmas.{send-unclosed, windowed-sends}
+use Rattle.tcp_replay.proofs.Words.{◌&&◌, ◌++◌, ◌+◌, ◌-◌, ◌<◌, ◌==◌, Aborted, acks_more, address_of, after_ack, after_acked_text, after_gaps, after_giving_up}
+use Rattle.tcp_replay.proofs.Words.{after_mark, after_news, after_own_syn, after_peer_accepts, after_peer_opens, after_release, and_parts, arith, Bool}
+use Rattle.tcp_replay.proofs.Words.{can_mark, cond_both, Config, Content, count_allowed, count_below, count_sendable, count_unsent, Due, end_of_marks}
+use Rattle.tcp_replay.proofs.Words.{end_of_marks-marked, end_of_text, eqb-true, false, gives_up, IfSome, inl, inr, is_of_flight, is_probe_needed}
+use Rattle.tcp_replay.proofs.Words.{is_syn_received, IsAlone, IsMarked, IsMarked-after_offer, IsMarked-after_release, IsMarked-without_marks, IsSoundPair}
+use Rattle.tcp_replay.proofs.Words.{last_mark_end, leb-true, length, length-append, List, ltb-true, marks_text, marks_with, marks_with-only, max, min, nat_le}
+use Rattle.tcp_replay.proofs.Words.{nat_lt, nat_tests, needs_probe, new_count, new_party, NewText, next_position, None, Option, or_cases, Owed, owed_after}
+use Rattle.tcp_replay.proofs.Words.{PartyState, place_of, position_at, position_near, Range, range_after, send_refusal, Sending, sending_after, Sends}
+use Rattle.tcp_replay.proofs.Words.{sends_text, SentSegment, slice_get_within, Some, State, subst, take, text_limit, true, window_from, with_acked, with_marks}
+use Rattle.tcp_replay.proofs.Words.{with_syn_acked, with_syn_sent, with_text, with_window, without_resend, without_text, ◌||◌, ℕ, ◌≡◌, ◌≤◌, ⊎_elim}
+use Rattle.tcp_replay.proofs.Lemmas.{ack_alone-kept, after_segment, again-kept, Arrives, Both, both-swapped, due-kept, end-closed, end-is, end-listen, going-on}
+use Rattle.tcp_replay.proofs.Lemmas.{IsAckOnly, IsPresent, kept-same, KeptByCalls, KeptByDue, marked-sends, news-cases, on-arrival, one_if-false, PairKept}
+use Rattle.tcp_replay.proofs.Lemmas.{present-opened, range-more, range_after-ends, send-unclosed, windowed-sends}
 use Rattle.tcp_progress.proofs.Words.{TellsWithin}
-use Rattle.tcp_progress.proofs.Dues.{ack_alone-kept, again-kept, due-kept, KeptByDue}
 
 -- what x keeps of the direction to y, of whose stream it has `count` bytes from its user, when y wants `next` and has room for `capacity`
 pub record KeepsEdge (d : Sending) (probe : Bool) (count next capacity : ℕ) : Type 0 where

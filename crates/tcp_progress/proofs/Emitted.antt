@@ -1,19 +1,16 @@
 -- WHAT IS ASKED OF A SEGMENT on the way from p to q, before any rule: it is the peer's, and it hasn't expired.
-use Rattle.std.proofs.Common.{if◌then◌else◌, ◌&&◌, ◌++◌, ◌+◌, ◌-◌, ◌<◌, ◌==◌, ◌||◌, ◌∙◌, ◌≡◌, ◌≤◌, ◌⊎◌, [], ap, arith, Bool, bytes_eq, drop, false, IfSome, inl}
-use Rattle.std.proofs.Common.{inr, length, length-drop, length-take, min, None, not, Ok, Option, option_map, option_to_list, refl, slice_get, Some, subst, sym}
-use Rattle.std.proofs.Common.{true, unwrap_or, ℕ}
-use Rattle.tcp_replay.proofs.Words.{ack, after_arrival, after_due, after_emission, after_retransmit, bytes_eq-Decides, bytes_of, cases_lt, Content}
-use Rattle.tcp_replay.proofs.Words.{count_numbers, count_of, decode_answer, Due, due_of, emitted_bytes, false≢true, fin, has, has_peer, is_fin, is_for_other}
-use Rattle.tcp_replay.proofs.Words.{is_foreign, is_from_other, is_handshake, nat_tests, number, or-true, plain_segment, position_of, position_of_number, pushes}
-use Rattle.tcp_replay.proofs.Words.{Reset, rst, segment_of, slice_get_within, start_of, State, Syn, syn, syn_segment}
-use Rattle.tcp_replay.proofs.WorldWords.{delivery_refusal, flags_in, is_expired, is_missing, IsSoundPair, max_life, next_position, party_after_arrival}
-use Rattle.tcp_replay.proofs.WorldWords.{party_after_emission, PartyState, segment_at, sent_at, sent_by, SentSegment}
+use Rattle.tcp_replay.proofs.Words.{◌&&◌, ◌++◌, ◌+◌, ◌-◌, ◌<◌, ◌==◌, [], ack, after_arrival, after_due, after_emission, after_retransmit, ap, arith, Bool}
+use Rattle.tcp_replay.proofs.Words.{bytes_eq, bytes_eq-Decides, bytes_of, cases_lt, Content, count_numbers, count_of, decode_answer, delivery_refusal, drop}
+use Rattle.tcp_replay.proofs.Words.{Due, due_of, emitted_bytes, false, false≢true, fin, flags_in, has, has_peer, IfSome, if◌then◌else◌, inl, inr, is_expired}
+use Rattle.tcp_replay.proofs.Words.{is_fin, is_for_other, is_foreign, is_from_other, is_handshake, is_missing, IsSoundPair, length, length-drop, length-take}
+use Rattle.tcp_replay.proofs.Words.{max_life, min, nat_tests, next_position, None, not, number, Ok, Option, option_map, option_to_list, or-true}
+use Rattle.tcp_replay.proofs.Words.{party_after_arrival, party_after_emission, PartyState, plain_segment, position_of, position_of_number, pushes, refl, Reset}
+use Rattle.tcp_replay.proofs.Words.{rst, segment_at, segment_of, sent_at, sent_by, SentSegment, slice_get, slice_get_within, Some, start_of, State, subst, sym}
+use Rattle.tcp_replay.proofs.Words.{Syn, syn, syn_segment, true, unwrap_or, ◌||◌, ℕ, ◌∙◌, ◌≡◌, ◌≤◌, ◌⊎◌}
 use Rattle.tcp_replay.proofs.Lemmas.{after_segment, arrival-ok, Arrives, Comes, comes, delivered-there, due-alone, due-decodes, due-goes, due-position, GoesOut}
 use Rattle.tcp_replay.proofs.Lemmas.{GoesOutAlone, handshake-knows, handshake-una, IsSaid, one_if, one_if-most, own-decodes, pair-swapped, plain-bits}
 use Rattle.tcp_replay.proofs.Lemmas.{reset-bit, same-content, segment-sent, syn-bits, wanted-is}
-use Rattle.tcp_progress.proofs.Words.{IsSteadyPair}
-use Rattle.tcp_progress.proofs.Live.{last-of}
-use Rattle.tcp_progress.proofs.OnlySent.{due-ends, DueEnds}
+use Rattle.tcp_progress.proofs.{Words.IsSteadyPair, Live.last-of, OnlySent.due-ends, OnlySent.DueEnds}
 
 -- it is the peer's, also where none is known yet
 known-mine : (knows far from_far : Bool) → far ≡ false → (knows ≡ true → from_far ≡ false) → (far || (knows && from_far)) ≡ false

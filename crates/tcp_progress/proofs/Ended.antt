@@ -1,15 +1,12 @@
 -- THE END: where nothing is left, the users read all, TIME-WAIT expires, and the ends end in order.
-use Rattle.std.proofs.Common.{◌++◌, ◌+◌, ◌-◌, ◌∙◌, ◌≡◌, ◌≤◌, ◌⊎◌, [], ap, append-nil, arith, Bool, false, inl, inr, length, min, None, refl, subst, sym, true}
-use Rattle.std.proofs.Common.{ℕ}
-use Rattle.tcp_replay.proofs.Words.{after_orderly_end, after_read, after_receive, after_time_wait, and-false, cond_both, Ending, gives_up, is_closed}
-use Rattle.tcp_replay.proofs.Words.{is_fin_acked, is_time_wait, NotEnded, or-true, Orderly, Phase, receive_refusal, State, take_all}
-use Rattle.tcp_replay.proofs.WorldWords.{both, count_released, effect_of, FitsPhase, next_position, party_after_receive, party_after_timer, PartyState, Sends}
-use Rattle.tcp_replay.proofs.WorldWords.{unread_of, world_after_all, WorldState}
-use Rattle.tcp_replay.proofs.Lemmas.{Both, both-swapped, kept-after_all, one_if, one_if-most}
+use Rattle.tcp_replay.proofs.Words.{◌++◌, ◌+◌, ◌-◌, [], after_orderly_end, after_read, after_receive, after_time_wait, and-false, ap, append-nil, arith, Bool}
+use Rattle.tcp_replay.proofs.Words.{both, cond_both, effect_of, Ending, false, FitsPhase, gives_up, inl, inr, is_closed, is_fin_acked, is_time_wait, length}
+use Rattle.tcp_replay.proofs.Words.{next_position, None, NotEnded, or-true, Orderly, party_after_receive, party_after_timer, PartyState, Phase, receive_refusal}
+use Rattle.tcp_replay.proofs.Words.{refl, Sends, State, subst, sym, take_all, true, unread_of, world_after_all, WorldState, ℕ, ◌∙◌, ◌≡◌, ◌≤◌, ◌⊎◌}
 use Rattle.tcp_progress.proofs.Words.{all_of, HasStreamsOf, IsSettled, IsSteadyPair, IsThrough, left_of_both, SaysByPhase, time_waits}
-use Rattle.tcp_progress.proofs.Live.{GoOn, IsUp, live-present, steady-back}
-use Rattle.tcp_progress.proofs.AlwaysSteady.{IsKept, kept-after, kept-steady}
-use Rattle.tcp_progress.proofs.Table.{own_fin-is_acked}
+use Rattle.tcp_replay.proofs.Lemmas.{Both, both-swapped, kept-after_all, one_if, one_if-most}
+use Rattle.tcp_progress.proofs.{Live.GoOn, Live.IsUp, Live.live-present, Live.steady-back, AlwaysSteady.IsKept, AlwaysSteady.kept-after}
+use Rattle.tcp_progress.proofs.{AlwaysSteady.kept-steady, Table.own_fin-is_acked}
 use Rattle.tcp_conn.specs.declared.phase.Timer.TheVariants as timers
 
 -- ---- NOTHING IS LEFT between two ends that are up: each has taken all of the other, and all of it is acknowledged

@@ -1,10 +1,11 @@
 -- An end that holds sixteen runs: another early piece is refused, and the segment that is next is taken. It may send, and answers
 -- an old SYN.
-use Rattle.std.proofs.Common.{◌++◌, ◌∷◌, ◌≡◌, [], arith, false, inl, length, List, None, Option, pos, refl, Some, suc, true, zero, ℕ}
-use Rattle.tcp_replay.proofs.Words.{Advanced, after_connect, after_listen, AlwaysHolds, Cell, Config, Content, default_limit, Established, Inbox, ints}
-use Rattle.tcp_replay.proofs.Words.{is_acceptable, is_foreign, new_end, new_sending, NotKept, offset, place_answer, position_of, runs, State}
-use Rattle.tcp_replay.proofs.WorldWords.{Connect, effect_of, Listen, new_world_with, party_after_connect, party_after_listen, run_of}
+use Rattle.tcp_replay.proofs.Words.{◌++◌, [], Advanced, after_connect, after_listen, AlwaysHolds, arith, Cell, Config, Connect, Content, default_limit}
+use Rattle.tcp_replay.proofs.Words.{effect_of, Established, false, Inbox, inl, ints, is_acceptable, is_foreign, length, List, new_end, new_sending}
+use Rattle.tcp_replay.proofs.Words.{new_world_with, None, NotKept, offset, Option, party_after_connect, party_after_listen, place_answer, pos, position_of}
+use Rattle.tcp_replay.proofs.Words.{refl, run_of, runs, Some, State, suc, true, zero, ℕ, ◌∷◌, ◌≡◌}
 use Rattle.tcp_progress.proofs.Words.{A, AreOpening, B, IsInFlight, IsNext, IsUnacceptable, IsUnsent, MayAnswer, MaySend}
+use Rattle.tcp_replay.specs.Events.{Listen}
 
 -- n held bytes, each behind a missing one
 every_other : ℕ → List (Option Cell)

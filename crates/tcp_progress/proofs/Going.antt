@@ -1,15 +1,12 @@
 -- A WORLD THAT GOES ON, over calm events: either less is left in the end, or both are where they were, and what holds so is carried on.
-use Rattle.std.proofs.Common.{◌++◌, ◌+◌, ◌-◌, ◌<◌, ◌≡◌, ◌≤◌, ◌⊎◌, [], ap, arith, Bool, inl, inr, length, List, refl, suc, true, zero, ℕ}
-use Rattle.tcp_replay.proofs.Words.{AllByRecursion, cases_lt, Retransmit}
-use Rattle.tcp_replay.proofs.WorldWords.{Emit, EventContent, next_position, other, party_of, PartyState, Timer, unread_of, world_after, world_after_all}
-use Rattle.tcp_replay.proofs.WorldWords.{WorldState}
-use Rattle.tcp_replay.proofs.Lemmas.{one_if}
+use Rattle.tcp_replay.proofs.Words.{◌++◌, ◌+◌, ◌-◌, ◌<◌, [], AllByRecursion, ap, arith, Bool, cases_lt, Emit, EventContent, inl, inr, length, List}
+use Rattle.tcp_replay.proofs.Words.{next_position, other, party_of, PartyState, refl, Retransmit, suc, Timer, true, unread_of, world_after, world_after_all}
+use Rattle.tcp_replay.proofs.Words.{WorldState, zero, ℕ, ◌≡◌, ◌≤◌, ◌⊎◌}
 use Rattle.tcp_progress.proofs.Words.{A, all_of, AllCome, B, Comes, emissions, IsCalm, IsLive, IsSteadyPair, left_in, left_of_both, NoneGaveUp, served, Side}
-use Rattle.tcp_progress.proofs.AlwaysSteady.{IsKept, side-pair}
-use Rattle.tcp_progress.proofs.Calm.{Grows}
 use Rattle.tcp_progress.proofs.CalmWorlds.{on-all, on-event, Steps, steps-all, steps-event, steps-left, steps-then}
-use Rattle.tcp_progress.proofs.Live.{GoOn, IsUp, steady-back, swapped}
-use Rattle.tcp_progress.proofs.Turning.{calm-emissions, empty-length, in-order}
+use Rattle.tcp_replay.proofs.Lemmas.{one_if}
+use Rattle.tcp_progress.proofs.{AlwaysSteady.IsKept, AlwaysSteady.side-pair, Calm.Grows, Live.GoOn, Live.IsUp, Live.steady-back, Live.swapped}
+use Rattle.tcp_progress.proofs.{Turning.calm-emissions, Turning.empty-length, Turning.in-order}
 
 -- ---- NOTHING IS BROUGHT ON: then both are where they were
 pub record AreThere (n u m v n' u' m' v' : ℕ) : Type 0 where

@@ -1,21 +1,18 @@
 -- WHERE NO RESET COMES no end is reset or aborted: reads, the retransmission timeout and emissions end nothing, nor does a segment that is no reset.
-use Rattle.std.proofs.Common.{if◌then◌else◌, ◌++◌, ◌∙◌, ◌∷◌, ◌≡◌, [], ap, Bool, false, inl, inr, length, List, None, Option, refl, Some, subst, suc, sym, true}
-use Rattle.std.proofs.Common.{zero, ℕ}
-use Rattle.tcp_replay.proofs.Words.{acceptable_judgement, ack_judgement, after_judgement, AllByRecursion, bytes_of, cases_Bool, closed_judgement, Content, Due}
-use Rattle.tcp_replay.proofs.Words.{due_of, false≢true, gives_up, has, is_closed, is_fin, Judgement, judgement, listen_judgement, phase_judgement}
-use Rattle.tcp_replay.proofs.Words.{present_judgement, pushes, Retransmit, rst, segment_of, State, syn_sent_judgement, unacceptable_judgement}
-use Rattle.tcp_replay.proofs.WorldWords.{Deliver, effect_of, Emit, EventContent, gave_up, IsAlone, IsSoundPair, other, party_after_arrival}
-use Rattle.tcp_replay.proofs.WorldWords.{party_after_emission, party_of, PartyState, Receive, segment_at, sent_by, SentSegment, side_of, Timer, world_after}
-use Rattle.tcp_replay.proofs.WorldWords.{world_after_all, WorldState}
-use Rattle.tcp_replay.proofs.Lemmas.{not-closed-ended, plain-bits}
+use Rattle.tcp_replay.proofs.Words.{◌++◌, [], acceptable_judgement, ack_judgement, after_judgement, AllByRecursion, ap, Bool, bytes_of, cases_Bool}
+use Rattle.tcp_replay.proofs.Words.{closed_judgement, Content, Deliver, Due, due_of, effect_of, Emit, EventContent, false, false≢true, gave_up, gives_up, has}
+use Rattle.tcp_replay.proofs.Words.{if◌then◌else◌, inl, inr, is_closed, is_fin, IsAlone, IsSoundPair, Judgement, judgement, length, List, listen_judgement}
+use Rattle.tcp_replay.proofs.Words.{None, Option, other, party_after_emission, party_of, PartyState, phase_judgement, present_judgement, pushes, Receive, refl}
+use Rattle.tcp_replay.proofs.Words.{Retransmit, rst, segment_of, sent_by, SentSegment, side_of, Some, State, subst, suc, sym, syn_sent_judgement, Timer, true}
+use Rattle.tcp_replay.proofs.Words.{unacceptable_judgement, world_after, world_after_all, WorldState, zero, ℕ, ◌∙◌, ◌∷◌, ◌≡◌}
 use Rattle.tcp_progress.proofs.Words.{A, AllCome, B, both_served, CanHaveTurns, Comes, emissions, is_reset, IsCalm, IsIdle, IsQuiet, IsTurn, IsUntimed}
 use Rattle.tcp_progress.proofs.Words.{NoneGaveUp, reads, served, Side, TurnsCanBeHad}
 use Rattle.tcp_progress.proofs.Lemmas.{after-append, all-append, all-emissions, all-more, all-untimed, among-left, among-right, AreAmong, arrives, at-event}
 use Rattle.tcp_progress.proofs.Lemmas.{closed-ending, come-both, due-way, emit-at, emitted-as, goes-due, Grows, how-ends, in-every-world, IsKept, IsOnItsWay}
 use Rattle.tcp_progress.proofs.Lemmas.{no-reset, Resets, side-pair, Steps, steps-all, steps-event, steps-then, still-emission, still-reading, still-retransmit}
 use Rattle.tcp_progress.proofs.Lemmas.{way-later}
-use Rattle.tcp_progress.proofs.Behind.{emissions-other}
-use Rattle.tcp_progress.proofs.Draining.{burst-ends}
+use Rattle.tcp_replay.proofs.Lemmas.{not-closed-ended, plain-bits}
+use Rattle.tcp_progress.proofs.{Behind.emissions-other, Draining.burst-ends}
 use Rattle.tcp_halves.specs.declared.due.Due.TheVariants as dues
 use Rattle.tcp_conn.specs.declared.phase.Timer.TheVariants as timers
 

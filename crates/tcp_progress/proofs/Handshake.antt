@@ -1,10 +1,10 @@
 -- THE HANDSHAKE GOES THROUGH (RFC 9293, 3.5): the SYN of who is in SYN-SENT is taken in LISTEN, and the SYN of who is in SYN-RECEIVED, with its
 -- acknowledgement, in SYN-SENT.
-use Rattle.std.proofs.Common.{◌∙◌, ◌≡◌, ◌≤◌, ap, arith, Bool, false, List, None, refl, subst, sym, true, ℕ}
-use Rattle.tcp_replay.proofs.Words.{ack, acks_syn, after_judgement, after_peer_accepts, after_peer_opens, Content, eq-eqb, has, is_foreign, is_handshake}
-use Rattle.tcp_replay.proofs.Words.{Judgement, judgement, Listen, listen_judgement, NotEnded, PeerAccepts, PeerOpens, phase_judgement, position_near}
-use Rattle.tcp_replay.proofs.Words.{position_of_number, rst, State, syn, syn_sent_judgement, SynReceived, SynSent}
-use Rattle.tcp_replay.proofs.WorldWords.{delivery_refusal, IsAnswering, IsOpening, IsUnused, next_position, party_after_arrival, PartyState, segment_at}
+use Rattle.tcp_replay.proofs.Words.{ack, acks_syn, after_judgement, after_peer_accepts, after_peer_opens, ap, arith, Bool, Content, delivery_refusal, eq-eqb}
+use Rattle.tcp_replay.proofs.Words.{false, has, is_foreign, is_handshake, IsAnswering, IsOpening, IsUnused, Judgement, judgement, List, Listen}
+use Rattle.tcp_replay.proofs.Words.{listen_judgement, next_position, None, NotEnded, party_after_arrival, PartyState, PeerAccepts, PeerOpens, phase_judgement}
+use Rattle.tcp_replay.proofs.Words.{position_near, position_of_number, refl, rst, segment_at, State, subst, sym, syn, syn_sent_judgement, SynReceived, SynSent}
+use Rattle.tcp_replay.proofs.Words.{true, ℕ, ◌∙◌, ◌≡◌, ◌≤◌}
 use Rattle.tcp_replay.proofs.Lemmas.{handshake-una, one_if}
 use Rattle.tcp_progress.proofs.Words.{IsLive, IsSteadyPair, least_life}
 use Rattle.tcp_progress.proofs.Lemmas.{arrives, goes, IsSyn, of_peer, steady-back, unexpired}

@@ -1,7 +1,6 @@
 -- The lemmas on an end, on two and on worlds that the files above cite, passed on from one place. Declares nothing.
 pub use Rattle.tcp_progress.proofs.Again.{again_lem, emission, no-handshake, sends-synchronized}
 pub use Rattle.tcp_progress.proofs.Answer.{new_lem, stands-or-none, still-done}
-pub use Rattle.tcp_progress.proofs.Dues.{again-kept, done-none, due-kept, IsAgain, none-some, or-none}
 pub use Rattle.tcp_progress.proofs.Told.{owing-due}
 pub use Rattle.tcp_progress.proofs.Table.{own_fin-acked}
 pub use Rattle.tcp_progress.proofs.Live.{acked-all, both-live, fin-last, flight-sends, GoOn, has-room, in-flight, IsStill, live-in, live-sends, no-syn-owed}

@@ -3,7 +3,6 @@ pub mod Taken
 pub mod Brought
 pub mod Again
 pub mod Answer
-pub mod Dues
 pub mod Told
 pub mod OnlySent
 pub mod ToldWindows

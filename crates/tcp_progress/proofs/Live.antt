@@ -1,17 +1,15 @@
 -- Ways on: quiet events one after another, at one of two parties or from one to the other, and what stays true on the way.
-use Rattle.std.proofs.Common.{if◌then◌else◌, ◌++◌, ◌<◌, ◌==◌, ◌∙◌, ◌∷◌, ◌≡◌, ◌≤◌, ◌⊎◌, [], ap, arith, Bool, false, inl, inr, length, List, nat_lt, None, Option}
-use Rattle.std.proofs.Common.{refl, slice_get, Some, subst, sym, true, ℕ}
-use Rattle.tcp_replay.proofs.Words.{after_acknowledge, after_due, after_emission, after_gaps, after_receive, after_reorder, after_retransmit, and_parts}
-use Rattle.tcp_replay.proofs.Words.{CallError, cases_Bool, cond_both, count_unsent, Due, due_of, end_of_text, Ending, eqb-true, false≢true, is_fin_acked}
-use Rattle.tcp_replay.proofs.Words.{is_handshake, marks_end, NotEnded, Orderly, Phase, receive_refusal, Reorder, report_options_short, Retransmit, Sending}
-use Rattle.tcp_replay.proofs.Words.{sends_again, sends_text, State, state_after, state_unless, SynReceived, text_limit, with_all_resent, with_bytes_received}
-use Rattle.tcp_replay.proofs.WorldWords.{EventContent, FitsPhase, later, next_position, party_after_acknowledge, party_after_emission, party_after_receive}
-use Rattle.tcp_replay.proofs.WorldWords.{party_after_timer, PartyState, refusal_of, run_of, Sends, SentSegment, stay_or, stop_of, stop_or, world_with_effect}
-use Rattle.tcp_replay.proofs.WorldWords.{WorldState}
-use Rattle.tcp_replay.proofs.Lemmas.{end-is, gives_up-not_ended, going-on, one_if-most}
+use Rattle.tcp_replay.proofs.Words.{◌++◌, ◌<◌, ◌==◌, [], after_acknowledge, after_due, after_emission, after_gaps, after_receive, after_reorder}
+use Rattle.tcp_replay.proofs.Words.{after_retransmit, and_parts, ap, arith, Bool, CallError, cases_Bool, cond_both, count_unsent, Due, due_of, end_of_text}
+use Rattle.tcp_replay.proofs.Words.{Ending, eqb-true, EventContent, false, false≢true, FitsPhase, if◌then◌else◌, inl, inr, is_fin_acked, is_handshake, later}
+use Rattle.tcp_replay.proofs.Words.{length, List, marks_end, nat_lt, next_position, None, NotEnded, Option, Orderly, party_after_acknowledge}
+use Rattle.tcp_replay.proofs.Words.{party_after_emission, party_after_receive, party_after_timer, PartyState, Phase, receive_refusal, refl, refusal_of, Reorder}
+use Rattle.tcp_replay.proofs.Words.{report_options_short, Retransmit, run_of, Sending, Sends, sends_again, sends_text, SentSegment, slice_get, Some, State}
+use Rattle.tcp_replay.proofs.Words.{state_after, state_unless, stay_or, stop_of, stop_or, subst, sym, SynReceived, text_limit, true, with_all_resent}
+use Rattle.tcp_replay.proofs.Words.{with_bytes_received, world_with_effect, WorldState, ℕ, ◌∙◌, ◌∷◌, ◌≡◌, ◌≤◌, ◌⊎◌}
 use Rattle.tcp_progress.proofs.Words.{all_of, CanReach, IsInFlight, IsLive, IsQuiet, IsSteadyPair, left_of_both, SaysByPhase}
-use Rattle.tcp_progress.proofs.Taken.{IsPresent}
-use Rattle.tcp_progress.proofs.Table.{own_fin-acked}
+use Rattle.tcp_replay.proofs.Lemmas.{end-is, gives_up-not_ended, going-on, one_if-most}
+use Rattle.tcp_progress.proofs.{Taken.IsPresent, Table.own_fin-acked}
 
 unfoldable pub reach-here : {P : WorldState → Type 0} {w : WorldState} → P w → CanReach P w
 unfolding stop_of run_of

@@ -1,14 +1,13 @@
 -- EACH TURN LEAVES LESS, while something is left.
-use Rattle.std.proofs.Common.{◌++◌, ◌<◌, ◌∙◌, ◌≡◌, ◌⊎◌, ap, arith, inl, inr, length, List, subst, ℕ}
-use Rattle.tcp_replay.proofs.Words.{cases_lt}
-use Rattle.tcp_replay.proofs.WorldWords.{EventContent, other, party_of, PartyState, world_after_all, WorldState}
-use Rattle.tcp_replay.proofs.Lemmas.{one_if}
+use Rattle.tcp_replay.proofs.Words.{◌++◌, ◌<◌, ap, arith, cases_lt, EventContent, inl, inr, length, List, other, party_of, PartyState, subst, world_after_all}
+use Rattle.tcp_replay.proofs.Words.{WorldState, ℕ, ◌∙◌, ◌≡◌, ◌⊎◌}
 use Rattle.tcp_progress.proofs.Words.{AllCome, both_served, IsIdle, IsLive, IsSteadyPair, IsTurn, left_in, left_of_both, NoneGaveUp, reads, served, Side}
 use Rattle.tcp_progress.proofs.Lemmas.{after-append, among-behind, among-left, AreStill, calm-append, calm-served, come-after, come-among, come-first}
 use Rattle.tcp_progress.proofs.Lemmas.{going-live, have-read, IsGoing, on-all, reads-calm, side-left, side-pair, steps-all, steps-left, tail-calm, turn-same}
 use Rattle.tcp_progress.proofs.Lemmas.{turn-tail, TurnLowers, twice}
-use Rattle.tcp_progress.proofs.Serving.{HasMore, served-lowers}
 use Rattle.tcp_progress.proofs.Behind.{after_both, after_first, AreIdle, asked-first, asked-then, IsBehind, IsServed, later-calm, over-first}
+use Rattle.tcp_replay.proofs.Lemmas.{one_if}
+use Rattle.tcp_progress.proofs.Serving.{HasMore, served-lowers}
 
 -- ---- WHERE SOMETHING IS LEFT: one has more for the other, or what one sent is taken and not acknowledged, and nothing is on its way
 abbrev What : PartyState → PartyState → Type 0

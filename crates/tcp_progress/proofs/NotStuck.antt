@@ -1,19 +1,15 @@
 -- WHERE AN END HAS ENDED IN ORDER, and the other's FIN is acknowledged to it, nothing is left: each has taken all of the other, and all of it is
 -- acknowledged.
-use Rattle.std.proofs.Common.{◌++◌, ◌∙◌, ◌∷◌, ◌≡◌, ◌⊎◌, [], ap, arith, false, inl, inr, List, None, Option, refl, Some, subst, suc, sym, true}
-use Rattle.tcp_replay.proofs.Words.{AllByRecursion, cases_Bool, Ending, false≢true, gives_up, NotEnded, Orderly}
-use Rattle.tcp_replay.proofs.WorldWords.{EventContent, gave_up, PartyState, refusal_of, Sends, stay_or, world_after, world_after_all, world_with_effect}
-use Rattle.tcp_replay.proofs.WorldWords.{WorldState}
-use Rattle.tcp_replay.proofs.Lemmas.{gives_up-not_ended, one_if, one_if-most}
+use Rattle.tcp_replay.proofs.Words.{◌++◌, [], AllByRecursion, ap, arith, cases_Bool, Ending, EventContent, false, false≢true, gave_up, gives_up, inl, inr, List}
+use Rattle.tcp_replay.proofs.Words.{None, NotEnded, Option, Orderly, PartyState, refl, refusal_of, Sends, Some, stay_or, subst, suc, sym, true, world_after}
+use Rattle.tcp_replay.proofs.Words.{world_after_all, world_with_effect, WorldState, ◌∙◌, ◌∷◌, ◌≡◌, ◌⊎◌}
 use Rattle.tcp_progress.proofs.Words.{AreOpening, CanReach, CanSettle, GotThrough, HasEndedInOrder, HasStreamsOf, IsNotStuck, IsQuiet, IsSettled, IsSteadyPair}
 use Rattle.tcp_progress.proofs.Words.{left_in, left_of_both, NoneGaveUp, NoWorldIsStuck, StepError, time_waits}
 use Rattle.tcp_progress.proofs.Lemmas.{after-append, all-append, both-live, GoOn, got-through, in-every-world, IsKept, kept-steady, own_fin-acked, says-over}
 use Rattle.tcp_progress.proofs.Lemmas.{steady-back, swapped, up-stays, waits-streams}
-use Rattle.tcp_progress.proofs.Live.{reach-here, reach-step}
-use Rattle.tcp_progress.proofs.Had.{have-turns}
-use Rattle.tcp_progress.proofs.Handshake.{answering, opening, unopened-listen}
-use Rattle.tcp_progress.proofs.Lowering.{lowers_lem}
-use Rattle.tcp_progress.proofs.Opened.{opens-and}
+use Rattle.tcp_replay.proofs.Lemmas.{gives_up-not_ended, one_if, one_if-most}
+use Rattle.tcp_progress.proofs.{Live.reach-here, Live.reach-step, Had.have-turns, Handshake.answering, Handshake.opening, Handshake.unopened-listen}
+use Rattle.tcp_progress.proofs.{Lowering.lowers_lem, Opened.opens-and}
 
 -- who was neither reset nor aborted goes on, or has ended in order
 kept-ending : (ending : Ending) → gives_up ending ≡ false → (ending ≡ NotEnded) ⊎ (ending ≡ Orderly)

@@ -1,15 +1,14 @@
 -- NOTHING IS TAKEN BEFORE IT IS SENT, on the definitions: every event keeps it.
-use Rattle.std.proofs.Common.{◌+◌, ◌-◌, ◌<◌, ◌==◌, ◌^◌, ◌∙◌, ◌∷◌, ◌≡◌, ◌≤◌, [], ap, arith, drop, false, length, length-drop, length-take, List, min, None, not}
-use Rattle.std.proofs.Common.{Option, refl, slice_get, Some, subst, suc, sym, true, zero, ℕ, ℤ, ⊎_elim}
-use Rattle.tcp_replay.proofs.Words.{Aborted, acks_more, after_ack, after_acked_text, after_due, after_giving_up, after_handing, after_news, after_own_syn}
-use Rattle.tcp_replay.proofs.Words.{after_peer_accepts, after_peer_opens, after_place, after_read, after_text, and_parts, cases_lt, Cell, cond_both, Config}
-use Rattle.tcp_replay.proofs.Words.{Content, count_numbers, count_of, Due, eqb-false, false≢true, fin, gives_up, has, has_fin, is_fin, is_fin_due}
-use Rattle.tcp_replay.proofs.Words.{is_syn_received, not-true, number, offset, offset_of_earlier, offset_of_later, piece, plain_segment, position_near}
-use Rattle.tcp_replay.proofs.Words.{position_of, position_of_number, pushes, receive_refusal, Receiving, Reset, rst, segment_of, Sending, start_of, State}
-use Rattle.tcp_replay.proofs.Words.{state_after, Syn, syn, syn_segment, takes_fin, takes_text, text_of, window, window_from, with_acked, with_bytes_received}
-use Rattle.tcp_replay.proofs.Words.{with_connection, with_fin, with_syn, with_syn_acked, with_window, without_bytes}
-use Rattle.tcp_replay.proofs.WorldWords.{address_of, EventContent, HasBytes, IsSound, IsSoundPair, IsTruthful, new_party, new_world_with, PartyState}
-use Rattle.tcp_replay.proofs.WorldWords.{refusal_of, SentSegment, witness_of, world_with_effect, WorldState}
+use Rattle.tcp_replay.proofs.Words.{◌+◌, ◌-◌, ◌<◌, ◌==◌, [], ◌^◌, Aborted, acks_more, address_of, after_ack, after_acked_text, after_due, after_giving_up}
+use Rattle.tcp_replay.proofs.Words.{after_handing, after_news, after_own_syn, after_peer_accepts, after_peer_opens, after_place, after_read, after_text}
+use Rattle.tcp_replay.proofs.Words.{and_parts, ap, arith, cases_lt, Cell, cond_both, Config, Content, count_numbers, count_of, drop, Due, eqb-false}
+use Rattle.tcp_replay.proofs.Words.{EventContent, false, false≢true, fin, gives_up, has, has_fin, HasBytes, is_fin, is_fin_due, is_syn_received, IsSound}
+use Rattle.tcp_replay.proofs.Words.{IsSoundPair, IsTruthful, length, length-drop, length-take, List, min, new_party, new_world_with, None, not, not-true}
+use Rattle.tcp_replay.proofs.Words.{number, offset, offset_of_earlier, offset_of_later, Option, PartyState, piece, plain_segment, position_near, position_of}
+use Rattle.tcp_replay.proofs.Words.{position_of_number, pushes, receive_refusal, Receiving, refl, refusal_of, Reset, rst, segment_of, Sending, SentSegment}
+use Rattle.tcp_replay.proofs.Words.{slice_get, Some, start_of, State, state_after, subst, suc, sym, Syn, syn, syn_segment, takes_fin, takes_text, text_of, true}
+use Rattle.tcp_replay.proofs.Words.{window, window_from, with_acked, with_bytes_received, with_connection, with_fin, with_syn, with_syn_acked, with_window}
+use Rattle.tcp_replay.proofs.Words.{without_bytes, witness_of, world_with_effect, WorldState, zero, ℕ, ℤ, ◌∙◌, ◌∷◌, ◌≡◌, ◌≤◌, ⊎_elim}
 use Rattle.tcp_replay.proofs.Lemmas.{after_segment, AllHeld, AllSaid, AllText, Arrives, Both, both-swapped, Brings, brings-place, CanOpen, due-position}
 use Rattle.tcp_replay.proofs.Lemmas.{end-closed, end-listen, end-syn_sent, fin-in_turn, GoesOutAlone, handshake-una, held-more, held-moved, held-none}
 use Rattle.tcp_replay.proofs.Lemmas.{held-same, in-world, IsAhead, IsSaid, IsYoung, Kept, kept-after_all, kept-run, kept-same, KeptByCalls, MayGoOut, Moved}

@@ -1,7 +1,6 @@
 -- WHO IS SERVED OPENS THE CONNECTION: after a turn the SYN of who calls is taken, after another both are open; and so all gets through.
-use Rattle.std.proofs.Common.{◌++◌, ◌∙◌, ◌∷◌, ◌≡◌, ◌≤◌, ◌⊎◌, [], ap, append_assoc, arith, Bool, false, inl, inr, List, subst, suc, sym, true, ℕ}
-use Rattle.tcp_replay.proofs.Words.{AllByRecursion}
-use Rattle.tcp_replay.proofs.WorldWords.{EventContent, other, party_of, world_after, world_after_all, WorldState}
+use Rattle.tcp_replay.proofs.Words.{◌++◌, [], AllByRecursion, ap, append_assoc, arith, Bool, EventContent, false, inl, inr, List, other, party_of, subst, suc}
+use Rattle.tcp_replay.proofs.Words.{sym, true, world_after, world_after_all, WorldState, ℕ, ◌∙◌, ◌∷◌, ◌≡◌, ◌≤◌, ◌⊎◌}
 use Rattle.tcp_progress.proofs.Words.{A, AllCome, B, GotThrough, HasTurns, HaveSyns, IsCalm, IsIdle, IsTurn, left_in, NoneGaveUp, OpensAndGetsThrough, reads}
 use Rattle.tcp_progress.proofs.Words.{served, Side, WhoIsServedOpens}
 use Rattle.tcp_progress.proofs.Lemmas.{after-append, all-untimed, among-behind, among-left, both-live, calm-append, calm-served, come-among, either-side, GoOn}

@@ -1,16 +1,15 @@
 -- THE OTHER SIDE IS SERVED: what it sends again goes out, and then it waits to be spoken to; or something is brought on.
-use Rattle.std.proofs.Common.{◌++◌, ◌<◌, ◌∙◌, ◌≡◌, ◌⊎◌, ap, arith, false, inl, inr, length, List, None, Option, refl, Some, subst, sym, true, ℕ}
-use Rattle.tcp_replay.proofs.Words.{after_emission, after_retransmit, AllByRecursion, cases_Bool, cond_both, due_of, false≢true, Reset, Sending, sends_again}
-use Rattle.tcp_replay.proofs.Words.{sends_text, State, WaitingReset, with_all_resent}
-use Rattle.tcp_replay.proofs.WorldWords.{Emit, EventContent, next_position, other, party_of, PartyState, world_after, world_after_all, WorldState}
-use Rattle.tcp_replay.proofs.Lemmas.{end-is, one_if, one_if-most}
+use Rattle.tcp_replay.proofs.Words.{◌++◌, ◌<◌, after_emission, after_retransmit, AllByRecursion, ap, arith, cases_Bool, cond_both, due_of, Emit, EventContent}
+use Rattle.tcp_replay.proofs.Words.{false, false≢true, inl, inr, length, List, next_position, None, Option, other, party_of, PartyState, refl, Reset, Sending}
+use Rattle.tcp_replay.proofs.Words.{sends_again, sends_text, Some, State, subst, sym, true, WaitingReset, with_all_resent, world_after, world_after_all}
+use Rattle.tcp_replay.proofs.Words.{WorldState, ℕ, ◌∙◌, ◌≡◌, ◌⊎◌}
 use Rattle.tcp_progress.proofs.Words.{AllCome, Comes, emissions, IsCalm, IsIdle, IsLive, IsSteadyPair, left_in, NoneGaveUp, served, Side}
 use Rattle.tcp_progress.proofs.Lemmas.{acked-all, after-append, bursting-emits, calm-append, calm-emissions, calm-served, emit-endpoint, fin-last, going-live}
-use Rattle.tcp_progress.proofs.Lemmas.{IsBounded, IsBursting, IsGoing, IsStillFrom, live-in, live-sends, Lowers, none-some, over-all, over-served, past-syn}
-use Rattle.tcp_progress.proofs.Lemmas.{side-pair, steps-all, still-done, timeout-bursts, timer-endpoint}
-use Rattle.tcp_progress.proofs.Serving.{cleared, cleared-same, may-send-cleared, reset-first}
-use Rattle.tcp_progress.proofs.Speaking.{idle-no_syn, standing-out, Waits}
-use Rattle.tcp_progress.proofs.Asking.{syn-alone}
+use Rattle.tcp_progress.proofs.Lemmas.{IsBounded, IsBursting, IsGoing, IsStillFrom, live-in, live-sends, Lowers, over-all, over-served, past-syn, side-pair}
+use Rattle.tcp_progress.proofs.Lemmas.{steps-all, still-done, timeout-bursts, timer-endpoint}
+use Rattle.tcp_replay.proofs.Lemmas.{end-is, none-some, one_if, one_if-most}
+use Rattle.tcp_progress.proofs.{Serving.cleared, Serving.cleared-same, Serving.may-send-cleared, Serving.reset-first, Speaking.idle-no_syn}
+use Rattle.tcp_progress.proofs.{Speaking.standing-out, Speaking.Waits, Asking.syn-alone}
 
 -- it has sent no more than the other has, which doesn't know that it has all; and after a waiting reset it goes through what is sent again
 abbrev pub IsBurstingTo : WorldState → Side → Type 0

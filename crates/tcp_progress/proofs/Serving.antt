@@ -1,17 +1,16 @@
 -- WHAT IS SURE TO COME AND BRINGS ON: a segment that is useful stays so until something is brought on, and brings on when it comes.
-use Rattle.std.proofs.Common.{◌++◌, ◌+◌, ◌<◌, ◌∙◌, ◌∷◌, ◌≡◌, ◌≤◌, ◌⊎◌, [], ap, arith, false, IfSome, inl, inr, length, List, max, None, Option, refl, Some}
-use Rattle.std.proofs.Common.{subst, suc, sym, true, zero, ℕ}
-use Rattle.tcp_replay.proofs.Words.{after_emission, after_retransmit, AllByRecursion, Config, Content, count_numbers, Due, due_of, false≢true, has, number}
-use Rattle.tcp_replay.proofs.Words.{Reset, rst, segment_of, sends_text, State, WaitingReset}
-use Rattle.tcp_replay.proofs.WorldWords.{Deliver, delivery_refusal, Emit, EventContent, max_life, next_position, other, party_after_arrival}
-use Rattle.tcp_replay.proofs.WorldWords.{party_after_emission, party_after_timer, party_of, PartyState, segment_at, world_after, world_after_all, WorldState}
-use Rattle.tcp_replay.proofs.Lemmas.{reset-bit}
+use Rattle.tcp_replay.proofs.Words.{◌++◌, ◌+◌, ◌<◌, [], after_emission, after_retransmit, AllByRecursion, ap, arith, Config, Content, count_numbers, Deliver}
+use Rattle.tcp_replay.proofs.Words.{delivery_refusal, Due, due_of, Emit, EventContent, false, false≢true, has, IfSome, inl, inr, length, List, max, max_life}
+use Rattle.tcp_replay.proofs.Words.{next_position, None, number, Option, other, party_after_arrival, party_after_emission, party_after_timer, party_of}
+use Rattle.tcp_replay.proofs.Words.{PartyState, refl, Reset, rst, segment_at, segment_of, sends_text, Some, State, subst, suc, sym, true, WaitingReset}
+use Rattle.tcp_replay.proofs.Words.{world_after, world_after_all, WorldState, zero, ℕ, ◌∙◌, ◌∷◌, ◌≡◌, ◌≤◌, ◌⊎◌}
 use Rattle.tcp_progress.proofs.Words.{after_emissions, all_of, AllCome, Comes, CoversNext, Delivers, emissions, is_reset, IsCalm, IsIdle, IsLive, IsSteadyPair}
 use Rattle.tcp_progress.proofs.Words.{least_life, left_in, left_of_both, MaySend, NoneGaveUp, served, Side}
 use Rattle.tcp_progress.proofs.Lemmas.{after-append, again_lem, AreStill, calm-append, calm-emissions, deliver-at, delivered-at, delivered-next, emit-at}
 use Rattle.tcp_progress.proofs.Lemmas.{flight-sends, fresh-emitted, going-live, has-room, in-flight, IsFresh, IsGoing, IsOpenTo, kept-steady, lower-event}
-use Rattle.tcp_progress.proofs.Lemmas.{new_lem, no-handshake, no-syn-owed, none-some, over-served, past-syn, sends-synchronized, side-left, side-pair}
-use Rattle.tcp_progress.proofs.Lemmas.{steps-all, steps-event, steps-left, timer-at, unsent-sends, waits, way-later}
+use Rattle.tcp_progress.proofs.Lemmas.{new_lem, no-handshake, no-syn-owed, over-served, past-syn, sends-synchronized, side-left, side-pair, steps-all}
+use Rattle.tcp_progress.proofs.Lemmas.{steps-event, steps-left, timer-at, unsent-sends, waits, way-later}
+use Rattle.tcp_replay.proofs.Lemmas.{none-some, reset-bit}
 use Rattle.tcp_halves.specs.declared.due.Due.TheVariants as dues
 
 -- ---- WHAT WAS FRESH STILL IS

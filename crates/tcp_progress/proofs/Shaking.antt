@@ -1,16 +1,13 @@
 -- OVER CALM EVENTS two ends that are opening the connection go on to do so, or both are open, while no end is reset (RFC 9293, 3.10.7.2 to 3.10.7.4).
-use Rattle.std.proofs.Common.{◌++◌, ◌∙◌, ◌∷◌, ◌≡◌, ◌≤◌, ◌⊎◌, [], arith, Bool, false, inl, inr, List, None, refl, subst, sym, true, ℕ}
-use Rattle.tcp_replay.proofs.Words.{ack, after_judgement, after_peer_opens, AllByRecursion, cases_Bool, Closed, Content, Ending, false≢true, gives_up, has}
-use Rattle.tcp_replay.proofs.Words.{is_syn_sent, Judgement, judgement, LastAck, Listen, NotEnded, PeerAccepts, PeerOpens, Phase, rst, State, SynReceived}
-use Rattle.tcp_replay.proofs.Words.{SynSent, Taken, TakenShut}
-use Rattle.tcp_replay.proofs.WorldWords.{Acknowledge, Damage, Deliver, delivery_refusal, effect_of, Emit, EventContent, FitsPhase, gave_up, IsSoundPair}
-use Rattle.tcp_replay.proofs.WorldWords.{max_life, other, party_after_arrival, party_of, PartyState, Receive, segment_at, side_of, Timer, world_after}
-use Rattle.tcp_replay.proofs.WorldWords.{world_after_all, WorldState}
-use Rattle.tcp_replay.proofs.Judgements.{IsAckOnly, IsPresent, IsSyn, IsTaken}
-use Rattle.tcp_replay.proofs.Lemmas.{finds-damage, judged, pair-swapped}
+use Rattle.tcp_replay.proofs.Words.{◌++◌, [], ack, Acknowledge, after_judgement, after_peer_opens, AllByRecursion, arith, Bool, cases_Bool, Closed, Content}
+use Rattle.tcp_replay.proofs.Words.{Damage, Deliver, effect_of, Emit, Ending, EventContent, false, false≢true, FitsPhase, gave_up, gives_up, has, inl, inr}
+use Rattle.tcp_replay.proofs.Words.{is_syn_sent, IsSoundPair, Judgement, judgement, LastAck, List, Listen, max_life, None, NotEnded, other, party_of}
+use Rattle.tcp_replay.proofs.Words.{PartyState, PeerAccepts, PeerOpens, Phase, Receive, refl, rst, side_of, State, subst, sym, SynReceived, SynSent, Taken}
+use Rattle.tcp_replay.proofs.Words.{TakenShut, Timer, true, world_after, world_after_all, WorldState, ℕ, ◌∙◌, ◌∷◌, ◌≡◌, ◌≤◌, ◌⊎◌}
+use Rattle.tcp_progress.proofs.Lemmas.{after-append, at-event, delivered, ends-plainly, IsKept, IsMoved, moves-event, side-pair, steady-back, steps-all}
+use Rattle.tcp_progress.proofs.Lemmas.{steps-event, still-acknowledging, still-emission, still-reading, still-reorder, still-retransmit}
+use Rattle.tcp_replay.proofs.{Lemmas.finds-damage, Lemmas.IsAckOnly, Lemmas.IsPresent, Lemmas.judged, Lemmas.pair-swapped, Judgements.IsSyn, Judgements.IsTaken}
 use Rattle.tcp_progress.proofs.Words.{A, AreOpen, B, IsCalm, IsLive, NoneGaveUp, Side}
-use Rattle.tcp_progress.proofs.Lemmas.{after-append, at-event, delivered, IsKept, IsMoved, moves-event, side-pair, steady-back, steps-all, steps-event}
-use Rattle.tcp_progress.proofs.Lemmas.{ends-plainly, still-acknowledging, still-emission, still-reading, still-reorder, still-retransmit}
 use Rattle.tcp_progress.proofs.Handshake.{answering, opening, unopened-listen}
 use Rattle.tcp_conn.specs.declared.phase.Timer.TheVariants as timers
 

@@ -1,17 +1,14 @@
 -- A HANDSHAKE CAN BE FINISHED (RFC 9293, 3.5) by at most eight events: who calls is served, its SYN comes, who answers is served, and its SYN comes.
 -- What is refused of them changes nothing.
-use Rattle.std.proofs.Common.{◌++◌, ◌∷◌, ◌≡◌, ◌≤◌, ◌⊎◌, [], arith, false, inl, inr, length, List, None, Option, refl, Some, true, ℕ}
-use Rattle.tcp_replay.proofs.Words.{AllByRecursion, Retransmit, SynReceived}
-use Rattle.tcp_replay.proofs.WorldWords.{Deliver, Emit, EventContent, other, party_of, refusal_of, stay_or, Timer, world_after, world_after_all}
-use Rattle.tcp_replay.proofs.WorldWords.{world_with_effect, WorldState}
+use Rattle.tcp_replay.proofs.Words.{◌++◌, [], AllByRecursion, arith, Deliver, Emit, EventContent, false, inl, inr, length, List, None, Option, other, party_of}
+use Rattle.tcp_replay.proofs.Words.{refl, refusal_of, Retransmit, Some, stay_or, SynReceived, Timer, true, world_after, world_after_all, world_with_effect}
+use Rattle.tcp_replay.proofs.Words.{WorldState, ℕ, ◌∷◌, ◌≡◌, ◌≤◌, ◌⊎◌}
 use Rattle.tcp_progress.proofs.Words.{A, AreOpen, B, CanOpen, CanReachUnaided, HandshakesCanBeFinished, HasStreamsOf, IsCalm, IsQuiet, IsUnaided, NoneGaveUp}
 use Rattle.tcp_progress.proofs.Words.{served, Side, StepError}
 use Rattle.tcp_progress.proofs.Lemmas.{calm-served, in-every-world, IsKept, Steps, steps-all, steps-event, steps-streams, steps-then}
-use Rattle.tcp_progress.proofs.Called.{answer-now, IsTaken, speaks, syn-comes, twice-syn}
-use Rattle.tcp_progress.proofs.NotStuck.{either-up}
-use Rattle.tcp_progress.proofs.Had.{goes-safely, IsFine}
-use Rattle.tcp_progress.proofs.Shaking.{IsShaking, Opens, opens-after, opens-append, OpensOr, shakes-all}
-use Rattle.tcp_progress.proofs.Live.{reach-here, reach-step}
+use Rattle.tcp_progress.proofs.{Called.answer-now, Called.IsTaken, Called.speaks, Called.syn-comes, Called.twice-syn, NotStuck.either-up, Had.goes-safely}
+use Rattle.tcp_progress.proofs.{Had.IsFine, Shaking.IsShaking, Shaking.Opens, Shaking.opens-after, Shaking.opens-append, Shaking.OpensOr, Shaking.shakes-all}
+use Rattle.tcp_progress.proofs.{Live.reach-here, Live.reach-step}
 
 -- ---- WHAT EVENTS LEAD TO, refused or not, those of them lead to that aren't refused
 unaided-plain : (event : EventContent) → IsUnaided event → IsQuiet event × IsCalm event

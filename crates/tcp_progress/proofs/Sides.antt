@@ -1,9 +1,7 @@
 -- THE WORLD FROM ONE SIDE: what its emissions, its timeout and its deliveries do to it and to the other.
-use Rattle.std.proofs.Common.{◌≡◌, None, Option, refl, Some, subst, sym, ℕ}
-use Rattle.tcp_replay.proofs.Words.{after_emission, after_retransmit, Retransmit}
-use Rattle.tcp_replay.proofs.WorldWords.{Deliver, delivery_refusal, Effect, effect_of, Emit, EventContent, other, party_after_arrival, party_after_emission}
-use Rattle.tcp_replay.proofs.WorldWords.{party_after_timer, party_of, PartyState, refusal_of, segment_at, side_of, stay_or, Timer, world_after, world_from}
-use Rattle.tcp_replay.proofs.WorldWords.{world_with_effect, WorldState}
+use Rattle.tcp_replay.proofs.Words.{after_emission, after_retransmit, Deliver, delivery_refusal, Effect, effect_of, Emit, EventContent, None, Option, other}
+use Rattle.tcp_replay.proofs.Words.{party_after_arrival, party_after_emission, party_after_timer, party_of, PartyState, refl, refusal_of, Retransmit}
+use Rattle.tcp_replay.proofs.Words.{segment_at, side_of, Some, stay_or, subst, sym, Timer, world_after, world_from, world_with_effect, WorldState, ℕ, ◌≡◌}
 use Rattle.tcp_progress.proofs.Words.{A, B, Side, StepError}
 use Rattle.tcp_replay.specs.World.{effect_in}
 

@@ -1,16 +1,16 @@
 -- WHO IS SPOKEN TO by what is old to it answers, and the answer brings on: once both were served, whatever comes but timers.
-use Rattle.std.proofs.Common.{◌++◌, ◌<◌, ◌∙◌, ◌∷◌, ◌≡◌, ◌≤◌, ◌⊎◌, [], ap, arith, false, inl, inr, List, None, Option, refl, Some, subst, sym, true, ℕ}
-use Rattle.tcp_replay.proofs.Words.{after_acknowledge, after_emission, after_receive, AllByRecursion, CallError, cases_Bool, Config, Content, due_of, number}
-use Rattle.tcp_replay.proofs.Words.{receive_refusal, reset_due, State, state_unless, Syn, syn_due, text_limit, WaitingReset, with_bytes_received}
-use Rattle.tcp_replay.proofs.WorldWords.{Acknowledge, Damage, Deliver, delivery_refusal, effect_of, Emit, EventContent, IsSoundPair, max_life, next_position}
-use Rattle.tcp_replay.proofs.WorldWords.{other, party_after_acknowledge, party_after_arrival, party_after_emission, party_after_receive, party_of, PartyState}
-use Rattle.tcp_replay.proofs.WorldWords.{Receive, refusal_of, segment_at, side_of, world_after, world_after_all, WorldState}
-use Rattle.tcp_replay.proofs.Lemmas.{finds-damage, pair-swapped}
+use Rattle.tcp_replay.proofs.Words.{◌++◌, ◌<◌, [], Acknowledge, after_acknowledge, after_emission, after_receive, AllByRecursion, ap, arith, CallError}
+use Rattle.tcp_replay.proofs.Words.{cases_Bool, Config, Content, Damage, Deliver, due_of, effect_of, Emit, EventContent, false, inl, inr, IsSoundPair, List}
+use Rattle.tcp_replay.proofs.Words.{max_life, next_position, None, number, Option, other, party_after_acknowledge, party_after_emission, party_after_receive}
+use Rattle.tcp_replay.proofs.Words.{party_of, PartyState, Receive, receive_refusal, refl, refusal_of, reset_due, side_of, Some, State, state_unless, subst, sym}
+use Rattle.tcp_replay.proofs.Words.{Syn, syn_due, text_limit, true, WaitingReset, with_bytes_received, world_after, world_after_all, WorldState, ℕ, ◌∙◌, ◌∷◌}
+use Rattle.tcp_replay.proofs.Words.{◌≡◌, ◌≤◌, ◌⊎◌}
 use Rattle.tcp_progress.proofs.Words.{AllCome, Comes, Delivers, IsCalm, IsIdle, IsUntimed, left_in, NoneGaveUp, Side, StandsAtNext}
-use Rattle.tcp_progress.proofs.Lemmas.{all-untimed, AreStill, at-event, calm-append, deliver-to, delivered, done-none, emit-endpoint, fresh-emitted, going-live}
-use Rattle.tcp_progress.proofs.Lemmas.{GoOn, IsGoing, IsKept, IsOld, KeepsOwed, kept-steady, lower-event, Lowers, none-some, old-wakes, owed-judgement}
-use Rattle.tcp_progress.proofs.Lemmas.{owed-same, owing-due, past-syn, range-same, RangeDone, side-on, side-pair, stands-or-none, steady-back, still-back}
-use Rattle.tcp_progress.proofs.Lemmas.{or-none, still-emission, still-next, untimed-calm, way-later}
+use Rattle.tcp_progress.proofs.Lemmas.{all-untimed, AreStill, at-event, calm-append, deliver-to, delivered, emit-endpoint, fresh-emitted, going-live, GoOn}
+use Rattle.tcp_progress.proofs.Lemmas.{IsGoing, IsKept, IsOld, KeepsOwed, kept-steady, lower-event, Lowers, old-wakes, owed-judgement, owed-same, owing-due}
+use Rattle.tcp_progress.proofs.Lemmas.{past-syn, range-same, RangeDone, side-on, side-pair, stands-or-none, steady-back, still-back, still-emission, still-next}
+use Rattle.tcp_progress.proofs.Lemmas.{untimed-calm, way-later}
+use Rattle.tcp_replay.proofs.Lemmas.{done-none, finds-damage, none-some, or-none, pair-swapped}
 use Rattle.tcp_progress.proofs.Serving.{not-reset, useful-out}
 
 -- ---- WHAT AN EVENT LEAVES of what is pending at an end, unless the end emits

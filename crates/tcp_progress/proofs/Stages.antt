@@ -1,24 +1,22 @@
 -- WHAT EACH STATE SAYS OF BOTH FINS, AND WHO THE PEER IS: every event keeps it.
-use Rattle.std.proofs.Common.{◌+◌, ◌<◌, ◌==◌, ◌∙◌, ◌≡◌, ◌≤◌, ap, arith, Bool, false, length, List, None, not, Ok, refl, sym, true, ℕ}
-use Rattle.tcp_replay.proofs.Words.{Aborted, after_acked_text, after_giving_up, after_news, after_orderly_end, after_own_syn, after_peer_accepts}
-use Rattle.tcp_replay.proofs.Words.{after_peer_opens, after_text, and_parts, close_refusal, Closed, CloseWait, Config, Content, decode_answer, Due, Ended}
-use Rattle.tcp_replay.proofs.Words.{Ending, Established, false≢true, fin, FinWait2, gives_up, has, has_fin, has_peer, is_closed, is_ended, is_fin_acked}
-use Rattle.tcp_replay.proofs.Words.{is_fin_due, is_last_ack, is_listening, is_syn_sent, is_unanswered, LastAck, Listen, NotEnded, NotOpen, number, open_refusal}
-use Rattle.tcp_replay.proofs.Words.{Orderly, Phase, phase_after_fin, phase_after_own_fin, refusal_if, Reset, rst, segment_of, State, SynReceived, SynSent}
-use Rattle.tcp_replay.proofs.Words.{takes_fin, takes_text, takes_text_of, TimeWait, with_closing, with_fin}
-use Rattle.tcp_replay.proofs.WorldWords.{address_of, FitsPhase, IsAlone, IsOwn, IsSoundPair, new_party, next_position, PartyState, Sends, SentSegment}
+use Rattle.tcp_replay.proofs.Words.{◌+◌, ◌<◌, ◌==◌, Aborted, address_of, after_acked_text, after_giving_up, after_news, after_orderly_end, after_own_syn}
+use Rattle.tcp_replay.proofs.Words.{after_peer_accepts, after_peer_opens, after_text, and_parts, ap, arith, Bool, close_refusal, Closed, CloseWait, Config}
+use Rattle.tcp_replay.proofs.Words.{Content, decode_answer, Due, Ended, Ending, Established, false, false≢true, fin, FinWait2, FitsPhase, gives_up, has}
+use Rattle.tcp_replay.proofs.Words.{has_fin, has_peer, is_closed, is_ended, is_fin_acked, is_fin_due, is_last_ack, is_listening, is_syn_sent, is_unanswered}
+use Rattle.tcp_replay.proofs.Words.{IsAlone, IsOwn, IsSoundPair, LastAck, length, List, Listen, new_party, next_position, None, not, NotEnded, NotOpen, number}
+use Rattle.tcp_replay.proofs.Words.{Ok, open_refusal, Orderly, PartyState, Phase, phase_after_fin, phase_after_own_fin, refl, refusal_if, Reset, rst}
+use Rattle.tcp_replay.proofs.Words.{segment_of, Sends, SentSegment, State, sym, SynReceived, SynSent, takes_fin, takes_text, takes_text_of, TimeWait, true}
+use Rattle.tcp_replay.proofs.Words.{with_closing, with_fin, ℕ, ◌∙◌, ◌≡◌, ◌≤◌}
 use Rattle.tcp_replay.proofs.Lemmas.{after_segment, AllSaid, Arrives, at-closed, Both, both-swapped, end-listen, end-syn_received, end-syn_sent}
 use Rattle.tcp_replay.proofs.Lemmas.{end-synchronized, gives_up-not_ended, IsPresent, kept-same, KeptByCalls, knows-closing, knows-fin, knows-own_fin, Moved}
 use Rattle.tcp_replay.proofs.Lemmas.{next_of, on-arrival, one_if-false, option_or-none, own-decodes, PairKept, present-knows, refusal_if-none, said-after}
 use Rattle.tcp_replay.proofs.Lemmas.{said-back, same-content, send-open, Speaks, syn_sent-knows, Synced, wanted-is}
-use Rattle.tcp_progress.proofs.Words.{KnowsPort, ReleasesAll, SaysByPhase}
 use Rattle.tcp_progress.proofs.Table.{Between, last_ack-fin, last_ack-own_fin, last_ack-own_syn, own_fin-acked, own_fin-is_acked, own_fin-is_unacked}
 use Rattle.tcp_progress.proofs.Table.{own_fin-unacked, Table, table-acked, table-close, table-fin, table-last_ack, table-more, table-no_own_fin, table-own_fin}
 use Rattle.tcp_progress.proofs.Table.{table-time_wait, table-unanswered, table-unopened}
-use Rattle.tcp_progress.proofs.Taken.{news-keep}
-use Rattle.tcp_progress.proofs.OnlySent.{KeepsSent}
 use Rattle.tcp_conn.specs.declared.phase.Ending.TheVariants.{Reset}
-use Rattle.tcp_progress.proofs.Answering.{acked-range, own_syn-range}
+use Rattle.tcp_progress.proofs.{Words.KnowsPort, Words.ReleasesAll, Words.SaysByPhase, Taken.news-keep, OnlySent.KeepsSent, Answering.acked-range}
+use Rattle.tcp_progress.proofs.{Answering.own_syn-range}
 use Rattle.tcp_conn.specs.declared.outcome.CallError.TheVariants as errors
 
 -- Party p's end may be in this state, its peer q being where it is; `end` is the position after p's FIN.

@@ -1,9 +1,8 @@
 -- WHAT EACH STATE SAYS of its own close, of its own FIN's acknowledgement and of the peer's FIN: as numbers, and what each move does.
-use Rattle.std.proofs.Common.{◌+◌, ◌<◌, ◌≡◌, ◌≤◌, arith, Bool, false, length, List, true, ℕ}
-use Rattle.tcp_replay.proofs.Words.{Closed, CloseWait, Closing, Ending, Established, FinWait1, FinWait2, is_closed, is_fin_acked, is_last_ack, is_listening}
-use Rattle.tcp_replay.proofs.Words.{is_syn_received, is_syn_sent, is_time_wait, LastAck, Listen, nat_tests, NotEnded, Orderly, Phase, phase_after_close}
-use Rattle.tcp_replay.proofs.Words.{phase_after_fin, phase_after_own_fin, phase_after_own_syn, Sending, SynReceived, SynSent, takes_text, TimeWait}
-use Rattle.tcp_replay.proofs.WorldWords.{Sends}
+use Rattle.tcp_replay.proofs.Words.{◌+◌, ◌<◌, arith, Bool, Closed, CloseWait, Closing, Ending, Established, false, FinWait1, FinWait2, is_closed, is_fin_acked}
+use Rattle.tcp_replay.proofs.Words.{is_last_ack, is_listening, is_syn_received, is_syn_sent, is_time_wait, LastAck, length, List, Listen, nat_tests, NotEnded}
+use Rattle.tcp_replay.proofs.Words.{Orderly, Phase, phase_after_close, phase_after_fin, phase_after_own_fin, phase_after_own_syn, Sending, Sends, SynReceived}
+use Rattle.tcp_replay.proofs.Words.{SynSent, takes_text, TimeWait, true, ℕ, ◌≡◌, ◌≤◌}
 use Rattle.tcp_replay.proofs.Lemmas.{end-is, one_if-most}
 
 -- THE TABLE, against the position after its own FIN: SND.UNA is there where its own FIN is acknowledged, and below it where it isn't

@@ -1,15 +1,14 @@
 -- A segment that covers the next position and ends within the window is acceptable.
-use Rattle.std.proofs.Common.{if◌then◌else◌, ◌+ℤ◌, ◌+◌, ◌<ℤ◌, ◌<◌, ◌==◌, ◌^◌, ◌||◌, ◌∙◌, ◌≡◌, ◌≤ℤ◌, ◌≤◌, ◌⊎◌, ap, arith, Bool, false, inl, inr, length, List}
-use Rattle.std.proofs.Common.{nat_le, nat_lt, not, pos, refl, subst, sym, true, ℕ, ℤ}
-use Rattle.tcp_replay.proofs.Words.{acceptable_judgement, ack_judgement, acks_more, after_ack, after_acked_text, after_arrival, after_fin, after_its_ack}
-use Rattle.tcp_replay.proofs.Words.{after_its_text, after_news, after_own_fin, after_own_syn, after_taking, after_taking_shut, after_text, AlwaysHolds}
-use Rattle.tcp_replay.proofs.Words.{and_from, arrival_answer, cases_Bool, Content, count_numbers, fin, HandshakeRefused, HandshakeRefusedShut, has, ints}
-use Rattle.tcp_replay.proofs.Words.{is_acceptable, is_acceptable_segment, is_closed, is_fin_acked, is_fin_due, is_foreign, is_last_ack, is_listening}
-use Rattle.tcp_replay.proofs.Words.{is_syn_received, is_syn_sent, Judgement, judgement, max_ordered, nat_tests, number, offset, or_left, or_right, Phase}
-use Rattle.tcp_replay.proofs.Words.{phase_after_own_fin, phase_after_own_syn, phase_judgement, position_near, present_judgement, Receiving, Sending, State, syn}
-use Rattle.tcp_replay.proofs.Words.{Taken, TakenShut, takes_text, unacceptable_judgement, window}
-use Rattle.tcp_replay.proofs.Lemmas.{news-cases, own_fin-cases}
+use Rattle.tcp_replay.proofs.Words.{◌+ℤ◌, ◌+◌, ◌<ℤ◌, ◌<◌, ◌==◌, ◌^◌, acceptable_judgement, ack_judgement, acks_more, after_ack, after_acked_text, after_arrival}
+use Rattle.tcp_replay.proofs.Words.{after_fin, after_its_ack, after_its_text, after_news, after_own_fin, after_own_syn, after_taking, after_taking_shut}
+use Rattle.tcp_replay.proofs.Words.{after_text, AlwaysHolds, and_from, ap, arith, arrival_answer, Bool, cases_Bool, Content, count_numbers, false, fin}
+use Rattle.tcp_replay.proofs.Words.{HandshakeRefused, HandshakeRefusedShut, has, if◌then◌else◌, inl, inr, ints, is_acceptable, is_acceptable_segment, is_closed}
+use Rattle.tcp_replay.proofs.Words.{is_fin_acked, is_fin_due, is_foreign, is_last_ack, is_listening, is_syn_received, is_syn_sent, Judgement, judgement, length}
+use Rattle.tcp_replay.proofs.Words.{List, max_ordered, nat_le, nat_lt, nat_tests, not, number, offset, or_left, or_right, Phase, phase_after_own_fin}
+use Rattle.tcp_replay.proofs.Words.{phase_after_own_syn, phase_judgement, pos, position_near, present_judgement, Receiving, refl, Sending, State, subst, sym}
+use Rattle.tcp_replay.proofs.Words.{syn, Taken, TakenShut, takes_text, true, unacceptable_judgement, window, ◌||◌, ℕ, ℤ, ◌∙◌, ◌≡◌, ◌≤ℤ◌, ◌≤◌, ◌⊎◌}
 use Rattle.tcp_progress.proofs.Words.{AckedIsReleased, AcksNew, BringsOn, ends_at, is_synchronized, IsNext, IsPlainAck, IsReleased, TakesWhatIsNext}
+use Rattle.tcp_replay.proofs.Lemmas.{news-cases, own_fin-cases}
 use Rattle.tcp_progress.proofs.Brought.{its_text-moves, with-fin, without-fin}
 use Rattle.tcp_sendq.specs.SendQueue as queues
 

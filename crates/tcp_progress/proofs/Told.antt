@@ -1,10 +1,9 @@
 -- What is pending is sent: whatever is due but a reset or a SYN acknowledges RCV.NXT.
-use Rattle.std.proofs.Common.{◌∙◌, ◌≡◌, inl, inr, None, refl, sym, true}
-use Rattle.tcp_replay.proofs.Words.{ack, ack_due, Acknowledgement, Due, due_of, end_of_text, false≢true, Fin, has, is_fin, new_count, NewText, plain_segment}
-use Rattle.tcp_replay.proofs.Words.{pushes, Resend, ResentFin, reset_due, segment_of, State, syn_due, text_due, text_limit}
+use Rattle.tcp_replay.proofs.Words.{ack, ack_due, Acknowledgement, Due, due_of, end_of_text, false≢true, Fin, has, inl, inr, is_fin, new_count, NewText, None}
+use Rattle.tcp_replay.proofs.Words.{plain_segment, pushes, refl, Resend, ResentFin, reset_due, segment_of, State, sym, syn_due, text_due, text_limit, true, ◌∙◌}
+use Rattle.tcp_replay.proofs.Words.{◌≡◌}
+use Rattle.tcp_replay.proofs.Lemmas.{again-kept, due-kept, none-some, or-none, plain-bits, some-due}
 use Rattle.tcp_progress.proofs.Words.{OwedIsTold}
-use Rattle.tcp_progress.proofs.Dues.{again-kept, due-kept, none-some, or-none, some-due}
-use Rattle.tcp_replay.proofs.Lemmas.{plain-bits}
 
 -- something is due where an acknowledgement is pending
 pub owing-due : (s : State) → s.owed.ack ≡ true → due_of s ≡ None → ⊥

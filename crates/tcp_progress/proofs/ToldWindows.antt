@@ -1,18 +1,16 @@
 -- WINDOW SCALING is what both Configs say (RFC 7323, 2.2), whoever opened: each SYN offers its own shift, and an answer offers it where the peer's did.
-use Rattle.std.proofs.Common.{if◌then◌else◌, ◌&&◌, ◌*◌, ◌++◌, ◌+◌, ◌/◌, ◌^◌, ◌∙◌, ◌∷◌, ◌≡◌, ◌≤◌, [], ap, arith, Bool, drop, false, is_some, length}
-use Rattle.std.proofs.Common.{length-append, length-drop, List, min, None, not, Option, refl, Some, subst, suc, sym, true, unwrap_or, ℕ, ℤ}
-use Rattle.tcp_replay.proofs.Words.{Aborted, after_acked_text, after_giving_up, after_news, after_own_syn, after_peer_accepts, after_peer_opens, after_place}
-use Rattle.tcp_replay.proofs.Words.{after_text, bytes_in_order, capacity_placed, capacity_read, Cell, cond_both, Config, Content, div-mul-le_self, Due}
-use Rattle.tcp_replay.proofs.Words.{false≢true, greatest_stamp, has, HasGoodShift, HoldsWithin, Inbox, is_fin, is_refused, is_sack_offered, Link, link_of}
-use Rattle.tcp_replay.proofs.Words.{max_shift, max_window, min_mss, mul-le, overlay_of, own_shift, permission_options, piece, plain_segment, pushes}
-use Rattle.tcp_replay.proofs.Words.{receive_refusal, Receiving, Reset, rst, Run, runs, scale_options, segment_of, shift_offered, shift_option, State, Syn, syn}
-use Rattle.tcp_replay.proofs.Words.{syn_options, syn_segment, whole_empty, whole_read, whole_without_held, window, window_field, with_bytes_received, with_fin}
-use Rattle.tcp_replay.proofs.Words.{with_overlay, with_ranks, with_ranks_from, without_bytes}
-use Rattle.tcp_replay.proofs.WorldWords.{address_of, IsSoundPair, new_party, PartyState, SentSegment}
+use Rattle.tcp_replay.proofs.Words.{◌&&◌, ◌*◌, ◌++◌, ◌+◌, ◌/◌, [], ◌^◌, Aborted, address_of, after_acked_text, after_giving_up, after_news, after_own_syn}
+use Rattle.tcp_replay.proofs.Words.{after_peer_accepts, after_peer_opens, after_place, after_text, ap, arith, Bool, bytes_in_order, capacity_placed}
+use Rattle.tcp_replay.proofs.Words.{capacity_read, Cell, cond_both, Config, Content, div-mul-le_self, drop, Due, false, false≢true, greatest_stamp, has}
+use Rattle.tcp_replay.proofs.Words.{HasGoodShift, HoldsWithin, if◌then◌else◌, Inbox, is_fin, is_refused, is_sack_offered, is_some, IsSoundPair, length}
+use Rattle.tcp_replay.proofs.Words.{length-append, length-drop, Link, link_of, List, max_shift, max_window, min, min_mss, mul-le, new_party, None, not, Option}
+use Rattle.tcp_replay.proofs.Words.{overlay_of, own_shift, PartyState, permission_options, piece, plain_segment, pushes, receive_refusal, Receiving, refl}
+use Rattle.tcp_replay.proofs.Words.{Reset, rst, Run, runs, scale_options, segment_of, SentSegment, shift_offered, shift_option, Some, State, subst, suc, sym}
+use Rattle.tcp_replay.proofs.Words.{Syn, syn, syn_options, syn_segment, true, unwrap_or, whole_empty, whole_read, whole_without_held, window, window_field}
+use Rattle.tcp_replay.proofs.Words.{with_bytes_received, with_fin, with_overlay, with_ranks, with_ranks_from, without_bytes, ℕ, ℤ, ◌∙◌, ◌∷◌, ◌≡◌, ◌≤◌}
 use Rattle.tcp_replay.proofs.Lemmas.{after_segment, AllSaid, Arrives, Both, both-swapped, GoesOutAlone, kept-same, KeptByCalls, Moved, on-arrival, PairKept}
 use Rattle.tcp_replay.proofs.Lemmas.{plain-bits, reset-bit, said-after, said-back, Speaks, syn-bits}
-use Rattle.tcp_progress.proofs.Words.{TellsWithin}
-use Rattle.tcp_progress.proofs.Brought.{in_order-most, overlay-length}
+use Rattle.tcp_progress.proofs.{Words.TellsWithin, Brought.in_order-most, Brought.overlay-length}
 
 -- the shift of an end that may scale by `mine`, towards one that may by `yours`
 abbrev pub agreed_shift : Option ℕ → Option ℕ → ℕ

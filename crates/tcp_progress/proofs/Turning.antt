@@ -1,18 +1,15 @@
 -- WHAT COMES LATER: what is delivered among some events is delivered among more of them, and what goes out in a list comes part by part.
-use Rattle.std.proofs.Common.{◌++◌, ◌+◌, ◌<◌, ◌∙◌, ◌∷◌, ◌≡◌, ◌≤◌, [], ap, append_assoc, arith, drop, false, IfSome, inl, inr, length, length-append}
-use Rattle.std.proofs.Common.{length-drop, length-take, List, None, Option, refl, Some, subst, suc, sym, zero, ℕ}
-use Rattle.tcp_replay.proofs.Words.{after_read, after_receive, AllByRecursion, cases_lt, Due, due_of, receive_refusal}
-use Rattle.tcp_replay.proofs.WorldWords.{both, effect_of, Emit, EventContent, other, party_after_receive, party_of, PartyState, Timer, unread_of, world_after}
-use Rattle.tcp_replay.proofs.WorldWords.{world_after_all, WorldState}
+use Rattle.tcp_replay.proofs.Words.{◌++◌, ◌+◌, ◌<◌, [], after_read, after_receive, AllByRecursion, ap, append_assoc, arith, both, cases_lt, drop, Due, due_of}
+use Rattle.tcp_replay.proofs.Words.{effect_of, Emit, EventContent, false, IfSome, inl, inr, length, length-append, length-drop, length-take, List, None, Option}
+use Rattle.tcp_replay.proofs.Words.{other, party_after_receive, party_of, PartyState, receive_refusal, refl, Some, subst, suc, sym, Timer, unread_of}
+use Rattle.tcp_replay.proofs.Words.{world_after, world_after_all, WorldState, zero, ℕ, ◌∙◌, ◌∷◌, ◌≡◌, ◌≤◌}
 use Rattle.tcp_progress.proofs.Words.{A, all_room, AllCome, B, both_served, Comes, Delivers, emissions, GetsThrough, GotThrough, HasTurns, is_reset, IsCalm}
 use Rattle.tcp_progress.proofs.Words.{IsSteadyPair, IsTurn, IsUntimed, left_in, NoneGaveUp, reads, served, Side, WhoIsServedGetsThrough}
-use Rattle.tcp_progress.proofs.AlwaysSteady.{in-every-world, IsKept, kept-steady}
-use Rattle.tcp_progress.proofs.Calm.{Grows}
-use Rattle.tcp_progress.proofs.CalmWorlds.{on-all, steps-all, steps-left, steps-streams}
 use Rattle.tcp_progress.proofs.Ended.{all-come, complete, hands-still, HasRead, IsAllTaken, IsComplete, read-end, through, up-stays, waited}
-use Rattle.tcp_progress.proofs.Live.{both-live, GoOn, IsUp, steady-back, still-reading}
-use Rattle.tcp_progress.proofs.Sides.{on-both}
 use Rattle.tcp_replay.proofs.Lemmas.{both-swapped}
+use Rattle.tcp_progress.proofs.{AlwaysSteady.in-every-world, AlwaysSteady.IsKept, AlwaysSteady.kept-steady, Calm.Grows, CalmWorlds.on-all, CalmWorlds.steps-all}
+use Rattle.tcp_progress.proofs.{CalmWorlds.steps-left, CalmWorlds.steps-streams, Live.both-live, Live.GoOn, Live.IsUp, Live.steady-back, Live.still-reading}
+use Rattle.tcp_progress.proofs.{Sides.on-both}
 
 -- AMONG: whatever is delivered among some events is delivered among others
 abbrev pub AreAmong : List EventContent → List EventContent → Type 0

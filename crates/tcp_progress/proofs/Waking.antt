@@ -1,15 +1,12 @@
 -- What an end has had already wakes it (RFC 9293, 3.10.7.4, first): an old segment isn't acceptable, and an acknowledgement is pending for it.
-use Rattle.std.proofs.Common.{◌+ℤ◌, ◌+◌, ◌-◌, ◌<◌, ◌==◌, ◌∙◌, ◌≡◌, ◌≤ℤ◌, ◌≤◌, ap, arith, false, length, negsuc, None, pos, refl, Some, suc, sym, true, zero, ℕ}
-use Rattle.tcp_replay.proofs.Words.{after_emission, after_judgement, bytes_of, Content, count_numbers, due_of, has_peer, ints, is_acceptable, Judgement}
-use Rattle.tcp_replay.proofs.Words.{max_capacity, nat_tests, number, offset, offset_of_earlier, State, Syn, syn_segment, window, with_ack_owed}
-use Rattle.tcp_replay.proofs.WorldWords.{delivery_refusal, next_position, party_after_arrival, party_after_emission, PartyState, segment_at, sent_by}
-use Rattle.tcp_replay.proofs.WorldWords.{SentSegment}
-use Rattle.tcp_replay.proofs.Lemmas.{one_if-most, wanted-is}
-use Rattle.tcp_progress.proofs.Words.{after_emissions, IsSteadyPair, IsUnacceptable, least_life}
-use Rattle.tcp_progress.proofs.Answer.{judged-old}
-use Rattle.tcp_progress.proofs.Delivered.{IsOpenTo}
-use Rattle.tcp_progress.proofs.Live.{IsStill, live-present, steady-back}
+use Rattle.tcp_replay.proofs.Words.{◌+ℤ◌, ◌+◌, ◌-◌, ◌<◌, ◌==◌, after_emission, after_judgement, ap, arith, bytes_of, Content, count_numbers, delivery_refusal}
+use Rattle.tcp_replay.proofs.Words.{due_of, false, has_peer, ints, is_acceptable, Judgement, length, max_capacity, nat_tests, negsuc, next_position, None}
+use Rattle.tcp_replay.proofs.Words.{number, offset, offset_of_earlier, party_after_arrival, party_after_emission, PartyState, pos, refl, segment_at, sent_by}
+use Rattle.tcp_replay.proofs.Words.{SentSegment, Some, State, suc, sym, Syn, syn_segment, true, window, with_ack_owed, zero, ℕ, ◌∙◌, ◌≡◌, ◌≤ℤ◌, ◌≤◌}
 use Rattle.tcp_progress.proofs.Emitted.{arrives, emitted-as, goes, goes-due, IsFresh, IsOnItsWay, of_peer, syn-position, syn-way, unexpired}
+use Rattle.tcp_replay.proofs.Lemmas.{one_if-most, wanted-is}
+use Rattle.tcp_progress.proofs.{Words.after_emissions, Words.IsSteadyPair, Words.IsUnacceptable, Words.least_life, Answer.judged-old, Delivered.IsOpenTo}
+use Rattle.tcp_progress.proofs.{Live.IsStill, Live.live-present, Live.steady-back}
 
 -- OLD: the k-th segment of p has numbers, and q has had them all. Its lifetime isn't over
 pub record IsOld (p q : PartyState) (k : ℕ) (v : Content) : Type 0 where

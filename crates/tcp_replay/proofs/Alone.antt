@@ -1,22 +1,19 @@
 -- ONE END by itself: what a rule may do to it, whoever its peer is, and a segment that it takes, stage by stage.
-use Rattle.std.proofs.Common.{[], ℕ, ⊎_elim, ◌&&◌, ◌+◌, ◌<◌, ◌==◌, ◌^◌, ◌||◌, ◌∙◌, ◌≡◌, ◌≤◌, arith, Bool, false, IfSome, if◌then◌else◌, length, List, max}
-use Rattle.std.proofs.Common.{nat_le, nat_lt, None, not, Option, refl, Some, sym, true}
-use Rattle.tcp_replay.proofs.Words.{acks_more, after_ack, after_acked_text, after_block, after_fin, after_giving_up, after_its_ack}
-use Rattle.tcp_replay.proofs.Words.{after_its_text, after_mark, after_news, after_orderly_end, after_own_fin, after_own_syn, after_taking, after_taking_shut}
-use Rattle.tcp_replay.proofs.Words.{after_text, after_window_update, and_parts, can_mark, cond_both, Config, Content, count_below, Ending}
-use Rattle.tcp_replay.proofs.Words.{Established, false≢true, fin, FinWait1, first_reset, gives_up, has, has_fin, has_peer, is_closed}
-use Rattle.tcp_replay.proofs.Words.{is_fin_due, is_handshake, is_newer, is_of_flight, is_syn_received, IsConfig, leb-true, length-marks_with}
-use Rattle.tcp_replay.proofs.Words.{ltb-true, marks_text, marks_with, new_end, not-true, NotEnded, number, or_cases, phase_after_fin, phase_after_own_fin}
-use Rattle.tcp_replay.proofs.Words.{place_of, position_near, Sending, State, takes_fin, takes_text, takes_text_of, WaitingReset, window_from}
-use Rattle.tcp_replay.proofs.Words.{with_ack_owed, with_acked, with_fin, with_marks, with_reset, with_syn_acked, with_window, without_resend}
-use Rattle.tcp_replay.proofs.WorldWords.{FitsPhase, IsAlone, IsWritable, Sends}
-use Rattle.tcp_replay.proofs.Halves.{sends-given_up, sends-syn_acked, sends-acked}
-use Rattle.tcp_replay.proofs.Phases.{gives_up-not_ended, is_synchronized, end-syn_received, end-synchronized, end-takes_text, synchronized-knows}
-use Rattle.tcp_replay.proofs.Phases.{takes_text-synchronized, present-knows, own_syn-synchronized, fits-own_syn, knows-own_syn, fits-acked, fits-own_fin}
-use Rattle.tcp_replay.proofs.Phases.{knows-own_fin, handshake-own_fin, synchronized-own_fin, fits-fin, knows-fin, handshake-fin}
-use Rattle.tcp_replay.proofs.Lists.{by_test}
-use Rattle.tcp_replay.proofs.Judgements.{IsPresent}
-use Rattle.tcp_replay.proofs.Cases.{own_fin-cases, news-cases}
+use Rattle.tcp_replay.proofs.Words.{◌&&◌, ◌+◌, ◌<◌, ◌==◌, [], ◌^◌, acks_more, after_ack, after_acked_text, after_block, after_fin, after_giving_up}
+use Rattle.tcp_replay.proofs.Words.{after_its_ack, after_its_text, after_mark, after_news, after_orderly_end, after_own_fin, after_own_syn, after_taking}
+use Rattle.tcp_replay.proofs.Words.{after_taking_shut, after_text, after_window_update, and_parts, arith, Bool, can_mark, cond_both, Config, Content}
+use Rattle.tcp_replay.proofs.Words.{count_below, Ending, Established, false, false≢true, fin, FinWait1, first_reset, FitsPhase, gives_up, has, has_fin}
+use Rattle.tcp_replay.proofs.Words.{has_peer, IfSome, if◌then◌else◌, is_closed, is_fin_due, is_handshake, is_newer, is_of_flight, is_syn_received, IsAlone}
+use Rattle.tcp_replay.proofs.Words.{IsConfig, IsWritable, leb-true, length, length-marks_with, List, ltb-true, marks_text, marks_with, max, nat_le, nat_lt}
+use Rattle.tcp_replay.proofs.Words.{new_end, None, not, not-true, NotEnded, number, Option, or_cases, phase_after_fin, phase_after_own_fin, place_of}
+use Rattle.tcp_replay.proofs.Words.{position_near, refl, Sending, Sends, Some, State, sym, takes_fin, takes_text, takes_text_of, true, WaitingReset}
+use Rattle.tcp_replay.proofs.Words.{window_from, with_ack_owed, with_acked, with_fin, with_marks, with_reset, with_syn_acked, with_window, without_resend, ◌||◌}
+use Rattle.tcp_replay.proofs.Words.{ℕ, ◌∙◌, ◌≡◌, ◌≤◌, ⊎_elim}
+use Rattle.tcp_replay.proofs.Phases.{end-syn_received, end-synchronized, end-takes_text, fits-acked, fits-fin, fits-own_fin, fits-own_syn, gives_up-not_ended}
+use Rattle.tcp_replay.proofs.Phases.{handshake-fin, handshake-own_fin, is_synchronized, knows-fin, knows-own_fin, knows-own_syn, own_syn-synchronized}
+use Rattle.tcp_replay.proofs.Phases.{present-knows, synchronized-knows, synchronized-own_fin, takes_text-synchronized}
+use Rattle.tcp_replay.proofs.{Halves.sends-acked, Halves.sends-given_up, Halves.sends-syn_acked, Lists.by_test, Judgements.IsPresent, Cases.news-cases}
+use Rattle.tcp_replay.proofs.{Cases.own_fin-cases}
 
 -- a new end
 pub alone-new : (c : Config) → IsConfig c → IsAlone (new_end c) [] false

@@ -1,25 +1,23 @@
 -- ONE END by itself: a segment that arrives, whatever is judged of it, and the user's calls and the timers.
-use Rattle.std.proofs.Common.{ℕ, ⊎_elim, ◌&&◌, ◌++◌, ◌+◌, ◌-◌, ◌<◌, ◌==◌, ◌^◌, ◌||◌, ◌∙◌, ◌≡◌, ◌≤◌, ap, arith, Bool, false, IfSome, length, length-drop, List}
-use Rattle.std.proofs.Common.{max, min, nat_lt, None, not, Option, refl, replicate, Some, sym, take, true}
-use Rattle.tcp_replay.proofs.Words.{text_limit, with_first_resent}
-use Rattle.tcp_replay.proofs.Words.{Aborted, ack, advertised_window, after_judgement, after_peer_accepts, after_peer_opens, after_read, and_parts, AreBytes}
-use Rattle.tcp_replay.proofs.Words.{cond_both, Content, count_numbers, count_sendable, end_of_marks, end_of_marks-le, Ended, gives_up, has, has_peer, is_closed}
-use Rattle.tcp_replay.proofs.Words.{is_ended, is_full, is_handshake, is_listening, is_syn_sent, IsValid, Judgement, judgement, last_mark_end, length-replicate}
-use Rattle.tcp_replay.proofs.Words.{Listen, NotConnected, NotEnded, NotOpen, number, open_refusal, opens_window, option_or, or_cases, own_reset, Peer}
-use Rattle.tcp_replay.proofs.Words.{phase_after_close, position_at, Queue, receive_refusal, refusal_if, reset_after_abort, reset_at_ack, reset_of_stray}
-use Rattle.tcp_replay.proofs.Words.{resets_on_abort, send_refusal, Sending, sends_text, Seq, State, StreamFull, takes_text, WaitingReset, with_ack_owed}
-use Rattle.tcp_replay.proofs.Words.{with_all_resent, with_bytes_received, with_connection, with_gaps_resent, with_reset, with_text, without_marks}
-use Rattle.tcp_replay.proofs.WorldWords.{IsAlone, IsWritable, PartyState, Sends}
+use Rattle.tcp_replay.proofs.Words.{◌&&◌, ◌++◌, ◌+◌, ◌-◌, ◌<◌, ◌==◌, ◌^◌, Aborted, ack, advertised_window, after_judgement, after_peer_accepts}
+use Rattle.tcp_replay.proofs.Words.{after_peer_opens, after_read, and_parts, ap, AreBytes, arith, Bool, cond_both, Content, count_numbers, count_sendable}
+use Rattle.tcp_replay.proofs.Words.{end_of_marks, end_of_marks-le, Ended, false, gives_up, has, has_peer, IfSome, is_closed, is_ended, is_full, is_handshake}
+use Rattle.tcp_replay.proofs.Words.{is_listening, is_syn_sent, IsAlone, IsValid, IsWritable, Judgement, judgement, last_mark_end, length, length-drop}
+use Rattle.tcp_replay.proofs.Words.{length-replicate, List, Listen, max, min, nat_lt, None, not, NotConnected, NotEnded, NotOpen, number, open_refusal}
+use Rattle.tcp_replay.proofs.Words.{opens_window, Option, option_or, or_cases, own_reset, PartyState, Peer, phase_after_close, position_at, Queue}
+use Rattle.tcp_replay.proofs.Words.{receive_refusal, refl, refusal_if, replicate, reset_after_abort, reset_at_ack, reset_of_stray, resets_on_abort}
+use Rattle.tcp_replay.proofs.Words.{send_refusal, Sending, Sends, sends_text, Seq, Some, State, StreamFull, sym, take, takes_text, text_limit, true}
+use Rattle.tcp_replay.proofs.Words.{WaitingReset, with_ack_owed, with_all_resent, with_bytes_received, with_connection, with_first_resent, with_gaps_resent}
+use Rattle.tcp_replay.proofs.Words.{with_reset, with_text, without_marks, ◌||◌, ℕ, ◌∙◌, ◌≡◌, ◌≤◌, ⊎_elim}
 use Rattle.tcp_conn.specs.declared.phase.Ending.TheVariants.{Reset}
-use Rattle.tcp_replay.proofs.Halves.{sends-syn, sends-syn_acked, sends-more, sends-closed}
-use Rattle.tcp_replay.proofs.Phases.{end-listen, end-syn_sent, syn_sent-knows, present-knows, present-opened, gives_up-not_ended, not_ended, end-closed}
-use Rattle.tcp_replay.proofs.Phases.{closed-unknown, resets_on_abort-knows, handshake-knows, sends_text-synchronized, time_wait-synchronized, end-synchronized}
-use Rattle.tcp_replay.proofs.Phases.{fits-closing, knows-closing, handshake-closing}
-use Rattle.tcp_replay.proofs.Alone.{alone-reset, alone-owing, alone-given_up, alone-taking, alone-taking_shut, alone-ack_owed, alone-orderly, alone-sending}
+use Rattle.tcp_replay.proofs.Phases.{closed-unknown, end-closed, end-listen, end-syn_sent, end-synchronized, fits-closing, gives_up-not_ended}
+use Rattle.tcp_replay.proofs.Phases.{handshake-closing, handshake-knows, knows-closing, not_ended, present-knows, present-opened, resets_on_abort-knows}
+use Rattle.tcp_replay.proofs.Phases.{sends_text-synchronized, syn_sent-knows, time_wait-synchronized}
+use Rattle.tcp_replay.proofs.Alone.{alone-ack_owed, alone-given_up, alone-orderly, alone-owing, alone-reset, alone-sending, alone-taking, alone-taking_shut}
 use Rattle.tcp_replay.proofs.Alone.{owes-taking}
-use Rattle.tcp_replay.proofs.Judgements.{IsPresent, judged}
 use Rattle.tcp_conn.specs.declared.outcome.CallError.TheVariants.{Closing}
-use Rattle.tcp_replay.proofs.Calls.{CanOpen, KeptByCalls, option_or-none, owed_on_timeout, refusal_if-none}
+use Rattle.tcp_replay.proofs.{Halves.sends-closed, Halves.sends-more, Halves.sends-syn, Halves.sends-syn_acked, Judgements.IsPresent, Judgements.judged}
+use Rattle.tcp_replay.proofs.{Calls.CanOpen, Calls.KeptByCalls, Calls.option_or-none, Calls.owed_on_timeout, Calls.refusal_if-none}
 
 -- RESETS can be written
 pub writable-at_ack : (src : List ℕ) (v : Content) → IsValid v → IsWritable (reset_at_ack src v)

@@ -1,21 +1,16 @@
 -- What each event does to the half that receives, at one end by itself: what came in order grows by the text that is
 -- taken, and by nothing else.
-use Rattle.std.proofs.Common.{ℕ, ◌++◌, ◌+◌, ◌-◌, ◌<◌, ◌==◌, ◌^◌, ◌∙◌, ◌≡◌, ◌⊎◌, ap, arith, Bool, drop, false, if◌then◌else◌, inl, inr, length, length-drop}
-use Rattle.std.proofs.Common.{List, min, not, refl, subst, sym, take, true}
-use Rattle.tcp_replay.proofs.Words.{after_acked_text, after_fin, after_giving_up, after_its_ack, after_its_text, after_judgement, after_news}
-use Rattle.tcp_replay.proofs.Words.{after_own_fin, after_own_syn, after_peer_accepts, after_peer_opens, after_read, after_taking, after_taking_shut, after_text}
-use Rattle.tcp_replay.proofs.Words.{and_parts, cond_both, Content, false≢true, fin, Foreign, gives_up, has, has_fin, is_fin_due, is_foreign}
-use Rattle.tcp_replay.proofs.Words.{Judgement, judgement, number, Peer, phase_judgement, Receiving, State, syn, takes_fin}
-use Rattle.tcp_replay.proofs.Words.{takes_text, takes_text_of, with_bytes_received, with_fin, with_syn}
-use Rattle.tcp_replay.proofs.WorldWords.{IsAlone, PartyState}
+use Rattle.tcp_replay.proofs.Words.{◌++◌, ◌+◌, ◌-◌, ◌<◌, ◌==◌, ◌^◌, after_acked_text, after_fin, after_giving_up, after_its_ack, after_its_text}
+use Rattle.tcp_replay.proofs.Words.{after_judgement, after_news, after_own_fin, after_own_syn, after_peer_accepts, after_peer_opens, after_read, after_taking}
+use Rattle.tcp_replay.proofs.Words.{after_taking_shut, after_text, and_parts, ap, arith, Bool, cond_both, Content, drop, false, false≢true, fin, Foreign}
+use Rattle.tcp_replay.proofs.Words.{gives_up, has, has_fin, if◌then◌else◌, inl, inr, is_fin_due, is_foreign, IsAlone, Judgement, judgement, length, length-drop}
+use Rattle.tcp_replay.proofs.Words.{List, min, not, number, PartyState, Peer, phase_judgement, Receiving, refl, State, subst, sym, syn, take, takes_fin}
+use Rattle.tcp_replay.proofs.Words.{takes_text, takes_text_of, true, with_bytes_received, with_fin, with_syn, ℕ, ◌∙◌, ◌≡◌, ◌⊎◌}
 use Rattle.tcp_conn.specs.declared.phase.Ending.TheVariants.{Reset}
-use Rattle.tcp_replay.proofs.Lists.{by_test}
-use Rattle.tcp_replay.proofs.Phases.{gives_up-not_ended, end-listen, end-syn_sent, end-synchronized, end-takes_text, not-closed-ended, time_wait-synchronized}
-use Rattle.tcp_replay.proofs.Judgements.{IsPresent, IsTaken, in-phase}
-use Rattle.tcp_replay.proofs.Alone.{alone-its_ack, alone-its_text}
-use Rattle.tcp_replay.proofs.Feeds.{AllText, ByNumber, IsFed, fed-syn, fed-read, fed-given_up, fed-fin, fed-text}
-use Rattle.tcp_replay.proofs.Calls.{KeptByCalls}
-use Rattle.tcp_replay.proofs.Cases.{own_fin-cases}
+use Rattle.tcp_replay.proofs.Phases.{end-listen, end-syn_sent, end-synchronized, end-takes_text, gives_up-not_ended, not-closed-ended, time_wait-synchronized}
+use Rattle.tcp_replay.proofs.{Lists.by_test, Judgements.in-phase, Judgements.IsPresent, Judgements.IsTaken, Alone.alone-its_ack, Alone.alone-its_text}
+use Rattle.tcp_replay.proofs.{Feeds.AllText, Feeds.ByNumber, Feeds.fed-fin, Feeds.fed-given_up, Feeds.fed-read, Feeds.fed-syn, Feeds.fed-text, Feeds.IsFed}
+use Rattle.tcp_replay.proofs.{Calls.KeptByCalls, Cases.own_fin-cases}
 
 -- FROM ONE STATE TO ANOTHER: as many bytes more are in order as make what is unread longer
 pub record Feeds (P : ℕ → ℕ → Type 0) (Q : Type 0) (s s' : State) (irs k : ℕ) (delivered : List ℕ) : Type 0 where

@@ -1,25 +1,19 @@
 -- A SEGMENT THAT THE PEER EMITTED arrives: whatever is judged of it, the end stays sound; and what else each rule has to keep, gone through once.
-use Rattle.std.proofs.Common.{ℕ, ◌+◌, ◌^◌, ◌||◌, ◌∙◌, ◌≡◌, ◌≤◌, ap, arith, Bool, false, if◌then◌else◌, length, List, Option, refl}
-use Rattle.std.proofs.Common.{sym, true}
-use Rattle.tcp_replay.proofs.Words.{ack, acks_more, after_ack, after_acked_text, after_fin, after_giving_up, after_its_ack, after_its_text, after_judgement}
-use Rattle.tcp_replay.proofs.Words.{after_news, after_orderly_end, after_own_fin, after_own_syn, after_peer_accepts, after_peer_opens, after_taking}
-use Rattle.tcp_replay.proofs.Words.{after_taking_shut, after_text, cond_both, Content, eqb-true, first_reset, gives_up, HandshakeRefusedShut, has}
-use Rattle.tcp_replay.proofs.Words.{has_fin, is_fin_acked, is_last_ack, is_listening, is_syn_received, is_syn_sent, IsValid, Judgement, judgement}
-use Rattle.tcp_replay.proofs.Words.{number, Owed, phase_after_fin, phase_after_own_fin, position_near, reset_at_ack, reset_of_stray, rst}
-use Rattle.tcp_replay.proofs.Words.{Sending, State, syn, Taken, TakenShut, takes_fin, takes_text_of, WaitingReset, window_from, with_ack_owed, with_acked}
-use Rattle.tcp_replay.proofs.Words.{with_fin, with_reset, with_syn_acked, with_window, nat_tests}
-use Rattle.tcp_replay.proofs.WorldWords.{IsTruthful, next_position, PartyState, StandsAt, witness_of}
+use Rattle.tcp_replay.proofs.Words.{◌+◌, ◌^◌, ack, acks_more, after_ack, after_acked_text, after_fin, after_giving_up, after_its_ack, after_its_text}
+use Rattle.tcp_replay.proofs.Words.{after_judgement, after_news, after_orderly_end, after_own_fin, after_own_syn, after_peer_accepts, after_peer_opens}
+use Rattle.tcp_replay.proofs.Words.{after_taking, after_taking_shut, after_text, ap, arith, Bool, cond_both, Content, eqb-true, false, first_reset, gives_up}
+use Rattle.tcp_replay.proofs.Words.{HandshakeRefusedShut, has, has_fin, if◌then◌else◌, is_fin_acked, is_last_ack, is_listening, is_syn_received, is_syn_sent}
+use Rattle.tcp_replay.proofs.Words.{IsTruthful, IsValid, Judgement, judgement, length, List, nat_tests, next_position, number, Option, Owed, PartyState}
+use Rattle.tcp_replay.proofs.Words.{phase_after_fin, phase_after_own_fin, position_near, refl, reset_at_ack, reset_of_stray, rst, Sending, StandsAt, State, sym}
+use Rattle.tcp_replay.proofs.Words.{syn, Taken, TakenShut, takes_fin, takes_text_of, true, WaitingReset, window_from, with_ack_owed, with_acked, with_fin}
+use Rattle.tcp_replay.proofs.Words.{with_reset, with_syn_acked, with_window, witness_of, ◌||◌, ℕ, ◌∙◌, ◌≡◌, ◌≤◌}
 use Rattle.tcp_conn.specs.declared.phase.Ending.TheVariants.{Reset}
-use Rattle.tcp_replay.proofs.Halves.{takes-syn}
-use Rattle.tcp_replay.proofs.Steps.{Kept, kept-changed, kept-reset, kept-owing, kept-given_up}
-use Rattle.tcp_replay.proofs.Phases.{end-listen, end-syn_sent, syn_sent-knows}
-use Rattle.tcp_replay.proofs.AloneCalls.{writable-at_ack, writable-stray, alone-opening, alone-acceptance, present-owes}
-use Rattle.tcp_replay.proofs.Judgements.{IsPresent, IsAckOnly, judged, IsSyn}
-use Rattle.tcp_replay.proofs.Stages.{IsAhead, IsYoung, IsAck, kept-taking, kept-taking_shut, Synced, acked_text-behind, kept-acked_text, kept-its_ack}
-use Rattle.tcp_replay.proofs.Stages.{kept-its_text, kept-news, kept-own_syn, own_syn-near, young-later}
-use Rattle.tcp_replay.proofs.Lists.{by_test}
-use Rattle.tcp_replay.proofs.Alone.{same-news}
-use Rattle.tcp_replay.proofs.Cases.{own_fin-cases}
+use Rattle.tcp_replay.proofs.AloneCalls.{alone-acceptance, alone-opening, present-owes, writable-at_ack, writable-stray}
+use Rattle.tcp_replay.proofs.Stages.{acked_text-behind, IsAck, IsAhead, IsYoung, kept-acked_text, kept-its_ack, kept-its_text, kept-news, kept-own_syn}
+use Rattle.tcp_replay.proofs.Stages.{kept-taking, kept-taking_shut, own_syn-near, Synced, young-later}
+use Rattle.tcp_replay.proofs.{Halves.takes-syn, Steps.Kept, Steps.kept-changed, Steps.kept-given_up, Steps.kept-owing, Steps.kept-reset, Phases.end-listen}
+use Rattle.tcp_replay.proofs.{Phases.end-syn_sent, Phases.syn_sent-knows, Judgements.IsAckOnly, Judgements.IsPresent, Judgements.IsSyn, Judgements.judged}
+use Rattle.tcp_replay.proofs.{Lists.by_test, Alone.same-news, Cases.own_fin-cases}
 
 -- SYN: its position is 0
 syn-number : (p q : PartyState) (v : Content) → IsTruthful (witness_of q p) v → has syn v.flags ≡ true → v.seq ≡ number q.endpoint.config.isn.0 0

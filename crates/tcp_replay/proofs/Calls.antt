@@ -1,21 +1,18 @@
 -- THE CALLS, TIMERS AND EMISSIONS OF A PARTY, gone through once: what each has to keep, where it isn't refused.
-use Rattle.std.proofs.Common.{◌⊎◌, inl, inr}
-use Rattle.std.proofs.Common.{ℕ, ◌++◌, ◌||◌, ◌≡◌, append-nil, Bool, false, IfSome, is_ok, length, List, min, None, not, Ok, Option, refl, Some, take, true}
-use Rattle.tcp_replay.proofs.Words.{ack_alone, after_ack_alone, after_resend_first, text_limit, with_first_resent}
-use Rattle.tcp_replay.proofs.Words.{Aborted, after_abort, after_acknowledge, after_close, after_closing, after_connect, after_due, after_emission, after_gaps}
-use Rattle.tcp_replay.proofs.Words.{after_giving_up, after_listen, after_orderly_end, after_receive, after_reorder, after_retransmit, after_send}
-use Rattle.tcp_replay.proofs.Words.{after_time_wait, AlreadyOpen, answer_unless, AreBytes, bytes_unless, CallError, close_refusal, cond_both, count_sendable}
-use Rattle.tcp_replay.proofs.Words.{Due, due_of, Ended, is_closed, is_ended, is_handshake, is_time_wait, is_unanswered, last_mark_end, Listen, needs_probe}
-use Rattle.tcp_replay.proofs.Words.{not-false, NotEnded, open_refusal, opening_refusal, option_or, or_right, Owed, Peer, receive_refusal, Received}
-use Rattle.tcp_replay.proofs.Words.{received_value, refusal_if, Reorder, Retransmit, send_refusal, Sending, sends_again, sends_text, State, state_after}
-use Rattle.tcp_replay.proofs.Words.{state_unless, takes_text, Timer, with_abort, with_all_resent, with_bytes_received, with_closing, with_connection}
-use Rattle.tcp_replay.proofs.Words.{with_gaps_resent, with_text}
-use Rattle.tcp_replay.proofs.WorldWords.{party_after_resend_first}
-use Rattle.tcp_replay.proofs.WorldWords.{front_taken, is_end_of_stream, IsAlone, party_after_abort, party_after_acknowledge, party_after_close}
-use Rattle.tcp_replay.proofs.WorldWords.{party_after_connect, party_after_listen, party_after_receive, party_after_send, party_after_timer, PartyState}
+use Rattle.tcp_replay.proofs.Words.{◌++◌, Aborted, ack_alone, after_abort, after_ack_alone, after_acknowledge, after_close, after_closing, after_connect}
+use Rattle.tcp_replay.proofs.Words.{after_due, after_emission, after_gaps, after_giving_up, after_listen, after_orderly_end, after_receive, after_reorder}
+use Rattle.tcp_replay.proofs.Words.{after_resend_first, after_retransmit, after_send, after_time_wait, AlreadyOpen, answer_unless, append-nil, AreBytes, Bool}
+use Rattle.tcp_replay.proofs.Words.{bytes_unless, CallError, close_refusal, cond_both, count_sendable, Due, due_of, Ended, false, front_taken, IfSome, inl, inr}
+use Rattle.tcp_replay.proofs.Words.{is_closed, is_end_of_stream, is_ended, is_handshake, is_ok, is_time_wait, is_unanswered, IsAlone, last_mark_end, length}
+use Rattle.tcp_replay.proofs.Words.{List, Listen, min, needs_probe, None, not, not-false, NotEnded, Ok, open_refusal, opening_refusal, Option, option_or}
+use Rattle.tcp_replay.proofs.Words.{or_right, Owed, party_after_abort, party_after_acknowledge, party_after_close, party_after_connect, party_after_listen}
+use Rattle.tcp_replay.proofs.Words.{party_after_receive, party_after_resend_first, party_after_send, party_after_timer, PartyState, Peer, receive_refusal}
+use Rattle.tcp_replay.proofs.Words.{Received, received_value, refl, refusal_if, Reorder, Retransmit, send_refusal, Sending, sends_again, sends_text, Some}
+use Rattle.tcp_replay.proofs.Words.{State, state_after, state_unless, take, takes_text, text_limit, true, with_abort, with_all_resent, with_bytes_received}
+use Rattle.tcp_replay.proofs.Words.{with_closing, with_connection, with_first_resent, with_gaps_resent, with_text, ◌||◌, ℕ, ◌≡◌, ◌⊎◌}
+use Rattle.tcp_conn.specs.declared.phase.Timer.{Timer}
 use Rattle.tcp_conn.specs.declared.phase.Timer.TheVariants.{TimeWait}
-use Rattle.tcp_replay.proofs.AloneEmissions.{GoesOutAlone, ack-alone-goes, due-alone}
-use Rattle.tcp_replay.proofs.Phases.{not_ended}
+use Rattle.tcp_replay.proofs.{AloneEmissions.ack-alone-goes, AloneEmissions.due-alone, AloneEmissions.GoesOutAlone, Phases.not_ended}
 
 -- REFUSALS: a call that is refused changes nothing
 pub unless-kept : (P : State → Type 0) (o : Option CallError) (s s' : State) → P s → (o ≡ None → P s') → P (state_unless o s s')

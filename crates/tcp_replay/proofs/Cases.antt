@@ -1,9 +1,7 @@
 -- THE STAGES OF AN ARRIVAL by their cases, opened once: P holds of the state after a stage where it holds in each case.
-use Rattle.std.proofs.Common.{[], ℕ, ◌∷◌, ◌≡◌, false, if◌then◌else◌, List, true}
-use Rattle.tcp_replay.proofs.Words.{after_block, after_blocks, after_news, after_orderly_end, after_own_fin, after_window_update, blocks_used, cond_both}
-use Rattle.tcp_replay.proofs.Words.{Content}
-use Rattle.tcp_replay.proofs.Words.{is_current, is_fin_acked, is_last_ack, is_newer, marks_text, phase_after_own_fin, position_of, Sending, State, window_from}
-use Rattle.tcp_replay.proofs.Words.{with_marks, with_news, with_window}
+use Rattle.tcp_replay.proofs.Words.{[], after_block, after_blocks, after_news, after_orderly_end, after_own_fin, after_window_update, blocks_used, cond_both}
+use Rattle.tcp_replay.proofs.Words.{Content, false, if◌then◌else◌, is_current, is_fin_acked, is_last_ack, is_newer, List, marks_text, phase_after_own_fin}
+use Rattle.tcp_replay.proofs.Words.{position_of, Sending, State, true, window_from, with_marks, with_news, with_window, ℕ, ◌∷◌, ◌≡◌}
 
 -- the own FIN is acknowledged in LAST-ACK, in another phase, or not at all
 pub own_fin-cases : (x : State) (P : State → Type 0) → (is_fin_acked x.sending ≡ true → is_last_ack x.phase ≡ true → P (after_orderly_end x))

@@ -1,15 +1,12 @@
 -- What is due may go out to the peer: it is truthful unless it is a reset, and the end stays sound.
-use Rattle.std.proofs.Common.{ℕ, ◌+◌, ◌-◌, ◌∙◌, ◌≡◌, ◌≤◌, ap, arith, Bool, drop, false, IfSome, if◌then◌else◌, is_some, length, length-drop, length-take, List}
-use Rattle.std.proofs.Common.{min, None, Ok, Option, refl, Some, subst, sym, take, true}
-use Rattle.tcp_replay.proofs.Words.{ack, bytes_of, Content, count_of, decode_answer, decoded_encoded, destination_of, Due, due_of, encoded_bytes, false≢true}
-use Rattle.tcp_replay.proofs.Words.{fin, has, is_fin, is_handshake, IsValid, IsWire_encoded, ne_eqb, next_wanted, owed_after, plain_segment, position_of}
-use Rattle.tcp_replay.proofs.Words.{position_of_number, psh, pushes, Reset, rst, segment_of, start_of, State, state_after, syn, Syn, syn_segment, take_min}
-use Rattle.tcp_replay.proofs.Words.{text_of, WaitingReset}
-use Rattle.tcp_replay.proofs.WorldWords.{IsOfUser, IsOwn, IsSoundPair, IsTrueAck, IsTruthful, next_position, PartyState, sent_by, seq_in, StandsAt, witness_of}
-use Rattle.tcp_replay.proofs.Lists.{one_if-most}
-use Rattle.tcp_replay.proofs.Phases.{handshake-knows, handshake-una}
-use Rattle.tcp_replay.proofs.Steps.{Kept, kept-same, kept-alone}
-use Rattle.tcp_replay.proofs.AloneEmissions.{if-some-map, IsSaid, GoesOutAlone, due-alone}
+use Rattle.tcp_replay.proofs.Words.{◌+◌, ◌-◌, ack, ap, arith, Bool, bytes_of, Content, count_of, decode_answer, decoded_encoded, destination_of, drop, Due}
+use Rattle.tcp_replay.proofs.Words.{due_of, encoded_bytes, false, false≢true, fin, has, IfSome, if◌then◌else◌, is_fin, is_handshake, is_some, IsOfUser, IsOwn}
+use Rattle.tcp_replay.proofs.Words.{IsSoundPair, IsTrueAck, IsTruthful, IsValid, IsWire_encoded, length, length-drop, length-take, List, min, ne_eqb}
+use Rattle.tcp_replay.proofs.Words.{next_position, next_wanted, None, Ok, Option, owed_after, PartyState, plain_segment, position_of, position_of_number, psh}
+use Rattle.tcp_replay.proofs.Words.{pushes, refl, Reset, rst, segment_of, sent_by, seq_in, Some, StandsAt, start_of, State, state_after, subst, sym, Syn, syn}
+use Rattle.tcp_replay.proofs.Words.{syn_segment, take, take_min, text_of, true, WaitingReset, witness_of, ℕ, ◌∙◌, ◌≡◌, ◌≤◌}
+use Rattle.tcp_replay.proofs.{Lists.one_if-most, Phases.handshake-knows, Phases.handshake-una, Steps.Kept, Steps.kept-alone, Steps.kept-same}
+use Rattle.tcp_replay.proofs.{AloneEmissions.due-alone, AloneEmissions.GoesOutAlone, AloneEmissions.if-some-map, AloneEmissions.IsSaid}
 
 -- an acknowledgement is of the next position
 true-ack : (p q : PartyState) (ack : ℕ) → p.endpoint.receiving.opened ≡ true → ack ≡ p.endpoint.receiving.next → IsSoundPair p q

@@ -1,29 +1,25 @@
 -- EVERY EVENT of two sound ends, gone through once: deliveries, damage that is found, what was emitted, and what a fact of both has to keep.
-use Rattle.std.proofs.Common.{[], ℕ, ⊎_elim, ◌++◌, ◌+◌, ◌<◌, ◌==◌, ◌||◌, ◌∙◌, ◌≡◌, ◌≢◌, ◌≤◌, ap, append-nil, arith, bit_xor, Bool, Err, false, IfSome}
-use Rattle.std.proofs.Common.{if◌then◌else◌, length, List, nat_le, None, not, Ok, Option, option_map, option_to_list, refl, Result, slice_get, slice_index}
-use Rattle.std.proofs.Common.{inl, inr, Some, subst, sym, true}
-use Rattle.tcp_replay.proofs.Words.{ack_alone}
-use Rattle.tcp_replay.proofs.Words.{ack, after_arrival, after_due, after_emission, after_judgement, after_reading, answer_to_reading, arrival_answer}
-use Rattle.tcp_replay.proofs.Words.{BadChecksum, bytes_of, Config, Content, decode_answer, decoded_damaged, decoded_encoded, DecodeError, destination_of}
-use Rattle.tcp_replay.proofs.Words.{differs_set, DiffersInOnePlace, Due, due_of, emitted_bytes, eqb-false, has, IsWire, IsWire_encoded, judgement, leb-false}
-use Rattle.tcp_replay.proofs.Words.{Malformed, next_wanted, position_of, rst, segment_of, slice_get-get_or, State, state_after, unwrap_or-slice_get, xor_assoc}
-use Rattle.tcp_replay.proofs.Words.{xor_of_8, xor_self, xor_zero_l}
-use Rattle.tcp_replay.proofs.WorldWords.{EmitAcknowledgement, party_after_ack_alone, party_after_resend_first, party_out, ResendFirst}
-use Rattle.tcp_replay.proofs.WorldWords.{A, Abort, Acknowledge, acks_late, address_of, AreOwn, AreSoundEnds, arrival_outcome, B, bytes_with_damage, Close}
-use Rattle.tcp_replay.proofs.WorldWords.{Connect, Damage, damage_refusal, Deliver, delivery_refusal, effect_of, Emit, EventContent, Expired, flags_in, HasBytes}
-use Rattle.tcp_replay.proofs.WorldWords.{is_expired, is_late, is_missing, IsOwn, IsSoundEnd, IsSoundPair, Listen, max_life, NoChange, NoSuchSegment, other}
-use Rattle.tcp_replay.proofs.WorldWords.{party_after_abort, party_after_acknowledge, party_after_arrival, party_after_close, party_after_connect}
-use Rattle.tcp_replay.proofs.WorldWords.{party_after_emission, party_after_listen, party_after_receive, party_after_send, party_after_timer, party_of}
-use Rattle.tcp_replay.proofs.WorldWords.{PartyState, PlaceOutside, Receive, refusal_of, segment_at, Send, sent_at, sent_by, SentSegment, Side, side_of}
-use Rattle.tcp_replay.proofs.WorldWords.{StepError, Timer, world_from, world_with_effect, WorldState}
-use Rattle.tcp_replay.proofs.Lists.{one_if-most, and-fails, or-fails}
-use Rattle.tcp_replay.proofs.Arrivals.{Comes, fair-judgement}
-use Rattle.tcp_replay.proofs.Emissions.{wanted-is, GoesOut, goes-out, due-decodes, seq-in}
-use Rattle.tcp_replay.proofs.AloneEmissions.{GoesOutAlone, ack-alone-goes, due-alone, if-some-map}
-use Rattle.tcp_replay.proofs.Steps.{Kept, Moved, kept-same, pair-swapped, slice_get-more}
-use Rattle.tcp_replay.proofs.Calls.{KeptByCalls, MayGoOut, on-abort, on-acknowledge, on-close, on-connect, on-due, on-listen, on-receive, on-send, on-timer}
-use Rattle.tcp_replay.proofs.Calls.{on-resend-first, with_end}
-use Rattle.tcp_replay.proofs.Users.{sound-calls}
+use Rattle.tcp_replay.proofs.Words.{◌++◌, ◌+◌, ◌<◌, ◌==◌, [], A, Abort, ack, ack_alone, Acknowledge, acks_late, address_of, after_arrival, after_due}
+use Rattle.tcp_replay.proofs.Words.{after_emission, after_judgement, after_reading, answer_to_reading, ap, append-nil, AreOwn, AreSoundEnds, arith}
+use Rattle.tcp_replay.proofs.Words.{arrival_answer, arrival_outcome, B, BadChecksum, bit_xor, Bool, bytes_of, bytes_with_damage, Close, Config, Connect}
+use Rattle.tcp_replay.proofs.Words.{Content, Damage, damage_refusal, decode_answer, decoded_damaged, decoded_encoded, DecodeError, Deliver, delivery_refusal}
+use Rattle.tcp_replay.proofs.Words.{destination_of, differs_set, DiffersInOnePlace, Due, due_of, effect_of, Emit, EmitAcknowledgement, emitted_bytes, eqb-false}
+use Rattle.tcp_replay.proofs.Words.{Err, EventContent, Expired, false, flags_in, has, HasBytes, IfSome, if◌then◌else◌, inl, inr, is_expired, is_late}
+use Rattle.tcp_replay.proofs.Words.{is_missing, IsOwn, IsSoundEnd, IsSoundPair, IsWire, IsWire_encoded, judgement, leb-false, length, List, Malformed, max_life}
+use Rattle.tcp_replay.proofs.Words.{nat_le, next_wanted, NoChange, None, NoSuchSegment, not, Ok, Option, option_map, option_to_list, other, party_after_abort}
+use Rattle.tcp_replay.proofs.Words.{party_after_ack_alone, party_after_acknowledge, party_after_arrival, party_after_close, party_after_connect}
+use Rattle.tcp_replay.proofs.Words.{party_after_emission, party_after_listen, party_after_receive, party_after_resend_first, party_after_send}
+use Rattle.tcp_replay.proofs.Words.{party_after_timer, party_of, party_out, PartyState, PlaceOutside, position_of, Receive, refl, refusal_of, ResendFirst}
+use Rattle.tcp_replay.proofs.Words.{Result, rst, segment_at, segment_of, Send, sent_at, sent_by, SentSegment, Side, side_of, slice_get, slice_get-get_or}
+use Rattle.tcp_replay.proofs.Words.{slice_index, Some, State, state_after, StepError, subst, sym, Timer, true, unwrap_or-slice_get, world_from}
+use Rattle.tcp_replay.proofs.Words.{world_with_effect, WorldState, xor_assoc, xor_of_8, xor_self, xor_zero_l, ◌||◌, ℕ, ◌∙◌, ◌≡◌, ◌≢◌, ◌≤◌, ⊎_elim}
+use Rattle.tcp_replay.proofs.Calls.{KeptByCalls, MayGoOut, on-abort, on-acknowledge, on-close, on-connect, on-due, on-listen, on-receive, on-resend-first}
+use Rattle.tcp_replay.proofs.Calls.{on-send, on-timer, with_end}
+use Rattle.tcp_replay.specs.Events.{Listen}
+use Rattle.tcp_replay.proofs.{Lists.and-fails, Lists.one_if-most, Lists.or-fails, Arrivals.Comes, Arrivals.fair-judgement, Emissions.due-decodes}
+use Rattle.tcp_replay.proofs.{Emissions.goes-out, Emissions.GoesOut, Emissions.seq-in, Emissions.wanted-is, AloneEmissions.ack-alone-goes}
+use Rattle.tcp_replay.proofs.{AloneEmissions.due-alone, AloneEmissions.GoesOutAlone, AloneEmissions.if-some-map, Steps.Kept, Steps.kept-same, Steps.Moved}
+use Rattle.tcp_replay.proofs.{Steps.pair-swapped, Steps.slice_get-more, Users.sound-calls}
 use Rattle.tcp_replay.specs.declared.outcome.Outcome.TheVariants as outcomes
 
 -- DELIVERY of a segment that the peer emitted

@@ -1,17 +1,17 @@
 -- A whole connection on the definitions: the handshake, three bytes each way, and an orderly close (RFC 9293, 3.5 and 3.6).
-use Rattle.std.proofs.Common.{[], ◌++◌, ◌∷◌, ◌≡◌, false, length, List, None, refl, true}
-use Rattle.tcp_replay.proofs.Words.{acceptable_judgement, ack_judgement, after_ack, after_acked_text, after_arrival, after_block, after_close, after_connect}
-use Rattle.tcp_replay.proofs.Words.{after_emission, after_fin, after_its_ack, after_its_text, after_listen, after_mark, after_news, after_own_fin}
-use Rattle.tcp_replay.proofs.Words.{after_own_syn, after_peer_accepts, after_peer_opens, after_place, after_read, after_receive, after_send, after_taking}
-use Rattle.tcp_replay.proofs.Words.{after_text, after_time_wait, after_window_update, arrival_answer, blocks, bytes_of, can_mark, closed_judgement, Config}
-use Rattle.tcp_replay.proofs.Words.{decode_answer, default_limit, due_of, emitted_bytes, encoded_bytes, is_acceptable, is_foreign, judgement, layout_of}
-use Rattle.tcp_replay.proofs.Words.{link_of, listen_judgement, new_text_of, next_unmarked, offset, option_at, options_in, Orderly, padding_at, phase_judgement}
-use Rattle.tcp_replay.proofs.Words.{place_answer, position_of, present_judgement, resend_of, runs_newest_first, segment_of, syn_sent_judgement}
-use Rattle.tcp_replay.proofs.Words.{unacceptable_judgement, with_ranks, without_marks}
-use Rattle.tcp_replay.proofs.WorldWords.{A, B, Close, Connect, Deliver, effect_of, Emit, EventContent, Listen, new_world, party_after_arrival}
-use Rattle.tcp_replay.proofs.WorldWords.{party_after_close, party_after_connect, party_after_emission, party_after_listen, party_after_receive}
-use Rattle.tcp_replay.proofs.WorldWords.{party_after_send, party_after_timer, Receive, Send, stop_of, Timer, world_after_all, WorldState}
+use Rattle.tcp_replay.proofs.Words.{◌++◌, [], A, acceptable_judgement, ack_judgement, after_ack, after_acked_text, after_arrival, after_block, after_close}
+use Rattle.tcp_replay.proofs.Words.{after_connect, after_emission, after_fin, after_its_ack, after_its_text, after_listen, after_mark, after_news}
+use Rattle.tcp_replay.proofs.Words.{after_own_fin, after_own_syn, after_peer_accepts, after_peer_opens, after_place, after_read, after_receive, after_send}
+use Rattle.tcp_replay.proofs.Words.{after_taking, after_text, after_time_wait, after_window_update, arrival_answer, B, blocks, bytes_of, can_mark, Close}
+use Rattle.tcp_replay.proofs.Words.{closed_judgement, Config, Connect, decode_answer, default_limit, Deliver, due_of, effect_of, Emit, emitted_bytes}
+use Rattle.tcp_replay.proofs.Words.{encoded_bytes, EventContent, false, is_acceptable, is_foreign, judgement, layout_of, length, link_of, List}
+use Rattle.tcp_replay.proofs.Words.{listen_judgement, new_text_of, new_world, next_unmarked, None, offset, option_at, options_in, Orderly, padding_at}
+use Rattle.tcp_replay.proofs.Words.{party_after_arrival, party_after_close, party_after_connect, party_after_emission, party_after_listen, party_after_receive}
+use Rattle.tcp_replay.proofs.Words.{party_after_send, party_after_timer, phase_judgement, place_answer, position_of, present_judgement, Receive, refl}
+use Rattle.tcp_replay.proofs.Words.{resend_of, runs_newest_first, segment_of, Send, stop_of, syn_sent_judgement, Timer, true, unacceptable_judgement}
+use Rattle.tcp_replay.proofs.Words.{with_ranks, without_marks, world_after_all, WorldState, ◌∷◌, ◌≡◌}
 use Rattle.tcp_conn.specs.declared.phase.Timer.TheVariants.{TimeWait}
+use Rattle.tcp_replay.specs.Events.{Listen}
 
 -- the end that connects
 unfoldable pub a : Config

@@ -1,12 +1,11 @@
 -- The half that receives, by itself: where each byte that it has came from, whoever sent it.
-use Rattle.std.proofs.Common.{[], ℕ, ℤ, ◌%◌, ◌++◌, ◌+◌, ◌-◌, ◌<◌, ◌^◌, ◌∙◌, ◌∷◌, ◌≡◌, ◌≤◌, ap, append-nil, arith, Bool, drop, false, if◌then◌else◌, length}
-use Rattle.std.proofs.Common.{length-append, List, min, nat_lt, negsuc, None, Option, refl, replicate, slice_get, Some, subst, suc, sym, take, take-append-drop}
-use Rattle.std.proofs.Common.{true, zero}
-use Rattle.tcp_replay.proofs.Words.{advance_of, advance_of-answer_for, after_handing, after_place, after_read, after_text, answer_for, append_assoc}
-use Rattle.tcp_replay.proofs.Words.{bytes_in_order, Cell, distance, false≢true, greatest_stamp, Inbox, is_refused, ltb-false, ltb-true, new_receiving, NotKept}
-use Rattle.tcp_replay.proofs.Words.{number, offset, offset_ahead, offset_of_earlier, overlay, overlay_of, piece, place_answer, Receiving, Run, runs, take_min}
-use Rattle.tcp_replay.proofs.Words.{window, with_fin, with_overlay, with_ranks, with_ranks_from, with_syn, without_bytes}
-use Rattle.tcp_replay.proofs.Lists.{by_test, one_if, one_if-false, number-further}
+use Rattle.tcp_replay.proofs.Words.{◌%◌, ◌++◌, ◌+◌, ◌-◌, ◌<◌, [], ◌^◌, advance_of, advance_of-answer_for, after_handing, after_place, after_read, after_text}
+use Rattle.tcp_replay.proofs.Words.{answer_for, ap, append-nil, append_assoc, arith, Bool, bytes_in_order, Cell, distance, drop, false, false≢true}
+use Rattle.tcp_replay.proofs.Words.{greatest_stamp, if◌then◌else◌, Inbox, is_refused, length, length-append, List, ltb-false, ltb-true, min, nat_lt, negsuc}
+use Rattle.tcp_replay.proofs.Words.{new_receiving, None, NotKept, number, offset, offset_ahead, offset_of_earlier, Option, overlay, overlay_of, piece}
+use Rattle.tcp_replay.proofs.Words.{place_answer, Receiving, refl, replicate, Run, runs, slice_get, Some, subst, suc, sym, take, take-append-drop, take_min}
+use Rattle.tcp_replay.proofs.Words.{true, window, with_fin, with_overlay, with_ranks, with_ranks_from, with_syn, without_bytes, zero, ℕ, ℤ, ◌∙◌, ◌∷◌, ◌≡◌, ◌≤◌}
+use Rattle.tcp_replay.proofs.Lists.{by_test, number-further, one_if, one_if-false}
 
 -- what holds of each byte of a text whose first is at this place, and of each byte that is held from this place on
 abbrev pub AllText : (ℕ → ℕ → Type 0) → ℕ → List ℕ → Type 0

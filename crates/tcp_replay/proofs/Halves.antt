@@ -1,15 +1,13 @@
 -- The moves of one half of a direction: what each does to the bytes that were accepted, queued, held and
 -- delivered.
-use Rattle.std.proofs.Common.{[], ℕ, ⊎_elim, ◌++◌, ◌+◌, ◌-◌, ◌<◌, ◌||◌, ◌∙◌, ◌≡◌, ◌≤◌, ap, append-nil, append_assoc, arith, Bool, drop, false, IfSome}
-use Rattle.std.proofs.Common.{if◌then◌else◌, length, length-append, length-drop, length-take, List, max, min, None, Option, refl, replicate, Some, sym, take}
-use Rattle.std.proofs.Common.{take-append-drop, true}
-use Rattle.tcp_replay.proofs.Words.{Advances, after_handing, after_read, after_read-agrees, AreBytes, count_below, count_sendable, drop-append-le, drop-drop}
-use Rattle.tcp_replay.proofs.Words.{empty_inbox-agrees, Inbox, length-replicate, max_ordered, number, or_cases, Range, Receiving, Sending, stream_limit}
-use Rattle.tcp_replay.proofs.Words.{take-append-le, take_all, take_min, with_acked, with_fin, with_inbox, with_syn, with_syn_sent, with_text, without_bytes}
-use Rattle.tcp_replay.proofs.Words.{without_held-agrees, without_text}
-use Rattle.tcp_replay.proofs.WorldWords.{HandsOver, Sends, Takes}
-use Rattle.tcp_replay.proofs.Lists.{one_if, one_if-false, AreBytes-append, AreBytes-take, Agrees-more, take-none, take-further, front-is, nothing-follows}
-use Rattle.tcp_replay.proofs.Lists.{number-further}
+use Rattle.tcp_replay.proofs.Words.{◌++◌, ◌+◌, ◌-◌, ◌<◌, [], Advances, after_handing, after_read, after_read-agrees, ap, append-nil, append_assoc, AreBytes}
+use Rattle.tcp_replay.proofs.Words.{arith, Bool, count_below, count_sendable, drop, drop-append-le, drop-drop, empty_inbox-agrees, false, HandsOver, IfSome}
+use Rattle.tcp_replay.proofs.Words.{if◌then◌else◌, Inbox, length, length-append, length-drop, length-replicate, length-take, List, max, max_ordered, min, None}
+use Rattle.tcp_replay.proofs.Words.{number, Option, or_cases, Range, Receiving, refl, replicate, Sending, Sends, Some, stream_limit, sym, take}
+use Rattle.tcp_replay.proofs.Words.{take-append-drop, take-append-le, take_all, take_min, Takes, true, with_acked, with_fin, with_inbox, with_syn}
+use Rattle.tcp_replay.proofs.Words.{with_syn_sent, with_text, without_bytes, without_held-agrees, without_text, ◌||◌, ℕ, ◌∙◌, ◌≡◌, ◌≤◌, ⊎_elim}
+use Rattle.tcp_replay.proofs.Lists.{Agrees-more, AreBytes-append, AreBytes-take, front-is, nothing-follows, number-further, one_if, one_if-false, take-further}
+use Rattle.tcp_replay.proofs.Lists.{take-none}
 use Rattle.tcp_sendq.specs.SendQueue as queues
 
 -- THE HALF THAT SENDS. A range ends no later where the bound is higher.

@@ -1,28 +1,24 @@
 -- SELECTIVE ACKNOWLEDGEMENT: what is reported is true, and every event keeps blocks and marks true.
-use Rattle.std.proofs.Common.{[], ℕ, ◌++◌, ◌+◌, ◌-◌, ◌==◌, ◌^◌, ◌∙◌, ◌∷◌, ◌≡◌, ◌≤◌, ap, append-nil, arith, Bool, false, inr, length, List, map, nat_lt, None}
-use Rattle.std.proofs.Common.{not, Option, refl, slice_get, Some, subst, suc, sym, take, true, zero}
-use Rattle.tcp_replay.proofs.Words.{Aborted, ack, after_acked_text, after_blocks, after_giving_up, after_handing, after_news, after_own_syn, after_peer_accepts}
-use Rattle.tcp_replay.proofs.Words.{after_peer_opens, after_place, after_place-keeps, after_text, after_window_update, AllByRecursion, and_parts, block_numbers}
-use Rattle.tcp_replay.proofs.Words.{blocks, blocks_to_report, blocks_used, Cell, cond_both, Config, Content, Due, Ending, eqb-false, false≢true, gives_up, has}
-use Rattle.tcp_replay.proofs.Words.{insertion_by_stamp, is_current, is_fin, is_sack_offered, is_syn_received, IsHeld, IsMaximal, max_blocks, Mss, next_wanted}
-use Rattle.tcp_replay.proofs.Words.{not-true, number, offset, permission_options, plain_segment, position_near, pushes, Receiving, reported_blocks, Reset, rst}
-use Rattle.tcp_replay.proofs.Words.{Run, runs, runs_are_maximal_lem, runs_newest_first, sack_options, scale_options, segment_of, Sending, shift_offered, State}
-use Rattle.tcp_replay.proofs.Words.{Syn, takes_fin, takes_text, takes_text_of, window_from, with_all_resent, with_fin, with_syn_acked, with_window}
-use Rattle.tcp_replay.proofs.WorldWords.{address_of, AreBlocksBehind, AreSoundEnds, EventContent, gave_up, HasBytes, HasPosition, HasTrueHints, HintsAreTrue}
-use Rattle.tcp_replay.proofs.WorldWords.{IsBlockBehind, IsSoundPair, IsTrueBlock, IsTruthful, KeepBothHints, KeepsHints, max_life, new_party, next_position}
-use Rattle.tcp_replay.proofs.WorldWords.{other, PartyState, refusal_of, SentSegment, Witness, witness_of, world_with_effect, WorldState}
+use Rattle.tcp_replay.proofs.Words.{◌++◌, ◌+◌, ◌-◌, ◌==◌, [], ◌^◌, Aborted, ack, address_of, after_acked_text, after_blocks, after_giving_up, after_handing}
+use Rattle.tcp_replay.proofs.Words.{after_news, after_own_syn, after_peer_accepts, after_peer_opens, after_place, after_place-keeps, after_text}
+use Rattle.tcp_replay.proofs.Words.{after_window_update, AllByRecursion, and_parts, ap, append-nil, AreBlocksBehind, AreSoundEnds, arith, block_numbers, blocks}
+use Rattle.tcp_replay.proofs.Words.{blocks_to_report, blocks_used, Bool, Cell, cond_both, Config, Content, Due, Ending, eqb-false, EventContent, false}
+use Rattle.tcp_replay.proofs.Words.{false≢true, gave_up, gives_up, has, HasBytes, HasPosition, HasTrueHints, HintsAreTrue, inr, insertion_by_stamp, is_current}
+use Rattle.tcp_replay.proofs.Words.{is_fin, is_sack_offered, is_syn_received, IsBlockBehind, IsHeld, IsMaximal, IsSoundPair, IsTrueBlock, IsTruthful}
+use Rattle.tcp_replay.proofs.Words.{KeepBothHints, KeepsHints, length, List, map, max_blocks, max_life, Mss, nat_lt, new_party, next_position, next_wanted}
+use Rattle.tcp_replay.proofs.Words.{None, not, not-true, number, offset, Option, other, PartyState, permission_options, plain_segment, position_near, pushes}
+use Rattle.tcp_replay.proofs.Words.{Receiving, refl, refusal_of, reported_blocks, Reset, rst, Run, runs, runs_are_maximal_lem, runs_newest_first, sack_options}
+use Rattle.tcp_replay.proofs.Words.{scale_options, segment_of, Sending, SentSegment, shift_offered, slice_get, Some, State, subst, suc, sym, Syn, take}
+use Rattle.tcp_replay.proofs.Words.{takes_fin, takes_text, takes_text_of, true, window_from, with_all_resent, with_fin, with_syn_acked, with_window, Witness}
+use Rattle.tcp_replay.proofs.Words.{witness_of, world_with_effect, WorldState, zero, ℕ, ◌∙◌, ◌∷◌, ◌≡◌, ◌≤◌}
 use Rattle.tcp_conn.specs.declared.phase.Ending.TheVariants.{Reset}
-use Rattle.tcp_replay.proofs.Steps.{Kept, kept-same, Moved}
-use Rattle.tcp_replay.proofs.Phases.{gives_up-not_ended, end-synchronized, time_wait-synchronized}
-use Rattle.tcp_replay.proofs.Alone.{same-window}
-use Rattle.tcp_replay.proofs.Stages.{Synced, IsAhead, IsYoung, text_advance, text-advances, placed, fin-in_turn}
-use Rattle.tcp_replay.proofs.Holdings.{Has, HasMore, has-inside, has-text, has-fin, has-read, AreTrueMarks, marks-after_ack, marks-given_up, marks-window}
-use Rattle.tcp_replay.proofs.Holdings.{marks-blocks, marks-text, marks-none}
-use Rattle.tcp_replay.proofs.Events.{Arrives, after_segment, PairKept, Speaks, in-world, said-after, said-back}
-use Rattle.tcp_replay.proofs.Calls.{KeptByCalls}
-use Rattle.tcp_replay.proofs.Arrivals.{on-arrival}
-use Rattle.tcp_replay.proofs.Lists.{number-further}
-use Rattle.tcp_replay.proofs.Emissions.{GoesOut, plain-bits, wanted-is}
+use Rattle.tcp_replay.proofs.Holdings.{AreTrueMarks, Has, has-fin, has-inside, has-read, has-text, HasMore, marks-after_ack, marks-blocks, marks-given_up}
+use Rattle.tcp_replay.proofs.Holdings.{marks-none, marks-text, marks-window}
+use Rattle.tcp_replay.proofs.{Steps.Kept, Steps.kept-same, Steps.Moved, Phases.end-synchronized, Phases.gives_up-not_ended, Phases.time_wait-synchronized}
+use Rattle.tcp_replay.proofs.{Alone.same-window, Stages.fin-in_turn, Stages.IsAhead, Stages.IsYoung, Stages.placed, Stages.Synced, Stages.text-advances}
+use Rattle.tcp_replay.proofs.{Stages.text_advance, Events.after_segment, Events.Arrives, Events.in-world, Events.PairKept, Events.said-after, Events.said-back}
+use Rattle.tcp_replay.proofs.{Events.Speaks, Calls.KeptByCalls, Arrivals.on-arrival, Lists.number-further, Emissions.GoesOut, Emissions.plain-bits}
+use Rattle.tcp_replay.proofs.{Emissions.wanted-is}
 
 -- Party p's end may be in this state, its peer q being where it is: what it had it has, unless it gave up, and what it
 -- marks q has, unless that gave up.

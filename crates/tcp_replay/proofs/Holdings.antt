@@ -1,17 +1,14 @@
 -- WHAT AN END HAS of the other direction, and keeps until it gives up; and the marks of the half that sends, each of a position that the other end has.
-use Rattle.std.proofs.Common.{[], ℕ, ⊎_elim, ◌&&◌, ◌++◌, ◌+◌, ◌-◌, ◌<◌, ◌^◌, ◌∙◌, ◌∷◌, ◌≡◌, ◌≤◌, ◌⊎◌, ap, arith, Bool, drop, false, get_or, inl, inr, length}
-use Rattle.std.proofs.Common.{length-append, length-drop, List, map, min, nat_le, nat_lt, None, Option, refl, replicate, slice_get, Some, subst, suc, sym, take}
-use Rattle.std.proofs.Common.{true, zero}
-use Rattle.tcp_replay.proofs.Words.{acks_more, Advances, after_ack, after_block, after_blocks, after_handing, after_mark, after_read, after_window_update}
-use Rattle.tcp_replay.proofs.Words.{Agrees, and_parts, byte_at, byte_of, can_mark, cases_lt, Cell, cond_both, count_below, get_or-append-add, Inbox, is_newer}
-use Rattle.tcp_replay.proofs.Words.{is_of_flight, IsMarked, IsMarked-after_offer, IsMarked-after_release, IsMarked-without_marks, KeepsBytes, length-map}
-use Rattle.tcp_replay.proofs.Words.{length-take-le, ltb-true, marks_text, marks_with, marks_with-only, max_capacity, max_ordered, place_of, position_at}
-use Rattle.tcp_replay.proofs.Words.{position_of, position_of_number, Queue, Receiving, Sending, slice_get_within, stream_limit, with_acked, with_fin}
-use Rattle.tcp_replay.proofs.Words.{with_inbox, with_marks, with_text, with_window, without_marks, without_text}
-use Rattle.tcp_replay.proofs.WorldWords.{AreBlocksBehind, HasPosition, IsBlockBehind, Sends, Witness}
-use Rattle.tcp_replay.proofs.Lists.{one_if, one_if-false, one_if-most}
-use Rattle.tcp_replay.proofs.Steps.{next_of}
-use Rattle.tcp_replay.proofs.Alone.{same-marks}
+use Rattle.tcp_replay.proofs.Words.{◌&&◌, ◌++◌, ◌+◌, ◌-◌, ◌<◌, [], ◌^◌, acks_more, Advances, after_ack, after_block, after_blocks, after_handing, after_mark}
+use Rattle.tcp_replay.proofs.Words.{after_read, after_window_update, Agrees, and_parts, ap, AreBlocksBehind, arith, Bool, byte_at, byte_of, can_mark, cases_lt}
+use Rattle.tcp_replay.proofs.Words.{Cell, cond_both, count_below, drop, false, get_or, get_or-append-add, HasPosition, Inbox, inl, inr, is_newer, is_of_flight}
+use Rattle.tcp_replay.proofs.Words.{IsBlockBehind, IsMarked, IsMarked-after_offer, IsMarked-after_release, IsMarked-without_marks, KeepsBytes, length}
+use Rattle.tcp_replay.proofs.Words.{length-append, length-drop, length-map, length-take-le, List, ltb-true, map, marks_text, marks_with, marks_with-only}
+use Rattle.tcp_replay.proofs.Words.{max_capacity, max_ordered, min, nat_le, nat_lt, None, Option, place_of, position_at, position_of, position_of_number, Queue}
+use Rattle.tcp_replay.proofs.Words.{Receiving, refl, replicate, Sending, Sends, slice_get, slice_get_within, Some, stream_limit, subst, suc, sym, take, true}
+use Rattle.tcp_replay.proofs.Words.{with_acked, with_fin, with_inbox, with_marks, with_text, with_window, without_marks, without_text, Witness, zero, ℕ, ◌∙◌}
+use Rattle.tcp_replay.proofs.Words.{◌∷◌, ◌≡◌, ◌≤◌, ⊎_elim, ◌⊎◌}
+use Rattle.tcp_replay.proofs.{Lists.one_if, Lists.one_if-false, Lists.one_if-most, Steps.next_of, Alone.same-marks}
 
 -- a position that is held: so many places after the next one
 abbrev pub IsHeldAt : Receiving → ℕ → Type 0

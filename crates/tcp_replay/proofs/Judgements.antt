@@ -1,11 +1,10 @@
 -- What is known of a segment and the end where each judgement is passed: the tests are gone through once.
-use Rattle.std.proofs.Common.{ℕ, ◌&&◌, ◌==◌, ◌≡◌, false, if◌then◌else◌, List, not, true}
-use Rattle.tcp_replay.proofs.Words.{acceptable_judgement, ack, ack_judgement, AckOfListen, AckOfNoSyn, acks_syn, acks_unsent, AcksUnsent, and_parts}
-use Rattle.tcp_replay.proofs.Words.{closed_judgement, cond_both, Content, Foreign, HandshakeRefused, HandshakeRefusedShut, has, is_acceptable_segment}
-use Rattle.tcp_replay.proofs.Words.{is_allowed_shut, is_closed, is_foreign, is_listening, is_syn_received, is_syn_sent, Judgement, judgement, listen_judgement}
-use Rattle.tcp_replay.proofs.Words.{NoAck, not-false, not-true, OpensNothing, PeerAccepts, PeerOpens, PeerRefuses, PeerResets, phase_judgement, position_near}
-use Rattle.tcp_replay.proofs.Words.{present_judgement, ResetElsewhere, ResetIgnored, rst, State, Stray, syn, syn_sent_judgement, SynInWindow, Taken, TakenShut}
-use Rattle.tcp_replay.proofs.Words.{Unacceptable, unacceptable_judgement, window}
+use Rattle.tcp_replay.proofs.Words.{◌&&◌, ◌==◌, acceptable_judgement, ack, ack_judgement, AckOfListen, AckOfNoSyn, acks_syn, acks_unsent, AcksUnsent, and_parts}
+use Rattle.tcp_replay.proofs.Words.{closed_judgement, cond_both, Content, false, Foreign, HandshakeRefused, HandshakeRefusedShut, has, if◌then◌else◌}
+use Rattle.tcp_replay.proofs.Words.{is_acceptable_segment, is_allowed_shut, is_closed, is_foreign, is_listening, is_syn_received, is_syn_sent, Judgement}
+use Rattle.tcp_replay.proofs.Words.{judgement, List, listen_judgement, NoAck, not, not-false, not-true, OpensNothing, PeerAccepts, PeerOpens, PeerRefuses}
+use Rattle.tcp_replay.proofs.Words.{PeerResets, phase_judgement, position_near, present_judgement, ResetElsewhere, ResetIgnored, rst, State, Stray, syn}
+use Rattle.tcp_replay.proofs.Words.{syn_sent_judgement, SynInWindow, Taken, TakenShut, true, Unacceptable, unacceptable_judgement, window, ℕ, ◌≡◌}
 
 -- the phases that are tested first are none of them
 pub record IsPresent (s : State) : Type 0 where

@@ -1,7 +1,9 @@
 -- The lemmas on one end, on two and on worlds that the crates above cite, passed on from one place. Declares nothing.
 pub use Rattle.tcp_replay.proofs.Alone.{same-marks, same-news, same-window}
 pub use Rattle.tcp_replay.proofs.AloneCalls.{send-open, send-unclosed}
-pub use Rattle.tcp_replay.proofs.AloneEmissions.{due-alone, end-is, GoesOutAlone, going-on, IsSaid, option_or-both, range_after-ends}
+pub use Rattle.tcp_replay.proofs.AloneEmissions.{due-alone, end-is, GoesOutAlone, going-on, IsSaid, range_after-ends}
+pub use Rattle.tcp_replay.proofs.Dues.{ack_alone-kept, again-kept, done-none, due-kept, IsAgain, KeptAgain, KeptByDue, none-some, option_or-both, or-none}
+pub use Rattle.tcp_replay.proofs.Dues.{some-due}
 pub use Rattle.tcp_replay.proofs.Arrivals.{ack-to, acked_text-to, Comes, Fair, fair-judgement, on-arrival, own_syn-nxt}
 pub use Rattle.tcp_replay.proofs.Calls.{KeptByCalls, MayGoOut, option_or-none, refusal_if-none}
 pub use Rattle.tcp_replay.proofs.Emissions.{due-decodes, due-goes, GoesOut, plain-bits, reset-bit, seq-in, syn-bits, wanted-is}

@@ -1,5 +1,4 @@
 pub mod Words
-pub mod WorldWords
 pub mod Lists
 pub mod Cases
 pub mod Halves
@@ -14,6 +13,7 @@ pub mod Calls
 pub mod AloneCalls
 pub mod AloneFeeds
 pub mod Users
+pub mod Dues
 pub mod AloneEmissions
 pub mod Emissions
 pub mod SoloRuns

@@ -1,8 +1,8 @@
 -- Cases by a test, prefixes of lists, bytes, and the numbers of positions.
-use Rattle.std.proofs.Common.{[], ℕ, ⊎_elim, ◌%◌, ◌&&◌, ◌++◌, ◌+◌, ◌-◌, ◌<◌, ◌^◌, ◌||◌, ◌∙◌, ◌∷◌, ◌≡◌, ◌≤◌, ap, arith, Bool, drop, false, if◌then◌else◌, length}
-use Rattle.std.proofs.Common.{length-append, length-take, List, None, Option, refl, Some, suc, sym, take, true, zero}
-use Rattle.tcp_replay.proofs.Words.{Agrees, AreBytes, cases_lt, Cell, get_or-append_right, get_or-drop, get_or-take, get_or_append_left, get_or_past}
-use Rattle.tcp_replay.proofs.Words.{nil_from_length, number}
+use Rattle.tcp_replay.proofs.Words.{◌%◌, ◌&&◌, ◌++◌, ◌+◌, ◌-◌, ◌<◌, [], ◌^◌, Agrees, ap, AreBytes, arith, Bool, cases_lt, Cell, drop, false}
+use Rattle.tcp_replay.proofs.Words.{get_or-append_right, get_or-drop, get_or-take, get_or_append_left, get_or_past, if◌then◌else◌, length, length-append}
+use Rattle.tcp_replay.proofs.Words.{length-take, List, nil_from_length, None, number, Option, refl, Some, suc, sym, take, true, zero, ◌||◌, ℕ, ◌∙◌, ◌∷◌, ◌≡◌}
+use Rattle.tcp_replay.proofs.Words.{◌≤◌, ⊎_elim}
 
 -- what holds by a test, either way
 pub by_test : (b : Bool) (P : Bool → Type 0) → (b ≡ true → P true) → (b ≡ false → P false) → P b

@@ -1,14 +1,11 @@
 -- What a party's methods do, step by step, is what the definitions say.
-use Rattle.std.proofs.Common.{ℕ, ◌&&◌, ◌++◌, ◌==◌, ◌||◌, ◌↔◌, ◌∙◌, ◌≡◌, ap, arith, Bool, drop, Err, if◌then◌else◌, length, length-take, List, min, nat_lt, None}
-use Rattle.std.proofs.Common.{Ok, Option, option_map, option_to_list, refl, replicate, Result, Some, subst, sym, take}
-use Rattle.tcp_replay.proofs.Words.{advertised_window, after_due, after_emission, after_read, after_receive, answer_unless, buffer_after, buffer_with, Bytes}
-use Rattle.tcp_replay.proofs.Words.{bytes_of, bytes_unless, CallError, cond_both, Config, ConfigError, destination, destination_of, drop_min, Due, due_of}
-use Rattle.tcp_replay.proofs.Words.{emitted_bytes, EndOfStream, eqb-true, HasBadCapacity, HasBadLimit, HasBadMss, HasBadShift, Inbox, IsGoodConfig}
-use Rattle.tcp_replay.proofs.Words.{length_encoded, Nothing, pending_length, receive_answer, receive_refusal, Received, received_bytes, received_value}
-use Rattle.tcp_replay.proofs.Words.{segment_of, State, state_unless, take_at, takes_text, wire_length, with_bytes_received}
-use Rattle.tcp_replay.proofs.WorldWords.{outcome_out, party_out, segment_as}
-use Rattle.tcp_replay.proofs.WorldWords.{A, B, count_handed, emission_outcome, HasFault, NamesFault, party_after_emission, PartyState, segment_due, sent_by}
-use Rattle.tcp_replay.proofs.WorldWords.{SentSegment, Side, WorldError, WorldState}
+use Rattle.tcp_replay.proofs.Words.{◌&&◌, ◌++◌, ◌==◌, A, advertised_window, after_due, after_read, after_receive, answer_unless, ap, arith, B, Bool}
+use Rattle.tcp_replay.proofs.Words.{buffer_with, Bytes, bytes_of, bytes_unless, CallError, cond_both, Config, ConfigError, count_handed, destination_of, drop}
+use Rattle.tcp_replay.proofs.Words.{drop_min, Due, EndOfStream, eqb-true, Err, HasBadCapacity, HasBadLimit, HasBadMss, HasBadShift, HasFault, if◌then◌else◌}
+use Rattle.tcp_replay.proofs.Words.{Inbox, IsGoodConfig, length, length-take, length_encoded, List, min, NamesFault, nat_lt, None, Nothing, Ok, Option}
+use Rattle.tcp_replay.proofs.Words.{option_map, option_to_list, outcome_out, party_out, PartyState, receive_answer, receive_refusal, Received, received_bytes}
+use Rattle.tcp_replay.proofs.Words.{received_value, refl, replicate, Result, segment_as, segment_of, sent_by, SentSegment, Side, Some, State, state_unless}
+use Rattle.tcp_replay.proofs.Words.{subst, sym, take, take_at, takes_text, wire_length, with_bytes_received, WorldError, WorldState, ◌||◌, ℕ, ◌↔◌, ◌∙◌, ◌≡◌}
 use Rattle.tcp_halves.specs.declared.config.ConfigError.TheVariants as faults
 use Rattle.tcp_replay.specs.declared.outcome.WorldError.TheVariants as worlds
 use Rattle.tcp_replay.specs.declared.outcome.Outcome.TheVariants as outcomes

@@ -1,10 +1,9 @@
 -- What the phase of an end says of how far it has come.
-use Rattle.std.proofs.Common.{ℕ, ◌≡◌, ◌≤◌, ap, arith, Bool, false, if◌then◌else◌, refl, true}
-use Rattle.tcp_replay.proofs.Words.{Closed, CloseWait, Closing, Ending, Established, FinWait1, FinWait2, gives_up, has_peer, is_closed, is_ended, is_handshake}
-use Rattle.tcp_replay.proofs.Words.{is_listening, is_syn_received, is_syn_sent, is_time_wait, LastAck, Listen, NotEnded, Phase, phase_after_close}
-use Rattle.tcp_replay.proofs.Words.{phase_after_fin, phase_after_own_fin, phase_after_own_syn, resets_on_abort, sends_text, State, SynReceived, SynSent}
-use Rattle.tcp_replay.proofs.Words.{takes_text, TimeWait}
-use Rattle.tcp_replay.proofs.WorldWords.{FitsPhase, IsAnswering, IsDone, IsOpening, IsReceiving, IsUnused}
+use Rattle.tcp_replay.proofs.Words.{ap, arith, Bool, Closed, CloseWait, Closing, Ending, Established, false, FinWait1, FinWait2, FitsPhase, gives_up, has_peer}
+use Rattle.tcp_replay.proofs.Words.{if◌then◌else◌, is_closed, is_ended, is_handshake, is_listening, is_syn_received, is_syn_sent, is_time_wait, IsAnswering}
+use Rattle.tcp_replay.proofs.Words.{IsDone, IsOpening, IsReceiving, IsUnused, LastAck, Listen, NotEnded, Phase, phase_after_close, phase_after_fin}
+use Rattle.tcp_replay.proofs.Words.{phase_after_own_fin, phase_after_own_syn, refl, resets_on_abort, sends_text, State, SynReceived, SynSent, takes_text}
+use Rattle.tcp_replay.proofs.Words.{TimeWait, true, ℕ, ◌≡◌, ◌≤◌}
 
 -- both SYNs were taken, and the connection goes on
 abbrev pub is_synchronized : Phase → Bool

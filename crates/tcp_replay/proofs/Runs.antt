@@ -1,11 +1,10 @@
 -- A run, taken event by event.
-use Rattle.std.proofs.Common.{[], ℕ, ◌++◌, ◌+◌, ◌<◌, ◌==◌, ◌∙◌, ◌∷◌, ◌≡◌, add-one, ap, arith, drop, Err, get_or, IfNone, IfSome, if◌then◌else◌, length}
-use Rattle.std.proofs.Common.{List, map, nat_le, None, Ok, Option, refl, Result, Some, subst, sym, take, take-append-drop, true}
-use Rattle.tcp_replay.proofs.Words.{AllByRecursion, cond_both, drop_more, get_or-map, length-map, length-take-le, slice_get-get_or, State, take_more}
-use Rattle.tcp_replay.proofs.WorldWords.{age_refusal, Damage, damage_refusal, Deliver, delivery_refusal, effect_of, EventContent, Expired, grows_for}
-use Rattle.tcp_replay.proofs.WorldWords.{is_expired, is_missing, later, NoChange, NoMemory, NoSuchSegment, other, Outcome, party_of, PartyState, PlaceOutside}
-use Rattle.tcp_replay.proofs.WorldWords.{refusal_of, run_of, segment_at, sent_at, SentSegment, side_of, stay_or, StepError, stop_of, stop_or, StopsForMemory}
-use Rattle.tcp_replay.proofs.WorldWords.{world_with_effect, WorldState}
+use Rattle.tcp_replay.proofs.Words.{◌++◌, ◌+◌, ◌<◌, ◌==◌, [], add-one, age_refusal, AllByRecursion, ap, arith, cond_both, Damage, damage_refusal, Deliver}
+use Rattle.tcp_replay.proofs.Words.{delivery_refusal, drop, drop_more, effect_of, Err, EventContent, Expired, get_or, get_or-map, grows_for, IfNone, IfSome}
+use Rattle.tcp_replay.proofs.Words.{if◌then◌else◌, is_expired, is_missing, later, length, length-map, length-take-le, List, map, nat_le, NoChange, NoMemory}
+use Rattle.tcp_replay.proofs.Words.{None, NoSuchSegment, Ok, Option, other, Outcome, party_of, PartyState, PlaceOutside, refl, refusal_of, Result, run_of}
+use Rattle.tcp_replay.proofs.Words.{segment_at, sent_at, SentSegment, side_of, slice_get-get_or, Some, State, stay_or, StepError, stop_of, stop_or}
+use Rattle.tcp_replay.proofs.Words.{StopsForMemory, subst, sym, take, take-append-drop, take_more, true, world_with_effect, WorldState, ℕ, ◌∙◌, ◌∷◌, ◌≡◌}
 
 -- where nothing was refused, the first event wasn't, nor any of the rest
 record GoesThrough (refused : Option StepError) (rest : Option (ℕ × StepError)) : Type 0 where

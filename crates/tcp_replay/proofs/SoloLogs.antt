@@ -1,12 +1,9 @@
 -- The log of the code, event by event, is that of the definitions, and says what holds of one end.
-use Rattle.std.proofs.Common.{[], ℕ, ◌++◌, ◌+◌, ◌<◌, ◌||◌, ◌∙◌, ◌∷◌, ◌≡◌, ◌≤◌, ap, false, get_or, length, List, map, option_to_list, refl, subst, suc, sym}
-use Rattle.std.proofs.Common.{take, Vec}
-use Rattle.tcp_replay.proofs.Words.{Addr, AllByRecursion, Config, IsConfig, length-map, new_end, State, take_all}
-use Rattle.tcp_replay.proofs.WorldWords.{AcknowledgesInOrder, after_solo, bytes_put_out, bytes_taken, end_after, hands_end, HandsOverWhatCame, HasRanges}
-use Rattle.tcp_replay.proofs.WorldWords.{IsLogOf, Outcome, run_alone, segment_emitted, segments, SendsItsUsers, solo_outcome, solo_run, solo_start, SoloContent}
-use Rattle.tcp_replay.proofs.WorldWords.{SoloLog, SoloState}
-use Rattle.tcp_replay.proofs.Runs.{next-front}
-use Rattle.tcp_replay.proofs.SoloRuns.{run-last, one_end_is_true_lem}
+use Rattle.tcp_replay.proofs.Words.{◌++◌, ◌+◌, ◌<◌, [], AcknowledgesInOrder, Addr, after_solo, AllByRecursion, ap, bytes_put_out, bytes_taken, Config}
+use Rattle.tcp_replay.proofs.Words.{end_after, false, get_or, hands_end, HandsOverWhatCame, HasRanges, IsConfig, IsLogOf, length, length-map, List, map}
+use Rattle.tcp_replay.proofs.Words.{new_end, option_to_list, Outcome, refl, run_alone, segment_emitted, segments, SendsItsUsers, solo_outcome, solo_run}
+use Rattle.tcp_replay.proofs.Words.{solo_start, SoloContent, SoloLog, SoloState, State, subst, suc, sym, take, take_all, Vec, ◌||◌, ℕ, ◌∙◌, ◌∷◌, ◌≡◌, ◌≤◌}
+use Rattle.tcp_replay.proofs.{Runs.next-front, SoloRuns.one_end_is_true_lem, SoloRuns.run-last}
 
 -- nothing has happened yet
 pub log-begins : {A : Type 0} (c : Config) (log : SoloLog A) → log.endpoint ≡ new_end c → log.accepted.items ≡ [] → log.delivered.items ≡ []

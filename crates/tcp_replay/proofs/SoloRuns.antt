@@ -1,30 +1,23 @@
 -- ONE END after every list of events: what it keeps of its own, where what it has came from, and what it emitted.
-use Rattle.std.proofs.Common.{[], ℕ, ⊎_elim, ◌++◌, ◌+◌, ◌<◌, ◌^◌, ◌||◌, ◌∙◌, ◌∷◌, ◌≡◌, ap, append-nil, append_assoc, arith, Bool, Err, false, IfSome}
-use Rattle.std.proofs.Common.{if◌then◌else◌, is_some, List, None, Ok, Option, option_map, option_to_list, refl, Result, slice_get, Some, subst}
-use Rattle.std.proofs.Common.{sym, true}
-use Rattle.tcp_replay.proofs.Words.{ack_alone}
-use Rattle.tcp_replay.proofs.Words.{ack, after_arrival, after_reading, AllByRecursion, answer_unless, AreBytes, bytes_of, CallError, Config, Content}
-use Rattle.tcp_replay.proofs.Words.{count_sendable, decode_answer, decoded_encoded, decoded_valid, DecodeError, destination_of, Due, due_of, false≢true}
-use Rattle.tcp_replay.proofs.Words.{gives_up, has, is_acceptable_segment, is_foreign, IsConfig, new_end, number, Peer, Reset, rst, segment_of, send_refusal}
-use Rattle.tcp_replay.proofs.Words.{State, syn, Syn}
-use Rattle.tcp_replay.proofs.WorldWords.{party_after_resend_first, segment_alone}
-use Rattle.tcp_replay.proofs.WorldWords.{AcknowledgesInOrder, after_solo, Arrive, bytes_put_out, bytes_taken, Came, CameIn, count_come, count_in_order}
-use Rattle.tcp_replay.proofs.WorldWords.{end_after, front_taken, HandsOverWhatCame, HasRanges, is_close, IsAlone, IsOfUser, OneEndIsTrue, party_after_abort}
-use Rattle.tcp_replay.proofs.WorldWords.{party_after_acknowledge, party_after_close, party_after_connect, party_after_listen, party_after_receive}
-use Rattle.tcp_replay.proofs.WorldWords.{party_after_send, party_after_timer, PartyState, run_alone, segment_due, segment_emitted, SendsItsUsers, solo_run}
-use Rattle.tcp_replay.proofs.WorldWords.{solo_start, SoloContent, SoloState, TookSyn, wanted_position}
-use Rattle.tcp_replay.specs.SoloEvents.{Connect, Listen, Send, Receive, Close, Abort, Acknowledge, Timer, Emit, EmitAcknowledgement, ResendFirst}
-use Rattle.tcp_replay.proofs.Lists.{by_test, one_if}
-use Rattle.tcp_replay.proofs.Steps.{of_user-grows, slice_get-more}
-use Rattle.tcp_replay.proofs.Alone.{alone-new}
-use Rattle.tcp_replay.proofs.AloneCalls.{alone-judgement, send-unclosed, IsAloneIn, alone-calls}
-use Rattle.tcp_replay.proofs.AloneEmissions.{IsSaid, GoesOutAlone, ack-alone-goes, due-alone}
-use Rattle.tcp_replay.proofs.Emissions.{syn-of_user, syn-opened, plain-of_user, reset-bit}
-use Rattle.tcp_replay.proofs.Judgements.{IsTaken}
-use Rattle.tcp_replay.proofs.Feeds.{AllText, ByNumber, text-of, text-at, text-front, IsFed, fed-new, fed-more, fed-any}
-use Rattle.tcp_replay.proofs.AloneFeeds.{Feeds, feeds-same, feeds-judgement, feeds-calls}
-use Rattle.tcp_replay.proofs.Calls.{or-false, KeptByCalls, on-abort, on-acknowledge, on-close, on-ack-alone, on-connect, on-emission, on-listen, on-receive, on-resend-first, on-send}
-use Rattle.tcp_replay.proofs.Calls.{on-timer, with_end}
+use Rattle.tcp_replay.proofs.Words.{◌++◌, ◌+◌, ◌<◌, [], ◌^◌, ack, ack_alone, AcknowledgesInOrder, after_arrival, after_reading, after_solo, AllByRecursion}
+use Rattle.tcp_replay.proofs.Words.{answer_unless, ap, append-nil, append_assoc, AreBytes, arith, Arrive, Bool, bytes_of, bytes_put_out, bytes_taken, CallError}
+use Rattle.tcp_replay.proofs.Words.{Came, CameIn, Config, Content, count_come, count_in_order, count_sendable, decode_answer, decoded_encoded, decoded_valid}
+use Rattle.tcp_replay.proofs.Words.{DecodeError, destination_of, Due, due_of, end_after, Err, false, false≢true, front_taken, gives_up, HandsOverWhatCame, has}
+use Rattle.tcp_replay.proofs.Words.{HasRanges, IfSome, if◌then◌else◌, is_acceptable_segment, is_close, is_foreign, is_some, IsAlone, IsConfig, IsOfUser, List}
+use Rattle.tcp_replay.proofs.Words.{new_end, None, number, Ok, OneEndIsTrue, Option, option_map, option_to_list, party_after_abort, party_after_acknowledge}
+use Rattle.tcp_replay.proofs.Words.{party_after_close, party_after_connect, party_after_listen, party_after_receive, party_after_resend_first, party_after_send}
+use Rattle.tcp_replay.proofs.Words.{party_after_timer, PartyState, Peer, refl, Reset, Result, rst, run_alone, segment_alone, segment_due, segment_emitted}
+use Rattle.tcp_replay.proofs.Words.{segment_of, send_refusal, SendsItsUsers, slice_get, solo_run, solo_start, SoloContent, SoloState, Some, State, subst, sym}
+use Rattle.tcp_replay.proofs.Words.{Syn, syn, TookSyn, true, wanted_position, ◌||◌, ℕ, ◌∙◌, ◌∷◌, ◌≡◌, ⊎_elim}
+use Rattle.tcp_replay.specs.SoloEvents.{Abort, Acknowledge, Close, Connect, Emit, EmitAcknowledgement, Listen, Receive, ResendFirst, Send, Timer}
+use Rattle.tcp_replay.proofs.Feeds.{AllText, ByNumber, fed-any, fed-more, fed-new, IsFed, text-at, text-front, text-of}
+use Rattle.tcp_replay.proofs.Calls.{KeptByCalls, on-abort, on-ack-alone, on-acknowledge, on-close, on-connect, on-emission, on-listen, on-receive}
+use Rattle.tcp_replay.proofs.Calls.{on-resend-first, on-send, on-timer, or-false, with_end}
+use Rattle.tcp_replay.proofs.{Lists.by_test, Lists.one_if, Steps.of_user-grows, Steps.slice_get-more, Alone.alone-new, AloneCalls.alone-calls}
+use Rattle.tcp_replay.proofs.{AloneCalls.alone-judgement, AloneCalls.IsAloneIn, AloneCalls.send-unclosed, AloneEmissions.ack-alone-goes}
+use Rattle.tcp_replay.proofs.{AloneEmissions.due-alone, AloneEmissions.GoesOutAlone, AloneEmissions.IsSaid, Emissions.plain-of_user, Emissions.reset-bit}
+use Rattle.tcp_replay.proofs.{Emissions.syn-of_user, Emissions.syn-opened, Judgements.IsTaken, AloneFeeds.Feeds, AloneFeeds.feeds-calls}
+use Rattle.tcp_replay.proofs.{AloneFeeds.feeds-judgement, AloneFeeds.feeds-same}
 
 -- an arrival is what its bytes are read as
 pub read-arrival : (s : State) (src dst bytes : List ℕ) (r : Result Content DecodeError) → decode_answer src dst bytes ≡ r

@@ -1,23 +1,19 @@
 -- A segment of the peer is taken, stage by stage: its acknowledgement, window and blocks, its text, its FIN.
-use Rattle.std.proofs.Common.{ℕ, ℤ, ⊎_elim, ◌%◌, ◌+◌, ◌-◌, ◌<◌, ◌==◌, ◌^◌, ◌||◌, ◌∙◌, ◌≡◌, ◌≤◌, ap, arith, Bool, drop, false, if◌then◌else◌, length, List}
-use Rattle.std.proofs.Common.{nat_lt, negsuc, not, pos, refl, subst, suc, sym, take, true}
-use Rattle.tcp_replay.proofs.Words.{acks_more, advance_of, Advances, after_ack, after_acked_text, after_fin, after_its_ack, after_its_text, after_news}
-use Rattle.tcp_replay.proofs.Words.{after_own_fin, after_own_syn, after_place, after_place-agrees, after_taking, after_taking_shut}
-use Rattle.tcp_replay.proofs.Words.{after_text, and_parts, cases_lt, cond_both, Content, drop-drop, eqb-false, eqb-true, fin, gives_up, has, has_fin, has_peer}
-use Rattle.tcp_replay.proofs.Words.{is_fin_due, is_syn_received, LiesAt, max_capacity, not-true, NotEnded, number, offset}
-use Rattle.tcp_replay.proofs.Words.{offset_of_earlier, offset_of_later, phase_after_fin, place_answer, position_near, position_of_number}
-use Rattle.tcp_replay.proofs.Words.{Sending, State, stream_limit, takes_fin, takes_text, takes_text_of, window, window_from, with_acked, with_fin}
-use Rattle.tcp_replay.proofs.Words.{with_syn_acked, with_window}
-use Rattle.tcp_replay.proofs.WorldWords.{IsTruthful, next_position, PartyState, Sends, witness_of}
-use Rattle.tcp_replay.proofs.Lists.{by_test, one_if, one_if-false, one_if-most, drop-take_sub, number-further, number-same}
-use Rattle.tcp_replay.proofs.Halves.{takes-advance, hands-advance, takes-fin}
-use Rattle.tcp_replay.proofs.Steps.{positive, position-of_text, Kept, next_of, kept-alone, kept-changed, kept-ack_owed, kept-orderly}
-use Rattle.tcp_replay.proofs.Phases.{is_synchronized, gives_up-not_ended, end-syn_received, end-synchronized, end-takes_text, present-knows, knows-own_fin}
-use Rattle.tcp_replay.proofs.Phases.{knows-fin}
-use Rattle.tcp_replay.proofs.Judgements.{IsPresent}
-use Rattle.tcp_replay.proofs.Alone.{alone-own_syn, alone-acked_text, same-news, alone-news, own_fin-phase, own_syn-synced, owes-taking, alone-text}
-use Rattle.tcp_replay.proofs.Alone.{alone-fin_taken, owes-going_on, owes_shut}
-use Rattle.tcp_replay.proofs.Cases.{own_fin-cases}
+use Rattle.tcp_replay.proofs.Words.{◌%◌, ◌+◌, ◌-◌, ◌<◌, ◌==◌, ◌^◌, acks_more, advance_of, Advances, after_ack, after_acked_text, after_fin, after_its_ack}
+use Rattle.tcp_replay.proofs.Words.{after_its_text, after_news, after_own_fin, after_own_syn, after_place, after_place-agrees, after_taking, after_taking_shut}
+use Rattle.tcp_replay.proofs.Words.{after_text, and_parts, ap, arith, Bool, cases_lt, cond_both, Content, drop, drop-drop, eqb-false, eqb-true, false, fin}
+use Rattle.tcp_replay.proofs.Words.{gives_up, has, has_fin, has_peer, if◌then◌else◌, is_fin_due, is_syn_received, IsTruthful, length, LiesAt, List}
+use Rattle.tcp_replay.proofs.Words.{max_capacity, nat_lt, negsuc, next_position, not, not-true, NotEnded, number, offset, offset_of_earlier, offset_of_later}
+use Rattle.tcp_replay.proofs.Words.{PartyState, phase_after_fin, place_answer, pos, position_near, position_of_number, refl, Sending, Sends, State}
+use Rattle.tcp_replay.proofs.Words.{stream_limit, subst, suc, sym, take, takes_fin, takes_text, takes_text_of, true, window, window_from, with_acked, with_fin}
+use Rattle.tcp_replay.proofs.Words.{with_syn_acked, with_window, witness_of, ◌||◌, ℕ, ℤ, ◌∙◌, ◌≡◌, ◌≤◌, ⊎_elim}
+use Rattle.tcp_replay.proofs.Steps.{Kept, kept-ack_owed, kept-alone, kept-changed, kept-orderly, next_of, position-of_text, positive}
+use Rattle.tcp_replay.proofs.Phases.{end-syn_received, end-synchronized, end-takes_text, gives_up-not_ended, is_synchronized, knows-fin, knows-own_fin}
+use Rattle.tcp_replay.proofs.Phases.{present-knows}
+use Rattle.tcp_replay.proofs.Alone.{alone-acked_text, alone-fin_taken, alone-news, alone-own_syn, alone-text, owes-going_on, owes-taking, owes_shut}
+use Rattle.tcp_replay.proofs.Alone.{own_fin-phase, own_syn-synced, same-news}
+use Rattle.tcp_replay.proofs.{Lists.by_test, Lists.drop-take_sub, Lists.number-further, Lists.number-same, Lists.one_if, Lists.one_if-false, Lists.one_if-most}
+use Rattle.tcp_replay.proofs.{Halves.hands-advance, Halves.takes-advance, Halves.takes-fin, Judgements.IsPresent, Cases.own_fin-cases}
 
 -- a state in which both SYNs were taken
 pub record Synced (p q : PartyState) (s : State) : Type 0 where

@@ -1,14 +1,12 @@
 -- FROM STEP TO STEP: what was true stays true, and what an event must keep at the party where it happens, for both directions to stay sound.
-use Rattle.std.proofs.Common.{[], ℕ, ⊎_elim, ◌++◌, ◌+◌, ◌-◌, ◌<◌, ◌||◌, ◌∙◌, ◌∷◌, ◌≡◌, ◌≤◌, ◌⊎◌, ap, append-nil, arith, Bool, drop, false, inl, inr, length}
-use Rattle.std.proofs.Common.{length-append, length-drop, List, None, Option, option_to_list, refl, slice_get, Some, subst, suc, sym, take, true, zero}
-use Rattle.tcp_replay.proofs.Words.{after_giving_up, after_orderly_end, Config, Content, drop-append-le, encoded_bytes, Ending, gives_up, has_peer, NotEnded}
-use Rattle.tcp_replay.proofs.Words.{number, Receiving, State, take-append-le, WaitingReset, with_ack_owed, with_reset}
-use Rattle.tcp_replay.proofs.WorldWords.{AreOwn, gave_up, HandsOver, IsAlone, IsOfUser, IsOwn, IsSoundEnd, IsSoundPair, IsTruthful, IsWritable, next_position}
-use Rattle.tcp_replay.proofs.WorldWords.{PartyState, SentSegment, SpeaksTo, StandsAt, Takes, Witness, witness_of}
-use Rattle.tcp_replay.proofs.Lists.{one_if}
-use Rattle.tcp_replay.proofs.Halves.{takes-more, hands-more, takes-given_up, hands-given_up}
-use Rattle.tcp_replay.proofs.Phases.{gives_up-not_ended}
-use Rattle.tcp_replay.proofs.Alone.{first_reset-keeps, alone-reset, alone-owing, alone-ack_owed, alone-given_up, alone-orderly}
+use Rattle.tcp_replay.proofs.Words.{◌++◌, ◌+◌, ◌-◌, ◌<◌, [], after_giving_up, after_orderly_end, ap, append-nil, AreOwn, arith, Bool, Config, Content, drop}
+use Rattle.tcp_replay.proofs.Words.{drop-append-le, encoded_bytes, Ending, false, gave_up, gives_up, HandsOver, has_peer, inl, inr, IsAlone, IsOfUser, IsOwn}
+use Rattle.tcp_replay.proofs.Words.{IsSoundEnd, IsSoundPair, IsTruthful, IsWritable, length, length-append, length-drop, List, next_position, None, NotEnded}
+use Rattle.tcp_replay.proofs.Words.{number, Option, option_to_list, PartyState, Receiving, refl, SentSegment, slice_get, Some, SpeaksTo, StandsAt, State, subst}
+use Rattle.tcp_replay.proofs.Words.{suc, sym, take, take-append-le, Takes, true, WaitingReset, with_ack_owed, with_reset, Witness, witness_of, zero, ◌||◌, ℕ}
+use Rattle.tcp_replay.proofs.Words.{◌∙◌, ◌∷◌, ◌≡◌, ◌≤◌, ⊎_elim, ◌⊎◌}
+use Rattle.tcp_replay.proofs.{Lists.one_if, Halves.hands-given_up, Halves.hands-more, Halves.takes-given_up, Halves.takes-more, Phases.gives_up-not_ended}
+use Rattle.tcp_replay.proofs.{Alone.alone-ack_owed, Alone.alone-given_up, Alone.alone-orderly, Alone.alone-owing, Alone.alone-reset, Alone.first_reset-keeps}
 
 -- an end that has more to show than before
 pub record Grows (x x' : Witness) : Type 0 where

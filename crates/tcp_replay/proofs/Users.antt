@@ -1,17 +1,14 @@
 -- The user's calls, the timers and the emissions: both directions stay sound.
-use Rattle.std.proofs.Common.{[], ℕ, ◌++◌, ◌==◌, ◌||◌, ◌∙◌, ◌≡◌, append-nil, arith, false, IfSome, if◌then◌else◌, length, List, min, None, Ok, Option, refl}
-use Rattle.std.proofs.Common.{Some, sym, take, true}
-use Rattle.tcp_replay.proofs.Words.{Aborted, after_giving_up, AreBytes, Bytes, cond_both, count_sendable, EndOfStream, eqb-true, false≢true, gives_up, has_peer}
-use Rattle.tcp_replay.proofs.Words.{nil_from_length, Nothing, own_reset, phase_after_close, receive_refusal, Received, received_value, reset_after_abort}
-use Rattle.tcp_replay.proofs.Words.{resets_on_abort, send_refusal, State, WaitingReset, with_bytes_received, with_text}
-use Rattle.tcp_replay.proofs.WorldWords.{address_of, is_end_of_stream, IsSoundPair, PartyState, SpeaksTo}
-use Rattle.tcp_replay.proofs.Halves.{accepted-limit, takes-read, hands-read, hands-ended}
-use Rattle.tcp_replay.proofs.Steps.{Moved, Kept, kept-same, kept-alone, kept-given_up, kept-orderly}
-use Rattle.tcp_replay.proofs.Phases.{gives_up-not_ended, resets_on_abort-knows, time_wait-synchronized, end-synchronized, knows-closing}
-use Rattle.tcp_replay.proofs.AloneCalls.{send-open, send-unclosed, alone-with_text, receive-open, alone-bytes_received, alone-close_asked, alone-close_begun}
-use Rattle.tcp_replay.proofs.AloneCalls.{alone-own_reset, alone-calls}
-use Rattle.tcp_replay.proofs.Calls.{KeptByCalls}
-use Rattle.tcp_replay.proofs.Emissions.{goes-out}
+use Rattle.tcp_replay.proofs.Words.{◌++◌, ◌==◌, [], Aborted, address_of, after_giving_up, append-nil, AreBytes, arith, Bytes, cond_both, count_sendable}
+use Rattle.tcp_replay.proofs.Words.{EndOfStream, eqb-true, false, false≢true, gives_up, has_peer, IfSome, if◌then◌else◌, is_end_of_stream, IsSoundPair, length}
+use Rattle.tcp_replay.proofs.Words.{List, min, nil_from_length, None, Nothing, Ok, Option, own_reset, PartyState, phase_after_close, receive_refusal, Received}
+use Rattle.tcp_replay.proofs.Words.{received_value, refl, reset_after_abort, resets_on_abort, send_refusal, Some, SpeaksTo, State, sym, take, true}
+use Rattle.tcp_replay.proofs.Words.{WaitingReset, with_bytes_received, with_text, ◌||◌, ℕ, ◌∙◌, ◌≡◌}
+use Rattle.tcp_replay.proofs.Phases.{end-synchronized, gives_up-not_ended, knows-closing, resets_on_abort-knows, time_wait-synchronized}
+use Rattle.tcp_replay.proofs.AloneCalls.{alone-bytes_received, alone-calls, alone-close_asked, alone-close_begun, alone-own_reset, alone-with_text}
+use Rattle.tcp_replay.proofs.AloneCalls.{receive-open, send-open, send-unclosed}
+use Rattle.tcp_replay.proofs.{Halves.accepted-limit, Halves.hands-ended, Halves.hands-read, Halves.takes-read, Steps.Kept, Steps.kept-alone}
+use Rattle.tcp_replay.proofs.{Steps.kept-given_up, Steps.kept-orderly, Steps.kept-same, Steps.Moved, Calls.KeptByCalls, Emissions.goes-out}
 
 -- SEND
 moved-sent : (p q : PartyState) (text : List ℕ) → AreBytes text → IsSoundPair p q → send_refusal p.endpoint text ≡ None

@@ -1,4 +1,9 @@
--- The words of one end, of its segments and of lists, and the lemmas about them that most proofs cite, passed on from one place. Declares nothing.
+-- The words of one end, of its segments, of two ends and of lists, and the lemmas about them that most proofs cite, passed on from one place. Declares nothing.
+pub use Rattle.std.proofs.Common.{◌%◌, ◌&&◌, ◌*◌, ◌++◌, ◌+ℤ◌, ◌+◌, ◌-ℤ◌, ◌-◌, ◌/◌, ◌<ℤ◌, ◌<◌, ◌==◌, [], ◌^◌, add-one, ap, append-nil, arith, bit_xor, Bool}
+pub use Rattle.std.proofs.Common.{bytes_eq, drop, Err, false, get_or, IfErr, IfNone, IfOk, IfSome, if◌then◌else◌, inl, inr, is_ok, is_some, length}
+pub use Rattle.std.proofs.Common.{length-append, length-drop, List, map, max, min, nat_le, nat_lt, negsuc, None, not, Ok, OnErr, OnOk, Option, option_map}
+pub use Rattle.std.proofs.Common.{option_to_list, pos, refl, replicate, Result, rules, slice_get, slice_index, Some, subst, suc, sym, take, take-append-drop}
+pub use Rattle.std.proofs.Common.{true, unwrap_or, Vec, zero, ◌||◌, ℕ, ℤ, ◌↔◌, ◌∙◌, ◌∷◌, ◌≡◌, ◌≢◌, ◌≤ℤ◌, ◌≤◌, ⊎_elim, ◌⊎◌}
 pub use Rattle.std.proofs.Math.Bool.{and-false, or-true}
 pub use Rattle.std.proofs.Math.Nat.{div-mul-le_self}
 pub use Rattle.std.proofs.lemmas.Bool.{and_cases, and_from, and_parts, cases_Bool, cases_lt, cond_both, eq-eqb, eqb-false, eqb-true, false≢true, le-ltb}
@@ -65,7 +70,8 @@ pub use Rattle.tcp_halves.specs.Receiver.{HoldsWithin, Receiving, after_handing,
 pub use Rattle.tcp_halves.specs.Receiver.{with_syn, without_bytes}
 unfoldable pub use Rattle.tcp_halves.specs.Receiver.{after_text}
 pub use Rattle.tcp_halves.specs.Sender.{Sending, acks_more, acks_unsent, count_below, count_sendable, count_unsent, end_of_text, is_fin_acked, is_fin_sent}
-pub use Rattle.tcp_halves.specs.Sender.{is_newer, is_probe_needed, new_sending, place_of, position_at, with_acked, with_all_resent, with_first_resent, with_gaps_resent}
+pub use Rattle.tcp_halves.specs.Sender.{is_newer, is_probe_needed, new_sending, place_of, position_at, with_acked, with_all_resent, with_first_resent}
+pub use Rattle.tcp_halves.specs.Sender.{with_gaps_resent}
 pub use Rattle.tcp_halves.specs.Sender.{with_syn_acked, with_syn_sent, with_text, with_window, without_resend, without_text}
 unfoldable pub use Rattle.tcp_halves.specs.Sender.{after_ack, after_window_update}
 pub use Rattle.tcp_halves.specs.declared.config.Config.{Config}
@@ -86,7 +92,6 @@ pub use Rattle.tcp_conn.specs.declared.phase.Ending.TheVariants.{Aborted, NotEnd
 pub use Rattle.tcp_conn.specs.declared.phase.Phase.{Phase}
 pub use Rattle.tcp_conn.specs.declared.phase.Phase.TheVariants.{CloseWait, Closed, Closing, Established, FinWait1, FinWait2, LastAck, Listen, SynReceived}
 pub use Rattle.tcp_conn.specs.declared.phase.Phase.TheVariants.{SynSent, TimeWait}
-pub use Rattle.tcp_conn.specs.declared.phase.Timer.{Timer}
 pub use Rattle.tcp_conn.specs.declared.phase.Timer.TheVariants.{Reorder, Retransmit}
 pub use Rattle.tcp_numbers.proofs.Lemmas.{offset_ahead, offset_of_earlier, offset_of_later, position_of_number}
 pub use Rattle.tcp_numbers.proofs.Positions.{first_inside, near_ahead, near_behind}
@@ -117,3 +122,34 @@ pub use Rattle.tcp_wire.specs.Wire.{Content, IsValid, IsWire, wire_length}
 unfoldable pub use Rattle.tcp_wire.specs.Wire.{encoded_bytes}
 pub use Rattle.tcp_wire.specs.declared.fault.DecodeError.{DecodeError}
 pub use Rattle.tcp_wire.specs.declared.fault.DecodeError.TheVariants.{BadChecksum}
+pub use Rattle.tcp_replay.specs.Alone.{FitsPhase, IsAlone, IsAnswering, IsDone, IsOpening, IsReceiving, IsUnused, IsWritable, Sends}
+pub use Rattle.tcp_replay.specs.Events.{Abort, Acknowledge, Close, Connect, Damage, Deliver, Emit, EventContent, HasBytes, IsDamage, Receive, Send}
+pub use Rattle.tcp_replay.specs.Emissions.{due_for, segment_as}
+pub use Rattle.tcp_replay.specs.Events.{EmitAcknowledgement, ResendFirst, Timer, event_content, side_of}
+pub use Rattle.tcp_replay.specs.OneEnd.{AcknowledgesInOrder, Came, CameIn, HandsOverWhatCame, OneEndIsTrue, SendsItsUsers, TookSyn, count_come, wanted_position}
+unfoldable pub use Rattle.tcp_replay.specs.OneEnd.{count_in_order}
+pub use Rattle.tcp_replay.specs.Safe.{EmitsTruth, EveryRunIsSafe, FindsDamage, HasTrueHints, HintsAreTrue, IsSafe, IsSafeDirection, count_released, gave_up}
+pub use Rattle.tcp_replay.specs.Safe.{next_position, unread_of, witness_of}
+pub use Rattle.tcp_replay.specs.Solo.{IsLogOf, SoloState, after_solo, bytes_put_out, bytes_taken, end_after, hands_end, is_close, run_alone, segment_emitted}
+pub use Rattle.tcp_replay.specs.Solo.{segments, solo_outcome, solo_start}
+unfoldable pub use Rattle.tcp_replay.specs.Solo.{segment_alone, segment_due, solo_run}
+pub use Rattle.tcp_replay.specs.SoloEvents.{Arrive, HasRanges, SoloContent, solo_content}
+pub use Rattle.tcp_replay.specs.Sound.{AreBlocksBehind, AreOwn, AreSoundEnds, HandsOver, IsBlockBehind, IsOwn, IsSound, IsSoundEnd, IsSoundPair, KeepBothHints}
+pub use Rattle.tcp_replay.specs.Sound.{KeepsHints, SpeaksTo, Takes}
+pub use Rattle.tcp_replay.specs.Truthful.{HasPosition, IsOfUser, IsTrueAck, IsTrueBlock, IsTruthful, StandsAt, Witness}
+pub use Rattle.tcp_replay.specs.World.{Effect, HasFault, KeepsAllSegments, NamesFault, PartyState, SentSegment, StopsForMemory, WorldState, acks_late}
+pub use Rattle.tcp_replay.specs.World.{address_of, age_refusal, arrival_outcome, both, bytes_with_damage, count_handed, damage_refusal, delivery_refusal}
+pub use Rattle.tcp_replay.specs.World.{emission_outcome, flags_in, front_taken, grows_for, is_end_of_stream, is_expired, is_late, is_missing, later, max_life}
+pub use Rattle.tcp_replay.specs.World.{new_party, new_world, new_world_with, other, outcome_of, party_of, refusal_of, segment_at, sent_at, sent_by, seq_in}
+pub use Rattle.tcp_replay.specs.World.{outcome_out, party_out, stay_or, stop_or, world_after, world_from, world_with_effect}
+unfoldable pub use Rattle.tcp_replay.specs.World.{effect_of, party_after_abort, party_after_acknowledge, party_after_arrival, party_after_close}
+unfoldable pub use Rattle.tcp_replay.specs.World.{party_after_connect, party_after_emission, party_after_listen, party_after_receive, party_after_send}
+unfoldable pub use Rattle.tcp_replay.specs.World.{party_after_ack_alone, party_after_resend_first, party_after_timer, run_of, stop_of, world_after_all}
+pub use Rattle.tcp_replay.specs.declared.event.Side.{Side}
+pub use Rattle.tcp_replay.specs.declared.event.Side.TheVariants.{A, B}
+pub use Rattle.tcp_replay.specs.declared.outcome.Outcome.{Outcome}
+pub use Rattle.tcp_replay.specs.declared.outcome.Outcome.TheVariants.{Arrived}
+pub use Rattle.tcp_replay.specs.declared.outcome.StepError.{StepError}
+pub use Rattle.tcp_replay.specs.declared.outcome.StepError.TheVariants.{Expired, NoChange, NoMemory, NoSuchSegment, PlaceOutside}
+pub use Rattle.tcp_replay.specs.declared.outcome.WorldError.{WorldError}
+pub use Rattle.tcp_replay.specs.declared.solo_log.SoloLog.{SoloLog}

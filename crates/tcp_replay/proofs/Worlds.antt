@@ -1,24 +1,17 @@
 -- THE HEADLINE on the definitions: every event keeps both ends sound, sound ends are safe, and no segment expires where the lifetime is the longest.
-use Rattle.std.proofs.Common.{[], ℕ, ⊎_elim, ◌++◌, ◌+◌, ◌-◌, ◌<◌, ◌==◌, ◌||◌, ◌∙◌, ◌∷◌, ◌≡◌, ◌≤◌, ap, arith, Bool, drop, Err, false, IfErr, IfNone, IfOk}
-use Rattle.std.proofs.Common.{IfSome, if◌then◌else◌, length, length-take, List, min, nat_le, None, not, Ok, OnErr, OnOk, Option, option_map, refl, Result, Some}
-use Rattle.std.proofs.Common.{subst, sym, take, take-append-drop, true}
-use Rattle.tcp_replay.proofs.Words.{ack, AllByRecursion, and_parts, BadChecksum, bytes_of, cond_both, Config, default_limit, Due, empty_inbox-agrees, has}
-use Rattle.tcp_replay.proofs.Words.{IsConfig, leb-true, Malformed, next_wanted, or_cases, Peer, rst, State}
-use Rattle.tcp_replay.proofs.WorldWords.{A, acks_late, address_of, age_refusal, AreOwn, AreSoundEnds, Arrived, B, both, Damage, damage_refusal, Deliver}
-use Rattle.tcp_replay.proofs.WorldWords.{delivery_refusal, Effect, effect_of, EmitsTruth, EventContent, EveryRunIsSafe, Expired, FindsDamage, flags_in}
-use Rattle.tcp_replay.proofs.WorldWords.{grows_for, HasBytes, HintsAreTrue, is_expired, is_late, is_missing, IsDamage, IsOwn, IsSafe, IsSafeDirection, IsSound}
-use Rattle.tcp_replay.proofs.WorldWords.{IsSoundEnd, IsSoundPair, KeepsAllSegments, max_life, new_party, new_world_with, NoChange, NoMemory, NoSuchSegment}
-use Rattle.tcp_replay.proofs.WorldWords.{other, Outcome, outcome_of, party_of, PartyState, PlaceOutside, refusal_of, run_of, segment_at, sent_at, sent_by}
-use Rattle.tcp_replay.proofs.WorldWords.{SentSegment, Side, side_of, stay_or, StepError, world_after, world_after_all, world_from, world_with_effect}
-use Rattle.tcp_replay.proofs.WorldWords.{WorldState}
-use Rattle.tcp_replay.proofs.Lists.{one_if, one_if-most}
-use Rattle.tcp_replay.proofs.Alone.{alone-new}
-use Rattle.tcp_replay.proofs.Steps.{pair-swapped, pair-from-move}
-use Rattle.tcp_replay.proofs.Events.{own-decodes, finds-damage, PairKept, in-world, some-is}
-use Rattle.tcp_replay.proofs.Emissions.{GoesOut, own-due, wanted-is}
-use Rattle.tcp_replay.proofs.Calls.{KeptByCalls}
-use Rattle.tcp_replay.proofs.Hints.{hints-new, hints-after, hints-true}
-use Rattle.tcp_replay.proofs.Runs.{not-refused}
+use Rattle.tcp_replay.proofs.Words.{◌++◌, ◌+◌, ◌-◌, ◌<◌, ◌==◌, [], A, ack, acks_late, address_of, age_refusal, AllByRecursion, and_parts, ap, AreOwn}
+use Rattle.tcp_replay.proofs.Words.{AreSoundEnds, arith, Arrived, B, BadChecksum, Bool, both, bytes_of, cond_both, Config, Damage, damage_refusal}
+use Rattle.tcp_replay.proofs.Words.{default_limit, Deliver, delivery_refusal, drop, Due, Effect, effect_of, EmitsTruth, empty_inbox-agrees, Err, EventContent}
+use Rattle.tcp_replay.proofs.Words.{EveryRunIsSafe, Expired, false, FindsDamage, flags_in, grows_for, has, HasBytes, HintsAreTrue, IfErr, IfNone, IfOk, IfSome}
+use Rattle.tcp_replay.proofs.Words.{if◌then◌else◌, is_expired, is_late, is_missing, IsConfig, IsDamage, IsOwn, IsSafe, IsSafeDirection, IsSound, IsSoundEnd}
+use Rattle.tcp_replay.proofs.Words.{IsSoundPair, KeepsAllSegments, leb-true, length, length-take, List, Malformed, max_life, min, nat_le, new_party}
+use Rattle.tcp_replay.proofs.Words.{new_world_with, next_wanted, NoChange, NoMemory, None, NoSuchSegment, not, Ok, OnErr, OnOk, Option, option_map, or_cases}
+use Rattle.tcp_replay.proofs.Words.{other, Outcome, outcome_of, party_of, PartyState, Peer, PlaceOutside, refl, refusal_of, Result, rst, run_of, segment_at}
+use Rattle.tcp_replay.proofs.Words.{sent_at, sent_by, SentSegment, Side, side_of, Some, State, stay_or, StepError, subst, sym, take, take-append-drop, true}
+use Rattle.tcp_replay.proofs.Words.{world_after, world_after_all, world_from, world_with_effect, WorldState, ◌||◌, ℕ, ◌∙◌, ◌∷◌, ◌≡◌, ◌≤◌, ⊎_elim}
+use Rattle.tcp_replay.proofs.{Lists.one_if, Lists.one_if-most, Alone.alone-new, Steps.pair-from-move, Steps.pair-swapped, Events.finds-damage, Events.in-world}
+use Rattle.tcp_replay.proofs.{Events.own-decodes, Events.PairKept, Events.some-is, Emissions.GoesOut, Emissions.own-due, Emissions.wanted-is, Calls.KeptByCalls}
+use Rattle.tcp_replay.proofs.{Hints.hints-after, Hints.hints-new, Hints.hints-true, Runs.not-refused}
 use Rattle.tcp_replay.specs.declared.outcome.Outcome.TheVariants as outcomes
 
 -- SOUNDNESS rests on nothing else

@@ -1,5 +1,4 @@
-use Rattle.std.proofs.Common.{◌≡◌, take, sym, arith}
-use Rattle.std.proofs.lemmas.Grind.{common_steps}
+use Rattle.tcp_replay.proofs.Words.{arith, common_steps, sym, take, ◌≡◌}
 use Rattle.tcp_replay.proofs.Parties.{emits_nothing, emits_something}
 use Rattle.tcp_replay.proofs.growth.emit_for.Goals as goal
 

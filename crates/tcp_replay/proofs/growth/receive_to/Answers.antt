@@ -1,5 +1,4 @@
-use Rattle.std.proofs.Common.{◌≡◌, ◌++◌, take, ap, ◌∙◌, arith}
-use Rattle.std.proofs.lemmas.Grind.{common_steps}
+use Rattle.tcp_replay.proofs.Words.{◌++◌, ap, arith, common_steps, take, ◌∙◌, ◌≡◌}
 use Rattle.tcp_replay.proofs.Parties.{received-state, received-text}
 use Rattle.tcp_replay.proofs.growth.receive_to.Goals as goal
 

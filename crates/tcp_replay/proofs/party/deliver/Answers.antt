@@ -1,4 +1,4 @@
-use Rattle.std.proofs.Common.{rules}
+use Rattle.tcp_replay.proofs.Words.{rules}
 use Rattle.tcp_replay.proofs.party.deliver.Goals as goal
 
 pub returns-clause-state : goal.returns-clause-state

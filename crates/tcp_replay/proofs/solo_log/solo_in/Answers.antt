@@ -1,7 +1,5 @@
-use Rattle.std.proofs.Common.{◌<◌, ◌≤◌, length, map, rules}
-use Rattle.tcp_replay.proofs.WorldWords.{HasRanges, solo_content}
-use Rattle.tcp_replay.proofs.Runs.{content_at, content_inside, all-go_on}
-use Rattle.tcp_replay.proofs.SoloLogs.{log-begins, log-goes_on, log-ends}
+use Rattle.tcp_replay.proofs.Words.{◌<◌, HasRanges, length, map, rules, solo_content, ◌≤◌}
+use Rattle.tcp_replay.proofs.{Runs.all-go_on, Runs.content_at, Runs.content_inside, SoloLogs.log-begins, SoloLogs.log-ends, SoloLogs.log-goes_on}
 use Rattle.tcp_replay.proofs.solo_log.solo_in.Goals as goal
 
 pub loop-i-init : goal.loop-i-init

@@ -1,6 +1,4 @@
-use Rattle.std.proofs.Common.{map, take}
-use Rattle.tcp_replay.proofs.Words.{AllByRecursion, IsConfig}
-use Rattle.tcp_replay.proofs.WorldWords.{HasRanges, IsLogOf, run_alone, solo_content}
+use Rattle.tcp_replay.proofs.Words.{AllByRecursion, HasRanges, IsConfig, IsLogOf, map, run_alone, solo_content, take}
 use Rattle.tcp_replay.proofs.solo_log.solo_in.Given as goal
 
 -- the log is that of the events so far

@@ -1,5 +1,4 @@
-use Rattle.std.proofs.Common.{rules}
-use Rattle.tcp_replay.specs.World.{effect_of}
+use Rattle.tcp_replay.proofs.Words.{effect_of, rules}
 use Rattle.tcp_replay.proofs.world.step_at.Goals as goal
 
 pub returns-in-Send-clause-there : goal.returns-in-Send-clause-there

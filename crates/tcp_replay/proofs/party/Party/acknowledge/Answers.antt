@@ -1,6 +1,4 @@
-use Rattle.std.proofs.Common.{arith}
-use Rattle.std.proofs.lemmas.Grind.{common_steps}
-use Rattle.tcp_replay.specs.World.{party_after_acknowledge}
+use Rattle.tcp_replay.proofs.Words.{arith, common_steps, party_after_acknowledge}
 use Rattle.tcp_replay.proofs.party.Party.acknowledge.Goals as goal
 
 pub returns-clause-state : goal.returns-clause-state

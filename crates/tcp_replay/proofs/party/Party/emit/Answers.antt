@@ -1,7 +1,6 @@
-use Rattle.std.proofs.Common.{ℕ, ◌∙◌, ◌≡◌, ap, append-nil, arith, length, List, None, Option, refl, sym}
-use Rattle.tcp_replay.proofs.Words.{common_steps}
-use Rattle.tcp_replay.proofs.WorldWords.{due_for, party_out, PartyState, segment_as, sent_by, SentSegment}
-use Rattle.tcp_replay.proofs.Parties.{segment_to, emission_is, outcome_is}
+use Rattle.tcp_replay.proofs.Words.{ap, append-nil, arith, common_steps, due_for, length, List, None, Option, party_out, PartyState, refl, segment_as, sent_by}
+use Rattle.tcp_replay.proofs.Words.{SentSegment, sym, ℕ, ◌∙◌, ◌≡◌}
+use Rattle.tcp_replay.proofs.Parties.{emission_is, outcome_is, segment_to}
 use Rattle.tcp_replay.proofs.party.Party.emit.Goals as goal
 
 pub returns-in_default-clause-state : goal.returns-in_default-clause-state

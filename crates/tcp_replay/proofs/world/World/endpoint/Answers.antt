@@ -1,5 +1,4 @@
-use Rattle.std.proofs.Common.{arith}
-use Rattle.std.proofs.lemmas.Grind.{common_steps}
+use Rattle.tcp_replay.proofs.Words.{arith, common_steps}
 use Rattle.tcp_replay.proofs.world.World.endpoint.Goals as goal
 
 pub returns : goal.returns

@@ -1,7 +1,6 @@
-use Rattle.std.proofs.Common.{◌<◌, ap, length, map, rules, subst}
-use Rattle.tcp_replay.proofs.WorldWords.{both, event_content, HasBytes, HintsAreTrue, IsSafe, WorldState}
-use Rattle.tcp_replay.proofs.Runs.{all-go_on, refused_by, run_begins, run_goes_on, run_refused, run_out_of_memory, content_at, content_inside}
-use Rattle.tcp_replay.proofs.Worlds.{safe-sound, hints-sound}
+use Rattle.tcp_replay.proofs.Words.{◌<◌, ap, both, event_content, HasBytes, HintsAreTrue, IsSafe, length, map, rules, subst, WorldState}
+use Rattle.tcp_replay.proofs.Runs.{all-go_on, content_at, content_inside, refused_by, run_begins, run_goes_on, run_out_of_memory, run_refused}
+use Rattle.tcp_replay.proofs.Worlds.{hints-sound, safe-sound}
 use Rattle.tcp_replay.proofs.world.World.run.Goals as goal
 
 pub loop-i-init : goal.loop-i-init

@@ -1,6 +1,4 @@
-use Rattle.std.proofs.Common.{map, take}
-use Rattle.tcp_replay.proofs.Words.{AllByRecursion}
-use Rattle.tcp_replay.proofs.WorldWords.{event_content, HasBytes, HintsAreTrue, IsSafe, KeepsAllSegments}
+use Rattle.tcp_replay.proofs.Words.{AllByRecursion, event_content, HasBytes, HintsAreTrue, IsSafe, KeepsAllSegments, map, take}
 use Rattle.tcp_replay.proofs.Runs.{RunsTo}
 use Rattle.tcp_replay.proofs.world.World.run.Given as goal
 

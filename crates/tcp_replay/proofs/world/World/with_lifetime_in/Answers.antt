@@ -1,7 +1,5 @@
-use Rattle.std.proofs.Common.{◌≡◌}
-use Rattle.tcp_replay.specs.World.{new_party}
-use Rattle.tcp_replay.proofs.Parties.{fault-of_a, fault-of_b, fault-of_none}
-use Rattle.tcp_replay.proofs.Worlds.{sound-new}
+use Rattle.tcp_replay.proofs.Words.{new_party, ◌≡◌}
+use Rattle.tcp_replay.proofs.{Parties.fault-of_a, Parties.fault-of_b, Parties.fault-of_none, Worlds.sound-new}
 use Rattle.tcp_replay.proofs.world.World.with_lifetime_in.Goals as goal
 
 -- what two good Configs make is sound

@@ -1,11 +1,15 @@
 -- WHAT IS DUE (RFC 9293, 3.8), gone through once: what has to hold of each that may be due, where it is.
-use Rattle.std.proofs.Common.{◌&&◌, ◌+◌, ◌-◌, ◌<◌, ◌==◌, ◌||◌, ◌∷◌, ◌≡◌, ◌≤◌, ◌⊎◌, [], arith, Bool, drop, false, IfSome, inl, inr, is_some, length, length-drop}
-use Rattle.std.proofs.Common.{List, max, min, nat_le, nat_lt, None, Option, refl, Some, subst, true, ℕ}
-use Rattle.tcp_replay.proofs.Words.{ack_alone, ack_due, Acknowledgement, and_parts, cond_both, count_leading, drop-drop, Due, due_of, end_of_text, eqb-true}
-use Rattle.tcp_replay.proofs.Words.{Fin, fin_of, first_unmarked, leb-true, ltb-true, nat_tests, new_count, new_text_of, NewText, next_unmarked, option_or}
-use Rattle.tcp_replay.proofs.Words.{place_of, position_at, Queue, Range, Resend, resend_of, resend_start, resent_fin, resent_run, resent_text, ResentFin, Reset}
-use Rattle.tcp_replay.proofs.Words.{reset_due, Sending, sends_text, State, Syn, syn_due, text_due, text_limit, WaitingReset}
-use Rattle.tcp_replay.proofs.Lemmas.{option_or-both}
+use Rattle.tcp_replay.proofs.Words.{◌&&◌, ◌+◌, ◌-◌, ◌<◌, ◌==◌, [], ack_alone, ack_due, Acknowledgement, and_parts, arith, Bool, cond_both, count_leading, drop}
+use Rattle.tcp_replay.proofs.Words.{drop-drop, Due, due_of, end_of_text, eqb-true, false, Fin, fin_of, first_unmarked, IfSome, inl, inr, is_some, leb-true}
+use Rattle.tcp_replay.proofs.Words.{length, length-drop, List, ltb-true, max, min, nat_le, nat_lt, nat_tests, new_count, new_text_of, NewText, next_unmarked}
+use Rattle.tcp_replay.proofs.Words.{None, Option, option_or, place_of, position_at, Queue, Range, refl, Resend, resend_of, resend_start, resent_fin, resent_run}
+use Rattle.tcp_replay.proofs.Words.{resent_text, ResentFin, Reset, reset_due, Sending, sends_text, Some, State, subst, Syn, syn_due, text_due, text_limit, true}
+use Rattle.tcp_replay.proofs.Words.{WaitingReset, ◌||◌, ℕ, ◌∷◌, ◌≡◌, ◌≤◌, ◌⊎◌}
+
+-- what holds of each that may be due holds of the first
+pub option_or-both : (P : Due → Type 0) (first rest : Option Due) → IfSome first P → IfSome rest P → IfSome (option_or first rest) P
+option_or-both P None rest h h' = h'
+option_or-both P (Some due) rest h h' = h
 
 -- a position of the range that has to be sent again, and isn't acknowledged
 pub record IsAgain (d : Sending) (range : Range ℕ) (start : ℕ) : Type 0 where
