@@ -8,14 +8,14 @@ use Rattle.tcp_wire.specs.Options.{OptionContent}
 use Rattle.tcp_wire.specs.View.{option_content, content_of, text_offset}
 use Rattle.tcp_wire.specs.Wire.{Content, IsValid, wire_length, encoded_bytes}
 use Rattle.tcp_wire.proofs.Lemmas.{length_encoded}
-use Rattle.tcp_halves.specs.declared.due.Due.{Due}
+use Rattle.tcp_conn.specs.declared.due.Due.{Due}
 use Rattle.tcp_halves.specs.Config.{max_mss}
 use Rattle.tcp_conn.specs.State.{State}
 use Rattle.tcp_conn.specs.Endpoint.{FitsFields}
-use Rattle.tcp_conn.specs.Due.{Lies}
+use Rattle.tcp_conn.specs.Due.{IsSendable}
 use Rattle.tcp_conn.specs.Blocks.{blocks_to_report, sack_options}
 use Rattle.tcp_conn.specs.Forms.{text_of, plain_segment}
-use Rattle.tcp_conn.proofs.Segments.{plain_segment_valid, text_as_long, offset_of_report, report_options_short}
+use Rattle.tcp_conn.proofs.Segments.{count_short, plain_segment_valid, text_as_long, offset_of_report, report_options_short}
 
 -- header, options and lent text are those of the segment that is due
 pub says_due : (s : State) (due : Due) (header : Header) (options : List TcpOption) (text : List ℕ) → map option_content options ≡ sack_options (blocks_to_report s)
@@ -26,9 +26,9 @@ says_due s due header options text reports text_is says =
     ∙ ap (content_of header (sack_options (blocks_to_report s)) 0) text_is ∙ says
 
 -- it can be written
-pub due_valid : (s : State) (due : Due) (text : List ℕ) → Lies s.sending max_mss due → FitsFields s → AreBytes text → text ≡ text_of s.sending due → IsValid (plain_segment s due)
-due_valid s due text lies fits bytes text_is =
-    plain_segment_valid s due fits (subst (λ (xs : List ℕ). AreBytes xs) text_is bytes) (omega (arith, text_as_long s.sending due lies, lies.short))
+pub due_valid : (s : State) (due : Due) (text : List ℕ) → IsSendable s.sending max_mss due → FitsFields s → AreBytes text → text ≡ text_of s.sending due → IsValid (plain_segment s due)
+due_valid s due text sendable fits bytes text_is =
+    plain_segment_valid s due fits (subst (λ (xs : List ℕ). AreBytes xs) text_is bytes) (omega (arith, text_as_long s.sending due sendable, count_short s.sending due sendable))
 
 -- and its header has room
 pub front_fits : (s : State) (options : List TcpOption) → map option_content options ≡ sack_options (blocks_to_report s) → text_offset (map option_content options) 0 ≤ 56

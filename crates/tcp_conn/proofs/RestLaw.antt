@@ -8,8 +8,8 @@ use Rattle.tcp_wire.specs.Flags.{ack}
 use Rattle.tcp_wire.specs.Position.{number}
 use Rattle.tcp_wire.specs.Wire.{Content, encoded_bytes, wire_length}
 use Rattle.tcp_reasm.specs.Reassembly.{blocks, runs_newest_first}
-use Rattle.tcp_halves.specs.declared.due.Due.{Due}
-use Rattle.tcp_halves.specs.declared.due.Due.TheVariants.{Reset, Acknowledgement}
+use Rattle.tcp_conn.specs.declared.due.Due.{Due}
+use Rattle.tcp_conn.specs.declared.due.Due.TheVariants.{Reset, Acknowledgement}
 use Rattle.tcp_halves.specs.declared.link.Peer.{Peer}
 use Rattle.tcp_halves.specs.declared.link.WaitingReset.{WaitingReset}
 use Rattle.tcp_conn.specs.declared.outcome.CallError.{CallError}
@@ -26,13 +26,13 @@ use Rattle.tcp_conn.specs.Calls.{abort_answer, after_abort}
 use Rattle.tcp_conn.specs.Due.{due_of, reset_due}
 use Rattle.tcp_conn.specs.Emission.{after_due, after_emission, buffer_after, buffer_with, destination, pending_length}
 use Rattle.tcp_conn.specs.Endings.{after_giving_up, after_orderly_end}
-use Rattle.tcp_conn.specs.Forms.{plain_segment, reset_from, segment_of}
+use Rattle.tcp_conn.specs.Forms.{plain_segment, reset_from, segment_of, waiting_segment}
 use Rattle.tcp_conn.specs.Phase.{is_ended, is_handshake, is_time_wait, sends_text}
 use Rattle.tcp_conn.specs.Rest.{Answer, Arrived, Applied, Emitted, Aborted, Arrives, RunsOut, Emits, Aborts, Event, RestIsTheEnd, Resting, Seen, after_event, answer_to, as_state, phase_at_rest, resting, seen_at, seen_of_end, seen_of_rest}
 use Rattle.tcp_conn.specs.State.{State}
 use Rattle.tcp_conn.specs.Timers.{after_reorder, after_retransmit, after_time_wait, after_timer, timer_answer}
 use Rattle.tcp_conn.specs.Windows.{window_field}
-use Rattle.tcp_conn.specs.Writing.{bytes_of, destination_of}
+use Rattle.tcp_conn.specs.Writing.{bytes_of, destination_of, waiting_destination}
 use Rattle.tcp_conn.proofs.Rests.{if-same, or-false}
 use Rattle.tcp_conn.proofs.AtRest.{Goes, IsAtRest, at-rest, begins, ends, ends-orderly, no-handshake, quiet, rest-again}
 use Rattle.tcp_conn.proofs.RestArrival.{arrival-goes, arrival-is, reading-answer, reading-effect, stays}
@@ -108,12 +108,20 @@ ack-segment-is : (s : State) → IsAtRest s → plain_segment s Acknowledgement 
 unfolding ack-segment
 ack-segment-is s h = rw (none-reported s h) refl
 
+abbrev waiting-at-rest : Resting → Option WaitingReset → Content
+waiting-at-rest r (Some reset) = reset_from r.port reset
+waiting-at-rest r None = ack-segment r
+
 abbrev segment-at-rest : Resting → Due → Content
-segment-at-rest r (Reset reset) = reset_from r.port reset
+segment-at-rest r Reset = waiting-at-rest r r.reset
 segment-at-rest r other = ack-segment r
 
+abbrev waiting-peer : Resting → Option WaitingReset → Peer
+waiting-peer r (Some reset) = reset.to
+waiting-peer r None = r.peer
+
 abbrev peer-at-rest : Resting → Due → Peer
-peer-at-rest r (Reset reset) = reset.to
+peer-at-rest r Reset = waiting-peer r r.reset
 peer-at-rest r other = r.peer
 
 abbrev buffer-at-rest : Resting → Option Due → List ℕ → List ℕ
@@ -123,17 +131,17 @@ buffer-at-rest r (Some due) out =
 
 abbrev due-effect : Resting → Option Due → Resting
 due-effect r None = r
-due-effect r (Some (Reset reset)) = record r { reset = None }
+due-effect r (Some Reset) = record r { reset = None }
 due-effect r (Some other) = record r { ack = false }
 
 -- each of the three that can be due
-by-parts : (P : Option Due → Type 0) → P None → ((reset : WaitingReset) → P (Some (Reset reset))) → P (Some Acknowledgement)
+by-parts : (P : Option Due → Type 0) → P None → P (Some Reset) → P (Some Acknowledgement)
     → (reset : Option WaitingReset) (owed : Bool) → P (option_or (reset_due reset) (if owed then Some Acknowledgement else None))
-by-parts P none reset acknowledgement (Some waiting) owed = reset waiting
+by-parts P none reset acknowledgement (Some waiting) owed = reset
 by-parts P none reset acknowledgement None true = acknowledgement
 by-parts P none reset acknowledgement None false = none
 
-by-due : (P : Option Due → Type 0) → P None → ((reset : WaitingReset) → P (Some (Reset reset))) → P (Some Acknowledgement) → (r : Resting) → P (due-at-rest r)
+by-due : (P : Option Due → Type 0) → P None → P (Some Reset) → P (Some Acknowledgement) → (r : Resting) → P (due-at-rest r)
 unfolding due-at-rest
 by-due P none reset acknowledgement r = by-parts P none reset acknowledgement r.reset r.ack
 
@@ -143,35 +151,47 @@ pending-at-rest r = option_map (λ due. wire_length (segment-at-rest r due)) (du
 abbrev destination-at-rest : Resting → Option (List ℕ)
 destination-at-rest r = option_map (λ due. (peer-at-rest r due).addr.0) (due-at-rest r)
 
-max-left : (n : ℕ) → max n 0 ≡ n
-max-left n = omega arith
+waiting-is : (s : State) (reset : Option WaitingReset) → IsAtRest s → waiting_segment s reset ≡ waiting-at-rest (resting s) reset
+waiting-is s (Some reset) h = refl
+waiting-is s None h = ack-segment-is s h
 
-max-same : (n : ℕ) → max n n ≡ n
-max-same n = omega arith
+waiting-goes-to : (s : State) (reset : Option WaitingReset) → waiting_destination s reset ≡ waiting-peer (resting s) reset
+waiting-goes-to s (Some reset) = refl
+waiting-goes-to s None = refl
 
 pending-is : (s : State) → IsAtRest s → pending_length s ≡ pending-at-rest (resting s)
 unfolding pending_length segment_of
 pending-is s h =
     ap (option_map (λ due. wire_length (segment_of s due))) (due-is s h)
     ∙ by-due (λ d. option_map (λ due. wire_length (segment_of s due)) d ≡ option_map (λ due. wire_length (segment-at-rest (resting s) due)) d)
-    refl (λ reset. refl) (ap (λ v. Some (wire_length v)) (ack-segment-is s h)) (resting s)
+    refl (ap (λ v. Some (wire_length v)) (waiting-is s s.owed.reset h)) (ap (λ v. Some (wire_length v)) (ack-segment-is s h)) (resting s)
 
 destination-is : (s : State) → IsAtRest s → destination s ≡ destination-at-rest (resting s)
 unfolding destination
 destination-is s h =
     ap (option_map (λ due. (destination_of s due).addr.0)) (due-is s h)
     ∙ by-due (λ d. option_map (λ due. (destination_of s due).addr.0) d ≡ option_map (λ due. (peer-at-rest (resting s) due).addr.0) d)
-    refl (λ reset. refl) refl (resting s)
+    refl (ap (λ (peer : Peer). Some peer.addr.0) (waiting-goes-to s s.owed.reset)) refl (resting s)
 
 buffer-is : (s : State) (out : List ℕ) → IsAtRest s → buffer_after s out ≡ buffer-at-rest (resting s) (due-at-rest (resting s)) out
 unfolding buffer_after bytes_of segment_of
 buffer-is s out h =
     ap (λ d. buffer_with s d out) (due-is s h)
     ∙ by-due (λ d. buffer_with s d out ≡ buffer-at-rest (resting s) d out)
-    refl (λ reset. refl) (ap (λ v. encoded_bytes s.config.addr.0 s.peer.addr.0 v ++ drop (wire_length v) out) (ack-segment-is s h)) (resting s)
+    refl
+    (ap (λ (peer : Peer). encoded_bytes s.config.addr.0 peer.addr.0 (waiting_segment s s.owed.reset) ++ drop (wire_length (waiting_segment s s.owed.reset)) out)
+    (waiting-goes-to s s.owed.reset)
+    ∙ ap (λ v. encoded_bytes s.config.addr.0 (waiting-peer (resting s) s.owed.reset).addr.0 v ++ drop (wire_length v) out) (waiting-is s s.owed.reset h))
+    (ap (λ v. encoded_bytes s.config.addr.0 s.peer.addr.0 v ++ drop (wire_length v) out) (ack-segment-is s h)) (resting s)
 
-reset-goes : (s : State) (reset : WaitingReset) → IsAtRest s → Goes (after_due s (Some (Reset reset))) (record (resting s) { reset = None })
-reset-goes s reset h = record {
+max-left : (n : ℕ) → max n 0 ≡ n
+max-left n = omega arith
+
+max-same : (n : ℕ) → max n n ≡ n
+max-same n = omega arith
+
+reset-goes : (s : State) → IsAtRest s → Goes (after_due s (Some Reset)) (record (resting s) { reset = None })
+reset-goes s h = record {
   rests = ap (λ n. record (resting s) { seq = number s.config.isn.0 n; reset = None }) (max-left s.sending.nxt);
   at_rest = record { isn = h.isn; phase = h.phase; acked = h.acked ∙ sym (max-left s.sending.nxt); read = h.read; none_held = h.none_held; no_syn = h.no_syn };
 }
@@ -186,7 +206,7 @@ emission-goes : (s : State) → IsAtRest s → Goes (after_emission s) (due-effe
 unfolding after_emission
 emission-goes s h =
     subst (λ d. Goes (after_due s d) (due-effect (resting s) (due-at-rest (resting s)))) (sym (due-is s h))
-    (by-due (λ d. Goes (after_due s d) (due-effect (resting s) d)) (stays s h) (λ reset. reset-goes s reset h) (acknowledgement-goes s h) (resting s))
+    (by-due (λ d. Goes (after_due s d) (due-effect (resting s) d)) (stays s h) (reset-goes s h) (acknowledgement-goes s h) (resting s))
 
 -- AN ABORT
 abbrev abort-at-rest : Ending → Result (Unit {0}) CallError

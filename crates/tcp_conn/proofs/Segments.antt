@@ -1,7 +1,7 @@
 -- The segments that an end emits can be written (RFC 9293, 3.1), and how long they are.
 use Rattle.std.proofs.Common.{◌≡◌, ℕ, ◌+◌, ◌*◌, ◌%◌, ◌<◌, ◌≤◌, ◌^◌, List, [], ◌∷◌, ◌++◌, length, take, map, replicate, refl, sym, ◌∙◌, ap, arith, length-append, length-take, length-drop, length-take-le, drop, ⊎_elim}
 use Rattle.std.proofs.lemmas.List.{length-map}
-use Rattle.std.specs.Prelude.{Bool, true, false, not, ◌&&◌, if◌then◌else◌, Option, Some, None, is_some, unwrap_or}
+use Rattle.std.specs.Prelude.{Bool, true, false, not, ◌&&◌, if◌then◌else◌, Option, Some, None, is_some, max, unwrap_or}
 use Rattle.std.specs.List.{AllByRecursion, flat_map}
 use Rattle.std.proofs.lemmas.Bool.{cond_both, cases_lt}
 use Rattle.tcp_wire.specs.Flags.{fin, syn, rst, psh, ack}
@@ -11,15 +11,17 @@ use Rattle.tcp_wire.specs.Wire.{Content, IsValid, header_len, option_bytes, wire
 use Rattle.tcp_wire.specs.View.{text_offset}
 use Rattle.tcp_wire.proofs.Lemmas.{blocks_bytes_length}
 use Rattle.tcp_reasm.specs.Reassembly.{Inbox, blocks}
-use Rattle.tcp_halves.specs.declared.due.Due.{Due}
+use Rattle.tcp_conn.specs.declared.due.Due.{Due}
+use Rattle.tcp_conn.specs.declared.due.Due.TheVariants.{Reset, Syn, Text, Acknowledgement}
+use Rattle.tcp_halves.specs.Sent as half
 use Rattle.tcp_halves.specs.declared.link.WaitingReset.{WaitingReset}
 use Rattle.tcp_conn.specs.declared.emission.TheConstants.{EMIT_ROOM}
 use Rattle.tcp_halves.specs.Config.{max_mss, max_shift}
 use Rattle.tcp_conn.specs.State.{State, Sending, place_of}
 use Rattle.tcp_conn.specs.Endpoint.{FitsFields}
-use Rattle.tcp_conn.specs.Due.{Lies, start_of, count_of, is_fin}
+use Rattle.tcp_conn.specs.Due.{IsSendable, count_of, flags_of}
 use Rattle.tcp_conn.specs.Blocks.{block_numbers, blocks_to_report, sack_options, sack_length}
-use Rattle.tcp_conn.specs.Forms.{reset_ack, reset_segment, shift_offered, is_sack_offered, scale_options, permission_options, syn_segment, text_of, pushes, plain_segment}
+use Rattle.tcp_conn.specs.Forms.{reset_ack, reset_segment, shift_offered, is_sack_offered, scale_options, permission_options, syn_segment, text_of, plain_segment}
 
 -- BLOCKS: at most four, each a pair of numbers
 few-blocks : (q : Inbox) → length (blocks q) ≤ 4
@@ -82,6 +84,12 @@ flags-fit true false = omega arith
 flags-fit false true = omega arith
 flags-fit false false = omega arith
 
+flags_of-fit : (s : Sending) (due : Due) → flags_of s due < 2 ^ 8
+flags_of-fit s Reset = omega arith
+flags_of-fit s Syn = omega arith
+flags_of-fit s (Text sent) = flags-fit (half.pushes s sent) (half.is_fin sent)
+flags_of-fit s Acknowledgement = omega arith
+
 pub sack_length-fits : (bs : List (ℕ × ℕ)) → length bs ≤ 4 → (sack_length bs ≤ 36)
 sack_length-fits [] few = omega arith
 sack_length-fits (b ∷ bs) few = omega arith
@@ -105,14 +113,25 @@ text-as_long queue place count inside = ⊎_elim
     (cases_lt count 1)
 
 -- the text of what is due is as long as its count
-pub text_as_long : (s : Sending) (due : Due) → Lies s max_mss due → length (text_of s due) ≡ count_of due
-text_as_long s due lies = text-as_long s.queue.bytes (place_of s (start_of s due)) (count_of due) lies.inside
+pub text_as_long : (s : Sending) (due : Due) → IsSendable s max_mss due → length (text_of s due) ≡ count_of due
+text_as_long s Reset sendable = refl
+text_as_long s Syn sendable = refl
+text_as_long s (Text sent) sendable = text-as_long s.queue.bytes (place_of s (half.start_of sent)) (half.count_of sent) sendable.inside
+text_as_long s Acknowledgement sendable = refl
 
-pub plain_segment_due : (s : State) (due : Due) → Lies s.sending max_mss due → wire_length (plain_segment s due) ≡ header_len + sack_length (blocks_to_report s) + count_of due
-plain_segment_due s due lies = omega (arith, length_plain_segment s due, text_as_long s.sending due lies)
+-- and no longer than the greatest maximum segment size
+pub count_short : (s : Sending) (due : Due) → IsSendable s max_mss due → count_of due ≤ max_mss
+count_short s Reset sendable = omega arith
+count_short s Syn sendable = omega arith
+count_short s (Text sent) sendable = sendable.short
+count_short s Acknowledgement sendable = omega arith
 
-pub plain_segment_short : (s : State) (due : Due) → Lies s.sending max_mss due → wire_length (plain_segment s due) ≤ EMIT_ROOM
-plain_segment_short s due lies = omega (arith, plain_segment_due s due lies, sack_length-fits (blocks_to_report s) (blocks_to_report-few s), lies.short)
+pub plain_segment_due : (s : State) (due : Due) → IsSendable s.sending max_mss due → wire_length (plain_segment s due) ≡ header_len + sack_length (blocks_to_report s) + count_of due
+plain_segment_due s due sendable = omega (arith, length_plain_segment s due, text_as_long s.sending due sendable)
+
+pub plain_segment_short : (s : State) (due : Due) → IsSendable s.sending max_mss due → wire_length (plain_segment s due) ≤ EMIT_ROOM
+plain_segment_short s due sendable =
+    omega (arith, plain_segment_due s due sendable, report_options_short s, count_short s.sending due sendable)
 
 pub plain_segment_valid : (s : State) (due : Due) → FitsFields s → AreBytes (text_of s.sending due) → length (text_of s.sending due) ≤ max_mss → IsValid (plain_segment s due)
 plain_segment_valid s due fits_fields bytes short =
@@ -124,7 +143,7 @@ plain_segment_valid s due fits_fields bytes short =
       seq = omega arith;
       ack = fits_fields.next;
       reserved = omega arith;
-      flags = flags-fit (pushes s.sending due) (is_fin due);
+      flags = flags_of-fit s.sending due;
       window = omega arith;
       urgent = omega arith;
       options = sack-spellable (blocks_to_report s) (blocks_to_report-few s) (blocks_to_report-are_blocks s);
@@ -206,3 +225,10 @@ syn_segment_valid s fits_fields =
       text = λ i. omega arith;
       most = omega (arith, area, fits);
     }
+
+-- a segment that takes no number leaves SND.NXT as it is
+pub nxt_of_reset : (n : ℕ) → max n 0 ≡ n
+nxt_of_reset n = omega arith
+
+pub nxt_of_acknowledgement : (n : ℕ) → max n n ≡ n
+nxt_of_acknowledgement n = omega arith

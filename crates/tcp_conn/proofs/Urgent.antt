@@ -5,7 +5,7 @@ use Rattle.std.specs.Option.{option_or}
 use Rattle.tcp_wire.specs.Decoded.{decode_answer}
 use Rattle.tcp_wire.specs.Wire.{Content}
 use Rattle.tcp_wire.specs.declared.fault.DecodeError.{DecodeError}
-use Rattle.tcp_halves.specs.declared.due.Due.{Due}
+use Rattle.tcp_conn.specs.declared.due.Due.{Due}
 use Rattle.tcp_conn.specs.declared.judgement.Judgement.{Judgement}
 use Rattle.tcp_conn.specs.declared.judgement.Judgement.TheVariants.{Foreign, ResetIgnored, Stray, AckOfListen, OpensNothing, PeerOpens, AckOfNoSyn, PeerRefuses, PeerAccepts, Unacceptable, PeerResets, ResetElsewhere, SynInWindow, NoAck, AcksUnsent, HandshakeRefused, HandshakeRefusedShut, Taken, TakenShut}
 use Rattle.tcp_conn.specs.declared.owed.Owed.{Owed}

@@ -1,24 +1,34 @@
 -- What an emission returns, and the end after it (RFC 9293, 3.3.1, 3.4 and 3.8).
-use Rattle.std.specs.Prelude.{ℕ, Bool, false, not, ◌&&◌, List, Option, Some, None, ◌++◌, drop, option_map}
+use Rattle.std.specs.Prelude.{ℕ, Bool, false, not, ◌&&◌, List, Option, Some, None, ◌++◌, drop, max, option_map}
+use Rattle.std.specs.declared.ops.Range.{Range}
 use Rattle.tcp_wire.specs.Wire.{wire_length}
-use Rattle.tcp_halves.specs.declared.due.Due.{Due}
-use Rattle.tcp_halves.specs.declared.due.Due.TheVariants.{Reset, Syn, NewText}
+use Rattle.tcp_halves.specs.declared.sent.Sent.TheVariants.{NewText}
+use Rattle.tcp_halves.specs.Sent as half
+use Rattle.tcp_conn.specs.declared.due.Due.{Due}
+use Rattle.tcp_conn.specs.declared.due.Due.TheVariants.{Reset, Syn, Text}
 use Rattle.tcp_conn.specs.declared.owed.Owed.{Owed}
-use Rattle.tcp_conn.specs.State.{State}
-use Rattle.tcp_conn.specs.Due.{due_of, ack_alone}
-pub use Rattle.tcp_halves.specs.Due.{range_after, resend_after, sending_after}
+use Rattle.tcp_conn.specs.State.{State, Sending}
+use Rattle.tcp_conn.specs.Due.{due_of, ack_alone, end_of}
+pub use Rattle.tcp_halves.specs.Sent.{range_after}
 use Rattle.tcp_conn.specs.Forms.{segment_of}
 use Rattle.tcp_conn.specs.Writing.{bytes_of, destination_of}
 
 unfoldable pub emitted_bytes : State → Option (List ℕ)
 emitted_bytes s = option_map (bytes_of s) (due_of s)
 
--- AFTER AN EMISSION: what was emitted is no longer pending, SND.NXT is at least the position after it, and a segment with ACK
--- settles a pending acknowledgement
+-- AFTER AN EMISSION: SND.NXT is at least the position after it, what was sent again is taken off the range, what was emitted is
+-- no longer pending, and a segment with ACK settles a pending acknowledgement
+abbrev pub resend_after : Sending → Due → Option (Range ℕ)
+resend_after s (Text sent) = half.resend_after s sent
+resend_after s other = s.resend
+
+abbrev pub sending_after : Sending → Due → Sending
+sending_after s due = record s { nxt = max s.nxt (end_of s due); resend = resend_after s due }
+
 abbrev pub owed_after : Bool → Owed → Due → Owed
-owed_after opened o (Reset reset) = record o { reset = None }
+owed_after opened o Reset = record o { reset = None }
 owed_after opened o Syn = record o { syn = false; ack = o.ack && not opened }
-owed_after opened o (NewText start count) = record o { ack = false; probe = false }
+owed_after opened o (Text (NewText start count)) = record o { ack = false; probe = false }
 owed_after opened o other = record o { ack = false }
 
 abbrev pub state_after : State → Due → State

@@ -6,14 +6,15 @@ use Rattle.tcp_wire.specs.Position.{number}
 use Rattle.tcp_wire.specs.Wire.{Content}
 use Rattle.tcp_numbers.specs.declared.seq.Seq.{Seq}
 use Rattle.tcp_reasm.specs.Reassembly.{window}
-use Rattle.tcp_halves.specs.declared.due.Due.{Due}
-use Rattle.tcp_halves.specs.declared.due.Due.TheVariants.{Reset, Syn, Resend, NewText, Fin, ResentFin, Acknowledgement}
+use Rattle.tcp_conn.specs.declared.due.Due.{Due}
+use Rattle.tcp_conn.specs.declared.due.Due.TheVariants.{Reset, Syn, Text, Acknowledgement}
 use Rattle.tcp_halves.specs.declared.link.WaitingReset.{WaitingReset}
 use Rattle.tcp_conn.specs.State.{State}
 use Rattle.tcp_conn.specs.Windows.{max_window, advertised_window}
 use Rattle.tcp_conn.specs.Blocks.{sack_options, blocks_to_report}
-use Rattle.tcp_halves.specs.Due.{start_of}
-pub use Rattle.tcp_halves.specs.Due.{text_of, pushes, flags_of}
+use Rattle.tcp_conn.specs.Due.{start_of}
+pub use Rattle.tcp_conn.specs.Due.{text_of, flags_of}
+pub use Rattle.tcp_halves.specs.Sent.{pushes}
 
 -- A RESET has no window and no options (RFC 9293, 3.10.7.1)
 abbrev pub reset_ack : Option Seq → ℕ
@@ -88,11 +89,13 @@ plain_segment s due = record {
   text = text_of s.sending due;
 }
 
+-- the waiting reset; a reset is due only where one waits
+abbrev pub waiting_segment : State → Option WaitingReset → Content
+waiting_segment s (Some reset) = reset_segment s reset
+waiting_segment s None = plain_segment s Acknowledgement
+
 unfoldable pub segment_of : State → Due → Content
-segment_of s (Reset reset) = reset_segment s reset
+segment_of s Reset = waiting_segment s s.owed.reset
 segment_of s Syn = syn_segment s
-segment_of s (Resend start count) = plain_segment s (Resend start count)
-segment_of s (NewText start count) = plain_segment s (NewText start count)
-segment_of s (Fin start) = plain_segment s (Fin start)
-segment_of s (ResentFin start) = plain_segment s (ResentFin start)
+segment_of s (Text sent) = plain_segment s (Text sent)
 segment_of s Acknowledgement = plain_segment s Acknowledgement

@@ -1,12 +1,39 @@
 //! What an end emits next (RFC 9293, 3.7, 3.8 and 3.10).
-ghost use Rattle.std.specs.Prelude.{◌≡◌, ◌≤◌, IfSome};
+ghost use Rattle.std.specs.Prelude.{◌≡◌, ◌<◌, ◌≤◌, ◌^◌, ◌++◌, IfSome, length};
+ghost use Rattle.tcp_wire.specs.Checksum.{AreBytes};
 ghost use Rattle.tcp_halves.specs.Config.{max_mss};
-ghost use Rattle.tcp_conn.specs.Due.{Lies, ack_alone, due_of, text_due, text_limit};
+ghost use Rattle.tcp_conn.specs.Due.{IsSendable, ack_alone, count_of, due_of, flags_of, start_of, text_due, text_limit, text_of};
 
 use crate::endpoint::Endpoint;
 use crate::phases::sends_text;
 use std::alloc::Allocator;
-use tcp_halves::Due;
+use tcp_halves::Sent;
+use tcp_wire::Flags;
+
+/// What an end emits next.
+#[derive(Clone, Copy, Debug, PartialEq, Eq)]
+pub enum Due {
+    /// The reset that waits (RFC 9293, 3.5.2).
+    Reset,
+    /// This end's SYN, with an acknowledgement once the peer's SYN was taken (RFC 9293, 3.5).
+    Syn,
+    /// What the half that sends emits: text or this end's FIN (RFC 9293, 3.6 to 3.8).
+    Text(Sent),
+    /// An acknowledgement without text (RFC 9293, 3.8.6.3).
+    Acknowledgement,
+}
+
+impl Due {
+    /// The length of its text in bytes; 0 where it has none.
+    pub(crate) fn count(self) -> usize
+        ensures { result ≡ count_of self }
+    {
+        match self {
+            Due::Text(sent) => sent.count(),
+            Due::Reset | Due::Syn | Due::Acknowledgement => 0,
+        }
+    }
+}
 
 impl<A: Allocator> Endpoint<A> {
     /// What `emit` would write now: a waiting reset, this end's SYN, text or FIN, an acknowledgement, the first that
@@ -14,10 +41,10 @@ impl<A: Allocator> Endpoint<A> {
     #[tactic(auto, unfolding(crate::specs::Due::due_of))]
     pub(crate) fn due(&self) -> Option<Due>
         ensures value { result ≡ due_of self.now }
-        ensures lies { IfSome result (Lies self.now.sending max_mss) }
+        ensures sendable { IfSome result (IsSendable self.now.sending max_mss) }
     {
-        if let Some(reset) = self.owed.reset {
-            return Some(Due::Reset(reset));
+        if self.owed.reset.is_some() {
+            return Some(Due::Reset);
         }
         if self.owed.syn {
             return Some(Due::Syn);
@@ -38,7 +65,7 @@ impl<A: Allocator> Endpoint<A> {
     #[tactic(auto, unfolding(crate::specs::Due::ack_alone))]
     pub(crate) fn ack_alone(&self) -> Option<Due>
         ensures value { result ≡ ack_alone self.now }
-        ensures lies { IfSome result (Lies self.now.sending max_mss) }
+        ensures sendable { IfSome result (IsSendable self.now.sending max_mss) }
     {
         if self.owed.reset.is_some() || self.owed.syn || !self.owed.ack {
             return None;
@@ -51,13 +78,63 @@ impl<A: Allocator> Endpoint<A> {
     /// What is due of the half that sends, in the phases that send text.
     fn text_due(&self) -> Option<Due>
         ensures value { result ≡ text_due self.now }
-        ensures lies { IfSome result (Lies self.now.sending max_mss) }
+        ensures sendable { IfSome result (IsSendable self.now.sending max_mss) }
     {
         if !sends_text(self.phase) {
             return None;
         }
-        self.sender
-            .due(self.text_limit(), self.owed.probe, self.closing)
+        let sent = self
+            .sender
+            .due(self.text_limit(), self.owed.probe, self.closing)?;
+        Some(Due::Text(sent))
+    }
+
+    /// The position where it begins: SND.NXT for an acknowledgement, 0 for a SYN and a reset.
+    pub(crate) fn start_of(&self, due: Due) -> u64
+        ensures { result ≡ start_of self.now.sending due }
+    {
+        match due {
+            Due::Text(sent) => sent.start(),
+            Due::Acknowledgement => self.sender.nxt,
+            Due::Reset | Due::Syn => 0,
+        }
+    }
+
+    /// The control bits of a segment that is no reset and no SYN.
+    pub(crate) fn flags_of(&self, due: Due) -> Flags
+        requires { IsSendable self.now.sending max_mss due }
+        ensures value { result.0 ≡ flags_of self.now.sending due }
+        ensures fits { result.0 < 2 ^ 8 }
+    {
+        match due {
+            Due::Text(sent) => self.sender.flags(sent),
+            Due::Reset | Due::Syn | Due::Acknowledgement => Flags::ACK,
+        }
+    }
+
+    /// Copies the text of what is due into `out`, which has exactly its length.
+    pub(crate) fn copy(&self, due: Due, out: &mut [u8])
+        requires sendable { IsSendable self.now.sending max_mss due }
+        requires len { length out.old ≡ count_of due }
+        ensures text { out.new ≡ text_of self.now.sending due }
+        ensures bytes { AreBytes out.new }
+    {
+        if let Due::Text(sent) = due {
+            self.sender.copy(sent, out);
+        }
+    }
+
+    /// The text of what is due, where it lies in the queue, in two parts. The first is empty only where there is no
+    /// text.
+    pub(crate) fn text(&self, due: Due) -> (&[u8], &[u8])
+        requires { IsSendable self.now.sending max_mss due }
+        ensures text { result.0.now ++ result.1.now ≡ text_of self.now.sending due }
+        ensures bytes { AreBytes (result.0.now ++ result.1.now) }
+    {
+        match due {
+            Due::Text(sent) => self.sender.text(sent),
+            Due::Reset | Due::Syn | Due::Acknowledgement => (&[], &[]),
+        }
     }
 
     /// The text limit in bytes: the smaller of the peer's and this end's maximum segment size, less the options (RFC

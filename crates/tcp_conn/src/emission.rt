@@ -2,15 +2,16 @@
 ghost use Rattle.std.specs.Prelude.{◌≡◌, ◌≤◌, IfSome, length, option_map};
 ghost use Rattle.tcp_wire.specs.Wire.{header_len, wire_length};
 ghost use Rattle.tcp_halves.specs.Config.{max_mss};
-ghost use Rattle.tcp_conn.specs.Due.{Lies};
+ghost use Rattle.tcp_conn.specs.Due.{IsSendable};
 ghost use Rattle.tcp_conn.specs.Emission.{after_emission, buffer_after, destination, pending_length, state_after};
 ghost use Rattle.tcp_conn.specs.Forms.{plain_segment, segment_of};
 ghost use Rattle.tcp_conn.specs.State.{IsWithin};
 
+use crate::due::Due;
 use crate::endpoint::Endpoint;
 use crate::forms::HEADER_LEN;
 use std::alloc::Allocator;
-use tcp_halves::Due;
+use tcp_halves::Sent;
 use tcp_wire::Addr;
 
 /// The room that `emit` requires, in bytes: more than the longest segment that an end writes.
@@ -20,7 +21,7 @@ impl<A: Allocator> Endpoint<A> {
     /// The length in bytes of a segment that may have text.
     #[tactic(auto, using(crate::proofs::Segments::plain_segment_due))]
     fn length_of_plain(&self, due: Due) -> usize
-        requires { Lies self.now.sending max_mss due }
+        requires { IsSendable self.now.sending max_mss due }
         ensures value { result ≡ wire_length (plain_segment self.now due) }
         ensures most { result ≤ EMIT_ROOM }
     {
@@ -30,23 +31,19 @@ impl<A: Allocator> Endpoint<A> {
     /// The length in bytes of the segment that is due.
     #[tactic(auto, using(crate::proofs::Segments::length_syn_segment), unfolding(crate::specs::Forms::segment_of))]
     pub(crate) fn length_of(&self, due: Due) -> usize
-        requires lies { Lies self.now.sending max_mss due }
+        requires sendable { IsSendable self.now.sending max_mss due }
         ensures value { result ≡ wire_length (segment_of self.now due) }
         ensures least { header_len ≤ result }
         ensures most { result ≤ EMIT_ROOM }
     {
         match due {
-            Due::Reset(_) => HEADER_LEN,
+            Due::Reset if self.owed.reset.is_some() => HEADER_LEN,
             Due::Syn => {
                 let scale = if self.shift_offered().is_some() { 4 } else { 0 };
                 let sack = if self.is_sack_offered() { 4 } else { 0 };
                 HEADER_LEN + 4 + scale + sack
             }
-            Due::Resend(..)
-            | Due::NewText(..)
-            | Due::Fin(_)
-            | Due::ResentFin(_)
-            | Due::Acknowledgement => self.length_of_plain(due),
+            Due::Reset | Due::Text(_) | Due::Acknowledgement => self.length_of_plain(due),
         }
     }
 
@@ -63,22 +60,26 @@ impl<A: Allocator> Endpoint<A> {
     }
 
     /// What was due was emitted.
+    #[tactic(auto, using(crate::proofs::Segments::nxt_of_reset, crate::proofs::Segments::nxt_of_acknowledgement))]
     pub(crate) fn mark_sent(&mut self, due: Due)
-        requires { Lies self.old.sending max_mss due }
+        requires { IsSendable self.old.sending max_mss due }
         ensures { self.new ≡ state_after self.old due }
     {
-        self.sender.mark_sent(due);
         match due {
-            Due::Reset(_) => self.owed.reset = None,
+            Due::Reset => self.owed.reset = None,
             Due::Syn => {
+                self.sender.mark_syn_sent();
                 self.owed.syn = false;
                 self.owed.ack = self.owed.ack && !self.receiver.opened;
             }
-            Due::NewText(..) => {
+            Due::Text(sent) => {
+                self.sender.mark_sent(sent);
                 self.owed.ack = false;
-                self.owed.probe = false;
+                if matches!(sent, Sent::NewText(..)) {
+                    self.owed.probe = false;
+                }
             }
-            _ => self.owed.ack = false,
+            Due::Acknowledgement => self.owed.ack = false,
         }
     }
 

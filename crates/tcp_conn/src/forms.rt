@@ -5,14 +5,15 @@ ghost use Rattle.tcp_wire.specs.View.{content_of, option_content};
 ghost use Rattle.tcp_wire.specs.Wire.{IsValid};
 ghost use Rattle.tcp_conn.specs.Blocks.{blocks_to_report, sack_options};
 ghost use Rattle.tcp_halves.specs.Config.{max_mss};
-ghost use Rattle.tcp_conn.specs.Due.{Lies};
+ghost use Rattle.tcp_conn.specs.Due.{IsSendable};
 ghost use Rattle.tcp_conn.specs.Forms.{is_sack_offered, permission_options, plain_segment, reset_from, reset_segment, scale_options, shift_offered, syn_options, syn_segment, text_of};
 
+use crate::due::Due;
 use crate::endpoint::Endpoint;
 use crate::windows::MAX_WINDOW;
 use arrayvec::ArrayVec;
 use std::alloc::Allocator;
-use tcp_halves::{Due, WaitingReset};
+use tcp_halves::WaitingReset;
 use tcp_wire::{Flags, Header, Seq, TcpOption};
 
 /// The length in bytes of a segment without options and text (RFC 9293, 3.1).
@@ -135,16 +136,16 @@ impl<A: Allocator> Endpoint<A> {
 
     /// The fixed header of any other segment.
     pub(crate) fn plain_header(&self, due: Due) -> Header
-        requires lies { Lies self.now.sending max_mss due }
+        requires sendable { IsSendable self.now.sending max_mss due }
         ensures { content_of result (sack_options (blocks_to_report self.now)) 0 (text_of self.now.sending due) ≡ plain_segment self.now due }
     {
         Header {
             src_port: self.config.port,
             dst_port: self.peer.port,
-            seq: self.number_of(self.sender.start_of(due)),
+            seq: self.number_of(self.start_of(due)),
             ack: self.receiver.next,
             reserved: 0,
-            flags: self.sender.flags(due),
+            flags: self.flags_of(due),
             window: self.advertised_window(),
             urgent: 0,
         }

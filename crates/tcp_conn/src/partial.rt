@@ -5,7 +5,7 @@ ghost use Rattle.tcp_wire.specs.View.{option_content};
 ghost use Rattle.tcp_wire.specs.Wire.{encoded_bytes, wire_length};
 ghost use Rattle.tcp_halves.specs.Config.{max_mss};
 ghost use Rattle.tcp_conn.specs.Blocks.{blocks_to_report, sack_options};
-ghost use Rattle.tcp_conn.specs.Due.{Lies};
+ghost use Rattle.tcp_conn.specs.Due.{IsSendable};
 ghost use Rattle.tcp_conn.specs.Emission.{after_emission, destination, emitted_bytes, pending_length};
 ghost use Rattle.tcp_conn.specs.Forms.{plain_segment, reset_segment, segment_of, syn_segment};
 ghost use Rattle.tcp_conn.specs.Partial.{partial_after, partial_of};
@@ -13,10 +13,11 @@ ghost use Rattle.tcp_conn.specs.State.{IsWithin};
 ghost use Rattle.tcp_conn.specs.Writing.{bytes_of};
 
 use crate::blocks::sack_options;
+use crate::due::Due;
 use crate::emission::EMIT_ROOM;
 use crate::endpoint::Endpoint;
 use std::alloc::Allocator;
-use tcp_halves::{Due, WaitingReset};
+use tcp_halves::WaitingReset;
 use tcp_wire::{Addr, TcpOption, write_around_partial};
 
 impl<A: Allocator> Endpoint<A> {
@@ -60,7 +61,7 @@ impl<A: Allocator> Endpoint<A> {
     /// Writes a segment that may have text, with these options, at the start of `out`, and returns its length.
     #[inline(always)]
     fn write_text_partial(&self, due: Due, options: &[TcpOption<'_>], out: &mut [u8]) -> usize
-        requires lies { Lies self.now.sending max_mss due }
+        requires sendable { IsSendable self.now.sending max_mss due }
         requires options { map option_content options.now ≡ sack_options (blocks_to_report self.now) }
         requires room { EMIT_ROOM ≤ length out.old }
         ensures len { result ≡ wire_length (plain_segment self.now due) }
@@ -72,7 +73,7 @@ impl<A: Allocator> Endpoint<A> {
         let header = self.plain_header(due);
         let start = self.text_start();
         let count = due.count();
-        self.sender.copy(due, &mut out[start..start + count]);
+        self.copy(due, &mut out[start..start + count]);
         write_around_partial(
             &header,
             options,
@@ -87,7 +88,7 @@ impl<A: Allocator> Endpoint<A> {
     /// Writes such a segment with the options that report blocks, where there are any.
     #[tactic(auto, using(crate::proofs::Segments::none_reported))]
     fn write_plain_partial(&self, due: Due, out: &mut [u8]) -> usize
-        requires lies { Lies self.now.sending max_mss due }
+        requires sendable { IsSendable self.now.sending max_mss due }
         requires room { EMIT_ROOM ≤ length out.old }
         ensures len { result ≡ wire_length (plain_segment self.now due) }
         ensures most { result ≤ EMIT_ROOM }
@@ -104,7 +105,7 @@ impl<A: Allocator> Endpoint<A> {
     /// Writes what is due at the start of `out`, and returns its length.
     #[tactic(auto, unfolding(crate::specs::Forms::segment_of, crate::specs::Writing::bytes_of, crate::specs::Partial::partial_of))]
     fn write_partial(&self, due: Due, out: &mut [u8]) -> usize
-        requires lies { Lies self.now.sending max_mss due }
+        requires sendable { IsSendable self.now.sending max_mss due }
         requires room { EMIT_ROOM ≤ length out.old }
         ensures len { result ≡ wire_length (segment_of self.now due) }
         ensures most { result ≤ EMIT_ROOM }
@@ -112,13 +113,12 @@ impl<A: Allocator> Endpoint<A> {
         ensures completes { completed (take result out.new) ≡ bytes_of self.now due }
     {
         match due {
-            Due::Reset(reset) => self.write_reset_partial(reset, out),
+            Due::Reset => match self.owed.reset {
+                Some(reset) => self.write_reset_partial(reset, out),
+                None => self.write_plain_partial(Due::Acknowledgement, out),
+            },
             Due::Syn => self.write_syn_partial(out),
-            Due::Resend(..)
-            | Due::NewText(..)
-            | Due::Fin(_)
-            | Due::ResentFin(_)
-            | Due::Acknowledgement => self.write_plain_partial(due, out),
+            Due::Text(_) | Due::Acknowledgement => self.write_plain_partial(due, out),
         }
     }
 

@@ -4,16 +4,16 @@ ghost use Rattle.tcp_wire.specs.View.{option_content};
 ghost use Rattle.tcp_wire.specs.Wire.{encoded_bytes};
 ghost use Rattle.tcp_halves.specs.Config.{max_mss};
 ghost use Rattle.tcp_conn.specs.Blocks.{blocks_to_report, sack_options};
-ghost use Rattle.tcp_conn.specs.Due.{Lies};
+ghost use Rattle.tcp_conn.specs.Due.{IsSendable};
 ghost use Rattle.tcp_conn.specs.Emission.{after_emission, destination, emitted_bytes};
 ghost use Rattle.tcp_conn.specs.Forms.{plain_segment};
 ghost use Rattle.tcp_conn.specs.State.{IsWithin};
 ghost use Rattle.tcp_conn.specs.Writing.{bytes_of, destination_of};
 
 use crate::blocks::sack_options;
+use crate::due::Due;
 use crate::endpoint::Endpoint;
 use std::alloc::Allocator;
-use tcp_halves::Due;
 use tcp_wire::{Addr, TcpOption, write_front};
 
 /// The room that `parts` requires, in bytes: the length of the longest header with options (RFC 9293, 3.1).
@@ -52,7 +52,7 @@ impl<A: Allocator> Endpoint<A> {
     /// text.
     #[inline(always)]
     fn front_of_text(&self, due: Due, options: &[TcpOption<'_>], header: &mut [u8]) -> Parts<'_>
-        requires lies { Lies self.now.sending max_mss due }
+        requires sendable { IsSendable self.now.sending max_mss due }
         requires options { map option_content options.now ≡ sack_options (blocks_to_report self.now) }
         requires room { HEADER_ROOM ≤ length header.old }
         ensures to { result.to ≡ self.now.peer.addr }
@@ -62,7 +62,7 @@ impl<A: Allocator> Endpoint<A> {
     {
         self.fits_fields();
         let fields = self.plain_header(due);
-        let (first, second) = self.sender.text(due);
+        let (first, second) = self.text(due);
         let len = write_front(
             &fields,
             options,
@@ -84,7 +84,7 @@ impl<A: Allocator> Endpoint<A> {
     /// Writes such a header with the options that report blocks, where there are any.
     #[tactic(auto, using(crate::proofs::Segments::none_reported))]
     fn front_of_plain(&self, due: Due, header: &mut [u8]) -> Parts<'_>
-        requires lies { Lies self.now.sending max_mss due }
+        requires sendable { IsSendable self.now.sending max_mss due }
         requires room { HEADER_ROOM ≤ length header.old }
         ensures to { result.to ≡ self.now.peer.addr }
         ensures most { result.header ≤ HEADER_ROOM }
@@ -101,7 +101,7 @@ impl<A: Allocator> Endpoint<A> {
     /// Writes the header of what is due, and lends its text.
     #[tactic(auto, using(crate::proofs::Parting::bare_bytes, crate::proofs::Parting::bare_rest), unfolding(crate::specs::Forms::segment_of, crate::specs::Writing::bytes_of))]
     fn front_of(&self, due: Due, header: &mut [u8]) -> Parts<'_>
-        requires lies { Lies self.now.sending max_mss due }
+        requires sendable { IsSendable self.now.sending max_mss due }
         requires room { HEADER_ROOM ≤ length header.old }
         ensures to { result.to ≡ (destination_of self.now due).addr }
         ensures most { result.header ≤ HEADER_ROOM }
@@ -109,19 +109,18 @@ impl<A: Allocator> Endpoint<A> {
         ensures rest { drop result.header header.new ≡ drop result.header header.old }
     {
         match due {
-            Due::Reset(reset) => {
-                let len = self.write_reset(reset, header);
-                without_text(reset.to.addr, len)
-            }
+            Due::Reset => match self.owed.reset {
+                Some(reset) => {
+                    let len = self.write_reset(reset, header);
+                    without_text(reset.to.addr, len)
+                }
+                None => self.front_of_plain(Due::Acknowledgement, header),
+            },
             Due::Syn => {
                 let len = self.write_syn(header);
                 without_text(self.peer.addr, len)
             }
-            Due::Resend(..)
-            | Due::NewText(..)
-            | Due::Fin(_)
-            | Due::ResentFin(_)
-            | Due::Acknowledgement => self.front_of_plain(due, header),
+            Due::Text(_) | Due::Acknowledgement => self.front_of_plain(due, header),
         }
     }
 

@@ -3,7 +3,7 @@
 ghost use Rattle.std.specs.Prelude.{◌≡◌, ◌≤◌, if◌then◌else◌, length, option_map, IfSome, Some, None, false, []};
 ghost use Rattle.tcp_wire.specs.View.{content_of, raw_content};
 ghost use Rattle.tcp_wire.specs.Wire.{IsValid};
-ghost use Rattle.tcp_halves.specs.declared.due.Due.TheVariants.{Acknowledgement};
+ghost use Rattle.tcp_conn.specs.declared.due.Due.TheVariants.{Acknowledgement};
 ghost use Rattle.tcp_conn.specs.declared.phase.Ending.TheVariants.{NotEnded};
 ghost use Rattle.tcp_conn.specs.Arrival.{after_arrival, after_judgement, arrival_answer};
 ghost use Rattle.tcp_conn.specs.Calls.{abort_answer, after_abort};

@@ -6,10 +6,11 @@ ghost use Rattle.tcp_conn.specs.State.{IsWithin};
 ghost use Rattle.tcp_conn.specs.Transmission.{count_due, kind_due, kind_of, position_due};
 ghost use Rattle.tcp_conn.specs.Writing.{destination_of};
 
+use crate::due::Due;
 use crate::emission::EMIT_ROOM;
 use crate::endpoint::Endpoint;
 use std::alloc::Allocator;
-use tcp_halves::Due;
+use tcp_halves::Sent;
 use tcp_wire::Addr;
 
 /// The kind of a segment that an end emits.
@@ -52,12 +53,12 @@ fn kind_of(due: Due) -> Kind
     ensures { result ≡ kind_of due }
 {
     match due {
-        Due::Reset(_) => Kind::Reset,
+        Due::Reset => Kind::Reset,
         Due::Syn => Kind::Syn,
-        Due::NewText(..) => Kind::NewText,
-        Due::Resend(..) => Kind::TextAgain,
-        Due::Fin(_) => Kind::Fin,
-        Due::ResentFin(_) => Kind::FinAgain,
+        Due::Text(Sent::NewText(..)) => Kind::NewText,
+        Due::Text(Sent::Resend(..)) => Kind::TextAgain,
+        Due::Text(Sent::Fin(_)) => Kind::Fin,
+        Due::Text(Sent::ResentFin(_)) => Kind::FinAgain,
         Due::Acknowledgement => Kind::Acknowledgement,
     }
 }
@@ -76,7 +77,7 @@ impl<A: Allocator> Endpoint<A> {
             to: self.destination(due),
             len,
             kind: kind_of(due),
-            position: self.sender.start_of(due),
+            position: self.start_of(due),
             count: due.count(),
         }
     }

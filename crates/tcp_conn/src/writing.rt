@@ -4,18 +4,19 @@ ghost use Rattle.tcp_wire.specs.View.{option_content, text_offset};
 ghost use Rattle.tcp_wire.specs.Wire.{header_len, max_area_len, encoded_bytes, wire_length};
 ghost use Rattle.tcp_conn.specs.Blocks.{blocks_to_report, sack_options};
 ghost use Rattle.tcp_halves.specs.Config.{max_mss};
-ghost use Rattle.tcp_conn.specs.Due.{Lies};
+ghost use Rattle.tcp_conn.specs.Due.{IsSendable};
 ghost use Rattle.tcp_conn.specs.Endpoint.{FitsFields};
 ghost use Rattle.tcp_conn.specs.Forms.{plain_segment, reset_segment, segment_of, syn_segment};
 ghost use Rattle.tcp_conn.specs.Writing.{bytes_of, destination_of};
 
 use crate::blocks::sack_options;
+use crate::due::Due;
 use crate::emission::EMIT_ROOM;
 use crate::endpoint::Endpoint;
 use crate::forms::HEADER_LEN;
 use crate::parts::HEADER_ROOM;
 use std::alloc::Allocator;
-use tcp_halves::{Due, WaitingReset};
+use tcp_halves::WaitingReset;
 use tcp_wire::{Addr, TcpOption, write_around};
 
 impl<A: Allocator> Endpoint<A> {
@@ -63,7 +64,7 @@ impl<A: Allocator> Endpoint<A> {
     /// goes from the queue to its offset in `out`, and the rest is written around it.
     #[inline(always)]
     fn write_text(&self, due: Due, options: &[TcpOption<'_>], out: &mut [u8]) -> usize
-        requires lies { Lies self.now.sending max_mss due }
+        requires sendable { IsSendable self.now.sending max_mss due }
         requires options { map option_content options.now ≡ sack_options (blocks_to_report self.now) }
         requires room { EMIT_ROOM ≤ length out.old }
         ensures len { result ≡ wire_length (plain_segment self.now due) }
@@ -74,7 +75,7 @@ impl<A: Allocator> Endpoint<A> {
         let header = self.plain_header(due);
         let start = self.text_start();
         let count = due.count();
-        self.sender.copy(due, &mut out[start..start + count]);
+        self.copy(due, &mut out[start..start + count]);
         write_around(
             &header,
             options,
@@ -90,7 +91,7 @@ impl<A: Allocator> Endpoint<A> {
     /// writing of a SYN and a reset is, so that a plain segment has no blocks among its locals.
     #[inline(never)]
     fn write_blocks(&self, due: Due, out: &mut [u8]) -> usize
-        requires lies { Lies self.now.sending max_mss due }
+        requires sendable { IsSendable self.now.sending max_mss due }
         requires room { EMIT_ROOM ≤ length out.old }
         ensures len { result ≡ wire_length (plain_segment self.now due) }
         ensures most { result ≤ EMIT_ROOM }
@@ -103,7 +104,7 @@ impl<A: Allocator> Endpoint<A> {
     /// Writes a segment that may have text at the start of `out`, and returns its length.
     #[tactic(auto, using(crate::proofs::Segments::none_reported))]
     fn write_plain(&self, due: Due, out: &mut [u8]) -> usize
-        requires lies { Lies self.now.sending max_mss due }
+        requires sendable { IsSendable self.now.sending max_mss due }
         requires room { EMIT_ROOM ≤ length out.old }
         ensures len { result ≡ wire_length (plain_segment self.now due) }
         ensures most { result ≤ EMIT_ROOM }
@@ -130,20 +131,19 @@ impl<A: Allocator> Endpoint<A> {
     /// Writes what is due at the start of `out`, and returns its length.
     #[tactic(auto, unfolding(crate::specs::Forms::segment_of, crate::specs::Writing::bytes_of))]
     pub(crate) fn write(&self, due: Due, out: &mut [u8]) -> usize
-        requires lies { Lies self.now.sending max_mss due }
+        requires sendable { IsSendable self.now.sending max_mss due }
         requires room { EMIT_ROOM ≤ length out.old }
         ensures len { result ≡ wire_length (segment_of self.now due) }
         ensures most { result ≤ EMIT_ROOM }
         ensures bytes { out.new ≡ bytes_of self.now due ++ drop result out.old }
     {
         match due {
-            Due::Reset(reset) => self.write_reset(reset, out),
+            Due::Reset => match self.owed.reset {
+                Some(reset) => self.write_reset(reset, out),
+                None => self.write_plain(Due::Acknowledgement, out),
+            },
             Due::Syn => self.write_syn(out),
-            Due::Resend(..)
-            | Due::NewText(..)
-            | Due::Fin(_)
-            | Due::ResentFin(_)
-            | Due::Acknowledgement => self.write_plain(due, out),
+            Due::Text(_) | Due::Acknowledgement => self.write_plain(due, out),
         }
     }
 
@@ -151,8 +151,8 @@ impl<A: Allocator> Endpoint<A> {
     pub(crate) fn destination(&self, due: Due) -> Addr
         ensures { result ≡ (destination_of self.now due).addr }
     {
-        match due {
-            Due::Reset(reset) => reset.to.addr,
+        match (due, self.owed.reset) {
+            (Due::Reset, Some(reset)) => reset.to.addr,
             _ => self.peer.addr,
         }
     }

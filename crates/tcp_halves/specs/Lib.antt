@@ -5,4 +5,4 @@ pub mod Sender
 pub mod Receiver
 pub mod Acceptable
 pub mod Marks
-pub mod Due
+pub mod Sent

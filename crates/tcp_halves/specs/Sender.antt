@@ -1,6 +1,6 @@
 -- The half that sends (RFC 9293, 3.3.1, 3.8 and 3.10.7.4): what acknowledgements, windows, blocks and timers change in it.
 -- Acknowledgements and edges of blocks are positions here.
-use Rattle.std.specs.Prelude.{ℕ, ◌-◌, Bool, ◌||◌, ◌==◌, if◌then◌else◌, ◌&&◌, List, length, ◌≡◌, Option, Some, None, min, nat_lt, take, ◌<◌, ◌≤◌, ◌^◌, ◌+◌, nat_le}
+use Rattle.std.specs.Prelude.{ℕ, ◌-◌, Bool, ◌||◌, ◌==◌, if◌then◌else◌, ◌&&◌, List, length, ◌≡◌, Option, Some, None, max, min, nat_lt, take, ◌<◌, ◌≤◌, ◌^◌, ◌+◌, nat_le}
 use Rattle.std.specs.declared.ops.Range.{Range}
 use Rattle.tcp_wire.specs.Flags.{ack}
 use Rattle.tcp_wire.specs.Position.{is_before}
@@ -57,6 +57,10 @@ new_sending capacity = record {
 -- the SYN is sent: SND.UNA = ISS, SND.NXT = ISS + 1 (RFC 9293, 3.10.1)
 abbrev pub with_syn_sent : Sending → Sending
 with_syn_sent s = record s { una = 0; nxt = 1 }
+
+-- the SYN is emitted, for the first time or again: SND.NXT is at least the position after it (RFC 9293, 3.4)
+abbrev pub with_syn_counted : Sending → Sending
+with_syn_counted s = record s { nxt = max s.nxt 1 }
 
 -- the SYN is acknowledged
 abbrev pub with_syn_acked : Sending → Sending

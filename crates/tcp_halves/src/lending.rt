@@ -2,12 +2,12 @@
 ghost use Rattle.std.specs.Prelude.{◌≡◌, ◌+◌, ◌<◌, ◌++◌, length, min};
 ghost use Rattle.tcp_wire.specs.Checksum.{AreBytes};
 ghost use Rattle.tcp_halves.specs.Config.{max_mss};
-ghost use Rattle.tcp_halves.specs.Due.{Lies, count_of, text_of};
+ghost use Rattle.tcp_halves.specs.Sent.{IsSendable, count_of, text_of};
 ghost use Rattle.tcp_halves.specs.Receiver.{after_handing};
 
-use crate::due::Due;
 use crate::receiver::Receiver;
 use crate::sender::Sender;
+use crate::sent::Sent;
 use std::alloc::Allocator;
 
 impl<A: Allocator> Receiver<A> {
@@ -34,17 +34,17 @@ fn are_bytes(first: &[u8], second: &[u8])
 impl<A: Allocator> Sender<A> {
     /// The text of what is due, where it lies in the queue, in two parts. The first is empty only where there is no
     /// text.
-    pub fn text(&self, due: Due) -> (&[u8], &[u8])
-        requires lies { Lies self.now max_mss due }
-        ensures text { result.0.now ++ result.1.now ≡ text_of self.now due }
+    pub fn text(&self, sent: Sent) -> (&[u8], &[u8])
+        requires sendable { IsSendable self.now max_mss sent }
+        ensures text { result.0.now ++ result.1.now ≡ text_of self.now sent }
         ensures bytes { AreBytes (result.0.now ++ result.1.now) }
-        ensures first { 0 < count_of due → 0 < length result.0.now }
+        ensures first { 0 < count_of sent → 0 < length result.0.now }
     {
-        let count = due.count();
+        let count = sent.count();
         if count == 0 {
             return (&[], &[]);
         }
-        let place = self.place_of(self.start_of(due));
+        let place = self.place_of(sent.start());
         let (first, second) = self.queue.lend(place as usize, count);
         are_bytes(first, second);
         (first, second)

@@ -2,7 +2,7 @@ ghost use Rattle.std.specs.Prelude.{◌≡◌, ◌<◌, ◌≤◌, ◌+◌, ◌-
 ghost use Rattle.tcp_sendq.specs.SendQueue.{max_capacity, room};
 ghost use Rattle.tcp_halves.specs.Sender.{Sending, accepted_count, place_of, end_of_text};
 ghost use Rattle.tcp_halves.specs.Config.{stream_limit};
-ghost use Rattle.tcp_halves.specs.Sender.{new_sending, with_syn_sent, with_syn_acked, acks_unsent, count_below, after_ack, with_window, is_newer, after_window_update, with_all_resent, with_first_resent, with_gaps_resent, count_sendable, with_text, count_unsent, is_probe_needed, is_fin_acked, without_text, IsSender};
+ghost use Rattle.tcp_halves.specs.Sender.{new_sending, with_syn_sent, with_syn_counted, with_syn_acked, acks_unsent, count_below, after_ack, with_window, is_newer, after_window_update, with_all_resent, with_first_resent, with_gaps_resent, count_sendable, with_text, count_unsent, is_probe_needed, is_fin_acked, without_text, IsSender};
 
 use crate::config::Config;
 use std::alloc::{Allocator, Global};
@@ -103,6 +103,15 @@ impl<A: Allocator> Sender<A> {
     {
         self.una = 0;
         self.nxt = 1;
+    }
+
+    /// This end's SYN was emitted: SND.NXT is at least the position after it (RFC 9293, 3.4).
+    pub fn mark_syn_sent(&mut self)
+        ensures state { self.new ≡ with_syn_counted self.old }
+        ensures capacity { self.new.queue.capacity ≡ self.old.queue.capacity }
+        ensures queued { length self.new.queue.bytes ≤ self.new.queue.capacity }
+    {
+        self.nxt = self.nxt.max(1);
     }
 
     /// This end's SYN is acknowledged, by a segment that advertises a window (RFC 9293, 3.10.7.3 and 3.10.7.4).

@@ -8,9 +8,9 @@ use Rattle.tcp_conn.proofs.endpoint.Endpoint.front_of_text.Goals as goal
 pub write_front-len-requires-clause-valid : goal.write_front-len-requires-clause-valid
 write_front-len-requires-clause-valid g c =
     let text : List ℕ = c.text.result.0.now ++ c.text.result.1.now in
-    let text_is : text ≡ text_of c.args.self.now.sending c.args.due = c.text.ensures.text ∙ ap (λ (s : State). text_of s.sending c.args.due) c.self.view_is in
+    let text_is : text ≡ text_of c.args.self.now.sending c.args.due = c.text.ensures.text in
     subst IsValid (sym (says_due c.args.self.now c.args.due c.plain_header-fields.result c.args.options.now text c.requires.options text_is c.plain_header-fields.ensures))
-    (due_valid c.args.self.now c.args.due text c.requires.lies c.fits_fields.ensures c.text.ensures.bytes text_is)
+    (due_valid c.args.self.now c.args.due text c.requires.sendable c.fits_fields.ensures c.text.ensures.bytes text_is)
 
 pub write_front-len-requires-clause-room : goal.write_front-len-requires-clause-room
 write_front-len-requires-clause-room g c = omega (arith, front_fits c.args.self.now c.args.options.now c.requires.options, c.requires.room)
@@ -21,7 +21,7 @@ returns-clause-most g c = omega (arith, front_fits c.args.self.now c.args.option
 pub returns-clause-bytes : goal.returns-clause-bytes
 returns-clause-bytes g c =
     let text : List ℕ = c.text.result.0.now ++ c.text.result.1.now in
-    let text_is : text ≡ text_of c.args.self.now.sending c.args.due = c.text.ensures.text ∙ ap (λ (s : State). text_of s.sending c.args.due) c.self.view_is in
+    let text_is : text ≡ text_of c.args.self.now.sending c.args.due = c.text.ensures.text in
     c.write_front-len.ensures.written
     ∙ ap (encoded_bytes c.self.inside.config.addr.0 c.self.inside.peer.addr.0)
     (says_due c.args.self.now c.args.due c.plain_header-fields.result c.args.options.now text c.requires.options text_is c.plain_header-fields.ensures)
