@@ -1,7 +1,7 @@
 -- WHAT AN END REPORTS came: each byte that it keeps out of order did.
 use Rattle.std.proofs.Common.{◌≡◌, ℕ, zero, suc, ◌+◌, ◌-◌, ◌^◌, ◌<◌, ◌≤◌, length, ◌∙◌, List, [], ◌∷◌, ◌++◌, refl, ap, subst, arith, Option, Some, None, Bool}
 use Rattle.std.proofs.Common.{true, false, not, map, take}
-use Rattle.std.specs.Prelude.{◌&&◌, ◌||◌, nat_lt, if◌then◌else◌}
+use Rattle.std.specs.Prelude.{◌&&◌, ◌||◌, nat_lt, if◌then◌else◌, is_some}
 use Rattle.std.specs.List.{AllByRecursion}
 use Rattle.std.proofs.lemmas.Bool.{cond_both, false≢true, lt-ltb, or_right}
 use Rattle.tcp_numbers.specs.declared.seq.Seq.{Seq}
@@ -10,11 +10,13 @@ use Rattle.tcp_wire.specs.Position.{number, distance}
 use Rattle.tcp_reasm.specs.Reassembly.{Cell, Run, runs, insertion_by_stamp, runs_newest_first, max_blocks, max_capacity, blocks}
 use Rattle.tcp_reasm.specs.Laws.{IsHeld, IsMaximal}
 use Rattle.tcp_reasm.proofs.Maximal.{runs_are_maximal_lem}
-use Rattle.tcp_halves.specs.declared.due.Due.{Due}
-use Rattle.tcp_halves.specs.declared.due.Due.TheVariants.{Reset, Syn}
+use Rattle.tcp_conn.specs.declared.due.Due.{Due}
+use Rattle.tcp_conn.specs.declared.due.Due.TheVariants.{Reset, Syn}
 use Rattle.tcp_conn.specs.State.{State}
 use Rattle.tcp_conn.specs.Blocks.{block_numbers, blocks_to_report, sack_options}
+use Rattle.tcp_halves.specs.declared.link.WaitingReset.{WaitingReset}
 use Rattle.tcp_conn.specs.Forms.{segment_of, plain_segment, syn_segment, shift_offered, is_sack_offered, scale_options, permission_options}
+use Rattle.tcp_conn.specs.Forms.{waiting_segment}
 use Rattle.tcp_wire.specs.Wire.{Content}
 use Rattle.tcp_conn.specs.Phase.{gives_up}
 use Rattle.tcp_replay.specs.Alone.{IsAlone}
@@ -147,13 +149,17 @@ plain-report s h due offered small came =
     (cond_both s.link.sack list [] (λ (list : List (ℕ × ℕ)). block_finding told h.spans list ≡ None)
     (λ _. none-beyond told h.spans list (blocks-came s h.spans small came)) (λ _. refl)))
 
+waiting-report : (s : State) (h : Heard) (waiting : Option WaitingReset) → is_some waiting ≡ true → report_finding h (waiting_segment s waiting) ≡ None
+waiting-report s h None e = absurd (cc)
+waiting-report s h (Some reset) e = refl
+
 -- an end that gave up reports nothing
 pub due-report : (s : State) (accepted : List ℕ) (closed : Bool) (h : Heard) (due : Due) → GoesOutAlone s accepted closed due → IsAlone s accepted closed
     → Offered h.scaling h.sack s.link → length s.receiving.inbox.held ≤ max_capacity
     → (gives_up s.ending ≡ false → KeptCame h.spans s.receiving.next s.receiving.inbox.held)
     → report_finding h (segment_of s due) ≡ None
 unfolding segment_of
-due-report s accepted closed h (Reset reset) out a offered small came = refl
+due-report s accepted closed h Reset out a offered small came = waiting-report s h s.owed.reset out.kind
 due-report s accepted closed h Syn out a offered small came =
     report-none h (syn_segment s)
     (ap (λ b. b && not h.sack) (syn-reports s.config.mss (shift_offered s) (is_sack_offered s)))

@@ -4,8 +4,8 @@ use Rattle.std.specs.Prelude.{Bool, true, false, if◌then◌else◌, Option, So
 use Rattle.std.specs.Prelude.{is_some}
 use Rattle.tcp_wire.specs.Flags.{syn, rst, ack, has}
 use Rattle.tcp_wire.specs.Wire.{Content}
-use Rattle.tcp_halves.specs.declared.due.Due.{Due}
-use Rattle.tcp_halves.specs.declared.due.Due.TheVariants.{Reset, Syn}
+use Rattle.tcp_conn.specs.declared.due.Due.{Due}
+use Rattle.tcp_conn.specs.declared.due.Due.TheVariants.{Reset, Syn, Acknowledgement}
 use Rattle.tcp_conn.specs.State.{State}
 use Rattle.tcp_conn.specs.Forms.{segment_of}
 use Rattle.tcp_replay.specs.Alone.{IsAlone}
@@ -13,9 +13,9 @@ use Rattle.tcp_replay.proofs.AloneEmissions.{GoesOutAlone}
 use Rattle.std.specs.Prelude.{not, ◌&&◌, unwrap_or}
 use Rattle.std.proofs.lemmas.Bool.{cond_both, le-ltb}
 use Rattle.tcp_conn.specs.Blocks.{blocks_to_report, sack_options}
-use Rattle.tcp_conn.specs.Due.{is_fin}
-use Rattle.tcp_conn.specs.Forms.{shift_offered, is_sack_offered, scale_options, permission_options, syn_segment, plain_segment, reset_segment, pushes}
-use Rattle.tcp_replay.proofs.Emissions.{syn-bits, plain-bits}
+use Rattle.tcp_halves.specs.declared.link.WaitingReset.{WaitingReset}
+use Rattle.tcp_conn.specs.Forms.{shift_offered, is_sack_offered, scale_options, permission_options, syn_segment, plain_segment, reset_segment, waiting_segment}
+use Rattle.tcp_replay.proofs.Emissions.{syn-bits, due-bits}
 use Rattle.tcp_judge.specs.Rules.{any_syn_option, any_great_shift, has_stray_option, lacks_ack, form_finding}
 use Rattle.tcp_judge.proofs.Streams.{unless}
 
@@ -51,7 +51,7 @@ sack-no_syn (block ∷ blocks) = (refl, refl)
 
 plain-form : (s : State) (due : Due) → form_finding (plain_segment s due) ≡ None
 plain-form s due =
-    let bits = plain-bits (pushes s.sending due) (is_fin due) in
+    let bits = due-bits s.sending due in
     let none = sack-no_syn (blocks_to_report s) in
     form-none (plain_segment s due)
     (unless (not (has syn (plain_segment s due).flags)) (any_syn_option (sack_options (blocks_to_report s))) (λ _. none.0)) none.1
@@ -68,9 +68,13 @@ syn-form s h =
     form-none (syn_segment s) (rw bits.0 refl) (syn-shift (shift_offered s) (is_sack_offered s) (offered-shift s h))
     (syn-lacks s.receiving.opened)
 
+waiting-form : (s : State) (waiting : Option WaitingReset) → form_finding (waiting_segment s waiting) ≡ None
+waiting-form s None = plain-form s Acknowledgement
+waiting-form s (Some reset) = form-none (reset_segment s reset) (reset-stray (is_some reset.ack)) refl (reset-lacks (is_some reset.ack))
+
 pub due-form : (s : State) (accepted : List ℕ) (closed : Bool) (due : Due) → GoesOutAlone s accepted closed due → IsAlone s accepted closed
     → form_finding (segment_of s due) ≡ None
 unfolding segment_of
-due-form s accepted closed (Reset reset) out a = form-none (reset_segment s reset) (reset-stray (is_some reset.ack)) refl (reset-lacks (is_some reset.ack))
+due-form s accepted closed Reset out a = waiting-form s s.owed.reset
 due-form s accepted closed Syn out a = syn-form s (config-shift s.config.window_shift a.config.good.2)
 due-form s accepted closed other out a = plain-form s other

@@ -12,13 +12,14 @@ use Rattle.tcp_wire.specs.declared.fault.DecodeError.{DecodeError}
 use Rattle.tcp_wire.proofs.RoundTrip.{decoded_encoded}
 use Rattle.tcp_reasm.specs.Reassembly.{max_capacity}
 use Rattle.tcp_halves.specs.declared.config.Config.{Config}
-use Rattle.tcp_halves.specs.declared.due.Due.{Due}
-use Rattle.tcp_halves.specs.declared.due.Due.TheVariants.{Reset, Syn}
+use Rattle.tcp_conn.specs.declared.due.Due.{Due}
+use Rattle.tcp_conn.specs.declared.due.Due.TheVariants.{Reset, Syn, Acknowledgement}
+use Rattle.tcp_halves.specs.declared.link.WaitingReset.{WaitingReset}
 use Rattle.tcp_halves.specs.Config.{IsConfig}
 use Rattle.tcp_conn.specs.Phase.{gives_up}
 use Rattle.tcp_conn.specs.State.{State}
-use Rattle.tcp_conn.specs.Due.{ack_alone, due_of, is_fin}
-use Rattle.tcp_conn.specs.Forms.{segment_of, shift_offered, is_sack_offered, scale_options, permission_options, syn_segment, plain_segment, pushes}
+use Rattle.tcp_conn.specs.Due.{ack_alone, due_of}
+use Rattle.tcp_conn.specs.Forms.{segment_of, shift_offered, is_sack_offered, scale_options, permission_options, syn_segment, plain_segment, waiting_segment}
 use Rattle.tcp_conn.specs.Writing.{bytes_of, destination_of}
 use Rattle.tcp_replay.specs.Alone.{IsAlone}
 use Rattle.tcp_replay.specs.Solo.{SoloState, solo_start, end_after, segment_alone, segment_due, after_solo}
@@ -27,7 +28,7 @@ use Rattle.tcp_replay.proofs.Lists.{by_test, one_if}
 use Rattle.tcp_replay.proofs.Alone.{alone-new}
 use Rattle.tcp_replay.proofs.AloneCalls.{IsAloneIn}
 use Rattle.tcp_replay.proofs.AloneEmissions.{GoesOutAlone, ack-alone-goes, due-alone}
-use Rattle.tcp_replay.proofs.Emissions.{syn-opened, reset-bit, plain-bits}
+use Rattle.tcp_replay.proofs.Emissions.{syn-opened, reset-bit, due-bits, waiting-bit}
 use Rattle.tcp_replay.proofs.Feeds.{ByNumber}
 use Rattle.tcp_numbers.specs.declared.seq.Seq.{Seq}
 use Rattle.tcp_replay.proofs.SoloRuns.{party_in, alone-step}
@@ -61,7 +62,7 @@ record Tells (s : State) (v : Content) : Type 0 where
 due-tells : (s : State) (accepted : List ℕ) (closed : Bool) (due : Due) → GoesOutAlone s accepted closed due → IsAlone s accepted closed
     → has rst (segment_of s due).flags ≡ false → has ack (segment_of s due).flags ≡ true → Tells s (segment_of s due)
 unfolding segment_of
-due-tells s accepted closed (Reset reset) out a plain told = absurd (false≢true (sym plain ∙ reset-bit (is_some reset.ack)))
+due-tells s accepted closed Reset out a plain told = absurd (false≢true (sym plain ∙ waiting-bit s s.owed.reset out.kind))
 due-tells s accepted closed Syn out a plain told =
     let opened = syn-opened s told in
     record {
@@ -175,7 +176,7 @@ syn-answers s h offered =
 
 plain-answers : (s : State) (h : Heard) (due : Due) → oversteps h (plain_segment s due) ≡ false
 plain-answers s h due =
-    let bits = plain-bits (pushes s.sending due) (is_fin due) in
+    let bits = due-bits s.sending due in
     ap (λ (b : Bool). (b && has ack (plain_segment s due).flags) && answers_more h (plain_segment s due).options) bits.0
 
 reset-answers : (told : Bool) (more : Bool)
@@ -183,9 +184,13 @@ reset-answers : (told : Bool) (more : Bool)
 reset-answers true more = refl
 reset-answers false more = refl
 
+waiting-answers : (s : State) (h : Heard) (waiting : Option WaitingReset) → oversteps h (waiting_segment s waiting) ≡ false
+waiting-answers s h None = plain-answers s h Acknowledgement
+waiting-answers s h (Some reset) = reset-answers (is_some reset.ack) (answers_more h [])
+
 due-answers : (s : State) (h : Heard) (due : Due) → Offered h.scaling h.sack s.link → oversteps h (segment_of s due) ≡ false
 unfolding segment_of
-due-answers s h (Reset reset) offered = reset-answers (is_some reset.ack) (answers_more h [])
+due-answers s h Reset offered = waiting-answers s h s.owed.reset
 due-answers s h Syn offered = syn-answers s h offered
 due-answers s h other offered = plain-answers s h other
 

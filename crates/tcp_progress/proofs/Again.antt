@@ -2,11 +2,12 @@
 use Rattle.tcp_replay.proofs.Words.{◌&&◌, ◌+◌, ◌-◌, ◌<◌, after_emission, after_retransmit, and_from, ap, arith, bytes_of, cases_Bool, cases_lt, count_leading}
 use Rattle.tcp_replay.proofs.Words.{count_numbers, count_of, destination_of, drop, drop-replicate, Due, due_of, emitted_bytes, end_of, end_of_text, false}
 use Rattle.tcp_replay.proofs.Words.{if◌then◌else◌, inl, inr, is_fin, is_handshake, length, length-drop, length-replicate, length-take, max, min, nat_le, nat_lt}
-use Rattle.tcp_replay.proofs.Words.{nat_tests, next_unmarked, None, Owed, owed_after, Phase, place_of, plain_segment, position_at, pushes, Queue, range_after}
+use Rattle.tcp_replay.proofs.Words.{nat_tests, next_unmarked, None, Owed, owed_after, Phase, place_of, plain_segment, position_at, Queue, range_after}
 use Rattle.tcp_replay.proofs.Words.{refl, replicate, Resend, resend_after, resend_of, resent_run, ResentFin, segment_of, Sending, sends_text, Some, start_of}
 use Rattle.tcp_replay.proofs.Words.{State, state_after, suc, sym, text_limit, true, with_all_resent, without_marks, zero, ℕ, ◌∙◌, ◌≡◌, ◌≤◌, ◌⊎◌}
 use Rattle.tcp_progress.proofs.Words.{after_emissions, CoversNext, FlightGoesOutAgain, GoesOut, is_synchronized, IsInFlight, KeepsFlight, MaySend}
-use Rattle.tcp_replay.proofs.Lemmas.{one_if, plain-bits}
+use Rattle.tcp_replay.proofs.Lemmas.{one_if, due-bits}
+use Rattle.tcp_replay.proofs.Words.{Text, Sent}
 
 -- the text that is due lies within the queue
 pub record Stands (s : State) (due : Due) : Type 0 where
@@ -21,10 +22,10 @@ pub covering : (s : State) (due : Due) (position : ℕ) → Stands s due → sta
 unfolding emitted_bytes bytes_of
 covering s due position stands begins ends =
     let d = s.sending in
-    let bits = plain-bits (pushes d due) (is_fin due) in
+    let bits = due-bits d due in
     let v = plain_segment s due in
     let long : length v.text ≡ count_of due =
-    length-take (count_of due) _ ∙ omega (arith, length-drop (place_of d (start_of d due)) d.queue.bytes, stands.inside) in
+    ap length (text-of d due) ∙ length-take (count_of due) _ ∙ omega (arith, length-drop (place_of d (start_of d due)) d.queue.bytes, stands.inside) in
     let numbers : count_numbers v ≡ count_of due + one_if (is_fin due) = rw (bits.0, bits.1) (omega (arith, long)) in
     record {
       due = due;
@@ -37,7 +38,7 @@ covering s due position stands begins ends =
       seq = refl;
       begins = begins;
       ends = omega (arith, ends, numbers);
-      text = rw long refl;
+      text = rw long (text-of d due);
       no_rst = bits.2;
       no_syn = bits.0;
       has_ack = bits.3;
@@ -141,9 +142,9 @@ pub record IsPast (s : State) (start : ℕ) : Type 0 where
   pub none : resend_of s.sending (text_limit s) s.sending.resend ≡ None
   pub past : (position : ℕ) → IsInFlight s.sending position → start ≤ position → ⊥
 
-due-resent : (s : State) (due : Due) → MaySend s → resend_of s.sending (text_limit s) s.sending.resend ≡ Some due → due_of s ≡ Some due
+due-resent : (s : State) (sent : Sent) → MaySend s → resend_of s.sending (text_limit s) s.sending.resend ≡ Some sent → due_of s ≡ Some (Text sent)
 unfolding due_of
-due-resent s due may e = rw (may.reset, may.syn, may.phase, e) refl
+due-resent s sent may e = rw (may.reset, may.syn, may.phase, e) refl
 
 emission-resends : (s : State) (start next : ℕ) (due : Due) → Resends s start → due_of s ≡ Some due
     → resend_after s.sending due ≡ range_after next s.sending.resend → owed_after s.receiving.opened s.owed due ≡ record s.owed { ack = false }
@@ -170,14 +171,14 @@ text-resent s start r inside sent =
     let test : nat_lt from d.nxt ≡ true = grind (arith, nat_tests, sent) in
     let due = due-resent s (Resend from count) r.may (text-next s start r inside ∙ rw test refl) in
     let most : from + count ≤ d.nxt = omega (arith, sent) in
-    let after = emission-resends s start (from + count) (Resend from count) r due refl refl most (omega arith) in
+    let after = emission-resends s start (from + count) (Text (Resend from count)) r due refl refl most (omega arith) in
     record {
-      due = Resend from count;
+      due = Text (Resend from count);
       is_due = due;
       next = from + count;
       more = omega (arith, r.may.limit, inside, sent);
       most = most;
-      covers = λ position flight begins ends. covering s (Resend from count) position
+      covers = λ position flight begins ends. covering s (Text (Resend from count)) position
           (record { is_due = due; form = refl; to = refl; inside = omega arith }) (omega (arith, begins, flight.queued)) (omega (arith, ends));
       keeps = after.0;
       resends = after.1;
@@ -191,14 +192,14 @@ fin-resent s start r past sent below =
     let turn : (nat_lt last s.sending.nxt && nat_le start last) ≡ true =
     and_from (nat_lt last s.sending.nxt) (nat_le start last) (grind (arith, nat_tests, sent)) (grind (arith, nat_tests, below)) in
     let due = due-resent s (ResentFin last) r.may (fin-next s start r past ∙ rw turn refl) in
-    let after = emission-resends s start (last + 1) (ResentFin last) r due refl refl (omega (arith, sent)) (omega (arith, below)) in
+    let after = emission-resends s start (last + 1) (Text (ResentFin last)) r due refl refl (omega (arith, sent)) (omega (arith, below)) in
     record {
-      due = ResentFin last;
+      due = Text (ResentFin last);
       is_due = due;
       next = last + 1;
       more = omega (arith, below);
       most = omega (arith, sent);
-      covers = λ position flight begins ends. covering s (ResentFin last) position
+      covers = λ position flight begins ends. covering s (Text (ResentFin last)) position
           (record { is_due = due; form = refl; to = refl; inside = omega arith }) (omega (arith, past, begins, flight)) (omega (arith, ends));
       keeps = after.0;
       resends = after.1;

@@ -2,15 +2,16 @@
 use Rattle.tcp_replay.proofs.Words.{◌&&◌, ◌<◌, ◌==◌, after_arrival, after_emission, after_retransmit, ap, arith, arrival_answer, Bool, bytes_of, cases_Bool}
 use Rattle.tcp_replay.proofs.Words.{cases_lt, Content, count_allowed, count_unsent, decode_answer, destination_of, Dropped, Due, due_of, emitted_bytes, end_of}
 use Rattle.tcp_replay.proofs.Words.{end_of_text, false, false≢true, Fin, IfSome, inl, inr, is_fin, judgement, List, max, nat_lt, nat_tests, new_count}
-use Rattle.tcp_replay.proofs.Words.{new_text_of, NewText, None, number, Ok, Option, phase_judgement, plain_segment, present_judgement, pushes, Range, refl}
+use Rattle.tcp_replay.proofs.Words.{new_text_of, NewText, None, number, Ok, Option, phase_judgement, plain_segment, present_judgement, Range, refl}
 use Rattle.tcp_replay.proofs.Words.{resend_of, segment_of, Sending, sends_text, Some, start_of, State, subst, suc, sym, text_limit, true, true≢false}
 use Rattle.tcp_replay.proofs.Words.{Unacceptable, unacceptable_judgement, with_ack_owed, ℕ, ◌∙◌, ◌≡◌, ◌≤◌, ◌⊎◌}
 use Rattle.tcp_progress.proofs.Words.{after_emissions, CoversNext, IsUnacceptable, KeepsFlight, MayAnswer, MaySend, MovesOn, SpokenToAnswers, StandsAtNext}
 use Rattle.tcp_progress.proofs.Words.{UnsentGoesOut}
 use Rattle.tcp_progress.proofs.Again.{at-rest, covering, emission, Exhausts, exhausts, IsRested, kept, may-after_retransmit, no-syn, timeout-keeps}
 use Rattle.tcp_progress.proofs.Again.{timeout-resends}
-use Rattle.tcp_replay.proofs.Lemmas.{done-none, due-kept, none-some, plain-bits, some-due}
+use Rattle.tcp_replay.proofs.Lemmas.{done-none, due-kept, none-some, due-bits, some-due}
 use Rattle.tcp_progress.proofs.{Taken.is-synchronized, Taken.IsPresent, Told.owing-due}
+use Rattle.tcp_replay.proofs.Words.{Text}
 
 -- nothing goes out again where nothing is in flight
 pub still-done : (range : Option (Range ℕ)) (una nxt : ℕ) → nxt ≤ una → IfSome range (λ range. range.end ≤ nxt)
@@ -48,11 +49,11 @@ text-goes s ready unsent =
     let room = allowed d s.owed.probe ready.idle (ready.probe unsent) in
     let some : 0 < new_of s = omega (arith, room, unsent, ready.may.limit) in
     let test : (new_of s == 0) ≡ false = grind (arith, nat_tests, some) in
-    let due : due_of s ≡ Some (NewText d.nxt (new_of s)) = rw (ready.may.reset, ready.may.syn, ready.may.phase, ready.none, test) refl in
+    let due : due_of s ≡ Some (Text (NewText d.nxt (new_of s))) = rw (ready.may.reset, ready.may.syn, ready.may.phase, ready.none, test) refl in
     record {
-      covers = covering s (NewText d.nxt (new_of s)) d.nxt (record { is_due = due; form = refl; to = refl; inside = omega arith }) (omega arith)
+      covers = covering s (Text (NewText d.nxt (new_of s))) d.nxt (record { is_due = due; form = refl; to = refl; inside = omega arith }) (omega arith)
           (omega (arith, some));
-      moves = moving s (NewText d.nxt (new_of s)) due (omega (arith, some));
+      moves = moving s (Text (NewText d.nxt (new_of s))) due (omega (arith, some));
     }
 
 new-fin_goes : (s : State) → IsReadyNew s → s.closing ≡ true → s.sending.nxt ≡ end_of_text s.sending → GoesNew s
@@ -62,10 +63,10 @@ new-fin_goes s ready closing last =
     let all : count_unsent s.sending ≡ 0 = omega (arith, last) in
     let test : (new_count s.sending (text_limit s) s.owed.probe == 0) ≡ true = grind (arith, nat_tests, all) in
     let turn : (n == end_of_text s.sending) ≡ true = grind (arith, nat_tests, last) in
-    let due : due_of s ≡ Some (Fin n) = rw (ready.may.reset, ready.may.syn, ready.may.phase, ready.none, test, closing, turn) refl in
+    let due : due_of s ≡ Some (Text (Fin n)) = rw (ready.may.reset, ready.may.syn, ready.may.phase, ready.none, test, closing, turn) refl in
     record {
-      covers = covering s (Fin n) n (record { is_due = due; form = refl; to = refl; inside = omega arith }) (omega arith) (omega arith);
-      moves = moving s (Fin n) due (omega arith);
+      covers = covering s (Text (Fin n)) n (record { is_due = due; form = refl; to = refl; inside = omega arith }) (omega arith) (omega arith);
+      moves = moving s (Text (Fin n)) due (omega arith);
     }
 
 -- THE TIMEOUT
@@ -103,7 +104,7 @@ standing : (s : State) (due : Due) → due_of s ≡ Some due → segment_of s du
     → start_of s.sending due ≡ s.sending.nxt → StandsAtNext s
 unfolding emitted_bytes bytes_of
 standing s due e form to starts =
-    let bits = plain-bits (pushes s.sending due) (is_fin due) in
+    let bits = due-bits s.sending due in
     record {
       due = due;
       is_due = e;

@@ -87,7 +87,7 @@ module _ (side : Side) (later : List EventContent) where
       inl (record { place = pending.place; content = pending.content; old = old; comes = pending.comes })
   asks-on w n h (inr (zero, inl will)) come still =
       let covers = will.covers in
-      let plain = not-reset (party_of w side).endpoint covers.due covers.segment covers.form covers.no_rst in
+      let plain = not-reset (party_of w side).endpoint covers.due covers.segment covers.is_due covers.form covers.no_rst in
       goes-out w n covers.due covers.segment covers.is_due plain (old-out w side h covers will.least will.all) come
   asks-on w n h (inr (zero, inr will)) come still =
       let p = party_of w side in

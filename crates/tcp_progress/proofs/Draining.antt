@@ -5,23 +5,24 @@ use Rattle.tcp_replay.proofs.Words.{suc, Syn, text_limit, true, world_after, wor
 use Rattle.tcp_progress.proofs.Lemmas.{emission, emit-endpoint, emit-party, has-room, in-every-world, IsKept, side-pair, steps-event, still-emission}
 use Rattle.tcp_replay.proofs.Lemmas.{again-kept, due-kept, IsAgain, one_if}
 use Rattle.tcp_progress.proofs.Words.{all_of, BurstEnds, EachBurstEnds, Side}
+use Rattle.tcp_replay.proofs.Words.{Text}
 
 -- ---- WHAT IS DUE ADVANCES: of what is sent again, or SND.NXT; or something is pending no more
 abbrev Settles : State → Due → Type 0
-Settles s (Reset reset) = is_some s.owed.reset ≡ true
+Settles s Reset = is_some s.owed.reset ≡ true
 Settles s Syn = s.owed.syn ≡ true
 Settles s Acknowledgement = s.owed.ack ≡ true
-Settles s (Resend start count) = (range : Range ℕ) × IsAgain s.sending range start × (0 < count)
-Settles s (ResentFin start) = (range : Range ℕ) × IsAgain s.sending range start
-Settles s (NewText start count) = (start ≡ s.sending.nxt) × (0 < count)
-Settles s (Fin start) = start ≡ s.sending.nxt
+Settles s (Text (Resend start count)) = (range : Range ℕ) × IsAgain s.sending range start × (0 < count)
+Settles s (Text (ResentFin start)) = (range : Range ℕ) × IsAgain s.sending range start
+Settles s (Text (NewText start count)) = (start ≡ s.sending.nxt) × (0 < count)
+Settles s (Text (Fin start)) = start ≡ s.sending.nxt
 
 due-settles : (s : State) → 1 ≤ text_limit s → IfSome (due_of s) (Settles s)
 due-settles s room = due-kept s (Settles s) (record {
   resets = λ reset e. rw e refl;
   syn = λ e. e;
   acks = λ e. e;
-  again = λ _. again-kept s.sending (text_limit s) (Settles s)
+  again = λ _. again-kept s.sending (text_limit s) (λ sent. Settles s (Text sent))
       (record { text = λ range start count again _ _ some. (range, again, some room); fin = λ range again. (range, again) });
   new_text = λ _ some. (refl, some);
   fin = λ _ _ _. refl;
@@ -50,13 +51,13 @@ range-less d range start n again some =
     omega (arith, before, after, again.ahead, again.inside, some)
 
 settles-less : (n : ℕ) (s : State) (due : Due) → Settles s due → (state_after s due).sending.nxt ≤ n → due_left n (state_after s due) < due_left n s
-settles-less n s (Reset reset) h most = omega (arith, one-less (is_some s.owed.reset) h)
+settles-less n s Reset h most = omega (arith, one-less (is_some s.owed.reset) h)
 settles-less n s Syn h most = omega (arith, one-less s.owed.syn h, and-less s.owed.ack (not s.receiving.opened))
 settles-less n s Acknowledgement h most = omega (arith, one-less s.owed.ack h)
-settles-less n s (NewText start count) h most = omega (arith, h.0, h.1, most)
-settles-less n s (Fin start) h most = omega (arith, h, most)
-settles-less n s (Resend start count) h most = omega (arith, range-less s.sending h.0 start (start + count) h.1 (omega (arith, h.2)))
-settles-less n s (ResentFin start) h most = omega (arith, range-less s.sending h.0 start (start + 1) h.1 (omega arith))
+settles-less n s (Text (NewText start count)) h most = omega (arith, h.0, h.1, most)
+settles-less n s (Text (Fin start)) h most = omega (arith, h, most)
+settles-less n s (Text (Resend start count)) h most = omega (arith, range-less s.sending h.0 start (start + count) h.1 (omega (arith, h.2)))
+settles-less n s (Text (ResentFin start)) h most = omega (arith, range-less s.sending h.0 start (start + 1) h.1 (omega arith))
 
 -- ---- IN A WORLD
 emission-less : (w : WorldState) (side : Side) (due : Due) → IsKept w → due_of (party_of w side).endpoint ≡ Some due

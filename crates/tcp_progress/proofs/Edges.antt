@@ -13,6 +13,7 @@ use Rattle.tcp_replay.proofs.Lemmas.{ack_alone-kept, after_segment, again-kept, 
 use Rattle.tcp_replay.proofs.Lemmas.{IsAckOnly, IsPresent, kept-same, KeptByCalls, KeptByDue, marked-sends, news-cases, on-arrival, one_if-false, PairKept}
 use Rattle.tcp_replay.proofs.Lemmas.{present-opened, range-more, range_after-ends, send-unclosed, windowed-sends}
 use Rattle.tcp_progress.proofs.Words.{TellsWithin}
+use Rattle.tcp_replay.proofs.Words.{Text}
 
 -- what x keeps of the direction to y, of whose stream it has `count` bytes from its user, when y wants `next` and has room for `capacity`
 pub record KeepsEdge (d : Sending) (probe : Bool) (count next capacity : ℕ) : Type 0 where
@@ -178,7 +179,7 @@ module _ (count next capacity : ℕ) where
     new-reaches k allowed inside had some h = grind (arith, nat_tests, allowed, inside, had, some, h)
 
     edge-new : (k : ℕ) → k ≤ count_unsent d → k ≤ count_allowed d owed.probe → d.una ≤ d.nxt → 1 + d.released ≤ d.una → end_of_text d ≡ 1 + count
-        → d.una ≤ next → 1 ≤ capacity → Edge d owed.probe → EdgeAfter (NewText d.nxt k)
+        → d.una ≤ next → 1 ≤ capacity → Edge d owed.probe → EdgeAfter (Text (NewText d.nxt k))
     edge-new k unsent allowed order released last had some h =
         let fits : min (d.nxt + k) (1 + count) ≤ next + capacity = new-reaches k allowed (omega (arith, unsent, last, order, released)) had some h in
         edge-moved d false (d.nxt + k) (omega (arith, fits)) (λ never. absurd (cc)) (edge-unprobed d owed.probe h)
@@ -229,7 +230,7 @@ edge-due p q pair h =
       resets = λ _ _. edge-moved _ _ _ d s.owed.probe 0 (omega (arith, h.sent)) (λ e. omega (arith, (h.probed e).1)) h;
       syn = λ _. edge-moved _ _ _ d s.owed.probe 1 (omega (arith, h.sent)) (λ e. omega (arith, (h.probed e).0, (h.probed e).1, alone.sends.order)) h;
       acks = λ _. edge-moved _ _ _ d s.owed.probe d.nxt (omega (arith, h.sent)) (λ e. omega (arith, (h.probed e).1)) h;
-      again = λ _. again-kept d (text_limit s) (EdgedAfter p q) (record {
+      again = λ _. again-kept d (text_limit s) (λ sent. EdgedAfter p q (Text sent)) (record {
         text = λ range start k again ends _ _. edge-again _ _ _ d s.owed.probe (start + k) (omega (arith, ends, inside range again.is)) h;
         fin = λ range again. edge-again _ _ _ d s.owed.probe (end_of_text d + 1) (omega (arith, again.inside, inside range again.is)) h;
       });

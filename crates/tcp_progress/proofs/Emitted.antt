@@ -4,13 +4,14 @@ use Rattle.tcp_replay.proofs.Words.{bytes_eq, bytes_eq-Decides, bytes_of, cases_
 use Rattle.tcp_replay.proofs.Words.{Due, due_of, emitted_bytes, false, false≢true, fin, flags_in, has, has_peer, IfSome, if◌then◌else◌, inl, inr, is_expired}
 use Rattle.tcp_replay.proofs.Words.{is_fin, is_for_other, is_foreign, is_from_other, is_handshake, is_missing, IsSoundPair, length, length-drop, length-take}
 use Rattle.tcp_replay.proofs.Words.{max_life, min, nat_tests, next_position, None, not, number, Ok, Option, option_map, option_to_list, or-true}
-use Rattle.tcp_replay.proofs.Words.{party_after_arrival, party_after_emission, PartyState, plain_segment, position_of, position_of_number, pushes, refl, Reset}
+use Rattle.tcp_replay.proofs.Words.{party_after_arrival, party_after_emission, PartyState, plain_segment, position_of, position_of_number, refl, Reset}
 use Rattle.tcp_replay.proofs.Words.{rst, segment_at, segment_of, sent_at, sent_by, SentSegment, slice_get, slice_get_within, Some, start_of, State, subst, sym}
 use Rattle.tcp_replay.proofs.Words.{Syn, syn, syn_segment, true, unwrap_or, ◌||◌, ℕ, ◌∙◌, ◌≡◌, ◌≤◌, ◌⊎◌}
 use Rattle.tcp_replay.proofs.Lemmas.{after_segment, arrival-ok, Arrives, Comes, comes, delivered-there, due-alone, due-decodes, due-goes, due-position, GoesOut}
-use Rattle.tcp_replay.proofs.Lemmas.{GoesOutAlone, handshake-knows, handshake-una, IsSaid, one_if, one_if-most, own-decodes, pair-swapped, plain-bits}
+use Rattle.tcp_replay.proofs.Lemmas.{GoesOutAlone, handshake-knows, handshake-una, IsSaid, one_if, one_if-most, own-decodes, pair-swapped, due-bits}
 use Rattle.tcp_replay.proofs.Lemmas.{reset-bit, same-content, segment-sent, syn-bits, wanted-is}
 use Rattle.tcp_progress.proofs.{Words.IsSteadyPair, Live.last-of, OnlySent.due-ends, OnlySent.DueEnds}
+use Rattle.tcp_replay.proofs.Lemmas.{waiting-bit}
 
 -- it is the peer's, also where none is known yet
 known-mine : (knows far from_far : Bool) → far ≡ false → (knows ≡ true → from_far ≡ false) → (far || (knows && from_far)) ≡ false
@@ -155,7 +156,7 @@ fresh-said p q due h goes said ends =
     let form : segment_of s due ≡ v = said.common.segment in
     let plain = said.plain in
     let sends = h.pair.there.alone.sends in
-    let bits = plain-bits (pushes d due) (is_fin due) in
+    let bits = due-bits d due in
     let at : position_of s.config.isn.0 d.una v.seq ≡ start =
     position_of_number s.config.isn.0 d.una start h.pair.there.alone.config.isn (omega (arith, plain.within, one_if-most p.closed, sends.ahead, sends.released))
     (omega (arith, plain.behind)) in
@@ -191,7 +192,7 @@ pub fresh-due : (p q : PartyState) (due : Due) → IsSteadyPair p q → GoesOut 
     → has rst (segment_of p.endpoint due).flags ≡ false → has syn (segment_of p.endpoint due).flags ≡ false
     → IsFresh (party_after_due p (Some due)) q (length p.sent) (start_of p.endpoint.sending due) (segment_of p.endpoint due)
 unfolding segment_of
-fresh-due p q (Reset reset) h goes out no_rst no_syn = absurd (false≢true (sym no_rst ∙ reset-bit _))
+fresh-due p q Reset h goes out no_rst no_syn = absurd (false≢true (sym no_rst ∙ waiting-bit p.endpoint p.endpoint.owed.reset out.kind))
 fresh-due p q Syn h goes out no_rst no_syn = absurd (false≢true (sym no_syn ∙ (syn-bits p.endpoint.receiving.opened).0))
 fresh-due p q other h goes out no_rst no_syn = fresh-said p q other h goes out.kind (due-ends p q other h.pair out)
 

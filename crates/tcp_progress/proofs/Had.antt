@@ -2,7 +2,7 @@
 use Rattle.tcp_replay.proofs.Words.{◌++◌, [], acceptable_judgement, ack_judgement, after_judgement, AllByRecursion, ap, Bool, bytes_of, cases_Bool}
 use Rattle.tcp_replay.proofs.Words.{closed_judgement, Content, Deliver, Due, due_of, effect_of, Emit, EventContent, false, false≢true, gave_up, gives_up, has}
 use Rattle.tcp_replay.proofs.Words.{if◌then◌else◌, inl, inr, is_closed, is_fin, IsAlone, IsSoundPair, Judgement, judgement, length, List, listen_judgement}
-use Rattle.tcp_replay.proofs.Words.{None, Option, other, party_after_emission, party_of, PartyState, phase_judgement, present_judgement, pushes, Receive, refl}
+use Rattle.tcp_replay.proofs.Words.{None, Option, other, party_after_emission, party_of, PartyState, phase_judgement, present_judgement, Receive, refl}
 use Rattle.tcp_replay.proofs.Words.{Retransmit, rst, segment_of, sent_by, SentSegment, side_of, Some, State, subst, suc, sym, syn_sent_judgement, Timer, true}
 use Rattle.tcp_replay.proofs.Words.{unacceptable_judgement, world_after, world_after_all, WorldState, zero, ℕ, ◌∙◌, ◌∷◌, ◌≡◌}
 use Rattle.tcp_progress.proofs.Words.{A, AllCome, B, both_served, CanHaveTurns, Comes, emissions, is_reset, IsCalm, IsIdle, IsQuiet, IsTurn, IsUntimed}
@@ -11,9 +11,9 @@ use Rattle.tcp_progress.proofs.Lemmas.{after-append, all-append, all-emissions, 
 use Rattle.tcp_progress.proofs.Lemmas.{closed-ending, come-both, due-way, emit-at, emitted-as, goes-due, Grows, how-ends, in-every-world, IsKept, IsOnItsWay}
 use Rattle.tcp_progress.proofs.Lemmas.{no-reset, Resets, side-pair, Steps, steps-all, steps-event, steps-then, still-emission, still-reading, still-retransmit}
 use Rattle.tcp_progress.proofs.Lemmas.{way-later}
-use Rattle.tcp_replay.proofs.Lemmas.{not-closed-ended, plain-bits}
+use Rattle.tcp_replay.proofs.Lemmas.{not-closed-ended, due-bits}
 use Rattle.tcp_progress.proofs.{Behind.emissions-other, Draining.burst-ends}
-use Rattle.tcp_halves.specs.declared.due.Due.TheVariants as dues
+use Rattle.tcp_conn.specs.declared.due.Due.TheVariants as dues
 use Rattle.tcp_conn.specs.declared.phase.Timer.TheVariants as timers
 
 -- ---- WITHOUT RST no judgement is passed that a reset alone brings (RFC 9293, 3.10.7)
@@ -58,9 +58,9 @@ no_reset-later p q p' q' k gp gq h = (h.0, h.1, way-later p q p' q' k h.0 h.1 gp
 
 due-plain : (s : State) (due : Due) → is_reset due ≡ false → has rst (segment_of s due).flags ≡ false
 unfolding segment_of
-due-plain s (dues.Reset reset) e = absurd (false≢true (sym e))
+due-plain s dues.Reset e = absurd (false≢true (sym e))
 due-plain s dues.Syn e = no-reset s.receiving.opened
-due-plain s due e = (plain-bits (pushes s.sending due) (is_fin due)).2
+due-plain s due e = (due-bits s.sending due).2
 
 -- what is due is none, unless a reset is
 pub no_reset-emitted : (p q : PartyState) (due : Due) → IsSoundPair p q → due_of p.endpoint ≡ Some due → is_reset due ≡ false

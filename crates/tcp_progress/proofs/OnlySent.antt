@@ -5,16 +5,17 @@ use Rattle.tcp_replay.proofs.Words.{and_parts, ap, arith, cases_lt, Cell, cond_b
 use Rattle.tcp_replay.proofs.Words.{EventContent, false, false≢true, fin, gives_up, has, has_fin, HasBytes, is_fin, is_fin_due, is_syn_received, IsSound}
 use Rattle.tcp_replay.proofs.Words.{IsSoundPair, IsTruthful, length, length-drop, length-take, List, min, new_party, new_world_with, None, not, not-true}
 use Rattle.tcp_replay.proofs.Words.{number, offset, offset_of_earlier, offset_of_later, Option, PartyState, piece, plain_segment, position_near, position_of}
-use Rattle.tcp_replay.proofs.Words.{position_of_number, pushes, receive_refusal, Receiving, refl, refusal_of, Reset, rst, segment_of, Sending, SentSegment}
+use Rattle.tcp_replay.proofs.Words.{position_of_number, receive_refusal, Receiving, refl, refusal_of, Reset, rst, segment_of, Sending, SentSegment}
 use Rattle.tcp_replay.proofs.Words.{slice_get, Some, start_of, State, state_after, subst, suc, sym, Syn, syn, syn_segment, takes_fin, takes_text, text_of, true}
 use Rattle.tcp_replay.proofs.Words.{window, window_from, with_acked, with_bytes_received, with_connection, with_fin, with_syn, with_syn_acked, with_window}
 use Rattle.tcp_replay.proofs.Words.{without_bytes, witness_of, world_with_effect, WorldState, zero, ℕ, ℤ, ◌∙◌, ◌∷◌, ◌≡◌, ◌≤◌, ⊎_elim}
 use Rattle.tcp_replay.proofs.Lemmas.{after_segment, AllHeld, AllSaid, AllText, Arrives, Both, both-swapped, Brings, brings-place, CanOpen, due-position}
 use Rattle.tcp_replay.proofs.Lemmas.{end-closed, end-listen, end-syn_sent, fin-in_turn, GoesOutAlone, handshake-una, held-more, held-moved, held-none}
 use Rattle.tcp_replay.proofs.Lemmas.{held-same, in-world, IsAhead, IsSaid, IsYoung, Kept, kept-after_all, kept-run, kept-same, KeptByCalls, MayGoOut, Moved}
-use Rattle.tcp_replay.proofs.Lemmas.{next_of, on-arrival, one_if, one_if-false, one_if-most, PairKept, placed, plain-bits, reset-bit, said-after, said-back}
+use Rattle.tcp_replay.proofs.Lemmas.{next_of, on-arrival, one_if, one_if-false, one_if-most, PairKept, placed, due-bits, reset-bit, said-after, said-back}
 use Rattle.tcp_replay.proofs.Lemmas.{same-news, sound-after, sound-new, Speaks, syn-bits, text-advances, text_advance}
 use Rattle.tcp_progress.proofs.Words.{NothingIsTakenBeforeItIsSent, TakeOnlySent, TakesOnlySent}
+use Rattle.tcp_replay.proofs.Lemmas.{waiting-bit}
 
 -- the byte at this place behind a position lies below another one
 abbrev pub Below : ℕ → ℕ → ℕ → ℕ → Type 0
@@ -185,7 +186,7 @@ plain-ends p q due n said h fits =
     let sends = h.there.alone.sends in
     let plain = said.plain in
     let start = start_of d due in
-    let bits = plain-bits (pushes d due) (is_fin due) in
+    let bits = due-bits d due in
     let at : position_of s.config.isn.0 d.una (plain_segment s due).seq ≡ start =
     position_of_number s.config.isn.0 d.una start h.there.alone.config.isn (omega (arith, plain.within, one_if-most p.closed, sends.ahead, sends.released))
     (omega (arith, plain.behind)) in
@@ -201,7 +202,7 @@ DueEnds p due = has rst (segment_of p.endpoint due).flags ≡ false
 
 pub due-ends : (p q : PartyState) (due : Due) → IsSoundPair p q → GoesOutAlone p.endpoint p.accepted p.closed due → DueEnds p due
 unfolding segment_of
-due-ends p q (Reset reset) h out plain = absurd (false≢true (sym plain ∙ reset-bit _))
+due-ends p q Reset h out plain = absurd (false≢true (sym plain ∙ waiting-bit p.endpoint p.endpoint.owed.reset out.kind))
 due-ends p q Syn h out plain =
     let s = p.endpoint in
     let d = s.sending in

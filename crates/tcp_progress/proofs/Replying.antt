@@ -19,7 +19,7 @@ IsBurstingTo w side =
 
 idle-clear : (s : State) (waiting : Option WaitingReset) → s.owed.reset ≡ waiting → due_of s ≡ None → cleared s ≡ s
 idle-clear s None e idle = cleared-same s e
-idle-clear s (Some reset) e idle = absurd (none-some (Reset reset) (sym idle ∙ (reset-first s reset e).0))
+idle-clear s (Some reset) e idle = absurd (none-some Reset (sym idle ∙ (reset-first s reset e).0))
 
 -- once nothing is due it waits to be spoken to
 waits-idle : (w : WorldState) (side : Side) → IsBurstingTo w side → due_of (party_of w side).endpoint ≡ None → Waits w side

@@ -11,7 +11,8 @@ use Rattle.tcp_progress.proofs.Lemmas.{flight-sends, fresh-emitted, going-live, 
 use Rattle.tcp_progress.proofs.Lemmas.{new_lem, no-handshake, no-syn-owed, over-served, past-syn, sends-synchronized, side-left, side-pair, steps-all}
 use Rattle.tcp_progress.proofs.Lemmas.{steps-event, steps-left, timer-at, unsent-sends, waits, way-later}
 use Rattle.tcp_replay.proofs.Lemmas.{none-some, reset-bit}
-use Rattle.tcp_halves.specs.declared.due.Due.TheVariants as dues
+use Rattle.tcp_conn.specs.declared.due.Due.TheVariants as dues
+use Rattle.tcp_replay.proofs.Lemmas.{waiting-bit, reset-waits}
 
 -- ---- WHAT WAS FRESH STILL IS
 wants-still : (p q p' q' : PartyState) → IsSteadyPair p q → IsSteadyPair p' q' → p.endpoint.receiving.opened ≡ true → AreStill p q p' q'
@@ -121,7 +122,7 @@ pub cleared-same : (s : State) → s.owed.reset ≡ None → cleared s ≡ s
 cleared-same s e = ap (λ (r : Option WaitingReset). record s { owed = record s.owed { reset = r } }) (sym e)
 
 -- a waiting reset goes first
-pub reset-first : (s : State) (reset : WaitingReset) → s.owed.reset ≡ Some reset → (due_of s ≡ Some (Reset reset)) × (after_emission s ≡ cleared s)
+pub reset-first : (s : State) (reset : WaitingReset) → s.owed.reset ≡ Some reset → (due_of s ≡ Some Reset) × (after_emission s ≡ cleared s)
 unfolding after_emission due_of
 reset-first s reset e = let same : (n : ℕ) → max n 0 ≡ n = λ n. omega arith in (rw e refl, rw (e, same) refl)
 
@@ -179,10 +180,11 @@ idle-stays zero s e = refl
 idle-stays (suc n) s e = let same : after_emission s ≡ s = rw e refl in ap (after_emissions n) same ∙ idle-stays n s e
 
 -- what goes out and is no reset comes
-pub not-reset : (s : State) (due : Due) (v : Content) → v ≡ segment_of s due → has rst v.flags ≡ false → is_reset due ≡ false
+pub not-reset : (s : State) (due : Due) (v : Content) → due_of s ≡ Some due → v ≡ segment_of s due → has rst v.flags ≡ false → is_reset due ≡ false
 unfolding segment_of
-not-reset s (dues.Reset reset) v form e = absurd (false≢true (sym e ∙ ap (λ (v : Content). has rst v.flags) form ∙ reset-bit _))
-not-reset s other v form e = refl
+not-reset s dues.Reset v is form e =
+    absurd (false≢true (sym e ∙ ap (λ (v : Content). has rst v.flags) form ∙ waiting-bit s s.owed.reset (reset-waits s is)))
+not-reset s other v is form e = refl
 
 -- and is delivered later
 pub comes-due : (w : WorldState) (side : Side) (later : List EventContent) (due : Due) → due_of (party_of w side).endpoint ≡ Some due → is_reset due ≡ false
@@ -208,7 +210,7 @@ covering-out : (w : WorldState) (side : Side) (later : List EventContent) → Al
     → NoneGaveUp (world_after_all (world_after w (Emit side)) later) → left_in (world_after_all (world_after w (Emit side)) later) < left_in w
 covering-out w side later calm h covers comes up =
     let p = party_of w side in
-    let plain = not-reset p.endpoint covers.due covers.segment covers.form covers.no_rst in
+    let plain = not-reset p.endpoint covers.due covers.segment covers.is_due covers.form covers.no_rst in
     useful-out w side later covers.due calm h covers.is_due plain (record {
       start = _;
       content = _;

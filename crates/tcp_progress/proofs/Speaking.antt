@@ -92,7 +92,7 @@ pub standing-out : (w : WorldState) (side : Side) (later : List EventContent) �
     → NoneGaveUp (world_after_all (world_after w (Emit side)) later) → left_in (world_after_all (world_after w (Emit side)) later) < left_in w
 standing-out w side later calm h at behind stands comes up =
     let p = party_of w side in
-    let plain = not-reset p.endpoint stands.due stands.segment stands.form stands.no_rst in
+    let plain = not-reset p.endpoint stands.due stands.segment stands.is_due stands.form stands.no_rst in
     useful-out w side later stands.due calm h stands.is_due plain (record {
       start = _;
       content = _;

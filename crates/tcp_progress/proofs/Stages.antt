@@ -18,6 +18,7 @@ use Rattle.tcp_conn.specs.declared.phase.Ending.TheVariants.{Reset}
 use Rattle.tcp_progress.proofs.{Words.KnowsPort, Words.ReleasesAll, Words.SaysByPhase, Taken.news-keep, OnlySent.KeepsSent, Answering.acked-range}
 use Rattle.tcp_progress.proofs.{Answering.own_syn-range}
 use Rattle.tcp_conn.specs.declared.outcome.CallError.TheVariants as errors
+use Rattle.tcp_replay.proofs.Words.{waiting_segment, WaitingReset}
 
 -- Party p's end may be in this state, its peer q being where it is; `end` is the position after p's FIN.
 pub record MayBe (p q : PartyState) (phase : Phase) (ending : Ending) (closing finished : Bool) (port una next end : ℕ) : Type 0 where
@@ -273,9 +274,13 @@ fin-closed p q g v own read plain told =
     (stands.truth.own.has_fin (ap (λ (v : Content). has fin v.flags) same ∙ told)).0
 
 -- EMIT: whatever goes out, a reset too, names its own port
+waiting-names : (s : State) (waiting : Option WaitingReset) → (waiting_segment s waiting).src_port ≡ s.config.port
+waiting-names s None = refl
+waiting-names s (Some reset) = refl
+
 due-names : (s : State) (due : Due) → (segment_of s due).src_port ≡ s.config.port
 unfolding segment_of
-due-names s (Reset reset) = refl
+due-names s Reset = waiting-names s s.owed.reset
 due-names s other = refl
 
 -- p became p', and emitted what is due

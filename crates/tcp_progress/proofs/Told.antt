@@ -1,9 +1,10 @@
 -- What is pending is sent: whatever is due but a reset or a SYN acknowledges RCV.NXT.
 use Rattle.tcp_replay.proofs.Words.{ack, ack_due, Acknowledgement, Due, due_of, end_of_text, false≢true, Fin, has, inl, inr, is_fin, new_count, NewText, None}
-use Rattle.tcp_replay.proofs.Words.{plain_segment, pushes, refl, Resend, ResentFin, reset_due, segment_of, State, sym, syn_due, text_due, text_limit, true, ◌∙◌}
+use Rattle.tcp_replay.proofs.Words.{plain_segment, refl, Resend, ResentFin, reset_due, segment_of, State, sym, syn_due, text_due, text_limit, true, ◌∙◌}
 use Rattle.tcp_replay.proofs.Words.{◌≡◌}
-use Rattle.tcp_replay.proofs.Lemmas.{again-kept, due-kept, none-some, or-none, plain-bits, some-due}
+use Rattle.tcp_replay.proofs.Lemmas.{again-kept, due-kept, none-some, or-none, due-bits, some-due}
 use Rattle.tcp_progress.proofs.Words.{OwedIsTold}
+use Rattle.tcp_replay.proofs.Words.{Text}
 
 -- something is due where an acknowledgement is pending
 pub owing-due : (s : State) → s.owed.ack ≡ true → due_of s ≡ None → ⊥
@@ -17,15 +18,15 @@ unfolding segment_of
 told_lem s owes no_reset no_syn =
     let P : Due → Type 0 = λ due. (has ack (segment_of s due).flags ≡ true) × ((segment_of s due).ack ≡ s.receiving.next) in
     let tells : (due : Due) → segment_of s due ≡ plain_segment s due → P due = λ due form.
-    rw form ((plain-bits (pushes s.sending due) (is_fin due)).3, refl) in
+    rw form ((due-bits s.sending due).3, refl) in
     elim (some-due P (due_of s) (due-kept s P (record {
       resets = λ reset is. absurd (none-some reset (sym no_reset ∙ is));
       syn = λ owed. absurd (false≢true (sym no_syn ∙ owed));
       acks = λ _. tells Acknowledgement refl;
-      again = λ _. again-kept s.sending (text_limit s) P
-          (record { text = λ _ start count _ _ _ _. tells (Resend start count) refl; fin = λ _ _. tells (ResentFin (end_of_text s.sending)) refl });
-      new_text = λ _ _. tells (NewText s.sending.nxt (new_count s.sending (text_limit s) s.owed.probe)) refl;
-      fin = λ _ _ _. tells (Fin s.sending.nxt) refl;
+      again = λ _. again-kept s.sending (text_limit s) (λ sent. P (Text sent))
+          (record { text = λ _ start count _ _ _ _. tells (Text (Resend start count)) refl; fin = λ _ _. tells (Text (ResentFin (end_of_text s.sending))) refl });
+      new_text = λ _ _. tells (Text (NewText s.sending.nxt (new_count s.sending (text_limit s) s.owed.probe))) refl;
+      fin = λ _ _ _. tells (Text (Fin s.sending.nxt)) refl;
     }))) [
       | inl none ↦ absurd (owing-due s owes none)
       | inr is ↦ record { due = is.0; is_due = is.1; has_ack = is.2.0; number = is.2.1 }

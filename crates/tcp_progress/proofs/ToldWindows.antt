@@ -4,13 +4,14 @@ use Rattle.tcp_replay.proofs.Words.{after_peer_accepts, after_peer_opens, after_
 use Rattle.tcp_replay.proofs.Words.{capacity_read, Cell, cond_both, Config, Content, div-mul-le_self, drop, Due, false, false≢true, greatest_stamp, has}
 use Rattle.tcp_replay.proofs.Words.{HasGoodShift, HoldsWithin, if◌then◌else◌, Inbox, is_fin, is_refused, is_sack_offered, is_some, IsSoundPair, length}
 use Rattle.tcp_replay.proofs.Words.{length-append, length-drop, Link, link_of, List, max_shift, max_window, min, min_mss, mul-le, new_party, None, not, Option}
-use Rattle.tcp_replay.proofs.Words.{overlay_of, own_shift, PartyState, permission_options, piece, plain_segment, pushes, receive_refusal, Receiving, refl}
+use Rattle.tcp_replay.proofs.Words.{overlay_of, own_shift, PartyState, permission_options, piece, plain_segment, receive_refusal, Receiving, refl}
 use Rattle.tcp_replay.proofs.Words.{Reset, rst, Run, runs, scale_options, segment_of, SentSegment, shift_offered, shift_option, Some, State, subst, suc, sym}
 use Rattle.tcp_replay.proofs.Words.{Syn, syn, syn_options, syn_segment, true, unwrap_or, whole_empty, whole_read, whole_without_held, window, window_field}
 use Rattle.tcp_replay.proofs.Words.{with_bytes_received, with_fin, with_overlay, with_ranks, with_ranks_from, without_bytes, ℕ, ℤ, ◌∙◌, ◌∷◌, ◌≡◌, ◌≤◌}
 use Rattle.tcp_replay.proofs.Lemmas.{after_segment, AllSaid, Arrives, Both, both-swapped, GoesOutAlone, kept-same, KeptByCalls, Moved, on-arrival, PairKept}
-use Rattle.tcp_replay.proofs.Lemmas.{plain-bits, reset-bit, said-after, said-back, Speaks, syn-bits}
+use Rattle.tcp_replay.proofs.Lemmas.{due-bits, reset-bit, said-after, said-back, Speaks, syn-bits}
 use Rattle.tcp_progress.proofs.{Words.TellsWithin, Brought.in_order-most, Brought.overlay-length}
+use Rattle.tcp_replay.proofs.Lemmas.{waiting-bit}
 
 -- the shift of an end that may scale by `mine`, towards one that may by `yours`
 abbrev pub agreed_shift : Option ℕ → Option ℕ → ℕ
@@ -197,7 +198,7 @@ syn-told s mine yours fits h config = record {
 plain-told : (s : State) (mine yours : Config) (due : Due) → s.receiving.opened ≡ true → KeepsRoom mine yours s.receiving.inbox s.link s.receiving.opened
     → s.config ≡ mine → IsTold mine yours (plain_segment s due)
 plain-told s mine yours due opened h config =
-    let bits = plain-bits (pushes s.sending due) (is_fin due) in
+    let bits = due-bits s.sending due in
     let shift : own_shift s.config s.link ≡ agreed_shift mine.window_shift yours.window_shift = ap (λ (c : Config). own_shift c s.link) config ∙
     own-agreed mine.window_shift yours.window_shift s.link.scaling (h.agreed opened).scaling in
     let n = own_shift s.config s.link in
@@ -213,7 +214,7 @@ plain-told s mine yours due opened h config =
 due-told : (p q : PartyState) (due : Due) → IsSoundPair p q → GoesOutAlone p.endpoint p.accepted p.closed due → InRoom p q p.endpoint
     → has rst (segment_of p.endpoint due).flags ≡ false → IsTold p.endpoint.config q.endpoint.config (segment_of p.endpoint due)
 unfolding segment_of
-due-told p q (Reset reset) pair out h plain = absurd (false≢true (sym plain ∙ reset-bit _))
+due-told p q Reset pair out h plain = absurd (false≢true (sym plain ∙ waiting-bit p.endpoint p.endpoint.owed.reset out.kind))
 due-told p q Syn pair out h plain = syn-told p.endpoint p.endpoint.config q.endpoint.config pair.there.alone.config.good.2 h refl
 due-told p q other pair out h plain = plain-told p.endpoint _ _ other out.kind.opened h refl
 

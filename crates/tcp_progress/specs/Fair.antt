@@ -2,8 +2,8 @@
 -- whatever the network does in the turn and between turns.
 use Rattle.std.specs.Prelude.{◌≡◌, ℕ, zero, suc, ◌^◌, ◌<◌, ◌≤◌, Bool, true, false, List, [], ◌∷◌, ◌++◌, length, None, IfSome, ◌⊎◌}
 use Rattle.std.specs.List.{AllByRecursion}
-use Rattle.tcp_halves.specs.declared.due.Due.{Due}
-use Rattle.tcp_halves.specs.declared.due.Due.TheVariants as dues
+use Rattle.tcp_conn.specs.declared.due.Due.{Due}
+use Rattle.tcp_conn.specs.declared.due.Due.TheVariants as dues
 use Rattle.tcp_conn.specs.declared.phase.Timer.TheVariants as timers
 use Rattle.tcp_conn.specs.Due.{due_of}
 use Rattle.tcp_replay.specs.declared.event.Side.{Side}
@@ -65,7 +65,7 @@ Delivers side k (event ∷ events) = (event ≡ Deliver side k) ⊎ Delivers sid
 
 -- what is due is a reset
 abbrev pub is_reset : Due → Bool
-is_reset (dues.Reset reset) = true
+is_reset dues.Reset = true
 is_reset other = false
 
 -- what is emitted at an event arrives later, unless it is a reset (RFC 9293, 3.5.2)

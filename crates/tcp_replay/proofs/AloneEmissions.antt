@@ -10,6 +10,7 @@ use Rattle.tcp_replay.proofs.Phases.{end-synchronized, fits-sent, fits-sent_text
 use Rattle.tcp_replay.proofs.Phases.{synchronized-knows}
 use Rattle.tcp_replay.proofs.{Dues.ack_alone-kept, Dues.again-kept, Dues.due-kept, Dues.IsAgain, Dues.KeptAgain, Dues.KeptByDue, Lists.AreBytes-drop}
 use Rattle.tcp_replay.proofs.{Lists.AreBytes-take, Lists.one_if, Lists.one_if-most, Halves.range-more, Halves.sends-sent}
+use Rattle.tcp_replay.proofs.Words.{Text, is_some}
 
 -- text from a position on that was not released, or the FIN after a close
 record IsOut (d : Sending) (accepted : List ℕ) (closed : Bool) (due : Due) : Type 0 where
@@ -40,6 +41,13 @@ text-is d accepted closed start count least h =
     let whole : d.released + (start - (1 + d.released)) ≡ start - 1 = omega arith in
     ap (take count) (ap (drop (place_of d start)) (h.queue refl) ∙ drop-drop (place_of d start) d.released accepted ∙ ap (λ k. drop k accepted) whole)
 
+-- text of the queue
+pub text-of_due : (d : Sending) (due : Due) → text_of d due ≡ take (count_of due) (drop (place_of d (start_of d due)) d.queue.bytes)
+text-of_due d Reset = refl
+text-of_due d Syn = refl
+text-of_due d (Text sent) = refl
+text-of_due d Acknowledgement = refl
+
 -- what a segment with text says
 pub record IsPlain (d : Sending) (accepted : List ℕ) (closed : Bool) (due : Due) : Type 0 where
   pub least : 1 ≤ start_of d due
@@ -65,7 +73,7 @@ pub record IsSaid (s : State) (accepted : List ℕ) (closed : Bool) (due : Due) 
 
 -- each kind of segment
 abbrev pub IsOfKind : State → List ℕ → Bool → Due → Type 0
-IsOfKind s accepted closed (Reset reset) = s.owed.reset ≡ Some reset
+IsOfKind s accepted closed Reset = is_some s.owed.reset ≡ true
 IsOfKind s accepted closed Syn = is_handshake s.phase ≡ true
 IsOfKind s accepted closed other = IsSaid s accepted closed other
 
@@ -124,17 +132,17 @@ module _ (s : State) (accepted : List ℕ) (closed : Bool) (h : IsAlone s accept
       (omega (arith, ap length plain.text, length-take (count_of due) (drop before accepted), plain.short))
 
   -- a reset
-  out-reset : (reset : WaitingReset) → s.owed.reset ≡ Some reset → GoesOutAlone s accepted closed (Reset reset)
+  out-reset : (reset : WaitingReset) → s.owed.reset ≡ Some reset → GoesOutAlone s accepted closed Reset
   unfolding segment_of
   out-reset reset waits =
       let d = s.sending in
       let fits : IsWritable reset = subst (λ (o : Option WaitingReset). IfSome o IsWritable) waits h.reset in
       record {
-        alone = alone-after (Reset reset)
+        alone = alone-after Reset
             (fits-sent s.phase s.ending d.una d.nxt (max d.nxt 0) s.receiving.opened s.receiving.finished (λ _ e. omega arith) (λ e. omega arith) h.progress)
             (omega (arith, h.sends.most)) h.sends.range h.syn h.ack tt;
-        valid = reset_segment_valid s reset h.config.port fits.port fits.seq (ack-fits reset.ack fits.ack);
-        kind = waits;
+        valid = rw waits (reset_segment_valid s reset h.config.port fits.port fits.seq (ack-fits reset.ack fits.ack));
+        kind = ap is_some waits;
       }
 
   -- a SYN
@@ -191,7 +199,7 @@ module _ (s : State) (accepted : List ℕ) (closed : Bool) (h : IsAlone s accept
           least = omega (arith, is.least);
           behind = omega (arith, is.least, going.released, going.order, going.most, one_if-most closed);
           within = omega (arith, is.within, is.most);
-          text = text-is d accepted closed (start_of d due) (count_of due) is.least going;
+          text = text-of_due d due ∙ text-is d accepted closed (start_of d due) (count_of due) is.least going;
           short = is.short;
           last = is.last;
         } in
@@ -228,38 +236,38 @@ module _ (s : State) (accepted : List ℕ) (closed : Bool) (h : IsAlone s accept
     range-ends : (range : Range ℕ) (start : ℕ) → IsAgain s.sending range start → range.end ≤ max s.sending.nxt (1 + length accepted)
     range-ends range start again = subst (λ (o : Option (Range ℕ)). IfSome o (λ r. r.end ≤ max s.sending.nxt (1 + length accepted))) again.is h.sends.range
 
-    out-again : KeptAgain s.sending (text_limit s) (GoesOutAlone s accepted closed)
+    out-again : KeptAgain s.sending (text_limit s) (λ sent. GoesOutAlone s accepted closed (Text sent))
     unfolding segment_of
     out-again =
         let d = s.sending in
         record {
           text = λ range start count again inside short _.
               let ends = range-ends range start again in
-              out-plain (Resend start count) (record { common = record { segment = refl; to = refl; reset = refl }; syn = refl; ack = refl })
-              (text-out (Resend start count) refl refl (omega (arith, going.released, again.ahead, (going-on s accepted closed e h).0))
+              out-plain (Text (Resend start count)) (record { common = record { segment = refl; to = refl; reset = refl }; syn = refl; ack = refl })
+              (text-out (Text (Resend start count)) refl refl (omega (arith, going.released, again.ahead, (going-on s accepted closed e h).0))
               (omega (arith, inside, ends)) short) (range_after-ends (max d.nxt (1 + length accepted)) (start + count) d.resend h.sends.range) (λ said. said);
           fin = λ range again.
               let last = end_of_text d in
               let beyond : 1 + length accepted < d.nxt
               = omega (arith, range-ends range last again, again.inside, end-is d accepted closed going) in
-              out-plain (ResentFin last) (record { common = record { segment = refl; to = refl; reset = refl }; syn = refl; ack = refl })
-              (fin-out (ResentFin last) refl refl refl (sent-fin d accepted closed false going beyond))
+              out-plain (Text (ResentFin last)) (record { common = record { segment = refl; to = refl; reset = refl }; syn = refl; ack = refl })
+              (fin-out (Text (ResentFin last)) refl refl refl (sent-fin d accepted closed false going beyond))
               (range_after-ends (max d.nxt (1 + length accepted)) (last + 1) d.resend h.sends.range) (λ said. said);
         }
 
-    out-new : (count : ℕ) → count ≤ text_limit s → count ≤ count_unsent s.sending → GoesOutAlone s accepted closed (NewText s.sending.nxt count)
+    out-new : (count : ℕ) → count ≤ text_limit s → count ≤ count_unsent s.sending → GoesOutAlone s accepted closed (Text (NewText s.sending.nxt count))
     unfolding segment_of
     out-new count short unsent =
         let d = s.sending in
-        out-plain (NewText d.nxt count) (record { common = record { segment = refl; to = refl; reset = refl }; syn = refl; ack = refl })
-        (text-out (NewText d.nxt count) refl refl (omega (arith, going.released, going.order, (going-on s accepted closed e h).0))
+        out-plain (Text (NewText d.nxt count)) (record { common = record { segment = refl; to = refl; reset = refl }; syn = refl; ack = refl })
+        (text-out (Text (NewText d.nxt count)) refl refl (omega (arith, going.released, going.order, (going-on s accepted closed e h).0))
         (omega (arith, unsent, end-is d accepted closed going, going.released, going.order)) short) h.sends.range (λ said. said)
 
-    out-fin : s.closing ≡ true → s.sending.nxt ≡ end_of_text s.sending → GoesOutAlone s accepted closed (Fin s.sending.nxt)
+    out-fin : s.closing ≡ true → s.sending.nxt ≡ end_of_text s.sending → GoesOutAlone s accepted closed (Text (Fin s.sending.nxt))
     unfolding segment_of
     out-fin closing all =
-        out-plain (Fin s.sending.nxt) (record { common = record { segment = refl; to = refl; reset = refl }; syn = refl; ack = refl })
-        (fin-out (Fin s.sending.nxt) refl refl all (sym h.closing ∙ closing)) h.sends.range (λ said. said)
+        out-plain (Text (Fin s.sending.nxt)) (record { common = record { segment = refl; to = refl; reset = refl }; syn = refl; ack = refl })
+        (fin-out (Text (Fin s.sending.nxt)) refl refl all (sym h.closing ∙ closing)) h.sends.range (λ said. said)
 
   -- whatever is due
   out-all : KeptByDue s (GoesOutAlone s accepted closed)
@@ -267,7 +275,7 @@ module _ (s : State) (accepted : List ℕ) (closed : Bool) (h : IsAlone s accept
     resets = out-reset;
     syn = λ owed. out-syn (h.syn owed);
     acks = out-ack;
-    again = λ e. again-kept s.sending (text_limit s) (GoesOutAlone s accepted closed) (out-again e);
+    again = λ e. again-kept s.sending (text_limit s) (λ sent. GoesOutAlone s accepted closed (Text sent)) (out-again e);
     new_text = λ e some. out-new e (new_count s.sending (text_limit s) s.owed.probe) (omega arith) (omega arith);
     fin = out-fin;
   }

@@ -1,12 +1,14 @@
 -- What is due may go out to the peer: it is truthful unless it is a reset, and the end stays sound.
+use Rattle.tcp_halves.specs.Sent as half
 use Rattle.tcp_replay.proofs.Words.{◌+◌, ◌-◌, ack, ap, arith, Bool, bytes_of, Content, count_of, decode_answer, decoded_encoded, destination_of, drop, Due}
 use Rattle.tcp_replay.proofs.Words.{due_of, encoded_bytes, false, false≢true, fin, has, IfSome, if◌then◌else◌, is_fin, is_handshake, is_some, IsOfUser, IsOwn}
 use Rattle.tcp_replay.proofs.Words.{IsSoundPair, IsTrueAck, IsTruthful, IsValid, IsWire_encoded, length, length-drop, length-take, List, min, ne_eqb}
 use Rattle.tcp_replay.proofs.Words.{next_position, next_wanted, None, Ok, Option, owed_after, PartyState, plain_segment, position_of, position_of_number, psh}
-use Rattle.tcp_replay.proofs.Words.{pushes, refl, Reset, rst, segment_of, sent_by, seq_in, Some, StandsAt, start_of, State, state_after, subst, sym, Syn, syn}
+use Rattle.tcp_replay.proofs.Words.{refl, Reset, rst, segment_of, sent_by, seq_in, Some, StandsAt, start_of, State, state_after, subst, sym, Syn, syn}
 use Rattle.tcp_replay.proofs.Words.{syn_segment, take, take_min, text_of, true, WaitingReset, witness_of, ℕ, ◌∙◌, ◌≡◌, ◌≤◌}
 use Rattle.tcp_replay.proofs.{Lists.one_if-most, Phases.handshake-knows, Phases.handshake-una, Steps.Kept, Steps.kept-alone, Steps.kept-same}
 use Rattle.tcp_replay.proofs.{AloneEmissions.due-alone, AloneEmissions.GoesOutAlone, AloneEmissions.if-some-map, AloneEmissions.IsSaid}
+use Rattle.tcp_replay.proofs.Words.{Text, waiting_segment, waiting_destination, flags_of, Acknowledgement}
 
 -- an acknowledgement is of the next position
 true-ack : (p q : PartyState) (ack : ℕ) → p.endpoint.receiving.opened ≡ true → ack ≡ p.endpoint.receiving.next → IsSoundPair p q
@@ -72,7 +74,7 @@ take-own_length : (n : ℕ) (xs : List ℕ) → take n xs ≡ take (length (take
 take-own_length n xs = sym (ap (λ k. take k xs) (length-take n xs) ∙ take_min n xs)
 
 -- the flags of text, FIN and acknowledgement: ACK, and neither SYN nor RST
-pub plain-bits : (push last : Bool)
+plain-bits : (push last : Bool)
     → (has syn (ack + (if push then psh else 0) + (if last then fin else 0)) ≡ false)
     × (has fin (ack + (if push then psh else 0) + (if last then fin else 0)) ≡ last)
     × (has rst (ack + (if push then psh else 0) + (if last then fin else 0)) ≡ false)
@@ -82,6 +84,14 @@ plain-bits true false = (refl, refl, refl, refl)
 plain-bits false true = (refl, refl, refl, refl)
 plain-bits false false = (refl, refl, refl, refl)
 
+-- of whatever is due, but for a reset and a SYN
+pub due-bits : (d : Sending) (due : Due)
+    → (has syn (flags_of d due) ≡ false) × (has fin (flags_of d due) ≡ is_fin due) × (has rst (flags_of d due) ≡ false) × (has ack (flags_of d due) ≡ true)
+due-bits d Reset = (refl, refl, refl, refl)
+due-bits d Syn = (refl, refl, refl, refl)
+due-bits d (Text sent) = plain-bits (half.pushes d sent) (half.is_fin sent)
+due-bits d Acknowledgement = (refl, refl, refl, refl)
+
 -- text and FIN are the user's, at their positions
 pub plain-of_user : (s : State) (accepted : List ℕ) (closed : Bool) (due : Due) → IsSaid s accepted closed due
     → IsOfUser s.config.isn.0 accepted closed (plain_segment s due)
@@ -89,7 +99,7 @@ plain-of_user s accepted closed due said =
     let d = s.sending in
     let plain = said.plain in
     let start = start_of d due in
-    let bits = plain-bits (pushes d due) (is_fin due) in
+    let bits = due-bits d due in
     let count : length (text_of d due) ≡ min (count_of due) (length accepted - (start - 1)) =
     ap length plain.text ∙ length-take (count_of due) (drop (start - 1) accepted) ∙ ap (min (count_of due)) (length-drop (start - 1) accepted) in
     record {
@@ -174,6 +184,10 @@ pub reset-bit : (told : Bool) → has rst (rst + (if told then ack else 0)) ≡ 
 reset-bit true = refl
 reset-bit false = refl
 
+pub waiting-bit : (s : State) (waiting : Option WaitingReset) → is_some waiting ≡ true → has rst (waiting_segment s waiting).flags ≡ true
+waiting-bit s None e = absurd (cc)
+waiting-bit s (Some reset) e = reset-bit (is_some reset.ack)
+
 goes-plain : (p q : PartyState) (due : Due) → GoesOutAlone p.endpoint p.accepted p.closed due → IsSaid p.endpoint p.accepted p.closed due → IsSoundPair p q
     → GoesOut p q due
 goes-plain p q due out said h = record {
@@ -183,19 +197,20 @@ goes-plain p q due out said h = record {
   truthful = λ _. rw said.common.segment (plain-stands p q due said h);
 }
 
-reset-to : (waiting : Option WaitingReset) (reset : WaitingReset) (addr : List ℕ) → waiting ≡ Some reset → IfSome waiting (λ r. r.to.addr.0 ≡ addr)
-    → reset.to.addr.0 ≡ addr
-reset-to None reset addr e h = absurd (cc)
-reset-to (Some waiting) reset addr e h = let same : waiting ≡ reset = cc in ap (λ (r : WaitingReset). r.to.addr.0) (sym same) ∙ h
+-- and goes where it says
+waiting-to : (s : State) (waiting : Option WaitingReset) (addr : List ℕ) → is_some waiting ≡ true → IfSome waiting (λ reset. reset.to.addr.0 ≡ addr)
+    → (waiting_destination s waiting).addr.0 ≡ addr
+waiting-to s None addr e h = absurd (cc)
+waiting-to s (Some reset) addr e h = h
 
 -- what goes out of an end goes out to its peer, and both stay sound
 pub goes-out : (p q : PartyState) (due : Due) → IsSoundPair p q → GoesOutAlone p.endpoint p.accepted p.closed due → GoesOut p q due
 unfolding segment_of
-goes-out p q (Reset reset) h out = record {
-  kept = kept-out p q (Reset reset) out tt h;
-  to = reset-to p.endpoint.owed.reset reset q.endpoint.config.addr.0 out.kind h.there.speaks.reset;
+goes-out p q Reset h out = record {
+  kept = kept-out p q Reset out tt h;
+  to = waiting-to p.endpoint p.endpoint.owed.reset q.endpoint.config.addr.0 out.kind h.there.speaks.reset;
   valid = out.valid;
-  truthful = λ plain. absurd (false≢true (sym plain ∙ reset-bit (is_some reset.ack)));
+  truthful = λ plain. absurd (false≢true (sym plain ∙ waiting-bit p.endpoint p.endpoint.owed.reset out.kind));
 }
 goes-out p q Syn h out = record {
   kept = kept-out p q Syn out h.there.speaks.reset h;

@@ -6,7 +6,7 @@ use Rattle.tcp_replay.proofs.Words.{blocks_to_report, blocks_used, Bool, Cell, c
 use Rattle.tcp_replay.proofs.Words.{false≢true, gave_up, gives_up, has, HasBytes, HasPosition, HasTrueHints, HintsAreTrue, inr, insertion_by_stamp, is_current}
 use Rattle.tcp_replay.proofs.Words.{is_fin, is_sack_offered, is_syn_received, IsBlockBehind, IsHeld, IsMaximal, IsSoundPair, IsTrueBlock, IsTruthful}
 use Rattle.tcp_replay.proofs.Words.{KeepBothHints, KeepsHints, length, List, map, max_blocks, max_life, Mss, nat_lt, new_party, next_position, next_wanted}
-use Rattle.tcp_replay.proofs.Words.{None, not, not-true, number, offset, Option, other, PartyState, permission_options, plain_segment, position_near, pushes}
+use Rattle.tcp_replay.proofs.Words.{None, not, not-true, number, offset, Option, other, PartyState, permission_options, plain_segment, position_near}
 use Rattle.tcp_replay.proofs.Words.{Receiving, refl, refusal_of, reported_blocks, Reset, rst, Run, runs, runs_are_maximal_lem, runs_newest_first, sack_options}
 use Rattle.tcp_replay.proofs.Words.{scale_options, segment_of, Sending, SentSegment, shift_offered, slice_get, Some, State, subst, suc, sym, Syn, take}
 use Rattle.tcp_replay.proofs.Words.{takes_fin, takes_text, takes_text_of, true, window_from, with_all_resent, with_fin, with_syn_acked, with_window, Witness}
@@ -17,8 +17,9 @@ use Rattle.tcp_replay.proofs.Holdings.{marks-none, marks-text, marks-window}
 use Rattle.tcp_replay.proofs.{Steps.Kept, Steps.kept-same, Steps.Moved, Phases.end-synchronized, Phases.gives_up-not_ended, Phases.time_wait-synchronized}
 use Rattle.tcp_replay.proofs.{Alone.same-window, Stages.fin-in_turn, Stages.IsAhead, Stages.IsYoung, Stages.placed, Stages.Synced, Stages.text-advances}
 use Rattle.tcp_replay.proofs.{Stages.text_advance, Events.after_segment, Events.Arrives, Events.in-world, Events.PairKept, Events.said-after, Events.said-back}
-use Rattle.tcp_replay.proofs.{Events.Speaks, Calls.KeptByCalls, Arrivals.on-arrival, Lists.number-further, Emissions.GoesOut, Emissions.plain-bits}
+use Rattle.tcp_replay.proofs.{Events.Speaks, Calls.KeptByCalls, Arrivals.on-arrival, Lists.number-further, Emissions.GoesOut, Emissions.due-bits}
 use Rattle.tcp_replay.proofs.{Emissions.wanted-is}
+use Rattle.tcp_replay.proofs.Words.{waiting_segment, WaitingReset, Acknowledgement}
 
 -- Party p's end may be in this state, its peer q being where it is: what it had it has, unless it gave up, and what it
 -- marks q has, unless that gave up.
@@ -239,23 +240,31 @@ none-true p q list e k block is =
     let never : slice_get {X = ℕ × ℕ} [] k ≡ Some block = subst (λ (list : List (ℕ × ℕ)). slice_get list k ≡ Some block) e is in absurd (cc)
 
 -- an end that reports blocks has taken the peer's SYN
-plain-reports : (p q : PartyState) (due : Due) → segment_of p.endpoint due ≡ plain_segment p.endpoint due → IsSoundPair p q → GoesOut p q due
+plain-reports : (p q : PartyState) (due form : Due) → segment_of p.endpoint due ≡ plain_segment p.endpoint form → IsSoundPair p q → GoesOut p q due
     → AreBlocksBehind (witness_of p q) (next_position p) (reported_blocks (segment_of p.endpoint due).options)
-plain-reports p q due is h goes =
+plain-reports p q due form is h goes =
     let s = p.endpoint in
-    let bits = plain-bits (pushes s.sending due) (is_fin due) in
+    let bits = due-bits s.sending form in
     let opened = ((goes.truthful (ap (λ (v : Content). has rst v.flags) is ∙ bits.2)).truth.has_ack
     (ap (λ (v : Content). has ack v.flags) is ∙ bits.3)).opened in
     let list : reported_blocks (segment_of s due).options ≡ blocks_to_report s = ap (λ (v : Content). reported_blocks v.options) is ∙ blocks-of_sack
     (blocks_to_report s) in
     rw list (reported-true p q opened h)
 
+blocks-of_waiting : (p q : PartyState) (waiting : Option WaitingReset) → p.endpoint.owed.reset ≡ waiting → IsSoundPair p q → GoesOut p q Reset
+    → AreBlocksBehind (witness_of p q) (next_position p) (reported_blocks (waiting_segment p.endpoint waiting).options)
+unfolding segment_of
+blocks-of_waiting p q None e h goes =
+    subst (λ (w : Option WaitingReset). AreBlocksBehind (witness_of p q) (next_position p) (reported_blocks (waiting_segment p.endpoint w).options)) e
+    (plain-reports p q Reset Acknowledgement (ap (waiting_segment p.endpoint) e) h goes)
+blocks-of_waiting p q (Some reset) e h goes = none-true p q [] refl
+
 blocks-of_due : (p q : PartyState) (due : Due) → IsSoundPair p q → GoesOut p q due
     → AreBlocksBehind (witness_of p q) (next_position p) (reported_blocks (segment_of p.endpoint due).options)
 unfolding segment_of
-blocks-of_due p q (Reset reset) h goes = none-true p q [] refl
+blocks-of_due p q Reset h goes = blocks-of_waiting p q p.endpoint.owed.reset refl h goes
 blocks-of_due p q Syn h goes = none-true p q _ (blocks-of_syn p.endpoint.config.mss (shift_offered p.endpoint) (is_sack_offered p.endpoint))
-blocks-of_due p q other h goes = plain-reports p q other refl h goes
+blocks-of_due p q other h goes = plain-reports p q other other refl h goes
 
 -- a block stays true of an end that has as many positions or more
 block-more : (x x' : Witness) (block : ℕ × ℕ) → x'.irs ≡ x.irs → ((n : ℕ) → HasPosition x n → HasPosition x' n) → IsTrueBlock x block → IsTrueBlock x' block

@@ -6,7 +6,7 @@ pub use Rattle.tcp_replay.proofs.Dues.{ack_alone-kept, again-kept, done-none, du
 pub use Rattle.tcp_replay.proofs.Dues.{some-due}
 pub use Rattle.tcp_replay.proofs.Arrivals.{ack-to, acked_text-to, Comes, Fair, fair-judgement, on-arrival, own_syn-nxt}
 pub use Rattle.tcp_replay.proofs.Calls.{KeptByCalls, MayGoOut, option_or-none, refusal_if-none}
-pub use Rattle.tcp_replay.proofs.Emissions.{due-decodes, due-goes, GoesOut, plain-bits, reset-bit, seq-in, syn-bits, wanted-is}
+pub use Rattle.tcp_replay.proofs.Emissions.{due-bits, due-decodes, due-goes, GoesOut, reset-bit, waiting-bit, seq-in, syn-bits, wanted-is}
 pub use Rattle.tcp_replay.proofs.Events.{after_segment, AllSaid, arrival-ok, Arrives, Both, both-swapped, comes, delivered-there, due-position, finds-damage}
 pub use Rattle.tcp_replay.proofs.Events.{in-world, own-decodes, PairKept, said-after, said-back, same-content, segment-sent, Speaks}
 pub use Rattle.tcp_replay.proofs.Feeds.{AllHeld, AllText, Brings, brings-place, held-more, held-moved, held-none, held-same}
@@ -25,3 +25,5 @@ pub use Rattle.tcp_replay.proofs.Cases.{news-cases}
 pub use Rattle.tcp_replay.proofs.Alone.{windowed-sends}
 pub use Rattle.tcp_replay.proofs.Alone.{marked-sends}
 pub use Rattle.tcp_replay.proofs.Calls.{CanOpen}
+pub use Rattle.tcp_replay.proofs.AloneEmissions.{text-of_due}
+pub use Rattle.tcp_replay.proofs.Dues.{reset-waits}

@@ -18,6 +18,7 @@ use Rattle.tcp_replay.proofs.{AloneCalls.alone-judgement, AloneCalls.IsAloneIn, 
 use Rattle.tcp_replay.proofs.{AloneEmissions.due-alone, AloneEmissions.GoesOutAlone, AloneEmissions.IsSaid, Emissions.plain-of_user, Emissions.reset-bit}
 use Rattle.tcp_replay.proofs.{Emissions.syn-of_user, Emissions.syn-opened, Judgements.IsTaken, AloneFeeds.Feeds, AloneFeeds.feeds-calls}
 use Rattle.tcp_replay.proofs.{AloneFeeds.feeds-judgement, AloneFeeds.feeds-same}
+use Rattle.tcp_replay.proofs.Emissions.{waiting-bit}
 
 -- an arrival is what its bytes are read as
 pub read-arrival : (s : State) (src dst bytes : List ℕ) (r : Result Content DecodeError) → decode_answer src dst bytes ≡ r
@@ -114,7 +115,7 @@ plain-says s accepted closed due said =
 due-says : (s : State) (accepted : List ℕ) (closed : Bool) (due : Due) → GoesOutAlone s accepted closed due → has rst (segment_of s due).flags ≡ false
     → Says s accepted closed (segment_of s due)
 unfolding segment_of
-due-says s accepted closed (Reset reset) out plain = absurd (false≢true (sym plain ∙ reset-bit (is_some reset.ack)))
+due-says s accepted closed Reset out plain = absurd (false≢true (sym plain ∙ waiting-bit s s.owed.reset out.kind))
 due-says s accepted closed Syn out plain = syn-speaks s accepted closed
 due-says s accepted closed other out plain = plain-says s accepted closed other out.kind
 

@@ -31,13 +31,14 @@ pub use Rattle.tcp_conn.specs.Calls.{after_closing, answer_unless, bytes_unless,
 pub use Rattle.tcp_conn.specs.Calls.{opens_window, own_reset, phase_after_close, receive_answer, receive_refusal, received_bytes, received_value, refusal_if}
 pub use Rattle.tcp_conn.specs.Calls.{reset_after_abort, send_refusal, state_unless, with_abort, with_bytes_received, with_closing, with_connection}
 unfoldable pub use Rattle.tcp_conn.specs.Calls.{after_abort, after_acknowledge, after_close, after_connect, after_listen, after_receive, after_send}
-pub use Rattle.tcp_conn.specs.Due.{ack_due, reset_due, syn_due, text_due, text_limit}
+pub use Rattle.tcp_conn.specs.Due.{ack_due, count_of, end_of, flags_of, is_fin, reset_due, sent_due, start_of, syn_due, text_due, text_limit, text_of}
 unfoldable pub use Rattle.tcp_conn.specs.Due.{ack_alone, due_of}
-pub use Rattle.tcp_conn.specs.Emission.{after_due, buffer_with, owed_after, state_after}
+pub use Rattle.tcp_conn.specs.Emission.{after_due, buffer_with, owed_after, resend_after, sending_after, state_after}
 unfoldable pub use Rattle.tcp_conn.specs.Emission.{after_ack_alone, after_emission, buffer_after, destination, emitted_bytes, pending_length}
 pub use Rattle.tcp_conn.specs.Endings.{after_giving_up, after_orderly_end}
 pub use Rattle.tcp_conn.specs.Endpoint.{AlwaysHolds, FitsFields}
 pub use Rattle.tcp_conn.specs.Forms.{is_sack_offered, permission_options, plain_segment, reset_ack, scale_options, shift_offered, syn_options, syn_segment}
+pub use Rattle.tcp_conn.specs.Forms.{waiting_segment}
 unfoldable pub use Rattle.tcp_conn.specs.Forms.{segment_of}
 pub use Rattle.tcp_conn.specs.Judgement.{acks_syn, count_numbers, is_acceptable_segment, is_allowed_shut, is_for_other, is_from_other, position_near}
 unfoldable pub use Rattle.tcp_conn.specs.Judgement.{acceptable_judgement, ack_judgement, closed_judgement, is_foreign, judgement, listen_judgement}
@@ -47,7 +48,7 @@ pub use Rattle.tcp_conn.specs.State.{State, with_ack_owed}
 pub use Rattle.tcp_conn.specs.Timers.{after_gaps, marks_end, needs_probe, sends_again}
 unfoldable pub use Rattle.tcp_conn.specs.Timers.{after_reorder, after_resend_first, after_retransmit, after_time_wait}
 pub use Rattle.tcp_conn.specs.Windows.{advertised_window, max_window, own_shift, window_field, window_from}
-pub use Rattle.tcp_conn.specs.Writing.{destination_of}
+pub use Rattle.tcp_conn.specs.Writing.{destination_of, waiting_destination}
 unfoldable pub use Rattle.tcp_conn.specs.Writing.{bytes_of}
 pub use Rattle.tcp_conn.specs.declared.judgement.Judgement.{Judgement}
 pub use Rattle.tcp_conn.specs.declared.judgement.Judgement.TheVariants.{AckOfListen, AckOfNoSyn, AcksUnsent, Foreign, HandshakeRefused, HandshakeRefusedShut}
@@ -57,9 +58,8 @@ pub use Rattle.tcp_halves.proofs.Placing.{capacity_placed, capacity_read, whole_
 unfoldable pub use Rattle.tcp_halves.specs.Acceptable.{is_acceptable}
 pub use Rattle.tcp_halves.specs.Config.{HasBadCapacity, HasBadLimit, HasBadMss, HasBadShift, HasGoodShift, IsConfig, IsGoodConfig, default_limit, max_shift}
 pub use Rattle.tcp_halves.specs.Config.{min_mss, stream_limit}
-pub use Rattle.tcp_halves.specs.Due.{count_allowed, count_of, end_of, fin_of, is_fin, new_count, pushes, range_after, resend_after, resend_start, resent_fin}
-pub use Rattle.tcp_halves.specs.Due.{resent_run, resent_text, sending_after, sending_due, start_of, text_of, usable_window}
-unfoldable pub use Rattle.tcp_halves.specs.Due.{new_text_of, resend_of}
+pub use Rattle.tcp_halves.specs.Sent.{count_allowed, fin_of, new_count, range_after, resend_start, resent_fin, resent_run, resent_text, sending_due, usable_window}
+unfoldable pub use Rattle.tcp_halves.specs.Sent.{new_text_of, resend_of}
 pub use Rattle.tcp_halves.specs.Marks.{after_blocks, is_of_flight, marks_text, reported_blocks, with_marks}
 unfoldable pub use Rattle.tcp_halves.specs.Marks.{after_block}
 pub use Rattle.tcp_halves.specs.Options.{shift_option}
@@ -76,8 +76,10 @@ pub use Rattle.tcp_halves.specs.Sender.{with_syn_acked, with_syn_sent, with_text
 unfoldable pub use Rattle.tcp_halves.specs.Sender.{after_ack, after_window_update}
 pub use Rattle.tcp_halves.specs.declared.config.Config.{Config}
 pub use Rattle.tcp_halves.specs.declared.config.ConfigError.{ConfigError}
-pub use Rattle.tcp_halves.specs.declared.due.Due.{Due}
-pub use Rattle.tcp_halves.specs.declared.due.Due.TheVariants.{Acknowledgement, Fin, NewText, Resend, ResentFin, Reset, Syn}
+pub use Rattle.tcp_halves.specs.declared.sent.Sent.{Sent}
+pub use Rattle.tcp_halves.specs.declared.sent.Sent.TheVariants.{Fin, NewText, Resend, ResentFin}
+pub use Rattle.tcp_conn.specs.declared.due.Due.{Due}
+pub use Rattle.tcp_conn.specs.declared.due.Due.TheVariants.{Acknowledgement, Reset, Syn, Text}
 pub use Rattle.tcp_halves.specs.declared.link.Link.{Link}
 pub use Rattle.tcp_conn.specs.declared.owed.Owed.{Owed}
 pub use Rattle.tcp_halves.specs.declared.link.Peer.{Peer}
