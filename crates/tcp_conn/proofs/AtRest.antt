@@ -33,15 +33,18 @@ no-runs place (suc n) = no-runs (suc place) n
 pub rest-again : (s : State) → resting (as_state (resting s)) ≡ resting s
 rest-again s = kept (resting s) (omega arith)
 
-pub at-rest : (s : State) → IsAtRest (as_state (resting s))
-at-rest s = record {
-  isn = omega arith;
+pub at-rest-of : (r : Resting) → r.seq < 2 ^ 32 → IsAtRest (as_state r)
+at-rest-of r fits = record {
+  isn = fits;
   phase = refl;
   acked = refl;
   read = refl;
-  none_held = no-runs 0 (resting s).window;
+  none_held = no-runs 0 r.window;
   no_syn = refl;
 }
+
+pub at-rest : (s : State) → IsAtRest (as_state (resting s))
+at-rest s = at-rest-of (resting s) (omega arith)
 
 -- and of an end whose place a record can take
 and-left : (a b : Bool) → (a && b) ≡ true → a ≡ true

@@ -1,5 +1,5 @@
 -- An arrival at an end in TIME-WAIT: the judgement and its effect depend only on the TIME-WAIT record.
-use Rattle.std.proofs.Common.{◌≡◌, ℕ, List, refl, sym, ap, subst, ◌∙◌}
+use Rattle.std.proofs.Common.{◌≡◌, ℕ, ◌<◌, ◌^◌, List, refl, sym, ap, subst, ◌∙◌}
 use Rattle.std.specs.Prelude.{Bool, true, false, ◌||◌, ◌&&◌, ◌==◌, not, if◌then◌else◌, bytes_eq, Result, Ok, Err}
 use Rattle.tcp_wire.specs.Flags.{ack, has, rst, syn}
 use Rattle.tcp_wire.specs.Position.{is_before}
@@ -13,13 +13,13 @@ use Rattle.tcp_conn.specs.declared.phase.Ending.{Ending}
 use Rattle.tcp_conn.specs.declared.phase.Ending.TheVariants as endings
 use Rattle.tcp_conn.specs.declared.phase.Phase.TheVariants as phases
 use Rattle.tcp_halves.specs.Acceptable.{is_acceptable}
-use Rattle.tcp_conn.specs.Arrival.{after_judgement, after_reading, answer_to_reading, first_reset, reset_of_stray}
+use Rattle.tcp_conn.specs.Arrival.{after_judgement, after_reading, answer_to_reading, reset_of_stray}
 use Rattle.tcp_conn.specs.Judgement.{ack_judgement, acceptable_judgement, answer_of, closed_judgement, count_numbers, is_foreign, judgement, listen_judgement, phase_judgement, present_judgement, syn_sent_judgement, unacceptable_judgement}
 use Rattle.tcp_conn.specs.Phase.{has_peer, is_closed, is_listening, is_syn_sent}
-use Rattle.tcp_conn.specs.Rest.{Resting, phase_at_rest, resting}
+use Rattle.tcp_conn.specs.Rest.{Resting, after_judgement_at_rest, as_state, phase_at_rest, resting}
 use Rattle.tcp_conn.specs.State.{State}
-use Rattle.tcp_conn.proofs.Rests.{unsent-number, with-ack}
-use Rattle.tcp_conn.proofs.AtRest.{Goes, IsAtRest, ends, owes, recorded, takes, takes-shut}
+use Rattle.tcp_conn.proofs.Rests.{kept, unsent-number}
+use Rattle.tcp_conn.proofs.AtRest.{Goes, IsAtRest, at-rest-of, ends, owes, recorded, takes, takes-shut}
 
 -- THE JUDGEMENT, from the record
 ack-judged : Resting → Content → Judgement → Judgement
@@ -76,18 +76,8 @@ judgement-is s src dst v h =
     rw (phase-is s v s.ending h.phase h, h.phase) refl
 
 -- THE EFFECT OF A JUDGEMENT on the record
-abbrev effect : Judgement → Resting → List ℕ → Content → Resting
-effect judgements.Stray r src v = record r { reset = first_reset r.reset (reset_of_stray src v) }
-effect judgements.PeerResets r src v = record r { ending = endings.Reset; ack = false }
-effect judgements.Unacceptable r src v = with-ack r
-effect judgements.ResetElsewhere r src v = with-ack r
-effect judgements.SynInWindow r src v = with-ack r
-effect judgements.AcksUnsent r src v = with-ack r
-effect judgements.TakenShut r src v = with-ack r
-effect other r src v = r
-
 abbrev Follows : State → List ℕ → Content → Judgement → Type 0
-Follows s src v j = Goes (after_judgement j s src v) (effect j (resting s) src v)
+Follows s src v j = Goes (after_judgement j s src v) (after_judgement_at_rest j (resting s) src v)
 
 pub stays : (s : State) → IsAtRest s → Goes s (resting s)
 stays s h = record { rests = refl; at_rest = h }
@@ -136,7 +126,7 @@ reading-answer r src dst (Ok v) = answer_of (judged r src dst v)
 reading-answer r src dst (Err fault) = Malformed fault
 
 abbrev pub reading-effect : Resting → List ℕ → List ℕ → Result Content DecodeError → Resting
-reading-effect r src dst (Ok v) = effect (judged r src dst v) r src v
+reading-effect r src dst (Ok v) = after_judgement_at_rest (judged r src dst v) r src v
 reading-effect r src dst (Err fault) = r
 
 pub arrival-is : (s : State) (src dst : List ℕ) (reading : Result Content DecodeError) → IsAtRest s
@@ -147,5 +137,16 @@ arrival-is s src dst (Err fault) h = refl
 pub arrival-goes : (s : State) (src dst : List ℕ) (reading : Result Content DecodeError) → IsAtRest s
     → Goes (after_reading s src dst reading) (reading-effect (resting s) src dst reading)
 arrival-goes s src dst (Ok v) h =
-    subst (λ j. Goes (after_judgement j s src v) (effect (judged (resting s) src dst v) (resting s) src v)) (sym (judgement-is s src dst v h)) (judged-follows s src dst v h)
+    subst (λ j. Goes (after_judgement j s src v) (after_judgement_at_rest (judged (resting s) src dst v) (resting s) src v)) (sym (judgement-is s src dst v h)) (judged-follows s src dst v h)
 arrival-goes s src dst (Err fault) h = stays s h
+
+-- and of the end of a record
+pub followed : (r : Resting) (src dst : List ℕ) (v : Content) → r.seq < 2 ^ 32
+    → after_judgement_at_rest (judgement (as_state r) src dst v) r src v ≡ resting (after_judgement (judgement (as_state r) src dst v) (as_state r) src v)
+followed r src dst v fits =
+    let s : State = as_state r in
+    let h : IsAtRest s = at-rest-of r fits in
+    let j : Judgement = judged (resting s) src dst v in
+    ap (λ j'. after_judgement_at_rest j' r src v) (judgement-is s src dst v h)
+    ∙ ap (λ r'. after_judgement_at_rest j r' src v) (sym (kept r fits))
+    ∙ sym (arrival-goes s src dst (Ok v) h).rests

@@ -5,14 +5,13 @@ use Rattle.std.proofs.lemmas.Bool.Decides.{nat_tests}
 use Rattle.tcp_numbers.specs.Position.{number, distance, is_before, near, natural_of, position_of}
 use Rattle.tcp_numbers.proofs.Positions.{position_of_later}
 use Rattle.tcp_wire.specs.Wire.{Content}
-use Rattle.tcp_conn.specs.declared.phase.Ending.TheVariants.{NotEnded}
 use Rattle.tcp_conn.specs.declared.phase.Phase.TheVariants as phases
 use Rattle.tcp_conn.specs.Arrival.{after_acked_text, after_fin, after_its_ack, after_its_text, after_news, after_own_fin, after_own_syn, after_taking, after_taking_shut, blocks_used, is_current, with_ack_owed_unless_closed, with_news}
 use Rattle.tcp_halves.specs.Marks.{after_block, after_blocks, marks_text}
 use Rattle.tcp_conn.specs.Judgement.{position_near}
 use Rattle.tcp_conn.specs.Phase.{is_closed}
-use Rattle.tcp_conn.specs.Rest.{Resting, as_state, phase_at_rest, resting}
-use Rattle.tcp_halves.specs.Sender.{acks_unsent, after_ack, after_window_update, is_fin_acked, is_newer, with_acked}
+use Rattle.tcp_conn.specs.Rest.{Resting, as_state, resting}
+use Rattle.tcp_halves.specs.Sender.{after_ack, after_window_update, is_fin_acked, is_newer, with_acked}
 use Rattle.tcp_halves.specs.Sender.{Sending}
 use Rattle.tcp_conn.specs.State.{State}
 use Rattle.tcp_conn.specs.Windows.{window_from}
@@ -36,9 +35,6 @@ unsent-number iss nxt w fits =
     let from : distance (number iss nxt) (w % 2 ^ 32) ≡ distance (number iss nxt) w = omega arith in
     ap (λ d. nat_lt nxt (natural_of (near nxt d))) same ∙ position_of_later iss nxt (w % 2 ^ 32) fits (omega arith)
     ∙ ap (λ d. nat_lt 0 d && nat_lt d (2 ^ 31)) from
-
-pub unsent : (r : Resting) (v : Content) → r.seq < 2 ^ 32 → acks_unsent (as_state r).sending (position_near (as_state r) v.ack) ≡ is_before r.seq v.ack
-unsent r v fits = unsent-number r.seq 0 v.ack fits ∙ ap (λ n. is_before n v.ack) (number-kept r.seq fits)
 
 -- AN ACKNOWLEDGEMENT IN TIME-WAIT changes nothing that the record keeps
 pub if-same : {A : Type 0} (b : Bool) (x : A) → (if b then x else x) ≡ x
@@ -147,10 +143,3 @@ taken-shut s v waits acked =
     ap (λ s'. resting (with_ack_owed_unless_closed s')) (its-ack s v waits acked)
     ∙ ap (λ b. record (resting (after_news s v)) { ack = b }) (ap (λ phase. (after_news s v).owed.ack || not (is_closed phase)) (news-phase s v ∙ waits) ∙ or-true (after_news s v).owed.ack)
     ∙ ap with-ack (news-rest s v)
-
--- and so it is of the record
-pub taken_at_rest : (r : Resting) (v : Content) → r.seq < 2 ^ 32 → r.ending ≡ NotEnded → resting (after_taking (as_state r) v) ≡ r
-taken_at_rest r v fits goes = taken (as_state r) v (ap phase_at_rest goes) refl ∙ kept r fits
-
-pub taken_shut_at_rest : (r : Resting) (v : Content) → r.seq < 2 ^ 32 → r.ending ≡ NotEnded → resting (after_taking_shut (as_state r) v) ≡ record r { ack = true }
-taken_shut_at_rest r v fits goes = taken-shut (as_state r) v (ap phase_at_rest goes) refl ∙ ap with-ack (kept r fits)

@@ -1,19 +1,22 @@
 -- A TIME-WAIT RECORD (RFC 9293, 3.3.2 and 3.10.7.4): what is kept of an end that only answers late segments, without the end
 -- and its buffers.
-use Rattle.std.specs.Prelude.{ℕ, ◌≡◌, ◌<◌, ◌^◌, Bool, true, not, ◌&&◌, ◌==◌, nat_le, List, [], ◌∷◌, length, Option, Some, Result}
+use Rattle.std.specs.Prelude.{ℕ, ◌≡◌, ◌<◌, ◌^◌, Bool, true, false, not, ◌&&◌, ◌==◌, nat_le, List, [], ◌∷◌, length, Option, Some, Result}
 use Rattle.tcp_wire.specs.Position.{number}
 use Rattle.tcp_numbers.specs.declared.addr.Addr.{Addr}
 use Rattle.tcp_reasm.specs.Reassembly.{max_capacity, window}
 use Rattle.tcp_halves.specs.declared.link.Peer.{Peer}
 use Rattle.tcp_halves.specs.declared.link.WaitingReset.{WaitingReset}
+use Rattle.tcp_wire.specs.Wire.{Content}
+use Rattle.tcp_conn.specs.declared.judgement.Judgement.{Judgement}
+use Rattle.tcp_conn.specs.declared.judgement.Judgement.TheVariants as judgements
 use Rattle.tcp_conn.specs.declared.outcome.Arrival.{Arrival}
 use Rattle.tcp_conn.specs.declared.outcome.CallError.{CallError}
 use Rattle.tcp_conn.specs.declared.phase.Ending.{Ending}
-use Rattle.tcp_conn.specs.declared.phase.Ending.TheVariants.{NotEnded}
+use Rattle.tcp_conn.specs.declared.phase.Ending.TheVariants.{NotEnded, Reset}
 use Rattle.tcp_conn.specs.declared.phase.Phase.{Phase}
 use Rattle.tcp_conn.specs.declared.phase.Phase.TheVariants.{Closed, TimeWait}
 use Rattle.tcp_conn.specs.declared.phase.Timer.{Timer}
-use Rattle.tcp_conn.specs.Arrival.{arrival_answer, after_arrival}
+use Rattle.tcp_conn.specs.Arrival.{arrival_answer, after_arrival, first_reset, reset_of_stray}
 use Rattle.tcp_conn.specs.AtOnce.{has_gap}
 use Rattle.tcp_conn.specs.Calls.{abort_answer, after_abort}
 use Rattle.tcp_halves.specs.Config.{default_config, max_shift}
@@ -102,6 +105,17 @@ as_state r = record {
   receiving = record (new_receiving r.window) { opened = true; next = r.next; finished = true };
   owed = record nothing_owed { ack = r.ack; reset = r.reset };
 }
+
+-- THE EFFECT OF A JUDGEMENT on the record: an end in TIME-WAIT meets no other that has one
+abbrev pub after_judgement_at_rest : Judgement → Resting → List ℕ → Content → Resting
+after_judgement_at_rest judgements.Stray r src v = record r { reset = first_reset r.reset (reset_of_stray src v) }
+after_judgement_at_rest judgements.PeerResets r src v = record r { ending = Reset; ack = false }
+after_judgement_at_rest judgements.Unacceptable r src v = record r { ack = true }
+after_judgement_at_rest judgements.ResetElsewhere r src v = record r { ack = true }
+after_judgement_at_rest judgements.SynInWindow r src v = record r { ack = true }
+after_judgement_at_rest judgements.AcksUnsent r src v = record r { ack = true }
+after_judgement_at_rest judgements.TakenShut r src v = record r { ack = true }
+after_judgement_at_rest other r src v = r
 
 -- AN EVENT of an end in TIME-WAIT: bytes arrive from an address at another, a timer expires, what is due is written into a
 -- buffer, the user aborts

@@ -9,10 +9,9 @@ ghost use Rattle.tcp_conn.specs.State.{IsWithin};
 
 use crate::due::Due;
 use crate::endpoint::Endpoint;
-use crate::forms::HEADER_LEN;
 use std::alloc::Allocator;
 use tcp_halves::Sent;
-use tcp_wire::Addr;
+use tcp_wire::{Addr, HEADER_LEN};
 
 /// The room that `emit` requires, in bytes: more than the longest segment that an end writes.
 pub const EMIT_ROOM: usize = 1520;

@@ -16,9 +16,6 @@ use std::alloc::Allocator;
 use tcp_halves::WaitingReset;
 use tcp_wire::{Flags, Header, Seq, TcpOption};
 
-/// The length in bytes of a segment without options and text (RFC 9293, 3.1).
-pub(crate) const HEADER_LEN: usize = 20;
-
 /// Appends the offer of a window shift, if there is one (RFC 7323, 2.2).
 fn push_scale(options: &mut ArrayVec<TcpOption<'_>, 6>, shift: Option<u8>)
     requires { length options.old.items ≤ 1 }

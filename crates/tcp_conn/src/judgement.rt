@@ -3,13 +3,16 @@ ghost use Rattle.std.specs.Prelude.{◌≡◌, ◌≤◌, ◌+◌};
 ghost use Rattle.tcp_wire.specs.Position.{number};
 ghost use Rattle.tcp_wire.specs.View.{raw_content};
 ghost use Rattle.tcp_wire.specs.Wire.{max_text_len};
-ghost use Rattle.tcp_conn.specs.Judgement.{acceptable_judgement, ack_judgement, acks_syn, answer_of, closed_judgement, count_numbers, is_foreign, judgement, listen_judgement, phase_judgement, position_near, present_judgement, syn_sent_judgement, unacceptable_judgement};
+ghost use Rattle.tcp_conn.specs.Judgement.{IsReadOf, acceptable_judgement, ack_judgement, acks_syn, answer_of, closed_judgement, count_numbers, is_foreign, judgement, listen_judgement, phase_judgement, position_near, present_judgement, syn_sent_judgement, unacceptable_judgement};
+ghost use Rattle.tcp_conn.specs.State.{State};
 
 use crate::endpoint::Endpoint;
 use crate::outcome::Arrival;
 use crate::phase::Phase;
 use crate::phases::{has_peer, is_syn_received};
+use crate::present::Present;
 use std::alloc::Allocator;
+use tcp_halves::is_acceptable;
 use tcp_wire::{Addr, RawSegment, Seq};
 
 /// Which rule applies to a segment that arrives (RFC 9293, 3.10.7): a case for each rule, also where two have the same
@@ -100,7 +103,7 @@ pub(crate) fn count_numbers(segment: &RawSegment<'_>) -> u32
 
 /// Arrival in CLOSED (RFC 9293, 3.10.7.1).
 #[tactic(auto, unfolding(crate::specs::Judgement::closed_judgement))]
-fn judge_closed(segment: &RawSegment<'_>) -> Judgement
+pub(crate) fn judge_closed(segment: &RawSegment<'_>) -> Judgement
     ensures { result ≡ closed_judgement (raw_content segment.now) }
 {
     if segment.header.flags.is_rst() {
@@ -123,6 +126,90 @@ fn judge_listen(segment: &RawSegment<'_>) -> Judgement
         Judgement::PeerOpens
     } else {
         Judgement::OpensNothing
+    }
+}
+
+/// Arrival at an end whose peer is known (RFC 9293, 3.10.7.4).
+#[inline(always)]
+#[tactic(auto, unfolding(crate::specs::Judgement::present_judgement))]
+pub(crate) fn judge_present(read: &Present, segment: &RawSegment<'_>) -> Judgement
+    ensures { (s : State) → IsReadOf read.now s → result ≡ present_judgement s (raw_content segment.now) }
+{
+    let count = count_numbers(segment);
+    if is_acceptable(read.rcv_nxt, read.rcv_wnd, segment.header.seq, count) {
+        judge_acceptable(read, segment)
+    } else {
+        judge_unacceptable(read, segment)
+    }
+}
+
+/// Reset check, SYN check, then the acknowledgement (RFC 9293, 3.10.7.4, second, fourth and fifth).
+#[inline(always)]
+#[tactic(auto, unfolding(crate::specs::Judgement::acceptable_judgement))]
+fn judge_acceptable(read: &Present, segment: &RawSegment<'_>) -> Judgement
+    ensures { (s : State) → IsReadOf read.now s → result ≡ acceptable_judgement s (raw_content segment.now) }
+{
+    if segment.header.flags.is_rst() {
+        return if segment.header.seq == read.rcv_nxt {
+            Judgement::PeerResets
+        } else {
+            Judgement::ResetElsewhere
+        };
+    }
+    if segment.header.flags.is_syn() {
+        return Judgement::SynInWindow;
+    }
+    if !segment.header.flags.is_ack() {
+        return Judgement::NoAck;
+    }
+    judge_ack(read, segment, Judgement::Taken, Judgement::HandshakeRefused)
+}
+
+/// Outside the window: at a zero window an acknowledgement is still taken (RFC 9293, 3.10.7.4, first).
+#[inline(always)]
+#[tactic(auto, unfolding(crate::specs::Judgement::unacceptable_judgement))]
+fn judge_unacceptable(read: &Present, segment: &RawSegment<'_>) -> Judgement
+    ensures { (s : State) → IsReadOf read.now s → result ≡ unacceptable_judgement s (raw_content segment.now) }
+{
+    if segment.header.flags.is_rst() {
+        return Judgement::ResetIgnored;
+    }
+    let shut = read.rcv_wnd == 0;
+    if shut && segment.header.flags.is_ack() && !segment.header.flags.is_syn() {
+        return judge_ack(
+            read,
+            segment,
+            Judgement::TakenShut,
+            Judgement::HandshakeRefusedShut,
+        );
+    }
+    Judgement::Unacceptable
+}
+
+/// The acknowledgement: of this end's SYN in SYN-RECEIVED, else of nothing that wasn't sent (RFC 9293, 3.10.7.4,
+/// fifth).
+#[inline(always)]
+#[tactic(auto, unfolding(crate::specs::Judgement::ack_judgement))]
+fn judge_ack(
+    read: &Present,
+    segment: &RawSegment<'_>,
+    good: Judgement,
+    refused: Judgement,
+) -> Judgement
+    ensures { (s : State) → IsReadOf read.now s → result ≡ ack_judgement s (raw_content segment.now) good refused }
+{
+    let position = segment.header.ack.position(read.isn, read.snd_una);
+    if read.is_syn_received {
+        return if position == read.snd_nxt {
+            good
+        } else {
+            refused
+        };
+    }
+    if position > read.snd_nxt {
+        Judgement::AcksUnsent
+    } else {
+        good
     }
 }
 
@@ -204,78 +291,24 @@ impl<A: Allocator> Endpoint<A> {
     }
 
     /// Arrival in any other phase (RFC 9293, 3.10.7.4).
-    #[tactic(auto, unfolding(crate::specs::Judgement::present_judgement))]
     fn judge_present(&self, segment: &RawSegment<'_>) -> Judgement
         ensures { result ≡ present_judgement self.now (raw_content segment.now) }
     {
-        let count = count_numbers(segment);
-        if self.receiver.is_acceptable(segment.header.seq, count) {
-            self.judge_acceptable(segment)
-        } else {
-            self.judge_unacceptable(segment)
-        }
+        judge_present(&self.present(), segment)
     }
 
-    /// Reset check, SYN check, then the acknowledgement (RFC 9293, 3.10.7.4, second, fourth and fifth).
-    #[tactic(auto, unfolding(crate::specs::Judgement::acceptable_judgement))]
-    fn judge_acceptable(&self, segment: &RawSegment<'_>) -> Judgement
-        ensures { result ≡ acceptable_judgement self.now (raw_content segment.now) }
+    /// What is read of it where its peer is known.
+    #[inline(always)]
+    fn present(&self) -> Present
+        ensures { IsReadOf result self.now }
     {
-        if segment.header.flags.is_rst() {
-            return if segment.header.seq == self.receiver.next {
-                Judgement::PeerResets
-            } else {
-                Judgement::ResetElsewhere
-            };
-        }
-        if segment.header.flags.is_syn() {
-            return Judgement::SynInWindow;
-        }
-        if !segment.header.flags.is_ack() {
-            return Judgement::NoAck;
-        }
-        self.judge_ack(segment, Judgement::Taken, Judgement::HandshakeRefused)
-    }
-
-    /// Outside the window: at a zero window an acknowledgement is still taken (RFC 9293, 3.10.7.4, first).
-    #[tactic(auto, unfolding(crate::specs::Judgement::unacceptable_judgement))]
-    fn judge_unacceptable(&self, segment: &RawSegment<'_>) -> Judgement
-        ensures { result ≡ unacceptable_judgement self.now (raw_content segment.now) }
-    {
-        if segment.header.flags.is_rst() {
-            return Judgement::ResetIgnored;
-        }
-        let shut = self.receiver.inbox.window() == 0;
-        if shut && segment.header.flags.is_ack() && !segment.header.flags.is_syn() {
-            return self.judge_ack(
-                segment,
-                Judgement::TakenShut,
-                Judgement::HandshakeRefusedShut,
-            );
-        }
-        Judgement::Unacceptable
-    }
-
-    /// The acknowledgement: of this end's SYN in SYN-RECEIVED, else of nothing that wasn't sent (RFC 9293, 3.10.7.4,
-    /// fifth).
-    #[tactic(auto, unfolding(crate::specs::Judgement::ack_judgement))]
-    fn judge_ack(&self, segment: &RawSegment<'_>, good: Judgement, refused: Judgement) -> Judgement
-        ensures { result ≡ ack_judgement self.now (raw_content segment.now) good refused }
-    {
-        if is_syn_received(self.phase) {
-            return if self.acks_syn(segment) {
-                good
-            } else {
-                refused
-            };
-        }
-        if self
-            .sender
-            .acks_unsent(self.position_near(segment.header.ack))
-        {
-            Judgement::AcksUnsent
-        } else {
-            good
+        Present {
+            rcv_nxt: self.receiver.next,
+            rcv_wnd: self.receiver.inbox.window(),
+            is_syn_received: is_syn_received(self.phase),
+            isn: self.config.isn,
+            snd_una: self.sender.una,
+            snd_nxt: self.sender.nxt,
         }
     }
 }

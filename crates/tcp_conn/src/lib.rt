@@ -42,6 +42,7 @@ mod partial;
 mod parts;
 mod phase;
 mod phases;
+mod present;
 mod rest;
 mod rest_fields;
 mod status;

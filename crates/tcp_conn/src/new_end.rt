@@ -1,9 +1,9 @@
-ghost use Rattle.std.specs.Prelude.{◌≡◌, ◌↔◌, ◌+◌, length, IfOk, OnOk};
-ghost use Rattle.tcp_halves.specs.Config.{HasBadCapacity, HasBadMss, HasBadShift, HasBadLimit, IsGoodConfig, IsConfig};
+ghost use Rattle.std.specs.Prelude.{◌≡◌, ◌+◌, length};
+ghost use Rattle.tcp_halves.specs.Config.{IsGoodConfig};
 ghost use Rattle.tcp_conn.specs.State.{IsWithin};
 ghost use Rattle.tcp_halves.specs.Sender.{new_sending};
 ghost use Rattle.tcp_halves.specs.Receiver.{new_receiving};
-ghost use Rattle.tcp_conn.specs.NewEnd.{new_end};
+ghost use Rattle.tcp_conn.specs.NewEnd.{MakesEnd, new_end};
 
 use crate::endpoint::Endpoint;
 use crate::fault::fault_of;
@@ -17,14 +17,7 @@ impl Endpoint {
     /// A new end: CLOSED, empty, with nothing pending (RFC 9293, 3.3.2). It allocates its two buffers now. An error for
     /// a `config` out of range, or where there is no memory.
     pub fn new(alloc: Global, config: Config) -> Result<Self, ConfigError>
-        ensures new { IfOk result (λ e. e ≡ new_end config) }
-        ensures bad_capacity { (result ≡ Err ConfigError.BadCapacity) ↔ HasBadCapacity config }
-        ensures bad_mss { (result ≡ Err ConfigError.BadMss) ↔ HasBadMss config }
-        ensures bad_shift { (result ≡ Err ConfigError.BadShift) ↔ HasBadShift config }
-        ensures bad_limit { (result ≡ Err ConfigError.BadLimit) ↔ HasBadLimit config }
-        ensures good { (result ≡ Err ConfigError.NoMemory) → IsGoodConfig config }
-        ensures made { OnOk result (IsConfig config) }
-        ensures within { IfOk result IsWithin }
+        ensures { MakesEnd config result }
     {
         Self::new_in(alloc, config)
     }
@@ -33,14 +26,7 @@ impl Endpoint {
 impl<A: Allocator + Copy> Endpoint<A> {
     /// A new end as of [`new`](Endpoint::new), with memory of this allocator.
     pub fn new_in(alloc: A, config: Config) -> Result<Self, ConfigError>
-        ensures new { IfOk result (λ e. e ≡ new_end config) }
-        ensures bad_capacity { (result ≡ Err ConfigError.BadCapacity) ↔ HasBadCapacity config }
-        ensures bad_mss { (result ≡ Err ConfigError.BadMss) ↔ HasBadMss config }
-        ensures bad_shift { (result ≡ Err ConfigError.BadShift) ↔ HasBadShift config }
-        ensures bad_limit { (result ≡ Err ConfigError.BadLimit) ↔ HasBadLimit config }
-        ensures good { (result ≡ Err ConfigError.NoMemory) → IsGoodConfig config }
-        ensures made { OnOk result (IsConfig config) }
-        ensures within { IfOk result IsWithin }
+        ensures { MakesEnd config result }
     {
         Self::new_of(alloc, alloc, config)
     }
@@ -50,14 +36,7 @@ impl<A: Allocator> Endpoint<A> {
     /// A new end as of [`new`](Endpoint::new), where each buffer has an allocator of its own: `send` for the bytes that
     /// are kept for the peer, `recv` for those kept for the user.
     pub fn new_of(send: A, recv: A, config: Config) -> Result<Self, ConfigError>
-        ensures new { IfOk result (λ e. e ≡ new_end config) }
-        ensures bad_capacity { (result ≡ Err ConfigError.BadCapacity) ↔ HasBadCapacity config }
-        ensures bad_mss { (result ≡ Err ConfigError.BadMss) ↔ HasBadMss config }
-        ensures bad_shift { (result ≡ Err ConfigError.BadShift) ↔ HasBadShift config }
-        ensures bad_limit { (result ≡ Err ConfigError.BadLimit) ↔ HasBadLimit config }
-        ensures good { (result ≡ Err ConfigError.NoMemory) → IsGoodConfig config }
-        ensures made { OnOk result (IsConfig config) }
-        ensures within { IfOk result IsWithin }
+        ensures { MakesEnd config result }
     {
         let Addr(_in_range) = config.addr;
         if let Some(fault) = fault_of(&config) {

@@ -5,27 +5,27 @@ ghost use Rattle.tcp_wire.specs.View.{content_of, raw_content};
 ghost use Rattle.tcp_wire.specs.Wire.{IsValid};
 ghost use Rattle.tcp_conn.specs.declared.due.Due.TheVariants.{Acknowledgement};
 ghost use Rattle.tcp_conn.specs.declared.phase.Ending.TheVariants.{NotEnded};
-ghost use Rattle.tcp_conn.specs.Arrival.{after_arrival, after_judgement, arrival_answer};
+ghost use Rattle.tcp_conn.specs.Arrival.{after_arrival, arrival_answer, first_reset};
 ghost use Rattle.tcp_conn.specs.Calls.{abort_answer, after_abort};
 ghost use Rattle.tcp_conn.specs.Emission.{after_emission, buffer_after, destination, pending_length};
 ghost use Rattle.tcp_conn.specs.Forms.{plain_segment};
-ghost use Rattle.tcp_conn.specs.Judgement.{acceptable_judgement, answer_of, closed_judgement, is_foreign, position_near, present_judgement, unacceptable_judgement};
-ghost use Rattle.tcp_conn.specs.Rest.{as_state, can_rest, phase_at_rest, resting};
-ghost use Rattle.tcp_halves.specs.Sender.{acks_unsent};
+ghost use Rattle.tcp_conn.specs.Judgement.{IsReadOf, is_foreign, judgement};
+ghost use Rattle.tcp_conn.specs.Rest.{after_judgement_at_rest, as_state, can_rest, phase_at_rest, resting};
 ghost use Rattle.tcp_conn.specs.Timers.{after_timer, timer_answer};
 ghost use Rattle.tcp_conn.specs.Windows.{window_field};
 
 use crate::arrival::reset_of_stray;
 use crate::endpoint::Endpoint;
 use crate::forms::reset_from;
-use crate::judgement::count_numbers;
+use crate::judgement::{Judgement, judge_closed, judge_present};
 use crate::outcome::{Arrival, CallError};
 use crate::phase::{Ending, Phase, Timer};
 use crate::phases::{is_ended, is_time_wait};
+use crate::present::Present;
 use crate::windows::MAX_WINDOW;
 use std::alloc::Allocator;
 use std::marker::Model;
-use tcp_halves::{Peer, WaitingReset, is_acceptable};
+use tcp_halves::{Peer, WaitingReset};
 use tcp_wire::{Addr, Flags, Header, RawSegment, Seq, write_around};
 
 /// The length in bytes of each segment that a [`Rest`] emits.
@@ -126,25 +126,35 @@ impl Rest {
     }
 
     /// Takes bytes that came from `src` to `dst`, whatever they are, as the end would (RFC 9293, 3.10.7).
-    #[tactic(auto, using(crate::proofs::Rests::kept), unfolding(crate::specs::Arrival::arrival_answer, crate::specs::Arrival::after_arrival, crate::specs::Judgement::judgement, crate::specs::Judgement::phase_judgement))]
+    #[tactic(auto, using(crate::proofs::Rests::kept, crate::proofs::RestArrival::followed), unfolding(crate::specs::Arrival::arrival_answer, crate::specs::Arrival::after_arrival))]
     pub fn arrive(&mut self, src: Addr, dst: Addr, bytes: &[u8]) -> Arrival
         ensures answer { result ≡ arrival_answer (as_state self.old) src.0 dst.0 bytes.now }
         ensures state { self.new ≡ resting (after_arrival (as_state self.old) src.0 dst.0 bytes.now) }
     {
         // So that the proof knows the invariant of the record.
         let _ = &self.seq;
-        let segment = match RawSegment::parse(src, dst, bytes) {
-            Ok(segment) => segment,
-            Err(fault) => return Arrival::Malformed(fault),
-        };
-        if self.is_foreign(src, dst, &segment) {
-            return Arrival::NotMine;
+        match RawSegment::parse(src, dst, bytes) {
+            Ok(segment) => {
+                let judgement = self.judge(src, dst, &segment);
+                self.follow(judgement, src, &segment);
+                judgement.answer()
+            }
+            Err(fault) => Arrival::Malformed(fault),
+        }
+    }
+
+    /// Which rule applies to a segment that came from `src` to `dst`.
+    #[tactic(auto, unfolding(crate::specs::Judgement::judgement, crate::specs::Judgement::phase_judgement))]
+    fn judge(&self, src: Addr, dst: Addr, segment: &RawSegment<'_>) -> Judgement
+        ensures { result ≡ judgement (as_state self.now) src.0 dst.0 (raw_content segment.now) }
+    {
+        if self.is_foreign(src, dst, segment) {
+            return Judgement::Foreign;
         }
         if is_ended(self.ending) {
-            self.arrive_closed(src, &segment)
-        } else {
-            self.arrive_in_time_wait(src, &segment)
+            return judge_closed(segment);
         }
+        judge_present(&self.present(), segment)
     }
 
     /// Whether the segment is for another end, or, in TIME-WAIT, from another source than the peer (RFC 9293, 3.10.7).
@@ -157,86 +167,44 @@ impl Rest {
         for_other || !is_ended(self.ending) && from_other
     }
 
-    /// Arrival in CLOSED (RFC 9293, 3.10.7.1).
-    #[tactic(auto, unfolding(crate::specs::Judgement::closed_judgement))]
-    fn arrive_closed(&mut self, src: Addr, segment: &RawSegment<'_>) -> Arrival
-        ensures answer { result ≡ answer_of (closed_judgement (raw_content segment.now)) }
-        ensures state { self.new ≡ resting (after_judgement (closed_judgement (raw_content segment.now)) (as_state self.old) src.0 (raw_content segment.now)) }
+    /// What is read of it in TIME-WAIT: positions count from SND.NXT.
+    fn present(&self) -> Present
+        requires { self.now.ending ≡ NotEnded }
+        ensures { IsReadOf result (as_state self.now) }
     {
-        if !segment.header.flags.is_rst() && self.reset.is_none() {
-            self.reset = Some(reset_of_stray(src, segment));
-        }
-        Arrival::Dropped
-    }
-
-    /// Arrival in TIME-WAIT (RFC 9293, 3.10.7.4).
-    #[tactic(auto, unfolding(crate::specs::Judgement::present_judgement))]
-    fn arrive_in_time_wait(&mut self, src: Addr, segment: &RawSegment<'_>) -> Arrival
-        requires { self.old.ending ≡ NotEnded }
-        ensures answer { result ≡ answer_of (present_judgement (as_state self.old) (raw_content segment.now)) }
-        ensures state { self.new ≡ resting (after_judgement (present_judgement (as_state self.old) (raw_content segment.now)) (as_state self.old) src.0 (raw_content segment.now)) }
-    {
-        let count = count_numbers(segment);
-        if is_acceptable(self.next, self.window, segment.header.seq, count) {
-            self.take_acceptable(src, segment)
-        } else {
-            self.take_unacceptable(src, segment)
+        Present {
+            rcv_nxt: self.next,
+            rcv_wnd: self.window,
+            is_syn_received: false,
+            isn: self.seq,
+            snd_una: 0,
+            snd_nxt: 0,
         }
     }
 
-    /// Reset check, SYN check, then the acknowledgement, which changes nothing (RFC 9293, 3.10.7.4, second, fourth and
-    /// fifth).
-    #[tactic(auto, using(crate::proofs::Rests::kept, crate::proofs::Rests::taken_at_rest), unfolding(crate::specs::Judgement::acceptable_judgement, crate::specs::Judgement::ack_judgement))]
-    fn take_acceptable(&mut self, src: Addr, segment: &RawSegment<'_>) -> Arrival
-        requires { self.old.ending ≡ NotEnded }
-        ensures answer { result ≡ answer_of (acceptable_judgement (as_state self.old) (raw_content segment.now)) }
-        ensures state { self.new ≡ resting (after_judgement (acceptable_judgement (as_state self.old) (raw_content segment.now)) (as_state self.old) src.0 (raw_content segment.now)) }
+    /// The effect of a judgement. An acknowledgement that is taken changes nothing.
+    fn follow(&mut self, judgement: Judgement, src: Addr, segment: &RawSegment<'_>)
+        ensures { self.new ≡ after_judgement_at_rest judgement self.old src.0 (raw_content segment.now) }
     {
-        let flags = segment.header.flags;
-        if flags.is_rst() && segment.header.seq == self.next {
-            self.end_by(Ending::Reset);
-            return Arrival::Processed;
+        match judgement {
+            Judgement::Stray => self.record_reset(reset_of_stray(src, segment)),
+            Judgement::PeerResets => self.end_by(Ending::Reset),
+            Judgement::Unacceptable
+            | Judgement::ResetElsewhere
+            | Judgement::SynInWindow
+            | Judgement::AcksUnsent
+            | Judgement::TakenShut => self.ack = true,
+            _ => {}
         }
-        if flags.is_rst() || flags.is_syn() {
-            self.ack = true;
-            return Arrival::Dropped;
-        }
-        if !flags.is_ack() {
-            return Arrival::Dropped;
-        }
-        if self.acks_unsent(segment) {
-            self.ack = true;
-            return Arrival::Dropped;
-        }
-        Arrival::Processed
     }
 
-    /// Outside the window, as a retransmitted FIN is: an acknowledgement answers it (RFC 9293, 3.10.7.4, first).
-    #[tactic(auto, using(crate::proofs::Rests::kept, crate::proofs::Rests::taken_shut_at_rest), unfolding(crate::specs::Judgement::unacceptable_judgement, crate::specs::Judgement::ack_judgement))]
-    fn take_unacceptable(&mut self, src: Addr, segment: &RawSegment<'_>) -> Arrival
-        requires { self.old.ending ≡ NotEnded }
-        ensures answer { result ≡ answer_of (unacceptable_judgement (as_state self.old) (raw_content segment.now)) }
-        ensures state { self.new ≡ resting (after_judgement (unacceptable_judgement (as_state self.old) (raw_content segment.now)) (as_state self.old) src.0 (raw_content segment.now)) }
+    /// A reset waits, unless one does already (RFC 9293, 3.10.7.1).
+    fn record_reset(&mut self, reset: WaitingReset)
+        ensures { self.new ≡ record self.old { reset = first_reset self.old.reset reset } }
     {
-        // So that the proof knows the invariant of the record.
-        let _ = &self.seq;
-        let flags = segment.header.flags;
-        if flags.is_rst() {
-            return Arrival::Dropped;
+        if self.reset.is_none() {
+            self.reset = Some(reset);
         }
-        self.ack = true;
-        let counts = self.window == 0 && flags.is_ack() && !flags.is_syn();
-        if counts && !self.acks_unsent(segment) {
-            return Arrival::Processed;
-        }
-        Arrival::Dropped
-    }
-
-    /// Whether it acknowledges what wasn't sent.
-    fn acks_unsent(&self, segment: &RawSegment<'_>) -> bool
-        ensures { result ≡ acks_unsent (as_state self.now).sending (position_near (as_state self.now) (raw_content segment.now).ack) }
-    {
-        self.seq.before(segment.header.ack)
     }
 
     /// The connection ends, and nothing is pending but a waiting reset.

@@ -13,11 +13,10 @@ use crate::blocks::sack_options;
 use crate::due::Due;
 use crate::emission::EMIT_ROOM;
 use crate::endpoint::Endpoint;
-use crate::forms::HEADER_LEN;
 use crate::parts::HEADER_ROOM;
 use std::alloc::Allocator;
 use tcp_halves::WaitingReset;
-use tcp_wire::{Addr, TcpOption, write_around};
+use tcp_wire::{Addr, HEADER_LEN, TcpOption, write_around};
 
 impl<A: Allocator> Endpoint<A> {
     /// Each of its numbers fits its field of a segment. It does nothing when it runs: callers learn the fact.

@@ -1,5 +1,6 @@
 -- Options and padding: what is read has this spelling, what is spelled is read, and each fault is the first.
 use Rattle.std.proofs.Common.{◌≡◌, ◌≢◌, ℕ, zero, suc, ◌+◌, ◌-◌, ◌<◌, ◌≤◌, true, false, eqb, List, [], ◌∷◌, ◌++◌, length, drop, get_or, replicate, Option, Some, None, Result, Ok, Err, refl, sym, ap, subst, ◌∙◌, ◌⊎◌, inl, inr, length-append, append_assoc, arith}
+use Rattle.std.specs.Prelude.{Bool, ◌==◌, if◌then◌else◌, IsOk}
 use Rattle.std.proofs.lemmas.Bool.Decides.{nat_tests}
 use Rattle.std.proofs.lemmas.List.{length-replicate, append-nil, drop_more, drop_all}
 use Rattle.tcp_wire.specs.declared.fault.DecodeError.{DecodeError}
@@ -204,6 +205,13 @@ unfolding options_in
 options_in_none zero place rest none = refl
 options_in_none (suc n) place rest none = rw none refl
 
+-- an option in front, and those after it
+pub options_in_some : (n place : ℕ) (bytes behind : List ℕ) (o : OptionContent) → option_at bytes ≡ Some (o, behind)
+    → options_in (suc n) place bytes ≡ with_first o (options_in n (place + length (spelling o)) behind)
+unfolding options_in
+options_in_some n place bytes behind o found =
+    ap (λ (r : Option (OptionContent × List ℕ)). with_option r (padding_at place bytes) (λ x. with_first x.0 (options_in n (place + length (spelling x.0)) x.1))) found
+
 none_at_zeros : (n : ℕ) (rest : List ℕ) → option_at (replicate {A = ℕ} (suc n) 0 ++ rest) ≡ None
 unfolding option_at
 none_at_zeros n rest = refl
@@ -308,6 +316,23 @@ padding_ok place [] all = refl
 padding_ok place (zero ∷ rest) all = rw (is_same (count_zeros (zero ∷ rest)) (length (zero ∷ rest)) all) refl
 padding_ok place (suc b ∷ rest) all = absurd (omega arith)
 
+-- what can be read where no further option is spelled is zeros
+if_read : (all : Bool) (x : List OptionContent × ℕ) (e : DecodeError) → IsOk (if all then Ok x else Err e) → (if all then Ok x else Err e) ≡ Ok x
+if_read true x e read = refl
+if_read false x e read = absurd cc
+
+pub is_padding : (place : ℕ) (bytes : List ℕ) → IsOk (padding_at place bytes) → padding_at place bytes ≡ Ok ([], length bytes)
+unfolding padding_at
+is_padding place [] read = refl
+is_padding place (zero ∷ rest) read =
+    if_read (count_zeros (zero ∷ rest) == length (zero ∷ rest)) ([], length (zero ∷ rest)) (BadPadding (place + count_zeros (zero ∷ rest))) read
+is_padding place (suc b ∷ rest) read = absurd cc
+
+pub read_behind : (os : List OptionContent) (read : Read) → IsOk (with_all os read) → IsOk read
+unfolding with_all
+read_behind os (Ok read) ok = refl
+read_behind os (Err e) ok = ok
+
 pub padding_option : (place : ℕ) (bytes : List ℕ) → 0 < length bytes → count_zeros bytes ≡ 0 → padding_at place bytes ≡ Err (BadOption place)
 unfolding padding_at
 padding_option place [] some none = absurd (omega arith)
@@ -323,9 +348,8 @@ padding_fault place i (suc b ∷ rest) is some short = absurd (omega arith)
 -- what was read and what is still to be read, one option on
 pub options_more : (n start : ℕ) (os : List OptionContent) (o : OptionContent) (bytes behind : List ℕ) (total : Result (List OptionContent × ℕ) DecodeError)
     → option_at bytes ≡ Some (o, behind) → with_all os (options_in (suc n) start bytes) ≡ total → with_all (os ++ o ∷ []) (options_in n (start + length (spelling o)) behind) ≡ total
-unfolding options_in
 options_more n start os o bytes behind total found before =
-    sym (with_all-push os o (options_in n (start + length (spelling o)) behind)) ∙ sym (ap (λ (r : Option (OptionContent × List ℕ)). with_all os (with_option r (padding_at start bytes) (λ x. with_first x.0 (options_in n (start + length (spelling x.0)) x.1)))) found) ∙ before
+    sym (with_all-push os o (options_in n (start + length (spelling o)) behind)) ∙ sym (ap (with_all os) (options_in_some n start bytes behind o found)) ∙ before
 
 -- and at the end
 pub options_end : (n start : ℕ) (os : List OptionContent) (bytes : List ℕ) (total : Result (List OptionContent × ℕ) DecodeError)
@@ -336,11 +360,6 @@ pub options_padded : (start pad : ℕ) (os : List OptionContent) (bytes : List �
     → with_all os (padding_at start bytes) ≡ total → padding_at start bytes ≡ Ok ([], pad) → total ≡ Ok (os, pad)
 unfolding with_all
 options_padded start pad os bytes total before pads = sym before ∙ ap (with_all os) pads ∙ ap (λ (xs : List OptionContent). Ok (xs, pad)) (append-nil os)
-
-pub options_failed : (start : ℕ) (e : DecodeError) (os : List OptionContent) (bytes : List ℕ) (total : Result (List OptionContent × ℕ) DecodeError)
-    → with_all os (padding_at start bytes) ≡ total → padding_at start bytes ≡ Err e → total ≡ Err e
-unfolding with_all
-options_failed start e os bytes total before fails = sym before ∙ ap (with_all os) fails
 
 pub zeros_done : (bytes : List ℕ) (i : ℕ) → length bytes ≤ i → i ≤ length bytes → i + count_zeros (drop i bytes) ≡ count_zeros bytes → count_zeros bytes ≡ length bytes
 zeros_done bytes i past within before = omega (arith, before, ap count_zeros (drop_all i bytes past))

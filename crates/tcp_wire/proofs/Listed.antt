@@ -1,80 +1,73 @@
 -- Options one by one.
-use Rattle.std.specs.Prelude.{Bool, true, false, if◌then◌else◌, ◌==◌}
+use Rattle.std.specs.Prelude.{Bool, true, false, if◌then◌else◌, ◌==◌, IsOk, is_ok}
+use Rattle.std.specs.Result.{result_unwrap_or}
 use Rattle.std.proofs.Common.{◌≡◌, ℕ, zero, suc, ◌+◌, ◌≤◌, List, [], ◌∷◌, length, Option, Some, None, Result, Ok, Err, refl, sym, ap, ◌∙◌, arith}
 use Rattle.tcp_wire.specs.declared.fault.DecodeError.{DecodeError}
 use Rattle.tcp_wire.specs.declared.fault.DecodeError.TheVariants.{BadPadding}
 use Rattle.tcp_wire.specs.Options.{OptionContent, spelling}
-use Rattle.tcp_wire.specs.Decoded.{with_option, option_at, count_zeros, padding_at, with_first, options_in}
-use Rattle.tcp_wire.specs.Listed.{first_options}
-use Rattle.tcp_wire.specs.View.{listed_or_none, options_of}
+use Rattle.tcp_wire.specs.Decoded.{option_at, count_zeros, padding_at, with_first, options_in, options_of, IsReadable}
 use Rattle.tcp_wire.proofs.OptionLaws.{option_length, spelling_length}
-use Rattle.tcp_wire.proofs.AreaLaws.{options_in_none}
+use Rattle.tcp_wire.proofs.AreaLaws.{is_padding, options_in_none, options_in_some}
 
--- no option is in front
-pub first_none : (n : ℕ) (bytes : List ℕ) → option_at bytes ≡ None → first_options n bytes ≡ []
-unfolding first_options
-first_none zero bytes none = refl
-first_none (suc n) bytes none = rw none refl
-
-first_some : (n : ℕ) (bytes behind : List ℕ) (o : OptionContent) → option_at bytes ≡ Some (o, behind) → first_options (suc n) bytes ≡ o ∷ first_options n behind
-unfolding first_options
-first_some n bytes behind o found =
-    ap (λ (r : Option (OptionContent × List ℕ)). with_option r [] (λ x. x.0 ∷ first_options n x.1)) found
-
--- one more changes nothing where there is one for each byte
-enough : (n : ℕ) (bytes : List ℕ) (first : Option (OptionContent × List ℕ)) → option_at bytes ≡ first → length bytes ≤ n → first_options (suc n) bytes ≡ first_options n bytes
-enough n bytes None found few = first_none (suc n) bytes found ∙ sym (first_none n bytes found)
-enough zero bytes (Some (o, behind)) found few = absurd (omega (arith, option_length bytes o behind found, spelling_length o))
-enough (suc n) bytes (Some (o, behind)) found few =
-    first_some (suc n) bytes behind o found
-    ∙ ap (λ (os : List OptionContent). o ∷ os) (enough n behind (option_at behind) refl (omega (arith, option_length bytes o behind found, spelling_length o)))
-    ∙ sym (first_some n bytes behind o found)
-
--- an option, and those after it
-pub first_more : (n : ℕ) (bytes behind : List ℕ) (o : OptionContent) → length bytes ≤ suc n → option_at bytes ≡ Some (o, behind)
-    → first_options (suc n) bytes ≡ o ∷ first_options (suc n) behind
-first_more n bytes behind o few found =
-    first_some n bytes behind o found
-    ∙ ap (λ (os : List OptionContent). o ∷ os) (sym (enough n behind (option_at behind) refl (omega (arith, option_length bytes o behind found, spelling_length o))))
-
--- where an area can be read, they are its options
 abbrev Read : Type 0
 Read = List OptionContent × ℕ
 
-no_first : (all : Bool) (count : ℕ) (e : DecodeError) (read : Read) → (if all then Ok ([], count) else Err e) ≡ Ok read → read.0 ≡ []
-no_first true count e read is = cc
-no_first false count e read is = absurd cc
+-- what can be read begins anywhere, and may have more options than it has bytes
+if_elsewhere : (all : Bool) (x : Read) (e f : DecodeError) (read : Read) → (if all then Ok x else Err e) ≡ Ok read → (if all then Ok x else Err f) ≡ Ok read
+if_elsewhere true x e f read is = cc
+if_elsewhere false x e f read is = absurd cc
 
-padding_none : (place : ℕ) (bytes : List ℕ) (read : Read) → padding_at place bytes ≡ Ok read → read.0 ≡ []
+padding_elsewhere : (place other : ℕ) (bytes : List ℕ) (read : Read) → padding_at place bytes ≡ Ok read → padding_at other bytes ≡ Ok read
 unfolding padding_at
-padding_none place [] read is = cc
-padding_none place (zero ∷ rest) read is = no_first (count_zeros (zero ∷ rest) == length (zero ∷ rest)) (length (zero ∷ rest)) (BadPadding (place + count_zeros (zero ∷ rest))) read is
-padding_none place (suc b ∷ rest) read is = absurd cc
+padding_elsewhere place other [] read is = is
+padding_elsewhere place other (zero ∷ rest) read is =
+    let zeros = count_zeros (zero ∷ rest) in
+    if_elsewhere (zeros == length (zero ∷ rest)) ([], length (zero ∷ rest)) (BadPadding (place + zeros)) (BadPadding (other + zeros)) read is
+padding_elsewhere place other (suc b ∷ rest) read is = absurd cc
 
-rest_read : (o : OptionContent) (options : List OptionContent) (behind : Result Read DecodeError) (read : Read)
-    → ((r : Read) → behind ≡ Ok r → options ≡ r.0) → with_first o behind ≡ Ok read → o ∷ options ≡ read.0
-rest_read o options (Ok r) read same is = let here = same r refl in cc
-rest_read o options (Err e) read same is = absurd cc
+first_elsewhere : (o : OptionContent) (here there : Result Read DecodeError) (read : Read) → ((r : Read) → here ≡ Ok r → there ≡ Ok r)
+    → with_first o here ≡ Ok read → with_first o there ≡ Ok read
+first_elsewhere o (Ok r) there read same is = ap (with_first o) (same r refl) ∙ is
+first_elsewhere o (Err e) there read same is = absurd cc
 
-pub first_read : (n place : ℕ) (bytes : List ℕ) (first : Option (OptionContent × List ℕ)) (read : Read) → option_at bytes ≡ first → options_in n place bytes ≡ Ok read
-    → first_options n bytes ≡ read.0
-unfolding options_in first_options
-first_read zero place bytes first read found is = sym (padding_none place bytes read is)
-first_read (suc n) place bytes None read found is =
-    first_none (suc n) bytes found ∙ sym (padding_none place bytes read (sym (options_in_none (suc n) place bytes found) ∙ is))
-first_read (suc n) place bytes (Some (o, behind)) read found is =
-    let inner : Result Read DecodeError = options_in n (place + length (spelling o)) behind in
-    let step : options_in (suc n) place bytes ≡ with_first o inner =
-    ap (λ (r : Option (OptionContent × List ℕ)). with_option r (padding_at place bytes) (λ x. with_first x.0 (options_in n (place + length (spelling x.0)) x.1))) found in
-    first_some n bytes behind o found
-    ∙ rest_read o (first_options n behind) inner read (λ r e. first_read n (place + length (spelling o)) behind (option_at behind) r refl e) (sym step ∙ is)
+read_elsewhere : (n m place other : ℕ) (bytes : List ℕ) (first : Option (OptionContent × List ℕ)) (read : Read) → option_at bytes ≡ first → length bytes ≤ n → length bytes ≤ m
+    → options_in n place bytes ≡ Ok read → options_in m other bytes ≡ Ok read
+read_elsewhere n m place other bytes None read found few enough is =
+    options_in_none m other bytes found ∙ padding_elsewhere place other bytes read (sym (options_in_none n place bytes found) ∙ is)
+read_elsewhere zero m place other bytes (Some (o, behind)) read found few enough is = absurd (omega (arith, few, option_length bytes o behind found, spelling_length o))
+read_elsewhere (suc n) zero place other bytes (Some (o, behind)) read found few enough is = absurd (omega (arith, enough, option_length bytes o behind found, spelling_length o))
+read_elsewhere (suc n) (suc m) place other bytes (Some (o, behind)) read found few enough is =
+    let len = option_length bytes o behind found in
+    let least = spelling_length o in
+    let here : Result Read DecodeError = options_in n (place + length (spelling o)) behind in
+    let there : Result Read DecodeError = options_in m (other + length (spelling o)) behind in
+    options_in_some m other bytes behind o found
+    ∙ first_elsewhere o here there read
+    (λ r e. read_elsewhere n m (place + length (spelling o)) (other + length (spelling o)) behind (option_at behind) r refl (omega (arith, few, len, least)) (omega (arith, enough, len, least)) e)
+    (sym (options_in_some n place bytes behind o found) ∙ is)
 
--- the options that are listed of an area that can be read
-pub first_listed : (area : List ℕ) → options_in 40 20 area ≡ Ok (listed_or_none (options_in 40 20 area)) → first_options 40 area ≡ (options_of area).0
-first_listed area is = first_read 40 20 area (option_at area) (listed_or_none (options_in 40 20 area)) refl is
+-- an area that begins with no option has none
+pub none_left : (bytes : List ℕ) → IsReadable bytes → option_at bytes ≡ None → (options_of bytes).0 ≡ []
+none_left bytes reads none =
+    let padding = options_in_none 40 20 bytes none in
+    ap (λ (r : Result Read DecodeError). (result_unwrap_or r ([], 0)).0) (padding ∙ is_padding 20 bytes (ap is_ok (sym padding) ∙ reads))
 
--- and none of one that can't
-pub none_listed : (area none : List ℕ) (e : DecodeError) → none ≡ [] → options_in 40 20 area ≡ Err e → first_options 40 none ≡ (options_of area).0
-unfolding first_options option_at
-none_listed area none e empty is =
-    ap (first_options 40) empty ∙ sym (ap (λ (read : Result Read DecodeError). (listed_or_none read).0) is)
+-- after its first option comes an area that can be read, with the other options
+first_and_others : (o : OptionContent) (area inner behind : Result Read DecodeError) → area ≡ with_first o inner → ((r : Read) → inner ≡ Ok r → behind ≡ Ok r) → IsOk area
+    → IsOk behind × ((result_unwrap_or area ([], 0)).0 ≡ o ∷ (result_unwrap_or behind ([], 0)).0)
+first_and_others o area (Ok r) behind is same reads =
+    let there = same r refl in (
+      ap is_ok there,
+      ap (λ (read : Result Read DecodeError). (result_unwrap_or read ([], 0)).0) is
+          ∙ ap (λ (read : Result Read DecodeError). o ∷ (result_unwrap_or read ([], 0)).0) (sym there),
+    )
+first_and_others o area (Err e) behind is same reads = let no : false ≡ true = sym (ap is_ok is) ∙ reads in absurd cc
+
+pub first_left : (bytes behind : List ℕ) (o : OptionContent) → length bytes ≤ 40 → IsReadable bytes → option_at bytes ≡ Some (o, behind)
+    → IsReadable behind × ((options_of bytes).0 ≡ o ∷ (options_of behind).0)
+first_left bytes behind o few reads found =
+    let len = option_length bytes o behind found in
+    let least = spelling_length o in
+    first_and_others o (options_in 40 20 bytes) (options_in 39 (20 + length (spelling o)) behind) (options_in 40 20 behind) (options_in_some 39 20 bytes behind o found)
+    (λ r e. read_elsewhere 39 40 (20 + length (spelling o)) 20 behind (option_at behind) r refl (omega (arith, few, len, least)) (omega (arith, few, len, least)) e)
+    reads

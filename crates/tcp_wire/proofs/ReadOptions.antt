@@ -1,16 +1,17 @@
 -- Options, read one after another.
-use Rattle.std.specs.Prelude.{option_map, Bool, true, false, ◌||◌}
+use Rattle.std.specs.Prelude.{Bool, true, false, ◌||◌, if◌then◌else◌, IsOk, is_ok}
+use Rattle.std.specs.Result.{result_unwrap_or}
 use Rattle.std.proofs.lemmas.Bool.{le-ltb}
 use Rattle.std.proofs.lemmas.Bool.Decides.{nat_tests}
-use Rattle.std.proofs.Common.{◌≡◌, ℕ, zero, suc, ◌+◌, ◌-◌, ◌<◌, ◌≤◌, ◌⊎◌, inl, inr, ltb, get_or, List, [], ◌∷◌, ◌++◌, length, map, drop, Option, Some, None, Result, Ok, Err, MatchResult, refl, sym, ap, subst, ◌∙◌, add-zero, arith}
-use Rattle.std.proofs.lemmas.List.{map_push, length-append, length-drop}
+use Rattle.std.proofs.Common.{◌≡◌, ℕ, zero, suc, ◌+◌, ◌-◌, ◌<◌, ◌≤◌, ◌⊎◌, inl, inr, ltb, eqb, get_or, List, [], ◌∷◌, ◌++◌, length, map, take, drop, Some, None, Result, Ok, Err, MatchResult, refl, sym, ap, subst, ◌∙◌, add-zero, arith}
+use Rattle.std.proofs.lemmas.List.{map_push, length-append, length-take, length-drop}
 use Rattle.tcp_wire.specs.declared.fault.DecodeError.{DecodeError}
 use Rattle.tcp_wire.specs.declared.option.TcpOption.{TcpOption}
-use Rattle.tcp_wire.specs.Options.{OptionContent, spelling, spellings}
-use Rattle.tcp_wire.specs.Decoded.{with_option, option_at, padding_at, with_first, options_in}
-use Rattle.tcp_wire.specs.View.{option_content, listed_or_none, BodyIs, BodiesLie}
-use Rattle.tcp_wire.proofs.OptionLaws.{option_length, spelling_length, spellings_push}
-use Rattle.tcp_wire.proofs.AreaLaws.{with_all, with_all-nil, options_in_none, options_more, options_end, options_padded, options_failed}
+use Rattle.tcp_wire.specs.Options.{OptionContent, Nop, spelling, spellings}
+use Rattle.tcp_wire.specs.Decoded.{option_of, first_option, option_at, padding_at, with_first, options_in, options_of, IsReadable}
+use Rattle.tcp_wire.specs.View.{option_content, BodyIs, BodiesLie}
+use Rattle.tcp_wire.proofs.OptionLaws.{option_length, option_of_length, spelling_length, spellings_push}
+use Rattle.tcp_wire.proofs.AreaLaws.{with_all, with_all-nil, is_padding, read_behind, options_in_none, options_in_some, options_more, options_end, options_padded}
 
 -- what was read and what is still to be read give the whole, and there is room for an option a byte
 abbrev pub OptionsRead : List TcpOption → List ℕ → List ℕ → Type 0
@@ -50,17 +51,20 @@ options_step options pushed o rest behind area small found pushed_is before =
       omega arith,
     )
 
-pub options_done : (options : List TcpOption) (rest area : List ℕ) (pad : ℕ) → option_at rest ≡ None → OptionsRead options rest area
-    → padding_at (20 + (length area - length rest)) rest ≡ Ok ([], pad) → options_in 40 20 area ≡ Ok (map option_content options, pad)
-options_done options rest area pad none before pads =
+pub options_done : (options : List TcpOption) (rest area : List ℕ) → option_at rest ≡ None → OptionsRead options rest area → IsReadable area
+    → options_in 40 20 area ≡ Ok (map option_content options, length rest)
+options_done options rest area none before reads =
     let place : ℕ = 20 + (length area - length rest) in
-    options_padded place pad (map option_content options) rest (options_in 40 20 area) (options_end (40 - length options) place (map option_content options) rest (options_in 40 20 area) none before.0) pads
+    let os = map option_content options in
+    let end = options_end (40 - length options) place os rest (options_in 40 20 area) none before.0 in
+    options_padded place (length rest) os rest (options_in 40 20 area) end
+    (is_padding place rest (read_behind os (padding_at place rest) (ap is_ok end ∙ reads)))
 
-pub options_fault : (options : List TcpOption) (rest area : List ℕ) (e : DecodeError) → option_at rest ≡ None → OptionsRead options rest area
-    → padding_at (20 + (length area - length rest)) rest ≡ Err e → options_in 40 20 area ≡ Err e
-options_fault options rest area e none before fails =
-    let place : ℕ = 20 + (length area - length rest) in
-    options_failed place e (map option_content options) rest (options_in 40 20 area) (options_end (40 - length options) place (map option_content options) rest (options_in 40 20 area) none before.0) fails
+-- so its options were listed, and as many zeros are left
+pub listed_all : (options : List TcpOption) (rest area : List ℕ) → option_at rest ≡ None → OptionsRead options rest area → IsReadable area
+    → (map option_content options, length rest) ≡ options_of area
+listed_all options rest area none before reads =
+    sym (ap (λ (r : Result (List OptionContent × ℕ) DecodeError). result_unwrap_or r ([], 0)) (options_done options rest area none before reads))
 
 -- ---- where the bodies lie
 
@@ -106,40 +110,41 @@ checked_end n at bytes none = options_in_none n at bytes none
 
 pub checked_more : (n at : ℕ) (bytes behind : List ℕ) (o : OptionContent) → 1 ≤ n → option_at bytes ≡ Some (o, behind)
     → options_in n at bytes ≡ with_first o (options_in (n - 1) (at + (length bytes - length behind)) behind)
-unfolding options_in
 checked_more n at bytes behind o some found =
     let count : n ≡ suc (n - 1) = omega arith in
     let len = option_length bytes o behind found in
     let place : at + length (spelling o) ≡ at + (length bytes - length behind) = omega (arith, len) in
     ap (λ (k : ℕ). options_in k at bytes) count
-    ∙ ap (λ (r : Option (OptionContent × List ℕ)). with_option r (padding_at at bytes) (λ x. with_first x.0 (options_in (n - 1) (at + length (spelling x.0)) x.1))) found
+    ∙ options_in_some (n - 1) at bytes behind o found
     ∙ ap (λ (p : ℕ). with_first o (options_in (n - 1) p behind)) place
 
 -- a check of these options and what comes after them
 abbrev pub Checks : {A : Type 0} → Result A DecodeError → Result (List OptionContent × ℕ) DecodeError → Type 0
-Checks r listed = MatchResult r (λ u. listed ≡ Ok (listed_or_none listed)) (λ e. listed ≡ Err e)
+Checks r read = MatchResult r (λ u. IsOk read) (λ e. read ≡ Err e)
 
 pub checked_first : {A : Type 0} (r : Result A DecodeError) (o : OptionContent) (inner outer : Result (List OptionContent × ℕ) DecodeError) → outer ≡ with_first o inner
     → Checks r inner → Checks r outer
-checked_first (Ok u) o (Ok listed) outer is inside = is ∙ sym (ap (λ (r : Result (List OptionContent × ℕ) DecodeError). Ok (listed_or_none r)) is)
+checked_first (Ok u) o (Ok read) outer is inside = ap is_ok is
 checked_first (Ok u) o (Err e) outer is inside = absurd cc
 checked_first (Err e) o inner outer is fails = is ∙ ap (with_first o) fails
 
-pub checked_padding : {A : Type 0} (r : Result A DecodeError) (n at : ℕ) (bytes : List ℕ) → (n ≡ 0) ⊎ (option_at bytes ≡ None)
-    → Checks r (padding_at at bytes) → Checks r (options_in n at bytes)
-checked_padding r zero at bytes ended checks = subst (Checks r) (sym (checked_none at bytes)) checks
-checked_padding r (suc n) at bytes (inl none) checks = absurd (omega (arith, none))
-checked_padding r (suc n) at bytes (inr none) checks = subst (Checks r) (sym (checked_end (suc n) at bytes none)) checks
+zeros_checked : {A : Type 0} (r : Result A DecodeError) (read : Result (List OptionContent × ℕ) DecodeError) (pad : ℕ)
+    → MatchResult r (λ u. read ≡ Ok ([], pad)) (λ e. read ≡ Err e) → Checks r read
+zeros_checked (Ok u) read pad zeros = ap is_ok zeros
+zeros_checked (Err e) read pad fails = fails
 
-pub checked_behind : {A : Type 0} (r : Result A DecodeError) (n at len : ℕ) (bytes behind : List ℕ) (first : Option (OptionContent × List ℕ)) → 1 ≤ n → len ≤ length bytes
-    → option_at bytes ≡ first → option_map (λ (found : OptionContent × List ℕ). found.1) first ≡ Some (drop len bytes) → behind ≡ drop len bytes
-    → Checks r (options_in (n - 1) (at + len) behind) → Checks r (options_in n at bytes)
-checked_behind r n at len bytes behind None some inside found rest is checked = absurd cc
-checked_behind r n at len bytes behind (Some (o, tail)) some inside found rest is checked =
-    let same : tail ≡ behind = cc in
+pub checked_padding : {A : Type 0} (r : Result A DecodeError) (n at : ℕ) (bytes : List ℕ) → (n ≡ 0) ⊎ (option_at bytes ≡ None)
+    → MatchResult r (λ u. padding_at at bytes ≡ Ok ([], length bytes)) (λ e. padding_at at bytes ≡ Err e) → Checks r (options_in n at bytes)
+checked_padding r zero at bytes ended zeros = subst (Checks r) (sym (checked_none at bytes)) (zeros_checked r (padding_at at bytes) (length bytes) zeros)
+checked_padding r (suc n) at bytes (inl none) zeros = absurd (omega (arith, none))
+checked_padding r (suc n) at bytes (inr none) zeros = subst (Checks r) (sym (options_in_none (suc n) at bytes none)) (zeros_checked r (padding_at at bytes) (length bytes) zeros)
+
+pub checked_behind : {A : Type 0} (r : Result A DecodeError) (n at len : ℕ) (bytes behind : List ℕ) (o : OptionContent) → 1 ≤ n → len ≤ length bytes
+    → option_at bytes ≡ Some (o, drop len bytes) → behind ≡ drop len bytes → Checks r (options_in (n - 1) (at + len) behind) → Checks r (options_in n at bytes)
+checked_behind r n at len bytes behind o some inside found is checked =
     let place : at + (length bytes - length behind) ≡ at + len = omega (arith, ap length is, length-drop len bytes) in
     checked_first r o (options_in (n - 1) (at + len) behind) (options_in n at bytes)
-    (checked_more n at bytes behind o some (found ∙ ap (λ (xs : List ℕ). Some (o, xs)) same)
+    (checked_more n at bytes behind o some (found ∙ ap (λ (xs : List ℕ). Some (o, xs)) (sym is))
     ∙ ap (λ (k : ℕ). with_first o (options_in (n - 1) k behind)) place)
     checked
 
@@ -164,7 +169,7 @@ no_first (zero ∷ rest) none = refl
 no_first (suc k ∷ rest) (inl none) = absurd (omega (arith, none))
 no_first (suc k ∷ rest) (inr none) = absurd (omega (arith, none))
 
-pub nop_first : (bytes : List ℕ) → get_or bytes 0 0 ≡ 1 → option_map (λ (found : OptionContent × List ℕ). found.1) (option_at bytes) ≡ Some (drop 1 bytes)
+pub nop_first : (bytes : List ℕ) → get_or bytes 0 0 ≡ 1 → option_at bytes ≡ Some (first_option 1 bytes, drop 1 bytes)
 unfolding option_at
 nop_first [] one = absurd (omega (arith, one))
 nop_first (zero ∷ rest) one = absurd (omega (arith, one))
@@ -186,7 +191,7 @@ short_first (suc (suc k) ∷ len ∷ rest) other (inr (inr past)) =
     rw (beyond, or_true (ltb len 2)) refl
 
 pub long_first : (bytes : List ℕ) → (get_or bytes 0 0 ≡ 0 → ⊥) → (get_or bytes 0 0 ≡ 1 → ⊥) → 2 ≤ get_or bytes 1 0 → 2 ≤ length bytes → get_or bytes 1 0 ≤ length bytes
-    → option_map (λ (found : OptionContent × List ℕ). found.1) (option_at bytes) ≡ Some (drop (get_or bytes 1 0) bytes)
+    → option_at bytes ≡ Some (first_option (get_or bytes 1 0) bytes, drop (get_or bytes 1 0) bytes)
 unfolding option_at
 long_first [] zero' one least two inside = absurd (omega (arith, two))
 long_first (zero ∷ rest) zero' one least two inside = absurd (zero' refl)
@@ -195,5 +200,16 @@ long_first (suc (suc k) ∷ []) zero' one least two inside = absurd (omega (arit
 long_first (suc (suc k) ∷ len ∷ rest) zero' one least two inside =
     let enough : ltb len 2 ≡ false = le-ltb _ _ least in
     let within : ltb (length rest + 2) len ≡ false = le-ltb _ _ (omega (arith, inside)) in
+    let more : eqb len 1 ≡ false = grind (arith, nat_tests, least) in
     let behind : drop len (suc (suc k) ∷ len ∷ rest) ≡ drop (len - 2) rest = drop-two len (suc (suc k)) rest least in
-    rw (enough, within) (ap (λ (xs : List ℕ). Some xs) (sym behind))
+    rw (enough, within, more) (ap (λ (xs : List ℕ). Some (option_of (suc (suc k)) (take (len - 2) rest), xs)) (sym behind))
+
+-- and it is what it spells
+spelled_as : (single : Bool) (len : ℕ) (bytes : List ℕ) → (single ≡ true → len ≡ 1) → (single ≡ false → 2 ≤ len) → len ≤ length bytes
+    → length (spelling (if single then Nop else option_of (get_or bytes 0 0) (take (len - 2) (drop 2 bytes)))) ≡ len
+spelled_as true len bytes one more inside = sym (one refl)
+spelled_as false len bytes one more inside =
+    option_of_length (get_or bytes 0 0) (take (len - 2) (drop 2 bytes)) ∙ omega (arith, more refl, inside, length-take (len - 2) (drop 2 bytes), length-drop 2 bytes)
+
+pub spelled_first : (len : ℕ) (bytes : List ℕ) → 1 ≤ len → len ≤ length bytes → length (spelling (first_option len bytes)) ≡ len
+spelled_first len bytes least inside = spelled_as (eqb len 1) len bytes (λ e. grind (arith, nat_tests, e)) (λ e. grind (arith, nat_tests, e, least)) inside

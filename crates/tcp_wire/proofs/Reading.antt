@@ -1,5 +1,7 @@
 -- The function `decoded` against the grammar and the first fault.
 use Rattle.std.proofs.Common.{◌≡◌, ℕ, ◌+◌, ◌-◌, ◌*◌, ◌%◌, ◌<◌, ◌≤◌, Bool, true, false, cond, ltb, eqb, ◌||◌, List, [], ◌++◌, length, take, drop, replicate, Result, Ok, Err, refl, sym, ap, ◌∙◌, ◌⊎◌, inl, inr, length-append, arith}
+use Rattle.std.specs.Prelude.{IsOk}
+use Rattle.std.specs.Result.{result_unwrap_or}
 use Rattle.std.proofs.lemmas.List.{take_at, drop_at, drop-drop, length-take, length-drop, take-append-drop}
 use Rattle.std.proofs.lemmas.Bool.{ltb-false, le-ltb}
 use Rattle.std.proofs.lemmas.Bool.Decides.{nat_tests}
@@ -8,9 +10,8 @@ use Rattle.tcp_wire.specs.declared.fault.DecodeError.TheVariants.{TooShort, TooL
 use Rattle.tcp_numbers.specs.Checksum.{AreBytes, segment_sum, Checks, DiffersInOnePlace}
 use Rattle.tcp_wire.specs.Options.{OptionContent, spellings}
 use Rattle.tcp_wire.specs.Wire.{Content, HasHeader, IsWire, data_offset, option_bytes, option_area}
-use Rattle.tcp_wire.specs.View.{listed_or_none, options_of}
 use Rattle.tcp_wire.specs.Fault.{FirstFault, IsSized, HasOffset}
-use Rattle.tcp_wire.specs.Decoded.{content_at, option_at, padding_at, options_in, with_options, layout_of, decode_answer}
+use Rattle.tcp_wire.specs.Decoded.{content_at, option_at, padding_at, options_in, options_of, IsReadable, with_options, layout_of, decode_answer}
 use Rattle.tcp_wire.proofs.Bytes.{bytes_take, bytes_drop}
 use Rattle.tcp_wire.proofs.AreaLaws.{Describes, options_described, options_complete, bad_option_read, bad_padding_read}
 use Rattle.tcp_numbers.proofs.Lemmas.{one_place, same_length}
@@ -158,7 +159,15 @@ unfolding options_in option_at padding_at
 no_options = refl
 
 pub no_area : (area : List ℕ) → area ≡ [] → (options_of area).0 ≡ []
-no_area area none = ap (λ (bytes : List ℕ). (options_of bytes).0) none ∙ ap (λ (read : Result (List OptionContent × ℕ) DecodeError). (listed_or_none read).0) no_options
+no_area area none = ap (λ (bytes : List ℕ). (options_of bytes).0) none ∙ ap (λ (read : Result (List OptionContent × ℕ) DecodeError). (result_unwrap_or read ([], 0)).0) no_options
+
+-- what can be read is what is read
+ok_read : (read : Result (List OptionContent × ℕ) DecodeError) → IsOk read → read ≡ Ok (result_unwrap_or read ([], 0))
+ok_read (Ok read) ok = refl
+ok_read (Err e) ok = absurd cc
+
+pub readable : (area : List ℕ) → IsReadable area → options_in 40 20 area ≡ Ok (options_of area)
+readable area reads = ok_read (options_in 40 20 area) reads
 
 pub complete : (src dst : List ℕ) (v : Content) (bytes : List ℕ) → IsWire src dst v bytes → decode_answer src dst bytes ≡ Ok v
 complete src dst v bytes w =

@@ -1,5 +1,6 @@
 -- Reading a segment from its bytes, as a function (RFC 9293, 3.1).
-use Rattle.std.specs.Prelude.{ℕ, zero, suc, ◌+◌, ◌-◌, ◌*◌, ◌/◌, ◌%◌, ◌==◌, ◌||◌, nat_lt, if◌then◌else◌, List, [], ◌∷◌, length, take, drop, slice_index, Option, Some, None, Result, Ok, Err}
+use Rattle.std.specs.Prelude.{ℕ, zero, suc, ◌+◌, ◌-◌, ◌*◌, ◌/◌, ◌%◌, ◌==◌, ◌||◌, nat_lt, if◌then◌else◌, List, [], ◌∷◌, length, take, drop, slice_index, Option, Some, None, Result, Ok, Err, IsOk}
+use Rattle.std.specs.Result.{result_unwrap_or}
 use Rattle.byteorder.specs.Endian.{big_from}
 use Rattle.tcp_wire.specs.declared.fault.DecodeError.{DecodeError}
 use Rattle.tcp_wire.specs.declared.fault.DecodeError.TheVariants.{TooShort, TooLong, BadChecksum, BadOffset, BadOption, BadPadding}
@@ -46,6 +47,11 @@ abbrev pub option_of : ℕ → List ℕ → OptionContent
 option_of kind body =
     if has_own_length kind (length body + 2) then known_option kind body else Unknown kind body
 
+-- the option that is spelled by this many of these bytes, from the first on
+abbrev pub first_option : ℕ → List ℕ → OptionContent
+first_option len bytes =
+    if len == 1 then Nop else option_of (slice_index bytes 0) (take (len - 2) (drop 2 bytes))
+
 -- the option whose spelling begins these bytes, and the bytes after it
 unfoldable pub option_at : List ℕ → Option (OptionContent × List ℕ)
 option_at [] = None
@@ -81,6 +87,14 @@ options_in zero place bytes = padding_at place bytes
 options_in (suc n) place bytes =
     with_option (option_at bytes) (padding_at place bytes)
     (λ found. with_first found.0 (options_in n (place + length (spelling found.0)) found.1))
+
+-- an area, which follows the fixed header, can be read: it has options, and zeros alone after them
+abbrev pub IsReadable : List ℕ → Type 0
+IsReadable area = IsOk (options_in 40 header_len area)
+
+-- the options in such an area, and the count of zeros after them
+abbrev pub options_of : List ℕ → List OptionContent × ℕ
+options_of area = result_unwrap_or (options_in 40 header_len area) ([], 0)
 
 abbrev pub with_options : List ℕ → Result (List OptionContent × ℕ) DecodeError → Result Content DecodeError
 with_options bytes (Ok read) = Ok (content_at bytes read.0 read.1)

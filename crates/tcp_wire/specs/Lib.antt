@@ -7,7 +7,6 @@ pub mod Options
 pub mod Wire
 pub mod Fault
 pub mod Decoded
-pub mod Listed
 pub mod View
 pub mod Vouched
 pub mod Partial

@@ -1,15 +1,14 @@
 -- The content of a segment in the code (RFC 9293, 3.1).
-use Rattle.std.specs.Prelude.{◌≡◌, ℕ, ◌+◌, List, [], ◌∷◌, length, map, take, drop, Result, Ok, Err}
+use Rattle.std.specs.Prelude.{◌≡◌, ℕ, ◌+◌, List, [], ◌∷◌, length, map, take, drop}
 use Rattle.tcp_numbers.specs.declared.seq.Seq.{Seq}
 use Rattle.tcp_wire.specs.declared.option.TcpOption.{TcpOption}
 use Rattle.tcp_wire.specs.declared.option.TcpOption.TheVariants as code
 use Rattle.tcp_wire.specs.declared.segment.Segment.{Segment}
 use Rattle.tcp_wire.specs.declared.header.Header.{Header}
 use Rattle.tcp_wire.specs.declared.raw.RawSegment.{RawSegment}
-use Rattle.tcp_wire.specs.declared.fault.DecodeError.{DecodeError}
 use Rattle.tcp_wire.specs.Options.{OptionContent, Nop, Mss, WindowScale, SackPermitted, Sack, Unknown, spelling}
 use Rattle.tcp_wire.specs.Wire.{Content, header_len, area_bytes}
-use Rattle.tcp_wire.specs.Decoded.{options_in}
+use Rattle.tcp_wire.specs.Decoded.{options_of}
 
 -- a block as its two numbers
 abbrev pub block : Seq × Seq → ℕ × ℕ
@@ -41,15 +40,6 @@ content_of header options pad text = record {
 
 abbrev pub content : Segment → Content
 content segment = content_of segment.header (map option_content segment.options.items) segment.pad segment.text.now
-
--- what was read of an area; no options and no zeros where it can't be read
-abbrev pub listed_or_none : Result (List OptionContent × ℕ) DecodeError → List OptionContent × ℕ
-listed_or_none (Ok listed) = listed
-listed_or_none (Err e) = ([], 0)
-
--- the options in the area after the fixed header and the count of zeros after them (RFC 9293, 3.1)
-abbrev pub options_of : List ℕ → List OptionContent × ℕ
-options_of area = listed_or_none (options_in 40 header_len area)
 
 -- the content of a segment whose options are in its area
 abbrev pub raw_content : RawSegment → Content

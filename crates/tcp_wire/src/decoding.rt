@@ -3,8 +3,8 @@ ghost use Rattle.tcp_wire.specs.declared.fault.DecodeError.{DecodeError};
 ghost use Rattle.tcp_numbers.specs.Checksum.{DiffersInOnePlace};
 ghost use Rattle.tcp_wire.specs.Wire.{Content, IsWire, header_len, max_len, max_text_len, data_offset, option_area};
 ghost use Rattle.tcp_wire.specs.Fault.{FirstFault};
-ghost use Rattle.tcp_wire.specs.Decoded.{decode_answer, content_at, layout_of};
-ghost use Rattle.tcp_wire.specs.View.{content, raw_content, options_of, BodiesLie};
+ghost use Rattle.tcp_wire.specs.Decoded.{decode_answer, content_at, layout_of, options_of, IsReadable};
+ghost use Rattle.tcp_wire.specs.View.{content, raw_content, BodiesLie};
 
 use crate::fault::DecodeError;
 use crate::header::Header;
@@ -21,6 +21,7 @@ fn fields_of(bytes: &[u8], offset: usize) -> RawSegment<'_>
     requires inside { offset ≤ length bytes.now }
     requires most { length bytes.now ≤ max_len }
     requires offset { offset ≡ 4 * data_offset bytes.now }
+    requires reads { IsReadable (option_area bytes.now) }
     ensures value { raw_content result ≡ content_at bytes.now (options_of (option_area bytes.now)).0 (options_of (option_area bytes.now)).1 }
     ensures area { result.area.now ≡ option_area bytes.now }
     ensures place { result.text.ref_ptr ≡ (bytes.entry.ref_ptr.0, bytes.entry.ref_ptr.1 + offset) }
@@ -44,7 +45,7 @@ fn fields_of(bytes: &[u8], offset: usize) -> RawSegment<'_>
 
 /// The content of the bytes, whose length and checksum are right.
 #[inline(always)]
-#[tactic(auto, using(crate::proofs::Reading::no_options), unfolding(crate::specs::Decoded::layout_of))]
+#[tactic(auto, using(crate::proofs::Reading::no_options, crate::proofs::Reading::readable), unfolding(crate::specs::Decoded::layout_of))]
 pub(crate) fn lay_out(bytes: &[u8]) -> Result<RawSegment<'_>, DecodeError>
     requires least { header_len ≤ length bytes.now }
     requires most { length bytes.now ≤ max_len }

@@ -35,5 +35,5 @@ pub use option::TcpOption;
 pub use options_left::OptionsLeft;
 pub use partial::write_around_partial;
 pub use raw::RawSegment;
-pub use segment::Segment;
+pub use segment::{HEADER_LEN, Segment};
 pub use tcp_numbers::{Addr, Flags, Seq, checks, checksum, laws, word_sum};

@@ -17,26 +17,27 @@ impl<'a> Model for OptionsLeft<'a> {
     ghost use Rattle.std.specs.Prelude.{◌≤◌, List, length};
     ghost use Rattle.tcp_wire.specs.Options.{OptionContent};
     ghost use Rattle.tcp_wire.specs.Wire.{max_area_len};
-    ghost use Rattle.tcp_wire.specs.Listed.{first_options};
+    ghost use Rattle.tcp_wire.specs.Decoded.{IsReadable, options_of};
 
     ghost Value = { List OptionContent };
 
-    ghost view = { λ o. first_options max_area_len o.rest.now };
+    ghost view = { λ o. (options_of o.rest.now).0 };
 
-    ghost invariant = { λ o. length o.rest.now ≤ max_area_len };
+    ghost invariant = { λ o. (length o.rest.now ≤ max_area_len) × IsReadable o.rest.now };
 }
 
 impl<'a> OptionsLeft<'a> {
     ghost use Rattle.std.specs.Prelude.{◌≤◌, length};
     ghost use Rattle.tcp_wire.specs.Wire.{max_area_len};
-    ghost use Rattle.tcp_wire.specs.Listed.{first_options};
+    ghost use Rattle.tcp_wire.specs.Decoded.{IsReadable, options_of};
 
-    /// The options that are spelled one after another from the first of these bytes on.
-    pub(crate) fn of(bytes: &'a [u8]) -> Self
-        requires { length bytes.now ≤ max_area_len }
-        ensures { result ≡ first_options max_area_len bytes.now }
+    /// The options of this area.
+    pub(crate) fn of(area: &'a [u8]) -> Self
+        requires fits { length area.now ≤ max_area_len }
+        requires reads { IsReadable area.now }
+        ensures { result ≡ (options_of area.now).0 }
     {
-        OptionsLeft { rest: bytes }
+        OptionsLeft { rest: area }
     }
 
     /// Takes the next option; `None` where all were taken.

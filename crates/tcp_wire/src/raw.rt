@@ -1,11 +1,12 @@
 ghost use Rattle.std.specs.Prelude.{◌≡◌, ◌≤◌, length};
 ghost use Rattle.tcp_wire.specs.Wire.{max_area_len, max_text_len};
+ghost use Rattle.tcp_wire.specs.Decoded.{IsReadable};
 
 use crate::header::Header;
 use crate::option::TcpOption;
-use crate::option_reading::{check_options, read_options};
+use crate::option_reading::read_options;
 use crate::options_left::OptionsLeft;
-use crate::segment::{HEADER_LEN, MAX_OPTIONS, Segment};
+use crate::segment::Segment;
 use arrayvec::ArrayVec;
 
 /// A segment as it arrived (RFC 9293, 3.1): its header by value, its options and its text as slices of what arrived. It
@@ -19,12 +20,14 @@ pub struct RawSegment<'a> {
     /// The data that it carries.
     pub text: &'a [u8],
     pub ghost area_fits: { length area.now ≤ max_area_len },
+    pub ghost area_reads: { IsReadable area.now },
     pub ghost text_fits: { length text.now ≤ max_text_len },
 }
 
 impl<'a> RawSegment<'a> {
     ghost use Rattle.std.specs.Prelude.{◌↔◌, false, [], map};
-    ghost use Rattle.tcp_wire.specs.View.{option_content, content, raw_content, options_of, BodiesLie};
+    ghost use Rattle.tcp_wire.specs.Decoded.{options_of};
+    ghost use Rattle.tcp_wire.specs.View.{option_content, content, raw_content, BodiesLie};
 
     /// Whether there are bytes between the fixed header and the text; where there are none, there are no options.
     #[inline(always)]
@@ -35,35 +38,19 @@ impl<'a> RawSegment<'a> {
         !self.area.is_empty()
     }
 
-    /// The options in their order, and the count of zeros after them.
-    fn list(&self) -> (ArrayVec<TcpOption<'a>, 40>, u8)
-        ensures options { map option_content result.0.items ≡ (options_of self.now.area.now).0 }
-        ensures pad { result.1 ≡ (options_of self.now.area.now).1 }
-        ensures bodies { BodiesLie self.now.area.ref_ptr result.0.items }
-    {
-        match read_options(self.area) {
-            Ok(listed) => listed,
-            Err(_) => (ArrayVec::new(), 0),
-        }
-    }
-
-    /// The options in their order; none where the area can't be read.
+    /// The options in their order.
     pub fn options(&self) -> ArrayVec<TcpOption<'a>, 40>
         ensures items { map option_content result.items ≡ (raw_content self.now).options }
         ensures bodies { BodiesLie self.now.area.ref_ptr result.items }
     {
-        self.list().0
+        read_options(self.area).0
     }
 
-    /// The options one by one, without a list; none where the area can't be read.
-    #[tactic(auto, using(crate::proofs::Listed::first_listed, crate::proofs::Listed::none_listed))]
+    /// The options one by one, without a list.
     pub fn options_left(&self) -> OptionsLeft<'a>
         ensures { result ≡ (raw_content self.now).options }
     {
-        match check_options(self.area, HEADER_LEN, MAX_OPTIONS) {
-            Ok(()) => OptionsLeft::of(self.area),
-            Err(_) => OptionsLeft::of(&[]),
-        }
+        OptionsLeft::of(self.area)
     }
 
     /// The segment with its options listed.
@@ -78,7 +65,7 @@ impl<'a> RawSegment<'a> {
         if !self.has_area() {
             return self.with_options(ArrayVec::new(), 0);
         }
-        let (options, pad) = self.list();
+        let (options, pad) = read_options(self.area);
         self.with_options(options, pad)
     }
 

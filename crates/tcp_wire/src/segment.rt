@@ -8,8 +8,8 @@ use crate::header::Header;
 use crate::option::TcpOption;
 use arrayvec::ArrayVec;
 
-/// The length in bytes of the fixed header.
-pub(crate) const HEADER_LEN: usize = 20;
+/// The length in bytes of the fixed header (RFC 9293, 3.1).
+pub const HEADER_LEN: usize = 20;
 /// The most options of a segment: one for each byte of their area.
 pub(crate) const MAX_OPTIONS: usize = 40;
 /// The length in bytes of the longest segment: what an IPv4 packet carries after its own header.

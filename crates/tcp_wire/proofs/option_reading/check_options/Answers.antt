@@ -1,7 +1,7 @@
-use Rattle.std.proofs.Common.{refl, arith, inl, inr}
+use Rattle.std.proofs.Common.{arith, inl, inr}
 use Rattle.std.proofs.lemmas.Grind.{common_steps}
 use Rattle.std.proofs.lemmas.List.{take_rest}
-use Rattle.tcp_wire.specs.Decoded.{option_at}
+use Rattle.tcp_wire.specs.Decoded.{first_option}
 use Rattle.tcp_wire.proofs.ReadOptions.{checked_behind, checked_padding}
 use Rattle.tcp_wire.proofs.option_reading.check_options.Goals.{else-loop-left-test, then-loop-left-test+in_default}
 use Rattle.tcp_wire.proofs.option_reading.check_options.Goals as goal
@@ -13,7 +13,7 @@ loop-left-preserved c =
       grind (arith, common_steps),
       λ r checks.
           c.loop-left.invariant.2 r (checked_behind r c.loop-left.left c.loop-left.at c.in-Some.len c.loop-left.rest.now _
-          (option_at c.loop-left.rest.now) (omega (arith, c.loop-left-test.true)) c.in-Some.ensures.inside refl c.in-Some.ensures.value behind checks),
+          (first_option c.in-Some.len c.loop-left.rest.now) (omega (arith, c.loop-left-test.true)) c.in-Some.ensures.inside c.in-Some.ensures.value behind checks),
     )
 
 pub returns : goal.returns

@@ -1,6 +1,9 @@
-use Rattle.std.proofs.Common.{◌∙◌}
-use Rattle.tcp_wire.proofs.Listed.{first_listed}
+use Rattle.std.proofs.Common.{arith}
+use Rattle.std.proofs.lemmas.Grind.{common_steps}
 use Rattle.tcp_wire.proofs.raw.RawSegment.options_left.Goals as goal
 
-pub returns-in-Ok : goal.returns-in-Ok
-returns-in-Ok c = c.of.ensures ∙ first_listed c.args.self.now.area.now c.in-Ok.ensures
+pub of-requires-clause-reads : goal.of-requires-clause-reads
+of-requires-clause-reads c = grind (arith, common_steps)
+
+pub returns : goal.returns
+returns c = grind (arith, common_steps)

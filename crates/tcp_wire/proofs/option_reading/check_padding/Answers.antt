@@ -1,6 +1,6 @@
 use Rattle.std.proofs.Common.{◌∙◌, arith}
 use Rattle.tcp_wire.proofs.AreaLaws.{zeros_end, zeros_done, padding_ok, padding_option, padding_fault}
-use Rattle.tcp_wire.proofs.option_reading.read_padding.Goals as goal
+use Rattle.tcp_wire.proofs.option_reading.check_padding.Goals as goal
 
 pub returns-then-i-eq0 : goal.returns-then-i-eq0
 returns-then-i-eq0 c =
