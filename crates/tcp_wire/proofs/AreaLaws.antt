@@ -210,7 +210,8 @@ pub options_in_some : (n place : ℕ) (bytes behind : List ℕ) (o : OptionConte
     → options_in (suc n) place bytes ≡ with_first o (options_in n (place + length (spelling o)) behind)
 unfolding options_in
 options_in_some n place bytes behind o found =
-    ap (λ (r : Option (OptionContent × List ℕ)). with_option r (padding_at place bytes) (λ x. with_first x.0 (options_in n (place + length (spelling x.0)) x.1))) found
+    ap (λ (r : Option (OptionContent × List ℕ)).
+    with_option r (padding_at place bytes) (λ x. with_first x.0 (options_in n (place + length (spelling x.0)) x.1))) found
 
 none_at_zeros : (n : ℕ) (rest : List ℕ) → option_at (replicate {A = ℕ} (suc n) 0 ++ rest) ≡ None
 unfolding option_at
@@ -349,7 +350,8 @@ padding_fault place i (suc b ∷ rest) is some short = absurd (omega arith)
 pub options_more : (n start : ℕ) (os : List OptionContent) (o : OptionContent) (bytes behind : List ℕ) (total : Result (List OptionContent × ℕ) DecodeError)
     → option_at bytes ≡ Some (o, behind) → with_all os (options_in (suc n) start bytes) ≡ total → with_all (os ++ o ∷ []) (options_in n (start + length (spelling o)) behind) ≡ total
 options_more n start os o bytes behind total found before =
-    sym (with_all-push os o (options_in n (start + length (spelling o)) behind)) ∙ sym (ap (with_all os) (options_in_some n start bytes behind o found)) ∙ before
+    sym (with_all-push os o (options_in n (start + length (spelling o)) behind))
+    ∙ sym (ap (with_all os) (options_in_some n start bytes behind o found)) ∙ before
 
 -- and at the end
 pub options_end : (n start : ℕ) (os : List OptionContent) (bytes : List ℕ) (total : Result (List OptionContent × ℕ) DecodeError)

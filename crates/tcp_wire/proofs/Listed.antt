@@ -30,12 +30,14 @@ first_elsewhere : (o : OptionContent) (here there : Result Read DecodeError) (re
 first_elsewhere o (Ok r) there read same is = ap (with_first o) (same r refl) ∙ is
 first_elsewhere o (Err e) there read same is = absurd cc
 
-read_elsewhere : (n m place other : ℕ) (bytes : List ℕ) (first : Option (OptionContent × List ℕ)) (read : Read) → option_at bytes ≡ first → length bytes ≤ n → length bytes ≤ m
-    → options_in n place bytes ≡ Ok read → options_in m other bytes ≡ Ok read
+read_elsewhere : (n m place other : ℕ) (bytes : List ℕ) (first : Option (OptionContent × List ℕ)) (read : Read)
+    → option_at bytes ≡ first → length bytes ≤ n → length bytes ≤ m → options_in n place bytes ≡ Ok read → options_in m other bytes ≡ Ok read
 read_elsewhere n m place other bytes None read found few enough is =
     options_in_none m other bytes found ∙ padding_elsewhere place other bytes read (sym (options_in_none n place bytes found) ∙ is)
-read_elsewhere zero m place other bytes (Some (o, behind)) read found few enough is = absurd (omega (arith, few, option_length bytes o behind found, spelling_length o))
-read_elsewhere (suc n) zero place other bytes (Some (o, behind)) read found few enough is = absurd (omega (arith, enough, option_length bytes o behind found, spelling_length o))
+read_elsewhere zero m place other bytes (Some (o, behind)) read found few enough is =
+    absurd (omega (arith, few, option_length bytes o behind found, spelling_length o))
+read_elsewhere (suc n) zero place other bytes (Some (o, behind)) read found few enough is =
+    absurd (omega (arith, enough, option_length bytes o behind found, spelling_length o))
 read_elsewhere (suc n) (suc m) place other bytes (Some (o, behind)) read found few enough is =
     let len = option_length bytes o behind found in
     let least = spelling_length o in
@@ -43,7 +45,8 @@ read_elsewhere (suc n) (suc m) place other bytes (Some (o, behind)) read found f
     let there : Result Read DecodeError = options_in m (other + length (spelling o)) behind in
     options_in_some m other bytes behind o found
     ∙ first_elsewhere o here there read
-    (λ r e. read_elsewhere n m (place + length (spelling o)) (other + length (spelling o)) behind (option_at behind) r refl (omega (arith, few, len, least)) (omega (arith, enough, len, least)) e)
+    (λ r e. read_elsewhere n m (place + length (spelling o)) (other + length (spelling o)) behind (option_at behind) r refl
+    (omega (arith, few, len, least)) (omega (arith, enough, len, least)) e)
     (sym (options_in_some n place bytes behind o found) ∙ is)
 
 -- an area that begins with no option has none
@@ -53,7 +56,8 @@ none_left bytes reads none =
     ap (λ (r : Result Read DecodeError). (result_unwrap_or r ([], 0)).0) (padding ∙ is_padding 20 bytes (ap is_ok (sym padding) ∙ reads))
 
 -- after its first option comes an area that can be read, with the other options
-first_and_others : (o : OptionContent) (area inner behind : Result Read DecodeError) → area ≡ with_first o inner → ((r : Read) → inner ≡ Ok r → behind ≡ Ok r) → IsOk area
+first_and_others : (o : OptionContent) (area inner behind : Result Read DecodeError)
+    → area ≡ with_first o inner → ((r : Read) → inner ≡ Ok r → behind ≡ Ok r) → IsOk area
     → IsOk behind × ((result_unwrap_or area ([], 0)).0 ≡ o ∷ (result_unwrap_or behind ([], 0)).0)
 first_and_others o area (Ok r) behind is same reads =
     let there = same r refl in (
@@ -68,6 +72,8 @@ pub first_left : (bytes behind : List ℕ) (o : OptionContent) → length bytes 
 first_left bytes behind o few reads found =
     let len = option_length bytes o behind found in
     let least = spelling_length o in
-    first_and_others o (options_in 40 20 bytes) (options_in 39 (20 + length (spelling o)) behind) (options_in 40 20 behind) (options_in_some 39 20 bytes behind o found)
-    (λ r e. read_elsewhere 39 40 (20 + length (spelling o)) 20 behind (option_at behind) r refl (omega (arith, few, len, least)) (omega (arith, few, len, least)) e)
+    first_and_others o (options_in 40 20 bytes) (options_in 39 (20 + length (spelling o)) behind) (options_in 40 20 behind)
+    (options_in_some 39 20 bytes behind o found)
+    (λ r e. read_elsewhere 39 40 (20 + length (spelling o)) 20 behind (option_at behind) r refl
+    (omega (arith, few, len, least)) (omega (arith, few, len, least)) e)
     reads

@@ -137,7 +137,8 @@ pub checked_padding : {A : Type 0} (r : Result A DecodeError) (n at : ℕ) (byte
     → MatchResult r (λ u. padding_at at bytes ≡ Ok ([], length bytes)) (λ e. padding_at at bytes ≡ Err e) → Checks r (options_in n at bytes)
 checked_padding r zero at bytes ended zeros = subst (Checks r) (sym (checked_none at bytes)) (zeros_checked r (padding_at at bytes) (length bytes) zeros)
 checked_padding r (suc n) at bytes (inl none) zeros = absurd (omega (arith, none))
-checked_padding r (suc n) at bytes (inr none) zeros = subst (Checks r) (sym (options_in_none (suc n) at bytes none)) (zeros_checked r (padding_at at bytes) (length bytes) zeros)
+checked_padding r (suc n) at bytes (inr none) zeros =
+    subst (Checks r) (sym (options_in_none (suc n) at bytes none)) (zeros_checked r (padding_at at bytes) (length bytes) zeros)
 
 pub checked_behind : {A : Type 0} (r : Result A DecodeError) (n at len : ℕ) (bytes behind : List ℕ) (o : OptionContent) → 1 ≤ n → len ≤ length bytes
     → option_at bytes ≡ Some (o, drop len bytes) → behind ≡ drop len bytes → Checks r (options_in (n - 1) (at + len) behind) → Checks r (options_in n at bytes)
@@ -209,7 +210,8 @@ spelled_as : (single : Bool) (len : ℕ) (bytes : List ℕ) → (single ≡ true
     → length (spelling (if single then Nop else option_of (get_or bytes 0 0) (take (len - 2) (drop 2 bytes)))) ≡ len
 spelled_as true len bytes one more inside = sym (one refl)
 spelled_as false len bytes one more inside =
-    option_of_length (get_or bytes 0 0) (take (len - 2) (drop 2 bytes)) ∙ omega (arith, more refl, inside, length-take (len - 2) (drop 2 bytes), length-drop 2 bytes)
+    option_of_length (get_or bytes 0 0) (take (len - 2) (drop 2 bytes))
+    ∙ omega (arith, more refl, inside, length-take (len - 2) (drop 2 bytes), length-drop 2 bytes)
 
 pub spelled_first : (len : ℕ) (bytes : List ℕ) → 1 ≤ len → len ≤ length bytes → length (spelling (first_option len bytes)) ≡ len
 spelled_first len bytes least inside = spelled_as (eqb len 1) len bytes (λ e. grind (arith, nat_tests, e)) (λ e. grind (arith, nat_tests, e, least)) inside

@@ -159,7 +159,9 @@ unfolding options_in option_at padding_at
 no_options = refl
 
 pub no_area : (area : List ℕ) → area ≡ [] → (options_of area).0 ≡ []
-no_area area none = ap (λ (bytes : List ℕ). (options_of bytes).0) none ∙ ap (λ (read : Result (List OptionContent × ℕ) DecodeError). (result_unwrap_or read ([], 0)).0) no_options
+no_area area none =
+    ap (λ (bytes : List ℕ). (options_of bytes).0) none
+    ∙ ap (λ (read : Result (List OptionContent × ℕ) DecodeError). (result_unwrap_or read ([], 0)).0) no_options
 
 -- what can be read is what is read
 ok_read : (read : Result (List OptionContent × ℕ) DecodeError) → IsOk read → read ≡ Ok (result_unwrap_or read ([], 0))
