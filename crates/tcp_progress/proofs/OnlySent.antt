@@ -1,4 +1,6 @@
 -- NOTHING IS TAKEN BEFORE IT IS SENT, on the definitions: every event keeps it.
+use Rattle.tcp_halves.specs.Sent as half
+use Rattle.tcp_replay.proofs.Words.{Acknowledgement, Fin, NewText, Resend, ResentFin, Sent, Text}
 use Rattle.tcp_replay.proofs.Words.{◌+◌, ◌-◌, ◌<◌, ◌==◌, [], ◌^◌, Aborted, acks_more, address_of, after_ack, after_acked_text, after_due, after_giving_up}
 use Rattle.tcp_replay.proofs.Words.{after_handing, after_news, after_own_syn, after_peer_accepts, after_peer_opens, after_place, after_read, after_text}
 use Rattle.tcp_replay.proofs.Words.{and_parts, ap, arith, cases_lt, Cell, cond_both, Config, Content, count_numbers, count_of, drop, Due, eqb-false}
@@ -200,6 +202,12 @@ DueEnds p due = has rst (segment_of p.endpoint due).flags ≡ false
     → position_of p.endpoint.config.isn.0 p.endpoint.sending.una (segment_of p.endpoint due).seq + count_numbers (segment_of p.endpoint due) ≤
     (after_due p.endpoint (Some due)).sending.nxt
 
+sent-ends : (sent : Sent) → half.start_of sent + half.count_of sent + one_if (half.is_fin sent) ≤ half.end_of sent
+sent-ends (Resend start count) = omega arith
+sent-ends (NewText start count) = omega arith
+sent-ends (Fin start) = omega arith
+sent-ends (ResentFin start) = omega arith
+
 pub due-ends : (p q : PartyState) (due : Due) → IsSoundPair p q → GoesOutAlone p.endpoint p.accepted p.closed due → DueEnds p due
 unfolding segment_of
 due-ends p q Reset h out plain = absurd (false≢true (sym plain ∙ waiting-bit p.endpoint p.endpoint.owed.reset out.kind))
@@ -214,7 +222,8 @@ due-ends p q Syn h out plain =
     let is_syn : one_if (has syn (syn_segment s).flags) ≡ 1 = ap one_if bits.0 in
     let no_fin : one_if (has fin (syn_segment s).flags) ≡ 0 = ap one_if bits.1 in
     omega (arith, at, is_syn, no_fin)
-due-ends p q other h out plain = plain-ends p q other _ out.kind h (omega arith)
+due-ends p q (Text sent) h out plain = plain-ends p q (Text sent) _ out.kind h (omega (arith, sent-ends sent))
+due-ends p q Acknowledgement h out plain = plain-ends p q Acknowledgement _ out.kind h (omega arith)
 
 -- p became p', and emitted what is due
 sent-moved : (p p' q : PartyState) → IsSoundPair p q → Moved p p' q → Speaks p p' q → Reaches p q p'.endpoint → Both KeepsSent p q → Both KeepsSent p' q

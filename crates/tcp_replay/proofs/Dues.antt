@@ -5,7 +5,7 @@ use Rattle.tcp_replay.proofs.Words.{length, length-drop, List, ltb-true, max, mi
 use Rattle.tcp_replay.proofs.Words.{None, Option, option_or, place_of, position_at, Queue, Range, refl, Resend, resend_of, resend_start, resent_fin, resent_run}
 use Rattle.tcp_replay.proofs.Words.{resent_text, ResentFin, Reset, reset_due, Sending, sends_text, Some, State, subst, Syn, syn_due, text_due, text_limit, true}
 use Rattle.tcp_replay.proofs.Words.{WaitingReset, ◌||◌, ℕ, ◌∷◌, ◌≡◌, ◌≤◌, ◌⊎◌}
-use Rattle.tcp_replay.proofs.Words.{Text, Sent, sent_due, option_map}
+use Rattle.tcp_replay.proofs.Words.{ap, option_map, Sent, sent_due, Text}
 
 -- what holds of each that may be due holds of the first
 pub option_or-both : {A : Type 0} (P : A → Type 0) (first rest : Option A) → IfSome first P → IfSome rest P → IfSome (option_or first rest) P

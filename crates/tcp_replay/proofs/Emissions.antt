@@ -8,7 +8,7 @@ use Rattle.tcp_replay.proofs.Words.{refl, Reset, rst, segment_of, sent_by, seq_i
 use Rattle.tcp_replay.proofs.Words.{syn_segment, take, take_min, text_of, true, WaitingReset, witness_of, ℕ, ◌∙◌, ◌≡◌, ◌≤◌}
 use Rattle.tcp_replay.proofs.{Lists.one_if-most, Phases.handshake-knows, Phases.handshake-una, Steps.Kept, Steps.kept-alone, Steps.kept-same}
 use Rattle.tcp_replay.proofs.{AloneEmissions.due-alone, AloneEmissions.GoesOutAlone, AloneEmissions.if-some-map, AloneEmissions.IsSaid}
-use Rattle.tcp_replay.proofs.Words.{Text, waiting_segment, waiting_destination, flags_of, Acknowledgement}
+use Rattle.tcp_replay.proofs.Words.{Acknowledgement, flags_of, Sending, Text, waiting_destination, waiting_segment}
 
 -- an acknowledgement is of the next position
 true-ack : (p q : PartyState) (ack : ℕ) → p.endpoint.receiving.opened ≡ true → ack ≡ p.endpoint.receiving.next → IsSoundPair p q
