@@ -200,7 +200,6 @@ pub useful-out : (w : WorldState) (side : Side) (later : List EventContent) (due
 useful-out w side later due calm h is plain u comes up =
     let k = length (party_of w side).sent in
     let v = world_after w (Emit side) in
-    let end = world_after_all v later in
     let come = comes-due w side later due is plain comes in
     lower-event w (Emit side) later tt calm h up (λ hv still. useful-comes v side k later calm hv (emit-at (λ x y. IsUseful x y k) w side u) come up)
 

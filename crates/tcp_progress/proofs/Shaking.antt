@@ -82,13 +82,10 @@ caller-phase : (phase : Phase) (ending : Ending) (una nxt : ℕ) (opened finishe
     → FitsPhase phase ending una nxt opened finished → phase ≡ SynSent
 caller-phase phase ending una nxt opened finished e goes sent h = grind (arith, e, goes, sent, h)
 
-not-last_ack : (phase : Phase) → phase ≡ SynSent → phase ≡ LastAck → ⊥
-not-last_ack phase one two = absurd (cc)
-
 caller-goes : (p p' : PartyState) → p.endpoint.phase ≡ SynSent → p.endpoint.ending ≡ NotEnded → IsMoved p p' → gave_up p' ≡ false
     → p'.endpoint.ending ≡ NotEnded
 caller-goes p p' calls going moved up =
-    elim (ends-plainly p p' moved going up) [ inl goes ↦ goes | inr over ↦ absurd (not-last_ack p.endpoint.phase calls over.1) ]
+    elim (ends-plainly p p' moved going up) [ inl goes ↦ goes | inr over ↦ absurd (cc (calls, over.1)) ]
 
 -- ---- OPENING, from one side
 pub record IsShaking (w : WorldState) (side : Side) : Type 0 where

@@ -2,8 +2,8 @@
 pub use Rattle.tcp_replay.specs.declared.event.Side.{Side}
 pub use Rattle.tcp_replay.specs.declared.event.Side.TheVariants.{A, B}
 pub use Rattle.tcp_replay.specs.declared.outcome.StepError.{StepError}
-pub use Rattle.tcp_progress.specs.Answered.{Answers, IsUnacceptable, MayAnswer, SpokenToAnswers, StandsAtNext}
-pub use Rattle.tcp_progress.specs.Edge.{IsWithinReach, TellsWithin}
+pub use Rattle.tcp_progress.specs.Answered.{IsUnacceptable, MayAnswer, SpokenToAnswers, StandsAtNext}
+pub use Rattle.tcp_progress.specs.Edge.{TellsWithin}
 pub use Rattle.tcp_progress.specs.Everywhere.{InEveryWorld}
 pub use Rattle.tcp_progress.specs.Fair.{AllCome, BurstEnds, CanHaveTurns, Comes, Delivers, EachBurstEnds, GetsThrough, GotThrough, HasTurns, IsCalm, IsIdle}
 pub use Rattle.tcp_progress.specs.Fair.{IsTurn, IsUntimed, NeverGrows, NoneGaveUp, TurnsCanBeHad, WhatIsLeftNeverGrows, WhoIsServedGetsThrough, all_room}
@@ -11,8 +11,8 @@ pub use Rattle.tcp_progress.specs.Fair.{both_served, emissions, is_reset, reads,
 pub use Rattle.tcp_progress.specs.Handshake.{AreOpen, CanOpen, CanReachUnaided, HandshakesCanBeFinished, HaveSyns, IsUnaided, OpensAndGetsThrough}
 pub use Rattle.tcp_progress.specs.Handshake.{WhoIsServedOpens}
 pub use Rattle.tcp_progress.specs.Measure.{all_of, left_in, left_of_both}
-pub use Rattle.tcp_progress.specs.Progress.{AckedIsReleased, AcksNew, BringsOn, IsNext, IsPlainAck, IsReleased, OwedIsTold, TakesWhatIsNext, TellsNext}
-pub use Rattle.tcp_progress.specs.Progress.{begins_at, ends_at, is_synchronized}
+pub use Rattle.tcp_progress.specs.Progress.{AckedIsReleased, AcksNew, BringsOn, IsNext, IsPlainAck, IsReleased, OwedIsTold, TakesWhatIsNext, begins_at, ends_at}
+pub use Rattle.tcp_progress.specs.Progress.{is_synchronized}
 pub use Rattle.tcp_progress.specs.Resent.{CoversNext, FlightGoesOutAgain, GoesOut, IsInFlight, IsUnsent, KeepsFlight, MaySend, MovesOn, UnsentGoesOut}
 pub use Rattle.tcp_progress.specs.Resent.{after_emissions}
 pub use Rattle.tcp_progress.specs.Sent.{NothingIsTakenBeforeItIsSent, TakeOnlySent, TakesOnlySent}

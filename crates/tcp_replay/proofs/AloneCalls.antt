@@ -39,7 +39,6 @@ pub alone-opening : (s : State) (accepted : List ℕ) (closed : Bool) (src : Lis
 unfolding after_peer_opens
 alone-opening s accepted closed src v valid listening h =
     let d = s.sending in
-    let r = s.receiving in
     let at = end-listen s listening h.progress in
     record {
       config = h.config;
@@ -60,7 +59,6 @@ pub alone-acceptance : (s : State) (accepted : List ℕ) (closed : Bool) (v : Co
 unfolding after_peer_accepts
 alone-acceptance s accepted closed v sent h =
     let d = s.sending in
-    let r = s.receiving in
     let at = end-syn_sent s sent h.progress in
     record {
       config = h.config;
@@ -127,7 +125,6 @@ pub alone-connection : (s : State) (accepted : List ℕ) (closed : Bool) (peer :
     → IsAlone (with_connection s peer) accepted closed
 alone-connection s accepted closed peer port can h =
     let d = s.sending in
-    let r = s.receiving in
     let new = end-closed s can.shut can.ending h.progress in
     record {
       config = h.config;
@@ -146,8 +143,6 @@ alone-connection s accepted closed peer port can h =
 pub alone-passive : (s : State) (accepted : List ℕ) (closed : Bool) → CanOpen s → IsAlone s accepted closed
     → IsAlone (record s { phase = Listen }) accepted closed
 alone-passive s accepted closed can h =
-    let d = s.sending in
-    let r = s.receiving in
     let new = end-closed s can.shut can.ending h.progress in
     record {
       config = h.config;

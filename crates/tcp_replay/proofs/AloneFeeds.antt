@@ -58,15 +58,12 @@ module _ (P : ℕ → ℕ → Type 0) (Q : Type 0) (s : State) (irs k : ℕ) (de
   }
 
 -- THE USER reads
-fewer : (xs : List ℕ) (n : ℕ) → length (drop n xs) - length xs ≡ 0
-fewer xs n = omega (arith, length-drop n xs)
-
 feeds-read : (P : ℕ → ℕ → Type 0) (Q : Type 0) (s : State) (irs k : ℕ) (delivered : List ℕ) (room : ℕ) → IsFed P s.receiving irs k delivered (gives_up s.ending)
     → Feeds P Q s (with_bytes_received s room) irs k (delivered ++ take (min room (length s.receiving.inbox.unread)) s.receiving.inbox.unread)
 unfolding after_read
 feeds-read P Q s irs k delivered room h =
     let unread = s.receiving.inbox.unread in
-    let same : k ≡ k + (length (drop room unread) - length unread) = omega (arith, fewer unread room) in
+    let same : k ≡ k + (length (drop room unread) - length unread) = omega (arith, length-drop room unread) in
     record {
       fed = subst (λ (n : ℕ). IsFed P (with_bytes_received s room).receiving irs n (delivered ++ take (min room (length unread)) unread)
           (gives_up s.ending)) same
@@ -244,8 +241,6 @@ unfolding judgement
 feeds-judgement P s irs k delivered accepted closed src dst v small a first came h =
     let Q : Type 0 = has syn v.flags ≡ true in
     let J : Judgement → Type 0 = λ j. Feeds P Q s (after_judgement j s src v) irs k delivered in
-    let d = s.sending in
-    let r = s.receiving in
     let same : Feeds P Q s s irs k delivered = feeds-same P Q s irs k delivered h in
     let kept = feeds-kept P Q s irs k delivered h in
     let reset = feeds-given_up P Q s irs k delivered h in

@@ -27,7 +27,6 @@ kept-opening : (p q : PartyState) (s : State) (v : Content) → IsValid v → Is
     → Kept p q (after_peer_opens s q.endpoint.config.addr.0 v)
 unfolding after_peer_opens
 kept-opening p q s v valid truth listening e h =
-    let d = s.sending in
     let r = s.receiving in
     let src = q.endpoint.config.addr.0 in
     let at = end-listen s listening h.here.alone.progress in
@@ -42,7 +41,6 @@ kept-acceptance : (p q : PartyState) (s : State) (v : Content) → IsTruthful (w
     → Kept p q s → Kept p q (after_peer_accepts s v)
 unfolding after_peer_accepts
 kept-acceptance p q s v truth sent e h =
-    let d = s.sending in
     let r = s.receiving in
     let at = end-syn_sent s sent h.here.alone.progress in
     kept-changed p q s _ h refl (alone-acceptance s p.accepted p.closed v sent h.here.alone)

@@ -16,15 +16,11 @@ range-more m n None more h = tt
 range-more m n (Some range) more h = omega arith
 
 -- the queue takes the whole front that the direction takes
-count_sendable-room : (s : Sending) (limit : ℕ) (text : List ℕ)
-    → length (take (count_sendable s limit text) text) ≤ queues.count_taken s.queue (take (count_sendable s limit text) text)
-count_sendable-room s limit text = omega (arith, length-take (count_sendable s limit text) text)
-
 with_text-queue : (s : Sending) (limit : ℕ) (text : List ℕ) → (with_text s limit text).queue.bytes ≡ s.queue.bytes ++ take (count_sendable s limit text) text
 with_text-queue s limit text =
     ap (λ more. s.queue.bytes ++ more)
     (take_all (queues.count_taken s.queue (take (count_sendable s limit text) text)) (take (count_sendable s limit text) text)
-    (count_sendable-room s limit text))
+    (omega (arith, length-take (count_sendable s limit text) text)))
 
 with_text-flags : (s : Sending) (limit : ℕ) (text : List ℕ) → length s.queue.marks ≡ length s.queue.bytes
     → length (with_text s limit text).queue.marks ≡ length (with_text s limit text).queue.bytes

@@ -38,14 +38,11 @@ AreBytes-append xs ys left right i =
     ⊎_elim (λ less. rw (get_or_append_left xs ys 0 i less) (left i))
     (λ more. rw (get_or-append_right xs ys (length xs) i 0 refl more) (right (i - length xs))) (cases_lt i (length xs))
 
-take-short : (n : ℕ) (xs : List ℕ) (i : ℕ) → n ≤ i → length (take n xs) ≤ i
-take-short n xs i more = omega (arith, length-take n xs)
-
 -- a front of bytes is bytes
 pub AreBytes-take : (n : ℕ) (xs : List ℕ) → AreBytes xs → AreBytes (take n xs)
 AreBytes-take n xs h i =
     ⊎_elim (λ less. rw (get_or-take n xs i 0 less) (h i))
-    (λ more. rw (get_or_past (take n xs) i 0 (take-short n xs i more)) (omega arith)) (cases_lt i n)
+    (λ more. rw (get_or_past (take n xs) i 0 (omega (arith, length-take n xs, more))) (omega arith)) (cases_lt i n)
 
 -- and what is behind it
 pub AreBytes-drop : (n : ℕ) (xs : List ℕ) → AreBytes xs → AreBytes (drop n xs)

@@ -125,15 +125,12 @@ pub record Emits (s : State) (accepted : List ℕ) (closed : Bool) (to bytes : L
   pub read : decode_answer s.config.addr.0 to bytes ≡ Ok content
   pub says : has rst content.flags ≡ false → Says s accepted closed content
 
-some-segment : {x y : List ℕ × List ℕ} → Some x ≡ Some y → x ≡ y
-some-segment e = cc
-
 emits-due : (s : State) (accepted : List ℕ) (closed : Bool) (to bytes : List ℕ) (due : Option Due) → IfSome due (GoesOutAlone s accepted closed)
     → option_map {U = List ℕ × List ℕ} (λ due. ((destination_of s due).addr.0, bytes_of s due)) due ≡ Some (to, bytes) → Emits s accepted closed to bytes
 unfolding bytes_of
 emits-due s accepted closed to bytes None out e = absurd (cc)
 emits-due s accepted closed to bytes (Some due) out e =
-    let same = some-segment e in
+    let same : ((destination_of s due).addr.0, bytes_of s due) ≡ (to, bytes) = cc in
     let there : (destination_of s due).addr.0 ≡ to = ap (λ (segment : List ℕ × List ℕ). segment.0) same in
     let spelled : bytes_of s due ≡ bytes = ap (λ (segment : List ℕ × List ℕ). segment.1) same in
     record {

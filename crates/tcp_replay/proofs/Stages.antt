@@ -25,7 +25,6 @@ pub kept-own_syn : (p q : PartyState) (s : State) (v : Content) → IsPresent s 
 unfolding after_own_syn
 kept-own_syn p q s v present h =
     let d = s.sending in
-    let r = s.receiving in
     let knows : has_peer s.phase ≡ true = present-knows s.phase present.shut present.listening in
     let acked = with_window (with_syn_acked d) v.seq v.ack (window_from s.link v.window) in
     record {

@@ -6,8 +6,8 @@ pub use Rattle.std.proofs.Common.{option_to_list, pos, refl, replicate, Result, 
 pub use Rattle.std.proofs.Common.{true, unwrap_or, Vec, zero, ◌||◌, ℕ, ℤ, ◌↔◌, ◌∙◌, ◌∷◌, ◌≡◌, ◌≢◌, ◌≤ℤ◌, ◌≤◌, ⊎_elim, ◌⊎◌}
 pub use Rattle.std.proofs.Math.Bool.{and-false, or-true}
 pub use Rattle.std.proofs.Math.Nat.{div-mul-le_self}
-pub use Rattle.std.proofs.lemmas.Bool.{and_cases, and_from, and_parts, cases_Bool, cases_lt, cond_both, eq-eqb, eqb-false, eqb-true, false≢true, le-ltb}
-pub use Rattle.std.proofs.lemmas.Bool.{leb-false, leb-true, lt-ltb, ltb-false, ltb-true, ne_eqb, not-false, not-true, or_cases, or_left, or_right, true≢false}
+pub use Rattle.std.proofs.lemmas.Bool.{and_from, and_parts, cases_Bool, cases_lt, cond_both, eq-eqb, eqb-false, eqb-true, false≢true, leb-false, leb-true}
+pub use Rattle.std.proofs.lemmas.Bool.{lt-ltb, ltb-false, ltb-true, ne_eqb, not-false, not-true, or_cases, or_left, or_right, true≢false}
 pub use Rattle.std.proofs.lemmas.Bool.Decides.{nat_tests}
 pub use Rattle.std.proofs.lemmas.Grind.{common_steps}
 pub use Rattle.std.proofs.lemmas.Int.{ints}
@@ -34,7 +34,7 @@ unfoldable pub use Rattle.tcp_conn.specs.Calls.{after_abort, after_acknowledge, 
 pub use Rattle.tcp_conn.specs.Due.{ack_due, count_of, end_of, flags_of, is_fin, reset_due, sent_due, start_of, syn_due, text_due, text_limit, text_of}
 unfoldable pub use Rattle.tcp_conn.specs.Due.{ack_alone, due_of}
 pub use Rattle.tcp_conn.specs.Emission.{after_due, buffer_with, owed_after, resend_after, sending_after, state_after}
-unfoldable pub use Rattle.tcp_conn.specs.Emission.{after_ack_alone, after_emission, buffer_after, destination, emitted_bytes, pending_length}
+unfoldable pub use Rattle.tcp_conn.specs.Emission.{after_ack_alone, after_emission, emitted_bytes}
 pub use Rattle.tcp_conn.specs.Endings.{after_giving_up, after_orderly_end}
 pub use Rattle.tcp_conn.specs.Endpoint.{AlwaysHolds, FitsFields}
 pub use Rattle.tcp_conn.specs.Forms.{is_sack_offered, permission_options, plain_segment, reset_ack, scale_options, shift_offered, syn_options, syn_segment}
@@ -58,7 +58,7 @@ pub use Rattle.tcp_halves.proofs.Placing.{capacity_placed, capacity_read, whole_
 unfoldable pub use Rattle.tcp_halves.specs.Acceptable.{is_acceptable}
 pub use Rattle.tcp_halves.specs.Config.{HasBadCapacity, HasBadLimit, HasBadMss, HasBadShift, HasGoodShift, IsConfig, IsGoodConfig, default_limit, max_shift}
 pub use Rattle.tcp_halves.specs.Config.{min_mss, stream_limit}
-pub use Rattle.tcp_halves.specs.Sent.{count_allowed, fin_of, new_count, range_after, resend_start, resent_fin, resent_run, resent_text, sending_due, usable_window}
+pub use Rattle.tcp_halves.specs.Sent.{count_allowed, fin_of, new_count, range_after, resend_start, resent_fin, resent_run, resent_text}
 unfoldable pub use Rattle.tcp_halves.specs.Sent.{new_text_of, resend_of}
 pub use Rattle.tcp_halves.specs.Marks.{after_blocks, is_of_flight, marks_text, reported_blocks, with_marks}
 unfoldable pub use Rattle.tcp_halves.specs.Marks.{after_block}
@@ -69,9 +69,8 @@ pub use Rattle.tcp_conn.specs.Phase.{is_time_wait, phase_after_fin, phase_after_
 pub use Rattle.tcp_halves.specs.Receiver.{HoldsWithin, Receiving, after_handing, is_fin_due, max_ordered, new_receiving, next_wanted, with_fin, with_inbox}
 pub use Rattle.tcp_halves.specs.Receiver.{with_syn, without_bytes}
 unfoldable pub use Rattle.tcp_halves.specs.Receiver.{after_text}
-pub use Rattle.tcp_halves.specs.Sender.{Sending, acks_more, acks_unsent, count_below, count_sendable, count_unsent, end_of_text, is_fin_acked, is_fin_sent}
-pub use Rattle.tcp_halves.specs.Sender.{is_newer, is_probe_needed, new_sending, place_of, position_at, with_acked, with_all_resent, with_first_resent}
-pub use Rattle.tcp_halves.specs.Sender.{with_gaps_resent}
+pub use Rattle.tcp_halves.specs.Sender.{Sending, acks_more, acks_unsent, count_below, count_sendable, count_unsent, end_of_text, is_fin_acked, is_newer}
+pub use Rattle.tcp_halves.specs.Sender.{is_probe_needed, new_sending, place_of, position_at, with_acked, with_all_resent, with_first_resent, with_gaps_resent}
 pub use Rattle.tcp_halves.specs.Sender.{with_syn_acked, with_syn_sent, with_text, with_window, without_resend, without_text}
 unfoldable pub use Rattle.tcp_halves.specs.Sender.{after_ack, after_window_update}
 pub use Rattle.tcp_halves.specs.declared.config.Config.{Config}
@@ -126,12 +125,12 @@ pub use Rattle.tcp_wire.specs.declared.fault.DecodeError.{DecodeError}
 pub use Rattle.tcp_wire.specs.declared.fault.DecodeError.TheVariants.{BadChecksum}
 pub use Rattle.tcp_replay.specs.Alone.{FitsPhase, IsAlone, IsAnswering, IsDone, IsOpening, IsReceiving, IsUnused, IsWritable, Sends}
 pub use Rattle.tcp_replay.specs.Events.{Abort, Acknowledge, Close, Connect, Damage, Deliver, Emit, EventContent, HasBytes, IsDamage, Receive, Send}
-pub use Rattle.tcp_replay.specs.Emissions.{due_for, segment_as}
 pub use Rattle.tcp_replay.specs.Events.{EmitAcknowledgement, ResendFirst, Timer, event_content, side_of}
+pub use Rattle.tcp_replay.specs.Emissions.{due_for, segment_as}
 pub use Rattle.tcp_replay.specs.OneEnd.{AcknowledgesInOrder, Came, CameIn, HandsOverWhatCame, OneEndIsTrue, SendsItsUsers, TookSyn, count_come, wanted_position}
 unfoldable pub use Rattle.tcp_replay.specs.OneEnd.{count_in_order}
-pub use Rattle.tcp_replay.specs.Safe.{EmitsTruth, EveryRunIsSafe, FindsDamage, HasTrueHints, HintsAreTrue, IsSafe, IsSafeDirection, count_released, gave_up}
-pub use Rattle.tcp_replay.specs.Safe.{next_position, unread_of, witness_of}
+pub use Rattle.tcp_replay.specs.Safe.{EmitsTruth, EveryRunIsSafe, FindsDamage, HasTrueHints, HintsAreTrue, IsSafe, IsSafeDirection, gave_up, next_position}
+pub use Rattle.tcp_replay.specs.Safe.{unread_of, witness_of}
 pub use Rattle.tcp_replay.specs.Solo.{IsLogOf, SoloState, after_solo, bytes_put_out, bytes_taken, end_after, hands_end, is_close, run_alone, segment_emitted}
 pub use Rattle.tcp_replay.specs.Solo.{segments, solo_outcome, solo_start}
 unfoldable pub use Rattle.tcp_replay.specs.Solo.{segment_alone, segment_due, solo_run}
@@ -141,9 +140,9 @@ pub use Rattle.tcp_replay.specs.Sound.{KeepsHints, SpeaksTo, Takes}
 pub use Rattle.tcp_replay.specs.Truthful.{HasPosition, IsOfUser, IsTrueAck, IsTrueBlock, IsTruthful, StandsAt, Witness}
 pub use Rattle.tcp_replay.specs.World.{Effect, HasFault, KeepsAllSegments, NamesFault, PartyState, SentSegment, StopsForMemory, WorldState, acks_late}
 pub use Rattle.tcp_replay.specs.World.{address_of, age_refusal, arrival_outcome, both, bytes_with_damage, count_handed, damage_refusal, delivery_refusal}
-pub use Rattle.tcp_replay.specs.World.{emission_outcome, flags_in, front_taken, grows_for, is_end_of_stream, is_expired, is_late, is_missing, later, max_life}
-pub use Rattle.tcp_replay.specs.World.{new_party, new_world, new_world_with, other, outcome_of, party_of, refusal_of, segment_at, sent_at, sent_by, seq_in}
-pub use Rattle.tcp_replay.specs.World.{outcome_out, party_out, stay_or, stop_or, world_after, world_from, world_with_effect}
+pub use Rattle.tcp_replay.specs.World.{flags_in, front_taken, grows_for, is_end_of_stream, is_expired, is_late, is_missing, later, max_life, new_party}
+pub use Rattle.tcp_replay.specs.World.{new_world, new_world_with, other, outcome_of, party_of, refusal_of, segment_at, sent_at, sent_by, seq_in, outcome_out}
+pub use Rattle.tcp_replay.specs.World.{party_out, stay_or, stop_or, world_after, world_from, world_with_effect}
 unfoldable pub use Rattle.tcp_replay.specs.World.{effect_of, party_after_abort, party_after_acknowledge, party_after_arrival, party_after_close}
 unfoldable pub use Rattle.tcp_replay.specs.World.{party_after_connect, party_after_emission, party_after_listen, party_after_receive, party_after_send}
 unfoldable pub use Rattle.tcp_replay.specs.World.{party_after_ack_alone, party_after_resend_first, party_after_timer, run_of, stop_of, world_after_all}

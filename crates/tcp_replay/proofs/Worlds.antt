@@ -126,8 +126,7 @@ new-end a b one = record {
         next = λ never. absurd (cc);
         unopened = λ _. (refl, refl, refl);
         order = omega arith;
-        fin = λ never. absurd
-            (cc);
+        fin = λ never. absurd (cc);
         held = empty_inbox-agrees a.recv_capacity [];
       };
   hands = record { count = 0; handed = refl; least = omega arith; whole = λ _. refl; all_handed = λ never. absurd (cc) };
@@ -178,12 +177,6 @@ sound-after w event fits e h = record {
   life = omega (arith, life-after w event, h.life);
 }
 
-sound-run : (w : WorldState) (list : List EventContent) → AllByRecursion HasBytes list → IsSound w → IsSound (run_of w list)
-sound-run w list fits h = kept-run IsSound sound-after w list fits h
-
-sound-after_all : (w : WorldState) (list : List EventContent) → AllByRecursion HasBytes list → IsSound w → IsSound (world_after_all w list)
-sound-after_all w list fits h = kept-after_all IsSound sound-after w list fits h
-
 -- a sound world is safe,
 pub safe-sound : (w : WorldState) → IsSound w → IsSafe w
 safe-sound w h = safe-ends w h.ends
@@ -199,8 +192,8 @@ damage-sound w h event is fits e = damage-refused w event is fits e h.ends
 pub every_run_is_safe_lem : EveryRunIsSafe
 every_run_is_safe_lem life a b list most one two fits =
     let start = sound-new life a b most one two in
-    let stops = sound-run (new_world_with life a b) list fits start in
-    let goes_on = sound-after_all (new_world_with life a b) list fits start in
+    let stops = kept-run IsSound sound-after (new_world_with life a b) list fits start in
+    let goes_on = kept-after_all IsSound sound-after (new_world_with life a b) list fits start in
     (safe-sound _ stops, safe-sound _ goes_on, hints-sound _ stops, hints-sound _ goes_on, damage-sound _ stops, damage-sound _ goes_on)
 
 -- ONE STEP of the code: what it did if it answered Ok, and nothing if it didn't
