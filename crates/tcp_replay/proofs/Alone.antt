@@ -319,18 +319,13 @@ alone-fin_taken s accepted closed e h =
     let r = s.receiving in
     let at = end-takes_text s e h.progress in
     let knows : has_peer (phase_after_fin s.phase) ≡ has_peer s.phase = knows-fin s.phase in
-    record {
-      config = h.config;
-      closing = h.closing;
-      progress = fits-fin s.phase s.ending d.una d.nxt r.opened r.finished e h.progress;
-      port = λ known. h.port (sym knows ∙ known);
-      syn = λ owed. handshake-fin s.phase ∙ h.syn owed;
-      ack = λ owed. (knows ∙ (h.ack owed).0, (h.ack owed).1);
-      reset = h.reset;
-      sends = h.sends;
-      next = omega arith;
-      unopened = λ never. absurd (cc (at.1.is_opened));
-    }
+    let progress = fits-fin s.phase s.ending d.una d.nxt r.opened r.finished e h.progress in
+    let port : has_peer (phase_after_fin s.phase) ≡ true → s.peer.port < 2 ^ 16 = λ known. h.port (sym knows ∙ known) in
+    let syn : s.owed.syn ≡ true → is_handshake (phase_after_fin s.phase) ≡ true = λ owed. handshake-fin s.phase ∙ h.syn owed in
+    let ack : s.owed.ack ≡ true → (has_peer (phase_after_fin s.phase) ≡ true) × (r.opened ≡ true) = λ owed. (knows ∙ (h.ack owed).0, (h.ack owed).1) in
+    let next : (with_fin r).next < 2 ^ 32 = omega arith in
+    let unopened : r.opened ≡ false → true ≡ false = λ never. absurd (cc (at.1.is_opened)) in
+    assumption
 
 alone-fin : (s : State) (accepted : List ℕ) (closed : Bool) (v : Content) → IsAlone s accepted closed → IsAlone (after_fin s v) accepted closed
 unfolding after_fin

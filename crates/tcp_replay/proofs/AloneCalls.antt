@@ -213,18 +213,11 @@ pub alone-close_begun : (s : State) (accepted : List ℕ) (closed : Bool) → Is
 alone-close_begun s accepted closed h =
     let d = s.sending in
     let knows : has_peer (phase_after_close s.phase) ≡ has_peer s.phase = knows-closing s.phase in
-    record {
-      config = h.config;
-      closing = h.closing;
-      progress = fits-closing s.phase s.ending d.una d.nxt s.receiving.opened s.receiving.finished h.progress;
-      port = λ e. h.port (sym knows ∙ e);
-      syn = λ e. handshake-closing s.phase ∙ h.syn e;
-      ack = λ e. (knows ∙ (h.ack e).0, (h.ack e).1);
-      reset = h.reset;
-      sends = h.sends;
-      next = h.next;
-      unopened = h.unopened;
-    }
+    let progress = fits-closing s.phase s.ending d.una d.nxt s.receiving.opened s.receiving.finished h.progress in
+    let port : has_peer (phase_after_close s.phase) ≡ true → s.peer.port < 2 ^ 16 = λ e. h.port (sym knows ∙ e) in
+    let syn : s.owed.syn ≡ true → is_handshake (phase_after_close s.phase) ≡ true = λ e. handshake-closing s.phase ∙ h.syn e in
+    let ack : s.owed.ack ≡ true → (has_peer (phase_after_close s.phase) ≡ true) × (s.receiving.opened ≡ true) = λ e. (knows ∙ (h.ack e).0, (h.ack e).1) in
+    assumption
 
 -- ABORT
 pub alone-own_reset : (s : State) (accepted : List ℕ) (closed : Bool) → IsAlone s accepted closed

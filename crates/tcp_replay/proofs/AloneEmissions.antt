@@ -176,7 +176,8 @@ module _ (s : State) (accepted : List ℕ) (closed : Bool) (h : IsAlone s accept
       } in
       record {
         alone = alone-after Acknowledgement
-            (fits-sent s.phase s.ending d.una d.nxt (max d.nxt d.nxt) s.receiving.opened s.receiving.finished (λ _ e. omega arith) (λ e. omega arith) h.progress)
+            (fits-sent s.phase s.ending d.una d.nxt (max d.nxt d.nxt) s.receiving.opened s.receiving.finished (λ _ e. omega arith) (λ e. omega arith)
+            h.progress)
             (omega (arith, h.sends.most)) h.sends.range h.syn (λ never. absurd (cc)) h.reset;
         valid = plain-valid Acknowledgement knows plain;
         kind = record { common = record { segment = refl; to = refl; reset = refl }; plain = plain; knows = knows; opened = (h.ack owed).1 };

@@ -211,26 +211,18 @@ fed-new P capacity irs = record {
 -- more came
 pub fed-more : (P P' : ℕ → ℕ → Type 0) (r : Receiving) (irs k : ℕ) (delivered : List ℕ) (gone : Bool) → ((n byte : ℕ) → P n byte → P' n byte)
     → IsFed P r irs k delivered gone → IsFed P' r irs k delivered gone
-fed-more P P' r irs k delivered gone more h = record {
-  next = h.next;
-  unopened = h.unopened;
-  bare = h.bare;
-  held = held-same (ByNumber P r.next) (ByNumber P' r.next) 0 r.inbox.held (λ n byte. more (number r.next n) byte) h.held;
-  text = text-same (ByNumber P irs) (ByNumber P' irs) 1 (delivered ++ r.inbox.unread) (λ n byte. more (number irs n) byte) h.text;
-  whole = h.whole;
-}
+fed-more P P' r irs k delivered gone more h =
+    let held = held-same (ByNumber P r.next) (ByNumber P' r.next) 0 r.inbox.held (λ n byte. more (number r.next n) byte) h.held in
+    let text = text-same (ByNumber P irs) (ByNumber P' irs) 1 (delivered ++ r.inbox.unread) (λ n byte. more (number irs n) byte) h.text in
+    assumption
 
 -- before the peer's SYN any number serves
 pub fed-any : (P : ℕ → ℕ → Type 0) (r : Receiving) (irs irs' k : ℕ) (delivered : List ℕ) (gone : Bool) → r.opened ≡ false → IsFed P r irs k delivered gone
     → IsFed P r irs' k delivered gone
-fed-any P r irs irs' k delivered gone shut h = record {
-  next = λ e. absurd (false≢true (sym shut ∙ e));
-  unopened = h.unopened;
-  bare = h.bare;
-  held = h.held;
-  text = subst (AllText (ByNumber P irs') 1) (sym (h.unopened shut).1) tt;
-  whole = h.whole;
-}
+fed-any P r irs irs' k delivered gone shut h =
+    let next : r.opened ≡ true → r.next ≡ number irs' (1 + k + one_if r.finished) = λ e. absurd (false≢true (sym shut ∙ e)) in
+    let text : AllText (ByNumber P irs') 1 (delivered ++ r.inbox.unread) = subst (AllText (ByNumber P irs') 1) (sym (h.unopened shut).1) tt in
+    assumption
 
 -- the peer's SYN
 pub fed-syn : (P : ℕ → ℕ → Type 0) (r : Receiving) (irs k : ℕ) (delivered : List ℕ) (gone : Bool) → r.opened ≡ false → IsFed P r irs k delivered gone

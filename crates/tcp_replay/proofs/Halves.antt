@@ -2,9 +2,9 @@
 -- delivered.
 use Rattle.tcp_replay.proofs.Words.{◌++◌, ◌+◌, ◌-◌, ◌<◌, [], Advances, after_handing, after_read, after_read-agrees, ap, append-nil, append_assoc, AreBytes}
 use Rattle.tcp_replay.proofs.Words.{arith, Bool, count_below, count_sendable, drop, drop-append-le, drop-drop, empty_inbox-agrees, false, HandsOver, IfSome}
-use Rattle.tcp_replay.proofs.Words.{if◌then◌else◌, Inbox, length, length-append, length-drop, length-replicate, length-take, List, max, max_ordered, min, None}
-use Rattle.tcp_replay.proofs.Words.{number, Option, or_cases, Range, Receiving, refl, replicate, Sending, Sends, Some, stream_limit, sym, take}
-use Rattle.tcp_replay.proofs.Words.{take-append-drop, take-append-le, take_all, take_min, Takes, true, with_acked, with_fin, with_inbox, with_syn}
+use Rattle.tcp_replay.proofs.Words.{if◌then◌else◌, Inbox, length, length-append, length-drop, length-replicate, length-take, List, max, max_capacity}
+use Rattle.tcp_replay.proofs.Words.{max_ordered, min, None, number, Option, or_cases, Range, Receiving, refl, replicate, Sending, Sends, Some, stream_limit}
+use Rattle.tcp_replay.proofs.Words.{sym, take, take-append-drop, take-append-le, take_all, take_min, Takes, true, with_acked, with_fin, with_inbox, with_syn}
 use Rattle.tcp_replay.proofs.Words.{with_syn_sent, with_text, without_bytes, without_held-agrees, without_text, ◌||◌, ℕ, ◌∙◌, ◌≡◌, ◌≤◌, ⊎_elim}
 use Rattle.tcp_replay.proofs.Lists.{Agrees-more, AreBytes-append, AreBytes-take, front-is, nothing-follows, number-further, one_if, one_if-false, take-further}
 use Rattle.tcp_replay.proofs.Lists.{take-none}
@@ -86,18 +86,12 @@ pub sends-acked : (s : Sending) (accepted : List ℕ) (closed : Bool) (a : ℕ) 
 sends-acked s accepted closed a new sent h =
     let inside : s.released ≤ length accepted = omega (arith, h.released) in
     let count : length s.queue.bytes ≡ length accepted - s.released = ap length (h.queue refl) ∙ length-drop s.released accepted in
-    record {
-      order = sent;
-      most = h.most;
-      limit = h.limit;
-      capacity = h.capacity;
-      ahead = omega (arith, h.ahead);
-      bytes = h.bytes;
-      released = omega (arith, h.released, count, inside, new);
-      queue = λ _. ap (drop (count_below s a)) (h.queue refl) ∙ drop-drop (count_below s a) s.released accepted;
-      flags = length-drop (count_below s a) s.queue.marks ∙ ap (λ n. n - count_below s a) h.flags ∙ sym (length-drop (count_below s a) s.queue.bytes);
-      range = h.range;
-    }
+    let ahead : length accepted ≤ (with_acked s a).released + max_capacity = omega (arith, h.ahead) in
+    let released : (with_acked s a).released ≡ min (a - 1) (length accepted) = omega (arith, h.released, count, inside, new) in
+    let queue : false ≡ false → (with_acked s a).queue.bytes ≡ drop (with_acked s a).released accepted
+    = λ _. ap (drop (count_below s a)) (h.queue refl) ∙ drop-drop (count_below s a) s.released accepted in
+    let flags = length-drop (count_below s a) s.queue.marks ∙ ap (λ n. n - count_below s a) h.flags ∙ sym (length-drop (count_below s a) s.queue.bytes) in
+    assumption
 
 -- a reset or an abort gives the queue up
 pub sends-given_up : (s : Sending) (accepted : List ℕ) (closed gone : Bool) → Sends s accepted closed gone → Sends (without_text s) accepted closed true
