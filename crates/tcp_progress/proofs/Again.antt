@@ -6,7 +6,7 @@ use Rattle.tcp_replay.proofs.Words.{nat_tests, next_unmarked, None, Owed, owed_a
 use Rattle.tcp_replay.proofs.Words.{refl, replicate, Resend, resend_after, resend_of, resent_run, ResentFin, segment_of, Sending, sends_text, Some, start_of}
 use Rattle.tcp_replay.proofs.Words.{State, state_after, suc, sym, text_limit, true, with_all_resent, without_marks, zero, ℕ, ◌∙◌, ◌≡◌, ◌≤◌, ◌⊎◌}
 use Rattle.tcp_progress.proofs.Words.{after_emissions, CoversNext, FlightGoesOutAgain, GoesOut, is_synchronized, IsInFlight, KeepsFlight, MaySend}
-use Rattle.tcp_replay.proofs.Lemmas.{one_if, due-bits}
+use Rattle.tcp_replay.proofs.Lemmas.{due-bits, one_if, text-of_due}
 use Rattle.tcp_replay.proofs.Words.{Text, Sent}
 
 -- the text that is due lies within the queue
@@ -25,7 +25,7 @@ covering s due position stands begins ends =
     let bits = due-bits d due in
     let v = plain_segment s due in
     let long : length v.text ≡ count_of due =
-    ap length (text-of d due) ∙ length-take (count_of due) _ ∙ omega (arith, length-drop (place_of d (start_of d due)) d.queue.bytes, stands.inside) in
+    ap length (text-of_due d due) ∙ length-take (count_of due) _ ∙ omega (arith, length-drop (place_of d (start_of d due)) d.queue.bytes, stands.inside) in
     let numbers : count_numbers v ≡ count_of due + one_if (is_fin due) = rw (bits.0, bits.1) (omega (arith, long)) in
     record {
       due = due;
@@ -38,7 +38,7 @@ covering s due position stands begins ends =
       seq = refl;
       begins = begins;
       ends = omega (arith, ends, numbers);
-      text = rw long (text-of d due);
+      text = rw long (text-of_due d due);
       no_rst = bits.2;
       no_syn = bits.0;
       has_ack = bits.3;

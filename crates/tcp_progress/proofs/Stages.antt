@@ -18,7 +18,7 @@ use Rattle.tcp_conn.specs.declared.phase.Ending.TheVariants.{Reset}
 use Rattle.tcp_progress.proofs.{Words.KnowsPort, Words.ReleasesAll, Words.SaysByPhase, Taken.news-keep, OnlySent.KeepsSent, Answering.acked-range}
 use Rattle.tcp_progress.proofs.{Answering.own_syn-range}
 use Rattle.tcp_conn.specs.declared.outcome.CallError.TheVariants as errors
-use Rattle.tcp_replay.proofs.Words.{waiting_segment, WaitingReset}
+use Rattle.tcp_replay.proofs.Words.{Option, Some, waiting_segment, WaitingReset}
 
 -- Party p's end may be in this state, its peer q being where it is; `end` is the position after p's FIN.
 pub record MayBe (p q : PartyState) (phase : Phase) (ending : Ending) (closing finished : Bool) (port una next end : ℕ) : Type 0 where
