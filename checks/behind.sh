@@ -11,13 +11,23 @@ cd "$(dirname "$0")/.."
 folder=$1
 passed=0
 
-# Each within 20 minutes, so that one that waits for ever is seen as such.
-behind() {
-    local start=$SECONDS
-    timeout --kill-after=1m 20m "$@"
+# Within 20 minutes, so that one that waits for ever is seen as such. One that fails is named, with its status.
+attempt() {
+    local start=$SECONDS status=0
+    timeout --kill-after=1m 20m "$@" || status=$?
+    if ((status)); then
+        echo "behind: '$*' FAILED in $((SECONDS - start)) seconds with status $status"
+        return "$status"
+    fi
     passed=$((passed + 1))
     echo "behind: '$*' passed in $((SECONDS - start)) seconds"
 }
+
+# The first that fails ends all.
+behind() { attempt "$@" || exit; }
+
+# What runs against the clocks of a kernel and of other programs is run once more where it fails.
+timed() { attempt "$@" || behind "$@"; }
 
 behind checks/program/statuses.sh
 behind checks/program/memory.sh
@@ -41,10 +51,10 @@ behind c/bindings/test.sh
 apps/tcpkit/build.sh
 behind apps/tcpkit/test.sh
 behind c/dist/test.sh
-behind checks/live/run.sh
-behind apps/usernet/test.sh "$library" --short
-behind apps/capture/test.sh
-behind checks/judge/test.sh "$PWD/crates/tcpjudge/out/tcpjudge" "$library" --short
+timed checks/live/run.sh
+timed apps/usernet/test.sh "$library" --short
+timed apps/capture/test.sh
+timed checks/judge/test.sh "$PWD/crates/tcpjudge/out/tcpjudge" "$library" --short
 behind apps/web/test.sh apps/web/out/tcp_web.wasm
 behind docs/site/test.sh
 echo "$passed" >"$folder/behind"
