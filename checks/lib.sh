@@ -29,10 +29,15 @@ count_left_out() {
     if [[ -e ${LEFT_OUT_FILE-} ]]; then wc -l <"$LEFT_OUT_FILE"; else echo 0; fi
 }
 
-# Installs packages of Debian.
+# Installs packages of Debian, at the second or third try where the network fails.
 install_packages() {
+    local turn
     echo "$test: installs $* (apt-get)"
-    { apt-get update && DEBIAN_FRONTEND=noninteractive apt-get install -y --no-install-recommends "$@"; } >/dev/null 2>&1
+    for turn in 1 2 3; do
+        if { apt-get update && DEBIAN_FRONTEND=noninteractive apt-get install -y --no-install-recommends "$@"; } >/dev/null 2>&1; then return; fi
+        sleep $((5 * turn))
+    done
+    return 1
 }
 
 # Whether a command works, once the package is installed if need be. Where it doesn't, what wants it is left out.
