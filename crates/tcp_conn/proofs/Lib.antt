@@ -8,3 +8,5 @@ pub mod Rests
 mod AtRest
 mod RestArrival
 mod RestLaw
+mod Trains
+mod Together

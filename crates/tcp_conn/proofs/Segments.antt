@@ -7,12 +7,13 @@ use Rattle.std.proofs.lemmas.Bool.{cond_both, cases_lt}
 use Rattle.tcp_wire.specs.Flags.{fin, syn, rst, psh, ack}
 use Rattle.tcp_wire.specs.Checksum.{AreBytes}
 use Rattle.tcp_wire.specs.Options.{Mss, spellings, block_bytes, IsBlock, AreSpellable}
-use Rattle.tcp_wire.specs.Wire.{Content, IsValid, header_len, option_bytes, wire_length}
+use Rattle.tcp_wire.specs.Wire.{Content, IsValid, header_len, max_len, option_bytes, wire_length}
 use Rattle.tcp_wire.specs.View.{text_offset}
 use Rattle.tcp_wire.proofs.Lemmas.{blocks_bytes_length}
 use Rattle.tcp_reasm.specs.Reassembly.{Inbox, blocks}
 use Rattle.tcp_conn.specs.declared.due.Due.{Due}
 use Rattle.tcp_conn.specs.declared.due.Due.TheVariants.{Reset, Syn, Text, Acknowledgement}
+use Rattle.tcp_halves.specs.declared.sent.Sent.TheVariants.{NewText}
 use Rattle.tcp_halves.specs.Sent as half
 use Rattle.tcp_halves.specs.declared.link.WaitingReset.{WaitingReset}
 use Rattle.tcp_conn.specs.declared.emission.TheConstants.{EMIT_ROOM}
@@ -112,6 +113,10 @@ text-as_long queue place count inside = ⊎_elim
     (λ some. length-take-le count (drop place queue) (omega (arith, inside some, length-drop place queue)))
     (cases_lt count 1)
 
+-- the text from SND.NXT on is, if the queue has so much
+pub length_new_text : (s : Sending) (count : ℕ) → place_of s s.nxt + count ≤ length s.queue.bytes → length (text_of s (Text (NewText s.nxt count))) ≡ count
+length_new_text s count inside = text-as_long s.queue.bytes (place_of s s.nxt) count (λ _. inside)
+
 -- the text of what is due is as long as its count
 pub text_as_long : (s : Sending) (due : Due) → IsSendable s max_mss due → length (text_of s due) ≡ count_of due
 text_as_long s Reset sendable = refl
@@ -133,8 +138,10 @@ pub plain_segment_short : (s : State) (due : Due) → IsSendable s.sending max_m
 plain_segment_short s due sendable =
     omega (arith, plain_segment_due s due sendable, report_options_short s, count_short s.sending due sendable)
 
-pub plain_segment_valid : (s : State) (due : Due) → FitsFields s → AreBytes (text_of s.sending due) → length (text_of s.sending due) ≤ max_mss → IsValid (plain_segment s due)
-plain_segment_valid s due fits_fields bytes short =
+-- of any length that a segment may have
+pub text_segment_valid : (s : State) (due : Due) → FitsFields s → AreBytes (text_of s.sending due)
+    → header_len + sack_length (blocks_to_report s) + length (text_of s.sending due) ≤ max_len → IsValid (plain_segment s due)
+text_segment_valid s due fits_fields bytes short =
     let area : length (option_bytes (plain_segment s due)) ≡ sack_length (blocks_to_report s) = length-option_bytes (plain_segment s due) refl ∙ length-sack_options (blocks_to_report s) in
     let fits : sack_length (blocks_to_report s) ≤ 36 = sack_length-fits (blocks_to_report s) (blocks_to_report-few s) in
     record {
@@ -152,6 +159,9 @@ plain_segment_valid s due fits_fields bytes short =
       text = bytes;
       most = omega (arith, area, fits, short);
     }
+
+pub plain_segment_valid : (s : State) (due : Due) → FitsFields s → AreBytes (text_of s.sending due) → length (text_of s.sending due) ≤ max_mss → IsValid (plain_segment s due)
+plain_segment_valid s due fits_fields bytes short = text_segment_valid s due fits_fields bytes (omega (arith, short, report_options_short s))
 
 -- A RESET
 pub reset_segment_valid : (s : State) (r : WaitingReset) → s.config.port < 2 ^ 16 → r.to.port < 2 ^ 16 → r.seq.0 < 2 ^ 32 → reset_ack r.ack < 2 ^ 32 → IsValid (reset_segment s r)

@@ -19,6 +19,7 @@ pub mod Writing
 pub mod Emission
 pub mod Transmission
 pub mod Partial
+pub mod Train
 pub mod Status
 pub mod AtOnce
 pub mod Taking

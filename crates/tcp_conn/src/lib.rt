@@ -11,7 +11,8 @@
 //!   `resend_first` sends the first segment in flight again in place of all of them.
 //! - Fewer copies and sums: `peek` lends what is unread ([`Lent`]) and `consume` removes it. `parts` lends the text of
 //!   the segment that is due ([`Parts`]) and `sent` reports its emission. `arrive_vouched` takes what a device has
-//!   checked, and `emit_partial` leaves the checksum to it.
+//!   checked, and `emit_partial` leaves the checksum to it. `emit_train` writes many segments as one ([`Train`]), for a
+//!   device that cuts them.
 //! - [`Rest`] is the TIME-WAIT record: it takes the place of an end in TIME-WAIT, without buffers.
 //! - [`stray_reset`] answers a segment for which there is no end (RFC 9293, 3.10.7.1).
 //! - [`laws`]: the invariant of an end, what close, abort and timers do in each phase, and that a TIME-WAIT record acts
@@ -49,6 +50,7 @@ mod status;
 mod stray;
 mod taking;
 mod timers;
+mod train;
 mod transmission;
 mod vouched;
 mod windows;
@@ -70,4 +72,5 @@ pub use tcp_halves::{
     Config, ConfigError, DEFAULT_LIMIT, MAX_LIMIT, MAX_MSS, MAX_SHIFT, MIN_MSS, Peer, WaitingReset,
 };
 pub use tcp_sendq::MAX_CAPACITY;
+pub use train::{TRAIN_ROOM, Train};
 pub use transmission::{Kind, Transmit};

@@ -104,7 +104,7 @@ impl<A: Allocator> Endpoint<A> {
 
     /// Writes what is due at the start of `out`, and returns its length.
     #[tactic(auto, unfolding(crate::specs::Forms::segment_of, crate::specs::Writing::bytes_of, crate::specs::Partial::partial_of))]
-    fn write_partial(&self, due: Due, out: &mut [u8]) -> usize
+    pub(crate) fn write_partial(&self, due: Due, out: &mut [u8]) -> usize
         requires sendable { IsSendable self.now.sending max_mss due }
         requires room { EMIT_ROOM ≤ length out.old }
         ensures len { result ≡ wire_length (segment_of self.now due) }

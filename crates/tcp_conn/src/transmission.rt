@@ -66,7 +66,7 @@ fn kind_of(due: Due) -> Kind
 impl<A: Allocator> Endpoint<A> {
     /// What is reported of a segment of this length.
     #[inline(always)]
-    fn transmit_of(&self, due: Due, len: usize) -> Transmit
+    pub(crate) fn transmit_of(&self, due: Due, len: usize) -> Transmit
         ensures to { result.to ≡ (destination_of self.now due).addr }
         ensures len { result.len ≡ len }
         ensures kind { result.kind ≡ kind_of due }

@@ -1,0 +1,61 @@
+-- More than one segment goes out as one only where all but the last are full, and the buffer has room.
+use Rattle.std.proofs.Common.{◌≡◌, ℕ, zero, suc, subst, refl, sym, ap, ◌+◌, ◌-◌, ◌*◌, ◌/◌, ◌<◌, ◌≤◌, min, arith, mul-le-mul_right, div-mul-le_self}
+use Rattle.std.proofs.lemmas.Bool.Decides.{nat_tests}
+use Rattle.std.specs.Prelude.{Option, Some, None}
+use Rattle.tcp_wire.specs.Wire.{header_len, max_len}
+use Rattle.tcp_halves.specs.declared.sent.Sent.TheVariants.{NewText}
+use Rattle.tcp_halves.specs.Config.{max_mss}
+use Rattle.tcp_conn.specs.declared.due.Due.{Due}
+use Rattle.tcp_conn.specs.declared.due.Due.TheVariants.{Text}
+use Rattle.tcp_conn.specs.declared.emission.TheConstants.{EMIT_ROOM}
+use Rattle.tcp_conn.specs.State.{State, Sending}
+use Rattle.tcp_conn.specs.Blocks.{blocks_to_report, sack_length}
+use Rattle.tcp_conn.specs.Due.{due_of}
+use Rattle.tcp_conn.specs.Train.{IsTogether, after_emissions, count_for, count_of_due, count_together, text_allowed, train_count}
+use Rattle.tcp_conn.proofs.Segments.{report_options_short}
+use Rattle.tcp_conn.proofs.Trains.{is_new_text}
+
+-- text that is allowed follows on what was sent
+allowed-behind : (s : Sending) → 0 < text_allowed s → s.released < s.nxt
+allowed-behind s some = grind (arith, nat_tests)
+
+-- all segments before the last are full
+before-last : (more text each : ℕ) → 0 < each → suc more ≤ (text + (each - 1)) / each → more * each < text
+before-last more text each some few =
+    let step : suc more * each ≡ more * each + each = omega arith in
+    omega (arith, step, some, mul-le-mul_right each few, div-mul-le_self (text + (each - 1)) each)
+
+all-full : (count text each : ℕ) → 0 < each → count ≤ count_for text each → 0 < count → (count - 1) * each < text
+all-full zero text each some few positive = absurd (omega (arith, positive))
+all-full (suc more) text each some few positive =
+    let same : more ≡ suc more - 1 = omega arith in
+    subst (λ k. k * each < text) same (before-last more text each some few)
+
+fit : (count room each : ℕ) → count ≤ room / each → count * each ≤ room
+fit count room each few = omega (arith, mul-le-mul_right each few, div-mul-le_self room each)
+
+pub together : (s : State) (most room start each : ℕ) → due_of s ≡ Some (Text (NewText start each)) → each ≤ max_mss → EMIT_ROOM ≤ room
+    → 1 < count_together s most room (Text (NewText start each)) → IsTogether s start each (count_together s most room (Text (NewText start each))) room
+together s most room start each due short large several =
+    let count = count_together s most room (Text (NewText start each)) in
+    let new = is_new_text s start each due in
+    let allowed = all-full count (text_allowed s.sending) each new.some (omega (arith, several)) (omega (arith, several)) in
+    record {
+      several = several;
+      follows = new.at;
+      behind = allowed-behind s.sending (omega (arith, allowed));
+      some = new.some;
+      short = short;
+      allowed = allowed;
+      fits = omega (arith, large, report_options_short s, fit count (min room max_len - (header_len + sack_length (blocks_to_report s))) each (omega (arith, several)));
+    }
+
+-- where nothing is due, nothing is emitted
+pub none_emitted : (s : State) (most room : ℕ) → due_of s ≡ None → s ≡ after_emissions (train_count s most room) s
+unfolding train_count after_emissions
+none_emitted s most room none = sym (ap (λ (due : Option Due). after_emissions (count_of_due s most room due) s) none)
+
+pub more-than-one : (n : ℕ) → 0 < n → (n ≡ 1 → ⊥) → 1 < n
+more-than-one zero some several = absurd (omega (arith, some))
+more-than-one (suc zero) some several = absurd (several refl)
+more-than-one (suc (suc n)) some several = omega arith
