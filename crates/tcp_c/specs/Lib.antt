@@ -8,3 +8,4 @@ pub mod Reports
 pub mod Rests
 pub mod Segments
 pub mod Status
+pub mod Trains

@@ -38,6 +38,14 @@
 //! } tcp_c_transmit_record;
 //!
 //! typedef struct {
+//!     tcp_c_addr to;
+//!     uint32_t kind;
+//!     size_t length;
+//!     uint64_t position;
+//!     size_t count, header, each, segments;
+//! } tcp_c_train_record;
+//!
+//! typedef struct {
 //!     uint32_t mark;
 //!     tcp_c_addr addr, peer_addr;
 //!     uint16_t port, peer_port;
@@ -88,6 +96,7 @@
 //! uint32_t tcp_c_taken_vouched(tcp_c_handle *handle, const tcp_c_addr *src, const tcp_c_addr *dst, const uint8_t *bytes, size_t bytes_length, tcp_c_taken_record *taken);
 //! uint32_t tcp_c_emit(tcp_c_handle *handle, uint8_t *out, size_t out_length, tcp_c_addr *to, size_t *count);
 //! uint32_t tcp_c_emit_partial(tcp_c_handle *handle, uint8_t *out, size_t out_length, tcp_c_addr *to, size_t *count);
+//! uint32_t tcp_c_emit_train(tcp_c_handle *handle, uint8_t *out, size_t out_length, size_t most, tcp_c_train_record *train);
 //! uint32_t tcp_c_emit_acknowledgement(tcp_c_handle *handle, uint8_t *out, size_t out_length, tcp_c_addr *to, size_t *count);
 //! uint32_t tcp_c_resend_first(tcp_c_handle *handle);
 //! uint32_t tcp_c_parts(tcp_c_handle *handle, uint8_t *header, size_t header_length, tcp_c_parts_record *parts);
@@ -147,6 +156,7 @@ mod room;
 mod segments;
 mod status;
 mod timing;
+mod trains;
 mod user;
 mod vouched;
 
@@ -161,7 +171,7 @@ pub use making::{tcp_c_free, tcp_c_new};
 pub use pacing::{tcp_c_emit_acknowledgement, tcp_c_resend_first};
 pub use partial::tcp_c_emit_partial;
 pub use parts::{tcp_c_parts, tcp_c_sent};
-pub use records::{CAddr, CConfig, CLent, CParts, CRest, CStatus, CTaken, CTransmit};
+pub use records::{CAddr, CConfig, CLent, CParts, CRest, CStatus, CTaken, CTrain, CTransmit};
 pub use reports::{tcp_c_next, tcp_c_taken, tcp_c_transmit};
 pub use rest_calls::{
     tcp_c_rest, tcp_c_rest_abort, tcp_c_rest_arrive, tcp_c_rest_emit, tcp_c_rest_pending,
@@ -172,6 +182,7 @@ pub use room::tcp_c_room;
 pub use segments::{tcp_c_arrive, tcp_c_emit, tcp_c_stray_reset, tcp_c_take};
 pub use status::{tcp_c_peer, tcp_c_pending, tcp_c_status};
 pub use timing::{tcp_c_timer, tcp_c_timers};
+pub use trains::tcp_c_emit_train;
 pub use user::{
     tcp_c_abort, tcp_c_acknowledge, tcp_c_close, tcp_c_connect, tcp_c_listen, tcp_c_receive,
     tcp_c_send,

@@ -124,6 +124,28 @@ pub struct CTransmit {
     pub count: usize,
 }
 
+/// Segments that were written as one.
+#[repr(C)]
+#[derive(Clone, Copy)]
+pub struct CTrain {
+    /// The address that they go to.
+    pub to: CAddr,
+    /// The kind of the segment: TCPCORE_KIND_NONE, 0, where there is none.
+    pub kind: u32,
+    /// Its length in bytes, with its header.
+    pub length: usize,
+    /// Where it begins, as a position of this end's direction.
+    pub position: u64,
+    /// The length of all its text in bytes.
+    pub count: usize,
+    /// The length of its header in bytes with options, which each segment has.
+    pub header: usize,
+    /// The length of the text of each segment but the last in bytes.
+    pub each: usize,
+    /// How many segments it is.
+    pub segments: usize,
+}
+
 /// The TIME-WAIT record in the place of an end: a plain value, which may be copied, stored and moved.
 #[repr(C)]
 #[derive(Clone, Copy)]

@@ -62,7 +62,7 @@ pub(crate) fn brought_number(brought: Brought) -> u32
 }
 
 /// The number of the kind of a segment.
-fn kind_number(kind: Kind) -> u32
+pub(crate) fn kind_number(kind: Kind) -> u32
     ensures { result ≡ kind_number kind }
 {
     match kind {
