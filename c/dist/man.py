@@ -74,7 +74,8 @@ def entries(body, form):
 
 def fields(body):
     """A struct's fields, each below its comment, as (declaration, comment)."""
-    form = r"/\*((?:(?!\*/).)*)\*/\s*((?:uint\d+_t|size_t|tcpcore_addr|tcpcore_piece|const void) \*?\w+(?:\[\d+\])?);"
+    kind = r"(?:uint\d+_t|size_t|tcpcore_addr|tcpcore_piece|struct tcpcore_transmit|const void)"
+    form = rf"/\*((?:(?!\*/).)*)\*/\s*({kind} \*?\w+(?:\[\d+\])?);"
     return [(declaration, text) for text, declaration in re.findall(form, body, re.S)]
 
 

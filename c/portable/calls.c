@@ -31,6 +31,7 @@ static const u8 OF_CONFIG[] = {1, 1, 1, 1, 2, 2, 4, 4, 8, 8, 8, 1, 1, 1, 0};
 static const u8 OF_STATUS[] = {4, 4, 8, 8, 8, 8, 8, 8, 8, 8, 4, 1, 1, 1, 1, 4, 4, 8, 4, 4, 0};
 static const u8 OF_TAKEN[] = {4, 4, 8, 4, 4, 4, 0};
 static const u8 OF_TRANSMIT[] = {1, 1, 1, 1, 4, 8, 8, 8, 0};
+static const u8 OF_TRAIN[] = {1, 1, 1, 1, 4, 8, 8, 8, 8, 8, 8, 0};
 static const u8 OF_LENT[] = {8, 8, 8, 8, 4, 0};
 static const u8 OF_PARTS[] = {1, 1, 1, 1, 4, 8, 8, 8, 8, 0};
 static const u8 OF_REST[] = {4, 1, 1, 1, 1, 1, 1, 1, 1, 2, 2, 4, 4, 4, 1, 1, 1, 1, 4, 4, 2, 1, 1, 2, 2, 0};
@@ -298,6 +299,17 @@ static uint32_t tcp_c_emit_partial(struct handle *handle, uint8_t *out, size_t r
     put_written(&call, to, out, room);
     uint32_t answer = w2c_tcp_c_emit_partial(M, AT_HANDLE, WINDOW(IN_WRITTEN), length_of(room), AT_DST, AT_FOUND);
     get_written(&call, to, length);
+    end_with(&call, handle);
+    return answer;
+}
+
+static uint32_t tcp_c_emit_train(struct handle *handle, uint8_t *out, size_t room, size_t most, struct train *train)
+{
+    WITH_END(handle);
+    carry_record(call.frame + AT_RECORD, train, OF_TRAIN);
+    see(&call, IN_WRITTEN, out, room);
+    uint32_t answer = w2c_tcp_c_emit_train(M, AT_HANDLE, WINDOW(IN_WRITTEN), length_of(room), most, AT_RECORD);
+    carry_record(train, call.frame + AT_RECORD, OF_TRAIN);
     end_with(&call, handle);
     return answer;
 }

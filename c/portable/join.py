@@ -32,7 +32,7 @@ void *memset(void *, int, size_t);
 """
 # What wasm2c's functions may name beside each other and themselves: what memory.c has.
 KNOWN = set(re.findall(r"\b(?:LOAD|STORE)\((\w+),", (HERE / "memory.c").read_text())) | {
-    "memory_copy", "memory_fill", "REM_U", "I32_ROTR", "UNREACHABLE", "if", "u8", "u16", "u32", "u64", "s32", "s64"}
+    "memory_copy", "memory_fill", "REM_U", "DIV_U", "I32_ROTR", "UNREACHABLE", "if", "u8", "u16", "u32", "u64", "s32", "s64"}
 HEAD = """\
 /*
  * tcpcore_portable.c: tcpcore.h for any machine with a C99 compiler that has uint8_t, uint16_t, uint32_t, uint64_t and uintptr_t.
@@ -102,7 +102,7 @@ def functions(text, module):
     body = text[start : text.index("/* export: ")]
     names = set(re.findall(rf"^static (?:u32|u64|void) (w2c_\w+)\({instance}", declared, re.M))
     unknown = set(re.findall(r"\b([A-Za-z_]\w*)\(", body)) - names - KNOWN
-    # REM_U of memory.c is of 32 bits.
+    # REM_U of memory.c is of 32 bits, DIV_U of 64, which are enough for 32.
     if unknown or re.search(r"\b(?:f32|f64|memory_init|funcref|REM_U\(w2c_j)\b", body):
         stop(f"the functions name {sorted(unknown)}")
     for old, new in [(f"Z_{module}_instance_t*", "Machine *"), *RENAMED]:

@@ -191,6 +191,25 @@ static inline u32 remainder_of(u32 value, u32 by)
     return value % by;
 }
 
+/* Of 64 bits: bit by bit where a value is longer than 32, since a small processor has no such division, nor has every linker. */
+static inline u64 quotient_of(u64 value, u64 by)
+{
+    u64 quotient = 0, rest = 0;
+    if (by == 0)
+        stop();
+    if ((value | by) >> 32 == 0)
+        return (u32)value / (u32)by;
+    for (int step = 0; step < 64; step++) {
+        int is_long = rest >> 63 != 0;
+        rest = rest << 1 | value >> 63;
+        value <<= 1, quotient <<= 1;
+        if (is_long || rest >= by)
+            rest -= by, quotient |= 1;
+    }
+    return quotient;
+}
+
 #define UNREACHABLE stop()
 #define REM_U(x, y) remainder_of(x, y)
+#define DIV_U(x, y) quotient_of(x, y)
 #define I32_ROTR(x, y) ((x) >> ((y) & 31) | (x) << ((32 - (y)) & 31))

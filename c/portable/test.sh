@@ -18,7 +18,7 @@ native=$(realpath -m "${1:-../../crates/tcp_c/out/libtcp_c.a}")
 layer=$(realpath ../tcpcore)
 file=out/tcpcore_portable.c
 clean="-Wall -Wextra -Wpedantic -Wcast-qual -Wshadow -Wstrict-prototypes -Wno-unused-parameter -Werror"
-tests="examples/two_ends tests/misuse tests/misuse_rest tests/room tests/fields tests/answers tests/cautions tests/rest tests/reports tests/misuse_lending tests/lending tests/pacing tests/stack"
+tests="examples/two_ends tests/misuse tests/misuse_rest tests/room tests/fields tests/answers tests/cautions tests/rest tests/reports tests/misuse_lending tests/lending tests/train tests/pacing tests/stack"
 passed=0
 
 pass() { passed=$((passed + 1)); }
@@ -126,6 +126,13 @@ ahead() {
     pass
 }
 
+# And a division of 64 bits is one.
+quotient() {
+    gcc -std=c99 -Wall -Wextra -Wno-unused-function -Werror -g -O1 -fsanitize=address,undefined -fno-sanitize-recover=all tests/quotient.c -o out/quotient
+    out/quotient || fail "a division isn't one"
+    pass
+}
+
 [[ -e $file ]] || fail "no $file: run c/portable/build.sh"
 [[ -e $native ]] || fail "no $native: run 'rt lib' in crates/tcp_c"
 run='' linked=''
@@ -155,6 +162,7 @@ here() {
     calls_over sanitized gcc $sanitizers
     stops
     ahead
+    quotient
     [[ -z $short ]] || return 0
     object x86-64 gcc -Os
     object x86-64.unchecked gcc -Os -DTCPCORE_UNCHECKED

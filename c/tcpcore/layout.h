@@ -63,6 +63,27 @@ FIELD(struct tcpcore_transmit, count, 24, 8);
 /* The library writes nothing behind these. */
 FIELD(struct tcpcore_transmit, reserved, 32, 32);
 _Static_assert(sizeof(struct tcpcore_transmit) == 64, "the size of struct tcpcore_transmit");
+
+/* Segments that were written as one. */
+struct train {
+    tcpcore_addr to;
+    uint32_t kind;
+    uint64_t length;
+    uint64_t position;
+    uint64_t count;
+    uint64_t header;
+    uint64_t each;
+    uint64_t segments;
+};
+FIELD(struct train, to, 0, 4);
+FIELD(struct train, kind, 4, 4);
+FIELD(struct train, length, 8, 8);
+FIELD(struct train, position, 16, 8);
+FIELD(struct train, count, 24, 8);
+FIELD(struct train, header, 32, 8);
+FIELD(struct train, each, 40, 8);
+FIELD(struct train, segments, 48, 8);
+_Static_assert(sizeof(struct train) == 56, "the size of struct train");
 FIELD(struct tcpcore_rest, mark, 0, 4);
 FIELD(struct tcpcore_rest, addr, 4, 4);
 FIELD(struct tcpcore_rest, peer_addr, 8, 4);

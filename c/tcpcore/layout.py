@@ -1,7 +1,8 @@
 #!/usr/bin/env python3
 """Makes what repeats the records of crates/tcp_c/src/records.rt: layout.h, the fields of the structs in tcpcore.h with their
 comments, those of tcpcore.py, and those of the Rust crate. A field of a record is written by hand in records.rt alone. The structs
-that C alone has (tcpcore_piece, tcpcore_lent, tcpcore_parts, and that of an end) stand in tcpcore.h and in each binding.
+that C alone has (tcpcore_piece, tcpcore_lent, tcpcore_parts, tcpcore_train, and that of an end) stand in tcpcore.h and in each
+binding.
 
 layout.py writes them anew; layout.py --check changes nothing, and fails where one isn't what it would write.
 """
@@ -59,6 +60,7 @@ STRUCTS = {
     "CStatus": Struct("struct tcpcore_status", 128),
     "CTaken": Struct("struct tcpcore_taken", 64),
     "CTransmit": Struct("struct tcpcore_transmit", 64),
+    "CTrain": Struct("struct train", inner=True),
     "CRest": Struct("struct tcpcore_rest"),
     "CLent": Struct("struct lent", inner=True),
     "CParts": Struct("struct parts", inner=True),
@@ -181,7 +183,8 @@ def in_layout(name: str, fields: list[Field]) -> list[str]:
     """The lines of layout.h on a struct; and the struct itself, where records alone have it."""
     struct, lines = STRUCTS[name], []
     if struct.inner:
-        lines += ["", f"/* {comments()[name]} An address has 64 bits on any machine. */", f"{struct.c} {{"]
+        pointers = " An address has 64 bits on any machine." if any(field.type.startswith("*") for field in fields) else ""
+        lines += ["", f"/* {comments()[name]}{pointers} */", f"{struct.c} {{"]
         lines += [f"    {field.kind.c} {field.name};" for field in fields]
         if size_of(fields) > fields[-1].behind:
             lines += ["    uint32_t padding; /* where a number of 64 bits is aligned to 4 bytes, too */"]

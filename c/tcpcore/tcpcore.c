@@ -49,6 +49,7 @@ uint32_t tcp_c_peek(struct handle *, struct lent *);
 uint32_t tcp_c_consume(struct handle *, size_t, size_t *);
 uint32_t tcp_c_emit(struct handle *, uint8_t *, size_t, tcpcore_addr *, size_t *);
 uint32_t tcp_c_emit_partial(struct handle *, uint8_t *, size_t, tcpcore_addr *, size_t *);
+uint32_t tcp_c_emit_train(struct handle *, uint8_t *, size_t, size_t, struct train *);
 uint32_t tcp_c_emit_acknowledgement(struct handle *, uint8_t *, size_t, tcpcore_addr *, size_t *);
 uint32_t tcp_c_resend_first(struct handle *);
 uint32_t tcp_c_parts(struct handle *, uint8_t *, size_t, struct parts *);
@@ -407,6 +408,27 @@ uint32_t tcpcore_emit_partial(tcpcore_end *end, void *out, size_t room, tcpcore_
 uint32_t tcpcore_emit_acknowledgement(tcpcore_end *end, void *out, size_t room, tcpcore_addr *to, size_t *length)
 {
     return write_by(EMIT_ACKNOWLEDGEMENT, end, out, room, to, length);
+}
+
+uint32_t tcpcore_emit_train(tcpcore_end *end, void *out, size_t room, size_t most, struct tcpcore_train *train)
+{
+    struct tcpcore_train found = {.segments = 0};
+    struct place place = {train, sizeof *train};
+    uint32_t answer = refusal_with(end, out, room, place);
+    if (answer == TCPCORE_DONE) {
+        struct train told = {.segments = 0};
+        answer = tcp_c_emit_train(handle(end), start(out), room, most, &told);
+        found.whole.to = told.to;
+        found.whole.kind = told.kind;
+        found.whole.length = told.length;
+        found.whole.position = told.position;
+        found.whole.count = told.count;
+        found.header = told.header;
+        found.each = told.each;
+        found.segments = told.segments;
+    }
+    put(place, end_at(end), out, room, &found);
+    return answer;
 }
 
 uint32_t tcpcore_parts(const tcpcore_end *end, void *header, size_t room, struct tcpcore_parts *parts)

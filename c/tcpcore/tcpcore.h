@@ -116,7 +116,7 @@ extern "C" {
 #endif
 
 /* The version of this header: it grows with each change of a struct, a call or an answer. */
-#define TCPCORE_VERSION 6
+#define TCPCORE_VERSION 7
 
 /* The answers; tcpcore_strerror has a text for each. */
 enum {
@@ -206,6 +206,10 @@ enum {
 
 /* The room that tcpcore_emit wants, in bytes: more than the longest segment of an end. */
 #define TCPCORE_EMIT_ROOM 1520
+
+/* The most bytes that tcpcore_emit_train uses: the length of the longest segment in an IPv4 packet. It wants no more room than
+   tcpcore_emit. */
+#define TCPCORE_TRAIN_ROOM 65515
 
 /* The room that tcpcore_parts wants, in bytes: the length of the longest header, options and all (RFC 9293, 3.1). */
 #define TCPCORE_HEADER_ROOM 60
@@ -392,6 +396,21 @@ struct tcpcore_transmit {
     uint64_t count;
     /* 0. Fields of later versions take their place from here: the struct's size stays. */
     uint32_t reserved[8];
+};
+
+/* Segments that tcpcore_emit_train wrote as one, which a device cuts: segment i, from 0 on, has the `each` bytes of its text from
+   i * each on, and the last one has the rest. */
+struct tcpcore_train {
+    /* What was written, as one segment: where it goes and begins, its kind, its length, and that of all its text. */
+    struct tcpcore_transmit whole;
+    /* The length of its header in bytes with options, which each segment has. */
+    uint64_t header;
+    /* The length of the text of each segment but the last, in bytes: 0 where there is no text. */
+    uint64_t each;
+    /* How many segments it is; 1 where there is nothing to cut. */
+    uint64_t segments;
+    /* 0. Fields of later versions take their place from here: the struct's size stays. */
+    uint32_t reserved[10];
 };
 
 /* Bytes that are lent where they lie: two fields in the order of POSIX's struct iovec. `at` is NULL where `length` is 0. */
@@ -625,6 +644,24 @@ uint32_t tcpcore_emit(tcpcore_end *end, void *out, size_t room, tcpcore_addr *to
  *   As tcpcore_emit.
  */
 uint32_t tcpcore_emit_partial(tcpcore_end *end, void *out, size_t room, tcpcore_addr *to, size_t *length);
+
+/*
+ * Emits the segments that are due as one, for a device that cuts it and sums what it has cut (segmentation offload: virtio-net
+ * with VIRTIO_NET_F_HOST_TSO4, a TUN device with TUN_F_TSO4). Of new text as many go together as what is queued and the peer's
+ * window allow, at most `most` of them, where 0 counts as 1, and as `room` has place for, of which at most TCPCORE_TRAIN_ROOM bytes
+ * are used. Anything else goes alone: a SYN, a FIN, a reset, an acknowledgement, text that is sent again. What is written is one
+ * segment with all the text; its checksum field has the sum of tcpcore_emit_partial, of a pseudo-header with the length of the whole.
+ *
+ * The device cuts the text after each train->each bytes. Each piece has the header of the whole, with the sequence number of its own
+ * first byte, a checksum of its own, and PSH on the last piece alone (RFC 9293, 3.1 and 3.9.1.2). These are the bytes that
+ * train->segments calls of tcpcore_emit would have written, and the end is as after them. In virtio-net's header of a packet whose
+ * IPv4 header begins at byte n, and has 20 bytes: flags VIRTIO_NET_HDR_F_NEEDS_CSUM, csum_start n + 20, csum_offset 16, hdr_len
+ * n + 20 + train->header. Where train->segments is above 1, gso_type is VIRTIO_NET_HDR_GSO_TCPV4 and gso_size is train->each; else
+ * VIRTIO_NET_HDR_GSO_NONE and 0. Of version 7.
+ *   DONE: it takes the first train->whole.length bytes of `out`, and is for address train->whole.to; more may be due. All else as of
+ *   tcpcore_emit.
+ */
+uint32_t tcpcore_emit_train(tcpcore_end *end, void *out, size_t room, size_t most, struct tcpcore_train *train);
 
 /*
  * As tcpcore_emit, but writes the acknowledgement that is pending, without data, even where data or the FIN is due (RFC 9293,

@@ -12,8 +12,9 @@ import ipaddress
 import os
 from typing import Any, Callable, NamedTuple, NoReturn, Optional, Union
 
-VERSION = 6
+VERSION = 7
 EMIT_ROOM = 1520
+TRAIN_ROOM = 65_515
 RESET_ROOM = 20
 REST_ROOM = 20
 STRUCT_ROOM = 32
@@ -171,6 +172,15 @@ class Transmit(NamedTuple):
     text_count: int
 
 
+class Train(NamedTuple):
+    """What `emit_train` reports of segments that it wrote as one: struct tcpcore_train has each field's meaning."""
+
+    whole: Transmit
+    header: int
+    each: int
+    segments: int
+
+
 class Lent(NamedTuple):
     """What is unread, as `peek` tells it: `ends` is whether the peer has closed, so that none comes after these bytes."""
 
@@ -282,6 +292,16 @@ class TransmitStruct(ctypes.Structure):
     ]
 
 
+class TrainStruct(ctypes.Structure):
+    _fields_ = [
+        ("whole", TransmitStruct),
+        ("header", ctypes.c_uint64),
+        ("each", ctypes.c_uint64),
+        ("segments", ctypes.c_uint64),
+        ("reserved", ctypes.c_uint32 * 10),
+    ]
+
+
 class PieceStruct(ctypes.Structure):
     _fields_ = [("at", ctypes.c_void_p), ("length", ctypes.c_size_t)]
 
@@ -335,6 +355,7 @@ CALLS = {
     "consume": [END, SIZE, OUT],
     "emit": [END, ctypes.c_char_p, SIZE, ctypes.POINTER(AddrStruct), OUT],
     "emit_partial": [END, ctypes.c_char_p, SIZE, ctypes.POINTER(AddrStruct), OUT],
+    "emit_train": [END, ctypes.c_char_p, SIZE, SIZE, ctypes.POINTER(TrainStruct)],
     "emit_acknowledgement": [END, ctypes.c_char_p, SIZE, ctypes.POINTER(AddrStruct), OUT],
     "resend_first": [END],
     "transmit": [END, ctypes.c_char_p, SIZE, ctypes.POINTER(TransmitStruct)],
@@ -649,6 +670,14 @@ class End:
         if self.calls["emit_partial"](self.end, self.segment, EMIT_ROOM, self.to, self.count) != DONE:
             return None
         return bytes(self.to.byte), ctypes.string_at(self.segment, self.count.value)
+
+    def emit_train(self, most: int) -> Optional[tuple[Train, bytes]]:
+        """Segments of new text as one, at most so many, for a device that cuts it and sums: what it is, and its bytes, or None."""
+        told, whole = TrainStruct(), ctypes.create_string_buffer(TRAIN_ROOM)
+        most = number("the number of segments", most, 8 * ctypes.sizeof(ctypes.c_size_t))
+        if self.calls["emit_train"](self.end, whole, TRAIN_ROOM, most, told) != DONE:
+            return None
+        return Train(transmit_of(told.whole), told.header, told.each, told.segments), ctypes.string_at(whole, told.whole.length)
 
     def emit_acknowledgement(self) -> Optional[tuple[bytes, bytes]]:
         """The acknowledgement that is pending, without data, whatever else is due, or None."""

@@ -178,6 +178,25 @@ static uint32_t partial(struct side *side, struct kept *kept, size_t given, size
     return answer;
 }
 
+/* As one, for a device that cuts it; what is kept is the whole. */
+static uint32_t train(struct side *side, struct kept *kept, size_t given, size_t *length)
+{
+    struct tcpcore_train all;
+    size_t longer = next(3) ? LONGEST : given + next(5000), most = next(2) ? next(5) : SIZE_MAX;
+    uint32_t answer = tcpcore_emit_train(&side->end, kept->bytes, given < TCPCORE_EMIT_ROOM ? given : longer, most, &all);
+    mix(all.whole.kind), mix(all.whole.position), mix(all.whole.count), mix(all.header), mix(all.each), mix(all.segments);
+    for (size_t i = 0; i < sizeof all.reserved / sizeof *all.reserved; i++)
+        mix(all.reserved[i]);
+    kept->to = all.whole.to;
+    *length = (size_t)all.whole.length;
+    mix_bytes(kept->bytes, *length);
+    if (answer == TCPCORE_DONE) {
+        kept->length = *length;
+        sign(kept, side->addr);
+    }
+    return answer;
+}
+
 static void emit(struct side *side, int rests)
 {
     struct kept *kept = &side->kept[side->emitted % KEPT];
@@ -185,9 +204,10 @@ static void emit(struct side *side, int rests)
     uint32_t alone = !rests && next(8) == 0;
     uint32_t answer = alone                    ? tcpcore_emit_acknowledgement(&side->end, kept->bytes, given, &kept->to, &length)
                       : rests                  ? tcpcore_rest_emit(&side->rest, kept->bytes, given, &kept->to, &length)
-                      : side->emitted % 4 == 1 ? transmit(side, kept, given, &length)
-                      : side->emitted % 4 == 2 ? partial(side, kept, given, &length)
-                      : side->emitted % 4 == 3 ? parts(side, kept, given, &length)
+                      : side->emitted % 5 == 1 ? transmit(side, kept, given, &length)
+                      : side->emitted % 5 == 2 ? partial(side, kept, given, &length)
+                      : side->emitted % 5 == 3 ? parts(side, kept, given, &length)
+                      : side->emitted % 5 == 4 ? train(side, kept, given, &length)
                                                : tcpcore_emit(&side->end, kept->bytes, given, &kept->to, &length);
     if (told(answer) == TCPCORE_DONE) {
         kept->length = length;

@@ -9,7 +9,7 @@ import sys
 
 sys.path.insert(0, os.path.dirname(os.path.dirname(os.path.realpath(__file__))))
 import tcpcore  # noqa: E402
-from tcpcore import Answer, Brought, Config, End, Ending, Kind, Lent, Phase, Refused, Rest, Rule, Taken, Timer, Transmit  # noqa: E402
+from tcpcore import Answer, Brought, Config, End, Ending, Kind, Lent, Phase, Refused, Rest, Rule, Taken, Timer, Train, Transmit  # noqa: E402
 
 A, B = "10.0.0.1", bytes([10, 0, 0, 2])
 GOOD = Config(A, 1, 1460, 7, 1000, 1000, None, True)
@@ -128,6 +128,34 @@ def lending():
     check(raised(Refused, End(GOOD).consume, 1), "not open yet")
 
 
+def trains():
+    """Segments as one, and what a device makes of them."""
+    a, b = opened(bytes)
+    for end in (a, b):
+        end.free()
+    a, b = End(GOOD._replace(mss=100)), End(GOOD._replace(addr=B, port=2))
+    b.listen()
+    a.connect(B, 2)
+    check(a.emit_train(9)[0], Train(Transmit(B, Kind.SYN, 28, 0, 0), 28, 0, 1))
+    a.timer(Timer.RETRANSMIT)
+    for source, target, addr in ((a, b, A), (b, a, B), (a, b, A)):
+        to, segment = source.emit()
+        check(target.arrive(addr, to, segment), Answer.DONE)
+    text = bytes(range(250))
+    a.send(text)
+    told, whole = a.emit_train(9)
+    check(told, Train(Transmit(B, Kind.NEW_TEXT, 270, 1, 250), 20, 100, 3))
+    check((whole[20:], whole[13]), (text, 0x18))
+    for i in range(told.segments):
+        header = bytearray(whole[: told.header])
+        header[4:8] = (int.from_bytes(whole[4:8], "big") + i * told.each).to_bytes(4, "big")
+        if i + 1 < told.segments:
+            header[13] &= ~8
+        check(b.arrive_vouched(A, told.whole.to, header + text[i * told.each :][: told.each]), Answer.DONE)
+    check((b.receive(), a.emit_train(9)), (text, None))
+    check(raised(ValueError, a.emit_train, -1)[:25], "the number of segments is")
+
+
 def enums():
     a, b = opened(bytes)
     status = a.status()
@@ -150,7 +178,7 @@ def enums():
 
 
 def main():
-    for test in (ranges, refusals, copies, buffers, lending, enums):
+    for test in (ranges, refusals, copies, buffers, lending, trains, enums):
         test()
     print(f"calls.py: {checks} checks")
 

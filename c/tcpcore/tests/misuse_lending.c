@@ -42,6 +42,9 @@ static void no_parts(const struct tcpcore_parts *parts)
     CHECK(is_zero(parts->reserved, sizeof parts->reserved), 1);
 }
 
+/* No segment was written: all is 0. */
+static void no_train(const struct tcpcore_train *train) { CHECK(is_zero(train, sizeof *train), 1); }
+
 /* Each call answers `wanted`, tells 0, and leaves the buffer as it is. */
 static void every_call(tcpcore_end *end, uint32_t wanted)
 {
@@ -49,6 +52,7 @@ static void every_call(tcpcore_end *end, uint32_t wanted)
     struct tcpcore_lent lent;
     struct tcpcore_parts parts;
     struct tcpcore_taken report;
+    struct tcpcore_train train;
     tcpcore_addr to = THERE;
     size_t count = 7, taken = 7;
     memset(buffer, 0xee, sizeof buffer);
@@ -65,6 +69,9 @@ static void every_call(tcpcore_end *end, uint32_t wanted)
     CHECK(tcpcore_emit_partial(end, buffer, sizeof buffer, &to, &count), wanted);
     CHECK(count, 0);
     CHECK(memcmp(&to, &NOWHERE, sizeof to), 0);
+    memset(&train, 7, sizeof train);
+    CHECK(tcpcore_emit_train(end, buffer, sizeof buffer, 9, &train), wanted);
+    no_train(&train);
     CHECK(tcpcore_parts(end, buffer, sizeof buffer, &parts), wanted);
     no_parts(&parts);
     CHECK(tcpcore_sent(end), wanted);
@@ -100,6 +107,7 @@ static void pointers(tcpcore_end *end)
     unsigned char buffer[TCPCORE_EMIT_ROOM] = {0};
     struct tcpcore_parts parts;
     struct tcpcore_taken report;
+    struct tcpcore_train train;
     tcpcore_addr to = THERE;
     size_t count = 7;
     CHECK(tcpcore_peek(end, NULL), TCPCORE_NULL);
@@ -115,6 +123,15 @@ static void pointers(tcpcore_end *end)
     CHECK(tcpcore_emit_partial(end, buffer, sizeof buffer, &to, NULL), TCPCORE_NULL);
     CHECK(tcpcore_emit_partial(end, buffer, SIZE_MAX, &to, &count), TCPCORE_LENGTH);
     CHECK(tcpcore_emit_partial(end, buffer, TCPCORE_EMIT_ROOM - 1, &to, &count), TCPCORE_ROOM);
+    CHECK(tcpcore_emit_train(end, NULL, sizeof buffer, 9, &train), TCPCORE_NULL);
+    CHECK(tcpcore_emit_train(end, buffer, sizeof buffer, 9, NULL), TCPCORE_NULL);
+    CHECK(tcpcore_emit_train(end, buffer, SIZE_MAX, 9, &train), TCPCORE_LENGTH);
+    memset(&train, 7, sizeof train);
+    CHECK(tcpcore_emit_train(end, buffer, TCPCORE_EMIT_ROOM - 1, 9, &train), TCPCORE_ROOM);
+    no_train(&train);
+    memset(&train, 7, sizeof train);
+    CHECK(tcpcore_emit_train(end, NULL, 0, 9, &train), TCPCORE_ROOM);
+    no_train(&train);
     CHECK(tcpcore_emit_acknowledgement(end, NULL, sizeof buffer, &to, &count), TCPCORE_NULL);
     CHECK(tcpcore_emit_acknowledgement(end, buffer, sizeof buffer, NULL, &count), TCPCORE_NULL);
     CHECK(tcpcore_emit_acknowledgement(end, buffer, sizeof buffer, &to, NULL), TCPCORE_NULL);
@@ -143,11 +160,13 @@ static void overlaps(void)
         size_t count;
         struct tcpcore_taken taken;
         struct tcpcore_parts parts;
+        struct tcpcore_train train;
         unsigned char bytes[TCPCORE_EMIT_ROOM];
     } shared = {.bytes = {0}};
     unsigned char *first = (unsigned char *)&place.end;
     struct tcpcore_parts parts;
     struct tcpcore_taken report;
+    struct tcpcore_train train;
     tcpcore_addr to;
     size_t count;
     make(&place.end, HERE);
@@ -164,6 +183,8 @@ static void overlaps(void)
         CHECK(tcpcore_emit_acknowledgement(&place.end, over, TCPCORE_EMIT_ROOM, &to, &count), TCPCORE_OVERLAP);
         CHECK(tcpcore_emit_partial(&place.end, place.behind, TCPCORE_EMIT_ROOM, over, &count), TCPCORE_OVERLAP);
         CHECK(tcpcore_emit_partial(&place.end, place.behind, TCPCORE_EMIT_ROOM, &to, over), TCPCORE_OVERLAP);
+        CHECK(tcpcore_emit_train(&place.end, over, TCPCORE_EMIT_ROOM, 9, &train), TCPCORE_OVERLAP);
+        CHECK(tcpcore_emit_train(&place.end, place.behind, TCPCORE_EMIT_ROOM, 9, over), TCPCORE_OVERLAP);
         CHECK(tcpcore_parts(&place.end, over, TCPCORE_HEADER_ROOM, &parts), TCPCORE_OVERLAP);
         CHECK(tcpcore_parts(&place.end, place.behind, TCPCORE_HEADER_ROOM, over), TCPCORE_OVERLAP);
         CHECK(memcmp(&place.end, &before, sizeof before), 0);
@@ -173,6 +194,7 @@ static void overlaps(void)
     CHECK(tcpcore_emit_partial(&place.end, shared.bytes, sizeof shared.bytes, &shared.to, &count), TCPCORE_OVERLAP);
     CHECK(tcpcore_emit_partial(&place.end, shared.bytes, sizeof shared.bytes, &to, &shared.count), TCPCORE_OVERLAP);
     CHECK(tcpcore_emit_partial(&place.end, place.behind, sizeof place.behind, &shared.to, &shared.count), TCPCORE_OVERLAP);
+    CHECK(tcpcore_emit_train(&place.end, shared.bytes, sizeof shared.bytes, 9, &shared.train), TCPCORE_OVERLAP);
     CHECK(tcpcore_parts(&place.end, shared.bytes, sizeof shared.bytes, &shared.parts), TCPCORE_OVERLAP);
     CHECK(is_zero(shared.bytes, sizeof shared.bytes), 1);
     /* None of it changed the end: the SYN is due, 20 bytes and 4 + 2 of options, in whole words. */
@@ -187,6 +209,9 @@ static void overlaps(void)
     no_parts(&parts);
     CHECK(tcpcore_sent(&place.end), TCPCORE_DONE);
     CHECK(tcpcore_emit_partial(&place.end, place.behind, sizeof place.behind, &to, &count), TCPCORE_NOT_DUE);
+    memset(&train, 7, sizeof train);
+    CHECK(tcpcore_emit_train(&place.end, place.behind, sizeof place.behind, 9, &train), TCPCORE_NOT_DUE);
+    no_train(&train);
     CHECK(tcpcore_free(&place.end), TCPCORE_DONE);
 }
 

@@ -58,6 +58,7 @@ static void carry(tcpcore_end *from, tcpcore_addr src, tcpcore_end *to)
     struct tcpcore_transmit sent;
     struct tcpcore_taken taken;
     struct tcpcore_parts parts;
+    struct tcpcore_train train;
     tcpcore_addr dst;
     size_t length;
     uint32_t answer;
@@ -81,6 +82,9 @@ static void carry(tcpcore_end *from, tcpcore_addr src, tcpcore_end *to)
             DEPTH(count % 2 ? tcpcore_arrive_vouched(to, src, dst, segment, length)
                             : tcpcore_taken_vouched(to, src, dst, segment, length, &taken));
         DEPTH(tcpcore_sent(from));
+        DEPTH(answer = tcpcore_emit_train(from, segment, sizeof segment, 4, &train));
+        if (answer == TCPCORE_DONE && ++count % 5 != 0)
+            DEPTH(tcpcore_arrive_vouched(to, src, train.whole.to, segment, (size_t)train.whole.length));
     }
 }
 

@@ -46,6 +46,7 @@ mod placed;
 mod reports;
 mod rest;
 mod sys;
+mod trains;
 
 pub use answers::{Agreed, Arrival, Ending, Error, Malformed, Phase, Received, Status, Timer, Timers};
 #[cfg(feature = "std")]
@@ -55,6 +56,7 @@ pub use lending::{Lent, Parts, HEADER_ROOM};
 pub use placed::{memory, Placed};
 pub use reports::{Brought, Kind, Rule, Taken, Transmit};
 pub use rest::Rest;
+pub use trains::{Train, TRAIN_ROOM};
 
 use answers::done;
 

@@ -190,7 +190,7 @@ pub struct Transmit {
 
 impl Transmit {
     /// Of an answer that says that a segment is due.
-    fn of(answer: u32, told: &sys::Transmit) -> Option<Transmit> {
+    pub(crate) fn of(answer: u32, told: &sys::Transmit) -> Option<Transmit> {
         (answer == 0).then(|| Transmit {
             to: told.to.byte,
             kind: KINDS[told.kind as usize - 1].0,

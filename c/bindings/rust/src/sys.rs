@@ -2,7 +2,7 @@
 use core::ffi::c_void;
 use core::ptr;
 
-pub(crate) const VERSION: u32 = 6;
+pub(crate) const VERSION: u32 = 7;
 pub(crate) const END_SIZE: usize = 704;
 pub(crate) const UNIT: usize = 16;
 pub(crate) const STRUCT_ROOM: usize = 32;
@@ -85,6 +85,16 @@ pub struct Transmit {
 }
 
 #[repr(C)]
+#[derive(Clone, Copy, Default)]
+pub struct Train {
+    pub whole: Transmit,
+    pub header: u64,
+    pub each: u64,
+    pub segments: u64,
+    pub reserved: [u32; 10],
+}
+
+#[repr(C)]
 pub struct Piece {
     pub at: *const c_void,
     pub length: usize,
@@ -157,6 +167,7 @@ extern "C" {
     pub fn tcpcore_emit_acknowledgement(end: *mut End, out: *mut c_void, room: usize, to: *mut Addr, length: *mut usize) -> u32;
     pub fn tcpcore_resend_first(end: *mut End) -> u32;
     pub fn tcpcore_emit_partial(end: *mut End, out: *mut c_void, room: usize, to: *mut Addr, length: *mut usize) -> u32;
+    pub fn tcpcore_emit_train(end: *mut End, out: *mut c_void, room: usize, most: usize, train: *mut Train) -> u32;
     pub fn tcpcore_parts(end: *const End, header: *mut c_void, room: usize, parts: *mut Parts) -> u32;
     pub fn tcpcore_sent(end: *mut End) -> u32;
     pub fn tcpcore_transmit(end: *mut End, out: *mut c_void, room: usize, transmit: *mut Transmit) -> u32;
@@ -288,13 +299,15 @@ mod tests {
             places!(Piece, "struct tcpcore_piece", at, length),
             places!(Lent, "struct tcpcore_lent", first, second, ends, reserved),
             places!(Parts, "struct tcpcore_parts", to, header, first, second, reserved),
+            places!(Train, "struct tcpcore_train", whole, header, each, segments, reserved),
         ];
         let (expressions, found): (Vec<_>, Vec<_>) = all.into_iter().unzip();
         let (expressions, found) = (expressions.concat(), found.concat());
-        let constants = "TCPCORE_EMIT_ROOM, TCPCORE_HEADER_ROOM, TCPCORE_RESET_ROOM, TCPCORE_REST_ROOM, \
+        let constants = "TCPCORE_EMIT_ROOM, TCPCORE_TRAIN_ROOM, TCPCORE_HEADER_ROOM, TCPCORE_RESET_ROOM, TCPCORE_REST_ROOM, \
                          TCPCORE_MEMORY(17, 1) + TCPCORE_STRUCT_ROOM, TCPCORE_LIMIT, TCPCORE_VERSION";
         let memory = crate::memory(17, 1);
-        let constants_found = [crate::EMIT_ROOM, crate::HEADER_ROOM, crate::RESET_ROOM, crate::RESET_ROOM, memory].map(|it| it as u64);
+        let rooms = [crate::EMIT_ROOM, crate::TRAIN_ROOM, crate::HEADER_ROOM, crate::RESET_ROOM, crate::RESET_ROOM, memory];
+        let constants_found = rooms.map(|it| it as u64);
         let wanted: Vec<u64> = found.into_iter().map(|it| it as u64).chain(constants_found).chain([crate::LIMIT, VERSION.into()]).collect();
         assert_eq!(told("layouts", &format!("{}, {constants}", expressions.join(", "))), wanted);
     }

@@ -49,6 +49,7 @@ struct Met {
     at_the_end: u32,
     refused: u32,
     partial: u32,
+    alone: u32,
     text_in_two: u32,
     transmitted: u32,
     of_no_sum: u32,
@@ -120,10 +121,10 @@ impl Traffic {
         }
     }
 
-    /// The second pair's segment, by one of three ways.
+    /// The second pair's segment, by one of four ways.
     fn emit_otherwise(&mut self, i: usize) -> Option<(Addr, Vec<u8>)> {
         let (end, mut room) = (&mut self.new[i], [0x5a; EMIT_ROOM]);
-        let found = match self.any.below(3) {
+        let found = match self.any.below(4) {
             0 => {
                 let (to, segment) = end.emit_partial(&mut room)?;
                 let mut segment = segment.to_vec();
@@ -145,6 +146,17 @@ impl Traffic {
                 let written = found.as_ref().map_or(0, |(_, segment)| usize::from(segment[12] >> 4) * 4);
                 assert!(header[written..].iter().all(|&byte| byte == 0x5a));
                 found?
+            }
+            2 => {
+                let next = end.next_transmit();
+                let (train, segment) = end.emit_train(&mut room, 1)?;
+                let mut segment = segment.to_vec();
+                assert_eq!((next, train.segments), (Some(train.whole), 1));
+                assert_eq!((train.header, train.each), (segment.len() - train.whole.count, train.whole.count));
+                let sum = summed(0, &segment);
+                put_sum(&mut segment, !sum);
+                self.met.alone += 1;
+                (train.whole.to, segment)
             }
             _ => {
                 let next = end.next_transmit();
@@ -270,6 +282,7 @@ fn new_calls_beside_old_ones() {
         Traffic { any, met, .. } = traffic;
     }
     // The traffic has met what the calls are for.
-    assert!(met.lent > 1000 && met.lent_in_two > 100 && met.text_in_two > 100 && met.partial > 1000 && met.transmitted > 1000);
+    assert!(met.lent > 1000 && met.lent_in_two > 100 && met.text_in_two > 100);
+    assert!(met.partial > 1000 && met.alone > 1000 && met.transmitted > 1000);
     assert!(met.of_no_sum > 1000 && met.at_the_end > 10 && met.refused > 10 && met.malformed > 10 && met.held > 10);
 }
