@@ -54,27 +54,33 @@ static void drop(struct usernet *net, struct conn *conn, int resets)
     free(conn);
 }
 
-/* Writes the segment that is due where the next packet is put together, and reports it; whether there was one. A device with
-   offloads sums it. */
-static int write_due(struct usernet *net, struct conn *conn, struct tcpcore_transmit *sent)
+/* Emits the segment that is due, summed; whether there was one. */
+static int emit_segment(struct usernet *net, struct conn *conn)
 {
-    uint8_t *out = segment_place(net);
-    size_t length;
-    if (!net->offloads)
-        return tcpcore_transmit(&conn->end, out, TCPCORE_EMIT_ROOM, sent) == TCPCORE_DONE;
-    return tcpcore_next(&conn->end, sent) == TCPCORE_DONE &&
-           tcpcore_emit_partial(&conn->end, out, TCPCORE_EMIT_ROOM, &sent->to, &length) == TCPCORE_DONE;
+    struct tcpcore_transmit sent;
+    if (tcpcore_transmit(&conn->end, segment_place(net), TCPCORE_EMIT_ROOM, &sent) != TCPCORE_DONE)
+        return 0;
+    timers_sent(&conn->timers, &sent, net->now);
+    send_segment(net, (size_t)sent.length, conn->pair.server, sent.to);
+    return 1;
+}
+
+/* Emits as many segments as go together, which a device with offloads cuts and sums; whether there was any. */
+static int emit_train(struct usernet *net, struct conn *conn)
+{
+    struct tcpcore_train train;
+    if (tcpcore_emit_train(&conn->end, segment_place(net), TCPCORE_TRAIN_ROOM, SIZE_MAX, &train) != TCPCORE_DONE)
+        return 0;
+    timers_sent(&conn->timers, &train.whole, net->now);
+    send_train(net, conn->pair.server, &train);
+    return 1;
 }
 
 /* Emits all that is due. */
 static void emit(struct usernet *net, struct conn *conn)
 {
-    struct tcpcore_transmit sent;
-    while (write_due(net, conn, &sent)) {
-        timers_sent(&conn->timers, &sent, net->now);
-        send_segment(net, (size_t)sent.length, conn->pair.server, sent.to);
-    }
-    send_rest(net);
+    while (net->offloads ? emit_train(net, conn) : emit_segment(net, conn))
+        ;
 }
 
 /* Makes the connection's end, CLOSED; whether it could. */
@@ -103,7 +109,6 @@ static void stray(struct usernet *net, const struct ip_packet *from, int vouched
         TCPCORE_DONE)
         return;
     send_segment(net, length, from->dst, from->src);
-    send_rest(net);
     count(net, STRAYS, 1);
 }
 

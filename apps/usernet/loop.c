@@ -31,29 +31,18 @@ static void to_device(const void *packet, size_t length, void *context)
     count(net, EMITTED, write(net->device, packet, length) > 0); /* what it can't take is lost, and sent again */
 }
 
-static void send_train(struct usernet *net)
-{
-    size_t front = net->offloads ? 0 : TUN_HEADER;
-    if (net->offloads)
-        trains_finish(&net->train);
-    faults_pass(&net->down, net->train.bytes + front, net->train.length - front, to_device, net);
-    trains_sent(&net->train);
-}
-
-void send_rest(struct usernet *net)
-{
-    while (net->train.length > 0)
-        send_train(net);
-}
-
-uint8_t *segment_place(struct usernet *net) { return trains_place(&net->train); }
-
+/* Nothing of it is left to the device, whose header is all zero where there is one. */
 void send_segment(struct usernet *net, size_t length, tcpcore_addr from, tcpcore_addr to)
 {
-    if (!trains_add(&net->train, from, to, length))
-        send_train(net);
-    if (!net->offloads)
-        send_rest(net);
+    size_t front = net->offloads ? 0 : TUN_HEADER;
+    memset(net->packet, 0, TUN_HEADER);
+    length = TUN_HEADER + ip_write(net->packet + TUN_HEADER, from, to, length);
+    faults_pass(&net->down, net->packet + front, length - front, to_device, net);
+}
+
+void send_train(struct usernet *net, tcpcore_addr from, const struct tcpcore_train *train)
+{
+    faults_pass(&net->down, net->packet, trains_write(net->packet, from, train), to_device, net);
 }
 
 /* A frame of the device: a packet of this thread's connections, or of another one's, which gets the frame. */

@@ -56,9 +56,9 @@ struct usernet {
     struct wheel wheel;
     struct pairs pairs;
     struct pair *buckets[BUCKETS];
-    struct train train;
     struct faults up, down;    /* the path between device and ends */
     uint8_t frame[TUN_HEADER + 65535]; /* what the device gave */
+    uint8_t packet[TRAINS_ROOM]; /* what the device is given */
     uint8_t text[CAPACITY];    /* what a socket gave */
 };
 
@@ -72,10 +72,10 @@ static inline void count(struct usernet *net, enum counter which, uint64_t numbe
 /* loop.c: which thread has this connection. */
 uint32_t owner_of(struct usernet *net, const struct pair *pair);
 
-/* A segment for the namespace is written to segment_place, then added; send_rest ends what is due at once. */
-uint8_t *segment_place(struct usernet *net);
+/* A segment for the namespace is written to segment_place, then sent: summed and of `length` bytes, or what tcpcore_emit_train wrote. */
+static inline uint8_t *segment_place(struct usernet *net) { return net->packet + TRAINS_FRONT; }
 void send_segment(struct usernet *net, size_t length, tcpcore_addr from, tcpcore_addr to);
-void send_rest(struct usernet *net);
+void send_train(struct usernet *net, tcpcore_addr from, const struct tcpcore_train *train);
 
 /* Makes what a thread has; whether it could. `published` ends with a socket below 0. */
 int loop_init(struct usernet *net, const uint8_t secret[16]);

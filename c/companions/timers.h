@@ -74,6 +74,8 @@ void timers_init(struct timers *timers, const struct timers_rules *rules);
  * nothing is, since its acknowledgement wouldn't say which one it answers (Karn's rule: RFC 6298, 3), and reordering
  * is given a round trip more, in which the peer can report that it came. In TIME-WAIT an emission answers the peer's FIN
  * and starts that time anew (RFC 9293, 3.10.7.4). Answers whether the segment was sent again.
+ * Of a train (tcpcore_emit_train) it takes `whole`: all of its text is new and goes out now, so that it ends where its last segment
+ * does, and this segment is the one that is timed, by the acknowledgement of the whole train.
  */
 int timers_sent(struct timers *timers, const struct tcpcore_transmit *sent, uint64_t now);
 

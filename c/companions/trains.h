@@ -11,33 +11,14 @@
 #include "ip.h"
 #include "tun.h"
 
-/* A packet that is being put together. All zero at first. */
-struct train {
-    uint8_t bytes[TUN_HEADER + 65535 + TCPCORE_EMIT_ROOM]; /* the device's header, the packet, and room for a segment */
-    size_t length;                 /* of the front of `bytes` that is used, or 0 */
-    size_t text;                   /* bytes of text in its first segment */
-    size_t waits;                  /* bytes of a segment that is no part of it, and begins the next one; or 0 */
-    tcpcore_addr src, dst;         /* of that segment */
-    uint8_t under[20];             /* what lies under the header of a segment at trains_place; or the header of the one that waits */
-};
+/* The bytes of a frame that lie before its segment, the device's header and the IPv4 header; and of the longest frame. */
+enum { TRAINS_FRONT = TUN_HEADER + IP_HEADER, TRAINS_ROOM = TRAINS_FRONT + TCPCORE_TRAIN_ROOM };
 
 /*
- * Where a segment may be written, of up to TCPCORE_EMIT_ROOM bytes, so that its text lies where it has to. Nothing else is done
- * with the train until trains_add.
+ * Writes the front of a frame, from one address to another, whose segment tcpcore_emit_train has written at frame + TRAINS_FRONT and
+ * reported: the device completes its checksum, and cuts it where it is several. Answers the frame's length.
  */
-uint8_t *trains_place(struct train *train);
-
-/*
- * The segment of `length` bytes at trains_place, from one address to another, joins the train or begins it. Whether it does: where
- * it doesn't follow on what is there, the train has to be sent first (trains_finish), and trains_sent begins a new one with it.
- */
-int trains_add(struct train *train, tcpcore_addr src, tcpcore_addr dst, size_t length);
-
-/* Writes lengths, the checksum that the device completes, and the device's header: `length` bytes of `bytes` are what it takes. */
-void trains_finish(struct train *train);
-
-/* The train was sent, or isn't wanted: it is empty, or has the segment that waited. */
-void trains_sent(struct train *train);
+size_t trains_write(uint8_t *frame, tcpcore_addr src, const struct tcpcore_train *train);
 
 /*
  * Of `length` bytes that the device gave: answers the packet within them, its length in *count, and in *vouched whether its TCP

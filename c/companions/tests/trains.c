@@ -1,175 +1,215 @@
-/* The test of trains.c: what was added is cut again by plain code, as a device does it, and compared. */
-#include "../segment.h"
+/* The test of trains.c: what an end emits as trains is framed, and completed and cut by plain code, as a device does it. The segments
+   have to be those that a second end like it emits one by one. */
 #include "../trains.h"
+#include "made.h"
 #include "tests/check.h"
 
 #include <linux/virtio_net.h>
 #include <string.h>
 
-enum { HEADER = 20, FRONT = TUN_HEADER + IP_HEADER };
+/* The bytes that an end keeps, and the sum of the last bytes of both addresses. */
+enum { KEEPS = 300000, LASTS = 3 };
 
-static const tcpcore_addr SRC = {{10, 0, 2, 2}}, DST = {{10, 0, 2, 100}}, OTHER = {{10, 0, 2, 3}};
-static struct train train;
+static const tcpcore_addr OWN = {{10, 0, 0, 1}}, PEER = {{10, 0, 0, 2}};
 
-/* The sum of RFC 793's checksum over a whole segment: 0xffff where it is right. */
-static uint32_t sum_of(const uint8_t *segment, size_t length)
+struct side {
+    tcpcore_end end;
+    uint8_t block[TCPCORE_MEMORY(KEEPS, KEEPS)];
+};
+
+/* An end that emits trains, one like it that emits segments, and the peer of both. */
+static struct side joined, single, peer;
+static uint8_t frame[TRAINS_ROOM], text[KEEPS];
+
+/* Of the frames of emit_all: how many they were, the segments and the header of the last one, and the length of the longest. */
+static size_t frames, segments, header, longest;
+
+static void make(struct side *side, tcpcore_addr addr, uint16_t port, uint16_t mss)
 {
-    uint32_t sum = 6 + (uint32_t)length;
-    for (int at = 0; at < 4; at++)
-        sum += (uint32_t)(at % 2 ? SRC.byte[at] + DST.byte[at] : (SRC.byte[at] + DST.byte[at]) << 8);
-    for (size_t at = 0; at < length; at++)
-        sum += at % 2 ? segment[at] : (uint32_t)segment[at] << 8;
-    while (sum >> 16)
-        sum = (sum & 0xffff) + (sum >> 16);
-    return sum;
+    tcpcore_config config = {.addr = addr, .port = port, .mss = mss, .isn = UINT32_MAX - 5000, .send_capacity = KEEPS,
+                             .recv_capacity = KEEPS, .limit = TCPCORE_LIMIT, .window_shift = 3, .scales = 1, .sack = 1};
+    side->end = (tcpcore_end)TCPCORE_END_INIT;
+    CHECK(tcpcore_new(&side->end, &config, side->block, sizeof side->block), TCPCORE_DONE);
 }
 
-/* A segment of `text` bytes, each the low byte of its number, with a right checksum. Answers its length. */
-static size_t make(uint8_t *out, uint32_t number, uint8_t flags, size_t text)
+/* A segment that the device sends has to be what is emitted one by one; the peer takes it. */
+static void is_next(const uint8_t *segment, size_t length)
 {
-    size_t length = HEADER + text;
-    memset(out, 0, HEADER);
-    out[1] = 80, out[3] = 99, out[11] = 7, out[12] = 0x50, out[13] = flags, out[14] = 1;
-    for (int at = 0; at < 4; at++)
-        out[4 + at] = (uint8_t)(number >> (24 - 8 * at));
-    for (size_t at = 0; at < text; at++)
-        out[HEADER + at] = (uint8_t)(number + at);
-    uint32_t sum = ~sum_of(out, length) & 0xffff;
-    out[16] = (uint8_t)(sum >> 8), out[17] = (uint8_t)sum;
-    return length;
+    uint8_t wanted[TCPCORE_EMIT_ROOM];
+    tcpcore_addr to;
+    size_t count;
+    CHECK(tcpcore_emit(&single.end, wanted, sizeof wanted, &to, &count), TCPCORE_DONE);
+    CHECK(length, count);
+    CHECK(memcmp(segment, wanted, count), 0);
+    CHECK(tcpcore_arrive(&peer.end, OWN, PEER, segment, length), TCPCORE_DONE);
 }
 
-static int add(uint32_t number, uint8_t flags, size_t text)
-{
-    return trains_add(&train, SRC, DST, make(trains_place(&train), number, flags, text));
-}
-
-/* The device completes the checksum of what it takes: the sum over what stands there is right then. */
-static uint32_t completed(uint8_t *segment, size_t length)
+/* The device puts the complement of the sum from one place on into the field at another. */
+static void complete(uint8_t *packet, size_t length, const struct virtio_net_hdr *front)
 {
     uint32_t sum = 0;
-    for (size_t at = 0; at < length; at++)
-        sum += at % 2 ? segment[at] : (uint32_t)segment[at] << 8;
+    for (size_t at = 0; front->csum_start + at < length; at++)
+        sum += (uint32_t)packet[front->csum_start + at] << (at % 2 ? 0 : 8);
     while (sum >> 16)
         sum = (sum & 0xffff) + (sum >> 16);
-    segment[16] = (uint8_t)(~sum >> 8), segment[17] = (uint8_t)~sum;
-    return sum_of(segment, length);
+    write16(packet + front->csum_start + front->csum_offset, (uint16_t)~sum);
 }
 
-/* Finishes the train; it has to stand for `count` segments from `number` on, of `each` bytes and the last of `last`,
-   and only the last one may have PSH. */
-static void is_train(uint32_t number, size_t count, size_t each, size_t last, uint8_t flags)
+/* The device cuts text off again and again: each header is the first one, further on, and PSH and FIN are the last one's. */
+static size_t cut(const uint8_t *packet, size_t length, const struct virtio_net_hdr *front)
+{
+    const uint8_t *segment = packet + IP_HEADER;
+    uint8_t piece[TCPCORE_EMIT_ROOM];
+    size_t fore = front->hdr_len - (size_t)IP_HEADER, all = length - front->hdr_len, count = 0, many;
+    for (size_t at = 0; at < all; at += many, count++) {
+        many = all - at < front->gso_size ? all - at : front->gso_size;
+        memcpy(piece, segment, fore);
+        memcpy(piece + fore, segment + fore + at, many);
+        write32(piece + AT_SEQ, read32(segment + AT_SEQ) + (uint32_t)at);
+        if (at + many < all)
+            piece[AT_BITS] &= (uint8_t)~(PSH | FIN);
+        write_checksum(piece, fore + many, LASTS);
+        is_next(piece, fore + many);
+    }
+    return count;
+}
+
+/* The device takes a frame. Answers how many segments it is. */
+static size_t take(size_t length)
 {
     struct virtio_net_hdr front;
-    uint8_t *packet = train.bytes + TUN_HEADER, *segment = packet + IP_HEADER;
-    size_t text = (count - 1) * each + last;
-    trains_finish(&train);
-    memcpy(&front, train.bytes, sizeof front);
-    CHECK(train.length, FRONT + HEADER + text);
-    CHECK((size_t)(packet[2] << 8 | packet[3]), train.length - TUN_HEADER);
-    CHECK(memcmp(packet + 12, &SRC, 4) == 0 && memcmp(packet + 16, &DST, 4) == 0, 1);
-    CHECK(read32(segment + 4), number);
-    CHECK(segment[13], flags);
-    size_t same = 0;
-    while (same < text && segment[HEADER + same] == (uint8_t)(number + same))
-        same++;
-    CHECK(same, text);
-    CHECK(front.flags, VIRTIO_NET_HDR_F_NEEDS_CSUM);
-    CHECK(front.csum_start, IP_HEADER);
-    CHECK(front.csum_offset, 16);
-    CHECK(front.gso_type, count == 1 ? VIRTIO_NET_HDR_GSO_NONE : VIRTIO_NET_HDR_GSO_TCPV4);
-    if (count > 1) {
-        CHECK(front.gso_size, each);
-        CHECK(front.hdr_len, IP_HEADER + HEADER);
-    }
-    CHECK(completed(segment, HEADER + text), 0xffff);
-}
-
-/* The other way: the device leaves the checksum out, of which the reader learns, and which it may write. */
-static void is_read(void)
-{
-    size_t length = train.length, count = 0;
+    struct ip_packet found;
+    size_t count = 0;
     int vouched = 0;
-    const uint8_t *packet = trains_read(train.bytes, length, &count, &vouched);
-    uint8_t *segment = train.bytes + TUN_HEADER + IP_HEADER;
-    CHECK(packet == train.bytes + TUN_HEADER, 1);
+    uint8_t *packet = frame + TUN_HEADER, *segment = frame + TRAINS_FRONT;
+    CHECK(trains_read(frame, length, &count, &vouched) == packet, 1);
     CHECK(count, length - TUN_HEADER);
     CHECK(vouched, 1);
-    segment[16] ^= 0x55;
-    trains_sum(segment, count - IP_HEADER, SRC, DST);
-    CHECK(sum_of(segment, count - IP_HEADER), 0xffff);
-}
-
-static void start(void) { train.length = train.waits = 0; }
-
-static void joined(void)
-{
-    for (size_t count = 1; count <= 40; count++) {
-        start();
-        for (size_t at = 0; at < count; at++)
-            CHECK(add(UINT32_MAX - 5000 + (uint32_t)(1460 * at), ACK, 1460), 1);
-        is_train(UINT32_MAX - 5000, count, 1460, 1460, ACK);
-        is_read();
+    CHECK(ip_read((struct ip_net){PEER, 24}, packet, count, &found), IP_DONE);
+    CHECK(found.segment == segment && found.length == length - TRAINS_FRONT, 1);
+    CHECK(memcmp(&found.src, &OWN, sizeof OWN) == 0 && memcmp(&found.dst, &PEER, sizeof PEER) == 0, 1);
+    memcpy(&front, frame, sizeof front);
+    CHECK(front.flags, VIRTIO_NET_HDR_F_NEEDS_CSUM);
+    CHECK(front.hdr_len, IP_HEADER + header_of(segment));
+    complete(packet, count, &front);
+    uint16_t sum = read16(segment + AT_CHECKSUM);
+    segment[AT_CHECKSUM] ^= 0x55;
+    trains_sum(segment, found.length, OWN, PEER);
+    CHECK(read16(segment + AT_CHECKSUM), sum);
+    if (front.gso_type != VIRTIO_NET_HDR_GSO_NONE) {
+        CHECK(front.gso_type, VIRTIO_NET_HDR_GSO_TCPV4);
+        return cut(packet, count, &front);
     }
-    start();
-    CHECK(add(1, ACK, 100), 1);
-    CHECK(add(101, ACK, 100), 1);
-    CHECK(add(201, ACK | PSH, 33), 1);
-    CHECK(add(234, ACK, 100), 0); /* a shorter one ends it */
-    is_train(1, 3, 100, 33, ACK | PSH);
-    is_read();
-    trains_sent(&train); /* and the segment that waited begins the next */
-    CHECK(add(334, ACK, 100), 1);
-    is_train(234, 2, 100, 100, ACK);
-    is_read();
-    trains_sent(&train);
-    CHECK(train.length, 0);
-    CHECK(add(7, ACK, 0), 1); /* without text nothing follows, and all of it waits */
-    CHECK(add(7, ACK, 1460), 0);
-    is_train(7, 1, 0, 0, ACK);
-    trains_sent(&train);
-    is_train(7, 1, 1460, 1460, ACK);
+    is_next(segment, found.length);
+    return 1;
 }
 
-/* A segment with another byte in its header, which doesn't join. */
-static void differs_at(size_t at)
+/* All that is due goes to the device, which sends all that it may. */
+static void emit_all(void)
 {
-    uint8_t *segment = trains_place(&train);
-    size_t length = make(segment, 101, ACK, 100);
-    segment[at] ^= 0x40;
-    CHECK(trains_add(&train, SRC, DST, length), 0);
+    struct tcpcore_train train;
+    uint32_t due = 1;
+    frames = longest = 0;
+    while (tcpcore_emit_train(&joined.end, frame + TRAINS_FRONT, TCPCORE_TRAIN_ROOM, SIZE_MAX, &train) == TCPCORE_DONE) {
+        size_t length = trains_write(frame, OWN, &train);
+        CHECK(length, TRAINS_FRONT + train.whole.length);
+        CHECK(take(length), train.segments);
+        segments = train.segments, header = train.header;
+        longest = length > longest ? length : longest;
+        frames++;
+    }
+    CHECK(tcpcore_pending(&single.end, &due), TCPCORE_DONE);
+    CHECK(due, 0);
 }
 
-static void not_joined(void)
+/* All that the peer has due but for the first few comes to both ends. */
+static void answer_all(size_t lost)
 {
-    start();
-    CHECK(add(1, ACK, 100), 1);
-    CHECK(add(102, ACK, 100), 0);             /* not the next number */
-    CHECK(add(100, ACK, 100), 0);
-    CHECK(add(101, ACK, 101), 0);             /* longer than the first */
-    CHECK(add(101, ACK, 0), 0);               /* no text */
-    CHECK(add(101, ACK | FIN, 100), 0);       /* another bit */
-    CHECK(trains_add(&train, SRC, OTHER, make(trains_place(&train), 101, ACK, 100)), 0);
-    for (size_t at = 0; at < 16; at++)        /* ports, number, acknowledgement, offset, bits, window */
-        differs_at(at);
-    is_train(1, 1, 100, 100, ACK);            /* it stays as it was */
-    start();
-    CHECK(add(1, ACK | FIN, 100), 1);
-    CHECK(add(101, ACK, 100), 0);
-    start();
-    CHECK(add(1, ACK, 0), 1);
-    CHECK(add(1, ACK, 100), 0);
+    uint8_t bytes[TCPCORE_EMIT_ROOM];
+    tcpcore_addr to;
+    size_t length;
+    for (size_t at = 0; tcpcore_emit(&peer.end, bytes, sizeof bytes, &to, &length) == TCPCORE_DONE; at++)
+        if (at >= lost) {
+            CHECK(tcpcore_arrive(&joined.end, PEER, OWN, bytes, length), TCPCORE_DONE);
+            CHECK(tcpcore_arrive(&single.end, PEER, OWN, bytes, length), TCPCORE_DONE);
+        }
 }
 
+static void open_all(uint16_t mss)
+{
+    make(&joined, OWN, 80, mss), make(&single, OWN, 80, mss), make(&peer, PEER, 99, mss);
+    CHECK(tcpcore_listen(&joined.end) == TCPCORE_DONE && tcpcore_listen(&single.end) == TCPCORE_DONE, 1);
+    CHECK(tcpcore_connect(&peer.end, OWN, 80), TCPCORE_DONE);
+    answer_all(0);
+    emit_all(); /* a SYN with options */
+    CHECK(frames == 1 && segments == 1, 1);
+    answer_all(0);
+    emit_all();
+    CHECK(frames, 0);
+}
+
+static void free_all(void)
+{
+    CHECK(tcpcore_free(&joined.end), TCPCORE_DONE);
+    CHECK(tcpcore_free(&single.end), TCPCORE_DONE);
+    CHECK(tcpcore_free(&peer.end), TCPCORE_DONE);
+}
+
+static void give(struct side *side, size_t length)
+{
+    size_t taken;
+    CHECK(tcpcore_send(&side->end, text, length, &taken), TCPCORE_DONE);
+    CHECK(taken, length);
+}
+
+/* So much text came to the peer, which acknowledges it. */
+static void is_there(size_t length)
+{
+    static uint8_t found[KEEPS];
+    size_t count;
+    CHECK(tcpcore_receive(&peer.end, found, sizeof found, &count), TCPCORE_DONE);
+    CHECK(count, length);
+    CHECK(memcmp(found, text, length), 0);
+    answer_all(0);
+}
+
+/* So much text, then the end of the stream. */
+static void carries(uint16_t mss, size_t length)
+{
+    size_t most = TCPCORE_TRAIN_ROOM / mss;
+    open_all(mss);
+    give(&joined, length), give(&single, length);
+    emit_all();
+    CHECK(frames <= 1 + length / ((most - 1) * mss) && longest <= TRAINS_ROOM, 1);
+    CHECK(header, SEGMENT_HEADER);
+    is_there(length);
+    CHECK(tcpcore_close(&joined.end) == TCPCORE_DONE && tcpcore_close(&single.end) == TCPCORE_DONE, 1);
+    emit_all();
+    CHECK(frames == 1 && segments == 1 && longest == TRAINS_FRONT + SEGMENT_HEADER, 1);
+    free_all();
+}
+
+/* What came out of order is reported by each segment of a train: the header has options. */
+static void reports(void)
+{
+    open_all(1000);
+    give(&peer, 2000);
+    answer_all(1);
+    give(&joined, 20000), give(&single, 20000);
+    emit_all();
+    CHECK(frames == 1 && segments > 20000 / 1000 && header == SEGMENT_HEADER + 12, 1);
+    is_there(20000);
+    emit_all();
+    free_all();
+}
+
+/* What the device gives may have no packet; and a packet that is summed says whether it was found right. */
 static void bounds(void)
 {
-    size_t count = 0, added = 0;
+    size_t count = 0;
     int vouched = 1;
     uint8_t bytes[TUN_HEADER + 30] = {0};
-    start();
-    while (add((uint32_t)(1460 * added), ACK, 1460))
-        added++;
-    CHECK(added > 40 && train.length <= 65535, 1);
+    CHECK(TRAINS_ROOM, TUN_HEADER + 65535);
     CHECK(trains_read(bytes, TUN_HEADER - 1, &count, &vouched) == NULL, 1);
     CHECK(trains_read(bytes, sizeof bytes, &count, &vouched) == bytes + TUN_HEADER, 1);
     CHECK(count, 30);
@@ -182,8 +222,15 @@ static void bounds(void)
 
 int main(void)
 {
-    joined();
-    not_joined();
+    static const uint16_t SIZES[] = {64, 536, 1000, 1460};
+    for (size_t at = 0; at < sizeof text; at++)
+        text[at] = (uint8_t)(at * at >> 7 ^ at);
+    for (size_t at = 0; at < sizeof SIZES / sizeof *SIZES; at++) {
+        size_t mss = SIZES[at], lengths[] = {1, mss - 1, mss, mss + 1, 2 * mss, 3 * mss + 7, 44 * mss, 44 * mss + 1, KEEPS};
+        for (size_t each = 0; each < sizeof lengths / sizeof *lengths; each++)
+            carries(SIZES[at], lengths[each]);
+    }
+    reports();
     bounds();
     printf("trains: %d checks\n", checks);
     return 0;
