@@ -4,6 +4,7 @@
  * - copied: COUNT bursts of two segments in order with an acknowledgement, as crates/bench_transfer has them: the user's text is
  *   copied in and out.
  * - lent: the same, but the reader has the text lent, and both ends leave sums to a device.
+ * - trains: as lent, with bursts of TRAIN segments that go out as one, and arrive so.
  */
 #include "tcpcore.h"
 
@@ -11,10 +12,10 @@
 #include <stdlib.h>
 #include <string.h>
 
-enum { SEGMENT = 1460, CAPACITY = 65536 };
+enum { SEGMENT = 1460, CAPACITY = 65536, TRAIN = 30 };
 
 static const tcpcore_addr A = {{10, 0, 0, 1}}, B = {{10, 0, 0, 2}};
-static unsigned char blocks[2][TCPCORE_MEMORY(CAPACITY, CAPACITY)], text[2 * SEGMENT], read_bytes[2 * SEGMENT];
+static unsigned char blocks[2][TCPCORE_MEMORY(CAPACITY, CAPACITY)], text[TRAIN * SEGMENT], read_bytes[2 * SEGMENT];
 static tcpcore_end a = TCPCORE_END_INIT, b = TCPCORE_END_INIT;
 static int is_lent;
 
@@ -68,18 +69,43 @@ static int connection(void)
     return of_a.phase == TCPCORE_PHASE_TIME_WAIT && of_b.phase == TCPCORE_PHASE_CLOSED;
 }
 
-static void burst(void)
+/* Carries all segments that are due as one. */
+static void carry_train(void)
+{
+    static unsigned char segments[TCPCORE_TRAIN_ROOM];
+    struct tcpcore_train train;
+    if (tcpcore_emit_train(&a, segments, sizeof segments, TRAIN, &train) == TCPCORE_DONE)
+        tcpcore_arrive_vouched(&b, A, B, segments, (size_t)train.whole.length);
+}
+
+static void read_lent(void)
 {
     struct tcpcore_lent lent;
     size_t count;
+    if (tcpcore_peek(&b, &lent) == TCPCORE_DONE)
+        tcpcore_consume(&b, lent.first.length + lent.second.length, &count);
+}
+
+static void burst_of_trains(void)
+{
+    size_t count;
     tcpcore_send(&a, text, sizeof text, &count);
+    carry_train();
+    carry(&b, B, &a);
+    read_lent();
+}
+
+static void burst(void)
+{
+    size_t count;
+    tcpcore_send(&a, text, (size_t)2 * SEGMENT, &count);
     carry(&a, A, &b);
     carry(&a, A, &b);
     carry(&b, B, &a);
-    if (!is_lent)
+    if (is_lent)
+        read_lent();
+    else
         tcpcore_receive(&b, read_bytes, sizeof read_bytes, &count);
-    else if (tcpcore_peek(&b, &lent) == TCPCORE_DONE)
-        tcpcore_consume(&b, lent.first.length + lent.second.length, &count);
 }
 
 int main(int number, char **words)
@@ -96,9 +122,12 @@ int main(int number, char **words)
         return 0;
     }
     open_both();
-    is_lent = strcmp(words[1], "lent") == 0;
+    is_lent = strcmp(words[1], "copied") != 0;
     for (unsigned long k = 0; k < count; k++)
-        burst();
+        if (strcmp(words[1], "trains") == 0)
+            burst_of_trains();
+        else
+            burst();
     tcpcore_status(&a, &status);
     printf("%llu bytes were moved and acknowledged\n", (unsigned long long)status.released);
     return 0;

@@ -9,7 +9,8 @@
 # - acknowledgement: what a second one adds to two segments in order.
 # - connection: two ends made in memory that is handed in, handshake, orderly close (bench/handed.c); lwIP's from its pool.
 # - floor: four copies and two sums of 1,460 bytes; once: one copy (bench/floor.c).
-# - lent: the C library's ends, the reader lent its text, and both leaving sums to a device; copied: without either.
+# - lent: the C library's ends, the reader lent its text, and both leaving sums to a device; copied: without either; trains: as lent, and
+#   30 segments go out and arrive as one.
 # It wants gcc, apt-get, the network and the C library (`rt lib` in crates/tcp_c); our program is built anew where it is stale.
 set -eu
 
@@ -29,6 +30,7 @@ gcc -O3 -march="$processor" "$top/bench/floor.c" -o "$out/floor"
 gcc -O2 -I"$top/c/tcpcore" "$top/bench/handed.c" "$top/c/tcpcore/tcpcore.c" "$library" -o "$out/handed"
 bursts=100000
 connections=40000
+trains=10000
 
 # The cycles of one burst of a program of so many; its words follow.
 burst() {
@@ -51,6 +53,8 @@ for _ in $(seq "$turns"); do
     burst $bursts "$out/floor" once $bursts
     burst $bursts "$out/handed" copied $bursts
     burst $bursts "$out/handed" lent $bursts
+    burst $trains "$out/handed" trains $trains
+    burst $bursts "$out/best" each_acknowledged $bursts
     echo
 done | awk '
     { for (i = 1; i <= NF; i++) of[i, NR] = $i }
@@ -62,19 +66,24 @@ done | awk '
     function cycles(name, part, a, b) {
         printf "%-44s %8.0f cycles\n", name, (least(a) - (b ? least(b) : 0)) / part
     }
-    function ratio(name, a, b,   i, x, low, high) {
+    # of a burst of column a, in so many parts of one of column b
+    function ratio(name, a, b, parts,   i, x, low, high) {
+        parts = parts ? parts : 1
         for (i = 1; i <= NR; i++) {
-            x = of[a, i] / of[b, i]
+            x = of[a, i] / parts / of[b, i]
             if (i == 1 || x < low) low = x
             if (i == 1 || x > high) high = x
         }
-        printf "%-44s %8.2f times, %.2f to %.2f\n", name, least(a) / least(b), low, high
+        printf "%-44s %8.2f times, %.2f to %.2f\n", name, least(a) / parts / least(b), low, high
     }
     END {
         cycles("a segment in order, ours", 2, 1); cycles("a segment in order, lwIP", 2, 2)
         cycles("a segment of one byte, ours", 2, 3); cycles("an acknowledgement, ours", 1, 5, 1)
+        cycles("an acknowledgement, lwIP", 1, 13, 2)
         cycles("a connection, memory handed in, ours", 1, 6); cycles("floor: four copies, two sums", 2, 8); cycles("one copy", 2, 9)
         cycles("copied, C library", 2, 10); cycles("lent, sums left to a device, C library", 2, 11)
+        cycles("so, in trains", 30, 12)
         ratio("lwIP / ours, a segment in order", 2, 1); ratio("lwIP / ours, one byte", 4, 3)
         ratio("lwIP / ours, a connection", 7, 6); ratio("ours / floor", 1, 8); ratio("lent, sums left to a device / one copy", 11, 9)
+        ratio("lent, in trains, sums left to a device / one copy", 12, 9, 15)
     }'

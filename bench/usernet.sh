@@ -6,9 +6,14 @@
 set -euo pipefail
 cd "$(dirname "$0")"
 library=$(realpath "${1:-../crates/tcp_c/out/libtcp_c.a}")
-for package in slirp4netns passt gnuplot-nox; do
-    command -v "${package%-nox}" >/dev/null || apt-get install -y --no-install-recommends "$package" >/dev/null
-done
+# shellcheck disable=SC2034
+test=usernet
+. ../checks/lib.sh
+install_commands <<'LIST'
+slirp4netns slirp4netns
+passt passt
+gnuplot gnuplot-nox
+LIST
 mkdir -p out
 gcc -std=c11 -O2 -Wall -Wextra -Wpedantic -Werror traffic.c -o out/traffic
 ../apps/usernet/build.sh "$library"
