@@ -42,7 +42,7 @@ def first_of(text, name):
 
 def main():
     text = pathlib.Path(sys.argv[1]).read_text()
-    join.KNOWN |= {"DIV_U", "I32_ROTL", "I64_ROTL", "i32_load8_s"}
+    join.KNOWN |= {"I32_ROTL", "I64_ROTL", "i32_load8_s"}
     declared, body = join.functions(text, "tcp_web")
     body, loops, pieces = quicker.quicker(body)
     at, _, data = join.table_of(text)

@@ -1,5 +1,4 @@
 /* What the module's functions name beside memory.c. */
-#define DIV_U(x, y) ((y) == 0 ? (stop(), (x)) : (x) / (y))
 #define I32_ROTL(x, y) ((x) << ((y) & 31) | (x) >> ((32 - (y)) & 31))
 #define I64_ROTL(x, y) ((x) << ((y) & 63) | (x) >> ((64 - (y)) & 63))
 
