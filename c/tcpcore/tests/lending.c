@@ -3,38 +3,11 @@
  * tcpcore_receive, tcpcore_arrive, tcpcore_taken and tcpcore_emit, the other by the calls that take their place. Every answer, byte
  * and status has to be the same. The sums of the second pair's device are this file's own (RFC 1071; RFC 9293, 3.1).
  */
-#include "check.h"
-#include "tcpcore.h"
-
-#include <string.h>
-
-enum { PAIRS = 2, ENDS = 2, CAPACITY = 3000, WAITING = 8, ROUNDS = 100, STEPS = 600, CANARY = 0x5a };
-
-static const tcpcore_addr ADDRS[ENDS] = {{{10, 0, 0, 1}}, {{10, 0, 0, 2}}};
-static tcpcore_end ends[PAIRS][ENDS];
-static unsigned char blocks[PAIRS][ENDS][TCPCORE_MEMORY(CAPACITY, CAPACITY)];
-
-/* Segments that are under way to an end. */
-struct segment {
-    tcpcore_addr to;
-    size_t length;
-    unsigned char bytes[TCPCORE_EMIT_ROOM];
-};
-static struct segment wire[ENDS][WAITING];
-static size_t waiting[ENDS];
+enum { CAPACITY = 3000, WAITING = 8, ROUNDS = 100, STEPS = 600, CANARY = 0x5a };
+#include "pairs.h"
 
 /* What the traffic has met. */
 static unsigned long lent_in_two, text_in_two, of_no_sum, of_partial, at_the_end, refused, malformed;
-
-static uint64_t word = 88172645463325252u;
-
-static uint32_t any(uint32_t bound)
-{
-    word ^= word << 13;
-    word ^= word >> 7;
-    word ^= word << 17;
-    return (uint32_t)((word >> 16) % bound);
-}
 
 static void fill(unsigned char *bytes, size_t length)
 {
@@ -42,61 +15,13 @@ static void fill(unsigned char *bytes, size_t length)
         bytes[i] = (unsigned char)any(256);
 }
 
-/* The ones' complement sum over these bytes, and what was summed before (RFC 1071, 1). */
-static uint32_t summed(uint32_t sum, const unsigned char *bytes, size_t length)
-{
-    for (size_t i = 0; i < length; i++)
-        sum += i % 2 ? bytes[i] : (uint32_t)bytes[i] << 8;
-    while (sum >> 16)
-        sum = (sum & 0xffff) + (sum >> 16);
-    return sum;
-}
-
-/* Of the pseudo-header (RFC 9293, 3.1). */
-static uint32_t pseudo(tcpcore_addr src, tcpcore_addr dst, size_t length)
-{
-    return summed(summed(summed((uint32_t)length + 6, src.byte, 4), dst.byte, 4), NULL, 0);
-}
-
-static void put_sum(unsigned char *bytes, uint32_t sum)
-{
-    bytes[16] = (unsigned char)(sum >> 8);
-    bytes[17] = (unsigned char)sum;
-}
-
 /* Makes bytes check, where they have a checksum field. */
 static void put_checksum(struct segment *segment, tcpcore_addr src)
 {
     if (segment->length < 18)
         return;
-    put_sum(segment->bytes, 0);
-    put_sum(segment->bytes, ~summed(pseudo(src, segment->to, segment->length), segment->bytes, segment->length));
-}
-
-static struct tcpcore_status status_of(int pair, int end)
-{
-    struct tcpcore_status status;
-    CHECK(tcpcore_status(&ends[pair][end], &status), TCPCORE_DONE);
-    return status;
-}
-
-/* Both pairs are in the same state, as far as an end says. */
-static void same_states(void)
-{
-    for (int end = 0; end < ENDS; end++) {
-        struct tcpcore_status status[PAIRS];
-        struct tcpcore_transmit next[PAIRS];
-        uint32_t timers[PAIRS], answers[PAIRS];
-        for (int pair = 0; pair < PAIRS; pair++) {
-            status[pair] = status_of(pair, end);
-            answers[pair] = tcpcore_next(&ends[pair][end], &next[pair]);
-            CHECK(tcpcore_timers(&ends[pair][end], &timers[pair]), TCPCORE_DONE);
-        }
-        CHECK(memcmp(&status[0], &status[1], sizeof *status), 0);
-        CHECK(memcmp(&next[0], &next[1], sizeof *next), 0);
-        CHECK(answers[1], answers[0]);
-        CHECK(timers[1], timers[0]);
-    }
+    put16(segment->bytes + 16, 0);
+    put16(segment->bytes + 16, ~summed(pseudo(src, segment->to, segment->length), segment->bytes, segment->length));
 }
 
 static int is_within(const tcpcore_piece *piece, int end)
@@ -158,7 +83,7 @@ static uint32_t emit_otherwise(int end, struct segment *out)
         if (answer != TCPCORE_DONE)
             return answer;
         CHECK(out->bytes[16] << 8 | out->bytes[17], pseudo(ADDRS[end], out->to, out->length));
-        put_sum(out->bytes, ~summed(0, out->bytes, out->length));
+        put16(out->bytes + 16, ~summed(0, out->bytes, out->length));
         of_partial++;
         return answer;
     }

@@ -4,66 +4,19 @@
  * has to be what tcpcore_emit writes of the first pair, and every status the same behind them. How many go together is counted by
  * this file, from what the end reports.
  */
-#include "check.h"
-#include "tcpcore.h"
+enum { CAPACITY = 1 << 20, WAITING = 64, ROUNDS = 60, STEPS = 500, LONGEST = 70000, CANARY = 0x5a };
+#include "pairs.h"
 
-#include <string.h>
-
-enum { PAIRS = 2, ENDS = 2, CAPACITY = 1 << 20, WAITING = 64, ROUNDS = 60, STEPS = 500, LONGEST = 70000, CANARY = 0x5a };
 enum { FIN = 1, PSH = 8 };
 
-static const tcpcore_addr ADDRS[ENDS] = {{{10, 0, 0, 1}}, {{10, 0, 0, 2}}};
-static tcpcore_end ends[PAIRS][ENDS];
-static unsigned char blocks[PAIRS][ENDS][TCPCORE_MEMORY(CAPACITY, CAPACITY)];
 static unsigned char text[CAPACITY], whole[LONGEST];
-
-/* Segments that are under way to an end. */
-struct segment {
-    tcpcore_addr to;
-    size_t length;
-    unsigned char bytes[TCPCORE_EMIT_ROOM];
-};
-static struct segment wire[ENDS][WAITING];
-static size_t waiting[ENDS];
 
 /* What the traffic has met: several segments as one, cut short by each bound; with a longer header; what went alone, by its kind. */
 static unsigned long together, by_most, by_room, by_window, by_queue, with_blocks, pushed, alone[TCPCORE_KIND_ACKNOWLEDGEMENT + 1];
 
-static uint64_t word = 88172645463325252u;
-
-static uint32_t any(uint32_t bound)
-{
-    word ^= word << 13;
-    word ^= word >> 7;
-    word ^= word << 17;
-    return (uint32_t)((word >> 16) % bound);
-}
-
 static uint64_t least(uint64_t one, uint64_t other) { return one < other ? one : other; }
 
-/* The ones' complement sum over these bytes, and what was summed before (RFC 1071, 1). */
-static uint32_t summed(uint32_t sum, const unsigned char *bytes, size_t length)
-{
-    for (size_t i = 0; i < length; i++)
-        sum += i % 2 ? bytes[i] : (uint32_t)bytes[i] << 8;
-    while (sum >> 16)
-        sum = (sum & 0xffff) + (sum >> 16);
-    return sum;
-}
-
-/* Of the pseudo-header (RFC 9293, 3.1). */
-static uint32_t pseudo(tcpcore_addr src, tcpcore_addr dst, size_t length)
-{
-    return summed(summed(summed((uint32_t)length + 6, src.byte, 4), dst.byte, 4), NULL, 0);
-}
-
 static uint32_t get16(const unsigned char *at) { return (uint32_t)at[0] << 8 | at[1]; }
-
-static void put16(unsigned char *at, uint32_t value)
-{
-    at[0] = (unsigned char)(value >> 8);
-    at[1] = (unsigned char)value;
-}
 
 /* The device: piece `which` of the segment of so many bytes in `whole`, which is cut after each `size` bytes of text; all of it where
    `size` is 0. Answers whether it is the last. */
@@ -83,32 +36,6 @@ static int cut(struct segment *out, tcpcore_addr src, size_t length, size_t size
     put16(out->bytes + 16, 0);
     put16(out->bytes + 16, ~summed(pseudo(src, out->to, out->length), out->bytes, out->length));
     return count == left;
-}
-
-static struct tcpcore_status status_of(int pair, int end)
-{
-    struct tcpcore_status status;
-    CHECK(tcpcore_status(&ends[pair][end], &status), TCPCORE_DONE);
-    return status;
-}
-
-/* Both pairs are in the same state, as far as an end says. */
-static void same_states(void)
-{
-    for (int end = 0; end < ENDS; end++) {
-        struct tcpcore_status status[PAIRS];
-        struct tcpcore_transmit next[PAIRS];
-        uint32_t timers[PAIRS], answers[PAIRS];
-        for (int pair = 0; pair < PAIRS; pair++) {
-            status[pair] = status_of(pair, end);
-            answers[pair] = tcpcore_next(&ends[pair][end], &next[pair]);
-            CHECK(tcpcore_timers(&ends[pair][end], &timers[pair]), TCPCORE_DONE);
-        }
-        CHECK(memcmp(&status[0], &status[1], sizeof *status), 0);
-        CHECK(memcmp(&next[0], &next[1], sizeof *next), 0);
-        CHECK(answers[1], answers[0]);
-        CHECK(timers[1], timers[0]);
-    }
 }
 
 /* How many segments go together, by what is due and what the end reports before; `allowed` is the text that may go. */
