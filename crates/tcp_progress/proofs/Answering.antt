@@ -76,7 +76,6 @@ unfolding after_its_ack after_own_syn after_acked_text after_news after_own_fin
 its_ack-owed s v =
     let three = after_news (after_acked_text (after_own_syn s v) v) v in
     let P : State → Type 0 = λ t. (s.owed.syn ≡ false → t.owed.syn ≡ false) × (t.ending ≡ NotEnded → s.owed.ack ≡ true → t.owed.ack ≡ true) in
-    let plain : (s.owed.syn && not (is_syn_received s.phase)) ≡ false → three.owed.syn ≡ false = λ e. e in
     let still : s.owed.syn ≡ false → (s.owed.syn && not (is_syn_received s.phase)) ≡ false = λ e. rw e refl in
     own_fin-cases three P (λ _ _. (λ _. refl, λ over. absurd (cc))) (λ _ _. (λ e. still e, λ _ e. e)) (λ _. (λ e. still e, λ _ e. e))
 
@@ -89,7 +88,6 @@ owed-judgement s src dst v accepted closed alone opened =
     let r = s.receiving in
     let order : d.una ≤ d.nxt = alone.sends.order in
     let P : Judgement → Type 0 = λ j. KeepsOwed s (after_judgement j s src v) in
-    let same = range-same d in
     let opens : is_listening s.phase ≡ true → IsSyn v → P PeerOpens = λ listening _.
     absurd (false≢true (sym (at-listen s.phase s.ending d.una d.nxt r.opened r.finished listening alone.progress).1.not_opened ∙ opened)) in
     let resets : P PeerResets = record { range = record { done = λ _. tt; una = omega arith; nxt = refl }; syn = λ _. refl; ack = λ over. absurd (cc) } in

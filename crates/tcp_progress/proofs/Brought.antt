@@ -154,8 +154,7 @@ fin-due : (r r' : Receiving) (seq count : ℕ) (m : Moves r r' (offset r.next se
     → length m.more < window r.inbox → is_fin_due r' (number seq count) ≡ true
 fin-due r r' seq count m e room =
     let same : number seq count ≡ r'.next = same-number r.next seq count (length m.more) e ∙ sym m.next in
-    let space : 1 ≤ window r'.inbox = omega (arith, m.room, room) in
-    and_from (number seq count == r'.next) (nat_lt 0 (window r'.inbox)) (grind (arith, nat_tests, same)) (grind (arith, nat_tests, space))
+    and_from (number seq count == r'.next) (nat_lt 0 (window r'.inbox)) (grind (arith, nat_tests, same)) (grind (arith, nat_tests))
 
 or-none : (b : Bool) → b ≡ (b || false)
 or-none b = grind arith

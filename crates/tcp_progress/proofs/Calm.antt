@@ -110,7 +110,6 @@ una-judgement s src dst v accepted closed alone =
     let same : d.una ≤ d.una = omega arith in
     let opens : is_listening s.phase ≡ true → IsSyn v → d.una ≤ (after_peer_opens s src v).sending.una = λ listening _.
     omega (arith, (at-listen s.phase s.ending d.una d.nxt r.opened r.finished listening alone.progress).1.nxt_is, order) in
-    let accepts : d.una ≤ (after_peer_accepts s v).sending.una = omega (arith, order) in
     let taken : d.una ≤ (after_taking s v).sending.una = omega (arith, (its_ack-range s v order).una, (taken-as s v).una) in
     let shut : d.una ≤ (after_taking_shut s v).sending.una = omega (arith, (its_ack-range s v order).una, (shut-as s v).una) in
     let P : Judgement → Type 0 = λ j. d.una ≤ (after_judgement j s src v).sending.una in
@@ -138,7 +137,6 @@ pub how-ends : (s : State) (src dst : List ℕ) (v : Content) → s.ending ≡ N
 unfolding after_peer_opens after_peer_accepts
 how-ends s src dst v goes =
     let P : Judgement → Type 0 = λ j. Resets j ⊎ EndsPlainly (after_judgement j s src v).ending s.phase in
-    let refuses : P PeerRefuses = inl tt in
     let resets : P PeerResets = inl tt in
     let stays : ⊥ ⊎ EndsPlainly s.ending s.phase = inr (inl goes) in
     let ends = its_ack-ends s v goes in

@@ -9,7 +9,7 @@ use Rattle.tcp_progress.proofs.Words.{A, B, HasStreamsOf, IsCalm, IsLive, IsStea
 use Rattle.tcp_progress.proofs.Words.{WhatIsLeftNeverGrows}
 use Rattle.tcp_progress.proofs.AlwaysSteady.{in-every-world, IsKept, kept-after, kept-steady, side-pair, side-sent}
 use Rattle.tcp_progress.proofs.Calm.{ends-plainly, Grows, grows-then, IsMoved, moves-arrival, moves-emission, moves-same, moves-still, moves-timer, not-both}
-use Rattle.tcp_progress.proofs.{OnlySent.KeepsSent, Delivered.nothing-left, Live.acked-all, Live.GoOn, Live.steady-back, Live.still-acknowledging}
+use Rattle.tcp_progress.proofs.{OnlySent.KeepsSent, Delivered.nothing-left, Live.GoOn, Live.steady-back, Live.still-acknowledging}
 use Rattle.tcp_progress.proofs.{Live.still-reading, Live.swapped, Sides.after-either, Sides.at-event, Table.own_fin-acked}
 
 -- ---- ONE OF TWO PARTIES MOVES
@@ -104,7 +104,6 @@ over-nothing : (p p' q : PartyState) → IsMoved p p' → IsSteadyPair p q → I
 over-nothing p p' q h before after over last =
     let s = p'.endpoint in
     let says = says-over s s.phase over after.pair.there.alone.progress after.there.stage in
-    let same : s.sending.una ≡ s.sending.nxt = acked-all s says.acked in
     let sends = subst (Sends s.sending p'.accepted p'.closed) (ap gives_up over) after.pair.there.alone.sends in
     let all = own_fin-acked s.sending p'.accepted p'.closed sends says.acked in
     let have = ap length h.grows.accepted in

@@ -35,9 +35,8 @@ pub record TakenUp (p q q' : PartyState) : Type 0 where
 right-here : (next window count : ℕ) → next < 2 ^ 32 → 1 ≤ window → window ≤ 2 ^ 20 → is_acceptable next window next count ≡ true
 unfolding is_acceptable
 right-here next window count fits some small =
-    let none : distance next next ≡ 0 = omega arith in
     let first : is_inside next window (near next next) ≡ true = first_inside next window next fits small ∙ lt-ltb (distance next next) window
-    (omega (arith, none, some)) in
+    (omega (arith, some)) in
     let opened : (window == 0) ≡ false = grind (arith, nat_tests, some) in
     elim (cases_Bool (count == 0)) [ inl bare ↦ rw (bare, opened) first | inr numbers ↦ rw (numbers, opened) (or_left _ _ first) ]
 
@@ -86,10 +85,9 @@ nothing-left p q q' h accepted closed una next all last =
       | inl yes_it_is ↦ yes_it_is
       | inr never ↦ absurd (omega (arith, ap one_if never, all, h.pair.there.takes.order))
     ] in
-    let released : p.endpoint.sending.una ≡ next_position q = h.back.last last finished in
     let whole : all_of p ≤ next_position q = omega (arith, ap one_if says.finished, had.1, one_if-most p.closed) in
     let rest : all_of q' ≤ next_position p = omega (arith, all, ap length accepted, one_if-most q'.closed) in
-    omega (arith, whole, rest, released, una, next)
+    omega (arith, whole, rest, una, next)
 
 -- q's state takes text, or comes to one that does, as long as the peer's FIN wasn't taken
 phase-takes : (phase : Phase) (s : State) → IsPresent phase → SaysByPhase phase s → s.receiving.finished ≡ false
@@ -119,8 +117,7 @@ module _ (p q : PartyState) (life k start : ℕ) (v : Content) (least : least_li
   unexpired-still : is_expired life q.endpoint f.g ≡ false
   unexpired-still =
       let sends = h.pair.there.alone.sends in
-      let near : next_position q ≤ p.endpoint.sending.nxt = h.there.sent.taken open_to.live.opened in
-      unexpired p q life f.g h (omega (arith, near, sends.most, one_if-most p.closed, sends.ahead, sends.released, f.near, f.starts, f.least, least))
+      unexpired p q life f.g h (omega (arith, sends.most, one_if-most p.closed, sends.ahead, sends.released, f.near, f.starts, f.least, least))
       (omega (arith, h.pair.back.between, f.wanted, least))
 
   fresh-goes : delivery_refusal life p q k ≡ None
@@ -259,8 +256,7 @@ module _ (p q : PartyState) (life k start : ℕ) (v : Content) (least : least_li
       let initial = p.endpoint.config.isn.0 in
       let next = next_position q in
       let sends = h.pair.there.alone.sends in
-      let near : next ≤ p.endpoint.sending.nxt = h.there.sent.taken open_to.live.opened in
-      let close : next ≤ start + 2 ^ 31 = omega (arith, near, sends.most, one_if-most p.closed, sends.ahead, sends.released, f.near, f.least) in
+      let close : next ≤ start + 2 ^ 31 = omega (arith, sends.most, one_if-most p.closed, sends.ahead, sends.released, f.near, f.least) in
       let at : begins_at s v ≡ pos start -ℤ pos next =
       ap (λ n. offset n v.seq) (h.pair.back.takes.next open_to.live.opened) ∙ ap (λ n. offset (number initial next) n) f.seq ∙ lies initial next start begins
       close in
@@ -280,18 +276,17 @@ module _ (p q : PartyState) (life k start : ℕ) (v : Content) (least : least_li
       let src = p.endpoint.config.addr.0 in
       let dst = s.config.addr.0 in
       let next = is-next begins ends in
-      let order = h.pair.back.takes.order in
       let limit = h.pair.there.alone.sends.limit in
       let ready : IsReady s.receiving = record {
         next = h.pair.back.alone.next;
-        ordered = omega (arith, order, limit);
+        ordered = omega (arith, limit);
         whole = omega (arith, h.back.within.size, h.back.within.received);
       } in
       let read : decode_answer src dst (segment_at p k) ≡ Ok v =
       ap (λ (g : SentSegment). decode_answer src dst g.bytes) (is-there p k f.g f.way.sent) ∙ f.way.read in
       let brings = ready-takes s ready src dst (segment_at p k) v read next in
       brings-further s.receiving (after_arrival s src dst (segment_at p k)).receiving (ends_at s v) brings.1 next.ends
-      (unfinished (omega (arith, ends, f.most))) (omega (arith, order, limit, wide, h.pair.back.alone.config.good.0.1.1))
+      (unfinished (omega (arith, ends, f.most))) (omega (arith, limit, wide, h.pair.back.alone.config.good.0.1.1))
 
   -- WHAT IS NEXT is taken, and brings RCV.NXT on
   pub delivered-next : start ≤ next_position q → next_position q < start + count_numbers v

@@ -9,7 +9,7 @@ use Rattle.tcp_replay.proofs.Words.{rst, segment_at, segment_of, sent_at, sent_b
 use Rattle.tcp_replay.proofs.Words.{Syn, syn, syn_segment, true, unwrap_or, ◌||◌, ℕ, ◌∙◌, ◌≡◌, ◌≤◌, ◌⊎◌}
 use Rattle.tcp_replay.proofs.Lemmas.{after_segment, arrival-ok, Arrives, Comes, comes, delivered-there, due-alone, due-decodes, due-goes, due-position, GoesOut}
 use Rattle.tcp_replay.proofs.Lemmas.{GoesOutAlone, handshake-knows, handshake-una, IsSaid, one_if, one_if-most, own-decodes, pair-swapped, due-bits}
-use Rattle.tcp_replay.proofs.Lemmas.{reset-bit, same-content, segment-sent, syn-bits, wanted-is}
+use Rattle.tcp_replay.proofs.Lemmas.{same-content, segment-sent, syn-bits, wanted-is}
 use Rattle.tcp_progress.proofs.{Words.IsSteadyPair, Live.last-of, OnlySent.due-ends, OnlySent.DueEnds}
 use Rattle.tcp_replay.proofs.Lemmas.{waiting-bit}
 

@@ -1,5 +1,5 @@
 -- THE END: where nothing is left, the users read all, TIME-WAIT expires, and the ends end in order.
-use Rattle.tcp_replay.proofs.Words.{◌++◌, ◌+◌, ◌-◌, [], after_orderly_end, after_read, after_receive, after_time_wait, and-false, ap, append-nil, arith, Bool}
+use Rattle.tcp_replay.proofs.Words.{◌++◌, ◌+◌, [], after_orderly_end, after_read, after_receive, after_time_wait, and-false, ap, append-nil, arith, Bool}
 use Rattle.tcp_replay.proofs.Words.{both, cond_both, effect_of, Ending, false, FitsPhase, gives_up, inl, inr, is_closed, is_fin_acked, is_time_wait, length}
 use Rattle.tcp_replay.proofs.Words.{next_position, None, NotEnded, or-true, Orderly, party_after_receive, party_after_timer, PartyState, Phase, receive_refusal}
 use Rattle.tcp_replay.proofs.Words.{refl, Sends, State, subst, sym, take_all, true, unread_of, world_after_all, WorldState, ℕ, ◌∙◌, ◌≡◌, ◌≤◌, ◌⊎◌}

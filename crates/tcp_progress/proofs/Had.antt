@@ -1,7 +1,7 @@
 -- WHERE NO RESET COMES no end is reset or aborted: reads, the retransmission timeout and emissions end nothing, nor does a segment that is no reset.
 use Rattle.tcp_replay.proofs.Words.{◌++◌, [], acceptable_judgement, ack_judgement, after_judgement, AllByRecursion, ap, Bool, bytes_of, cases_Bool}
 use Rattle.tcp_replay.proofs.Words.{closed_judgement, Content, Deliver, Due, due_of, effect_of, Emit, EventContent, false, false≢true, gave_up, gives_up, has}
-use Rattle.tcp_replay.proofs.Words.{if◌then◌else◌, inl, inr, is_closed, is_fin, IsAlone, IsSoundPair, Judgement, judgement, length, List, listen_judgement}
+use Rattle.tcp_replay.proofs.Words.{if◌then◌else◌, inl, inr, is_closed, IsAlone, IsSoundPair, Judgement, judgement, length, List, listen_judgement}
 use Rattle.tcp_replay.proofs.Words.{None, Option, other, party_after_emission, party_of, PartyState, phase_judgement, present_judgement, Receive, refl}
 use Rattle.tcp_replay.proofs.Words.{Retransmit, rst, segment_of, sent_by, SentSegment, side_of, Some, State, subst, suc, sym, syn_sent_judgement, Timer, true}
 use Rattle.tcp_replay.proofs.Words.{unacceptable_judgement, world_after, world_after_all, WorldState, zero, ℕ, ◌∙◌, ◌∷◌, ◌≡◌}

@@ -1,11 +1,11 @@
 -- THE HANDSHAKE GOES THROUGH (RFC 9293, 3.5): the SYN of who is in SYN-SENT is taken in LISTEN, and the SYN of who is in SYN-RECEIVED, with its
 -- acknowledgement, in SYN-SENT.
 use Rattle.tcp_replay.proofs.Words.{ack, acks_syn, after_judgement, after_peer_accepts, after_peer_opens, ap, arith, Bool, Content, delivery_refusal, eq-eqb}
-use Rattle.tcp_replay.proofs.Words.{false, has, is_foreign, is_handshake, IsAnswering, IsOpening, IsUnused, Judgement, judgement, List, Listen}
+use Rattle.tcp_replay.proofs.Words.{false, has, is_foreign, IsAnswering, IsOpening, IsUnused, Judgement, judgement, List, Listen}
 use Rattle.tcp_replay.proofs.Words.{listen_judgement, next_position, None, NotEnded, party_after_arrival, PartyState, PeerAccepts, PeerOpens, phase_judgement}
 use Rattle.tcp_replay.proofs.Words.{position_near, position_of_number, refl, rst, segment_at, State, subst, sym, syn, syn_sent_judgement, SynReceived, SynSent}
 use Rattle.tcp_replay.proofs.Words.{true, ℕ, ◌∙◌, ◌≡◌, ◌≤◌}
-use Rattle.tcp_replay.proofs.Lemmas.{handshake-una, one_if}
+use Rattle.tcp_replay.proofs.Lemmas.{one_if}
 use Rattle.tcp_progress.proofs.Words.{IsLive, IsSteadyPair, least_life}
 use Rattle.tcp_progress.proofs.Lemmas.{arrives, goes, IsSyn, of_peer, steady-back, unexpired}
 
@@ -81,10 +81,8 @@ acks-own_syn p q k h calls f =
     let s = q.endpoint in
     let alone = h.pair.back.alone in
     let nxt = (opening q p (steady-back q p h) calls).1.nxt_is in
-    let una = handshake-una s.phase s.ending s.sending.una s.sending.nxt s.receiving.opened s.receiving.finished (ap is_handshake calls) alone.sends.order
-    alone.progress in
     let is : position_near s f.content.ack ≡ 1 = ap (position_near s) (f.acks refl) ∙ position_of_number s.config.isn.0 s.sending.una 1 alone.config.isn
-    (omega arith) (omega (arith, una)) in
+    (omega arith) (omega arith) in
     eq-eqb (position_near s f.content.ack) s.sending.nxt (is ∙ sym nxt)
 
 accepts-live : (q : PartyState) (src : List ℕ) (v : Content) → q.endpoint.ending ≡ NotEnded → IsLive

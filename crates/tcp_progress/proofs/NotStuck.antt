@@ -26,8 +26,7 @@ ended-on x y h ended =
     let acked = own_fin-acked s.sending x.accepted x.closed sends says.acked in
     let all = own_fin-acked y.endpoint.sending y.accepted y.closed back ended.fin_acked in
     let taken = h.pair.there.takes.fin says.finished in
-    let fin : one_if s.receiving.finished ≡ 1 = ap one_if says.finished in
-    let none : left_of_both x y ≡ 0 = omega (arith, acked, all, taken.1, fin, h.pair.there.between, one_if-most x.closed, one_if-most y.closed) in
+    let none : left_of_both x y ≡ 0 = omega (arith, acked, all, taken.1, h.pair.there.between, one_if-most x.closed, one_if-most y.closed) in
     let had : s.receiving.opened ≡ true = elim (cases_Bool s.receiving.opened) [
       | inl took ↦ took
       | inr never ↦ absurd (false≢true (sym (h.pair.there.takes.unopened never).2 ∙ says.finished))

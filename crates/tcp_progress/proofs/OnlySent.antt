@@ -14,8 +14,8 @@ use Rattle.tcp_replay.proofs.Words.{without_bytes, witness_of, world_with_effect
 use Rattle.tcp_replay.proofs.Lemmas.{after_segment, AllHeld, AllSaid, AllText, Arrives, Both, both-swapped, Brings, brings-place, CanOpen, due-position}
 use Rattle.tcp_replay.proofs.Lemmas.{end-closed, end-listen, end-syn_sent, fin-in_turn, GoesOutAlone, handshake-una, held-more, held-moved, held-none}
 use Rattle.tcp_replay.proofs.Lemmas.{held-same, in-world, IsAhead, IsSaid, IsYoung, Kept, kept-after_all, kept-run, kept-same, KeptByCalls, MayGoOut, Moved}
-use Rattle.tcp_replay.proofs.Lemmas.{next_of, on-arrival, one_if, one_if-false, one_if-most, PairKept, placed, due-bits, reset-bit, said-after, said-back}
-use Rattle.tcp_replay.proofs.Lemmas.{same-news, sound-after, sound-new, Speaks, syn-bits, text-advances, text_advance}
+use Rattle.tcp_replay.proofs.Lemmas.{next_of, on-arrival, one_if, one_if-false, one_if-most, PairKept, placed, due-bits, said-after, said-back}
+use Rattle.tcp_replay.proofs.Lemmas.{same-news, sound-after, sound-new, Speaks, syn-bits, text_advance}
 use Rattle.tcp_progress.proofs.Words.{NothingIsTakenBeforeItIsSent, TakeOnlySent, TakesOnlySent}
 use Rattle.tcp_replay.proofs.Lemmas.{waiting-bit}
 
@@ -72,21 +72,18 @@ reached-text p q s v n e close truth young some below kept h =
     let r = s.receiving in
     let m = text_advance s v in
     let at = placed p q s v e kept in
-    let steps = text-advances p q s v e close truth young some kept in
     let had : 1 + r.ordered ≤ n = omega (arith, h.next at.opened) in
-    let inside : length v.text ≤ count_numbers v = omega arith in
     let P : ℕ → ℕ → Type 0 = Below (1 + r.ordered) n in
     let part : AllText P (piece (offset r.next v.seq) v.text).start (piece (offset r.next v.seq) v.text).text =
     piece-below q.endpoint.config.isn.0 r.ordered truth.own.position r.next v.seq n v.text (omega (arith, young))
     (omega (arith, truth.own.within, close.ahead, kept.grows.next, one_if-most r.finished, one_if-most q.closed)) at.next truth.own.seq had
-    (omega (arith, below, inside)) in
+    (omega (arith, below)) in
     let brings : Brings P r.inbox _ m = brings-place P r.inbox (offset r.next v.seq) v.text h.held part in
     let end : 1 + r.ordered + 0 + length brings.bytes ≤ n = text-ends_below (1 + r.ordered) n 0 brings.bytes (omega (arith, had)) brings.text in
     let ordered = (after_text r v.seq v.text).ordered in
-    let same : ordered ≡ r.ordered + m = omega (arith, kept.here.takes.order, close.limit, steps.within, length-drop r.ordered q.accepted) in
     record {
-      next = λ _. omega (arith, same, end, brings.count, one_if-false r.finished at.unfinished);
-      held = held-moved P (Below (1 + ordered) n) m (λ i byte is. omega (arith, same, is)) m 0 (after_place r.inbox (offset r.next v.seq) v.text).held
+      next = λ _. omega (arith, end, brings.count, one_if-false r.finished at.unfinished);
+      held = held-moved P (Below (1 + ordered) n) m (λ i byte is. omega (arith, is)) m 0 (after_place r.inbox (offset r.next v.seq) v.text).held
           (omega arith) brings.held;
     }
 

@@ -1,7 +1,7 @@
 -- OVER CALM EVENTS two ends that are opening the connection go on to do so, or both are open, while no end is reset (RFC 9293, 3.10.7.2 to 3.10.7.4).
 use Rattle.tcp_replay.proofs.Words.{◌++◌, [], ack, Acknowledge, after_judgement, after_peer_opens, AllByRecursion, arith, Bool, cases_Bool, Closed, Content}
 use Rattle.tcp_replay.proofs.Words.{Damage, Deliver, effect_of, Emit, Ending, EventContent, false, false≢true, FitsPhase, gave_up, gives_up, has, inl, inr}
-use Rattle.tcp_replay.proofs.Words.{is_syn_sent, IsSoundPair, Judgement, judgement, LastAck, List, Listen, max_life, None, NotEnded, other, party_of}
+use Rattle.tcp_replay.proofs.Words.{is_syn_sent, IsSoundPair, Judgement, judgement, List, Listen, max_life, None, NotEnded, other, party_of}
 use Rattle.tcp_replay.proofs.Words.{PartyState, PeerAccepts, PeerOpens, Phase, Receive, refl, rst, side_of, State, subst, sym, SynReceived, SynSent, Taken}
 use Rattle.tcp_replay.proofs.Words.{TakenShut, Timer, true, world_after, world_after_all, WorldState, ℕ, ◌∙◌, ◌∷◌, ◌≡◌, ◌≤◌, ◌⊎◌}
 use Rattle.tcp_progress.proofs.Lemmas.{after-append, at-event, delivered, ends-plainly, IsKept, IsMoved, moves-event, side-pair, steady-back, steps-all}

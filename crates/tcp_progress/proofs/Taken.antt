@@ -126,8 +126,7 @@ text-taken s v takes plain open_still fits =
     let count : count_numbers v ≡ length v.text = rw (plain, open_still) (omega arith) in
     let m = its_text-moves r v.seq v.text fits.next fits.ordered fits.whole fits.begins (omega (arith, ints, fits.within, count)) in
     let r' : Receiving = if not (length v.text == 0) then after_text r v.seq v.text else r in
-    let some : 1 ≤ length v.text = omega (arith, ints, fits.begins, fits.ends, count) in
-    let text : (length v.text == 0) ≡ false = grind (arith, nat_tests, some) in
+    let text : (length v.text == 0) ≡ false = grind (arith, nat_tests) in
     record {
       brings = rw (count, takes, open_still) (without-fin r r' _ (offset r.next v.seq +ℤ pos (length v.text)) m m.least);
       owes = rw (takes, open_still, text) (or_left (s.owed.ack || true) false (or_right s.owed.ack true refl));

@@ -1,5 +1,5 @@
 -- What is pending is sent: whatever is due but a reset or a SYN acknowledges RCV.NXT.
-use Rattle.tcp_replay.proofs.Words.{ack, ack_due, Acknowledgement, Due, due_of, end_of_text, false≢true, Fin, has, inl, inr, is_fin, new_count, NewText, None}
+use Rattle.tcp_replay.proofs.Words.{ack, ack_due, Acknowledgement, Due, due_of, end_of_text, false≢true, Fin, has, inl, inr, new_count, NewText, None}
 use Rattle.tcp_replay.proofs.Words.{plain_segment, refl, Resend, ResentFin, reset_due, segment_of, State, sym, syn_due, text_due, text_limit, true, ◌∙◌}
 use Rattle.tcp_replay.proofs.Words.{◌≡◌}
 use Rattle.tcp_replay.proofs.Lemmas.{again-kept, due-kept, none-some, or-none, due-bits, some-due}

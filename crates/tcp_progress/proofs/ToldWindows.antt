@@ -2,14 +2,14 @@
 use Rattle.tcp_replay.proofs.Words.{◌&&◌, ◌*◌, ◌++◌, ◌+◌, ◌/◌, [], ◌^◌, Aborted, address_of, after_acked_text, after_giving_up, after_news, after_own_syn}
 use Rattle.tcp_replay.proofs.Words.{after_peer_accepts, after_peer_opens, after_place, after_text, ap, arith, Bool, bytes_in_order, capacity_placed}
 use Rattle.tcp_replay.proofs.Words.{capacity_read, Cell, cond_both, Config, Content, div-mul-le_self, drop, Due, false, false≢true, greatest_stamp, has}
-use Rattle.tcp_replay.proofs.Words.{HasGoodShift, HoldsWithin, if◌then◌else◌, Inbox, is_fin, is_refused, is_sack_offered, is_some, IsSoundPair, length}
+use Rattle.tcp_replay.proofs.Words.{HasGoodShift, HoldsWithin, if◌then◌else◌, Inbox, is_refused, is_sack_offered, is_some, IsSoundPair, length}
 use Rattle.tcp_replay.proofs.Words.{length-append, length-drop, Link, link_of, List, max_shift, max_window, min, min_mss, mul-le, new_party, None, not, Option}
 use Rattle.tcp_replay.proofs.Words.{overlay_of, own_shift, PartyState, permission_options, piece, plain_segment, receive_refusal, Receiving, refl}
 use Rattle.tcp_replay.proofs.Words.{Reset, rst, Run, runs, scale_options, segment_of, SentSegment, shift_offered, shift_option, Some, State, subst, suc, sym}
 use Rattle.tcp_replay.proofs.Words.{Syn, syn, syn_options, syn_segment, true, unwrap_or, whole_empty, whole_read, whole_without_held, window, window_field}
 use Rattle.tcp_replay.proofs.Words.{with_bytes_received, with_fin, with_overlay, with_ranks, with_ranks_from, without_bytes, ℕ, ℤ, ◌∙◌, ◌∷◌, ◌≡◌, ◌≤◌}
 use Rattle.tcp_replay.proofs.Lemmas.{after_segment, AllSaid, Arrives, Both, both-swapped, GoesOutAlone, kept-same, KeptByCalls, Moved, on-arrival, PairKept}
-use Rattle.tcp_replay.proofs.Lemmas.{due-bits, reset-bit, said-after, said-back, Speaks, syn-bits}
+use Rattle.tcp_replay.proofs.Lemmas.{due-bits, said-after, said-back, Speaks, syn-bits}
 use Rattle.tcp_progress.proofs.{Words.TellsWithin, Brought.in_order-most, Brought.overlay-length}
 use Rattle.tcp_replay.proofs.Lemmas.{waiting-bit}
 
@@ -203,8 +203,7 @@ plain-told s mine yours due opened h config =
     own-agreed mine.window_shift yours.window_shift s.link.scaling (h.agreed opened).scaling in
     let n = own_shift s.config s.link in
     let scaled : window_field n (window s.receiving.inbox) * 2 ^ n ≤ window s.receiving.inbox = field-within n (window s.receiving.inbox) in
-    let most = window-within mine.recv_capacity s.receiving.inbox h.within in
-    let all : window_field n (window s.receiving.inbox) * 2 ^ n ≤ mine.recv_capacity = omega (arith, scaled, most) in
+    let all : window_field n (window s.receiving.inbox) * 2 ^ n ≤ mine.recv_capacity = omega (arith, scaled) in
     record {
       field = λ is_syn. absurd (false≢true (sym bits.0 ∙ is_syn));
       offers = λ is_syn. absurd (false≢true (sym bits.0 ∙ is_syn));
