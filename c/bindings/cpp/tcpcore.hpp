@@ -94,6 +94,21 @@ public:
         struct tcpcore_transmit told;
         return tcpcore_transmit(raw(), out, sizeof out, &told), told;
     }
+    // As emit, for a device that sums: the checksum field has the sum of the pseudo-header alone.
+    std::size_t emit_partial(unsigned char (&out)[TCPCORE_EMIT_ROOM], tcpcore_addr &to)
+    {
+        std::size_t length;
+        return tcpcore_emit_partial(raw(), out, sizeof out, &to, &length), length;
+    }
+    // As many segments of new text as one as the peer's window allows, at most `most`, for a device that cuts them and sums; anything
+    // else goes alone. `segments` is 0 where none was due.
+    struct tcpcore_train emit_train(void *out, std::size_t room, std::size_t most)
+    {
+        struct tcpcore_train told;
+        std::uint32_t answer = tcpcore_emit_train(raw(), out, room, most, &told);
+        if (answer != TCPCORE_NOT_DUE) done(answer);
+        return told;
+    }
     // What became of the segment: DONE, DROPPED, NOT_MINE, or why it is none; and whether it has to be answered at once.
     std::pair<std::uint32_t, bool> arrive(tcpcore_addr src, tcpcore_addr dst, const void *segment, std::size_t length)
     {
@@ -105,6 +120,14 @@ public:
     {
         struct tcpcore_taken told;
         std::uint32_t answer = tcpcore_taken(raw(), src, dst, segment, length, &told);
+        return {answer, told};
+    }
+    // The same of a segment whose checksum a device has found right: it isn't summed again.
+    std::pair<std::uint32_t, struct tcpcore_taken> taken_vouched(tcpcore_addr src, tcpcore_addr dst, const void *segment,
+                                                                 std::size_t length)
+    {
+        struct tcpcore_taken told;
+        std::uint32_t answer = tcpcore_taken_vouched(raw(), src, dst, segment, length, &told);
         return {answer, told};
     }
     bool timer(std::uint32_t timer) { return tcpcore_timer(raw(), timer) == TCPCORE_DONE; }

@@ -115,6 +115,59 @@ static void pacing()
     CHECK(a.transmit(out).length == 0);
 }
 
+// What a device makes of a checksum field that has the sum of the pseudo-header: the complement of the sum over all (RFC 1071).
+static void sum(unsigned char *segment, std::size_t length)
+{
+    std::uint32_t sum = 0;
+    for (std::size_t i = 0; i < length; i++)
+        sum += i % 2 ? segment[i] : std::uint32_t(segment[i]) << 8;
+    while (sum >> 16)
+        sum = (sum & 0xffff) + (sum >> 16);
+    segment[16] = static_cast<unsigned char>(~sum >> 8);
+    segment[17] = static_cast<unsigned char>(~sum);
+}
+
+// Of two pairs of ends one is used by the calls for a device that sums and cuts: the same text, and the same states.
+static void train()
+{
+    tcpcore::end a(config(A, 7)), b(config(B, 7)), c(config(A, 7)), d(config(B, 7));
+    connect(a, b);
+    connect(c, d);
+    std::string text(3500, 'y');
+    for (std::size_t i = 0; i < text.size(); i++)
+        text[i] = static_cast<char>(i * 7);
+    CHECK(a.send(text.data(), text.size()) == text.size() && c.send(text.data(), text.size()) == text.size());
+    std::vector<unsigned char> room(TCPCORE_TRAIN_ROOM);
+    struct tcpcore_train train = c.emit_train(room.data(), room.size(), 64);
+    CHECK(train.segments == 4 && train.each == 1000 && train.header == 20 && train.whole.count == text.size());
+    CHECK(train.whole.kind == TCPCORE_KIND_NEW_TEXT && train.whole.length == 20 + text.size() && train.whole.position == 1);
+    CHECK(std::memcmp(room.data() + 20, text.data(), text.size()) == 0);
+    unsigned char one[TCPCORE_EMIT_ROOM], other[TCPCORE_EMIT_ROOM];
+    tcpcore_addr dst, to;
+    for (std::size_t i = 0; i < train.segments; i++) {
+        std::size_t length = a.emit(one, dst);
+        CHECK(length == (i < 3 ? 1020 : 520) && std::memcmp(one + 20, room.data() + 20 + 1000 * i, length - 20) == 0);
+        b.arrive(A, dst, one, length);
+    }
+    std::pair<std::uint32_t, struct tcpcore_taken> report = d.taken_vouched(A, B, room.data(), 20 + text.size());
+    CHECK(report.first == TCPCORE_DONE && report.second.brought == TCPCORE_BROUGHT_IN_ORDER);
+    CHECK(a.emit(one, dst) == 0 && c.emit_train(room.data(), room.size(), 64).segments == 0);
+    std::size_t length = b.emit(one, dst);
+    CHECK(length == 20 && d.emit_partial(other, to) == length && std::memcmp(one, other, length) != 0);
+    sum(other, length);
+    CHECK(std::memcmp(one, other, length) == 0 && to.byte[3] == dst.byte[3]);
+    struct tcpcore_status here = b.status(), there = d.status();
+    CHECK(std::memcmp(&here, &there, sizeof here) == 0);
+    here = a.status(), there = c.status();
+    CHECK(std::memcmp(&here, &there, sizeof here) == 0);
+    try {
+        c.emit_train(room.data(), TCPCORE_EMIT_ROOM - 1, 64);
+        CHECK(false);
+    } catch (const tcpcore::refused &found) {
+        CHECK(found.answer == TCPCORE_ROOM);
+    }
+}
+
 int main()
 {
     std::vector<tcpcore::end> ends;
@@ -158,6 +211,7 @@ int main()
     }
     beside();
     pacing();
+    train();
     a = tcpcore::end(config(A, 9));
     CHECK(a.status().phase == TCPCORE_PHASE_CLOSED);
     std::printf("cpp: %d checks\n", checks);

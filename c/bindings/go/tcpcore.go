@@ -14,8 +14,11 @@ import (
 	"unsafe"
 )
 
-// EmitRoom is the room that Emit wants, in bytes.
-const EmitRoom = C.TCPCORE_EMIT_ROOM
+// EmitRoom is the room that Emit wants, and TrainRoom the most that EmitTrain uses, in bytes.
+const (
+	EmitRoom  = C.TCPCORE_EMIT_ROOM
+	TrainRoom = C.TCPCORE_TRAIN_ROOM
+)
 
 // The timers of Timer.
 const (
@@ -190,6 +193,13 @@ func (end *End) EmitAcknowledgement(room *[EmitRoom]byte) (to Addr, length int) 
 	return to, int(count)
 }
 
+// EmitPartial is Emit for a device that sums: the checksum field has the sum of the pseudo-header alone.
+func (end *End) EmitPartial(room *[EmitRoom]byte) (to Addr, length int) {
+	var count C.size_t
+	C.tcpcore_emit_partial(end.raw, unsafe.Pointer(room), EmitRoom, (*C.tcpcore_addr)(unsafe.Pointer(&to)), &count)
+	return to, int(count)
+}
+
 // ResendFirst says that of what is in flight the first segment alone must be sent again, and tells whether anything is.
 func (end *End) ResendFirst() bool { return C.tcpcore_resend_first(end.raw) == C.TCPCORE_DONE }
 
@@ -201,12 +211,37 @@ type Transmit struct {
 	Position      uint64
 }
 
+func transmit(told *C.struct_tcpcore_transmit) Transmit {
+	to := *(*Addr)(unsafe.Pointer(&told.to))
+	return Transmit{to, uint32(told.kind), int(told.length), int(told.count), uint64(told.position)}
+}
+
 // Transmit is Emit with a report.
 func (end *End) Transmit(room *[EmitRoom]byte) Transmit {
 	var told C.struct_tcpcore_transmit
 	C.tcpcore_transmit(end.raw, unsafe.Pointer(room), EmitRoom, &told)
-	to := *(*Addr)(unsafe.Pointer(&told.to))
-	return Transmit{to, uint32(told.kind), int(told.length), int(told.count), uint64(told.position)}
+	return transmit(&told)
+}
+
+// Train is segments that were emitted as one, by the fields of struct tcpcore_train: segment i, from 0 on, has the Each bytes of the
+// text from i * Each on, and the last one has the rest. Segments is 0 where none was due.
+type Train struct {
+	Whole                  Transmit
+	Header, Each, Segments int
+}
+
+// EmitTrain writes as many segments of new text as one as the peer's window allows, at most `most`, for a device that cuts them and sums;
+// anything else goes alone. It refuses less room than EmitRoom.
+func (end *End) EmitTrain(room []byte, most int) (Train, error) {
+	if most < 0 {
+		most = 0
+	}
+	var told C.struct_tcpcore_train
+	answer := C.tcpcore_emit_train(end.raw, front(room), C.size_t(len(room)), C.size_t(most), &told)
+	if answer == C.TCPCORE_NOT_DUE {
+		return Train{}, nil
+	}
+	return Train{transmit(&told.whole), int(told.header), int(told.each), int(told.segments)}, done(answer)
 }
 
 // Arrive takes a segment: nil where it was taken, else what became of it; and whether it has to be answered at once.
@@ -225,12 +260,24 @@ type Taken struct {
 	IsDuplicate, WindowTaken bool
 }
 
+func taken(told *C.struct_tcpcore_taken) Taken {
+	return Taken{told.at_once == 1, uint32(told.rule), uint32(told.brought), uint64(told.acked), told.is_duplicate == 1,
+		told.window_taken == 1}
+}
+
 // Taken is Arrive with a report.
 func (end *End) Taken(src, dst Addr, segment []byte) (Taken, error) {
 	var told C.struct_tcpcore_taken
 	err := done(C.tcpcore_taken(end.raw, src.c(), dst.c(), front(segment), C.size_t(len(segment)), &told))
-	return Taken{told.at_once == 1, uint32(told.rule), uint32(told.brought), uint64(told.acked), told.is_duplicate == 1,
-		told.window_taken == 1}, err
+	return taken(&told), err
+}
+
+// TakenVouched is Taken of a segment whose checksum a device has found right: it isn't summed again. One that the device found wrong never
+// goes here.
+func (end *End) TakenVouched(src, dst Addr, segment []byte) (Taken, error) {
+	var told C.struct_tcpcore_taken
+	err := done(C.tcpcore_taken_vouched(end.raw, src.c(), dst.c(), front(segment), C.size_t(len(segment)), &told))
+	return taken(&told), err
 }
 
 // Timer says that a timer has run out, and tells whether its rule was applied. Timers has bit 1 << t where timer t has to run.

@@ -214,6 +214,71 @@ func TestPacing(t *testing.T) {
 	}
 }
 
+// summed is the complement of the ones' complement sum over a segment from a to b, as a device makes it: over its bytes, in which the
+// checksum field has the sum of the pseudo-header (RFC 1071).
+func summed(segment []byte) (high, low byte) {
+	sum := uint32(0)
+	for i, it := range segment {
+		sum += uint32(it) << (8 * (1 - i%2))
+	}
+	for sum>>16 != 0 {
+		sum = sum&0xffff + sum>>16
+	}
+	return byte(^sum >> 8), byte(^sum)
+}
+
+// Of two pairs of ends one is used by the calls for a device that sums and cuts: the same text, and the same states.
+func TestTrain(t *testing.T) {
+	one, other := connected(t)
+	third, fourth := connected(t)
+	for _, end := range []*End{one, other, third, fourth} {
+		defer end.Free()
+	}
+	text := make([]byte, 3500)
+	for i := range text {
+		text[i] = byte(i * 7)
+	}
+	for _, end := range []*End{one, third} {
+		if taken, err := end.Send(text); taken != len(text) || err != nil {
+			t.Fatal(taken, err)
+		}
+	}
+	room := make([]byte, TrainRoom)
+	if train, err := third.EmitTrain(room[:EmitRoom-1], 64); train.Segments != 0 || !errors.Is(err, Refused(33)) {
+		t.Fatal(train, err)
+	}
+	train, err := third.EmitTrain(room, 64)
+	whole := Transmit{To: b, Kind: NewText, Length: 3520, Count: 3500, Position: 1}
+	if train != (Train{whole, 20, 1000, 4}) || err != nil || !bytes.Equal(room[20:3520], text) {
+		t.Fatal(train, err)
+	}
+	for i := 0; i < train.Segments; i++ {
+		var small [EmitRoom]byte
+		dst, length := one.Emit(&small)
+		from := 20 + 1000*i
+		if i < 3 && length != 1020 || i == 3 && length != 520 || !bytes.Equal(small[20:length], room[from:from+length-20]) {
+			t.Fatal(i, length)
+		}
+		other.Arrive(a, dst, small[:length])
+	}
+	report, err := fourth.TakenVouched(a, b, room[:3520])
+	if report.Rule != 18 || report.Brought != InOrder || err != nil {
+		t.Fatal(report, err)
+	}
+	if train, err := third.EmitTrain(room, -1); train != (Train{}) || err != nil {
+		t.Fatal(train, err)
+	}
+	var small, beside [EmitRoom]byte
+	dst, length := other.Emit(&small)
+	if to, partial := fourth.EmitPartial(&beside); to != dst || partial != length || length != 20 || small == beside {
+		t.Fatal(to, partial, length)
+	}
+	beside[16], beside[17] = summed(beside[:length])
+	if small != beside || fourth.Status() != other.Status() || third.Status() != one.Status() {
+		t.Fatal(small[:20], beside[:20])
+	}
+}
+
 func TestRefusals(t *testing.T) {
 	_, err := New(Config{Addr: a, MSS: 1, SendCapacity: 1, RecvCapacity: 1})
 	if err == nil || err.Error() != "the maximum segment size isn't from 64 to 1,460 bytes" {
