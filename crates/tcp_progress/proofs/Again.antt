@@ -118,7 +118,7 @@ fin-next s start r past =
 pub kept : (d : Sending) → KeepsFlight d d
 kept d = assumption
 
-flight-kept : (d e : Sending) (position : ℕ) → KeepsFlight d e → IsInFlight d position → IsInFlight e position
+pub flight-kept : (d e : Sending) (position : ℕ) → KeepsFlight d e → IsInFlight d position → IsInFlight e position
 flight-kept d e position keeps flight = omega (arith, ap length keeps.queued, keeps, flight)
 
 -- one emission
@@ -133,6 +133,8 @@ pub record Resent (s : State) (start : ℕ) : Type 0 where
   pub next : ℕ
   pub more : start < next
   pub most : next ≤ s.sending.nxt
+  -- two bytes of text in flight go out together
+  pub wide : s.sending.released < start → start + 2 ≤ end_of_text s.sending → start + 2 ≤ s.sending.nxt → 2 ≤ text_limit s → start + 2 ≤ next
   pub covers : (position : ℕ) → IsInFlight s.sending position → start ≤ position → position < next → CoversNext s position
   pub keeps : KeepsFlight s.sending (after_emission s).sending
   pub resends : Resends (after_emission s) next
@@ -177,6 +179,7 @@ text-resent s start r inside sent =
       is_due = due;
       next = from + count;
       more = omega (arith, r.may.limit, inside, sent);
+      wide = λ queued text flight limit. omega (arith, queued, text, flight, limit);
       most = most;
       covers = λ position flight begins ends. covering s (Text (Resend from count)) position
           (record { is_due = due; form = refl; to = refl; inside = omega arith }) (omega (arith, begins, flight.queued)) (omega (arith, ends));
@@ -198,6 +201,7 @@ fin-resent s start r past sent below =
       is_due = due;
       next = last + 1;
       more = omega (arith, below);
+      wide = λ queued text flight limit. absurd (omega (arith, past, queued, text));
       most = omega (arith, sent);
       covers = λ position flight begins ends. covering s (Text (ResentFin last)) position
           (record { is_due = due; form = refl; to = refl; inside = omega arith }) (omega (arith, past, begins, flight)) (omega (arith, ends));

@@ -64,7 +64,7 @@ side-sent w A h = h.all.sent
 side-sent w B h = both-swapped KeepsSent w.a w.b h.all.sent
 
 -- from the first event on
-new-kept : (life : ℕ) (a b : Config) → least_life ≤ life → life ≤ max_life → IsConfig a → IsConfig b → IsKept (new_world_with life a b)
+pub new-kept : (life : ℕ) (a b : Config) → least_life ≤ life → life ≤ max_life → IsConfig a → IsConfig b → IsKept (new_world_with life a b)
 new-kept life a b least most one two = record {
   sound = sound-new life a b most one two;
   all = record {

@@ -7,7 +7,7 @@ use Rattle.tcp_progress.proofs.Words.{A, after_emissions, AllCome, AreOpen, B, D
 use Rattle.tcp_progress.proofs.Lemmas.{calm-emissions, calm-served, deliver-at, deliver-to, emit-at, emit-endpoint, emit-party, Grows, IsKept, IsStill, IsSyn}
 use Rattle.tcp_progress.proofs.Lemmas.{kept-steady, side-pair, steady-back, steps-all, steps-event, still-emission, still-next, still-retransmit, syn-emitted}
 use Rattle.tcp_progress.proofs.Lemmas.{timer-at, timer-endpoint, way-later}
-use Rattle.tcp_progress.proofs.Shaking.{answerer, Answers, both-open, caller, GoesOn, IsShaking, opens-here, OpensOr, shake-then, shakes-all, shakes-event}
+use Rattle.tcp_progress.proofs.Shaking.{answerer, IsPassive, both-open, caller, GoesOn, IsShaking, opens-here, OpensOr, shake-then, shakes-all, shakes-event}
 use Rattle.tcp_progress.proofs.Shaking.{StillShakes, up-before}
 use Rattle.tcp_replay.proofs.Lemmas.{none-some}
 use Rattle.tcp_progress.proofs.{Handshake.answering, Handshake.answering-first, Handshake.listen-takes, Handshake.syn_sent-takes, Handshake.unopened-first}
@@ -149,7 +149,7 @@ speaks true n w side h enough =
 
 -- ---- WHEN IT COMES
 -- in LISTEN
-call-now : (w : WorldState) (side : Side) (k : ℕ) → IsShaking w side → Answers (party_of w (other side)).endpoint.phase
+call-now : (w : WorldState) (side : Side) (k : ℕ) → IsShaking w side → IsPassive (party_of w (other side)).endpoint.phase
     → IsSyn (party_of w side) (party_of w (other side)) k false
     → GoesOn (party_of w (other side)).endpoint.phase (party_of (world_after w (Deliver side k)) (other side)).endpoint.phase
     → (party_of (world_after w (Deliver side k)) (other side)).endpoint.phase ≡ SynReceived

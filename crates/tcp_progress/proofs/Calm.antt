@@ -4,14 +4,16 @@ use Rattle.tcp_replay.proofs.Words.{◌++◌, [], after_acked_text, after_its_ac
 use Rattle.tcp_replay.proofs.Words.{after_taking, after_taking_shut, arith, Bool, cases_Bool, closed_judgement, cond_both, Content, delivery_refusal, Ending}
 use Rattle.tcp_replay.proofs.Words.{false, false≢true, Foreign, gave_up, gives_up, has, if◌then◌else◌, inl, inr, is_closed, is_foreign, is_listening, IsAlone}
 use Rattle.tcp_replay.proofs.Words.{IsSoundPair, Judgement, judgement, LastAck, length, List, max_life, next_position, None, NotEnded, Orderly}
-use Rattle.tcp_replay.proofs.Words.{party_after_arrival, party_after_emission, party_after_timer, PartyState, PeerRefuses, PeerResets, Phase, phase_judgement}
+use Rattle.tcp_replay.proofs.Words.{party_after_ack_alone, party_after_resend_first, party_after_arrival, party_after_emission, party_after_timer}
+use Rattle.tcp_replay.proofs.Words.{PartyState, PeerRefuses, PeerResets, Phase, phase_judgement}
 use Rattle.tcp_replay.proofs.Words.{refl, ResetIgnored, rst, segment_at, SentSegment, slice_get, Some, State, Stray, subst, suc, sym, Taken, TakenShut, Timer}
 use Rattle.tcp_replay.proofs.Words.{true, zero, ℕ, ◌∙◌, ◌∷◌, ◌≡◌, ◌≤◌, ◌⊎◌}
 use Rattle.tcp_replay.proofs.Lemmas.{after_segment, at-listen, Both, fair-judgement, judged, kept-same, not-closed-ended}
 use Rattle.tcp_progress.proofs.Delivered.{last-before, own_fin-ends, same-ending, same-phase, shut-as, taken-as}
 use Rattle.tcp_conn.specs.declared.phase.Timer.{Timer as Which}
 use Rattle.tcp_progress.proofs.{Words.IsCalm, Words.Side, Emitted.delivered, Emitted.IsOnItsWay, OnlySent.KeepsSent, OnlySent.reaches-arrive, Live.IsStill}
-use Rattle.tcp_progress.proofs.{Live.still-emission, Live.still-next, Live.still-reorder, Live.still-retransmit, Live.still-same, Answering.its_ack-range}
+use Rattle.tcp_progress.proofs.{Live.still-ack_alone, Live.still-resend_first, Live.still-emission, Live.still-next, Live.still-reorder}
+use Rattle.tcp_progress.proofs.{Live.still-retransmit, Live.still-same, Answering.its_ack-range}
 use Rattle.tcp_replay.proofs.Judgements.{IsSyn}
 use Rattle.tcp_conn.specs.declared.phase.Timer.TheVariants as timers
 
@@ -99,6 +101,16 @@ sent-still (x ∷ xs) ys (suc k) g e = sent-still xs ys k g e
 pub moves-emission : (p : PartyState) → IsMoved p (party_after_emission p)
 unfolding party_after_emission
 moves-emission p = moves-still p (party_after_emission p) (still-emission p) (sent-still p.sent _) (omega arith) (λ e. e)
+
+-- an acknowledgement alone
+pub moves-ack_alone : (p : PartyState) → IsMoved p (party_after_ack_alone p)
+unfolding party_after_ack_alone
+moves-ack_alone p = moves-still p (party_after_ack_alone p) (still-ack_alone p) (sent-still p.sent _) (omega arith) (λ e. e)
+
+-- the first segment is to go out again
+pub moves-resend_first : (p : PartyState) → IsMoved p (party_after_resend_first p)
+unfolding party_after_resend_first
+moves-resend_first p = moves-still p (party_after_resend_first p) (still-resend_first p) (λ k g e. e) (omega arith) (λ e. e)
 
 una-judgement : (s : State) (src dst : List ℕ) (v : Content) (accepted : List ℕ) (closed : Bool) → IsAlone s accepted closed
     → s.sending.una ≤ (after_judgement (judgement s src dst v) s src v).sending.una

@@ -1,5 +1,6 @@
 -- CALM EVENTS in a world: over them both ends are only brought on, what is left never grows, and both go on while no end is reset.
-use Rattle.tcp_replay.proofs.Words.{◌+◌, ◌<◌, [], Acknowledge, AllByRecursion, ap, arith, Closed, Damage, Deliver, effect_of, Emit, EventContent, false}
+use Rattle.tcp_replay.proofs.Words.{◌+◌, ◌<◌, [], Acknowledge, AllByRecursion, ap, arith, Closed, Damage, Deliver, effect_of, Emit, EmitAcknowledgement}
+use Rattle.tcp_replay.proofs.Words.{ResendFirst, EventContent, false}
 use Rattle.tcp_replay.proofs.Words.{FitsPhase, gave_up, gives_up, HasBytes, inl, inr, IsSoundPair, LastAck, length, length-append, List, max_life}
 use Rattle.tcp_replay.proofs.Words.{next_position, None, NotEnded, Orderly, other, party_after_acknowledge, party_after_receive, party_of, PartyState, Phase}
 use Rattle.tcp_replay.proofs.Words.{Receive, refl, refusal_of, Send, Sends, side_of, State, subst, sym, Timer, true, world_after, world_after_all}
@@ -8,7 +9,8 @@ use Rattle.tcp_replay.proofs.Lemmas.{Both, both-swapped, finds-damage, gives_up-
 use Rattle.tcp_progress.proofs.Words.{A, B, HasStreamsOf, IsCalm, IsLive, IsSteadyPair, left_in, left_of_both, NeverGrows, NoneGaveUp, Says, SaysByPhase, Side}
 use Rattle.tcp_progress.proofs.Words.{WhatIsLeftNeverGrows}
 use Rattle.tcp_progress.proofs.AlwaysSteady.{in-every-world, IsKept, kept-after, kept-steady, side-pair, side-sent}
-use Rattle.tcp_progress.proofs.Calm.{ends-plainly, Grows, grows-then, IsMoved, moves-arrival, moves-emission, moves-same, moves-still, moves-timer, not-both}
+use Rattle.tcp_progress.proofs.Calm.{ends-plainly, Grows, grows-then, IsMoved, moves-ack_alone, moves-resend_first, moves-arrival, moves-emission}
+use Rattle.tcp_progress.proofs.Calm.{moves-same, moves-still, moves-timer, not-both}
 use Rattle.tcp_progress.proofs.{OnlySent.KeepsSent, Delivered.nothing-left, Live.GoOn, Live.steady-back, Live.still-acknowledging}
 use Rattle.tcp_progress.proofs.{Live.still-reading, Live.swapped, Sides.after-either, Sides.at-event, Table.own_fin-acked}
 
@@ -29,6 +31,8 @@ calm-effect life p q (Acknowledge side) calm most e pair h =
     inl (moves-still p (party_after_acknowledge p) (still-acknowledging p) (λ k g e. e) (omega arith) (λ e. e), refl)
 calm-effect life p q (Timer side which) calm most e pair h = inl (moves-timer p side which calm, refl)
 calm-effect life p q (Emit side) calm most e pair h = inl (moves-emission p, refl)
+calm-effect life p q (EmitAcknowledgement side) calm most e pair h = inl (moves-ack_alone p, refl)
+calm-effect life p q (ResendFirst side) calm most e pair h = inl (moves-resend_first p, refl)
 calm-effect life p q (Deliver from k) calm most e pair h = inr (refl, moves-arrival q p life k most e (pair-swapped _ _ pair) (both-swapped KeepsSent _ _ h))
 calm-effect life p q (Damage from k place value) calm most e pair h =
     inr (refl, subst (λ (x : PartyState). IsMoved q x) (sym (finds-damage q p life k place value calm e (pair-swapped _ _ pair)).same) (moves-same q))
@@ -53,7 +57,7 @@ moves-event w event side calm h =
     ]
 
 -- ---- WHO WAS RESET OR ABORTED STAYS SO
-moves-stays : (p p' : PartyState) → IsMoved p p' → gave_up p' ≡ false → gave_up p ≡ false
+pub moves-stays : (p p' : PartyState) → IsMoved p p' → gave_up p' ≡ false → gave_up p ≡ false
 moves-stays p p' h e =
     elim h.ending [ inl same ↦ ap gives_up (sym same) ∙ e | inr goes ↦ gives_up-not_ended p.endpoint.ending goes.0 ]
 
@@ -134,7 +138,8 @@ on-moved p p' q h before after on stays =
           (record { opened = h.grows.opened live.0.opened; goes_on = goes_on }, live.1);
     }
 
-on-one : (p q p' q' : PartyState) → OneMoves p q p' q' → IsSteadyPair p q → IsSteadyPair p' q' → GoOn p q → gave_up p' ≡ false → gave_up q' ≡ false → GoOn p' q'
+pub on-one : (p q p' q' : PartyState) → OneMoves p q p' q' → IsSteadyPair p q → IsSteadyPair p' q' → GoOn p q → gave_up p' ≡ false → gave_up q' ≡ false
+    → GoOn p' q'
 on-one p q p' q' (inl here) before after on one two =
     subst (λ (x : PartyState). GoOn p' x) (sym here.1) (on-moved p p' q here.0 before (subst (λ (x : PartyState). IsSteadyPair p' x) here.1 after) on one)
 on-one p q p' q' (inr there) before after on one two =
@@ -173,7 +178,10 @@ steps-streams w v h =
     record { accepted_of_a = a.accepted; accepted_of_b = b.accepted; closed_of_a = a.closed; closed_of_b = b.closed }
 
 -- in every world
+pub left-kept : (w : WorldState) → IsKept w → NeverGrows w
+left-kept w h events calm =
+    let steps = steps-all w events calm h in
+    (steps-left w (world_after_all w events) steps, steps-streams w (world_after_all w events) steps)
+
 pub left_lem : WhatIsLeftNeverGrows
-left_lem =
-    in-every-world NeverGrows (λ w h events calm. let steps = steps-all w events calm h in
-    (steps-left w (world_after_all w events) steps, steps-streams w (world_after_all w events) steps))
+left_lem = in-every-world NeverGrows left-kept

@@ -1,6 +1,6 @@
 -- WHAT A FRESH SEGMENT DOES when it is delivered (RFC 9293, 3.10.7.4): it hasn't expired, it is the peer's, all that it acknowledges
 -- is SND.UNA, and the connection goes on, or has ended in order with nothing left.
-use Rattle.tcp_replay.proofs.Words.{◌+◌, ◌-ℤ◌, ◌<ℤ◌, ◌<◌, ◌==◌, [], ◌^◌, after_acked_text, after_arrival, after_fin, after_its_ack, after_its_text}
+use Rattle.tcp_replay.proofs.Words.{◌+◌, ◌-◌, ◌-ℤ◌, ◌<ℤ◌, ◌<◌, ◌==◌, [], ◌^◌, after_acked_text, after_arrival, after_fin, after_its_ack, after_its_text}
 use Rattle.tcp_replay.proofs.Words.{after_judgement, after_news, after_own_fin, after_own_syn, after_taking, after_taking_shut, ap, arith, Bool, cases_Bool}
 use Rattle.tcp_replay.proofs.Words.{cases_lt, Content, count_numbers, decode_answer, delivery_refusal, distance, false, fin, first_inside, gives_up, has, inl}
 use Rattle.tcp_replay.proofs.Words.{inr, ints, is_acceptable, is_acceptable_segment, is_expired, is_fin_acked, is_foreign, is_inside, is_last_ack, Judgement}
@@ -12,7 +12,7 @@ use Rattle.tcp_replay.proofs.Lemmas.{acked_text-to, end-syn_received, Fair, fair
 use Rattle.tcp_replay.proofs.Lemmas.{kept-acked_text, kept-news, kept-own_syn, kept-same, next_of, one_if, one_if-most, own_fin-cases, own_syn-near}
 use Rattle.tcp_replay.proofs.Lemmas.{own_syn-nxt, pair-swapped, same-news}
 use Rattle.tcp_progress.proofs.Words.{all_of, begins_at, BringsOn, ends_at, IsLive, IsNext, IsPlainAck, IsSteadyPair, least_life, left_of_both, SaysByPhase}
-use Rattle.tcp_numbers.proofs.Positions.{offset_of_earlier, offset_of_later}
+use Rattle.tcp_numbers.proofs.Positions.{distance_numbers, offset_of_earlier, offset_of_later}
 use Rattle.tcp_progress.proofs.{Taken.IsPresent, Taken.IsReady, Taken.judged-acceptable, Taken.judged-next, Taken.own_fin-keeps, Taken.ready-takes}
 use Rattle.tcp_progress.proofs.{Emitted.arrives, Emitted.goes, Emitted.is-there, Emitted.IsFresh, Emitted.of_peer, Emitted.sent-arrives, Emitted.unexpired}
 use Rattle.tcp_progress.proofs.{Live.live-present, Live.steady-back, Table.own_fin-acked}
@@ -31,13 +31,12 @@ pub record TakenUp (p q q' : PartyState) : Type 0 where
   -- it lives on, or ended in order and nothing is left
   pub goes_on : (q'.endpoint.ending ≡ NotEnded) ⊎ ((q'.endpoint.ending ≡ Orderly) × (left_of_both p q' ≡ 0))
 
--- ---- AT RCV.NXT a segment is acceptable, whatever its length, where the window is open
-right-here : (next window count : ℕ) → next < 2 ^ 32 → 1 ≤ window → window ≤ 2 ^ 20 → is_acceptable next window next count ≡ true
+-- ---- IN THE WINDOW, from RCV.NXT on, a segment that begins there is acceptable, whatever its length
+begins-inside : (next window seq count : ℕ) → next < 2 ^ 32 → distance next seq < window → window ≤ 2 ^ 20 → is_acceptable next window seq count ≡ true
 unfolding is_acceptable
-right-here next window count fits some small =
-    let first : is_inside next window (near next next) ≡ true = first_inside next window next fits small ∙ lt-ltb (distance next next) window
-    (omega (arith, some)) in
-    let opened : (window == 0) ≡ false = grind (arith, nat_tests, some) in
+begins-inside next window seq count fits inside small =
+    let first : is_inside next window (near next seq) ≡ true = first_inside next window seq fits small ∙ lt-ltb (distance next seq) window inside in
+    let opened : (window == 0) ≡ false = grind (arith, nat_tests, inside) in
     elim (cases_Bool (count == 0)) [ inl bare ↦ rw (bare, opened) first | inr numbers ↦ rw (numbers, opened) (or_left _ _ first) ]
 
 -- ---- its own FIN's acknowledgement ends the connection in LAST-ACK alone
@@ -156,14 +155,19 @@ module _ (p q : PartyState) (life k start : ℕ) (v : Content) (least : least_li
   wide : window q.endpoint.receiving.inbox ≡ q.endpoint.config.recv_capacity
   wide = omega (arith, h.back.within.size, ap length open_to.read)
 
-  judged-at : start ≡ next_position q → judgement q.endpoint p.endpoint.config.addr.0 q.endpoint.config.addr.0 v ≡ Taken
-  judged-at here =
+  judged-in : next_position q ≤ start → start < next_position q + q.endpoint.config.recv_capacity
+      → judgement q.endpoint p.endpoint.config.addr.0 q.endpoint.config.addr.0 v ≡ Taken
+  judged-in begins inside =
       let s = q.endpoint in
       let good = h.pair.back.alone.config.good in
-      let seq : v.seq ≡ s.receiving.next = f.seq ∙ ap (number p.endpoint.config.isn.0) here ∙ sym (h.pair.back.takes.next open_to.live.opened) in
+      let isn = p.endpoint.config.isn.0 in
+      let next = next_position q in
+      let far : distance (number isn next) (number isn start) ≡ start - next = distance_numbers isn next start begins (omega (arith, inside, good.0.1.1)) in
+      let at : distance s.receiving.next v.seq ≡ start - next =
+      ap (λ n. distance n v.seq) (h.pair.back.takes.next open_to.live.opened) ∙ ap (distance (number isn next)) f.seq ∙ far in
       let fits : is_acceptable_segment s v ≡ true =
-      ap (λ n. is_acceptable s.receiving.next (window s.receiving.inbox) n (count_numbers v)) seq ∙ right-here s.receiving.next (window s.receiving.inbox)
-      (count_numbers v) h.pair.back.alone.next (omega (arith, wide, good.0.1.0)) (omega (arith, wide, good.0.1.1)) in
+      begins-inside s.receiving.next (window s.receiving.inbox) v.seq (count_numbers v) h.pair.back.alone.next (omega (arith, at, wide, begins, inside))
+      (omega (arith, wide, good.0.1.1)) in
       judged-acceptable s p.endpoint.config.addr.0 s.config.addr.0 v mine open-present plain fits
 
   -- the acknowledgement makes all that p acknowledged SND.UNA, and ends q in LAST-ACK alone
@@ -221,9 +225,10 @@ module _ (p q : PartyState) (life k start : ℕ) (v : Content) (least : least_li
         ];
       })
 
-  -- AT RCV.NXT a fresh segment is taken
-  pub delivered-at : start ≡ next_position q → (delivery_refusal life p q k ≡ None) × TakenUp p q (party_after_arrival q p (segment_at p k))
-  delivered-at here = (fresh-goes, fresh-taken (judged-at here))
+  -- IN THE WINDOW, from RCV.NXT on, a fresh segment is taken
+  pub delivered-in : next_position q ≤ start → start < next_position q + q.endpoint.config.recv_capacity
+      → (delivery_refusal life p q k ≡ None) × TakenUp p q (party_after_arrival q p (segment_at p k))
+  delivered-in begins inside = (fresh-goes, fresh-taken (judged-in begins inside))
 
   -- something of p lies behind RCV.NXT, so that its FIN wasn't taken
   unfinished : next_position q < p.endpoint.sending.nxt → q.endpoint.receiving.finished ≡ false

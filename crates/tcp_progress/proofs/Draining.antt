@@ -96,5 +96,8 @@ burst-ends w side h =
     burst-within (suc (due_left (all_of (party_of w side)) (party_of w side).endpoint)) w side (due_of (party_of w side).endpoint) refl h (omega arith)
 
 -- in every world
+pub bursts-end : (w : WorldState) → IsKept w → (side : Side) → BurstEnds w side
+bursts-end w h side = burst-ends w side h
+
 pub burst_lem : EachBurstEnds
-burst_lem = in-every-world (λ w. (side : Side) → BurstEnds w side) (λ w h side. burst-ends w side h)
+burst_lem = in-every-world (λ w. (side : Side) → BurstEnds w side) bursts-end

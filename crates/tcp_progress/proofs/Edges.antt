@@ -18,6 +18,8 @@ use Rattle.tcp_replay.proofs.Words.{Text}
 -- what x keeps of the direction to y, of whose stream it has `count` bytes from its user, when y wants `next` and has room for `capacity`
 pub record KeepsEdge (d : Sending) (probe : Bool) (count next capacity : ℕ) : Type 0 where
   pub sent : min d.nxt (1 + count) ≤ next + capacity
+  -- in flight is no more than that room
+  pub near : min d.nxt (1 + count) ≤ d.una + capacity
   pub window : d.wnd ≤ capacity
   -- a probe is granted only while no text is in flight (RFC 9293, 3.8.6.1)
   pub probed : probe ≡ true → (1 ≤ d.una) × (min d.nxt (1 + count) ≤ d.una)
@@ -31,6 +33,7 @@ pub edge-more : (d : Sending) (probe : Bool) (count count' next next' capacity :
     → KeepsEdge d probe count next capacity → KeepsEdge d probe count' next' capacity
 edge-more d probe count count' next next' capacity same more h = record {
   sent = omega (arith, same, more, h.sent);
+  near = omega (arith, same, h.near);
   window = h.window;
   probed = λ e. let at = h.probed e in (at.0, omega (arith, same, at.1));
   range = h.range;
@@ -44,12 +47,13 @@ module _ (count next capacity : ℕ) where
 
   -- nothing is pending any more
   edge-unprobed : (d : Sending) (probe : Bool) → Edge d probe → Edge d false
-  edge-unprobed d probe h = record { sent = h.sent; window = h.window; probed = λ never. absurd (cc); range = h.range; marks = h.marks }
+  edge-unprobed d probe h = record { sent = h.sent; near = h.near; window = h.window; probed = λ never. absurd (cc); range = h.range; marks = h.marks }
 
   -- the SYN is sent
-  pub edge-syn_sent : (d : Sending) (probe : Bool) → d.nxt ≡ 0 → d.una ≤ d.nxt → 1 ≤ next → Edge d probe → Edge (with_syn_sent d) probe
-  edge-syn_sent d probe new order some h = record {
+  pub edge-syn_sent : (d : Sending) (probe : Bool) → d.nxt ≡ 0 → d.una ≤ d.nxt → 1 ≤ next → 1 ≤ capacity → Edge d probe → Edge (with_syn_sent d) probe
+  edge-syn_sent d probe new order some wide h = record {
     sent = omega (arith, some);
+    near = omega (arith, wide);
     window = h.window;
     probed = λ e. absurd (omega (arith, new, order, (h.probed e).0));
     range = range-more d.nxt 1 d.resend (omega (arith, new)) h.range;
@@ -59,11 +63,18 @@ module _ (count next capacity : ℕ) where
   -- text is accepted
   pub edge-text : (d : Sending) (probe : Bool) (limit : ℕ) (text : List ℕ) → Edge d probe → Edge (with_text d limit text) probe
   edge-text d probe limit text h =
-      record { sent = h.sent; window = h.window; probed = h.probed; range = h.range; marks = λ at is. h.marks at (IsMarked-after_offer d.queue _ at is) }
+      record {
+        sent = h.sent;
+        near = h.near;
+        window = h.window;
+        probed = h.probed;
+        range = h.range;
+        marks = λ at is. h.marks at (IsMarked-after_offer d.queue _ at is);
+      }
 
   -- the connection has ended
   pub edge-orderly : (d : Sending) (probe : Bool) → Edge d probe → Edge (without_resend d) false
-  edge-orderly d probe h = record { sent = h.sent; window = h.window; probed = λ never. absurd (cc); range = tt; marks = h.marks }
+  edge-orderly d probe h = record { sent = h.sent; near = h.near; window = h.window; probed = λ never. absurd (cc); range = tt; marks = h.marks }
 
   none-marked : (d : Sending) (place : ℕ) → length d.queue.marks ≡ length d.queue.bytes → IsMarked (after_release d.queue (length d.queue.bytes)) place → ⊥
   none-marked d place flags is =
@@ -73,12 +84,20 @@ module _ (count next capacity : ℕ) where
 
   pub edge-given_up : (d : Sending) (probe : Bool) → length d.queue.marks ≡ length d.queue.bytes → Edge d probe → Edge (without_text d) false
   edge-given_up d probe flags h =
-      record { sent = h.sent; window = h.window; probed = λ never. absurd (cc); range = tt; marks = λ place is. absurd (none-marked d place flags is) }
+      record {
+        sent = h.sent;
+        near = h.near;
+        window = h.window;
+        probed = λ never. absurd (cc);
+        range = tt;
+        marks = λ place is. absurd (none-marked d place flags is);
+      }
 
   -- a probe is granted where nothing is in flight
   pub edge-probe : (d : Sending) (probe needs : Bool) → (needs ≡ true → (1 ≤ d.una) × (d.una ≡ d.nxt)) → Edge d probe → Edge d (probe || needs)
   edge-probe d probe needs granted h = record {
     sent = h.sent;
+    near = h.near;
     window = h.window;
     probed = λ e. ⊎_elim h.probed (λ (now : needs ≡ true). let at = granted now in (at.0, omega (arith, at.1))) (or_cases probe needs e);
     range = h.range;
@@ -98,13 +117,22 @@ module _ (count next capacity : ℕ) where
 
   pub edge-gaps : (d : Sending) (probe : Bool) (end : Option ℕ) → last_mark_end d.queue ≡ end → Edge d probe → Edge (after_gaps d end) probe
   edge-gaps d probe None e h = h
-  edge-gaps d probe (Some end) e h = record { sent = h.sent; window = h.window; probed = h.probed; range = mark_end-sent d probe end e h; marks = h.marks }
+  edge-gaps d probe (Some end) e h = record {
+    sent = h.sent;
+    near = h.near;
+    window = h.window;
+    probed = h.probed;
+    range = mark_end-sent d probe end e h;
+    marks = h.marks;
+  }
 
   -- SND.NXT moves on
   pub edge-moved : (d : Sending) (probe : Bool) (n : ℕ) → min (max d.nxt n) (1 + count) ≤ next + capacity
-      → (probe ≡ true → min (max d.nxt n) (1 + count) ≤ d.una) → Edge d probe → Edge (record d { nxt = max d.nxt n }) probe
-  edge-moved d probe n fits shut h = record {
+      → min (max d.nxt n) (1 + count) ≤ d.una + capacity → (probe ≡ true → min (max d.nxt n) (1 + count) ≤ d.una) → Edge d probe
+      → Edge (record d { nxt = max d.nxt n }) probe
+  edge-moved d probe n fits close shut h = record {
     sent = fits;
+    near = close;
     window = h.window;
     probed = λ e. ((h.probed e).0, shut e);
     range = range-more d.nxt (max d.nxt n) d.resend (omega arith) h.range;
@@ -115,6 +143,7 @@ module _ (count next capacity : ℕ) where
   edge-again : (d : Sending) (probe : Bool) (n : ℕ) → n ≤ d.nxt → Edge d probe → Edge (record d { nxt = max d.nxt n; resend = range_after n d.resend }) probe
   edge-again d probe n before h = record {
     sent = omega (arith, before, h.sent);
+    near = omega (arith, before, h.near);
     window = h.window;
     probed = λ e. let at = h.probed e in (at.0, omega (arith, before, at.1));
     range = range_after-ends (max d.nxt n) n d.resend (range-more d.nxt (max d.nxt n) d.resend (omega arith) h.range);
@@ -125,11 +154,18 @@ module _ (count next capacity : ℕ) where
   -- its own SYN is acknowledged
   edge-syn_acked : (d : Sending) (probe : Bool) → d.una ≤ d.nxt → Edge d probe → Edge (with_syn_acked d) probe
   edge-syn_acked d probe order h =
-      record { sent = h.sent; window = h.window; probed = λ e. (omega (arith, order, (h.probed e).0), omega arith); range = h.range; marks = h.marks }
+      record {
+        sent = h.sent;
+        near = omega arith;
+        window = h.window;
+        probed = λ e. (omega (arith, order, (h.probed e).0), omega arith);
+        range = h.range;
+        marks = h.marks;
+      }
 
   -- a window is taken
   edge-window : (d : Sending) (probe : Bool) (seq ack window : ℕ) → window ≤ capacity → Edge d probe → Edge (with_window d seq ack window) probe
-  edge-window d probe seq ack window fits h = record { sent = h.sent; window = fits; probed = h.probed; range = h.range; marks = h.marks }
+  edge-window d probe seq ack window fits h = record { sent = h.sent; near = h.near; window = fits; probed = h.probed; range = h.range; marks = h.marks }
 
   -- ACKNOWLEDGEMENT: a release takes bytes with their marks
   edge-after_ack : (d : Sending) (probe : Bool) (a : ℕ) → Edge d probe → Edge (after_ack d a) probe
@@ -139,6 +175,7 @@ module _ (count next capacity : ℕ) where
       let new : d.una < a = ltb-true d.una a (and_parts (nat_lt d.una a) (nat_le a d.nxt) e).0 in
       record {
         sent = h.sent;
+        near = omega (arith, new, h.near);
         window = h.window;
         probed = λ e. let at = h.probed e in (omega (arith, new), omega (arith, new, at.1));
         range = h.range;
@@ -158,6 +195,7 @@ module _ (count next capacity : ℕ) where
       let sent : right ≤ d.nxt = leb-true right d.nxt (and_parts (nat_lt left right) (nat_le right d.nxt) flight.1).1 in
       record {
         sent = h.sent;
+        near = h.near;
         window = h.window;
         probed = h.probed;
         range = h.range;
@@ -174,15 +212,15 @@ module _ (count next capacity : ℕ) where
     EdgeAfter due = Edge (sending_after d due) (owed_after opened owed due).probe
 
     -- NEW TEXT ends at SND.UNA + SND.WND at most, or is one byte at SND.UNA (RFC 9293, 3.8.6.1)
-    new-reaches : (k : ℕ) → k ≤ count_allowed d owed.probe → d.nxt + k ≤ max d.nxt (1 + count) → d.una ≤ next → 1 ≤ capacity → Edge d owed.probe
-        → min (d.nxt + k) (1 + count) ≤ next + capacity
-    new-reaches k allowed inside had some h = grind (arith, nat_tests, allowed, inside, had, some, h)
+    new-reaches : (k : ℕ) → k ≤ count_allowed d owed.probe → d.nxt + k ≤ max d.nxt (1 + count) → 1 ≤ capacity → Edge d owed.probe
+        → min (d.nxt + k) (1 + count) ≤ d.una + capacity
+    new-reaches k allowed inside some h = grind (arith, nat_tests, allowed, inside, some, h.near, h.window, h.probed)
 
     edge-new : (k : ℕ) → k ≤ count_unsent d → k ≤ count_allowed d owed.probe → d.una ≤ d.nxt → 1 + d.released ≤ d.una → end_of_text d ≡ 1 + count
         → d.una ≤ next → 1 ≤ capacity → Edge d owed.probe → EdgeAfter (Text (NewText d.nxt k))
     edge-new k unsent allowed order released last had some h =
-        let fits : min (d.nxt + k) (1 + count) ≤ next + capacity = new-reaches k allowed (omega (arith, unsent, last, order, released)) had some h in
-        edge-moved d false (d.nxt + k) (omega (arith, fits)) (λ never. absurd (cc)) (edge-unprobed d owed.probe h)
+        let fits = new-reaches k allowed (omega (arith, unsent, last, order, released)) some h in
+        edge-moved d false (d.nxt + k) (omega (arith, fits, had)) (omega (arith, fits)) (λ never. absurd (cc)) (edge-unprobed d owed.probe h)
 
 -- the edge of an end that party p may have, its peer q being where it is, and its user's bytes being these
 abbrev pub EdgedWith : PartyState → State → List ℕ → Type 0
@@ -224,12 +262,16 @@ edge-due p q pair h =
     let d = s.sending in
     let alone = pair.there.alone in
     let sends : sends_text s.phase ≡ true → Sends d p.accepted p.closed false = λ e. rw (going-on s p.accepted p.closed e alone).1 at alone.sends in
+    let wide = pair.back.alone.config.good.0.1.0 in
     let inside : (range : Range ℕ) → d.resend ≡ Some range → range.end ≤ d.nxt = λ range is.
     subst (λ (o : Option (Range ℕ)). IfSome o (λ r. r.end ≤ d.nxt)) is h.range in
     record {
-      resets = λ _ _. edge-moved _ _ _ d s.owed.probe 0 (omega (arith, h.sent)) (λ e. omega (arith, (h.probed e).1)) h;
-      syn = λ _. edge-moved _ _ _ d s.owed.probe 1 (omega (arith, h.sent)) (λ e. omega (arith, (h.probed e).0, (h.probed e).1, alone.sends.order)) h;
-      acks = λ _. edge-moved _ _ _ d s.owed.probe d.nxt (omega (arith, h.sent)) (λ e. omega (arith, (h.probed e).1)) h;
+      resets = λ _ _. edge-moved _ _ _ d s.owed.probe 0 (omega (arith, h.sent)) (omega (arith, h.near)) (λ e. omega (arith, (h.probed e).1)) h;
+      syn = λ _.
+          let shut : s.owed.probe ≡ true → min (max d.nxt 1) (1 + length p.accepted) ≤ d.una = λ e.
+          omega (arith, (h.probed e).0, (h.probed e).1, alone.sends.order) in
+          edge-moved _ _ _ d s.owed.probe 1 (omega (arith, h.sent)) (omega (arith, h.near, wide)) shut h;
+      acks = λ _. edge-moved _ _ _ d s.owed.probe d.nxt (omega (arith, h.sent)) (omega (arith, h.near)) (λ e. omega (arith, (h.probed e).1)) h;
       again = λ _. again-kept d (text_limit s) (λ sent. EdgedAfter p q (Text sent)) (record {
         text = λ range start k again ends _ _. edge-again _ _ _ d s.owed.probe (start + k) (omega (arith, ends, inside range again.is)) h;
         fin = λ range again. edge-again _ _ _ d s.owed.probe (end_of_text d + 1) (omega (arith, again.inside, inside range again.is)) h;
@@ -242,7 +284,8 @@ edge-due p q pair h =
       -- the FIN, whatever the window
       fin = λ e _ at.
           let last = end-is d p.accepted p.closed (sends e) in
-          edge-moved _ _ _ d s.owed.probe (d.nxt + 1) (omega (arith, at, last, h.sent)) (λ e. omega (arith, at, last, (h.probed e).1)) h;
+          edge-moved _ _ _ d s.owed.probe (d.nxt + 1) (omega (arith, at, last, h.sent)) (omega (arith, at, last, h.near))
+          (λ e. omega (arith, at, last, (h.probed e).1)) h;
     }
 
 -- ALL OF THEM
@@ -259,7 +302,7 @@ edge-calls p q pair h =
       same = h;
       connects = λ can.
           let new = end-closed s can.shut can.ending alone.progress in
-          edge-syn_sent _ _ _ d s.owed.probe new.nxt_is alone.sends.order (omega arith) h;
+          edge-syn_sent _ _ _ d s.owed.probe new.nxt_is alone.sends.order (omega arith) pair.back.alone.config.good.0.1.0 h;
       listens = λ _. h;
       sends = λ text _ e. edge-with_text p q text e pair h;
       reads = λ _ _. h;
@@ -269,6 +312,7 @@ edge-calls p q pair h =
       acknowledges = h;
       resends = λ _. record {
         sent = probe.sent;
+        near = probe.near;
         window = probe.window;
         probed = probe.probed;
         range = omega arith;
@@ -277,7 +321,7 @@ edge-calls p q pair h =
       probes = probe;
       fills = λ end _ e. edge-gaps _ _ _ d s.owed.probe (Some end) e h;
       ends = λ _. edge-orderly _ _ _ d s.owed.probe h;
-      resends-first = λ _. record { sent = h.sent; window = h.window; probed = h.probed; range = omega arith; marks = h.marks };
+      resends-first = λ _. record { sent = h.sent; near = h.near; window = h.window; probed = h.probed; range = omega arith; marks = h.marks };
       emits = λ due may _. elim may [
         | inl is ↦ subst (λ (o : Option Due). IfSome o (EdgedAfter p q)) is (due-kept s (EdgedAfter p q) (edge-due p q pair h))
         | inr is ↦ subst (λ (o : Option Due). IfSome o (EdgedAfter p q)) is (ack_alone-kept s (EdgedAfter p q) (edge-due p q pair h))
@@ -314,7 +358,7 @@ edge-arrives p q g v tells pair a h =
       gone = edge-given_up _ _ _ d s.owed.probe alone.sends.flags h;
       opens = λ listening is.
           let at = end-listen s listening alone.progress in
-          edge-syn_sent _ _ _ d s.owed.probe at.1.nxt_is alone.sends.order (omega arith) h;
+          edge-syn_sent _ _ _ d s.owed.probe at.1.nxt_is alone.sends.order (omega arith) pair.back.alone.config.good.0.1.0 h;
       accepts = λ sent is. edge-window _ _ _ (with_syn_acked d) s.owed.probe v.seq v.ack v.window
           (tells.syn a.place g v a.sent a.read is.plain is.is_syn) acked;
       own_syn = λ present only. (
@@ -342,6 +386,7 @@ edges-kept = record {
   swapped = both-swapped KeepsEdges;
   calls = λ p q pair h. edge-calls p q pair h.there;
   arrives = λ p q g v tells pair a h. edge-arrives p q g v tells pair a h.there;
+  owes = λ p q ack reset pair h. h.there;
   -- p became p', whose Config is the same, and which wants no earlier position
   moved = λ p p' q pair moved out edge h. record {
     there = edge;
@@ -351,4 +396,11 @@ edges-kept = record {
 
 -- new parties
 pub new-edge : (a b : Config) → Edged (new_party a) (new_party b) (new_party a).endpoint
-new-edge a b = record { sent = omega arith; window = omega arith; probed = λ never. absurd (cc); range = tt; marks = λ place never. absurd (cc) }
+new-edge a b = record {
+  sent = omega arith;
+  near = omega arith;
+  window = omega arith;
+  probed = λ never. absurd (cc);
+  range = tt;
+  marks = λ place never. absurd (cc);
+}

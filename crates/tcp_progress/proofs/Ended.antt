@@ -3,7 +3,7 @@ use Rattle.tcp_replay.proofs.Words.{◌++◌, ◌+◌, [], after_orderly_end, af
 use Rattle.tcp_replay.proofs.Words.{both, cond_both, effect_of, Ending, false, FitsPhase, gives_up, inl, inr, is_closed, is_fin_acked, is_time_wait, length}
 use Rattle.tcp_replay.proofs.Words.{next_position, None, NotEnded, or-true, Orderly, party_after_receive, party_after_timer, PartyState, Phase, receive_refusal}
 use Rattle.tcp_replay.proofs.Words.{refl, Sends, State, subst, sym, take_all, true, unread_of, world_after_all, WorldState, ℕ, ◌∙◌, ◌≡◌, ◌≤◌, ◌⊎◌}
-use Rattle.tcp_progress.proofs.Words.{all_of, HasStreamsOf, IsSettled, IsSteadyPair, IsThrough, left_of_both, SaysByPhase, time_waits}
+use Rattle.tcp_progress.proofs.Words.{HasReadAll, all_of, HasStreamsOf, IsSettled, IsSteadyPair, IsThrough, left_of_both, SaysByPhase, time_waits}
 use Rattle.tcp_replay.proofs.Lemmas.{Both, both-swapped, kept-after_all, one_if, one_if-most}
 use Rattle.tcp_progress.proofs.{Live.GoOn, Live.IsUp, Live.live-present, Live.steady-back, AlwaysSteady.IsKept, AlwaysSteady.kept-after}
 use Rattle.tcp_progress.proofs.{AlwaysSteady.kept-steady, Table.own_fin-is_acked}
@@ -39,10 +39,6 @@ complete-on p p' q far h = record {
 }
 
 -- ---- THE USER READS ALL, and then once more
-pub record HasRead (p : PartyState) : Type 0 where
-  pub all : unread_of p ≡ []
-  pub ended : p.endpoint.receiving.finished ≡ true → p.ended ≡ true
-
 -- an end that lives or has ended in order still delivers what is unread
 pub hands-still : (p q : PartyState) → IsSteadyPair p q → IsUp p → receive_refusal p.endpoint ≡ None
 hands-still p q h up =
@@ -52,7 +48,7 @@ hands-still p q h up =
     ]
 
 -- once nothing is unread, the end of the stream is delivered
-pub read-end : (p : PartyState) → receive_refusal p.endpoint ≡ None → unread_of p ≡ [] → HasRead (party_after_receive p 0)
+pub read-end : (p : PartyState) → receive_refusal p.endpoint ≡ None → unread_of p ≡ [] → HasReadAll (party_after_receive p 0)
 unfolding party_after_receive after_receive after_read
 read-end p hands none = record { all = rw hands none; ended = rw hands (λ finished. rw (none, finished) (or-true p.ended)) }
 
@@ -82,7 +78,7 @@ closed-acked x y h whole closed =
     own_fin-is_acked x.endpoint.sending x.accepted x.closed sends (omega (arith, whole.acked, ap one_if closed, sends.order, sends.most, one_if-most x.closed))
 
 -- so what x accepted is through to y
-pub through : (x y : PartyState) → IsSteadyPair x y → IsComplete x y → HasRead y → IsThrough x y
+pub through : (x y : PartyState) → IsSteadyPair x y → IsComplete x y → HasReadAll y → IsThrough x y
 through x y h whole read =
     let come = all-come x y h whole.there in
     let hands = h.pair.back.hands in
@@ -128,7 +124,7 @@ pub record IsOver (p p' : PartyState) : Type 0 where
   pub far : IsAsFar p p'
   pub accepted : p'.accepted ≡ p.accepted
   pub closed : p'.closed ≡ p.closed
-  pub read : HasRead p → HasRead p'
+  pub read : HasReadAll p → HasReadAll p'
 
 pub over-still : (p : PartyState) → IsOver p (party_after_timer p timers.TimeWait)
 unfolding party_after_timer after_time_wait
@@ -148,7 +144,7 @@ unfolding effect_of world_after_all
 time_waits-are w = refl
 
 -- then the world is settled
-pub waited : (w : WorldState) → IsKept w → IsComplete w.a w.b → HasRead w.a → HasRead w.b → IsSettled (world_after_all w time_waits)
+pub waited : (w : WorldState) → IsKept w → IsComplete w.a w.b → HasReadAll w.a → HasReadAll w.b → IsSettled (world_after_all w time_waits)
 waited w h whole read-a read-b =
     let a = w.a in
     let b = w.b in

@@ -118,7 +118,7 @@ pub lowers-only : (w u : WorldState) → Lowers w u ⊥ → left_in u < left_in 
 lowers-only w u (inl less) = less
 lowers-only w u (inr none) = absurd none
 
-over : (w v u : WorldState) (Q : Type 0) → IsGoing w → Steps w v → GoOn v.a v.b → Steps v u → (IsGoing v → IsStillFrom w v → Lowers v u Q) → Lowers w u Q
+pub over : (w v u : WorldState) (Q : Type 0) → IsGoing w → Steps w v → GoOn v.a v.b → Steps v u → (IsGoing v → IsStillFrom w v → Lowers v u Q) → Lowers w u Q
 over w v u Q h steps on' rest next =
     elim (cases_lt (left_in v) (left_in w)) [
       | inl less ↦ inl (omega (arith, less, steps-left v u rest))

@@ -1,6 +1,7 @@
 -- WHERE NO RESET COMES no end is reset or aborted: reads, the retransmission timeout and emissions end nothing, nor does a segment that is no reset.
 use Rattle.tcp_replay.proofs.Words.{◌++◌, [], acceptable_judgement, ack_judgement, after_judgement, AllByRecursion, ap, Bool, bytes_of, cases_Bool}
-use Rattle.tcp_replay.proofs.Words.{closed_judgement, Content, Deliver, Due, due_of, effect_of, Emit, EventContent, false, false≢true, gave_up, gives_up, has}
+use Rattle.tcp_replay.proofs.Words.{closed_judgement, Content, Deliver, Due, due_of, effect_of, Emit, EmitAcknowledgement, EventContent, false, false≢true}
+use Rattle.tcp_replay.proofs.Words.{gave_up, gives_up, has}
 use Rattle.tcp_replay.proofs.Words.{if◌then◌else◌, inl, inr, is_closed, IsAlone, IsSoundPair, Judgement, judgement, length, List, listen_judgement}
 use Rattle.tcp_replay.proofs.Words.{None, Option, other, party_after_emission, party_of, PartyState, phase_judgement, present_judgement, Receive, refl}
 use Rattle.tcp_replay.proofs.Words.{Retransmit, rst, segment_of, sent_by, SentSegment, side_of, Some, State, subst, suc, sym, syn_sent_judgement, Timer, true}
@@ -9,7 +10,8 @@ use Rattle.tcp_progress.proofs.Words.{A, AllCome, B, both_served, CanHaveTurns, 
 use Rattle.tcp_progress.proofs.Words.{NoneGaveUp, reads, served, Side, TurnsCanBeHad}
 use Rattle.tcp_progress.proofs.Lemmas.{after-append, all-append, all-emissions, all-more, all-untimed, among-left, among-right, AreAmong, arrives, at-event}
 use Rattle.tcp_progress.proofs.Lemmas.{closed-ending, come-both, due-way, emit-at, emitted-as, goes-due, Grows, how-ends, in-every-world, IsKept, IsOnItsWay}
-use Rattle.tcp_progress.proofs.Lemmas.{no-reset, Resets, side-pair, Steps, steps-all, steps-event, steps-then, still-emission, still-reading, still-retransmit}
+use Rattle.tcp_progress.proofs.Lemmas.{no-reset, Resets, side-pair, Steps, steps-all, steps-event, steps-then, still-ack_alone, still-emission}
+use Rattle.tcp_progress.proofs.Lemmas.{still-reading, still-retransmit}
 use Rattle.tcp_progress.proofs.Lemmas.{way-later}
 use Rattle.tcp_replay.proofs.Lemmas.{not-closed-ended, due-bits}
 use Rattle.tcp_progress.proofs.{Behind.emissions-other, Draining.burst-ends}
@@ -56,7 +58,7 @@ IsNoReset p q k = (g : SentSegment) × (v : Content) × IsOnItsWay p q k g v
 pub no_reset-later : (p q p' q' : PartyState) (k : ℕ) → Grows p p' → Grows q q' → IsNoReset p q k → IsNoReset p' q' k
 no_reset-later p q p' q' k gp gq h = (h.0, h.1, way-later p q p' q' k h.0 h.1 gp gq h.2)
 
-due-plain : (s : State) (due : Due) → is_reset due ≡ false → has rst (segment_of s due).flags ≡ false
+pub due-plain : (s : State) (due : Due) → is_reset due ≡ false → has rst (segment_of s due).flags ≡ false
 unfolding segment_of
 due-plain s dues.Reset e = absurd (false≢true (sym e))
 due-plain s dues.Syn e = no-reset s.receiving.opened
@@ -74,6 +76,7 @@ abbrev pub IsSafeAt : PartyState → PartyState → EventContent → Type 0
 IsSafeAt p q (Receive side room) = Unit {0}
 IsSafeAt p q (Timer side timers.Retransmit) = Unit {0}
 IsSafeAt p q (Emit side) = Unit {0}
+IsSafeAt p q (EmitAcknowledgement side) = Unit {0}
 IsSafeAt p q (Deliver from k) = IsNoReset p q k
 IsSafeAt p q other = ⊥
 
@@ -85,6 +88,7 @@ safe-calm : (p q : PartyState) (event : EventContent) → IsSafeAt p q event →
 safe-calm p q (Receive side room) h = tt
 safe-calm p q (Timer side timers.Retransmit) h = tt
 safe-calm p q (Emit side) h = tt
+safe-calm p q (EmitAcknowledgement side) h = tt
 safe-calm p q (Deliver from k) h = tt
 safe-calm p q event h = absurd h
 
@@ -102,6 +106,7 @@ unfolding effect_of
 stays-effect life p q (Receive side room) safe pair up = (ap gives_up (still-reading p room).ending ∙ up.0, up.1)
 stays-effect life p q (Timer side timers.Retransmit) safe pair up = (ap gives_up (still-retransmit p).ending ∙ up.0, up.1)
 stays-effect life p q (Emit side) safe pair up = (ap gives_up (still-emission p).ending ∙ up.0, up.1)
+stays-effect life p q (EmitAcknowledgement side) safe pair up = (ap gives_up (still-ack_alone p).ending ∙ up.0, up.1)
 stays-effect life p q (Deliver from k) safe pair up = (
   up.0,
   ap gave_up (arrives p q k safe.0 safe.1 safe.2) ∙ stays-judgement q.endpoint p.endpoint.config.addr.0 q.endpoint.config.addr.0 safe.1 q.accepted
@@ -348,5 +353,8 @@ have-turns (suc n) w h =
     }
 
 -- in every world
+pub turns-kept : (w : WorldState) → IsKept w → NoneGaveUp w → (n : ℕ) → CanHaveTurns n w
+turns-kept w h up n = (have-turns n w (record { kept = h; up = up })).turns
+
 pub turns_lem : TurnsCanBeHad
-turns_lem = in-every-world (λ w. NoneGaveUp w → (n : ℕ) → CanHaveTurns n w) (λ w h up n. (have-turns n w (record { kept = h; up = up })).turns)
+turns_lem = in-every-world (λ w. NoneGaveUp w → (n : ℕ) → CanHaveTurns n w) turns-kept

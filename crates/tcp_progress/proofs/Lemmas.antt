@@ -4,12 +4,13 @@ pub use Rattle.tcp_progress.proofs.Answer.{new_lem, stands-or-none, still-done}
 pub use Rattle.tcp_progress.proofs.Told.{owing-due}
 pub use Rattle.tcp_progress.proofs.Table.{own_fin-acked}
 pub use Rattle.tcp_progress.proofs.Live.{acked-all, both-live, fin-last, flight-sends, GoOn, has-room, in-flight, IsStill, live-in, live-sends, no-syn-owed}
-pub use Rattle.tcp_progress.proofs.Live.{past-syn, steady-back, still-acknowledging, still-emission, still-next, still-reading, still-reorder, still-retransmit}
+pub use Rattle.tcp_progress.proofs.Live.{past-syn, steady-back, still-ack_alone, still-resend_first, still-acknowledging, still-emission, still-next}
+pub use Rattle.tcp_progress.proofs.Live.{still-reading, still-reorder, still-retransmit}
 pub use Rattle.tcp_progress.proofs.Live.{swapped, unsent-sends, waits}
 pub use Rattle.tcp_progress.proofs.AlwaysSteady.{in-every-world, IsKept, kept-steady, side-pair}
 pub use Rattle.tcp_progress.proofs.Emitted.{arrives, delivered, due-way, emitted-as, fresh-emitted, goes, goes-due, IsFresh, IsOnItsWay, IsSyn, no-reset}
 pub use Rattle.tcp_progress.proofs.Emitted.{of_peer, syn-due, syn-emitted, unexpired}
-pub use Rattle.tcp_progress.proofs.Delivered.{delivered-at, delivered-next, IsOpenTo}
+pub use Rattle.tcp_progress.proofs.Delivered.{delivered-in, delivered-next, IsOpenTo}
 pub use Rattle.tcp_progress.proofs.Ended.{up-stays, waits-streams}
 pub use Rattle.tcp_progress.proofs.Waking.{emissions-last, IsOld, old-wakes, syn-old, text-old}
 pub use Rattle.tcp_progress.proofs.Answering.{KeepsOwed, owed-judgement, owed-same, range-same, RangeDone}

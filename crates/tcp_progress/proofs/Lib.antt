@@ -12,6 +12,7 @@ pub mod Stages
 mod Examples
 pub mod Live
 pub mod AlwaysSteady
+pub mod Injected
 pub mod Short
 pub mod Emitted
 pub mod Handshake
@@ -38,3 +39,8 @@ pub mod Behind
 pub mod Draining
 pub mod Had
 pub mod Lowering
+pub mod Happened
+pub mod OneHalf
+pub mod BothHalves
+pub mod HalvesHad
+pub mod AmongStrangers

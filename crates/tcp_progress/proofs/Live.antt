@@ -1,5 +1,6 @@
 -- Ways on: quiet events one after another, at one of two parties or from one to the other, and what stays true on the way.
-use Rattle.tcp_replay.proofs.Words.{◌++◌, ◌<◌, ◌==◌, [], after_acknowledge, after_due, after_emission, after_gaps, after_receive, after_reorder}
+use Rattle.tcp_replay.proofs.Words.{◌++◌, ◌<◌, ◌==◌, [], ack_alone, after_resend_first, party_after_ack_alone, party_after_resend_first, with_first_resent}
+use Rattle.tcp_replay.proofs.Words.{after_acknowledge, after_due, after_emission, after_gaps, after_receive, after_reorder}
 use Rattle.tcp_replay.proofs.Words.{after_retransmit, and_parts, ap, arith, Bool, CallError, cases_Bool, cond_both, count_unsent, Due, due_of, end_of_text}
 use Rattle.tcp_replay.proofs.Words.{Ending, eqb-true, EventContent, false, false≢true, FitsPhase, if◌then◌else◌, inl, inr, is_fin_acked, is_handshake, later}
 use Rattle.tcp_replay.proofs.Words.{length, List, marks_end, nat_lt, next_position, None, NotEnded, Option, Orderly, party_after_acknowledge}
@@ -76,7 +77,7 @@ pub still-next : (p p' : PartyState) → IsStill p p' → next_position p' ≡ n
 still-next p p' h = rw (h.ordered, h.finished) refl
 
 -- EMISSION
-due-still : (p : PartyState) (due : Option Due) → IsStill p (record p { endpoint = after_due p.endpoint due })
+pub due-still : (p : PartyState) (due : Option Due) → IsStill p (record p { endpoint = after_due p.endpoint due })
 due-still p None = still-same p
 due-still p (Some due) = let nxt : p.endpoint.sending.nxt ≤ (state_after p.endpoint due).sending.nxt = omega arith in assumption
 
@@ -94,6 +95,24 @@ still-retransmit p =
     let Same : Sending → Type 0 = λ d. (d.una ≡ s.sending.una) × (s.sending.nxt ≤ d.nxt) in
     let same : Same (if sends_again s then with_all_resent s.sending else s.sending) = cond_both (sends_again s) (with_all_resent s.sending) s.sending Same
     (λ _. (refl, omega arith)) (λ _. (refl, omega arith)) in
+    assumption
+
+-- AN ACKNOWLEDGEMENT ALONE
+pub still-ack_alone : (p : PartyState) → IsStill p (party_after_ack_alone p)
+unfolding party_after_ack_alone
+still-ack_alone p =
+    let h = due-still p (ack_alone p.endpoint) in
+    assumption
+
+-- THE FIRST SEGMENT AGAIN
+pub still-resend_first : (p : PartyState) → IsStill p (party_after_resend_first p)
+unfolding party_after_resend_first after_resend_first
+still-resend_first p =
+    let s = p.endpoint in
+    let d = with_first_resent s.sending (text_limit s) in
+    let Same : Sending → Type 0 = λ d. (d.una ≡ s.sending.una) × (s.sending.nxt ≤ d.nxt) in
+    let same : Same (if sends_again s then d else s.sending) = cond_both (sends_again s) d s.sending Same (λ _. (refl, omega arith))
+    (λ _. (refl, omega arith)) in
     assumption
 
 -- what the marks leave

@@ -99,6 +99,9 @@ ended-settles w h (inl ended) = on-settles w h (ended-on w.a w.b (kept-steady w 
 ended-settles w h (inr ended) = on-settles w h (swapped w.a w.b (ended-on w.b w.a (steady-back w.b w.a (kept-steady w h).ends) ended))
 
 -- ---- IN EVERY WORLD
+pub not_stuck-kept : (w : WorldState) → IsKept w → IsNotStuck w
+not_stuck-kept w h =
+    record { live = λ a b. on-settles w h (both-live w.a w.b a b); opening = opening-settles w h; ended = ended-settles w h }
+
 pub not_stuck_lem : NoWorldIsStuck
-not_stuck_lem =
-    in-every-world IsNotStuck (λ w h. record { live = λ a b. on-settles w h (both-live w.a w.b a b); opening = opening-settles w h; ended = ended-settles w h })
+not_stuck_lem = in-every-world IsNotStuck not_stuck-kept

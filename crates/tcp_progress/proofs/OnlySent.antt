@@ -241,6 +241,7 @@ pub sent-kept : PairKept (λ _ _. Unit {0}) (Both KeepsSent) (λ p q s _. Reache
 sent-kept = record {
   swapped = both-swapped KeepsSent;
   calls = λ p q pair h. reaches-calls p q pair h.there.taken;
+  owes = λ p q ack reset pair h. (omega arith, h.there.taken);
   arrives = λ p q g v _ pair a h. reaches-arrive p q g v pair a (h.back.emitted a.place g v a.sent a.read) h.there.taken;
   moved = sent-moved;
 }
@@ -277,7 +278,7 @@ takes-only_sent x y h = record {
   emitted = h.there.emitted;
 }
 
-only_sent : (w : WorldState) → Both KeepsSent w.a w.b → TakeOnlySent w
+pub only_sent : (w : WorldState) → Both KeepsSent w.a w.b → TakeOnlySent w
 only_sent w h = record { there = takes-only_sent w.a w.b h; back = takes-only_sent w.b w.a (both-swapped KeepsSent _ _ h) }
 
 pub only_sent_lem : NothingIsTakenBeforeItIsSent

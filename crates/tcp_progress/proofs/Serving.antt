@@ -6,7 +6,7 @@ use Rattle.tcp_replay.proofs.Words.{PartyState, refl, Reset, rst, segment_at, se
 use Rattle.tcp_replay.proofs.Words.{world_after, world_after_all, WorldState, zero, ℕ, ◌∙◌, ◌∷◌, ◌≡◌, ◌≤◌, ◌⊎◌}
 use Rattle.tcp_progress.proofs.Words.{after_emissions, all_of, AllCome, Comes, CoversNext, Delivers, emissions, is_reset, IsCalm, IsIdle, IsLive, IsSteadyPair}
 use Rattle.tcp_progress.proofs.Words.{least_life, left_in, left_of_both, MaySend, NoneGaveUp, served, Side}
-use Rattle.tcp_progress.proofs.Lemmas.{after-append, again_lem, AreStill, calm-append, calm-emissions, deliver-at, delivered-at, delivered-next, emit-at}
+use Rattle.tcp_progress.proofs.Lemmas.{after-append, again_lem, AreStill, calm-append, calm-emissions, deliver-at, delivered-in, delivered-next, emit-at}
 use Rattle.tcp_progress.proofs.Lemmas.{flight-sends, fresh-emitted, going-live, has-room, in-flight, IsFresh, IsGoing, IsOpenTo, kept-steady, lower-event}
 use Rattle.tcp_progress.proofs.Lemmas.{new_lem, no-handshake, no-syn-owed, over-served, past-syn, sends-synchronized, side-left, side-pair, steps-all}
 use Rattle.tcp_progress.proofs.Lemmas.{steps-event, steps-left, timer-at, unsent-sends, waits, way-later}
@@ -45,13 +45,13 @@ fresh-still p q p' q' k start v h h' opened still f = record {
   ];
 }
 
--- ---- USEFUL: it covers what q wants next, or is there and acknowledges something new
+-- ---- USEFUL: it covers what q wants next, or begins in q's window and acknowledges something new
 pub record IsUseful (p q : PartyState) (k : ℕ) : Type 0 where
   pub start : ℕ
   pub content : Content
   pub fresh : IsFresh p q k start content
   pub use_of : ((start ≤ next_position q) × (next_position q < start + count_numbers content)) ⊎
-      ((start ≡ next_position q) × (q.endpoint.sending.una < next_position p))
+      ((next_position q ≤ start) × (start < next_position q + q.endpoint.config.recv_capacity) × (q.endpoint.sending.una < next_position p))
 
 -- it stays so while both are where they were
 pub useful-still : (p q p' q' : PartyState) (k : ℕ) → IsSteadyPair p q → IsSteadyPair p' q' → p.endpoint.receiving.opened ≡ true → AreStill p q p' q'
@@ -62,7 +62,11 @@ useful-still p q p' q' k h h' opened still u = record {
   fresh = fresh-still p q p' q' k u.start u.content h h' opened still u.fresh;
   use_of = elim u.use_of [
     | inl covers ↦ inl (omega (arith, covers.0, still.next_of_y), omega (arith, covers.1, still.next_of_y))
-    | inr stands ↦ inr (stands.0 ∙ sym still.next_of_y, omega (arith, stands.1, still.una_of_y, still.next_of_x))
+    | inr stands ↦ inr (
+      omega (arith, stands.0, still.next_of_y),
+      omega (arith, stands.1, still.next_of_y, ap (λ (c : Config). c.recv_capacity) still.back.config),
+      omega (arith, stands.2, still.una_of_y, still.next_of_x),
+    )
   ];
 }
 
@@ -77,11 +81,11 @@ useful-delivered p q life k least most h opened ready u =
           let taken = delivered-next p q life k u.start u.content least most h opened ready u.fresh covers.0 covers.1 in
           (taken.0, omega (arith, covers.1, u.fresh.most, sends.most, taken.1.una, taken.1.next, taken.2, h.pair.back.between))
       | inr stands ↦
-          let taken = delivered-at p q life k u.start u.content least most h opened ready u.fresh stands.0 in
-          (taken.0, omega (arith, stands.1, taken.1.una, taken.1.next, h.back.sent.taken opened, h.pair.back.alone.sends.most))
+          let taken = delivered-in p q life k u.start u.content least most h opened ready u.fresh stands.0 stands.1 in
+          (taken.0, omega (arith, stands.2, taken.1.una, taken.1.next, h.back.sent.taken opened, h.pair.back.alone.sends.most))
     ]
 
-useful-now : (w : WorldState) (side : Side) (k : ℕ) → IsGoing w → IsUseful (party_of w side) (party_of w (other side)) k
+pub useful-now : (w : WorldState) (side : Side) (k : ℕ) → IsGoing w → IsUseful (party_of w side) (party_of w (other side)) k
     → left_in (world_after w (Deliver side k)) < left_in w
 useful-now w side k h u =
     let live = going-live w side h in

@@ -1,23 +1,25 @@
 -- OVER CALM EVENTS two ends that are opening the connection go on to do so, or both are open, while no end is reset (RFC 9293, 3.10.7.2 to 3.10.7.4).
 use Rattle.tcp_replay.proofs.Words.{◌++◌, [], ack, Acknowledge, after_judgement, after_peer_opens, AllByRecursion, arith, Bool, cases_Bool, Closed, Content}
-use Rattle.tcp_replay.proofs.Words.{Damage, Deliver, effect_of, Emit, Ending, EventContent, false, false≢true, FitsPhase, gave_up, gives_up, has, inl, inr}
+use Rattle.tcp_replay.proofs.Words.{Damage, Deliver, effect_of, Emit, EmitAcknowledgement, ResendFirst, Ending, EventContent, false, false≢true, FitsPhase}
+use Rattle.tcp_replay.proofs.Words.{gave_up, gives_up, has, inl, inr}
 use Rattle.tcp_replay.proofs.Words.{is_syn_sent, IsSoundPair, Judgement, judgement, List, Listen, max_life, None, NotEnded, other, party_of}
 use Rattle.tcp_replay.proofs.Words.{PartyState, PeerAccepts, PeerOpens, Phase, Receive, refl, rst, side_of, State, subst, sym, SynReceived, SynSent, Taken}
 use Rattle.tcp_replay.proofs.Words.{TakenShut, Timer, true, world_after, world_after_all, WorldState, ℕ, ◌∙◌, ◌∷◌, ◌≡◌, ◌≤◌, ◌⊎◌}
 use Rattle.tcp_progress.proofs.Lemmas.{after-append, at-event, delivered, ends-plainly, IsKept, IsMoved, moves-event, side-pair, steady-back, steps-all}
-use Rattle.tcp_progress.proofs.Lemmas.{steps-event, still-acknowledging, still-emission, still-reading, still-reorder, still-retransmit}
+use Rattle.tcp_progress.proofs.Lemmas.{steps-event, still-ack_alone, still-acknowledging, still-emission, still-resend_first, still-reading, still-reorder}
+use Rattle.tcp_progress.proofs.Lemmas.{still-retransmit}
 use Rattle.tcp_replay.proofs.{Lemmas.finds-damage, Lemmas.IsAckOnly, Lemmas.IsPresent, Lemmas.judged, Lemmas.pair-swapped, Judgements.IsSyn, Judgements.IsTaken}
 use Rattle.tcp_progress.proofs.Words.{A, AreOpen, B, IsCalm, IsLive, NoneGaveUp, Side}
 use Rattle.tcp_progress.proofs.Handshake.{answering, opening, unopened-listen}
 use Rattle.tcp_conn.specs.declared.phase.Timer.TheVariants as timers
 
 -- ---- WHO ANSWERS is in LISTEN, or in SYN-RECEIVED, and goes on from the one to the other alone
-abbrev pub Answers : Phase → Type 0
-Answers phase = (phase ≡ Listen) ⊎ (phase ≡ SynReceived)
+abbrev pub IsPassive : Phase → Type 0
+IsPassive phase = (phase ≡ Listen) ⊎ (phase ≡ SynReceived)
 
 -- from one phase to another: who answers does so still, and who is in SYN-RECEIVED stays there
 pub record GoesOn (phase phase' : Phase) : Type 0 where
-  pub answers : Answers phase → Answers phase'
+  pub answers : IsPassive phase → IsPassive phase'
   pub received : phase ≡ SynReceived → phase' ≡ SynReceived
 
 -- in the same phase,
@@ -28,14 +30,14 @@ on-same phase phase' same = rw same (record { answers = λ h. h; received = λ e
 on-then : (phase phase' phase'' : Phase) → GoesOn phase phase' → GoesOn phase' phase'' → GoesOn phase phase''
 on-then phase phase' phase'' one two = record { answers = λ h. two.answers (one.answers h); received = λ e. two.received (one.received e) }
 
-not-syn_sent : (phase : Phase) → Answers phase → is_syn_sent phase ≡ true → ⊥
+not-syn_sent : (phase : Phase) → IsPassive phase → is_syn_sent phase ≡ true → ⊥
 not-syn_sent phase answers e = grind (arith, answers, e)
 
 -- by a segment without RST that acknowledges nothing, or by a reset
 abbrev ComesOn : State → State → Type 0
 ComesOn s t = GoesOn s.phase t.phase ⊎ (gives_up t.ending ≡ true)
 
-comes-on : (s : State) (src dst : List ℕ) (v : Content) → Answers s.phase → (has rst v.flags ≡ false → has ack v.flags ≡ true → ⊥)
+comes-on : (s : State) (src dst : List ℕ) (v : Content) → IsPassive s.phase → (has rst v.flags ≡ false → has ack v.flags ≡ true → ⊥)
     → ComesOn s (after_judgement (judgement s src dst v) s src v)
 unfolding after_peer_opens
 comes-on s src dst v answers none =
@@ -56,12 +58,14 @@ here-phase life p q (Acknowledge side) calm = (still-acknowledging p).phase
 here-phase life p q (Timer side timers.Retransmit) calm = (still-retransmit p).phase
 here-phase life p q (Timer side timers.Reorder) calm = (still-reorder p).phase
 here-phase life p q (Emit side) calm = (still-emission p).phase
+here-phase life p q (EmitAcknowledgement side) calm = (still-ack_alone p).phase
+here-phase life p q (ResendFirst side) calm = (still-resend_first p).phase
 here-phase life p q (Deliver from k) calm = refl
 here-phase life p q (Damage from k place value) calm = refl
 here-phase life p q other calm = absurd calm
 
 there-on : (life : ℕ) (p q : PartyState) (event : EventContent) → IsCalm event → life ≤ max_life → (effect_of life p q event).refusal ≡ None → IsSoundPair p q
-    → p.endpoint.receiving.opened ≡ false → Answers q.endpoint.phase → ComesOn q.endpoint (effect_of life p q event).there.endpoint
+    → p.endpoint.receiving.opened ≡ false → IsPassive q.endpoint.phase → ComesOn q.endpoint (effect_of life p q event).there.endpoint
 unfolding effect_of
 there-on life p q (Deliver from k) calm most e pair unopened answers =
     let d = delivered p q life k most e (pair-swapped p q pair) in
@@ -91,7 +95,7 @@ caller-goes p p' calls going moved up =
 pub record IsShaking (w : WorldState) (side : Side) : Type 0 where
   pub kept : IsKept w
   pub calls : (party_of w side).endpoint.phase ≡ SynSent
-  pub answers : Answers (party_of w (other side)).endpoint.phase
+  pub answers : IsPassive (party_of w (other side)).endpoint.phase
 
 -- who calls lives, has no SYN yet, and has sent its own alone
 pub caller : (w : WorldState) (side : Side) → IsShaking w side
@@ -110,7 +114,7 @@ both-open w A one two = record { a = one; b = two }
 both-open w B one two = record { a = two; b = one }
 
 -- who is open has taken the SYN of the other, which isn't in LISTEN then
-opened-both : (w : WorldState) (side : Side) → IsKept w → IsLive (party_of w side) → Answers (party_of w (other side)).endpoint.phase → AreOpen w
+opened-both : (w : WorldState) (side : Side) → IsKept w → IsLive (party_of w side) → IsPassive (party_of w (other side)).endpoint.phase → AreOpen w
 opened-both w side h live (inr received) = both-open w side live (answerer w side h received)
 opened-both w side h live (inl listens) =
     let p = party_of w side in
@@ -151,7 +155,7 @@ pub shakes-event : (w : WorldState) (event : EventContent) (side : Side) → IsC
 shakes-event w event side calm h up =
     let s = side_of event in
     let On : PartyState → PartyState → PartyState → PartyState → Type 0 = λ p q p' q'.
-    p.endpoint.receiving.opened ≡ false → Answers q.endpoint.phase → ComesOn q.endpoint q'.endpoint in
+    p.endpoint.receiving.opened ≡ false → IsPassive q.endpoint.phase → ComesOn q.endpoint q'.endpoint in
     let on = at-event On w event side (λ _ _. inl (on-same _ _ refl))
     (λ e _. there-on w.life (party_of w s) (party_of w (other s)) event calm h.kept.sound.life e (side-pair w s h.kept).pair)
     (λ _ _ _. inl (on-same _ _ (here-phase w.life (party_of w s) (party_of w (other s)) event calm))) in

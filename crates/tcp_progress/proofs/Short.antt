@@ -107,7 +107,7 @@ call-short w side h up =
           ]
     ]
 
-can-open : (w : WorldState) → IsKept w → CanOpen w
+pub can-open : (w : WorldState) → IsKept w → CanOpen w
 can-open w h opens =
     let up = either-up w h opens in
     opens-short 8 w h (elim opens [

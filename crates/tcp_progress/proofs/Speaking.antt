@@ -42,7 +42,7 @@ owed-effect life p q (Damage from k place value) calm most e pair opened =
 owed-effect life p q other calm most e pair opened = absurd calm
 
 -- in the world, at one side
-owed-event : (w : WorldState) (event : EventContent) (side : Side) → IsUntimed event → IsKept w → GoOn w.a w.b
+pub owed-event : (w : WorldState) (event : EventContent) (side : Side) → IsUntimed event → IsKept w → GoOn w.a w.b
     → (event ≡ Emit side) ⊎ KeepsOwed (party_of w side).endpoint (party_of (world_after w event) side).endpoint
 owed-event w event side calm h on =
     let s = side_of event in
@@ -98,7 +98,11 @@ standing-out w side later calm h at behind stands comes up =
       content = _;
       fresh = fresh-emitted p (party_of w (other side)) (side-pair w side h.kept) stands.due stands.is_due stands.segment stands.form stands.no_rst
           stands.no_syn;
-      use_of = inr (stands.starts ∙ at, omega (arith, behind, still-next p (party_after_emission p) (still-emission p)));
+      use_of = inr (
+        omega (arith, stands.starts, at),
+        omega (arith, stands.starts, at, (side-pair w side h.kept).pair.back.alone.config.good.0.1.0),
+        omega (arith, behind, still-next p (party_after_emission p) (still-emission p)),
+      );
     }) comes up
 
 waiting-due : (w : WorldState) (side : Side) → IsKept w → (party_of w side).endpoint.owed.reset ≡ None → Waits w side

@@ -318,6 +318,7 @@ pub stages-kept : PairKept (Both KeepsSent) (Both KeepsStages) (λ p q s accepte
 stages-kept = record {
   swapped = both-swapped KeepsStages;
   calls = λ p q pair h. may_be-calls p q pair (may_be-same p q h);
+  owes = λ p q ack reset pair h. may_be-same p q h;
   arrives = λ p q g v sent pair a h. may_be-arrives p q g v pair a (h.back.names a.place g v a.sent a.read)
       (λ plain told last. h.back.acks last a.place g v a.sent a.read plain told) sent.back.taken.next (may_be-same p q h);
   moved = stages-moved;

@@ -242,6 +242,7 @@ pub told-kept : PairKept (λ _ _. Unit {0}) (Both KeepsTold) (λ p q s _. InRoom
 told-kept = record {
   swapped = both-swapped KeepsTold;
   calls = λ p q _ h. room-calls p q h.there.room;
+  owes = λ p q ack reset pair h. h.there.room;
   arrives = λ p q g v _ pair a h. room-arrives p q g v pair a (λ plain is_syn. (h.back.emitted a.place g v a.sent a.read plain).offers is_syn) h.there.room;
   moved = told-moved;
 }

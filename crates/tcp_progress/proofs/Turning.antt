@@ -1,14 +1,17 @@
 -- WHAT COMES LATER: what is delivered among some events is delivered among more of them, and what goes out in a list comes part by part.
 use Rattle.tcp_replay.proofs.Words.{◌++◌, ◌+◌, ◌<◌, [], after_read, after_receive, AllByRecursion, ap, append_assoc, arith, both, cases_lt, drop, Due, due_of}
-use Rattle.tcp_replay.proofs.Words.{effect_of, Emit, EventContent, false, IfSome, inl, inr, length, length-append, length-drop, length-take, List, None, Option}
+use Rattle.tcp_replay.proofs.Words.{effect_of, Emit, EmitAcknowledgement, ResendFirst, EventContent, false, IfSome, inl, inr, length, length-append}
+use Rattle.tcp_replay.proofs.Words.{length-drop, length-take, List, None, Option}
 use Rattle.tcp_replay.proofs.Words.{other, party_after_receive, party_of, PartyState, receive_refusal, refl, Some, subst, suc, sym, Timer, unread_of}
 use Rattle.tcp_replay.proofs.Words.{world_after, world_after_all, WorldState, zero, ℕ, ◌∙◌, ◌∷◌, ◌≡◌, ◌≤◌}
-use Rattle.tcp_progress.proofs.Words.{A, all_room, AllCome, B, both_served, Comes, Delivers, emissions, GetsThrough, GotThrough, HasTurns, is_reset, IsCalm}
+use Rattle.tcp_progress.proofs.Words.{A, all_room, HasReadAll, AllCome, B, both_served, Comes, Delivers, emissions, GetsThrough, GotThrough, HasTurns}
+use Rattle.tcp_progress.proofs.Words.{is_reset, IsCalm}
 use Rattle.tcp_progress.proofs.Words.{IsSteadyPair, IsTurn, IsUntimed, left_in, NoneGaveUp, reads, served, Side, WhoIsServedGetsThrough}
-use Rattle.tcp_progress.proofs.Ended.{all-come, complete, hands-still, HasRead, IsAllTaken, IsComplete, read-end, through, up-stays, waited}
+use Rattle.tcp_progress.proofs.Ended.{all-come, complete, hands-still, IsAllTaken, IsComplete, read-end, through, up-stays, waited}
 use Rattle.tcp_replay.proofs.Lemmas.{both-swapped}
 use Rattle.tcp_progress.proofs.{AlwaysSteady.in-every-world, AlwaysSteady.IsKept, AlwaysSteady.kept-steady, Calm.Grows, CalmWorlds.on-all, CalmWorlds.steps-all}
-use Rattle.tcp_progress.proofs.{CalmWorlds.steps-left, CalmWorlds.steps-streams, Live.both-live, Live.GoOn, Live.IsUp, Live.steady-back, Live.still-reading}
+use Rattle.tcp_progress.proofs.{CalmWorlds.Steps, CalmWorlds.steps-left, CalmWorlds.steps-streams, Live.both-live, Live.GoOn, Live.IsUp, Live.steady-back}
+use Rattle.tcp_progress.proofs.{Live.still-reading}
 use Rattle.tcp_progress.proofs.{Sides.on-both}
 
 -- AMONG: whatever is delivered among some events is delivered among others
@@ -74,6 +77,8 @@ come-both w (x ∷ xs) ys later one two = (
 -- ---- A TURN IS CALM
 pub untimed-calm : (event : EventContent) → IsUntimed event → IsCalm event
 untimed-calm (Timer side which) h = absurd h
+untimed-calm (EmitAcknowledgement side) h = tt
+untimed-calm (ResendFirst side) h = tt
 untimed-calm other h = h
 
 -- what follows of each of some events follows of all
@@ -174,7 +179,7 @@ read-most : (p : PartyState) → receive_refusal p.endpoint ≡ None → length 
 unfolding party_after_receive after_receive after_read
 read-most p hands most = rw hands (empty-length (drop all_room (unread_of p)) (omega (arith, length-drop all_room (unread_of p), most)))
 
-has-read : (p q : PartyState) → IsSteadyPair p q → IsUp p → HasRead (party_after_receive (party_after_receive p all_room) 0)
+has-read : (p q : PartyState) → IsSteadyPair p q → IsUp p → HasReadAll (party_after_receive (party_after_receive p all_room) 0)
 has-read p q h up =
     let hands = hands-still p q h up in
     let still = still-reading p all_room in
@@ -183,7 +188,7 @@ has-read p q h up =
 
 -- of both users
 abbrev pub HaveRead : WorldState → Type 0
-HaveRead w = (side : Side) → HasRead (party_of w side)
+HaveRead w = (side : Side) → HasReadAll (party_of w side)
 
 -- so it is after the reads of a turn
 pub have-read : (w : WorldState) → IsKept w → GoOn w.a w.b → HaveRead (world_after_all w reads)
@@ -212,7 +217,8 @@ in-order p q h up =
     )
 
 -- at x, which has all of y
-read-stays : (x y x' y' : PartyState) → IsSteadyPair x y → IsSteadyPair x' y' → IsComplete x y → IsUp x' → Grows x x' → Grows y y' → HasRead x → HasRead x'
+read-stays : (x y x' y' : PartyState) → IsSteadyPair x y → IsSteadyPair x' y' → IsComplete x y → IsUp x' → Grows x x' → Grows y y' → HasReadAll x
+    → HasReadAll x'
 read-stays x y x' y' h h' whole up' gx gy read =
     let come = all-come y x (steady-back y x h) whole.back in
     let was = in-order x y h whole.there.up in
@@ -222,13 +228,9 @@ read-stays x y x' y' h h' whole up' gx gy read =
       ended = λ finished. gx.ended (read.ended (come.finished (sym gy.closed ∙ (h'.pair.there.takes.fin finished).0)));
     }
 
--- and stays so
-pub done-all : (w : WorldState) (events : List EventContent) → AllByRecursion IsCalm events → IsDone w → NoneGaveUp (world_after_all w events)
-    → IsDone (world_after_all w events)
-done-all w events calm done up =
-    let v = world_after_all w events in
-    let steps = steps-all w events calm done.kept in
-    let on = on-all w events calm done.kept done.on up in
+-- and stays so, over whatever only brings both on
+pub done-steps : (w v : WorldState) → Steps w v → GoOn v.a v.b → IsDone w → IsDone v
+done-steps w v steps on done =
     let pair = (kept-steady w done.kept).ends in
     let pair' = (kept-steady v steps.kept).ends in
     let whole = complete w.a w.b done.on done.none in
@@ -240,6 +242,22 @@ done-all w events calm done up =
           (read-stays w.b w.a v.b v.a (steady-back w.b w.a pair) (steady-back v.b v.a pair') (both-swapped IsAllTaken w.a w.b whole) on.back (steps.grows B)
           (steps.grows A) (done.read B));
     }
+
+pub done-all : (w : WorldState) (events : List EventContent) → AllByRecursion IsCalm events → IsDone w → NoneGaveUp (world_after_all w events)
+    → IsDone (world_after_all w events)
+done-all w events calm done up =
+    done-steps w (world_after_all w events) (steps-all w events calm done.kept) (on-all w events calm done.kept done.on up) done
+
+-- then all got through
+pub done-through : (w v : WorldState) → Steps w v → IsDone v → GotThrough w v
+done-through w v steps done =
+    let pair = (kept-steady v done.kept).ends in
+    let whole = complete v.a v.b done.on done.none in
+    let there = through v.a v.b pair whole (done.read B) in
+    let back = through v.b v.a (steady-back v.b v.a pair) (both-swapped IsAllTaken v.a v.b whole) (done.read A) in
+    let streams = steps-streams w v steps in
+    let settles = waited v done.kept whole (done.read A) (done.read B) in
+    assumption
 
 -- a turn where nothing is left
 turn-done : (w : WorldState) (turn : List EventContent) → IsKept w → GoOn w.a w.b → left_in w ≡ 0 → IsTurn w turn → NoneGaveUp (world_after_all w turn)
@@ -306,17 +324,11 @@ module _ (lowers : TurnLowers) where
   pub got-through : (n : ℕ) (w : WorldState) (events : List EventContent) → left_in w ≤ n → IsKept w → GoOn w.a w.b → HasTurns (suc n) w events
       → NoneGaveUp (world_after_all w events) → GotThrough w (world_after_all w events)
   got-through n w events most h on turns stays =
-      let v = world_after_all w events in
-      let done = turns-done n w events most h on turns stays in
-      let pair = (kept-steady v done.kept).ends in
-      let whole = complete v.a v.b done.on done.none in
-      let there = through v.a v.b pair whole (done.read B) in
-      let back = through v.b v.a (steady-back v.b v.a pair) (both-swapped IsAllTaken v.a v.b whole) (done.read A) in
-      let streams = steps-streams w v (steps-all w events (turns-calm (suc n) w events turns) h) in
-      let settles = waited v done.kept whole (done.read A) (done.read B) in
-      assumption
+      done-through w (world_after_all w events) (steps-all w events (turns-calm (suc n) w events turns) h) (turns-done n w events most h on turns stays)
 
   -- in every world
+  pub served-kept : (w : WorldState) → IsKept w → GetsThrough w
+  served-kept w h a b events turns stays = got-through (left_in w) w events (omega arith) h (both-live w.a w.b a b) turns stays
+
   pub served_lem : WhoIsServedGetsThrough
-  served_lem =
-      in-every-world GetsThrough (λ w h a b events turns stays. got-through (left_in w) w events (omega arith) h (both-live w.a w.b a b) turns stays)
+  served_lem = in-every-world GetsThrough served-kept

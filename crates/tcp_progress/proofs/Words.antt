@@ -8,6 +8,9 @@ pub use Rattle.tcp_progress.specs.Everywhere.{InEveryWorld}
 pub use Rattle.tcp_progress.specs.Fair.{AllCome, BurstEnds, CanHaveTurns, Comes, Delivers, EachBurstEnds, GetsThrough, GotThrough, HasTurns, IsCalm, IsIdle}
 pub use Rattle.tcp_progress.specs.Fair.{IsTurn, IsUntimed, NeverGrows, NoneGaveUp, TurnsCanBeHad, WhatIsLeftNeverGrows, WhoIsServedGetsThrough, all_room}
 pub use Rattle.tcp_progress.specs.Fair.{both_served, emissions, is_reset, reads, served, time_waits}
+pub use Rattle.tcp_progress.specs.Half.{AnswerArrives, CanHaveHalves, GetsThroughByHalves, HalfTurnsGetThrough, HalvesCanBeHad, HasBothHalves, HasHalfTurn}
+pub use Rattle.tcp_progress.specs.Half.{AreCalm, Arrives, HasHalves, HasReadAll, HaveRoom, IsCalmNow, SegmentIsAnswered, SendsAt, count_sent}
+pub use Rattle.tcp_progress.specs.Half.{endpoint_at, timeout}
 pub use Rattle.tcp_progress.specs.Handshake.{AreOpen, CanOpen, CanReachUnaided, HandshakesCanBeFinished, HaveSyns, IsUnaided, OpensAndGetsThrough}
 pub use Rattle.tcp_progress.specs.Handshake.{WhoIsServedOpens}
 pub use Rattle.tcp_progress.specs.Measure.{all_of, left_in, left_of_both}

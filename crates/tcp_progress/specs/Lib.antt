@@ -10,3 +10,5 @@ pub mod Steady
 pub mod Everywhere
 pub mod Measure
 pub mod Fair
+pub mod Half
+pub mod Among

@@ -1,4 +1,5 @@
 //! Who is served often enough gets through (RFC 9293, 3.8), whatever the network does meanwhile.
+ghost use Rattle.tcp_progress.specs.Half.{HalfTurnsGetThrough, HalvesCanBeHad};
 ghost use Rattle.tcp_progress.specs.Fair.{EachBurstEnds, TurnsCanBeHad, WhatIsLeftNeverGrows, WhoIsServedGetsThrough};
 
 /// Who is served gets through, from any world that two ends can come to, while both are live. Take calm events that
@@ -32,4 +33,25 @@ pub fn each_burst_ends()
 /// closes. A FIN counts as one byte.
 pub fn what_is_left_never_grows()
     ensures { WhatIsLeftNeverGrows }
+{}
+
+/// Half turns get through, from any world that two ends can come to, while both are live, and one user didn't close or
+/// one end has room for two bytes. Take whatever is calm and contains as many pairs of half turns as what is left, and
+/// two more. After it all that was accepted is delivered, both ways, and acknowledged, unless an end is reset.
+///
+/// In a half turn of a side its retransmission timeout expires, and at once it emits one segment, or nothing. This
+/// segment arrives; and where an acknowledgement is then pending at the other, one goes out at SND.NXT, alone or on new
+/// text, and arrives. Between these anything calm may happen, the other side's half too: its timers and this side's,
+/// segments sent again or not, old and damaged ones, and what strangers send who aren't on the path between the two (RFC
+/// 5961, 1). So this is what two hosts do that have clocks of their own and send one segment after each timeout (RFC
+/// 5681, 3.1). Where both have room for one byte, both may have sent a byte and a FIN beyond the other's window, and a
+/// first segment never is the FIN: then they need not get through. What is left, as at `who_is_served_gets_through`.
+pub fn half_turns_get_through()
+    ensures { HalfTurnsGetThrough }
+{}
+
+/// There are half turns, any number of pairs of them, from any world in which both are live, and no end is reset or
+/// aborted in them. So the claim that they get through isn't empty.
+pub fn halves_can_be_had()
+    ensures { HalvesCanBeHad }
 {}

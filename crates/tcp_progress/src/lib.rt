@@ -6,6 +6,9 @@
 //! - `who_is_served_gets_through`: a caller's plain loop does so in a known number of turns, whatever the network does
 //!   meanwhile. Beside it `turns_can_be_had`, `each_burst_ends` and `what_is_left_never_grows`; and
 //!   `who_is_served_opens`, of ends that are opening the connection.
+//! - `half_turns_get_through`: so do two hosts with clocks of their own, which send one segment after a timeout. Beside
+//!   it `halves_can_be_had`.
+//! - `goes_on_among_strangers`: all of these hold where others send bytes to both ends.
 //! - `every_world_is_steady` and `nothing_is_taken_before_it_is_sent`: invariants of two ends.
 //!
 //! Below them are laws of one end: what a segment brings (`what_is_next_is_taken`, `what_is_acknowledged_is_released`),
@@ -21,9 +24,11 @@ mod opening;
 mod sending;
 mod sent;
 mod settled;
+mod strangers;
 
 pub use fair::{
-    each_burst_ends, turns_can_be_had, what_is_left_never_grows, who_is_served_gets_through,
+    each_burst_ends, half_turns_get_through, halves_can_be_had, turns_can_be_had,
+    what_is_left_never_grows, who_is_served_gets_through,
 };
 pub use opening::{a_handshake_can_be_finished, who_is_served_opens};
 pub use sending::{
@@ -32,6 +37,7 @@ pub use sending::{
 pub use sent::nothing_is_taken_before_it_is_sent;
 pub use settled::{every_world_is_steady, no_world_is_stuck};
 use std::alloc::Allocator;
+pub use strangers::{a_blind_injection_is_calm, goes_on_among_strangers, steady_among_strangers};
 use tcp_conn::Endpoint;
 use tcp_conn::laws::what_always_holds;
 

@@ -11,11 +11,12 @@ use Rattle.tcp_replay.proofs.Words.{party_after_ack_alone, party_after_acknowled
 use Rattle.tcp_replay.proofs.Words.{party_after_emission, party_after_listen, party_after_receive, party_after_resend_first, party_after_send}
 use Rattle.tcp_replay.proofs.Words.{party_after_timer, party_of, party_out, PartyState, PlaceOutside, position_of, Receive, refl, refusal_of, ResendFirst}
 use Rattle.tcp_replay.proofs.Words.{Result, rst, segment_at, segment_of, Send, sent_at, sent_by, SentSegment, Side, side_of, slice_get, slice_get-get_or}
-use Rattle.tcp_replay.proofs.Words.{slice_index, Some, State, state_after, StepError, subst, sym, Timer, true, unwrap_or-slice_get, world_from}
+use Rattle.tcp_replay.proofs.Words.{slice_index, Some, State, state_after, StepError, subst, sym, Timer, true, unwrap_or-slice_get, WaitingReset, world_from}
 use Rattle.tcp_replay.proofs.Words.{world_with_effect, WorldState, xor_assoc, xor_of_8, xor_self, xor_zero_l, ◌||◌, ℕ, ◌∙◌, ◌≡◌, ◌≢◌, ◌≤◌, ⊎_elim}
 use Rattle.tcp_replay.proofs.Calls.{KeptByCalls, MayGoOut, on-abort, on-acknowledge, on-close, on-connect, on-due, on-listen, on-receive, on-resend-first}
 use Rattle.tcp_replay.proofs.Calls.{on-send, on-timer, with_end}
 use Rattle.tcp_replay.specs.Events.{Listen}
+use Rattle.tcp_replay.specs.Among.{with_owed}
 use Rattle.tcp_replay.proofs.{Lists.and-fails, Lists.one_if-most, Lists.or-fails, Arrivals.Comes, Arrivals.fair-judgement, Emissions.due-decodes}
 use Rattle.tcp_replay.proofs.{Emissions.goes-out, Emissions.GoesOut, Emissions.seq-in, Emissions.wanted-is, AloneEmissions.ack-alone-goes}
 use Rattle.tcp_replay.proofs.{AloneEmissions.due-alone, AloneEmissions.GoesOutAlone, AloneEmissions.if-some-map, Steps.Kept, Steps.kept-same, Steps.Moved}
@@ -153,7 +154,7 @@ pub record Speaks (p p' q : PartyState) : Type 0 where
   pub out : IfSome due (GoesOutAlone p.endpoint p.accepted p.closed)
   pub after : IfSome due (λ due. p'.endpoint ≡ state_after p.endpoint due)
 
-speaks-nothing : (p p' q : PartyState) → p'.sent ≡ p.sent → Speaks p p' q
+pub speaks-nothing : (p p' q : PartyState) → p'.sent ≡ p.sent → Speaks p p' q
 speaks-nothing p p' q same = record { due = None; sent = same ∙ sym (append-nil p.sent); goes = tt; out = tt; after = tt }
 
 after-due : (s : State) (due : Option Due) → IfSome due (λ d. after_due s due ≡ state_after s d)
@@ -252,6 +253,9 @@ pub record PairKept (G K : PartyState → PartyState → Type 0) (Stays : PartyS
   pub calls : (p q : PartyState) → IsSoundPair p q → K p q → KeptByCalls (address_of q) p (λ p'. Stays p q p'.endpoint p'.accepted)
   pub arrives : (p q : PartyState) (g : SentSegment) (v : Content) → G p q → IsSoundPair p q → Arrives p q g v → K p q
       → Stays p q (after_segment p q v) p.accepted
+  -- what isn't let in changes nothing but what is pending
+  pub owes : (p q : PartyState) (ack : Bool) (reset : Option WaitingReset) → IsSoundPair p q → K p q
+      → Stays p q (with_owed p.endpoint ack reset) p.accepted
   pub moved : (p p' q : PartyState) → IsSoundPair p q → Moved p p' q → Speaks p p' q → Stays p q p'.endpoint p'.accepted → K p q → K p' q
 
 -- what is emitted is no part of what p's end is

@@ -4,7 +4,7 @@ use Rattle.tcp_replay.proofs.Words.{after_news, after_own_syn, after_peer_accept
 use Rattle.tcp_replay.proofs.Words.{after_window_update, AllByRecursion, and_parts, ap, append-nil, AreBlocksBehind, AreSoundEnds, arith, block_numbers, blocks}
 use Rattle.tcp_replay.proofs.Words.{blocks_to_report, blocks_used, Bool, Cell, cond_both, Config, Content, Due, Ending, eqb-false, EventContent, false}
 use Rattle.tcp_replay.proofs.Words.{false≢true, gave_up, gives_up, has, HasBytes, HasPosition, HasTrueHints, HintsAreTrue, inr, insertion_by_stamp, is_current}
-use Rattle.tcp_replay.proofs.Words.{is_fin, is_sack_offered, is_syn_received, IsBlockBehind, IsHeld, IsMaximal, IsSoundPair, IsTrueBlock, IsTruthful}
+use Rattle.tcp_replay.proofs.Words.{is_sack_offered, is_syn_received, IsBlockBehind, IsHeld, IsMaximal, IsSoundPair, IsTrueBlock, IsTruthful}
 use Rattle.tcp_replay.proofs.Words.{KeepBothHints, KeepsHints, length, List, map, max_blocks, max_life, Mss, nat_lt, new_party, next_position, next_wanted}
 use Rattle.tcp_replay.proofs.Words.{None, not, not-true, number, offset, Option, other, PartyState, permission_options, plain_segment, position_near}
 use Rattle.tcp_replay.proofs.Words.{Receiving, refl, refusal_of, reported_blocks, Reset, rst, Run, runs, runs_are_maximal_lem, runs_newest_first, sack_options}
@@ -303,11 +303,12 @@ hints-moved p p' q pair moved out keeps h =
       };
     }
 
-hints-kept : PairKept (λ _ _. Unit {0}) KeepBothHints (λ p q s _. Keeps p q s)
+pub hints-kept : PairKept (λ _ _. Unit {0}) KeepBothHints (λ p q s _. Keeps p q s)
 hints-kept = record {
   swapped = λ p q h. record { there = h.back; back = h.there };
   calls = hints-calls;
   arrives = λ p q g v _ pair a k. hints-arrive p q g v pair a k;
+  owes = λ p q ack reset _ k. keeps-same p q k;
   moved = hints-moved;
 }
 

@@ -24,5 +24,6 @@ pub mod Hints
 pub mod Runs
 pub mod SoloLogs
 pub mod Worlds
+pub mod Injections
 pub mod Lemmas
 pub mod Examples

@@ -3,7 +3,7 @@ use Rattle.tcp_replay.proofs.Words.{◌++◌, ◌+◌, ◌<◌, [], ◌^◌, ack
 use Rattle.tcp_replay.proofs.Words.{answer_unless, ap, append-nil, append_assoc, AreBytes, arith, Arrive, Bool, bytes_of, bytes_put_out, bytes_taken, CallError}
 use Rattle.tcp_replay.proofs.Words.{Came, CameIn, Config, Content, count_come, count_in_order, count_sendable, decode_answer, decoded_encoded, decoded_valid}
 use Rattle.tcp_replay.proofs.Words.{DecodeError, destination_of, Due, due_of, end_after, Err, false, false≢true, front_taken, gives_up, HandsOverWhatCame, has}
-use Rattle.tcp_replay.proofs.Words.{HasRanges, IfSome, if◌then◌else◌, is_acceptable_segment, is_close, is_foreign, is_some, IsAlone, IsConfig, IsOfUser, List}
+use Rattle.tcp_replay.proofs.Words.{HasRanges, IfSome, if◌then◌else◌, is_acceptable_segment, is_close, is_foreign, IsAlone, IsConfig, IsOfUser, List}
 use Rattle.tcp_replay.proofs.Words.{new_end, None, number, Ok, OneEndIsTrue, Option, option_map, option_to_list, party_after_abort, party_after_acknowledge}
 use Rattle.tcp_replay.proofs.Words.{party_after_close, party_after_connect, party_after_listen, party_after_receive, party_after_resend_first, party_after_send}
 use Rattle.tcp_replay.proofs.Words.{party_after_timer, PartyState, Peer, refl, Reset, Result, rst, run_alone, segment_alone, segment_due, segment_emitted}
@@ -15,7 +15,7 @@ use Rattle.tcp_replay.proofs.Calls.{KeptByCalls, on-abort, on-ack-alone, on-ackn
 use Rattle.tcp_replay.proofs.Calls.{on-resend-first, on-send, on-timer, or-false, with_end}
 use Rattle.tcp_replay.proofs.{Lists.by_test, Lists.one_if, Steps.of_user-grows, Steps.slice_get-more, Alone.alone-new, AloneCalls.alone-calls}
 use Rattle.tcp_replay.proofs.{AloneCalls.alone-judgement, AloneCalls.IsAloneIn, AloneCalls.send-unclosed, AloneEmissions.ack-alone-goes}
-use Rattle.tcp_replay.proofs.{AloneEmissions.due-alone, AloneEmissions.GoesOutAlone, AloneEmissions.IsSaid, Emissions.plain-of_user, Emissions.reset-bit}
+use Rattle.tcp_replay.proofs.{AloneEmissions.due-alone, AloneEmissions.GoesOutAlone, AloneEmissions.IsSaid, Emissions.plain-of_user}
 use Rattle.tcp_replay.proofs.{Emissions.syn-of_user, Emissions.syn-opened, Judgements.IsTaken, AloneFeeds.Feeds, AloneFeeds.feeds-calls}
 use Rattle.tcp_replay.proofs.{AloneFeeds.feeds-judgement, AloneFeeds.feeds-same}
 use Rattle.tcp_replay.proofs.Emissions.{waiting-bit}

@@ -23,11 +23,12 @@ own-new : (p q : PartyState) (due : Option Due) → IfSome due (GoesOut p q) →
 own-new p q None goes g e = absurd (cc)
 own-new p q (Some due) goes g e = subst (IsOwn p q) (some-is e) (own-due p q due goes)
 
-sound-kept : PairKept (λ _ _. Unit {0}) IsSoundPair (λ _ _ _ _. Unit {0})
+pub sound-kept : PairKept (λ _ _. Unit {0}) IsSoundPair (λ _ _ _ _. Unit {0})
 sound-kept = record {
   swapped = pair-swapped;
   calls = λ p q pair _. nothing-kept (address_of q) p;
   arrives = λ p q g v _ pair comes _. tt;
+  owes = λ p q ack reset pair _. tt;
   moved = λ p p' q pair moved out _ _. pair-from-move p p' q moved (record { new = _; sent = out.sent; own = own-new p q out.due out.goes }) pair;
 }
 
@@ -185,7 +186,7 @@ safe-sound w h = safe-ends w h.ends
 pub hints-sound : (w : WorldState) → IsSound w → HintsAreTrue w
 hints-sound w h = hints-true w h.hints
 
-damage-sound : (w : WorldState) → IsSound w → FindsDamage w
+pub damage-sound : (w : WorldState) → IsSound w → FindsDamage w
 damage-sound w h event is fits e = damage-refused w event is fits e h.ends
 
 -- EVERY RUN IS SAFE, whatever events happen, in whatever order
@@ -284,6 +285,7 @@ limits-kept = record {
   swapped = λ p q h. (h.1, h.0);
   calls = λ p q _ _. nothing-kept (address_of q) p;
   arrives = λ p q g v _ _ _ _. tt;
+  owes = λ p q ack reset _ _. tt;
   moved = λ p p' q _ moved _ _ h. (omega (arith, ap (λ (c : Config). c.limit) moved.config, h.0), h.1);
 }
 

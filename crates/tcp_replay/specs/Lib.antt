@@ -10,3 +10,4 @@ pub mod Alone
 pub mod Sound
 pub mod Refusals
 pub mod Names
+pub mod Among

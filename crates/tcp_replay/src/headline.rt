@@ -1,3 +1,4 @@
+ghost use Rattle.tcp_replay.specs.Among.{EveryRunAmongStrangersIsSafe};
 ghost use Rattle.tcp_replay.specs.OneEnd.{OneEndIsTrue};
 ghost use Rattle.tcp_replay.specs.Safe.{EveryRunIsSafe};
 
@@ -8,6 +9,14 @@ ghost use Rattle.tcp_replay.specs.Safe.{EveryRunIsSafe};
 /// [`World::step`](crate::World::step) and [`World::run`](crate::World::run) are its subject.
 pub fn every_run_is_safe()
     ensures { EveryRunIsSafe }
+{}
+
+/// The same among strangers (RFC 5961, 1), over every list of what happens: the events of the two ends, and whatever
+/// bytes who isn't on the path between them sends to either, from and to any address, at any time. What such a stranger
+/// sends isn't let in where it comes, since it doesn't know the numbers; `tcp_strangers` counts how many numbers would
+/// let it in. And an end in CLOSED or LISTEN, which answers whoever writes to it, holds no reset for a stranger.
+pub fn every_run_among_strangers_is_safe()
+    ensures { EveryRunAmongStrangersIsSafe }
 {}
 
 /// The theorem of one end, over every list of events, whoever its peer is and whatever bytes arrive (RFC 9293, 3.4 and

@@ -1,0 +1,5 @@
+use Rattle.tcp_progress.proofs.AmongStrangers.{blind-calm}
+use Rattle.tcp_progress.proofs.strangers.a_blind_injection_is_calm.Goals as goal
+
+pub returns : goal.returns
+returns c = blind-calm

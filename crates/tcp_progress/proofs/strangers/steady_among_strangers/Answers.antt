@@ -1,0 +1,8 @@
+use Rattle.tcp_progress.proofs.AmongStrangers.{sent-among, steady-among}
+use Rattle.tcp_progress.proofs.strangers.steady_among_strangers.Goals as goal
+
+pub returns-clause-steady : goal.returns-clause-steady
+returns-clause-steady c = steady-among
+
+pub returns-clause-taken : goal.returns-clause-taken
+returns-clause-taken c = sent-among

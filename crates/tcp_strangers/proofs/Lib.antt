@@ -1,0 +1,4 @@
+pub mod Counting
+pub mod Sequences
+pub mod Acknowledgements
+pub mod Bursts
