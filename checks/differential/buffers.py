@@ -1,6 +1,7 @@
 """Both buffers of an end written a second time, plainly: `python3 checks/differential/buffers.py` writes the calls of crates/test_buffers (stdin) and what
-they answer (stdout). The queue is a list of bytes with a flag for each; the reassembly is a list of places, each with the byte that is held there and
-the number of the call that had news of it last. `--check N [SEED]` runs N random calls more through the built program and compares.
+they answer (stdout), as far as they can be followed by hand. The queue is a list of bytes with a flag for each; the reassembly is a list of places, each
+with the byte that is held there and the number of the call that had news of it last. `--check N [SEED]` makes a thousand turns round both rings and N
+random calls, runs them through the built program and compares.
 """
 
 import pathlib
@@ -154,8 +155,8 @@ class Second:
         return getattr(self.buffer, word)(*map(int, rest))
 
 
-def worked():
-    """Calls whose answers can be followed by hand; each capacity's limits; and a thousand turns round both rings."""
+def worked(turns):
+    """Calls whose answers can be followed by hand; each capacity's limits; and turns round both rings."""
     for kind in ("queue", "inbox"):
         for capacity in (0, 1, GREATEST, GREATEST + 1):
             yield f"{kind} {capacity}"
@@ -168,7 +169,7 @@ def worked():
     yield from (f"mark {place} {place + 1}" for place in range(0, 32, 2))
     yield from "mark 39 40,marked,mark 31 32,mark 1 2,mark 39 40,marked".split(",")
     yield "queue 4"
-    for turn in range(1000):
+    for turn in range(turns):
         text = bytes((3 * turn + place) % 256 for place in range(3)).hex()
         yield from (f"offer {text}", "copy 0 3", "release 3")
     yield from "inbox 8,place 2 6364,place 3 58595a,place 0 6162,state,place 2 7a7a,read 8,state,place -3 717273,place -1 7051,read 8".split(",")
@@ -179,7 +180,7 @@ def worked():
     yield from "place 33 78,blocks,place 30 79,blocks,place 33 78,place 0 78,clear_held,blocks,state".split(",")
     yield from "inbox 8,place 0 6162,place 2 6566,clear,state,blocks,place 0 78,state".split(",")
     yield "inbox 8"
-    for turn in range(1000):
+    for turn in range(turns):
         text = bytes((3 * turn + place) % 256 for place in range(3)).hex()
         yield from (f"place 1 {text[2:]}", f"place 0 {text}", "read 3")
     yield "state"
@@ -233,7 +234,8 @@ def played(calls_of):
 
 
 def check(count, seed):
-    calls, answers = played(lambda second: random_calls(random.Random(seed), second, count))
+    rows, drawn = played(lambda second: worked(1000)), played(lambda second: random_calls(random.Random(seed), second, count))
+    calls, answers = rows[0] + drawn[0], rows[1] + drawn[1]
     program = CRATE / "out" / "test_buffers"
     if not program.exists():
         sys.exit(f"build it first: (cd {CRATE} && rt run </dev/null)")
@@ -250,7 +252,5 @@ if __name__ == "__main__":
     if sys.argv[1:2] == ["--check"]:
         check(int(sys.argv[2]), int(sys.argv[3]) if len(sys.argv) > 3 else 1)
     else:
-        rows = played(lambda second: worked())
-        drawn = played(lambda second: random_calls(random.Random(7), second, 4000))
-        (CRATE / "stdin").write_text(rows[0] + drawn[0])
-        (CRATE / "stdout").write_text(rows[1] + drawn[1])
+        for name, lines in zip(("stdin", "stdout"), played(lambda second: worked(8))):
+            (CRATE / name).write_text(lines)

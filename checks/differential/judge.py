@@ -15,6 +15,10 @@ from program import word_sum
 MSS, SHIFT, PERMITTED, BLOCKS = 2, 3, 4, 5
 SIZES = {MSS: [2], SHIFT: [1], PERMITTED: [0], BLOCKS: [8, 16, 24, 32]}
 OF_SYNS = {MSS, SHIFT, PERMITTED}
+# What a SYN with options that can't be read counts as having.
+ANY_OFFER = [(SHIFT, bytes(1)), (PERMITTED, b"")]
+# The rule that damage on the path breaks too.
+WRONG_SUM = "the checksum is wrong"
 # Rules that hold a segment against what came.
 AGAINST_CAME = ("AckBeyond", "Unoffered", "Unpermitted", "BlockBeyond")
 
@@ -43,7 +47,7 @@ def options_of(data, end):
 
 
 class Seen:
-    """A segment as a judge sees it."""
+    """A segment as a judge sees it. One whose options can't be read has a fault, and counts as one that offers what a SYN may."""
 
     def __init__(self, source, target, data):
         if len(data) < 20:
@@ -51,13 +55,16 @@ class Seen:
         if len(data) > 65515:
             raise Malformed("a segment has at most 65515 bytes")
         if word_sum(source, target, data) % 65535:
-            raise Malformed("the checksum is wrong")
+            raise Malformed(WRONG_SUM)
         end = 4 * (data[12] >> 4)
         if not 20 <= end <= len(data):
             raise Malformed("the data offset is wrong")
         self.seq, self.ack = struct.unpack(">II", data[4:12])
         self.flags, self.text = data[13], data[end:]
-        self.options = options_of(data, end)
+        try:
+            self.options, self.fault = options_of(data, end), None
+        except Malformed as fault:
+            self.options, self.fault = ANY_OFFER, fault
         self.kinds = {kind for kind, _ in self.options}
 
     def has(self, flag):
@@ -72,12 +79,18 @@ class Judge:
     """What one end has said and heard so far. Each rule is a method that answers its line, or None."""
 
     def __init__(self):
-        self.initial, self.fin = None, None
-        # the position of the last byte that is acknowledged, and the byte at each behind it, as far as none is missing
-        self.released, self.stream = 0, {}
+        self.send_nothing()
+        # whether the end's SYN was acknowledged, and whether a reset came
+        self.is_acked = self.is_reset = False
         self.segments, self.syns, self.offered = [], [], set()
         # the acknowledgement that went, the furthest one
         self.told = None
+
+    def send_nothing(self):
+        """No SYN, no byte and no FIN went."""
+        self.initial, self.fin = None, None
+        # the position of the last byte that is acknowledged, and the byte at each behind it, as far as none is missing
+        self.released, self.stream = 0, {}
 
     def last(self):
         """The position of the last byte that went without a gap."""
@@ -88,19 +101,27 @@ class Judge:
         ahead = (number - initial - self.last()) % SPACE
         return max(0, self.last() + (ahead if ahead < HALF else ahead - SPACE))
 
+    def next(self):
+        """SND.NXT as a position, as far as it is known."""
+        return self.last() + 1 + (self.fin is not None)
+
     def came(self, seen):
-        if self.initial is not None and seen.has(ACK) and not seen.has(RST):
+        if seen.has(RST) and not self.is_acked:
+            self.send_nothing()
+        elif self.initial is not None and seen.has(ACK) and not seen.has(RST):
             self.release(self.nearest(seen.ack, self.initial))
         self.segments.append({(seen.seq + i) % SPACE for i in range(seen.numbers())})
         if seen.has(SYN):
             self.offered |= seen.kinds
-            if self.told is None:
+            if self.told is None or self.is_reset:
                 self.syns.append(seen.seq)
+        self.is_reset |= seen.has(RST)
 
     def release(self, position):
         """Forgets the bytes before the position that is acknowledged, unless that is beyond all that went."""
         last = self.last()
-        if position <= last + 1 + (self.fin is not None):
+        if position <= self.next():
+            self.is_acked |= position > 0
             for place in range(self.released + 1, min(position, last + 1)):
                 del self.stream[place]
                 self.released = place
@@ -129,7 +150,7 @@ class Judge:
     def learn(self, seen, place):
         if self.initial is None and seen.has(SYN) and not seen.has(RST):
             self.initial = seen.seq
-        if place is not None and place <= self.last() + 1:
+        if place is not None and place <= self.last() + 1 and not self.keeps_alive(seen, place):
             for position, byte in enumerate(seen.text, place):
                 if position > self.released:
                     self.stream.setdefault(position, byte)
@@ -140,8 +161,16 @@ class Judge:
             self.segments = [numbers for numbers in self.segments if not all(is_before(number, seen.ack) for number in numbers)]
 
     def goes_further(self, seen):
-        """Whether it has an acknowledgement that isn't less than the furthest one."""
-        return seen.has(ACK) and not seen.has(RST) and is_from(self.told, seen.ack)
+        """Whether it has an acknowledgement that isn't less than the furthest one, or begins after a SYN."""
+        return seen.has(ACK) and not seen.has(RST) and (is_from(self.told, seen.ack) or self.begins(seen.ack))
+
+    def begins(self, number):
+        """Whether each number between a SYN that came and this one came."""
+        return any(self.all_came((syn + 1) % SPACE, number) for syn in self.syns)
+
+    def keeps_alive(self, seen, place):
+        """Whether it is one byte right before SND.NXT (RFC 9293, 3.8.4)."""
+        return len(seen.text) == 1 and place == self.next() - 1 and not seen.has(SYN) and not seen.has(FIN)
 
     # ---- rules
 
@@ -160,12 +189,12 @@ class Judge:
         return "OtherInitial", f"a SYN at {seen.seq}, and the first at {self.initial} (RFC 9293, 3.4)"
 
     def bytes_stay(self, seen, place):
-        if place is None or all(self.stream.get(position, byte) == byte for position, byte in enumerate(seen.text, place)):
+        if place is None or self.keeps_alive(seen, place) or all(self.stream.get(position, byte) == byte for position, byte in enumerate(seen.text, place)):
             return None
         return "OtherByte", f"another byte where one went before, in the text at {seen.seq} (RFC 9293, 3.4)"
 
     def fin_stays(self, seen, place):
-        if place is None:
+        if place is None or self.keeps_alive(seen, place):
             return None
         end, behind = place + len(seen.text), self.last() + 1
         if self.fin is None:
@@ -180,8 +209,7 @@ class Judge:
     def acknowledgement(self, seen, place):
         if not seen.has(ACK) or seen.has(RST):
             return None
-        starts = [(syn + 1) % SPACE for syn in self.syns] if self.told is None else [self.told]
-        if any(self.all_came(start, seen.ack) for start in starts):
+        if (self.told is not None and self.all_came(self.told, seen.ack)) or self.begins(seen.ack):
             return None
         return "AckBeyond", f"an acknowledgement of {seen.ack}, up to which not all came (RFC 9293, 3.4)"
 
@@ -221,33 +249,51 @@ def octets(word):
     return bytes(map(int, word.split(".")))
 
 
-def findings(lines, is_complete=True):
-    """Of each segment of a log that breaks a rule its line, the rule's name and its words; and how many segments there are."""
-    judge, found, count = Judge(), [], 0
+def broken_by(judge, word, source, target, data):
+    """The rule that a segment breaks, as (name, words), or None. What came breaks none."""
+    try:
+        seen = Seen(source, target, data)
+        if word == "went" and seen.fault:
+            raise seen.fault
+    except Malformed as fault:
+        return ("Unreadable", f"no segment: {fault} (RFC 9293, 3.1)") if word == "went" else None
+    return judge.went(seen) if word == "went" else judge.came(seen)
+
+
+def judged(lines, is_complete=True):
+    """Of each segment of a log that breaks a rule its line, the rule's name and its words; the lines of wrong checksums that are a
+    note; and how many segments there are, and how many of them went."""
+    judge, found, notes, count, sent = Judge(), [], [], 0, 0
     for number, line in enumerate(lines, 1):
         if line == "" or line.startswith("#"):
             continue
         count += 1
         word, source, target, digits = line.split(" ")
+        sent += word == "went"
         data = b"" if digits == "-" else bytes.fromhex(digits)
-        try:
-            seen = Seen(octets(source), octets(target), data)
-        except Malformed as fault:
-            broken = ("Unreadable", f"no segment: {fault} (RFC 9293, 3.1)") if word == "went" else None
-        else:
-            broken = judge.went(seen) if word == "went" else judge.came(seen)
-        if broken and (is_complete or broken[0] not in AGAINST_CAME):
+        broken = broken_by(judge, word, octets(source), octets(target), data)
+        if broken and not is_complete and WRONG_SUM in broken[1]:
+            notes.append(number)
+        elif broken and (is_complete or broken[0] not in AGAINST_CAME):
             found.append((number, *broken))
+    return found, notes, count, sent
+
+
+def findings(lines, is_complete=True):
+    """The findings of a log alone, and how many segments there are."""
+    found, _, count, _ = judged(lines, is_complete)
     return found, count
 
 
 def report(lines, is_complete=True):
     """What `tcpjudge` writes of a log, and its status."""
-    found, count = findings(lines, is_complete)
+    found, notes, count, sent = judged(lines, is_complete)
     # The first of each rule has its line.
     firsts = {rule: f"line {number}: {words}\n" for number, rule, words in reversed(found)}
     text = "".join(firsts[rule] for rule in dict.fromkeys(rule for _, rule, _ in found))
-    return f"{text}segments {count} findings {len(found)}\n", int(bool(found))
+    if notes:
+        text += f"note: wrong checksums: {len(notes)}, the first in line {notes[0]} (RFC 9293, 3.1)\n"
+    return f"{text}segments {count} findings {len(found)}\n", int(bool(found)) if sent else 2
 
 
 if __name__ == "__main__":

@@ -23,7 +23,7 @@ compared() {
 compared tcpkit replay.py 100
 compared tcpkit decode.py 20
 compared test_one_end one_end.py 200
-compared test_buffers buffers.py --check 2000
+compared test_buffers buffers.py --check 6000
 python3 turns.py 1500
 passed=$((passed + 1))
 echo "differential: $passed passed, $left_out left out"

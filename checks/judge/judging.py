@@ -1,4 +1,5 @@
-"""The judge on captures of stacks that nobody here wrote, on planted faults, on captures that are cut, and on random logs.
+"""The judge on rows from the RFCs, on captures of stacks that nobody here wrote, on planted faults, on captures that are cut, and on
+random logs.
 
     judging.py TCPJUDGE [--netstack PROGRAM] [--peers FOLDER] [--short]
 
@@ -21,6 +22,7 @@ from twice import Differs, Judges, rules
 
 import capture
 import planting
+import rfc_rows
 import stacks
 from conversation import end_log, world_logs
 
@@ -136,6 +138,7 @@ def read_words():
 def main():
     words, cases = read_words(), Cases()
     judges = Judges(words.tcpjudge)
+    rfc_rows.judge_rows(cases, judges)
     with tempfile.TemporaryDirectory() as name:
         folder = pathlib.Path(name)
         folder.chmod(0o777)

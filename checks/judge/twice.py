@@ -37,7 +37,7 @@ class Judges:
         return second
 
     def accuses(self, lines, is_complete=True):
-        return self.report(lines, is_complete)[1] != 0
+        return self.report(lines, is_complete)[1] == 1
 
 
 def rules(lines, is_complete=True):

@@ -1,6 +1,7 @@
 -- A FINDING in words: the rule that a segment breaks, the numbers that show it, and the section of the rule.
-use Rattle.std.specs.Prelude.{ℕ, Bool, nat_le, List, [], ◌∷◌, ◌++◌, codes, decimal}
+use Rattle.std.specs.Prelude.{ℕ, Bool, true, false, nat_le, List, [], ◌∷◌, ◌++◌, codes, decimal}
 use Rattle.tcp_wire.specs.Refusals.{decode_error_text}
+use Rattle.tcp_wire.specs.declared.fault.DecodeError.TheVariants.{BadChecksum}
 use Rattle.tcp_judge.specs.declared.finding.Finding.{Finding}
 use Rattle.tcp_judge.specs.declared.finding.Finding.TheVariants.{Unreadable, SynOption, GreatShift, NoAck, OtherInitial, OtherByte, BeyondFin, AckBeyond, Unoffered, Unpermitted, BlockBeyond}
 
@@ -20,6 +21,11 @@ rule_number (BlockBeyond left right) = 10
 
 abbrev pub is_against_came : Finding → Bool
 is_against_came finding = nat_le 7 (rule_number finding)
+
+-- a wrong checksum
+abbrev pub is_damage : Finding → Bool
+is_damage (Unreadable BadChecksum) = true
+is_damage finding = false
 
 -- THE WORDS of form,
 abbrev pub unreadable_text : List ℕ → List ℕ

@@ -1,7 +1,7 @@
 //! A finding in words.
 ghost use Rattle.std.specs.Prelude.{◌≡◌, ◌++◌, OnOk, string_bytes};
 ghost use Rattle.tcp_wire.specs.Refusals.{decode_error_text};
-ghost use Rattle.kit_judge.specs.Findings.{rule_number, is_against_came, unreadable_text, initial_text, byte_text, fin_text, ack_text, block_text, finding_text, finding_line};
+ghost use Rattle.kit_judge.specs.Findings.{rule_number, is_against_came, is_damage, unreadable_text, initial_text, byte_text, fin_text, ack_text, block_text, finding_text, finding_line};
 
 use std::alloc::{AllocError, Allocator};
 use tcp_judge::Finding;
@@ -34,6 +34,16 @@ pub(crate) fn is_against_came(finding: Finding) -> bool
     ensures { result ≡ is_against_came finding }
 {
     rule_of(finding) >= FIRST_AGAINST_CAME
+}
+
+/// Whether it is a wrong checksum, which damage on the path makes too.
+pub(crate) fn is_damage(finding: Finding) -> bool
+    ensures { result ≡ is_damage finding }
+{
+    match finding {
+        Finding::Unreadable(DecodeError::BadChecksum) => true,
+        _ => false,
+    }
 }
 
 fn push_unreadable<A: Allocator>(text: &mut String<A>, fault: DecodeError) -> Result<(), AllocError>

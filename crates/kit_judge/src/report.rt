@@ -1,7 +1,7 @@
 //! The report of a log.
-ghost use Rattle.std.specs.Prelude.{◌≡◌, ◌++◌, [], IfOk, OnOk, string_bytes};
+ghost use Rattle.std.specs.Prelude.{◌≡◌, ◌++◌, [], not, IfOk, OnOk, string_bytes};
 ghost use Rattle.kit_judge.specs.Findings.{finding_lines};
-ghost use Rattle.kit_judge.specs.Verdict.{unless_among, with_rule, firsts, shown, counts_line, report_content, report_of_findings, report_of, Reports};
+ghost use Rattle.kit_judge.specs.Verdict.{unless_among, with_rule, firsts, shown, note_text, notes_line, counts_line, found_content, report_content, report_of_findings, report_of, sends_any, Reports};
 
 use crate::error::LogError;
 use crate::finding::{push_finding, rule_of};
@@ -22,10 +22,12 @@ pub enum Shown {
 /// The report of a log.
 #[derive(Debug, Drop)]
 pub struct Report<A: Allocator = Global> {
-    /// A line for each finding that is shown, and then the counts of all segments and all findings.
+    /// A line for each finding that is shown, one for all notes, and then the counts of all segments and all findings.
     pub text: String<A>,
-    /// Whether no rule is broken.
+    /// Whether the end sent something, and no rule is broken.
     pub is_clean: bool,
+    /// Whether the log has no segment that the end sent, so that nothing was judged.
+    pub is_empty: bool,
 }
 
 /// Appends the lines of all findings.
@@ -75,6 +77,31 @@ fn push_firsts<A: Allocator + Copy>(
     Ok(())
 }
 
+/// Appends the number of the notes and the line of the first.
+#[tactic(auto, unfolding(crate::specs::Verdict::note_text))]
+fn push_note<A: Allocator>(
+    text: &mut String<A>,
+    count: usize,
+    first: usize,
+) -> Result<(), AllocError>
+    ensures { OnOk result (string_bytes text.new ≡ string_bytes text.old ++ note_text count first) }
+{
+    write!(
+        text,
+        "note: wrong checksums: {count}, the first in line {first} (RFC 9293, 3.1)\n"
+    )
+}
+
+/// Appends the line of the notes, where there are any.
+fn push_notes<A: Allocator>(text: &mut String<A>, notes: &[usize]) -> Result<(), AllocError>
+    ensures { OnOk result (string_bytes text.new ≡ string_bytes text.old ++ notes_line notes.now) }
+{
+    if notes.is_empty() {
+        return Ok(());
+    }
+    push_note(text, notes.len(), notes[0])
+}
+
 /// Appends the counts.
 #[tactic(auto, unfolding(crate::specs::Verdict::counts_line))]
 fn push_counts<A: Allocator>(
@@ -93,32 +120,36 @@ fn report_of<A: Allocator + Copy>(
     findings: &Findings<A>,
     shown: Shown,
 ) -> Result<Report<A>, AllocError>
-    ensures { IfOk result (λ report. report_content report ≡ report_of_findings shown findings.now.segments findings.now.found.items) }
+    ensures report { IfOk result (λ report. report_content report ≡ report_of_findings shown (found_content findings.now)) }
+    ensures empty { IfOk result (λ report. report.is_empty ≡ not findings.now.any_sent) }
 {
     let mut text = String::new(alloc);
     match shown {
         Shown::FirstOfRule => push_firsts(alloc, &mut text, &findings.found)?,
         Shown::Each => push_each(&mut text, &findings.found)?,
     }
+    push_notes(&mut text, &findings.notes)?;
     let count = findings.found.len();
     push_counts(&mut text, findings.segments, count)?;
     Ok(Report {
         text,
-        is_clean: count == 0,
+        is_clean: findings.any_sent && count == 0,
+        is_empty: !findings.any_sent,
     })
 }
 
 /// The report of a log of any bytes: a line for each segment that was sent and breaks a rule, or for the first of each
 /// rule, and then the counts. `is_complete` says that nothing that came is missing: only then rules are tried against
-/// what came. `NoMemory` can come at any line.
-#[tactic(auto, unfolding(crate::specs::Verdict::report_of))]
+/// what came, and a wrong checksum is a finding; else it is a note. `NoMemory` can come at any line.
+#[tactic(auto, unfolding(crate::specs::Verdict::report_of, crate::specs::Verdict::sends_any))]
 pub fn judge_text<A: Allocator + Copy>(
     alloc: A,
     text: &[u8],
     is_complete: bool,
     shown: Shown,
 ) -> Result<Report<A>, LogError>
-    ensures { Reports result (report_of shown is_complete text.now) }
+    ensures report { Reports result (report_of shown is_complete text.now) }
+    ensures empty { IfOk result (λ report. report.is_empty ≡ not (sends_any text.now)) }
 {
     let lines = match Lines::new(text) {
         Ok(lines) => lines,

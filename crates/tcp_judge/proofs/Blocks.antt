@@ -134,7 +134,7 @@ syn-beyond told spans mss None false = refl
 syn-beyond told spans mss (Some n) true = refl
 syn-beyond told spans mss (Some n) false = refl
 
-report-none : (h : Heard) (v : Content) → lacks_permission h v ≡ false → options_finding (told_after h.told v) h.spans v.options ≡ None
+report-none : (h : Heard) (v : Content) → lacks_permission h v ≡ false → options_finding (told_after h v) h.spans v.options ≡ None
     → report_finding h v ≡ None
 report-none h v permitted came = rw (none-found (lacks_permission h v) Unpermitted permitted) came
 
@@ -142,7 +142,7 @@ plain-report : (s : State) (h : Heard) (due : Due) → Offered h.scaling h.sack 
     → KeptCame h.spans s.receiving.next s.receiving.inbox.held → report_finding h (plain_segment s due) ≡ None
 plain-report s h due offered small came =
     let list = map (block_numbers s.receiving.next) (blocks s.receiving.inbox) in
-    let told = told_after h.told (plain_segment s due) in
+    let told = told_after h (plain_segment s due) in
     report-none h (plain_segment s due)
     (unless (any_report (sack_options (blocks_to_report s))) (not h.sack) (λ is. ap not (offered.sack_is (in-use s.link.sack list is))))
     (none-in_options told h.spans (blocks_to_report s)
@@ -163,5 +163,5 @@ due-report s accepted closed h Reset out a offered small came = waiting-report s
 due-report s accepted closed h Syn out a offered small came =
     report-none h (syn_segment s)
     (ap (λ b. b && not h.sack) (syn-reports s.config.mss (shift_offered s) (is_sack_offered s)))
-    (syn-beyond (told_after h.told (syn_segment s)) h.spans s.config.mss (shift_offered s) (is_sack_offered s))
+    (syn-beyond (told_after h (syn_segment s)) h.spans s.config.mss (shift_offered s) (is_sack_offered s))
 due-report s accepted closed h other out a offered small came = plain-report s h other offered small (came (not-gone s accepted closed out.kind.knows a))

@@ -16,6 +16,7 @@ use Rattle.tcp_judge.specs.Known.{Known, nothing_known}
 use Rattle.tcp_judge.specs.Log.{PassageContent, Came, Went, went_from, log_of, log_alone}
 use Rattle.tcp_judge.specs.Judgement.{finding_read, known_read, known_came, first_finding, placed_or, IsClean}
 use Rattle.tcp_judge.specs.Rules.{form_finding, heard_finding, finding_of}
+use Rattle.tcp_judge.specs.Taken.{taken_of}
 use Rattle.tcp_judge.specs.Law.{heard_read, heard_went, IsSaidRight, AllSaidRight}
 use Rattle.tcp_judge.proofs.Runs.{said-right}
 use Rattle.tcp_judge.proofs.Streams.{IsKnown, keeps-positions, known-kept, came-kept}
@@ -57,14 +58,14 @@ module _ (isn : ℕ) (accepted : List ℕ) (closed : Bool) (small : isn < 2 ^ 32
       (record { finding = keeps-rules k v h form right users.2; known = known-kept isn accepted closed small short k v h users.2 })
 
   -- what came leaves what is known of the stream
-  came-known : (k : Known) (r : Result Content DecodeError) → IsKnown isn accepted k → IsKnown isn accepted (known_came k r)
-  came-known k (Ok v) h = came-kept isn accepted closed small short k v h
-  came-known k (Err fault) h = h
+  came-known : (k : Known) (taken : Option Content) → IsKnown isn accepted k → IsKnown isn accepted (known_came k taken)
+  came-known k (Some v) h = came-kept isn accepted closed small short k v h
+  came-known k None h = h
 
-  came-heard : (k : Known) (r : Result Content DecodeError) (log : List PassageContent) → AllSaidRight (heard_read k.heard r) log
-      → AllSaidRight (known_came k r).heard log
-  came-heard k (Ok v) log h = h
-  came-heard k (Err fault) log h = h
+  came-heard : (k : Known) (taken : Option Content) (log : List PassageContent) → AllSaidRight (heard_read k.heard taken) log
+      → AllSaidRight (known_came k taken).heard log
+  came-heard k (Some v) log h = h
+  came-heard k None log h = h
 
   went-heard : (k : Known) (r : Result Content DecodeError) (log : List PassageContent) → AllSaidRight (heard_went k.heard r) log
       → AllSaidRight (known_read k r).heard log
@@ -76,8 +77,8 @@ module _ (isn : ℕ) (accepted : List ℕ) (closed : Bool) (small : isn < 2 ^ 32
       → AllWent (IsUsers isn accepted closed) log → first_finding k place log ≡ None
   clean-log [] k place h said users = refl
   clean-log (Came src dst bytes ∷ log) k place h said users =
-      let r = decode_answer src dst bytes in
-      clean-log log (known_came k r) (suc place) (came-known k r h) (came-heard k r log said) users
+      let taken = taken_of src dst bytes in
+      clean-log log (known_came k taken) (suc place) (came-known k taken h) (came-heard k taken log said) users
   clean-log (Went src dst bytes ∷ log) k place h said users =
       let r = decode_answer src dst bytes in
       let past = past-segment k src dst bytes h said.0 users.0 in

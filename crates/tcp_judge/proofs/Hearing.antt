@@ -26,6 +26,7 @@ use Rattle.tcp_replay.proofs.AloneFeeds.{Feeds, feeds-calls}
 use Rattle.tcp_replay.proofs.SoloRuns.{party_in, next_irs, seq_read, IsSynRead, BringsSyn, read-arrival, solo-step, feeds-arrived, fed-next}
 use Rattle.tcp_judge.specs.Heard.{Heard, covers, has_come, spans_of, syns_of, after_came, any_scale, any_permission}
 use Rattle.tcp_judge.specs.Law.{heard_read}
+use Rattle.tcp_judge.specs.Taken.{taken_as, taken_of}
 use Rattle.tcp_judge.proofs.Finishes.{Finishes, nothing-new, finishes-calls, finishes-judgement}
 use Rattle.tcp_judge.proofs.Links.{Links, links-calls, links-judgement, Offered, offered-link}
 use Rattle.tcp_judge.proofs.Numbers.{come-more, come-last, HasSyn, syn-more, syn-last}
@@ -39,31 +40,31 @@ short-text v valid = omega (arith, valid.most)
 
 -- after an event
 abbrev pub heard_past : Heard → SoloContent → Heard
-heard_past h (Arrive src dst bytes) = heard_read h (decode_answer src dst bytes)
+heard_past h (Arrive src dst bytes) = heard_read h (taken_of src dst bytes)
 heard_past h other = h
 
-read-more : (h : Heard) (r : Result Content DecodeError) (n : ℕ) → has_come h.spans n ≡ true → has_come (heard_read h r).spans n ≡ true
-read-more h (Ok v) n e = come-more h.spans (spans_of v) n e
-read-more h (Err fault) n e = e
+read-more : (h : Heard) (taken : Option Content) (n : ℕ) → has_come h.spans n ≡ true → has_come (heard_read h taken).spans n ≡ true
+read-more h (Some v) n e = come-more h.spans (spans_of v) n e
+read-more h None n e = e
 
 pub spans-more : (h : Heard) (e : SoloContent) (n : ℕ) → has_come h.spans n ≡ true → has_come (heard_past h e).spans n ≡ true
-spans-more h (Arrive src dst bytes) n e = read-more h (decode_answer src dst bytes) n e
+spans-more h (Arrive src dst bytes) n e = read-more h (taken_of src dst bytes) n e
 spans-more h other n e = e
 
-read-syns : (h : Heard) (r : Result Content DecodeError) (n : ℕ) → HasSyn h.syns n → HasSyn (heard_read h r).syns n
-read-syns h (Ok v) n e = syn-more h.syns (syns_of h.told v) n e
-read-syns h (Err fault) n e = e
+read-syns : (h : Heard) (taken : Option Content) (n : ℕ) → HasSyn h.syns n → HasSyn (heard_read h taken).syns n
+read-syns h (Some v) n e = syn-more h.syns (syns_of h.told h.reset v) n e
+read-syns h None n e = e
 
 pub syns-more : (h : Heard) (e : SoloContent) (n : ℕ) → HasSyn h.syns n → HasSyn (heard_past h e).syns n
-syns-more h (Arrive src dst bytes) n e = read-syns h (decode_answer src dst bytes) n e
+syns-more h (Arrive src dst bytes) n e = read-syns h (taken_of src dst bytes) n e
 syns-more h other n e = e
 
-read-told : (h : Heard) (r : Result Content DecodeError) → (heard_read h r).told ≡ h.told
-read-told h (Ok v) = refl
-read-told h (Err fault) = refl
+read-told : (h : Heard) (taken : Option Content) → (heard_read h taken).told ≡ h.told
+read-told h (Some v) = refl
+read-told h None = refl
 
 pub told-same : (h : Heard) (e : SoloContent) → (heard_past h e).told ≡ h.told
-told-same h (Arrive src dst bytes) = read-told h (decode_answer src dst bytes)
+told-same h (Arrive src dst bytes) = read-told h (taken_of src dst bytes)
 told-same h other = refl
 
 -- THE NUMBERS of a segment's text, and of the FIN behind it
@@ -91,12 +92,12 @@ fin-heard h v small short told =
     come-here h v (length v.text) small (omega (arith, one)) short
 
 pub byte-read : (h : Heard) (v : Content) (src dst bytes : List ℕ) → AreBytes bytes → decode_answer src dst bytes ≡ Ok v → (i byte : ℕ)
-    → slice_get v.text i ≡ Some byte → has_come (heard_read h (decode_answer src dst bytes)).spans (number v.seq i) ≡ true
+    → slice_get v.text i ≡ Some byte → has_come (heard_read h (taken_of src dst bytes)).spans (number v.seq i) ≡ true
 byte-read h v src dst bytes fits read i byte is =
     let valid = decoded_valid src dst v bytes fits read in
     let inside = within v.text i byte is in
     let more : length v.text ≤ count_numbers v = omega arith in
-    subst (λ (r : Result Content DecodeError). has_come (heard_read h r).spans (number v.seq i) ≡ true) (sym read)
+    subst (λ (r : Result Content DecodeError). has_come (heard_read h (taken_as bytes r)).spans (number v.seq i) ≡ true) (sym read)
     (come-here h v i valid.seq (omega (arith, inside, more)) (omega (arith, inside, short-text v valid)))
 
 -- EACH EVENT brings bytes, of which P holds where it does of those of a text that comes
@@ -118,7 +119,7 @@ module _ (P : SoloContent → ℕ → ℕ → Type 0)
 
 finishes-reading : (h : Heard) (s : State) (accepted : List ℕ) (closed : Bool) (src dst bytes : List ℕ) (r : Result Content DecodeError) → AreBytes bytes
     → decode_answer src dst bytes ≡ r → IsAlone s accepted closed
-    → Finishes (λ f. has_come (heard_read h r).spans f ≡ true) s.receiving (after_reading s src dst r).receiving
+    → Finishes (λ f. has_come (heard_read h (taken_as bytes r)).spans f ≡ true) s.receiving (after_reading s src dst r).receiving
 finishes-reading h s accepted closed src dst bytes (Ok v) fits e a =
     let valid = decoded_valid src dst v bytes fits e in
     finishes-judgement (λ f. has_come (after_came h v).spans f ≡ true) s src dst v accepted closed a
@@ -154,14 +155,14 @@ offered-more scaling sack more more' link h = record {
   sack_is = λ e. ap (λ b. b || more') (h.sack_is e);
 }
 
-read-offers : (h : Heard) (r : Result Content DecodeError) (link : Link) → Offered h.scaling h.sack link
-    → Offered (heard_read h r).scaling (heard_read h r).sack link
-read-offers h (Ok v) link is = offered-more h.scaling h.sack _ _ link is
-read-offers h (Err fault) link is = is
+read-offers : (h : Heard) (taken : Option Content) (link : Link) → Offered h.scaling h.sack link
+    → Offered (heard_read h taken).scaling (heard_read h taken).sack link
+read-offers h (Some v) link is = offered-more h.scaling h.sack _ _ link is
+read-offers h None link is = is
 
 pub offers-more : (h : Heard) (e : SoloContent) (link : Link) → Offered h.scaling h.sack link
     → Offered (heard_past h e).scaling (heard_past h e).sack link
-offers-more h (Arrive src dst bytes) link is = read-offers h (decode_answer src dst bytes) link is
+offers-more h (Arrive src dst bytes) link is = read-offers h (taken_of src dst bytes) link is
 offers-more h other link is = is
 
 offered-new : (h : Heard) (v : Content) (link : Link) → has syn v.flags ≡ true → Offered (any_scale v.options) (any_permission v.options) link
@@ -174,7 +175,7 @@ offered-new h v link is offered = record {
 }
 
 links-reading : (h : Heard) (s : State) (src dst bytes : List ℕ) (r : Result Content DecodeError)
-    → Links (Offered (heard_read h r).scaling (heard_read h r).sack) s (after_reading s src dst r)
+    → Links (Offered (heard_read h (taken_as bytes r)).scaling (heard_read h (taken_as bytes r)).sack) s (after_reading s src dst r)
 links-reading h s src dst bytes (Ok v) =
     links-judgement (Offered (after_came h v).scaling (after_came h v).sack) s src dst v
     (λ is. offered-new h v (link_of s.config v.options) is (offered-link s.config v.options))
@@ -190,15 +191,17 @@ links-by x e h fits alone =
     (links-reading h x.endpoint src dst bytes (decode_answer src dst bytes))))
 
 -- the SYN that is taken came
-syn-heard : (h : Heard) (r : Result Content DecodeError) → h.told ≡ None → IsSynRead r → HasSyn (heard_read h r).syns (seq_read r)
-syn-heard h (Err fault) silent is = absurd is
-syn-heard h (Ok v) silent is =
-    subst (λ (told : Option Seq). HasSyn (h.syns ++ syns_of told v) v.seq) (sym silent)
-    (subst (λ (b : Bool). HasSyn (h.syns ++ (if b then record { 0 = v.seq } ∷ [] else [])) v.seq) (sym is) (syn-last h.syns (record { 0 = v.seq })))
+syn-heard : (h : Heard) (bytes : List ℕ) (r : Result Content DecodeError) → h.told ≡ None → IsSynRead r
+    → HasSyn (heard_read h (taken_as bytes r)).syns (seq_read r)
+syn-heard h bytes (Err fault) silent is = absurd is
+syn-heard h bytes (Ok v) silent is =
+    subst (λ (told : Option Seq). HasSyn (h.syns ++ syns_of told h.reset v) v.seq) (sym silent)
+    (subst (λ (b : Bool). HasSyn (h.syns ++ (if b && true then record { 0 = v.seq } ∷ [] else [])) v.seq) (sym is)
+    (syn-last h.syns (record { 0 = v.seq })))
 
 pub syn-new : (h : Heard) (s : State) (irs : ℕ) (e : SoloContent) → h.told ≡ None → BringsSyn e → s.receiving.opened ≡ false
     → HasSyn (heard_past h e).syns (next_irs s irs e)
 syn-new h s irs (Arrive src dst bytes) silent is shut =
-    subst (HasSyn (heard_read h (decode_answer src dst bytes)).syns) (ap (λ (b : Bool). if b then irs else seq_read (decode_answer src dst bytes)) (sym shut))
-    (syn-heard h (decode_answer src dst bytes) silent is)
+    subst (HasSyn (heard_read h (taken_of src dst bytes)).syns) (ap (λ (b : Bool). if b then irs else seq_read (decode_answer src dst bytes)) (sym shut))
+    (syn-heard h bytes (decode_answer src dst bytes) silent is)
 syn-new h s irs other silent is shut = absurd is

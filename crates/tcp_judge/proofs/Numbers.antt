@@ -1,10 +1,9 @@
 -- NUMBERS THAT CAME, so many from one on.
 use Rattle.std.proofs.Common.{◌≡◌, ℕ, zero, suc, ◌+◌, ◌<◌, ◌≤◌, List, [], ◌∷◌, ◌++◌, refl, sym, ◌-◌, ◌∙◌, ap, subst, arith, ⊎_elim, inl, inr}
 use Rattle.std.specs.Prelude.{◌⊎◌, Bool, true, false, ◌&&◌, ◌||◌}
-use Rattle.std.proofs.Common.{◌^◌, length, take, get_or}
+use Rattle.std.proofs.Common.{◌^◌, length, take, drop, get_or}
 use Rattle.std.specs.Prelude.{nat_le, not, if◌then◌else◌}
-use Rattle.std.proofs.Math.Seq.{take-suc}
-use Rattle.std.proofs.lemmas.Bool.{cases_lt, false≢true, and_parts, ltb-true, leb-true, le-ltb}
+use Rattle.std.proofs.lemmas.Bool.{cases_lt, false≢true, and_parts, ltb-true, leb-true, le-ltb, lt-ltb}
 use Rattle.tcp_numbers.specs.declared.seq.Seq.{Seq}
 use Rattle.tcp_wire.specs.Position.{number, distance}
 use Rattle.tcp_replay.proofs.Lists.{by_test}
@@ -47,6 +46,10 @@ or-more : (a b b' : Bool) → (b ≡ true → b' ≡ true) → a || b ≡ true �
 or-more true b b' f e = refl
 or-more false b b' f e = f e
 
+or-neither : (a b b' : Bool) → a || b ≡ false → (b ≡ false → b' ≡ false) → a || b' ≡ false
+or-neither true b b' e f = absurd (false≢true (sym e))
+or-neither false b b' e f = f e
+
 or-second : (a b : Bool) → b ≡ true → a || b ≡ true
 or-second true b e = refl
 or-second false b e = e
@@ -59,29 +62,33 @@ pub come-last : (spans : List (Seq × ℕ)) (span : Seq × ℕ) (n : ℕ) → co
 come-last [] span n e = ap (λ b. b || false) e
 come-last (first ∷ spans) span n e = or-second (covers n first) (has_come (spans ++ span ∷ []) n) (come-last spans span n e)
 
--- FROM THE LAST SEGMENT ON: what it didn't take is looked for in those before it
-come-without : (spans : List (Seq × ℕ)) (span : Seq × ℕ) (n : ℕ) → covers n span ≡ false → has_come (spans ++ span ∷ []) n ≡ has_come spans n
-come-without [] span n e = ap (λ b. b || false) e
-come-without (first ∷ spans) span n e = ap (λ b. covers n first || b) (come-without spans span n e)
+-- what has the number is behind an index or before it
+pub come-behind : (spans : List (Seq × ℕ)) (k n : ℕ) → has_come (drop k spans) n ≡ true → has_come spans n ≡ true
+come-behind spans zero n e = e
+come-behind [] (suc k) n e = e
+come-behind (span ∷ spans) (suc k) n e = or-second (covers n span) (has_come spans n) (come-behind spans k n e)
 
-one-more : (spans : List (Seq × ℕ)) (i j : ℕ) (d : Seq × ℕ) → j + 1 + i ≡ length spans → take (length spans - i) spans ≡ take j spans ++ get_or spans j d ∷ []
-one-more spans i j d at =
-    let here : length spans - i ≡ suc j = omega arith in
-    ap (λ k. take k spans) here ∙ take-suc spans j d (omega arith)
+pub come-before : (spans : List (Seq × ℕ)) (k n : ℕ) → has_come (take k spans) n ≡ true → has_come spans n ≡ true
+come-before spans zero n e = absurd (false≢true e)
+come-before [] (suc k) n e = e
+come-before (span ∷ spans) (suc k) n e = or-more (covers n span) (has_come (take k spans) n) (has_come spans n) (come-before spans k n) e
 
-pub come-before : (spans : List (Seq × ℕ)) (i n : ℕ) (d : Seq × ℕ) → i < length spans → covers n (get_or spans (length spans - 1 - i) d) ≡ false
-    → has_come (take (length spans - i) spans) n ≡ has_come (take (length spans - (i + 1)) spans) n
-come-before spans i n d inside misses =
-    let j = length spans - 1 - i in
-    let next : j ≡ length spans - (i + 1) = omega arith in
-    ap (λ (xs : List (Seq × ℕ)). has_come xs n) (one-more spans i j d (omega arith))
-    ∙ come-without (take j spans) (get_or spans j d) n misses ∙ ap (λ k. has_come (take k spans) n) next
+pub come-neither : (spans : List (Seq × ℕ)) (k n : ℕ) → has_come (drop k spans) n ≡ false → has_come (take k spans) n ≡ false → has_come spans n ≡ false
+come-neither spans zero n e f = e
+come-neither [] (suc k) n e f = e
+come-neither (span ∷ spans) (suc k) n e f = or-neither (covers n span) (has_come (take k spans) n) (has_come spans n) f (come-neither spans k n e)
 
-pub come-here : (spans : List (Seq × ℕ)) (i n : ℕ) (d : Seq × ℕ) → i < length spans → covers n (get_or spans (length spans - 1 - i) d) ≡ true
-    → has_come (take (length spans - i) spans) n ≡ true
-come-here spans i n d inside hit =
-    let j = length spans - 1 - i in
-    ap (λ (xs : List (Seq × ℕ)). has_come xs n) (one-more spans i j d (omega arith)) ∙ come-last (take j spans) (get_or spans j d) n hit
+-- FROM A NUMBER of a span on each up to its end came
+pub covers-on : (span : Seq × ℕ) (n j : ℕ) → span.1 < 2 ^ 32 → span.0.0 < 2 ^ 32 → n < 2 ^ 32 → j < span.1 - distance span.0.0 n
+    → covers (number n j) span ≡ true
+covers-on span n j size first small inside =
+    let on : distance span.0.0 (number n j) ≡ distance span.0.0 n + j = omega (arith, size, first, small, inside) in
+    lt-ltb (distance span.0.0 (number n j)) span.1 (omega (arith, on, inside))
+
+pub come-at : (spans : List (Seq × ℕ)) (i n : ℕ) (d : Seq × ℕ) → i < length spans → covers n (get_or spans i d) ≡ true → has_come spans n ≡ true
+come-at [] i n d inside e = absurd (omega arith)
+come-at (span ∷ spans) zero n d inside e = ap (λ b. b || has_come spans n) e
+come-at (span ∷ spans) (suc i) n d inside e = or-second (covers n span) (has_come spans n) (come-at spans i n d (omega arith) e)
 
 -- WHAT IS PASSED covers no number that is less than 2^31 ahead of the acknowledgement,
 ahead-not_covered : (span : Seq × ℕ) (told n : ℕ) → told < 2 ^ 32 → distance told n < 2 ^ 31 → is_passed told span ≡ true → covers n span ≡ false

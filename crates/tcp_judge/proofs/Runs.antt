@@ -1,7 +1,7 @@
 -- ONE END after every list of events, against what a judge heard of it: each segment that it emits is of form, and acknowledges what
 -- came.
 use Rattle.std.proofs.Common.{◌≡◌, ℕ, ◌+◌, List, [], ◌∷◌, ◌++◌, refl, sym, ◌∙◌, ap, subst, ⊎_elim, arith, ◌<◌, ◌≤◌, ◌^◌, length, Bool, true, false}
-use Rattle.std.proofs.Common.{if◌then◌else◌, Option, Some, None, IfSome, option_map, Result, Ok, is_some, not, ◌&&◌}
+use Rattle.std.proofs.Common.{if◌then◌else◌, Option, Some, None, IfSome, option_map, Result, Ok, is_some, not, ◌&&◌, ◌||◌}
 use Rattle.std.specs.List.{AllByRecursion}
 use Rattle.std.proofs.lemmas.Bool.{false≢true, cond_both, and_parts, cases_lt}
 use Rattle.tcp_wire.specs.Decoded.{decode_answer}
@@ -28,12 +28,12 @@ use Rattle.tcp_replay.proofs.Lists.{by_test, one_if}
 use Rattle.tcp_replay.proofs.Alone.{alone-new}
 use Rattle.tcp_replay.proofs.AloneCalls.{IsAloneIn}
 use Rattle.tcp_replay.proofs.AloneEmissions.{GoesOutAlone, ack-alone-goes, due-alone}
-use Rattle.tcp_replay.proofs.Emissions.{syn-opened, reset-bit, due-bits, waiting-bit}
+use Rattle.tcp_replay.proofs.Emissions.{syn-opened, due-bits, waiting-bit}
 use Rattle.tcp_replay.proofs.Feeds.{ByNumber}
 use Rattle.tcp_numbers.specs.declared.seq.Seq.{Seq}
 use Rattle.tcp_replay.proofs.SoloRuns.{party_in, alone-step}
 use Rattle.tcp_replay.proofs.Phases.{handshake-knows}
-use Rattle.tcp_judge.specs.Heard.{Heard, nothing_heard, has_come, goes_on, is_of_came, is_from, tells, tells_beyond, goes_further, without_passed}
+use Rattle.tcp_judge.specs.Heard.{Heard, nothing_heard, has_come, goes_on, begins, is_of_came, is_further, tells, tells_beyond, goes_further, without_passed}
 use Rattle.tcp_judge.specs.Heard.{after_telling, after_went}
 use Rattle.tcp_judge.specs.Heard.{any_scale, answers_more, oversteps}
 use Rattle.tcp_judge.specs.Log.{PassageContent, went_from, log_of, log_alone}
@@ -100,12 +100,12 @@ told-right : (x : SoloState) (h : Heard) (irs k since : ℕ) (v : Content) (told
     → (told ≡ None → HasSyn h.syns irs) → goes_on h.spans (number irs since) v.ack ≡ true → is_of_came told h.spans h.syns v.ack ≡ true
 told-right x h irs k since v None first has_syn goes =
     begins-at h.spans h.syns irs v.ack (has_syn refl) (subst (λ (n : ℕ). goes_on h.spans (number irs n) v.ack ≡ true) first goes)
-told-right x h irs k since v (Some a) before has_syn goes = subst (λ (n : ℕ). goes_on h.spans n v.ack ≡ true) (sym before.number_is) goes
+told-right x h irs k since v (Some a) before has_syn goes =
+    ap (λ (b : Bool). b || begins h.spans h.syns v.ack) (subst (λ (n : ℕ). goes_on h.spans n v.ack ≡ true) (sym before.number_is) goes)
 
 -- AFTER IT each number from it on is known to have come
-goes-told : (last : Option Seq) (v : Content) → goes_further last v ≡ true → tells v ≡ true
-goes-told None v e = e
-goes-told (Some a) v e = (and_parts (tells v) (is_from a.0 v.ack) e).0
+goes-told : (h : Heard) (v : Content) → goes_further h v ≡ true → tells v ≡ true
+goes-told h v e = (and_parts (tells v) (is_further h.told h.spans h.syns v.ack) e).0
 
 after-telling : (h : Heard) (x : SoloState) (irs k : ℕ) (v : Content) → Hears h x irs k → Tells x.endpoint v → Hears (after_telling h v.ack) x irs k
 after-telling h x irs k v hears t =
@@ -149,8 +149,8 @@ tells-right h x irs k v hears tell =
           (unless (tells v) (not (is_of_came h.told h.spans h.syns v.ack))
           (λ e. let t = plain e in
           ap not (told-right x h irs k hears.since v h.told hears.told (λ silent. hears.syn silent t.opened) (reach x h irs k v hears t))));
-      after = cond_both (goes_further h.told v) (after_telling h v.ack) h (λ (g : Heard). Hears g x irs k)
-          (λ e. after-telling h x irs k v hears (plain (goes-told h.told v e))) (λ _. hears);
+      after = cond_both (goes_further h v) (after_telling h v.ack) h (λ (g : Heard). Hears g x irs k)
+          (λ e. after-telling h x irs k v hears (plain (goes-told h v e))) (λ _. hears);
     }
 
 -- A SYN that answers has what was offered

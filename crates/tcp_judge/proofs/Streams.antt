@@ -13,9 +13,9 @@ use Rattle.tcp_wire.proofs.Lemmas.{position_of_number}
 use Rattle.tcp_replay.specs.Truthful.{IsOfUser}
 use Rattle.tcp_replay.proofs.Lists.{by_test}
 use Rattle.tcp_judge.specs.Heard.{tells}
-use Rattle.tcp_judge.specs.Stream.{Stream, count_sent, with_text, count_both, agrees, changes_bytes, count_covered, without_front}
-use Rattle.tcp_judge.specs.Known.{Known, is_syn, initial_after, place_by, place_of, fin_after, known_after, acked_by, count_acked, known_with}
-use Rattle.tcp_judge.specs.Rules.{finding_if, initial_by, fin_by, fin_finding, position_finding}
+use Rattle.tcp_judge.specs.Stream.{Stream, nothing_sent, count_sent, with_text, count_both, agrees, changes_bytes, count_covered, without_front}
+use Rattle.tcp_judge.specs.Known.{Known, is_syn, initial_after, place_by, place_of, fin_after, known_after, is_keep_alive, acked_by, count_acked, leads_back, known_with}
+use Rattle.tcp_judge.specs.Rules.{finding_if, initial_by, fin_by, fin_finding, text_finding, position_finding}
 use Rattle.tcp_judge.specs.declared.finding.Finding.{Finding}
 
 -- TESTS
@@ -227,13 +227,17 @@ module _ (isn : ℕ) (accepted : List ℕ) (closed : Bool) (small : isn < 2 ^ 32
       by_test (nat_lt 0 place) (λ b. (if b then fin_by k.fin behind (place + length v.text) v else None) ≡ None)
       (λ _. keeps-fin_by k.fin behind place v h.fin (omega (arith, part-most accepted k.stream h.stream)) at) (λ _. refl)
 
+  keeps-text : (k : Known) (place : ℕ) (v : Content) → IsKnown isn accepted k → (place ≡ 0) ⊎ IsAt accepted place v → text_finding k place v ≡ None
+  keeps-text k place v h at = rw (keeps-bytes k.stream place v h.stream at) (keeps-fin k place v h at)
+
   pub keeps-positions : (k : Known) (v : Content) → IsKnown isn accepted k → (has rst v.flags ≡ false → IsOfUser isn accepted closed v)
       → position_finding k (place_of k v) v ≡ None
   keeps-positions k v h user =
       let inside = part-most accepted k.stream h.stream in
       let at = placed (initial_after k.initial v) (count_sent k.stream) v (initial-kept k.initial v h.initial user) inside user in
       let place = place_of k v in
-      rw (keeps-initial k.initial v h.initial user, keeps-bytes k.stream place v h.stream at) (keeps-fin k place v h at)
+      rw (keeps-initial k.initial v h.initial user)
+      (cond_both (is_keep_alive k place v) None (text_finding k place v) (λ (f : Option Finding). f ≡ None) (λ _. refl) (λ _. keeps-text k place v h at))
 
   -- WHAT IS KNOWN AFTER IT
   text-kept : (d : Stream) (place : ℕ) (v : Content) → IsPart accepted d → (place ≡ 0) ⊎ IsAt accepted place v → IsPart accepted (with_text d place v.text)
@@ -268,7 +272,13 @@ module _ (isn : ℕ) (accepted : List ℕ) (closed : Bool) (small : isn < 2 ^ 32
   known-kept k v h user =
       let initial = initial-kept k.initial v h.initial user in
       let at = placed (initial_after k.initial v) (count_sent k.stream) v initial (part-most accepted k.stream h.stream) user in
-      record { initial = initial; stream = text-kept k.stream (place_of k v) v h.stream at; fin = fin-kept k.fin (place_of k v) v h.fin at }
+      let d = k.stream in
+      record {
+        initial = initial;
+        stream = cond_both (is_keep_alive k (place_of k v) v) d (with_text d (place_of k v) v.text) (IsPart accepted) (λ _. h.stream)
+            (λ _. text-kept d (place_of k v) v h.stream at);
+        fin = fin-kept k.fin (place_of k v) v h.fin at;
+      }
 
   -- AND AFTER WHAT CAME: whatever it acknowledges, no more is forgotten than was kept
   covered-most : (d : Stream) (has_fin : Bool) (position : ℕ) → count_covered d has_fin position ≤ length d.sent
@@ -284,7 +294,9 @@ module _ (isn : ℕ) (accepted : List ℕ) (closed : Bool) (small : isn < 2 ^ 32
 
   pub came-kept : (k : Known) (v : Content) → IsKnown isn accepted k → IsKnown isn accepted (known_with k v)
   came-kept k v h = record {
-    initial = h.initial;
-    stream = part-without accepted k.stream (count_acked k v) (acked-most k.initial k.stream (is_some k.fin) v) h.stream;
-    fin = h.fin;
+    initial = cond_both (leads_back k v) None k.initial (λ (known : Option Seq). IfSome known (λ n. n.0 ≡ isn)) (λ _. tt) (λ _. h.initial);
+    stream = cond_both (leads_back k v) nothing_sent (without_front k.stream (count_acked k v)) (IsPart accepted)
+        (λ _. record { inside = omega arith; part = refl })
+        (λ _. part-without accepted k.stream (count_acked k v) (acked-most k.initial k.stream (is_some k.fin) v) h.stream);
+    fin = cond_both (leads_back k v) None k.fin (λ (known : Option ℕ). IfSome known (λ f. f ≡ 1 + length accepted)) (λ _. tt) (λ _. h.fin);
   }

@@ -11,16 +11,18 @@ use Rattle.tcp_conn.specs.Judgement.{count_numbers}
 pub record Heard : Type 0 where
   -- the number of each segment that came, and how many numbers its SYN, text and FIN take, as far as they aren't acknowledged
   pub spans : List (Seq × ℕ)
-  -- the number of each SYN that came before anything was acknowledged
+  -- the number of each SYN that came before anything was acknowledged, or behind a reset, since the last acknowledgement
   pub syns : List Seq
   -- the acknowledgement that was sent, the furthest one
   pub told : Option Seq
+  -- whether a reset came
+  pub reset : Bool
   -- whether a SYN that came offered a window scale, and one permitted selective acknowledgement
   pub scaling : Bool
   pub sack : Bool
 
 abbrev pub nothing_heard : Heard
-nothing_heard = record { spans = []; syns = []; told = None; scaling = false; sack = false }
+nothing_heard = record { spans = []; syns = []; told = None; reset = false; scaling = false; sack = false }
 
 -- OFFERS of a SYN
 abbrev pub is_scale : OptionContent → Bool
@@ -60,7 +62,7 @@ all_came spans from zero = true
 all_came spans from (suc n) = has_come spans (number from n) && all_came spans from n
 
 -- ACKNOWLEDGEMENTS cover only what came, without a gap, and never decrease (RFC 9293, 3.4 and 3.10.7.4). Each continues from
--- the one before over numbers that came; the first from after a SYN that came
+-- the one before over numbers that came, or begins after a SYN that came: the first one, and one behind a reset
 abbrev pub goes_on : List (Seq × ℕ) → ℕ → ℕ → Bool
 goes_on spans from number = all_came spans from (distance from number)
 
@@ -70,7 +72,7 @@ begins spans (first ∷ syns) told = goes_on spans (number first.0 1) told || be
 
 abbrev pub is_of_came : Option Seq → List (Seq × ℕ) → List Seq → ℕ → Bool
 is_of_came None spans syns told = begins spans syns told
-is_of_came (Some last) spans syns told = goes_on spans last.0 told
+is_of_came (Some last) spans syns told = goes_on spans last.0 told || begins spans syns told
 
 -- it has an acknowledgement, and is no reset
 abbrev pub tells : Content → Bool
@@ -83,13 +85,16 @@ tells_beyond h v = tells v && not (is_of_came h.told h.spans h.syns v.ack)
 abbrev pub is_from : ℕ → ℕ → Bool
 is_from first n = nat_lt (distance first n) (2 ^ 31)
 
--- an acknowledgement that is less than an earlier one leaves that
-abbrev pub goes_further : Option Seq → Content → Bool
-goes_further None v = tells v
-goes_further (Some last) v = tells v && is_from last.0 v.ack
+-- an acknowledgement that is less than an earlier one leaves that, unless it begins after a SYN
+abbrev pub is_further : Option Seq → List (Seq × ℕ) → List Seq → ℕ → Bool
+is_further None spans syns told = true
+is_further (Some last) spans syns told = is_from last.0 told || begins spans syns told
 
-abbrev pub told_after : Option Seq → Content → Option Seq
-told_after last v = if goes_further last v then Some (record { 0 = v.ack }) else last
+abbrev pub goes_further : Heard → Content → Bool
+goes_further h v = tells v && is_further h.told h.spans h.syns v.ack
+
+abbrev pub told_after : Heard → Content → Option Seq
+told_after h v = if goes_further h v then Some (record { 0 = v.ack }) else h.told
 
 -- WHAT IS ACKNOWLEDGED is forgotten: the spans that end at this number or before it,
 abbrev pub is_passed : ℕ → Seq × ℕ → Bool
@@ -104,21 +109,26 @@ after_telling h told = record h { spans = without_passed told h.spans; syns = []
 
 -- after a segment that was sent,
 abbrev pub after_went : Heard → Content → Heard
-after_went h v = if goes_further h.told v then after_telling h v.ack else h
+after_went h v = if goes_further h v then after_telling h v.ack else h
 
--- and one that came: it is kept where it takes a number, and a SYN before anything is acknowledged
+-- and one that came: it is kept where it takes a number; a SYN, where the end may take it: before anything is acknowledged, and
+-- behind a reset, which leads an end that listens back to where it was (RFC 9293, 3.10.7.4)
 abbrev pub spans_of : Content → List (Seq × ℕ)
 spans_of v = if count_numbers v == 0 then [] else (record { 0 = v.seq }, count_numbers v) ∷ []
 
-abbrev pub syns_of : Option Seq → Content → List Seq
-syns_of None v = if has syn v.flags then record { 0 = v.seq } ∷ [] else []
-syns_of (Some told) v = []
+abbrev pub may_open : Option Seq → Bool → Bool
+may_open None reset = true
+may_open (Some told) reset = reset
+
+abbrev pub syns_of : Option Seq → Bool → Content → List Seq
+syns_of told reset v = if has syn v.flags && may_open told reset then record { 0 = v.seq } ∷ [] else []
 
 abbrev pub after_came : Heard → Content → Heard
 after_came h v = record {
   spans = h.spans ++ spans_of v;
-  syns = h.syns ++ syns_of h.told v;
+  syns = h.syns ++ syns_of h.told h.reset v;
   told = h.told;
+  reset = h.reset || has rst v.flags;
   scaling = h.scaling || (has syn v.flags && any_scale v.options);
   sack = h.sack || (has syn v.flags && any_permission v.options);
 }

@@ -6,6 +6,7 @@ use Rattle.tcp_wire.specs.declared.fault.DecodeError.{DecodeError}
 use Rattle.tcp_judge.specs.Known.{Known, nothing_known, known_after, known_with}
 use Rattle.tcp_judge.specs.Log.{PassageContent, Came, Went}
 use Rattle.tcp_judge.specs.Rules.{finding_of}
+use Rattle.tcp_judge.specs.Taken.{taken_of}
 use Rattle.tcp_judge.specs.declared.finding.Finding.{Finding}
 use Rattle.tcp_judge.specs.declared.finding.Finding.TheVariants.{Unreadable}
 
@@ -18,9 +19,10 @@ abbrev pub known_read : Known → Result Content DecodeError → Known
 known_read k (Ok v) = known_after k v
 known_read k (Err fault) = k
 
-abbrev pub known_came : Known → Result Content DecodeError → Known
-known_came k (Ok v) = known_with k v
-known_came k (Err fault) = k
+-- what came adds to it as far as an end may take it
+abbrev pub known_came : Known → Option Content → Known
+known_came k None = k
+known_came k (Some v) = known_with k v
 
 -- what came is not judged
 abbrev pub finding_at : Known → PassageContent → Option Finding
@@ -28,7 +30,7 @@ finding_at k (Came src dst bytes) = None
 finding_at k (Went src dst bytes) = finding_read k (decode_answer src dst bytes)
 
 abbrev pub known_past : Known → PassageContent → Known
-known_past k (Came src dst bytes) = known_came k (decode_answer src dst bytes)
+known_past k (Came src dst bytes) = known_came k (taken_of src dst bytes)
 known_past k (Went src dst bytes) = known_read k (decode_answer src dst bytes)
 
 -- the first finding, with the index of its segment in the log

@@ -1,11 +1,11 @@
 -- WHAT IS KNOWN of an end by the segments that it sent and that came to it: its initial number, its stream, the position of
 -- its FIN (RFC 9293, 3.4), and what came to it.
-use Rattle.std.specs.Prelude.{ℕ, ◌+◌, Bool, ◌&&◌, not, nat_lt, if◌then◌else◌, length, Option, Some, None, is_some}
+use Rattle.std.specs.Prelude.{ℕ, ◌+◌, ◌==◌, Bool, false, ◌&&◌, ◌||◌, not, nat_lt, nat_le, if◌then◌else◌, length, Option, Some, None, is_some}
 use Rattle.tcp_numbers.specs.declared.seq.Seq.{Seq}
 use Rattle.tcp_wire.specs.Flags.{fin, syn, rst, has}
 use Rattle.tcp_wire.specs.Position.{position_of}
 use Rattle.tcp_wire.specs.Wire.{Content}
-use Rattle.tcp_judge.specs.Stream.{Stream, nothing_sent, count_sent, with_text, count_covered, without_front}
+use Rattle.tcp_judge.specs.Stream.{Stream, nothing_sent, count_sent, count_taken, with_text, count_covered, without_front}
 use Rattle.tcp_judge.specs.Heard.{Heard, nothing_heard, tells, after_went, after_came}
 
 pub record Known : Type 0 where
@@ -15,11 +15,13 @@ pub record Known : Type 0 where
   pub stream : Stream
   -- the position of the FIN
   pub fin : Option ℕ
+  -- whether its SYN was acknowledged
+  pub acked : Bool
   -- and what came to it
   pub heard : Heard
 
 abbrev pub nothing_known : Known
-nothing_known = record { initial = None; stream = nothing_sent; fin = None; heard = nothing_heard }
+nothing_known = record { initial = None; stream = nothing_sent; fin = None; acked = false; heard = nothing_heard }
 
 -- a SYN, and no reset
 abbrev pub is_syn : Content → Bool
@@ -44,12 +46,18 @@ place_of k v = place_by (initial_after k.initial v) (count_sent k.stream) v
 abbrev pub fin_after : Option ℕ → ℕ → Content → Option ℕ
 fin_after known place v = if nat_lt 0 place && has fin v.flags then Some (place + length v.text) else known
 
+-- A KEEP-ALIVE may have one byte, of any value, right before SND.NXT (RFC 9293, 3.8.4)
+abbrev pub is_keep_alive : Known → ℕ → Content → Bool
+is_keep_alive k place v =
+    (length v.text == 1 && place + 1 == count_taken k.stream (is_some k.fin)) && (not (has syn v.flags) && not (has fin v.flags))
+
 -- after a segment that was sent
 abbrev pub known_after : Known → Content → Known
 known_after k v = record {
   initial = initial_after k.initial v;
-  stream = with_text k.stream (place_of k v) v.text;
+  stream = if is_keep_alive k (place_of k v) v then k.stream else with_text k.stream (place_of k v) v.text;
   fin = fin_after k.fin (place_of k v) v;
+  acked = k.acked;
   heard = after_went k.heard v;
 }
 
@@ -62,6 +70,28 @@ acked_by (Some number) d has_fin v = if tells v then count_covered d has_fin (po
 abbrev pub count_acked : Known → Content → ℕ
 count_acked k v = acked_by k.initial k.stream (is_some k.fin) v
 
+-- and whether it acknowledges the SYN, and no more than was sent
+abbrev pub covers_syn : Stream → Bool → ℕ → Bool
+covers_syn d has_fin position = nat_lt 0 position && nat_le position (count_taken d has_fin)
+
+abbrev pub acks_syn_by : Option Seq → Stream → Bool → Content → Bool
+acks_syn_by None d has_fin v = false
+acks_syn_by (Some number) d has_fin v = tells v && covers_syn d has_fin (position_of number.0 (count_sent d) v.ack)
+
+abbrev pub acks_syn : Known → Content → Bool
+acks_syn k v = acks_syn_by k.initial k.stream (is_some k.fin) v
+
+-- A RESET before the SYN was acknowledged leads back to where nothing is sent: an end that listened listens again, and its next
+-- SYN has another number (RFC 9293, 3.5 and 3.10.7.4)
+abbrev pub leads_back : Known → Content → Bool
+leads_back k v = has rst v.flags && not k.acked
+
 -- and after one that came: what it acknowledges is forgotten
 abbrev pub known_with : Known → Content → Known
-known_with k v = record k { stream = without_front k.stream (count_acked k v); heard = after_came k.heard v }
+known_with k v = record {
+  initial = if leads_back k v then None else k.initial;
+  stream = if leads_back k v then nothing_sent else without_front k.stream (count_acked k v);
+  fin = if leads_back k v then None else k.fin;
+  acked = k.acked || acks_syn k v;
+  heard = after_came k.heard v;
+}

@@ -1,5 +1,5 @@
 -- NO CORRECT END IS ACCUSED: over every list of events, whoever the peer is and whatever bytes arrive.
-use Rattle.std.specs.Prelude.{◌≡◌, ℕ, ◌+◌, ◌^◌, ◌<◌, ◌≤◌, List, [], ◌∷◌, length, None, Result, Ok, Err}
+use Rattle.std.specs.Prelude.{◌≡◌, ℕ, ◌+◌, ◌^◌, ◌<◌, ◌≤◌, List, [], ◌∷◌, length, Option, Some, None, Result, Ok, Err}
 use Rattle.std.specs.List.{AllByRecursion}
 use Rattle.tcp_wire.specs.Wire.{Content}
 use Rattle.tcp_wire.specs.Decoded.{decode_answer}
@@ -12,11 +12,12 @@ use Rattle.tcp_judge.specs.Log.{PassageContent, Came, Went, log_alone}
 use Rattle.tcp_judge.specs.Heard.{Heard, nothing_heard, after_went, after_came}
 use Rattle.tcp_judge.specs.Rules.{form_finding, heard_finding}
 use Rattle.tcp_judge.specs.Judgement.{IsClean}
+use Rattle.tcp_judge.specs.Taken.{taken_of}
 
--- what is known to have come after bytes that came, and after bytes that were sent
-abbrev pub heard_read : Heard → Result Content DecodeError → Heard
-heard_read h (Ok v) = after_came h v
-heard_read h (Err fault) = h
+-- what is known to have come after what came, as far as an end may take it, and after bytes that were sent
+abbrev pub heard_read : Heard → Option Content → Heard
+heard_read h None = h
+heard_read h (Some v) = after_came h v
 
 abbrev pub heard_went : Heard → Result Content DecodeError → Heard
 heard_went h (Ok v) = after_went h v
@@ -28,7 +29,7 @@ IsSaidRight h src dst bytes = (v : Content) × (decode_answer src dst bytes ≡ 
 
 abbrev pub AllSaidRight : Heard → List PassageContent → Type 0
 AllSaidRight h [] = Unit {0}
-AllSaidRight h (Came src dst bytes ∷ log) = AllSaidRight (heard_read h (decode_answer src dst bytes)) log
+AllSaidRight h (Came src dst bytes ∷ log) = AllSaidRight (heard_read h (taken_of src dst bytes)) log
 AllSaidRight h (Went src dst bytes ∷ log) = IsSaidRight h src dst bytes × AllSaidRight (heard_went h (decode_answer src dst bytes)) log
 
 -- OF FORM AND AGAINST WHAT CAME, however long the two streams grow

@@ -1,4 +1,5 @@
 pub mod Log
+pub mod Taken
 pub mod Heard
 pub mod Reports
 pub mod Stream

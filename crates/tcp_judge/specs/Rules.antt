@@ -10,7 +10,7 @@ use Rattle.tcp_wire.specs.Wire.{Content}
 use Rattle.tcp_judge.specs.Heard.{Heard, tells_beyond, told_after, oversteps}
 use Rattle.tcp_judge.specs.Reports.{lacks_permission, options_finding}
 use Rattle.tcp_judge.specs.Stream.{count_sent, changes_bytes}
-use Rattle.tcp_judge.specs.Known.{Known, is_syn, place_of}
+use Rattle.tcp_judge.specs.Known.{Known, is_syn, place_of, is_keep_alive}
 use Rattle.tcp_judge.specs.declared.finding.Finding.{Finding}
 use Rattle.tcp_judge.specs.declared.finding.Finding.TheVariants.{SynOption, GreatShift, NoAck, OtherInitial, OtherByte, BeyondFin, AckBeyond, Unoffered}
 use Rattle.tcp_judge.specs.declared.finding.Finding.TheVariants.{Unpermitted}
@@ -65,11 +65,13 @@ fin_by (Some place) behind end v =
 abbrev pub fin_finding : Known → ℕ → Content → Option Finding
 fin_finding k place v = if nat_lt 0 place then fin_by k.fin (1 + count_sent k.stream) (place + length v.text) v else None
 
--- the first rule that a segment breaks
+-- of the text and the FIN
+abbrev pub text_finding : Known → ℕ → Content → Option Finding
+text_finding k place v = option_or (finding_if (changes_bytes k.stream place v.text) (OtherByte (record { 0 = v.seq }))) (fin_finding k place v)
+
+-- the first rule that a segment breaks. The byte of a keep-alive is none of the stream (RFC 9293, 3.8.4)
 abbrev pub position_finding : Known → ℕ → Content → Option Finding
-position_finding k place v =
-    option_or (initial_by k.initial v)
-    (option_or (finding_if (changes_bytes k.stream place v.text) (OtherByte (record { 0 = v.seq }))) (fin_finding k place v))
+position_finding k place v = option_or (initial_by k.initial v) (if is_keep_alive k place v then None else text_finding k place v)
 
 -- ACKNOWLEDGEMENTS cover only what came (RFC 9293, 3.4 and 3.10.7.4)
 abbrev pub ack_finding : Heard → Content → Option Finding
@@ -81,7 +83,7 @@ answer_finding h v = finding_if (oversteps h v) Unoffered
 
 -- BLOCKS are permitted, and of what came (RFC 2018, 3 and 4)
 abbrev pub report_finding : Heard → Content → Option Finding
-report_finding h v = option_or (finding_if (lacks_permission h v) Unpermitted) (options_finding (told_after h.told v) h.spans v.options)
+report_finding h v = option_or (finding_if (lacks_permission h v) Unpermitted) (options_finding (told_after h v) h.spans v.options)
 
 -- against what came
 abbrev pub heard_finding : Heard → Content → Option Finding

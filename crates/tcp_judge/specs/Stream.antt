@@ -14,6 +14,10 @@ nothing_sent = record { released = 0; sent = [] }
 abbrev pub count_sent : Stream → ℕ
 count_sent d = d.released + length d.sent
 
+-- and how many positions, that of the SYN and that of the FIN among them: SND.NXT, as far as it is known
+abbrev pub count_taken : Stream → Bool → ℕ
+count_taken d has_fin = 1 + count_sent d + (if has_fin then 1 else 0)
+
 -- A TEXT at a position, the first byte's being 1, adds what it has beyond the end, where nothing lies between
 abbrev pub with_text : Stream → ℕ → List ℕ → Stream
 with_text d place text =
@@ -35,7 +39,7 @@ changes_bytes d place text = nat_lt 0 place && not (agrees (drop (place - (1 + d
 -- was sent, with the position of a FIN where there is one, covers none
 abbrev pub count_covered : Stream → Bool → ℕ → ℕ
 count_covered d has_fin position =
-    if nat_le position (1 + count_sent d + (if has_fin then 1 else 0)) then min (length d.sent) (position - (1 + d.released)) else 0
+    if nat_le position (count_taken d has_fin) then min (length d.sent) (position - (1 + d.released)) else 0
 
 -- and these are forgotten
 abbrev pub without_front : Stream → ℕ → Stream

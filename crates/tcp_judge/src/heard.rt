@@ -1,11 +1,12 @@
 //! The rule of acknowledgements: what came, as numbers.
-ghost use Rattle.std.specs.Prelude.{◌≡◌, ◌<◌, ◌≤◌, ◌&&◌, ◌++◌, not, length, map};
+ghost use Rattle.std.specs.Prelude.{◌≡◌, ℕ, ◌<◌, ◌≤◌, ◌&&◌, ◌++◌, true, false, not, length, map};
 ghost use Rattle.std.specs.Vec.{vec_len, vec_capacity};
 ghost use Rattle.tcp_wire.specs.Flags.{syn, ack, has};
+ghost use Rattle.tcp_wire.specs.Position.{number};
 ghost use Rattle.tcp_wire.specs.View.{content, option_content};
 ghost use Rattle.tcp_wire.specs.Wire.{max_text_len};
 ghost use Rattle.tcp_conn.specs.Judgement.{count_numbers};
-ghost use Rattle.tcp_judge.specs.Heard.{is_scale, any_scale, is_permission, any_permission, covers, has_come, all_came, goes_on, begins, is_of_came, tells, is_from, goes_further, is_passed, without_passed, spans_of, syns_of};
+ghost use Rattle.tcp_judge.specs.Heard.{is_scale, any_scale, is_permission, any_permission, covers, has_come, all_came, goes_on, begins, is_of_came, tells, is_from, is_further, is_passed, without_passed, spans_of, may_open, syns_of};
 
 use std::alloc::Allocator;
 use tcp_wire::{Segment, Seq, TcpOption};
@@ -96,34 +97,58 @@ pub(crate) fn oversteps(scaling: bool, segment: &Segment<'_>) -> bool
     is_answer && (any_scale(segment.options.as_slice()) && !scaling)
 }
 
-fn covers(number: Seq, span: (Seq, u32)) -> bool
-    ensures { result ≡ covers number.0 span }
+/// How many of a span's numbers are left from this one on: 0 where it hasn't this one.
+fn left_of(wanted: Seq, span: (Seq, u32)) -> u32
+    ensures came { (j : ℕ) → j < result → covers (number wanted.0 j) span ≡ true }
+    ensures none { result ≡ 0 → covers wanted.0 span ≡ false }
 {
-    number.minus(span.0) < span.1
+    span.1.saturating_sub(wanted.minus(span.0))
 }
 
-/// Whether the number is one of those that a segment took.
-fn has_come(spans: &[(Seq, u32)], number: Seq) -> bool
-    ensures { result ≡ has_come spans.now number.0 }
+/// The first of the spans that has this number: its index, and how many of its numbers are left from this one on. They
+/// are 0 where none has it.
+fn left_in(spans: &[(Seq, u32)], wanted: Seq) -> (usize, u32)
+    ensures came { (j : ℕ) → j < result.1 → has_come spans.now (number wanted.0 j) ≡ true }
+    ensures none { result.1 ≡ 0 → has_come spans.now wanted.0 ≡ false }
+    ensures inside { result.0 ≤ length spans.now }
 {
-    // Mostly the number came lately.
-    for i in 0..spans.len() {
-        let span = spans[spans.len() - 1 - i];
-        if covers(number, span) {
-            return true;
+    for (i, span) in spans.iter().enumerate() {
+        let left = left_of(wanted, *span);
+        if left > 0 {
+            return (i, left);
         }
     }
-    false
+    (spans.len(), 0)
+}
+
+/// The same, looked for from index `at` on first.
+fn left_from(spans: &[(Seq, u32)], at: usize, wanted: Seq) -> (usize, u32)
+    requires { at ≤ length spans.now }
+    ensures came { (j : ℕ) → j < result.1 → has_come spans.now (number wanted.0 j) ≡ true }
+    ensures none { result.1 ≡ 0 → has_come spans.now wanted.0 ≡ false }
+    ensures inside { result.0 ≤ length spans.now }
+{
+    let (place, left) = left_in(&spans[at..], wanted);
+    if left > 0 {
+        return (at + place, left);
+    }
+    left_in(&spans[..at], wanted)
 }
 
 /// Whether `count` numbers from this one on came.
 fn all_came(spans: &[(Seq, u32)], from: Seq, count: u32) -> bool
     ensures { result ≡ all_came spans.now from.0 count }
 {
-    for i in 0..count {
-        if !has_come(spans, from.plus(i)) {
+    // Mostly the next numbers are those of the next segment.
+    let mut at = 0;
+    let mut i = 0;
+    while i < count {
+        let (place, left) = left_from(spans, at, from.plus(i));
+        if left == 0 {
             return false;
         }
+        at = place;
+        i = i.saturating_add(left);
     }
     true
 }
@@ -146,12 +171,12 @@ fn begins(spans: &[(Seq, u32)], syns: &[Seq], told: Seq) -> bool
     false
 }
 
-/// Whether an acknowledgement continues over what came from the last one that was sent, or from a SYN that came.
+/// Whether an acknowledgement continues over what came from the last one that was sent, or begins after a SYN that came.
 pub(crate) fn is_of_came(last: Option<Seq>, spans: &[(Seq, u32)], syns: &[Seq], told: Seq) -> bool
     ensures { result ≡ is_of_came last spans.now syns.now told.0 }
 {
     match last {
-        Some(last) => goes_on(spans, last, told),
+        Some(last) => goes_on(spans, last, told) || begins(spans, syns, told),
         None => begins(spans, syns, told),
     }
 }
@@ -163,14 +188,26 @@ pub(crate) fn is_from(first: Seq, number: Seq) -> bool
     number.minus(first) < 1 << 31
 }
 
-/// Whether a segment's acknowledgement is not less than the furthest one before it.
-pub(crate) fn goes_further(last: Option<Seq>, segment: &Segment<'_>) -> bool
-    ensures { result ≡ goes_further last (content segment.now) }
+/// Whether an acknowledgement is not less than the furthest one before it, or begins after a SYN that came.
+fn is_further(last: Option<Seq>, spans: &[(Seq, u32)], syns: &[Seq], told: Seq) -> bool
+    ensures { result ≡ is_further last spans.now syns.now told.0 }
 {
     match last {
-        Some(last) => tells(segment) && is_from(last, segment.header.ack),
-        None => tells(segment),
+        Some(last) => is_from(last, told) || begins(spans, syns, told),
+        None => true,
     }
+}
+
+/// Whether a segment has such an acknowledgement.
+pub(crate) fn goes_further(
+    last: Option<Seq>,
+    spans: &[(Seq, u32)],
+    syns: &[Seq],
+    segment: &Segment<'_>,
+) -> bool
+    ensures { result ≡ (tells (content segment.now) && is_further last spans.now syns.now (content segment.now).ack) }
+{
+    tells(segment) && is_further(last, spans, syns, segment.header.ack)
 }
 
 /// Whether each number of the span is before this one.
@@ -193,22 +230,28 @@ pub(crate) fn keep_span<A: Allocator>(spans: &mut Vec<(Seq, u32), A>, segment: &
     spans.push_reserved((segment.header.seq, count));
 }
 
-/// Adds a SYN that came, where nothing is acknowledged.
+/// Whether the end may take a SYN: before anything is acknowledged, and behind a reset.
+fn may_open(told: Option<Seq>, reset: bool) -> bool
+    ensures { result ≡ may_open told reset }
+{
+    match told {
+        Some(_) => reset,
+        None => true,
+    }
+}
+
+/// Adds a SYN that came, where the end may take it.
 pub(crate) fn keep_syn<A: Allocator>(
     told: Option<Seq>,
+    reset: bool,
     syns: &mut Vec<Seq, A>,
     segment: &Segment<'_>,
 )
     requires room { vec_len syns.old < vec_capacity syns.old }
-    ensures { syns.new.items ≡ syns.old.items ++ syns_of told (content segment.now) }
+    ensures { syns.new.items ≡ syns.old.items ++ syns_of told reset (content segment.now) }
 {
-    match told {
-        Some(_) => {}
-        None => {
-            if segment.header.flags.is_syn() {
-                syns.push_reserved(segment.header.seq);
-            }
-        }
+    if segment.header.flags.is_syn() && may_open(told, reset) {
+        syns.push_reserved(segment.header.seq);
     }
 }
 

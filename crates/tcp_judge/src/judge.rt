@@ -3,11 +3,12 @@ ghost use Rattle.std.specs.Prelude.{◌≡◌, ◌+◌, ◌<◌, ◌≤◌, ◌^
 ghost use Rattle.tcp_wire.specs.Decoded.{decode_answer};
 ghost use Rattle.tcp_wire.specs.View.{content};
 ghost use Rattle.tcp_wire.specs.Wire.{max_text_len};
-ghost use Rattle.tcp_judge.specs.Known.{nothing_known, is_syn, initial_after, place_of, known_after, count_acked};
-ghost use Rattle.tcp_judge.specs.Heard.{tells_beyond, told_after, after_went};
-ghost use Rattle.tcp_judge.specs.Rules.{initial_by, fin_by, fin_finding, position_finding, report_finding, finding_of};
+ghost use Rattle.tcp_judge.specs.Known.{nothing_known, is_syn, initial_after, place_of, is_keep_alive, known_after, count_acked, acks_syn, known_with};
+ghost use Rattle.tcp_judge.specs.Heard.{tells_beyond, goes_further, told_after, after_went};
+ghost use Rattle.tcp_judge.specs.Rules.{initial_by, fin_by, fin_finding, text_finding, position_finding, report_finding, finding_of};
 ghost use Rattle.tcp_judge.specs.Judgement.{finding_read, known_read, known_came, finding_at, known_past};
 ghost use Rattle.tcp_judge.specs.Log.{passage_content};
+ghost use Rattle.tcp_judge.specs.Taken.{taken_of};
 
 use crate::finding::Finding;
 use crate::form::form_finding;
@@ -18,6 +19,7 @@ use crate::heard::{
 use crate::passage::Passage;
 use crate::reports::{any_report, options_finding};
 use crate::stream::Stream;
+use crate::taken::read_taken;
 use std::alloc::{AllocError, Allocator, Global};
 use std::marker::Model;
 use tcp_wire::{Addr, Segment, Seq, decode};
@@ -32,12 +34,17 @@ pub struct Judge<A: Allocator = Global> {
     stream: Stream<A>,
     /// The position of the FIN.
     fin: Option<u64>,
+    /// Whether its SYN was acknowledged.
+    acked: bool,
     /// The number of each segment that came, and how many numbers it takes, as far as they aren't acknowledged.
     spans: Vec<(Seq, u32), A>,
-    /// The number of each SYN that came before anything was acknowledged.
+    /// The number of each SYN that came before anything was acknowledged, or behind a reset, since the last
+    /// acknowledgement.
     syns: Vec<Seq, A>,
     /// The acknowledgement that was sent, the furthest one.
     told: Option<Seq>,
+    /// Whether a reset came.
+    reset: bool,
     /// Whether a SYN that came offered a window scale.
     scaling: bool,
     /// Whether a SYN that came permitted selective acknowledgement.
@@ -49,7 +56,7 @@ impl<A: Allocator> Model for Judge<A> {
 
     ghost Value = { Known };
 
-    ghost view = { λ j. record { initial = j.initial; stream = j.stream; fin = j.fin; heard = record { spans = j.spans.items; syns = j.syns.items; told = j.told; scaling = j.scaling; sack = j.sack } } };
+    ghost view = { λ j. record { initial = j.initial; stream = j.stream; fin = j.fin; acked = j.acked; heard = record { spans = j.spans.items; syns = j.syns.items; told = j.told; reset = j.reset; scaling = j.scaling; sack = j.sack } } };
 }
 
 fn is_syn(segment: &Segment<'_>) -> bool
@@ -125,9 +132,11 @@ impl<A: Allocator + Copy> Judge<A> {
             initial: None,
             stream: Stream::new(alloc),
             fin: None,
+            acked: false,
             spans: Vec::new(alloc),
             syns: Vec::new(alloc),
             told: None,
+            reset: false,
             scaling: false,
             sack: false,
         }
@@ -165,6 +174,28 @@ impl<A: Allocator + Copy> Judge<A> {
         fin_by(self.fin, behind, place + segment.text.len() as u64, segment)
     }
 
+    /// Whether it is a keep-alive with a byte (RFC 9293, 3.8.4).
+    fn is_keep_alive(&self, place: u64, segment: &Segment<'_>) -> bool
+        requires { place < 2 ^ 63 + 2 ^ 32 }
+        ensures { result ≡ is_keep_alive self.now place (content segment.now) }
+    {
+        let flags = segment.header.flags;
+        (segment.text.len() == 1 && place + 1 == self.stream.count_taken(self.fin.is_some()))
+            && (!flags.is_syn() && !flags.is_fin())
+    }
+
+    /// The first rule of text and FIN that the segment breaks.
+    fn text_finding(&self, place: u64, segment: &Segment<'_>) -> Option<Finding>
+        requires place { place < 2 ^ 63 + 2 ^ 32 }
+        requires short { length segment.now.text.now ≤ max_text_len }
+        ensures { result ≡ text_finding self.now place (content segment.now) }
+    {
+        if self.stream.changes_bytes(place, segment.text) {
+            return Some(Finding::OtherByte(segment.header.seq));
+        }
+        self.fin_finding(place, segment)
+    }
+
     /// The first rule of positions that the segment breaks.
     fn position_finding(&self, place: u64, segment: &Segment<'_>) -> Option<Finding>
         requires place { place < 2 ^ 63 + 2 ^ 32 }
@@ -174,10 +205,10 @@ impl<A: Allocator + Copy> Judge<A> {
         if let Some(finding) = initial_by(self.initial, segment) {
             return Some(finding);
         }
-        if self.stream.changes_bytes(place, segment.text) {
-            return Some(Finding::OtherByte(segment.header.seq));
+        if self.is_keep_alive(place, segment) {
+            return None;
         }
-        self.fin_finding(place, segment)
+        self.text_finding(place, segment)
     }
 
     /// The first rule that the segment breaks.
@@ -202,11 +233,23 @@ impl<A: Allocator + Copy> Judge<A> {
         self.report_finding(segment)
     }
 
+    /// Whether the acknowledgement is the furthest one from then on.
+    fn goes_further(&self, segment: &Segment<'_>) -> bool
+        ensures { result ≡ goes_further self.now.heard (content segment.now) }
+    {
+        goes_further(
+            self.told,
+            self.spans.as_slice(),
+            self.syns.as_slice(),
+            segment,
+        )
+    }
+
     /// The furthest acknowledgement, that of this segment included.
     fn told_after(&self, segment: &Segment<'_>) -> Option<Seq>
-        ensures { result ≡ told_after self.now.heard.told (content segment.now) }
+        ensures { result ≡ told_after self.now.heard (content segment.now) }
     {
-        if goes_further(self.told, segment) {
+        if self.goes_further(segment) {
             Some(segment.header.ack)
         } else {
             self.told
@@ -241,7 +284,7 @@ impl<A: Allocator + Copy> Judge<A> {
     fn tell(&mut self, segment: &Segment<'_>)
         ensures { self.new ≡ record self.old { heard = after_went self.old.heard (content segment.now) } }
     {
-        if !goes_further(self.told, segment) {
+        if !self.goes_further(segment) {
             return;
         }
         forget_passed(&mut self.spans, segment.header.ack);
@@ -257,7 +300,9 @@ impl<A: Allocator + Copy> Judge<A> {
         ensures known { OnOk result (self.new ≡ known_after self.old (content segment.now)) }
         ensures err { OnErr result (self.new ≡ self.old) }
     {
-        self.stream.extend(place, segment.text)?;
+        if !self.is_keep_alive(place, segment) {
+            self.stream.extend(place, segment.text)?;
+        }
         if place > 0 && segment.header.flags.is_fin() {
             self.fin = Some(place + segment.text.len() as u64);
         }
@@ -281,22 +326,52 @@ impl<A: Allocator + Copy> Judge<A> {
         self.stream.count_covered(self.fin.is_some(), position)
     }
 
+    /// Whether a segment that came acknowledges the SYN, and no more than was sent.
+    fn acks_syn(&self, segment: &Segment<'_>) -> bool
+        ensures { result ≡ acks_syn self.now (content segment.now) }
+    {
+        let Some(number) = self.initial else {
+            return false;
+        };
+        if !tells(segment) {
+            return false;
+        }
+        let position = segment.header.ack.position(number, self.stream.count());
+        position > 0 && position <= self.stream.count_taken(self.fin.is_some())
+    }
+
+    /// What a segment that came changes of what was sent: what it acknowledges is forgotten, and all where it leads back
+    /// to where nothing is sent.
+    fn follow(&mut self, segment: &Segment<'_>)
+        ensures { self.new ≡ record (known_with self.old (content segment.now)) { heard = self.old.heard } }
+    {
+        let acks_syn = self.acks_syn(segment);
+        if segment.header.flags.is_rst() && !self.acked {
+            self.initial = None;
+            self.stream.forget();
+            self.fin = None;
+        } else {
+            let acked = self.count_acked(segment);
+            self.stream.release(acked);
+        }
+        self.acked = self.acked || acks_syn;
+    }
+
     /// A segment came from `src` to `dst`. The text that it acknowledges is forgotten. After an `Err`, for which there was
     /// no memory, no more is known than before.
     pub fn came(&mut self, src: Addr, dst: Addr, bytes: &[u8]) -> Result<(), AllocError>
-        ensures known { OnOk result (self.new ≡ known_came self.old (decode_answer src.0 dst.0 bytes.now)) }
+        ensures known { OnOk result (self.new ≡ known_came self.old (taken_of src.0 dst.0 bytes.now)) }
         ensures err { OnErr result (self.new ≡ self.old) }
     {
-        let segment = match decode(src, dst, bytes) {
-            Ok(segment) => segment,
-            Err(_) => return Ok(()),
+        let Some(segment) = read_taken(src, dst, bytes) else {
+            return Ok(());
         };
         self.spans.reserve(1)?;
         self.syns.reserve(1)?;
         keep_span(&mut self.spans, &segment);
-        keep_syn(self.told, &mut self.syns, &segment);
-        let acked = self.count_acked(&segment);
-        self.stream.release(acked);
+        keep_syn(self.told, self.reset, &mut self.syns, &segment);
+        self.follow(&segment);
+        self.reset = self.reset || segment.header.flags.is_rst();
         self.scaling = self.scaling || offers_scale(&segment);
         self.sack = self.sack || offers_sack(&segment);
         Ok(())

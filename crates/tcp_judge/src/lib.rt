@@ -8,7 +8,8 @@
 //! - [`no_correct_end_is_accused`], [`no_short_stream_is_accused`] and [`no_acknowledgement_is_accused`] are the
 //!   theorems, over every list of events of an end of `tcp_conn`.
 //!
-//! What is acknowledged is forgotten, so that the state is bounded by what is in flight.
+//! What is acknowledged is forgotten. What came is kept until then, also where the end refused it, so that the state isn't
+//! bounded by what is in flight.
 //!
 //! Left out: windows, which block comes first, and when anything happens.
 #![tactic(auto)]
@@ -22,6 +23,7 @@ mod judging;
 mod passage;
 mod reports;
 mod stream;
+mod taken;
 
 pub use finding::Finding;
 pub use headline::{

@@ -1,7 +1,7 @@
 //! The stream that an end sent, as far as it isn't acknowledged.
 ghost use Rattle.std.specs.Prelude.{◌≡◌, ◌+◌, ◌<◌, ◌≤◌, ◌^◌, OnOk, OnErr, length, drop};
 ghost use Rattle.std.specs.Vec.{vec_len};
-ghost use Rattle.tcp_judge.specs.Stream.{nothing_sent, count_sent, with_text, agrees, changes_bytes, count_covered, without_front};
+ghost use Rattle.tcp_judge.specs.Stream.{nothing_sent, count_sent, count_taken, with_text, agrees, changes_bytes, count_covered, without_front};
 
 use std::alloc::{AllocError, Allocator, Global};
 use std::marker::Model;
@@ -65,6 +65,14 @@ impl<A: Allocator + Copy> Stream<A> {
         self.released + self.sent.len() as u64
     }
 
+    /// How many positions were sent without a gap, the SYN's and the FIN's among them.
+    pub(crate) fn count_taken(&self, has_fin: bool) -> u64
+        ensures count { result ≡ count_taken self.now has_fin }
+        ensures most { result < 2 ^ 63 + 2 }
+    {
+        1 + self.count() + u64::from(has_fin)
+    }
+
     /// Whether a text has another byte at a position that was sent before and isn't acknowledged.
     pub(crate) fn changes_bytes(&self, place: u64, text: &[u8]) -> bool
         ensures { result ≡ changes_bytes self.now place text.now }
@@ -105,8 +113,7 @@ impl<A: Allocator + Copy> Stream<A> {
         ensures count { result ≡ count_covered self.now has_fin position }
         ensures most { result ≤ length self.now.sent }
     {
-        let end = 1 + self.released + self.sent.len() as u64 + u64::from(has_fin);
-        if position > end || position <= self.released {
+        if position > self.count_taken(has_fin) || position <= self.released {
             return 0;
         }
         let covered = position - (1 + self.released);
@@ -120,5 +127,13 @@ impl<A: Allocator + Copy> Stream<A> {
     {
         self.released += n as u64;
         remove_front(&mut self.sent, n);
+    }
+
+    /// Forgets all that was sent.
+    pub(crate) fn forget(&mut self)
+        ensures { self.new ≡ nothing_sent }
+    {
+        self.released = 0;
+        self.sent.clear();
     }
 }

@@ -13,7 +13,8 @@ use Rattle.kit_commands.specs.declared.errors.ToolError.{ToolError}
 use Rattle.kit_commands.specs.declared.errors.ToolError.TheVariants.{BadLine, NoMemory, ReadFault, WriteFault, Config as ConfigFault}
 use Rattle.kit_commands.specs.Listing.{listing_of}
 use Rattle.kit_judge.specs.Verdict.{ReportContent, report_of}
-use Rattle.kit_judge.specs.declared.report.Shown.TheVariants.{Each}
+use Rattle.kit_judge.specs.declared.report.Shown.{Shown}
+use Rattle.kit_judge.specs.declared.report.Shown.TheVariants.{FirstOfRule, Each}
 use Rattle.kit_commands.specs.Replay.{IsReport, RefusesText}
 
 -- the numbers of the answers
@@ -84,17 +85,21 @@ pub record IsListing (list listing : List ℕ) (answer : Result Bool ℕ) : Type
   pub text_is : listing ≡ (listing_of list).text
   pub answer_is : (listing_of list).answer ≡ answer
 
--- THE VERDICT on a log of one end: the report of each finding, and whether there is none; or the first bad line
-abbrev pub verdict_on : List ℕ → Bool → Result ReportContent ℕ
-verdict_on log complete = report_of Each complete log
+-- THE VERDICT on a log of one end: the report of each finding, or of the first of each rule, and whether it is clean; or the
+-- first bad line
+abbrev pub shown_by : Bool → Shown
+shown_by first = if first then FirstOfRule else Each
 
-abbrev pub IsVerdict : List ℕ → Bool → List ℕ → Bool → Type 0
-IsVerdict log complete report clean = verdict_on log complete ≡ Ok (record { text = report; is_clean = clean })
+unfoldable pub verdict_on : List ℕ → Bool → Bool → Result ReportContent ℕ
+verdict_on log complete first = report_of (shown_by first) complete log
+
+abbrev pub IsVerdict : List ℕ → Bool → Bool → List ℕ → Bool → Type 0
+IsVerdict log complete first report clean = verdict_on log complete first ≡ Ok (record { text = report; is_clean = clean })
 
 -- room is missing for a report of this length
-pub record WantsVerdict (log : List ℕ) (complete : Bool) (len : ℕ) : Type 0 where
+pub record WantsVerdict (log : List ℕ) (complete first : Bool) (len : ℕ) : Type 0 where
   pub report : ReportContent
-  pub is_report : verdict_on log complete ≡ Ok report
+  pub is_report : verdict_on log complete first ≡ Ok report
   pub len_is : len ≡ length report.text
 
 -- a flag that a page passes as a number

@@ -2,13 +2,14 @@
 ghost use Rattle.std.specs.Prelude.{◌≡◌, ◌≢◌, ◌≤◌, ◌<◌, ◌⊎◌, true, false, length, take, Some, None, IfSome, IsNone, Ok, Err};
 ghost use Rattle.kit_commands.specs.Listing.{listing_of};
 ghost use Rattle.kit_commands.specs.Replay.{IsReport};
+ghost use Rattle.kit_judge.specs.Verdict.{Reports};
 ghost use Rattle.tcp_web.specs.Answers.{well, refused, fault, no_memory, no_room, no_segment, side_of, fault_text, IsOfText, IsFaultLine, IsAnyReport, IsRule, IsSteps, IsSegment, IsNumbers, IsSent, IsListing, WantsRoom, verdict_on, IsVerdict, WantsVerdict, is_set};
 
 use crate::answers::{FAULT, NO_MEMORY, NO_SEGMENT, REFUSED, WELL, put};
 use crate::faults::fault_line;
 use crate::texts::{numbers_of, rule_of, segment_of, sent_of, steps_of};
 use kit_commands::{ToolError, list_segments, report_of};
-use kit_judge::{LogError, Shown, judge_text};
+use kit_judge::{LogError, Report, Shown, judge_text};
 use region_heap::{Block, Region};
 use std::alloc::Allocator;
 use tcp_replay::Side;
@@ -169,32 +170,52 @@ pub extern "C" fn tcp_web_list(
     }
 }
 
-/// Judges a log of one end, and writes a line for each finding and then the counts: [`WELL`] where no rule is broken,
-/// [`REFUSED`] where one is. Where `is_complete` is 0 something that came may be missing, and no rule is tried against
-/// what came. With a bad line nothing is written: the answer is [`FAULT`], and `line` is its number, else 0.
+/// The report of a log, with a line for each finding or for the first of each rule.
+#[tactic(auto, unfolding(crate::specs::Answers::verdict_on))]
+fn judged<A: Allocator + Copy>(
+    alloc: A,
+    log: &[u8],
+    is_complete: bool,
+    is_first: bool,
+) -> Result<Report<A>, LogError>
+    ensures { Reports result (verdict_on log.now is_complete is_first) }
+{
+    if is_first {
+        judge_text(alloc, log, is_complete, Shown::FirstOfRule)
+    } else {
+        judge_text(alloc, log, is_complete, Shown::Each)
+    }
+}
+
+/// Judges a log of one end, and writes a line for each finding, one for all notes and then the counts: [`WELL`] where no
+/// rule is broken, [`REFUSED`] where one is or the end sent nothing. Where `is_complete` is 0 something that came may be
+/// missing: no rule is tried against what came, and a wrong checksum is a note. Where `is_first` isn't 0 only the first
+/// finding of each rule has a line. With a bad line nothing is written: the answer is [`FAULT`], and `line` is its
+/// number, else 0.
 #[unsafe(no_mangle)]
 pub extern "C" fn tcp_web_judge(
     memory: Block,
     log: &[u8],
     is_complete: u32,
+    is_first: u32,
     out: &mut [u8],
     count: &mut usize,
     line: &mut usize,
 ) -> u32
-    ensures well { result ≡ well → IsVerdict log.now (is_set is_complete) (take count.new out.new) true }
-    ensures refused { result ≡ refused → IsVerdict log.now (is_set is_complete) (take count.new out.new) false }
-    ensures fault { result ≡ fault → verdict_on log.now (is_set is_complete) ≡ Err line.new }
+    ensures well { result ≡ well → IsVerdict log.now (is_set is_complete) (is_set is_first) (take count.new out.new) true }
+    ensures refused { result ≡ refused → IsVerdict log.now (is_set is_complete) (is_set is_first) (take count.new out.new) false }
+    ensures fault { result ≡ fault → verdict_on log.now (is_set is_complete) (is_set is_first) ≡ Err line.new }
     ensures nothing { result ≡ fault → count.new ≡ 0 }
     ensures no_line { result ≢ fault → line.new ≡ 0 }
     ensures fits { result ≤ fault → count.new ≤ length out.old }
     ensures no_memory { result ≡ no_memory → count.new ≡ 0 }
-    ensures no_room { result ≡ no_room → (length out.old < count.new) × WantsVerdict log.now (is_set is_complete) count.new }
+    ensures no_room { result ≡ no_room → (length out.old < count.new) × WantsVerdict log.now (is_set is_complete) (is_set is_first) count.new }
     ensures answers { result ≤ no_room }
 {
     *count = 0;
     *line = 0;
     let region = Region::new(memory);
-    match judge_text(&region, log, is_complete != 0, Shown::Each) {
+    match judged(&region, log, is_complete != 0, is_first != 0) {
         Ok(report) => {
             let answer = if report.is_clean { WELL } else { REFUSED };
             put(report.text.as_bytes(), out, count, answer)

@@ -11,7 +11,7 @@
 //! uint32_t tcp_web_numbers(tcp_web_block memory, const uint8_t *script, size_t script_length, size_t number, uint8_t *out, size_t out_length, size_t *count);
 //! uint32_t tcp_web_sent(tcp_web_block memory, const uint8_t *script, size_t script_length, uint8_t *out, size_t out_length, size_t *count);
 //! uint32_t tcp_web_list(tcp_web_block memory, const uint8_t *list, size_t list_length, uint8_t *out, size_t out_length, size_t *count, size_t *line);
-//! uint32_t tcp_web_judge(tcp_web_block memory, const uint8_t *log, size_t log_length, uint32_t is_complete, uint8_t *out, size_t out_length, size_t *count, size_t *line);
+//! uint32_t tcp_web_judge(tcp_web_block memory, const uint8_t *log, size_t log_length, uint32_t is_complete, uint32_t is_first, uint8_t *out, size_t out_length, size_t *count, size_t *line);
 //! ```
 //!
 //! The caller ensures what no code here can test: the block is aligned to 16, its size is a multiple of 16, and no

@@ -3,7 +3,7 @@ use kit_io::{ReadError, WriteFault};
 use kit_judge::LogError;
 use thiserror::Error;
 
-/// The `Display` text is what the program writes after `tcpjudge: `. The numbers are those of `tcpkit`.
+/// The `Display` text is what the program writes after `tcpjudge: `. Up to 44 the numbers are those of `tcpkit`.
 #[derive(Clone, Copy, Debug, PartialEq, Eq, Error)]
 pub(crate) enum Fault {
     /// The words request no job.
@@ -21,6 +21,9 @@ pub(crate) enum Fault {
     /// The output couldn't be written or flushed, or a write returned 0.
     #[error("44")]
     WriteFault,
+    /// The log has no segment that the end sent, so that nothing was judged.
+    #[error("45 no segment that the end sent")]
+    NothingSent,
 }
 
 impl From<ReadError> for Fault {

@@ -2,7 +2,7 @@
 //! order: a line is `came SOURCE DESTINATION HEX` or `went SOURCE DESTINATION HEX`. `--complete` says that nothing that
 //! came is missing: only then rules are tried against what came. It prints the first finding of each rule with its line
 //! and section, and then the counts. The status is 0 where no rule is broken, 1 where one is, and 2 where the words, the
-//! file or a line have a fault.
+//! file or a line have a fault, or where the log has no segment that the end sent.
 #![tactic(auto)]
 
 mod fault;

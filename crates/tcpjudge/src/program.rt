@@ -16,7 +16,9 @@ Judges one end of a TCP connection by a log of what came to it and what it sent,
 'came SOURCE DESTINATION HEX' or 'went SOURCE DESTINATION HEX'; FILE is - for the standard input.
 --complete says that nothing that came is missing: only then rules are tried against what came.
 Prints the first finding of each rule with its line and section, and then the counts.
-The status is 0 where no rule is broken, 1 where one is, and 2 where the words, the file or a line have a fault.
+Where something may be missing, wrong checksums are a note and no finding: they may be damage on the path.
+The status is 0 where no rule is broken, 1 where one is, and 2 where the words, the file or a line have a fault, or
+where the log has no segment that the end sent.
 ";
 
 /// No rule is broken.
@@ -25,7 +27,7 @@ const CLEAN: u8 = 0;
 /// A rule is broken.
 const FOUND: u8 = 1;
 
-/// The words, the file or its text have a fault.
+/// The words, the file or its text have a fault, or nothing was judged.
 const FAULT: u8 = 2;
 
 /// The program's words, its name first.
@@ -69,6 +71,9 @@ fn work(rt: &(impl Env + Files + Print + AllocGlobal)) -> Result<bool, Fault> {
             let text = read_log(rt, &path)?;
             let report = judge_text(rt.alloc(), &text, is_complete, Shown::FirstOfRule)?;
             write_text(rt, &report.text)?;
+            if report.is_empty {
+                return Err(Fault::NothingSent);
+            }
             Ok(report.is_clean)
         }
     }

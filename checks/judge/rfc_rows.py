@@ -1,0 +1,157 @@
+"""Logs whose reports are worked out by hand from the RFCs: what `tcpjudge` has to say of them, to the letter.
+
+    python3 checks/judge/rfc_rows.py [TCPJUDGE]
+
+Judges each row as a complete log and as another, by TCPJUDGE and the second program, or by the second program alone. The last line is
+`N rows, M failed`.
+"""
+
+import struct
+import sys
+
+from twice import Judges
+
+from end import ACK, FIN, PSH, RST, SYN
+from judge import report
+from program import hexadecimal, with_checksum
+
+FLAGS = {"SYN": SYN, "ACK": ACK, "RST": RST, "FIN": FIN, "PSH": PSH}
+OWN, PEER = (bytes([10, 0, 0, 2]), 2), (bytes([10, 0, 0, 1]), 1)
+
+
+def line_of(words):
+    """`came|went SEQ[/ACK] FLAG,FLAG [options=HEX] [text=TEXT] [sum=wrong]` as a line of a log, the numbers as the RFC's figures have them."""
+    way, numbers, flags, *more = words.split(" ")
+    seq, _, acknowledged = numbers.partition("/")
+    more = dict(word.split("=", 1) for word in more)
+    options, text = bytes.fromhex(more.get("options", "")), more.get("text", "").encode()
+    (source, port), (target, to) = (OWN, PEER) if way == "went" else (PEER, OWN)
+    bits = sum(FLAGS[flag] for flag in flags.split(","))
+    offset = (20 + len(options)) // 4 << 4
+    data = struct.pack(">HHIIBBHHH", port, to, int(seq), int(acknowledged or 0), offset, bits, 65535, 0, 0) + options + text
+    data = with_checksum(source, target, data)
+    if more.get("sum") == "wrong":
+        data = data[:16] + bytes([data[16] ^ 1]) + data[17:]
+    dotted = [".".join(map(str, address)) for address in (source, target)]
+    return f"{way} {dotted[0]} {dotted[1]} {hexadecimal(data)}"
+
+
+def counts(segments, findings=0):
+    return f"segments {segments} findings {findings}\n"
+
+
+# A connection between two ends whose next numbers are then 100 and 300, as it was before some figures begin.
+OPENED = ["came 99 SYN", "went 299/100 SYN,ACK", "came 100/300 ACK"]
+OPENS = ["went 99 SYN", "came 299/100 SYN,ACK", "went 100/300 ACK"]
+
+# RFC 9293, 3.5 and 3.6, line by line, at each end that speaks: no segment of them breaks a rule.
+FIGURES = {
+    "Figure 6, basic three-way handshake, A": ["went 100 SYN", "came 300/101 SYN,ACK", "went 101/301 ACK", "went 101/301 ACK text=DATA"],
+    "Figure 6, B": ["came 100 SYN", "went 300/101 SYN,ACK", "came 101/301 ACK", "came 101/301 ACK text=DATA"],
+    "Figure 7, simultaneous connection synchronization, A": ["went 100 SYN", "came 300 SYN", "went 100/301 SYN,ACK", "came 300/101 SYN,ACK"],
+    "Figure 7, B": ["went 300 SYN", "came 100 SYN", "went 300/101 SYN,ACK", "came 100/301 SYN,ACK"],
+    "Figure 8, recovery from old duplicate SYN, A": ["went 100 SYN", "came 300/91 SYN,ACK", "went 91 RST", "came 400/101 SYN,ACK", "went 101/401 ACK"],
+    "Figure 8, B": ["came 90 SYN", "went 300/91 SYN,ACK", "came 91 RST", "came 100 SYN", "went 400/101 SYN,ACK", "came 101/401 ACK"],
+    "Figure 9, half-open connection discovery, A": ["went 400 SYN", "came 300/100 ACK", "went 100 RST", "went 400 SYN"],
+    "Figure 9, B": [*OPENED, "came 400 SYN", "went 300/100 ACK", "came 100 RST", "came 400 SYN"],
+    "Figure 10, active side causes half-open connection discovery, A": ["came 300/100 ACK text=TEN-OCTETS", "went 100 RST"],
+    "Figure 10, B": [*OPENED, "went 300/100 ACK text=TEN-OCTETS", "came 100 RST"],
+    "Figure 11, old duplicate SYN initiates a reset on two passive sockets, A": ["came 300/91 SYN,ACK", "went 91 RST"],
+    "Figure 11, B": ["came 90 SYN", "went 300/91 SYN,ACK", "came 91 RST"],
+    "Figure 12, normal close sequence, A": [*OPENS, "went 100/300 FIN,ACK", "came 300/101 ACK", "came 300/101 FIN,ACK", "went 101/301 ACK"],
+    "Figure 12, B": [*OPENED, "came 100/300 FIN,ACK", "went 300/101 ACK", "went 300/101 FIN,ACK", "came 101/301 ACK"],
+    "Figure 13, simultaneous close sequence, A": [*OPENS, "went 100/300 FIN,ACK", "came 300/100 FIN,ACK", "went 101/301 ACK", "came 301/101 ACK"],
+    "Figure 13, B": [*OPENED, "went 300/100 FIN,ACK", "came 100/300 FIN,ACK", "went 301/101 ACK", "came 101/301 ACK"],
+}
+
+SECOND_SYN = ["came 90 SYN", "went 300/91 SYN,ACK", "came 100 SYN", "went 400/101 SYN,ACK"]
+TEXT_CAME = [*OPENED, "came 100/300 ACK text=HELLO", "went 300/105 ACK"]
+NOT_ALL_CAME = "an acknowledgement of {}, up to which not all came (RFC 9293, 3.4)\n"
+ANOTHER_BYTE = "another byte where one went before, in the text at {} (RFC 9293, 3.4)\n"
+BEYOND = "text or FIN up to position {}, and the FIN at {} (RFC 9293, 3.4)\n"
+WRONG_SUM = "no segment: the checksum is wrong (RFC 9293, 3.1)\n"
+
+
+def with_bad_option(rows, place, options):
+    """The rows, one of them with these bytes as its options."""
+    way, numbers, flags, *more = rows[place].split(" ")
+    return [*rows[:place], " ".join([way, numbers, flags, f"options={options}", *more]), *rows[place + 1 :]]
+
+
+def with_note(count, first, segments):
+    return f"note: wrong checksums: {count}, the first in line {first} (RFC 9293, 3.1)\n{counts(segments)}"
+
+
+def both(rows, words, status):
+    """A row with the same report whether it is complete or not."""
+    return rows, (words, status), (words, status)
+
+
+# Each row: its lines, and the report with its status of a complete log and of another.
+ROWS = {name: both(rows, counts(len(rows)), 0) for name, rows in FIGURES.items()} | {
+    # What follows the reset of Figure 11: the end listens, and takes another SYN, whatever its number and its own are.
+    "B of Figure 11 goes on listening": both(
+        [*FIGURES["Figure 11, B"], "came 3000000000 SYN", "went 300/3000000001 SYN,ACK", "came 3000000001/301 ACK text=HI", "went 301/3000000003 ACK"],
+        counts(7), 0),
+    # A segment in SYN-RECEIVED that isn't a reset doesn't lead to another number (3.10.7.4: a SYN that does is not taken itself).
+    "another number without a reset": both(SECOND_SYN, f"line 4: a SYN at 400, and the first at 300 (RFC 9293, 3.4)\n{counts(4, 1)}", 1),
+    "what no SYN opened is acknowledged behind a reset": (
+        [*OPENED, "came 100 RST", "went 300/500 ACK"], (f"line 5: {NOT_ALL_CAME.format(500)}{counts(5, 1)}", 1), (counts(5), 0)),
+    # An option of length 0, and a byte behind the end of the options: the text may be taken (3.1, MUST-7).
+    "text behind an illegal option": both(with_bad_option(TEXT_CAME, 3, "08000000"), counts(5), 0),
+    "text behind bad padding": both(with_bad_option(TEXT_CAME, 3, "00000001"), counts(5), 0),
+    "no more than the text behind an illegal option": (
+        [*with_bad_option(TEXT_CAME, 3, "08000000"), "went 300/106 ACK"], (f"line 6: {NOT_ALL_CAME.format(106)}{counts(6, 1)}", 1), (counts(6), 0)),
+    # What the SYN offered can't be read.
+    "a SYN with an illegal option": both(
+        ["came 100 SYN options=0303070800000000", "went 300/101 SYN,ACK options=0402010103030701"], counts(2), 0),
+    # It came damaged, so that no end may take it (3.1, MUST-3).
+    "damaged text is acknowledged": (
+        [*OPENED, "came 100/300 ACK text=HELLO sum=wrong", "went 300/105 ACK"], (f"line 5: {NOT_ALL_CAME.format(105)}{counts(5, 1)}", 1), (counts(5), 0)),
+    "wrong checksums": (
+        [*OPENED, "went 300/100 ACK text=HI sum=wrong", "went 300/100 ACK text=HI", "went 302/100 ACK text=HO sum=wrong"],
+        (f"line 4: {WRONG_SUM}{counts(6, 2)}", 1), (with_note(2, 4, 6), 0)),
+    "an illegal option that goes out is no damage": both(
+        [*OPENED, "went 300/100 ACK options=08000000"], f"line 4: no segment: no option begins at byte 20 (RFC 9293, 3.1)\n{counts(4, 1)}", 1),
+    # SEG.SEQ = SND.NXT - 1, with a byte of any value or without (3.8.4).
+    "a keep-alive with a byte": both([*OPENED, "went 300/100 ACK text=HI", "went 301/100 ACK text=x", "went 302/100 ACK text=HO"], counts(6), 0),
+    "a keep-alive with a byte at SND.UNA - 1": both([*OPENED, "went 300/100 ACK text=HI", "came 100/302 ACK", "went 301/100 ACK text=x"], counts(6), 0),
+    "keep-alives with a byte behind the FIN": both(
+        [*OPENED, "went 300/100 FIN,ACK text=HI", "went 302/100 ACK text=x", "went 302/100 ACK text=y", "went 300/100 FIN,ACK text=HI"], counts(7), 0),
+    "no keep-alive has two bytes": both(
+        [*OPENED, "went 300/100 ACK text=HI", "went 300/100 ACK text=Ho"], f"line 5: {ANOTHER_BYTE.format(300)}{counts(5, 1)}", 1),
+    "no keep-alive is before SND.NXT - 1": both(
+        [*OPENED, "went 300/100 ACK text=HI", "went 300/100 ACK text=x"], f"line 5: {ANOTHER_BYTE.format(300)}{counts(5, 1)}", 1),
+    "no keep-alive is at SND.NXT": both(
+        [*OPENED, "went 300/100 FIN,ACK text=HI", "went 303/100 ACK text=x"], f"line 5: {BEYOND.format(5, 3)}{counts(5, 1)}", 1),
+    # Nothing that the end sent: nothing is judged.
+    "only what came": both(["came 99 SYN"], counts(1), 2),
+    "nothing": both([], counts(0), 2),
+}
+
+
+def found_and_wanted(report_of):
+    """Of each row its name, what is reported of it and what is wanted, complete and not."""
+    for name, (rows, complete, other) in ROWS.items():
+        lines = [line_of(row) for row in rows]
+        yield f"{name}, complete", report_of(lines, True), complete
+        yield f"{name}, not complete", report_of(lines, False), other
+
+
+def judge_rows(cases, judges):
+    """Each row by both judges."""
+    for name, found, wanted in found_and_wanted(judges.report):
+        cases.holds(name, found == wanted, f"{found} for {wanted}")
+
+
+def main():
+    compared = list(found_and_wanted(Judges(sys.argv[1]).report if len(sys.argv) > 1 else report))
+    failed = [(name, found, wanted) for name, found, wanted in compared if found != wanted]
+    for name, found, wanted in failed:
+        print(f"FAILED: {name}: {found} for {wanted}")
+    print(f"{len(compared)} rows, {len(failed)} failed")
+    return int(len(failed) > 0)
+
+
+if __name__ == "__main__":
+    raise SystemExit(main())
