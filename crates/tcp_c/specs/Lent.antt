@@ -1,12 +1,22 @@
 -- What is reported to C of bytes that are lent where they lie (RFC 9293, 3.10.3, 3.7 and 3.8), and of a segment for a device
 -- that computes the checksum (3.1).
-use Rattle.std.specs.Prelude.{ℕ, nat_lt, if◌then◌else◌, List, [], length, take, is_some, Option, Some, None, unwrap_or}
+use Rattle.std.specs.Prelude.{◌≡◌, ◌↔◌, ℕ, nat_lt, if◌then◌else◌, List, [], length, take, is_some, Option, Some, None, unwrap_or}
+use denote.RawPtr.{Ptr, block_ptr, null_ptr}
+use denote.Ref.{Bor}
 use Rattle.tcp_conn.specs.Calls.{receive_answer, received_bytes}
 use Rattle.tcp_conn.specs.Emission.{destination, emitted_bytes}
 use Rattle.tcp_conn.specs.Partial.{partial_after}
 use Rattle.tcp_conn.specs.State.{State}
 use Rattle.tcp_c.specs.Answers.{done, little_room, nothing_due, received_number}
 use Rattle.tcp_c.specs.Status.{flag}
+
+-- where the first of these bytes lies; null where there is none
+abbrev pub address_of : Bor (List ℕ) → Ptr
+address_of bytes = if nat_lt 0 (length bytes.now) then block_ptr bytes.ref_ptr.0 bytes.ref_ptr.1 else null_ptr
+
+-- a part of so many bytes is at null exactly where it is empty
+abbrev pub IsNullIfEmpty : Ptr → ℕ → Type 0
+IsNullIfEmpty at count = (at ≡ null_ptr) ↔ (count ≡ 0)
 
 -- PEEK answers as RECEIVE into a buffer for all unread bytes
 abbrev pub peek_number : State → ℕ

@@ -129,8 +129,11 @@
 //! [`MARK_OF_LIVE`].
 //!
 //! What `tcp_c_peek` and `tcp_c_parts` lend lies in the block of the end, at the pointers that they write. Their
-//! contracts state how many bytes lie there, and not which: a contract in Rattle doesn't describe memory that its
-//! function doesn't own. Nobody writes them, and the next call that changes the end ends the loan.
+//! contracts state how many bytes lie there, and that a part is at null exactly where it is empty. Which bytes these are is
+//! stated by the functions below them (`told_of` in lending.rt and parts.rt): each part is reported by the address and the
+//! length of the slice that the end lends, in its order. The exported functions can't repeat that: a contract in Rattle
+//! doesn't describe memory that its function doesn't own. Nobody writes the bytes, and the next call that changes the end
+//! ends the loan.
 //!
 //! A TIME-WAIT record is a plain value: a copy is another record in the same place, and any bytes are one or none.
 //!

@@ -47,8 +47,9 @@ pub extern "C" fn tcp_c_emit_acknowledgement(
     DONE
 }
 
-/// Of what is in flight, the first segment alone must be sent again, and then new data (RFC 5681, 3.2; RFC 6582, 3.2). 54
-/// where nothing is in flight: then nothing changes.
+/// Of what is in flight, as much as one segment carries must be sent again, from SND.UNA on, and then new data (RFC 5681, 3.2;
+/// RFC 6582, 3.2). Where the text leaves room in it for the FIN behind it the FIN, too, which goes out by itself. 54 where
+/// nothing is in flight: then nothing changes.
 #[unsafe(no_mangle)]
 pub extern "C" fn tcp_c_resend_first(handle: &mut Handle) -> u32
     ensures answer { result ≡ answer_of resend_number handle.old.held.end }

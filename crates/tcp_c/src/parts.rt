@@ -3,7 +3,7 @@ ghost use Rattle.std.specs.Prelude.{◌≡◌, ◌≤◌, ◌+◌, length, take,
 ghost use Rattle.tcp_conn.specs.Emission.{after_emission, destination};
 ghost use Rattle.tcp_conn.specs.declared.parts.TheConstants.{HEADER_ROOM};
 ghost use Rattle.tcp_c.specs.Answers.{done, answer_of, number_written};
-ghost use Rattle.tcp_c.specs.Lent.{due_bytes, first_due, parts_length, parts_number};
+ghost use Rattle.tcp_c.specs.Lent.{IsNullIfEmpty, address_of, due_bytes, first_due, parts_length, parts_number};
 ghost use Rattle.tcp_c.specs.Segments.{nowhere, written_destination};
 
 use crate::answers::{DONE, LITTLE_ROOM, NO_END, NOTHING_DUE};
@@ -12,7 +12,7 @@ use crate::lending::start_of;
 use crate::records::{CAddr, CParts};
 use region_heap::Region;
 use std::ptr::null;
-use tcp_conn::{Endpoint, HEADER_ROOM};
+use tcp_conn::{Endpoint, HEADER_ROOM, Parts};
 use tcp_wire::Addr;
 
 /// No segment.
@@ -21,6 +21,8 @@ fn no_parts() -> CParts
     ensures header { result.header ≡ 0 }
     ensures first_length { result.first_length ≡ 0 }
     ensures second_length { result.second_length ≡ 0 }
+    ensures first_null { IsNullIfEmpty result.first result.first_length }
+    ensures second_null { IsNullIfEmpty result.second result.second_length }
 {
     CParts {
         to: CAddr { byte: [0; 4] },
@@ -32,6 +34,28 @@ fn no_parts() -> CParts
     }
 }
 
+/// What is reported to C of a segment in parts: where it goes, the length of its header, and where each part of its text
+/// lies.
+fn told_of(parts: &Parts<'_>) -> CParts
+    requires { parts.now.header ≤ HEADER_ROOM }
+    ensures to { result.to.byte ≡ parts.now.to.0 }
+    ensures header { result.header ≡ parts.now.header }
+    ensures first { result.first ≡ address_of parts.now.first }
+    ensures first_length { result.first_length ≡ length parts.now.first.now }
+    ensures second { result.second ≡ address_of parts.now.second }
+    ensures second_length { result.second_length ≡ length parts.now.second.now }
+{
+    let Addr(byte) = parts.to;
+    CParts {
+        to: CAddr { byte },
+        header: parts.header as u32,
+        first: start_of(parts.first),
+        first_length: parts.first.len(),
+        second: start_of(parts.second),
+        second_length: parts.second.len(),
+    }
+}
+
 /// The parts of the segment that is due, and the answer, where there is room.
 fn parts_of(end: &Endpoint<Region>, header: &mut [u8]) -> (u32, CParts)
     requires { HEADER_ROOM ≤ length header.old }
@@ -39,21 +63,14 @@ fn parts_of(end: &Endpoint<Region>, header: &mut [u8]) -> (u32, CParts)
     ensures to { result.1.to.byte ≡ unwrap_or (destination end.now) nowhere }
     ensures lengths { result.1.header + (result.1.first_length + result.1.second_length) ≡ length (due_bytes end.now) }
     ensures written { take result.1.header header.new ≡ take result.1.header (due_bytes end.now) }
+    ensures first_null { IsNullIfEmpty result.1.first result.1.first_length }
+    ensures second_null { IsNullIfEmpty result.1.second result.1.second_length }
     ensures rest { drop result.1.header header.new ≡ drop result.1.header header.old }
 {
     let Some(parts) = end.parts(header) else {
         return (NOTHING_DUE, no_parts());
     };
-    let Addr(byte) = parts.to;
-    let found = CParts {
-        to: CAddr { byte },
-        header: parts.header as u32,
-        first: start_of(parts.first),
-        first_length: parts.first.len(),
-        second: start_of(parts.second),
-        second_length: parts.second.len(),
-    };
-    (DONE, found)
+    (DONE, told_of(&parts))
 }
 
 /// Writes the header of the segment that is due into the front of `header`, lends its text where it lies, in two parts,
@@ -66,6 +83,8 @@ pub extern "C" fn tcp_c_parts(handle: &mut Handle, header: &mut [u8], parts: &mu
     ensures destination { parts.new.to.byte ≡ written_destination HEADER_ROOM (length header.old) handle.old.held.end }
     ensures lengths { parts.new.header + (parts.new.first_length + parts.new.second_length) ≡ number_written (parts_length HEADER_ROOM (length header.old)) handle.old.held.end }
     ensures written { take parts.new.header header.new ≡ first_due parts.new.header handle.old.held.end }
+    ensures first_null { IsNullIfEmpty parts.new.first parts.new.first_length }
+    ensures second_null { IsNullIfEmpty parts.new.second parts.new.second_length }
     ensures rest { drop parts.new.header header.new ≡ drop parts.new.header header.old }
     ensures state { handle.new.held.end ≡ handle.old.held.end }
 {

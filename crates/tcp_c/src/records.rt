@@ -29,9 +29,9 @@ pub struct CConfig {
     /// segment lifetime (RFC 9293, 3.4).
     pub limit: u64,
     /// The shift of the windows that this end advertises, from 0 to 14 (RFC 7323, 2.2). Ignored where `scales` is 0. A window behind
-    /// the SYN's is advertised in steps of 2^shift bytes, rounded down: with a `recv_capacity` below 2^shift it is always 0, and the
-    /// peer sends nothing but probes of a byte. Take the least shift with recv_capacity >> shift at most 65,535: 0 for 65,535
-    /// bytes, 1 for 65,536, 5 for 1,048,576.
+    /// the SYN's is advertised in steps of 2^shift bytes, rounded down: it is 0 while fewer than 2^shift bytes are free, with a
+    /// `recv_capacity` below 2^shift always, and the peer then sends nothing but probes of a byte. No call refuses that. Take the
+    /// least shift with recv_capacity >> shift at most 65,535 (TCPCORE_LEAST_SHIFT): 0 for 65,535 bytes, 1 for 65,536, 5 for 1,048,576.
     pub window_shift: u8,
     /// Whether this end offers window scaling (RFC 7323, 2.2): 0 is no, anything else yes.
     pub scales: u8,

@@ -1,9 +1,0 @@
-use Rattle.std.proofs.Common.{arith}
-use Rattle.std.proofs.lemmas.Grind.{common_steps}
-use Rattle.tcp_c.proofs.user.tcp_c_listen.Goals as goal
-
-pub returns-clause-answer : goal.returns-clause-answer
-returns-clause-answer c = grind (arith, common_steps)
-
-pub returns-clause-state : goal.returns-clause-state
-returns-clause-state c = grind (arith, common_steps)
