@@ -1,11 +1,13 @@
 #!/usr/bin/env bash
 # Builds out/usernet over a static library (the first argument, or crates/tcp_c's own); the words behind it are the
-# compiler's.
+# compiler's. With PROGRAM=NAME it is out/NAME. And out/fuzz, which hostile.py runs.
 set -euo pipefail
 cd "$(dirname "$0")"
 library=$(realpath "${1:-../../crates/tcp_c/out/libtcp_c.a}")
 shift || true
-companions=$(printf ' ../../c/companions/%s.c' faults ip pairs table timers trains tun wheel)
+companions=$(printf ' ../../c/companions/%s.c' answers faults ip pairs table timers trains tun wheel)
+flags="-std=c11 -O2 -g -Wall -Wextra -Wpedantic -Wconversion -Wshadow -Wcast-qual -Werror -I../../c -I../../c/tcpcore"
 mkdir -p out
-${CC:-gcc} -std=c11 -O2 -g -Wall -Wextra -Wpedantic -Wconversion -Wshadow -Wcast-qual -Werror -I../../c -I../../c/tcpcore "$@" \
-    -pthread usernet.c loop.c conn.c $companions ../../c/tcpcore/tcpcore.c "$library" -o out/usernet
+${CC:-gcc} $flags "$@" -pthread usernet.c words.c loop.c conn.c carry.c limits.c $companions ../../c/tcpcore/tcpcore.c "$library" \
+    -o "out/${PROGRAM:-usernet}"
+${CC:-gcc} $flags fuzz.c ../../c/companions/ip.c ../../c/companions/trains.c -o out/fuzz

@@ -10,12 +10,14 @@
 #include <string.h>
 #include <sys/epoll.h>
 #include <sys/socket.h>
-#include <sys/uio.h>
 #include <unistd.h>
 
 static const struct timers_rules RULES = {
     .first_rto = 1000, .least_rto = 200, .greatest_rto = 60000, .granularity = 1, .time_wait = 2000,
-    .r1 = 3, .r2 = 100000, .syn_limit = 180000, .syn_ack_limit = 60000};
+    .r1 = 3, .r2 = 924600, .syn_limit = 180000, .syn_ack_limit = 60000};
+
+/* The first of the gateway's ports from which connections are carried in. */
+enum { FIRST_PORT = 32768 };
 
 /* A pair is its connection's first field. */
 static struct conn *conn_of(struct pair *pair) { return (struct conn *)(void *)pair; }
@@ -28,30 +30,71 @@ static struct tcpcore_status status_of(const struct conn *conn)
 }
 
 /* Makes a connection with the addresses and ports of `key`, which has none yet; NULL where no memory is left. */
-static struct conn *conn_new(struct usernet *net, const struct pair *key, int socket)
+static struct conn *conn_new(struct usernet *net, const struct pair *key, int socket, uint32_t capacity)
 {
-    struct conn *conn = malloc(sizeof *conn + ROOM);
+    struct conn *conn = malloc(sizeof *conn);
     if (!conn)
         return NULL;
-    *conn = (struct conn){.pair = *key, .socket = socket};
+    *conn = (struct conn){.pair = *key, .socket = socket, .capacity = capacity};
     timers_init(&conn->timers, &RULES);
+    answers_init(&conn->answers, (uint32_t)net->shared->limits.quiet);
     pairs_add(&net->pairs, &conn->pair);
+    limits_enter(net, conn);
     return conn;
 }
 
-/* Frees it; where `resets`, the host gets a reset. */
-static void drop(struct usernet *net, struct conn *conn, int resets)
+/* An event of this turn may be its own, so that it stays where it is. */
+void drop(struct usernet *net, struct conn *conn, int resets)
 {
     pairs_remove(&net->pairs, &conn->pair);
     wheel_put(&net->wheel, &conn->node, net->now, -1);
+    limits_leave(net, conn);
     if (resets && conn->socket >= 0)
         setsockopt(conn->socket, SOL_SOCKET, SO_LINGER, &(struct linger){.l_onoff = 1}, sizeof(struct linger));
     if (conn->socket >= 0)
         close(conn->socket);
     if (conn->is_open)
         tcpcore_free(&conn->end);
-    free(conn->syn);
-    free(conn);
+    free(conn->block);
+    conn->block = NULL, conn->is_open = 0, conn->socket = -1;
+    conn->is_dropped = 1;
+    conn->next = net->dropped;
+    net->dropped = conn;
+}
+
+void free_dropped(struct usernet *net)
+{
+    while (net->dropped) {
+        struct conn *conn = net->dropped;
+        net->dropped = conn->next;
+        free(conn);
+    }
+}
+
+uint64_t edge_of(const struct conn *conn, const struct tcpcore_status *status)
+{
+    return status->next + conn->capacity - status->unread;
+}
+
+uint64_t step_of(const struct usernet *net, const struct conn *conn)
+{
+    return net->mss < conn->capacity / 2 ? net->mss : conn->capacity / 2;
+}
+
+/* Whether a segment that was written goes out: not where it says once more what was just said. */
+static int goes(struct usernet *net, struct conn *conn, const struct tcpcore_transmit *sent)
+{
+    const uint8_t *segment = segment_place(net);
+    struct tcpcore_status status = status_of(conn);
+    uint64_t edge = edge_of(conn, &status);
+    if (!answers_may_go(&conn->answers, segment, (size_t)sent->length, status.phase, edge, step_of(net, conn), net->now)) {
+        count(net, UNSAID, 1);
+        return 0;
+    }
+    timers_sent(&conn->timers, sent, net->now);
+    if (bits_of(segment, ACK))
+        answers_told(&conn->answers, segment, edge);
+    return 1;
 }
 
 /* Emits the segment that is due, summed; whether there was one. */
@@ -60,8 +103,8 @@ static int emit_segment(struct usernet *net, struct conn *conn)
     struct tcpcore_transmit sent;
     if (tcpcore_transmit(&conn->end, segment_place(net), TCPCORE_EMIT_ROOM, &sent) != TCPCORE_DONE)
         return 0;
-    timers_sent(&conn->timers, &sent, net->now);
-    send_segment(net, (size_t)sent.length, conn->pair.server, sent.to);
+    if (goes(net, conn, &sent))
+        send_segment(net, (size_t)sent.length, conn->pair.server, sent.to);
     return 1;
 }
 
@@ -71,8 +114,8 @@ static int emit_train(struct usernet *net, struct conn *conn)
     struct tcpcore_train train;
     if (tcpcore_emit_train(&conn->end, segment_place(net), TCPCORE_TRAIN_ROOM, SIZE_MAX, &train) != TCPCORE_DONE)
         return 0;
-    timers_sent(&conn->timers, &train.whole, net->now);
-    send_train(net, conn->pair.server, &train);
+    if (goes(net, conn, &train.whole))
+        send_train(net, conn->pair.server, &train);
     return 1;
 }
 
@@ -83,16 +126,33 @@ static void emit(struct usernet *net, struct conn *conn)
         ;
 }
 
+void cut(struct usernet *net, struct conn *conn)
+{
+    if (conn->is_open && tcpcore_abort(&conn->end) == TCPCORE_DONE)
+        emit(net, conn);
+    drop(net, conn, 1);
+}
+
 /* Makes the connection's end, CLOSED; whether it could. */
 static int make_end(struct usernet *net, struct conn *conn)
 {
+    size_t room = TCPCORE_MEMORY(conn->capacity, conn->capacity);
     uint32_t isn = (uint32_t)(250 * net->now + pairs_secret(&net->pairs, &conn->pair));
     tcpcore_config config = {.addr = conn->pair.server, .port = conn->pair.server_port, .mss = net->mss, .isn = isn,
-                             .send_capacity = CAPACITY, .recv_capacity = CAPACITY, .limit = UINT64_C(1) << 62,
+                             .send_capacity = conn->capacity, .recv_capacity = conn->capacity, .limit = UINT64_C(1) << 62,
                              .window_shift = SHIFT, .scales = 1, .sack = 1};
+    conn->block = malloc(room);
     conn->end = (tcpcore_end)TCPCORE_END_INIT;
-    conn->is_open = tcpcore_new(&conn->end, &config, conn->block, ROOM) == TCPCORE_DONE;
+    conn->is_open = conn->block && tcpcore_new(&conn->end, &config, conn->block, room) == TCPCORE_DONE;
     return conn->is_open;
+}
+
+/* Whether what came is a segment (RFC 9293, 3.1), of whichever connection. */
+static int is_segment(struct usernet *net, const struct ip_packet *packet, int vouched)
+{
+    uint32_t answer = (vouched ? tcpcore_arrive_vouched : tcpcore_arrive)(&net->reader, packet->src, packet->dst, packet->segment,
+                                                                          packet->length);
+    return answer < TCPCORE_TOO_SHORT || answer > TCPCORE_BAD_PADDING;
 }
 
 /* Answers a segment for which there is no end (RFC 9293, 3.10.7.1). Its checksum is looked at: one that was left out is made. */
@@ -106,7 +166,7 @@ static void stray(struct usernet *net, const struct ip_packet *from, int vouched
         bytes = net->text;
     }
     if (tcpcore_stray_reset(from->src, from->dst, bytes, from->length, segment_place(net), TCPCORE_RESET_ROOM, &length) !=
-        TCPCORE_DONE)
+        TCPCORE_DONE || !limits_answer(net))
         return;
     send_segment(net, length, from->dst, from->src);
     count(net, STRAYS, 1);
@@ -120,16 +180,20 @@ static int watch(struct usernet *net, struct conn *conn)
     return epoll_ctl(net->events, EPOLL_CTL_ADD, conn->socket, &event) == 0;
 }
 
+/* The client's SYN opens the end; whether it did. */
+static int open_end(struct usernet *net, struct conn *conn)
+{
+    if (!make_end(net, conn) || tcpcore_listen(&conn->end) != TCPCORE_DONE)
+        return 0;
+    return tcpcore_arrive(&conn->end, conn->pair.client, conn->pair.server, conn->syn, conn->syn_length) == TCPCORE_DONE;
+}
+
 /* The host's socket answered: the namespace sees ESTABLISHED, or a reset. Whether there is an end now. */
 static int host_answered(struct usernet *net, struct conn *conn)
 {
     int fault = 0;
     getsockopt(conn->socket, SOL_SOCKET, SO_ERROR, &fault, &(socklen_t){sizeof fault});
-    if (fault == 0 && conn->can_write && make_end(net, conn)) {
-        tcpcore_listen(&conn->end);
-        tcpcore_arrive(&conn->end, conn->pair.client, conn->pair.server, conn->syn, conn->syn_length);
-        free(conn->syn);
-        conn->syn = NULL;
+    if (fault == 0 && conn->can_write && open_end(net, conn)) {
         count(net, OPENED, 1);
         return 1;
     }
@@ -139,51 +203,77 @@ static int host_answered(struct usernet *net, struct conn *conn)
     return 0;
 }
 
-/* A SYN came: the host connects to the same address and port, and keeps the SYN until it has. */
-static void open_conn(struct usernet *net, const struct pair *key, const struct ip_packet *packet, int vouched)
+/* A socket of the host's that connects to where the client wants to; below 0 where it can't, with errno. */
+static int connect_host(const struct usernet *net, const struct pair *key)
 {
     struct sockaddr_in to = {.sin_family = AF_INET, .sin_port = htons(key->server_port)};
     int host = socket(AF_INET, SOCK_STREAM | SOCK_NONBLOCK | SOCK_CLOEXEC, 0);
-    uint8_t *syn = malloc(packet->length);
-    struct conn *conn = host >= 0 && syn ? conn_new(net, key, host) : NULL;
-    memcpy(&to.sin_addr, &packet->dst, sizeof to.sin_addr);
-    if (memcmp(&packet->dst, &net->gateway, sizeof net->gateway) == 0)
+    memcpy(&to.sin_addr, &key->server, sizeof to.sin_addr);
+    if (memcmp(&key->server, &net->gateway, sizeof net->gateway) == 0)
         to.sin_addr.s_addr = htonl(INADDR_LOOPBACK);
+    if (host < 0 || connect(host, (struct sockaddr *)&to, sizeof to) == 0 || errno == EINPROGRESS)
+        return host;
+    int fault = errno;
+    close(host);
+    errno = fault;
+    return -1;
+}
+
+/* A SYN came: the host connects to the same address and port, and its header is kept until it has; text comes again. Where a limit is
+   reached, or the system lacks something, the SYN is dropped: it comes again, too. */
+static void open_conn(struct usernet *net, const struct pair *key, const struct ip_packet *packet, int vouched)
+{
+    uint32_t capacity = limits_admit(net, key);
+    int host = capacity ? connect_host(net, key) : -1, fault = errno;
+    struct conn *conn = host >= 0 ? conn_new(net, key, host, capacity) : NULL;
     if (conn) {
-        memcpy(syn, packet->segment, packet->length);
-        if (vouched)
-            trains_sum(syn, packet->length, packet->src, packet->dst);
-        conn->syn = syn, conn->syn_length = packet->length;
-        conn->first = read32(syn + AT_SEQ);
-        if ((connect(host, (struct sockaddr *)&to, sizeof to) == 0 || errno == EINPROGRESS) && watch(net, conn))
+        conn->syn_length = (uint8_t)header_of(packet->segment);
+        memcpy(conn->syn, packet->segment, conn->syn_length);
+        trains_sum(conn->syn, conn->syn_length, packet->src, packet->dst);
+        conn->first = read32(conn->syn + AT_SEQ);
+        if (watch(net, conn))
             return;
         drop(net, conn, 1);
-    } else {
-        free(syn);
-        if (host >= 0)
-            close(host);
+    } else if (host >= 0) {
+        close(host);
+    } else if (capacity && !is_exhausted(fault)) {
+        count(net, REFUSED, 1);
+        stray(net, packet, vouched);
+        return;
     }
-    count(net, REFUSED, 1);
-    stray(net, packet, vouched);
+    count(net, EXHAUSTED, capacity > 0);
+}
+
+/* A port of the gateway's that is this thread's and in no use towards the key's; whether there was one. */
+static int take_port(struct usernet *net, struct pair *key)
+{
+    for (uint32_t left = (uint32_t)net->shared->limits.ports; left > 0; left--) {
+        net->next_port = (uint16_t)((net->next_port + 1u) % net->shared->limits.ports);
+        key->server_port = (uint16_t)(FIRST_PORT + net->next_port);
+        if (owner_of(net, key) == net->index && !pairs_find(&net->pairs, key))
+            return 1;
+    }
+    return 0;
 }
 
 void conn_publish(struct usernet *net, int socket, uint16_t port)
 {
     struct pair key = {.client = net->own, .client_port = port, .server = net->gateway};
-    struct conn *conn;
-    do
-        key.server_port = net->next_port = (uint16_t)(net->next_port < 32768 ? 32768 : net->next_port + 1);
-    while (owner_of(net, &key) != net->index || pairs_find(&net->pairs, &key));
-    conn = conn_new(net, &key, socket);
-    if (!conn) {
-        close(socket);
-    } else if (!make_end(net, conn) || !watch(net, conn)) {
-        drop(net, conn, 1);
-    } else {
+    int has_port = take_port(net, &key);
+    uint32_t capacity = has_port ? limits_admit(net, &key) : 0;
+    struct conn *conn = capacity ? conn_new(net, &key, socket, capacity) : NULL;
+    count(net, FULL, !has_port);
+    if (conn && make_end(net, conn) && watch(net, conn)) {
         tcpcore_connect(&conn->end, conn->pair.client, port);
         count(net, PUBLISHED, 1);
         wheel_wake(&net->wheel, &conn->node);
+        return;
     }
+    count(net, EXHAUSTED, capacity > 0);
+    if (conn)
+        drop(net, conn, 1);
+    else
+        close(socket);
 }
 
 /* Whether a SYN may open anew what is in TIME-WAIT: its number lies behind all that came (RFC 9293, 3.10.7.4). */
@@ -194,16 +284,36 @@ static int reopens(const struct conn *conn, const uint8_t *bytes)
     return status.phase == TCPCORE_PHASE_TIME_WAIT && after < UINT32_C(1) << 31;
 }
 
+/* Whether a segment is answered before the others of its batch are read. What the end refuses brought it nothing: with text or
+   without, it is answered once in a while. */
+static int may_answer(struct usernet *net, struct conn *conn, const struct ip_packet *packet, const struct tcpcore_taken *taken)
+{
+    uint8_t bare[SEGMENT_HEADER];
+    if (taken->rule < TCPCORE_RULE_UNACCEPTABLE || taken->rule >= TCPCORE_RULE_TAKEN)
+        return answers_arrived(&conn->answers, packet->segment, packet->length, taken->at_once, net->now);
+    memcpy(bare, packet->segment, sizeof bare);
+    bare[AT_OFFSET] = SEGMENT_HEADER / 4 << 4;
+    bare[AT_BITS] &= (uint8_t)~FIN;
+    return answers_arrived(&conn->answers, bare, sizeof bare, taken->at_once, net->now);
+}
+
 /* A segment of a connection that has an end. */
 static void take(struct usernet *net, struct conn *conn, const struct ip_packet *packet, int vouched)
 {
+    struct tcpcore_status before = status_of(conn);
     struct tcpcore_taken taken;
+    if (withholds_reset(&before, packet->segment, packet->length))
+        return; /* what the client has sent goes to the host first */
     uint32_t answer =
         vouched ? tcpcore_taken_vouched(&conn->end, packet->src, packet->dst, packet->segment, packet->length, &taken)
                 : tcpcore_taken(&conn->end, packet->src, packet->dst, packet->segment, packet->length, &taken);
-    count(net, MALFORMED, answer >= TCPCORE_TOO_SHORT && answer <= TCPCORE_BAD_PADDING);
+    if (taken.rule == TCPCORE_RULE_NONE) {
+        count(net, MALFORMED, answer >= TCPCORE_TOO_SHORT && answer <= TCPCORE_BAD_PADDING);
+        return;
+    }
     timers_taken(&conn->timers, &conn->end, &taken, net->now);
-    if (taken.at_once)
+    limits_touch(net, conn);
+    if (may_answer(net, conn, packet, &taken))
         emit(net, conn); /* out of order, or a gap was filled (RFC 5681, 4.2) */
     wheel_wake(&net->wheel, &conn->node);
 }
@@ -214,61 +324,22 @@ void arrive(struct usernet *net, const struct ip_packet *packet, int vouched)
     struct pair key = {packet->src, packet->dst, read16(bytes), read16(bytes + 2), NULL};
     struct conn *conn = conn_of(pairs_find(&net->pairs, &key));
     int opens = bits_of(bytes, SYN | ACK | RST | FIN) == SYN;
-    if (conn && conn->is_open && opens && reopens(conn, bytes))
+    if (conn && conn->is_open && !(opens && reopens(conn, bytes))) {
+        take(net, conn, packet, vouched);
+        return;
+    }
+    if (!is_segment(net, packet, vouched)) {
+        count(net, MALFORMED, 1);
+        return;
+    }
+    if (conn && conn->is_open)
         drop(net, conn, 0), conn = NULL;
     if (!conn && opens)
         open_conn(net, &key, packet, vouched);
     else if (!conn)
         stray(net, packet, vouched);
-    else if (conn->is_open)
-        take(net, conn, packet, vouched);
-    else if (bits_of(bytes, RST))
+    else if (bits_of(bytes, RST) && read32(bytes + AT_SEQ) == conn->first + 1)
         drop(net, conn, 1); /* the client doesn't wait for the host any longer */
-}
-
-/* What the client sent goes to the host's socket from where it lies, as far as that takes it; 0 where the connection can't go on. */
-static int carry_up(struct usernet *net, struct conn *conn)
-{
-    struct tcpcore_lent lent;
-    uint32_t answer = TCPCORE_DONE;
-    while (conn->can_write && !conn->client_done && (answer = tcpcore_peek(&conn->end, &lent)) == TCPCORE_DONE) {
-        size_t length = lent.first.length + lent.second.length, taken;
-        struct iovec pieces[2];
-        memcpy(&pieces[0], &lent.first, sizeof pieces[0]);
-        memcpy(&pieces[1], &lent.second, sizeof pieces[1]);
-        ssize_t sent = sendmsg(conn->socket, &(struct msghdr){.msg_iov = pieces, .msg_iovlen = 2}, MSG_NOSIGNAL);
-        if (sent < 0 && errno != EAGAIN)
-            return 0;
-        tcpcore_consume(&conn->end, sent > 0 ? (size_t)sent : 0, &taken);
-        if (length > CAPACITY / 2 && taken >= net->mss)
-            tcpcore_acknowledge(&conn->end); /* the client learns of the room (RFC 9293, 3.8.6.2.2) */
-        count(net, UP, taken);
-        conn->can_write = taken == length;
-    }
-    if (answer == TCPCORE_END_OF_STREAM)
-        shutdown(conn->socket, SHUT_WR), conn->client_done = 1;
-    return 1;
-}
-
-/* What the host sent goes into the end's queue, as far as it has room; 0 where the connection can't go on. */
-static int carry_down(struct usernet *net, struct conn *conn)
-{
-    while (conn->can_read && !conn->host_done) {
-        size_t room = (size_t)status_of(conn).room, taken = 0;
-        ssize_t got = room == 0 ? 0 : recv(conn->socket, net->text, room, 0);
-        if (room == 0 || (got < 0 && errno == EAGAIN)) {
-            conn->can_read = room == 0;
-            return 1;
-        }
-        if (got == 0) {
-            conn->host_done = 1;
-            tcpcore_close(&conn->end);
-        } else if (got < 0 || tcpcore_send(&conn->end, net->text, (size_t)got, &taken) != TCPCORE_DONE) {
-            return 0;
-        }
-        count(net, DOWN, taken);
-    }
-    return 1;
 }
 
 /* Looks at one connection: its timers, both ways, what is due, and whether it has ended. */
@@ -289,6 +360,7 @@ static void turn(struct usernet *net, struct conn *conn)
         carry_up(net, conn); /* what came with the last acknowledgement */
     if (conn->host_done && conn->client_done && conn->socket >= 0)
         close(conn->socket), conn->socket = -1;
+    limits_follow(net, conn, status.phase);
     if (status.phase == TCPCORE_PHASE_CLOSED && (!is_orderly || conn->socket < 0))
         drop(net, conn, !is_orderly);
     else
@@ -305,12 +377,7 @@ void turn_all(struct usernet *net)
 void end_all(struct usernet *net)
 {
     for (uint32_t at = 0; at < BUCKETS; at++)
-        while (net->buckets[at]) {
-            struct conn *conn = conn_of(net->buckets[at]);
-            if (conn->is_open) {
-                tcpcore_abort(&conn->end);
-                emit(net, conn);
-            }
-            drop(net, conn, 1);
-        }
+        while (net->buckets[at])
+            cut(net, conn_of(net->buckets[at]));
+    free_dropped(net);
 }

@@ -4,13 +4,16 @@
 #include "usernet.h"
 #include "companions/segment.h"
 
+#include <errno.h>
+#include <stdio.h>
 #include <string.h>
 #include <sys/epoll.h>
 #include <sys/socket.h>
 #include <time.h>
 #include <unistd.h>
 
-enum { EVENTS = 256, BATCH = 128, DEVICE = LISTENERS, SIGNALS, INBOX };
+/* PAUSE: the milliseconds for which nothing is accepted where the system lacks what that takes. */
+enum { EVENTS = 256, BATCH = 128, PAUSE = 100, DEVICE = LISTENERS, SIGNALS, INBOX };
 
 static uint64_t milliseconds(void)
 {
@@ -22,7 +25,8 @@ static uint64_t milliseconds(void)
 /* The middle bits: the buckets go by the upper ones, the initial sequence number by the lower ones. */
 uint32_t owner_of(struct usernet *net, const struct pair *pair)
 {
-    return net->count == 1 ? 0 : (uint32_t)(pairs_secret(&net->pairs, pair) >> 20 & 0xfff) % net->count;
+    uint32_t threads = net->shared->threads;
+    return threads == 1 ? 0 : (uint32_t)(pairs_secret(&net->pairs, pair) >> 20 & 0xfff) % threads;
 }
 
 static void to_device(const void *packet, size_t length, void *context)
@@ -70,14 +74,30 @@ static void from_device(const void *frame, size_t length, void *context)
         arrive(net, &found, vouched);
     } else {
         size_t front = net->offloads ? TUN_HEADER : 0;
-        send(net->all[owner]->to_inbox, frame, front + length, MSG_DONTWAIT); /* what it can't take is lost, too */
+        send(net->shared->all[owner]->to_inbox, frame, front + length, MSG_DONTWAIT); /* what it can't take is lost, too */
     }
+}
+
+int stop_all(struct shared *shared, int status)
+{
+    int none = 0, is_first = atomic_compare_exchange_strong(&shared->status, &none, status);
+    shared->stops = 1;
+    for (uint32_t at = 0; at < shared->threads; at++)
+        send(shared->all[at]->to_inbox, "", 0, MSG_DONTWAIT); /* whose inbox is full is awake */
+    return is_first;
+}
+
+/* Whether a read that answered this says that there is no device any more: somebody may delete it from inside of the namespace. */
+static int is_gone(ssize_t got)
+{
+    return got == 0 || (got < 0 && (errno == EBADFD || errno == EBADF || errno == ENODEV || errno == ENXIO || errno == EIO));
 }
 
 static void read_device(struct usernet *net)
 {
     for (int at = 0; at < BATCH; at++) {
         ssize_t got = read(net->device, net->frame, sizeof net->frame);
+        net->is_gone |= is_gone(got);
         if (got <= 0)
             return;
         count(net, ARRIVED, 1);
@@ -95,78 +115,121 @@ static void read_inbox(struct usernet *net)
     }
 }
 
-static void accept_on(struct usernet *net, const struct published *published)
-{
-    int socket = accept4(published->socket, NULL, NULL, SOCK_NONBLOCK | SOCK_CLOEXEC);
-    if (socket >= 0)
-        conn_publish(net, socket, published->port);
-}
-
-/* An event's number is that of what listens, DEVICE, SIGNALS, INBOX, and else the place of a connection. */
-static void take_event(struct usernet *net, const struct epoll_event *event, void (*signalled)(void))
-{
-    struct conn *conn = event->data.ptr;
-    if (event->data.u64 < LISTENERS)
-        accept_on(net, &net->published[event->data.u64]);
-    else if (event->data.u64 == SIGNALS)
-        signalled();
-    else if (event->data.u64 == INBOX)
-        read_inbox(net);
-    if (event->data.u64 <= INBOX)
-        return;
-    conn->can_read |= (event->events & (EPOLLIN | EPOLLRDHUP | EPOLLHUP | EPOLLERR)) != 0;
-    conn->can_write |= (event->events & (EPOLLOUT | EPOLLHUP | EPOLLERR)) != 0;
-    wheel_wake(&net->wheel, &conn->node);
-}
-
-/* Connections now, and the most at once, for whoever asks. */
-static void tell_of_pairs(struct usernet *net)
-{
-    atomic_store_explicit(&net->counters[NOW], net->pairs.used, memory_order_relaxed);
-    atomic_store_explicit(&net->counters[MOST], net->pairs.most, memory_order_relaxed);
-}
-
 static int watch(struct usernet *net, int descriptor, uint32_t events, uint64_t number)
 {
     struct epoll_event event = {.events = events, .data.u64 = number};
     return epoll_ctl(net->events, EPOLL_CTL_ADD, descriptor, &event) == 0;
 }
 
+/* One thread is woken by a connection that comes, and takes it. */
+static int listen_all(struct usernet *net)
+{
+    const struct published *published = net->shared->published;
+    net->listens_at = 0;
+    for (uint64_t at = 0; published[at].socket >= 0; at++)
+        if (!watch(net, published[at].socket, EPOLLIN | EPOLLEXCLUSIVE, at))
+            return 0;
+    return 1;
+}
+
+/* Connections of the host wait for a while: what they would take isn't there. */
+static void pause_all(struct usernet *net)
+{
+    const struct published *published = net->shared->published;
+    for (uint64_t at = 0; published[at].socket >= 0; at++)
+        epoll_ctl(net->events, EPOLL_CTL_DEL, published[at].socket, NULL);
+    net->listens_at = net->now + PAUSE;
+}
+
+static void accept_on(struct usernet *net, const struct published *published)
+{
+    int socket = accept4(published->socket, NULL, NULL, SOCK_NONBLOCK | SOCK_CLOEXEC);
+    if (socket >= 0) {
+        conn_publish(net, socket, published->port);
+    } else if (is_exhausted(errno)) {
+        count(net, EXHAUSTED, 1);
+        pause_all(net);
+    }
+}
+
+/* A socket of a connection, which may have been dropped since these events were found. */
+static void take_socket(struct usernet *net, struct conn *conn, uint32_t events)
+{
+    if (conn->is_dropped)
+        return;
+    conn->can_read |= (events & (EPOLLIN | EPOLLRDHUP | EPOLLHUP | EPOLLERR)) != 0;
+    conn->can_write |= (events & (EPOLLOUT | EPOLLHUP | EPOLLERR)) != 0;
+    wheel_wake(&net->wheel, &conn->node);
+}
+
+/* An event's number is that of what listens, DEVICE, SIGNALS, INBOX, and else the place of a connection. */
+static void take_event(struct usernet *net, const struct epoll_event *event, void (*signalled)(void))
+{
+    if (event->data.u64 < LISTENERS)
+        accept_on(net, &net->shared->published[event->data.u64]);
+    else if (event->data.u64 == DEVICE)
+        read_device(net);
+    else if (event->data.u64 == SIGNALS)
+        signalled();
+    else if (event->data.u64 == INBOX)
+        read_inbox(net);
+    else
+        take_socket(net, event->data.ptr, event->events);
+}
+
+static void tell(struct usernet *net, enum counter which, uint64_t number)
+{
+    atomic_store_explicit(&net->counters[which], number, memory_order_relaxed);
+}
+
+/* What there is now, for whoever asks. */
+static void tell_of_now(struct usernet *net)
+{
+    tell(net, NOW, net->pairs.used);
+    tell(net, MOST, net->pairs.most);
+    tell(net, HALF_OPEN, net->half_open.count);
+    tell(net, RESERVED, net->reserved);
+}
+
 int loop_init(struct usernet *net, const uint8_t secret[16])
 {
+    const tcpcore_config config = {.mss = 64, .send_capacity = 1, .recv_capacity = 1, .limit = 1};
     int pair[2];
     net->events = epoll_create1(EPOLL_CLOEXEC);
     net->now = milliseconds();
     wheel_init(&net->wheel, net->now);
     pairs_init(&net->pairs, net->buckets, BUCKETS, secret);
-    if (net->events < 0 || socketpair(AF_UNIX, SOCK_DGRAM | SOCK_CLOEXEC, 0, pair) != 0)
+    if (net->events < 0 || socketpair(AF_UNIX, SOCK_DGRAM | SOCK_CLOEXEC, 0, pair) != 0 ||
+        tcpcore_new(&net->reader, &config, net->reader_block, sizeof net->reader_block) != TCPCORE_DONE)
         return 0;
     net->inbox = pair[0], net->to_inbox = pair[1];
-    /* One thread is woken by a connection that comes, and takes it. */
-    for (uint64_t at = 0; net->published[at].socket >= 0; at++)
-        if (!watch(net, net->published[at].socket, EPOLLIN | EPOLLEXCLUSIVE, at))
-            return 0;
-    return watch(net, net->device, EPOLLIN, DEVICE) && watch(net, net->inbox, EPOLLIN, INBOX);
+    return listen_all(net) && watch(net, net->device, EPOLLIN, DEVICE) && watch(net, net->inbox, EPOLLIN, INBOX);
 }
 
-void loop_run(struct usernet *net, int signals, void (*signalled)(void), const _Atomic int *stops)
+/* What was found together, then all that is awake; what was dropped on the way is freed behind both. */
+static void loop_turn(struct usernet *net, void (*signalled)(void))
 {
     struct epoll_event events[EVENTS];
+    int found = epoll_wait(net->events, events, EVENTS, wheel_wait(&net->wheel, net->now));
+    net->now = milliseconds();
+    if (net->listens_at && net->now >= net->listens_at && !listen_all(net))
+        pause_all(net);
+    for (int at = 0; at < found; at++)
+        take_event(net, &events[at], signalled);
+    turn_all(net);
+    free_dropped(net);
+    tell_of_now(net);
+}
+
+void loop_run(struct usernet *net, int signals, void (*signalled)(void))
+{
     if (signals >= 0)
         watch(net, signals, EPOLLIN, SIGNALS);
-    while (!*stops) {
-        int has_packets = 0, found = epoll_wait(net->events, events, EVENTS, wheel_wait(&net->wheel, net->now));
-        net->now = milliseconds();
-        for (int at = 0; at < found; at++)
-            if (events[at].data.u64 == DEVICE)
-                has_packets = 1;
-            else
-                take_event(net, &events[at], signalled);
-        if (has_packets)
-            read_device(net);
-        turn_all(net);
-        tell_of_pairs(net);
+    while (!net->shared->stops) {
+        loop_turn(net, signalled);
+        if (net->is_gone && stop_all(net->shared, 1))
+            fputs("usernet: the device is gone\n", stderr);
     }
     end_all(net);
-    tell_of_pairs(net);
+    tell_of_now(net);
 }

@@ -246,7 +246,8 @@ def main():
     count = 0
     with world.World(16 * MIB if words.short else 1024 * MIB) as place:
         for fault, threads in [(0, 1), (1, 1), (0, 3), (1, 3)]:
-            with place.usernet(fault, "--threads", threads):
+            more = [] if words.short else ["--connections", 12000, "--memory", 4096]  # of `many`
+            with place.usernet(fault, "--threads", threads, *more):
                 calls = [(call, ()) for call in CLIENTS]
                 calls.append((many, ((2000, 1000) if words.short else (10000, 100000)) if fault == 0 else (200, 200)))
                 if fault == 0 and threads == 1 and not words.short:

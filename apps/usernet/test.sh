@@ -1,7 +1,8 @@
 #!/usr/bin/env bash
-# usernet under real clients, in namespaces of its own: apps/usernet/test.sh [LIBRARY] [WORD ..]. The words behind are test.py's:
-# --short, or --only WORD. It wants root, network namespaces and /dev/net/tun, and installs packages by apt-get where this
-# machine lacks them; where one is missing it fails, or, with LEAVE_OUT=1 in the environment, says so and leaves the run out.
+# usernet under real clients, in namespaces of its own, and then, built with sanitizers, in a hostile namespace:
+# apps/usernet/test.sh [LIBRARY] [WORD ..]. The words behind are test.py's: --short, or --only WORD, which leaves the hostile one out.
+# --hostile [PACKETS [SEED]] runs that one alone. It wants root, network namespaces and /dev/net/tun, and installs packages by apt-get
+# where this machine lacks them; where one is missing it fails, or, with LEAVE_OUT=1 in the environment, says so and leaves the run out.
 set -euo pipefail
 cd "$(dirname "$0")"
 test=usernet
@@ -25,4 +26,13 @@ scp openssh-client
 LIST
 [[ -e $library ]] || { echo "usernet: no $library: run 'rt lib' in crates/tcp_c"; exit 1; }
 ./build.sh "$library"
-exec python3 test.py "$@"
+PROGRAM=usernet.sanitized ./build.sh "$library" -O1 -fsanitize=address,undefined -fno-sanitize-recover=all
+if [[ ${1-} == --hostile ]]; then
+    exec python3 hostile.py "${@:2}"
+fi
+python3 test.py "$@"
+case " $* " in
+*" --only "*) ;;
+*" --short "*) python3 hostile.py ;;
+*) python3 hostile.py 400000 ;;
+esac

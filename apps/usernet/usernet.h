@@ -1,61 +1,117 @@
 /*
- * usernet.h: what usernet.c, loop.c and conn.c share. Each thread has one struct usernet: a queue of the TUN device, the connections
+ * usernet.h: what the files of usernet share. Each thread has one struct usernet: a queue of the TUN device, the connections
  * that are dealt to it by a hash of their addresses and ports, and all that these need. Of another thread's it reads the counters,
  * and writes packets of that thread's connections to its inbox.
+ *
+ * Whatever the namespace sends is taken for hostile. Nothing is connected for what is no segment, all that a client can hold is
+ * bounded (limits.c), and a connection that is dropped stays in memory until the events that were found with it are worked off.
  */
 #ifndef USERNET_H
 #define USERNET_H
 
+#include "companions/answers.h"
 #include "companions/faults.h"
 #include "companions/ip.h"
 #include "companions/pairs.h"
+#include "companions/timers.h"
 #include "companions/trains.h"
 #include "companions/wheel.h"
 
 #include <stdatomic.h>
 
-/* The bytes kept for each direction of a connection, and by how much its windows are shifted. */
-enum { CAPACITY = 262144, SHIFT = 3, BUCKETS = 65536, ROOM = TCPCORE_MEMORY(CAPACITY, CAPACITY) };
+/* The most and the fewest bytes kept for each direction of a connection, and by how much its windows are shifted. */
+enum { CAPACITY = 262144, LEAST_CAPACITY = 8192, SHIFT = 3, BUCKETS = 65536 };
 
-/* The most threads, and ports that are published. */
-enum { THREADS = 64, LISTENERS = 16 };
+/* The most threads, and ports that are published; the queues of half-open connections by their destination. */
+enum { THREADS = 64, LISTENERS = 16, PLACES = 4096 };
+
+/* The longest header of a segment. */
+enum { MOST_HEADER = 60 };
+
+/* The connections of one kind, the oldest first, and a connection's place among them; all zero where it is in none. */
+struct link { struct link *older, *newer; struct queue *queue; };
+struct queue { struct link *oldest, *newest; uint32_t count; };
 
 /* One connection of the namespace: an end of ours, and the host's socket behind it. */
 struct conn {
     struct pair pair;               /* as the namespace has it: its own address is the client's */
     struct wheel_node node;         /* its next deadline */
+    struct link order, place;       /* among those of its phase; among those half-open to one destination */
+    struct conn *next;              /* of those that were dropped */
     tcpcore_end end;                /* the namespace's peer; none before the host's socket is connected */
     struct timers timers;
+    struct answers answers;
+    void *block;                    /* the memory of the end, for as long as there is one */
+    uint32_t capacity;              /* bytes kept for each direction */
     int socket;                     /* the host's, or -1 once both directions are done */
     uint8_t is_open;                /* whether there is an end */
+    uint8_t is_dropped;             /* whether it waits to be freed */
     uint8_t can_read, can_write;    /* what epoll said of the socket, until a call would block */
     uint8_t host_done, client_done; /* whether that side's end of stream was passed on */
+    uint64_t since;                 /* when it was made, or something of the client's came last */
     uint32_t first;                 /* the client's initial sequence number */
-    uint8_t *syn;                   /* the client's SYN, until there is an end */
-    size_t syn_length;
-    uint8_t block[];                /* the memory of the end, ROOM bytes */
+    uint8_t syn[MOST_HEADER];       /* the header of the client's SYN, summed: it opens the end */
+    uint8_t syn_length;
 };
 
-/* What is counted; the last two are of connections now, and the most at once. */
-enum counter { OPENED, REFUSED, PUBLISHED, STRAYS, GAVE_UP, MALFORMED, ARRIVED, EMITTED, UP, DOWN, NOW, MOST, COUNTERS };
+/* What is counted. */
+enum counter {
+    OPENED, REFUSED, PUBLISHED, /* connections of the namespace: done at the host, refused by it; carried in */
+    STRAYS, GAVE_UP, MALFORMED, /* resets for what no connection takes; connections that timers gave up; what was no segment */
+    ARRIVED, EMITTED, UP, DOWN, /* packets; bytes of text */
+    FULL, RECYCLED,             /* connections that a limit kept out; half-open or silent ones that made way for another */
+    EXHAUSTED,                  /* connections that found no descriptor, memory or port of the host */
+    WITHHELD, UNSAID,           /* resets, and answers of connections, that a limit kept back */
+    NOW, MOST, HALF_OPEN,       /* connections now, the most at once, and those half-open now */
+    RESERVED,                   /* bytes of all ends now, as limits.memory counts them */
+    COUNTERS
+};
+
+/* What a client can hold at most, and what it is answered at most. */
+struct limits {
+    uint64_t connections;
+    uint64_t half_open;    /* of them those whose handshake isn't done */
+    uint64_t each;         /* and of these those to one address and port */
+    uint64_t memory;       /* bytes of all ends */
+    uint64_t ports;        /* of the gateway's, from which connections are carried in */
+    uint64_t strays;       /* resets in a second for what no connection takes */
+    uint64_t quiet;        /* milliseconds for which a connection repeats no answer (companions/answers.h) */
+};
 
 /* A socket that listens, and the port of the namespace behind it. */
 struct published { int socket; uint16_t port; };
 
+/* What all threads have in common. */
+struct shared {
+    struct usernet *all[THREADS];
+    uint32_t threads;
+    struct limits limits;                      /* of each thread: its share of what the program was told */
+    struct published published[LISTENERS + 1]; /* the last one's socket is below 0 */
+    _Atomic int stops, status;                 /* whether all end, and the program's status then */
+};
+
 struct usernet {
-    uint32_t index, count;     /* this thread's place, and how many there are */
-    struct usernet **all;      /* all of them */
+    uint32_t index;            /* this thread's place */
+    struct shared *shared;
     int device, events;        /* its queue of the TUN device, and epoll's descriptor */
     int inbox, to_inbox;       /* packets of its connections that another thread has read */
+    int is_gone;               /* whether the device is */
     int offloads;              /* whether trains of segments are exchanged with the device */
-    uint16_t mss, next_port;   /* the maximum segment size; the last port of the gateway's that was taken */
+    uint16_t mss, next_port;   /* the maximum segment size; the last of the gateway's ports that was tried */
     tcpcore_addr own, gateway; /* the namespace's address, and that which means the host's loopback */
-    const struct published *published;
     uint64_t now;              /* milliseconds */
+    uint64_t listens_at;       /* when it listens again, or 0 where it does */
     _Atomic uint64_t counters[COUNTERS];
     struct wheel wheel;
     struct pairs pairs;
     struct pair *buckets[BUCKETS];
+    struct conn *dropped;      /* what is freed behind these events */
+    struct queue half_open, active, resting; /* the connections by their phase: active ones by when something came last */
+    struct queue places[PLACES];
+    uint64_t reserved;         /* bytes of all ends */
+    uint64_t second, answered; /* the second in which the last stray came, and resets in it */
+    tcpcore_end reader;        /* an end that is never opened: it reads what comes for no other */
+    uint8_t reader_block[TCPCORE_MEMORY(1, 1)];
     struct faults up, down;    /* the path between device and ends */
     uint8_t frame[TUN_HEADER + 65535]; /* what the device gave */
     uint8_t packet[TRAINS_ROOM]; /* what the device is given */
@@ -77,19 +133,64 @@ static inline uint8_t *segment_place(struct usernet *net) { return net->packet +
 void send_segment(struct usernet *net, size_t length, tcpcore_addr from, tcpcore_addr to);
 void send_train(struct usernet *net, tcpcore_addr from, const struct tcpcore_train *train);
 
-/* Makes what a thread has; whether it could. `published` ends with a socket below 0. */
+/* Makes what a thread has; whether it could. */
 int loop_init(struct usernet *net, const uint8_t secret[16]);
 
-/* Runs until `stops` is set and something came to the inbox, then ends all connections. `signalled` is called where one came. */
-void loop_run(struct usernet *net, int signals, void (*signalled)(void), const _Atomic int *stops);
+/* Runs until all threads stop, then ends all connections. `signalled` is called where a signal came. */
+void loop_run(struct usernet *net, int signals, void (*signalled)(void));
+
+/* All threads stop, and the program ends with this status; whether no other one was told before. */
+int stop_all(struct shared *shared, int status);
 
 /* conn.c: a packet came from the namespace, whose checksum needs no look where `vouched`; a connection came from the host, to be
    carried in to `port` of the namespace. */
 void arrive(struct usernet *net, const struct ip_packet *packet, int vouched);
 void conn_publish(struct usernet *net, int socket, uint16_t port);
 
+/* Drops a connection: it has no socket, no end and no place any more, and is freed by free_dropped. Where `resets`, the host gets a
+   reset; where it is cut, the client does, too. */
+void drop(struct usernet *net, struct conn *conn, int resets);
+void cut(struct usernet *net, struct conn *conn);
+void free_dropped(struct usernet *net);
+
 /* Looks at all connections that are awake, or whose time has come; end_all resets and frees all there are. */
 void turn_all(struct usernet *net);
 void end_all(struct usernet *net);
+
+/* carry.c: text between the end and the host's socket, up to the host and down from it; 0 where the connection can't go on. */
+int carry_up(struct usernet *net, struct conn *conn);
+int carry_down(struct usernet *net, struct conn *conn);
+
+/* The right edge of the window that the end would advertise, and what it has to grow by to be told (RFC 9293, 3.8.6.2.2). */
+uint64_t edge_of(const struct conn *conn, const struct tcpcore_status *status);
+uint64_t step_of(const struct usernet *net, const struct conn *conn);
+
+/* limits.c: the bytes that a new connection to this destination keeps for each direction, or 0 where there may be none. Ones that have
+   been half-open or silent for some time, or are in TIME-WAIT, make way for it. */
+uint32_t limits_admit(struct usernet *net, const struct pair *key);
+
+/* A connection was made, half-open; its end is in this phase now; its client has sent something; it is dropped. */
+void limits_enter(struct usernet *net, struct conn *conn);
+void limits_follow(struct usernet *net, struct conn *conn, uint32_t phase);
+void limits_touch(struct usernet *net, struct conn *conn);
+void limits_leave(struct usernet *net, struct conn *conn);
+
+/* Whether one more stray is answered in this second. */
+int limits_answer(struct usernet *net);
+
+/* Whether a socket wasn't to be had for want of descriptors, memory or ports: there may be some later. */
+int is_exhausted(int fault);
+
+/* words.c: what the program was told. */
+struct words {
+    struct tun_config device;
+    char space[256];
+    struct limits limits; /* of the whole program, with its memory in MiB */
+    uint64_t mtu, fault, threads;
+    int shows;            /* whether counts are reported */
+};
+
+/* Reads the program's words, which may publish ports. Answers below 0 where it goes on, else the status to end with. */
+int words_read(char **words, struct words *told, struct shared *shared);
 
 #endif

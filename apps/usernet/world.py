@@ -9,6 +9,8 @@ import os
 import pathlib
 import shutil
 import signal
+import socket
+import struct
 import subprocess
 import sys
 import tempfile
@@ -72,15 +74,29 @@ async def echo(reader, writer):
         writer.close()
 
 
+async def close(_, writer):
+    with contextlib.suppress(ConnectionError):
+        writer.write(b"closed")
+        writer.close()
+
+
+async def reset(reader, writer):
+    with contextlib.suppress(ConnectionError):
+        await reader.read(1)
+        writer.get_extra_info("socket").setsockopt(socket.SOL_SOCKET, socket.SO_LINGER, struct.pack("ii", 1, 0))
+        writer.close()
+
+
 def serve():
-    """8081: Handler; 8082: what comes is sent back, and the close after it."""
+    """8081: Handler; 8082: what comes is sent back, and the close after it; 8085: closes at once; 8086: resets what sends anything."""
     web = http.server.ThreadingHTTPServer(("127.0.0.1", 8081), Handler)
     threading.Thread(target=web.serve_forever, daemon=True).start()
 
     async def run():
-        server = await asyncio.start_server(echo, "127.0.0.1", 8082, backlog=4096)
+        for call, port in (echo, 8082), (close, 8085), (reset, 8086):
+            await asyncio.start_server(call, "127.0.0.1", port, backlog=4096)
         print("ready", flush=True)
-        await server.serve_forever()
+        await asyncio.Event().wait()
 
     asyncio.run(run())
 
@@ -105,6 +121,8 @@ def serve_slowly():
 
 class World:
     """The namespaces, the files and the servers. `size` is that of the large file."""
+
+    program_name = "usernet"
 
     def __init__(self, size):
         self.folder = pathlib.Path(tempfile.mkdtemp(prefix="usernet."))
@@ -248,7 +266,7 @@ LogLevel ERROR
     @contextlib.contextmanager
     def usernet(self, fault, *more):
         """The program between both; `fault` percent of the packets are lost, doubled and late."""
-        words = [HERE / "out/usernet", "--netns", CLIENTS, "--stats", "--publish", "127.0.0.1:7000:8000", "--publish",
+        words = [HERE / "out" / self.program_name, "--netns", CLIENTS, "--stats", "--publish", "127.0.0.1:7000:8000", "--publish",
                  "127.0.0.1:7001:8001", *more]
         if fault:
             words += ["--fault", fault]
