@@ -1,9 +1,10 @@
 // A connection of a capture as a ladder, with what the judge says of each end's segments at their arrows.
-import { WELL, REFUSED } from "./module.mjs";
 import { escaped, head_at } from "./draw.mjs";
-import { connections_of, findings_of, log_of } from "./connections.mjs";
+import { flags_told } from "./connections.mjs";
 
 const ENDS = ["A", "B"], SIZE = 11, LETTER = SIZE * 0.603, EDGE = 12, LABEL = 42, SLANT = 8, LINE = 13, AROUND_SEEN = 400, MOST_ROW = 150, MOST_LISTED = 100;
+// Of more connections only those with findings are listed, and at most as many again.
+export const MOST_OPTIONS = 200;
 
 // Words in lines of so many letters at most.
 function in_lines(words, letters) {
@@ -15,124 +16,166 @@ function in_lines(words, letters) {
     return lines;
 }
 
-// Where each segment is drawn in a ladder of this width.
-function rows_of(segments, findings, width) {
-    const letters = Math.floor((width - 2 * EDGE - 20) / LETTER);
-    let top = 0;
-    const rows = segments.map(segment => {
-        const rule = findings.get(segment.number), lines = rule === undefined ? [] : in_lines(rule, letters);
-        const row = { segment, lines, top };
-        top += LABEL + SLANT + LINE * lines.length;
-        return row;
-    });
-    return { rows, height: top + SLANT };
+// A time in nanoseconds since the first packet, as seconds; empty where it isn't known.
+function time_told(time, is_fine) {
+    if (Number.isNaN(time)) {
+        return "";
+    }
+    const whole = Math.floor(Math.abs(time) / 1e9), digits = String(Math.abs(time) % 1e9).padStart(9, "0");
+    return `${time < 0 ? "-" : ""}${whole}.${is_fine ? digits : digits.slice(0, 6)} s`;
 }
 
-function segment_drawn({ segment, lines, top }, width) {
-    const { side, number, flags, seq, ack, window, text } = segment, is_of_a = side === "A";
-    const [from, to] = is_of_a ? [EDGE, width - EDGE] : [width - EDGE, EDGE], y = top + LABEL - 6;
-    const words = (at, line, name) => `<text class="${name}" x="${from + (is_of_a ? 10 : -10)}" y="${at}" ` +
-        `text-anchor="${is_of_a ? "start" : "end"}">${escaped(line)}</text>`;
-    const found = lines.map((line, place) => words(y + SLANT + LINE * (place + 1), line, "finding")).join("");
-    return `<g class="arrow${lines.length > 0 ? " accused" : ""}" data-side="${side}" data-number="${number}">` +
+function parts_told(parts) {
+    return parts.filter(part => part !== "").join(" ");
+}
+
+// Where each segment is drawn in a ladder of this width: by the findings before it, each of which takes lines.
+function rows_of(count, findings, width) {
+    const letters = Math.floor((width - 2 * EDGE - 20) / LETTER), starts = [0];
+    const marked = findings.filter(({ at }) => at < count).map(({ at, rule }) => ({ at, lines: in_lines(rule, letters) }));
+    marked.forEach(({ lines }) => starts.push(starts.at(-1) + LINE * lines.length));
+    // How many findings lie before a segment.
+    const before = at => {
+        let [low, high] = [0, marked.length];
+        while (low < high) {
+            const middle = (low + high) >> 1;
+            marked[middle].at < at ? low = middle + 1 : high = middle;
+        }
+        return low;
+    };
+    const top = at => (LABEL + SLANT) * at + starts[before(at)];
+    return {
+        top, height: top(count) + SLANT,
+        lines: at => marked[before(at)]?.at === at ? marked[before(at)].lines : [],
+        // The first segment that lies at this height or below it.
+        from(height) {
+            let [low, high] = [0, count];
+            while (low < high) {
+                const middle = (low + high) >> 1;
+                top(middle) < height ? low = middle + 1 : high = middle;
+            }
+            return low;
+        },
+    };
+}
+
+function segment_drawn({ columns, is_fine, rows, width }, at) {
+    const lines = rows.lines(at), is_of_a = columns.is_of_b[at] === 0, number = columns.number[at];
+    const [from, to] = is_of_a ? [EDGE, width - EDGE] : [width - EDGE, EDGE], y = rows.top(at) + LABEL - 6;
+    const words = (height, line, name) => `<text class="${name}" x="${from + (is_of_a ? 10 : -10)}" y="${height}" ` +
+        `text-anchor="${is_of_a ? "start" : "end"}">${line}</text>`;
+    const found = lines.map((line, place) => words(y + SLANT + LINE * (place + 1), escaped(line), "finding")).join("");
+    const told = parts_told([String(number), flags_told(columns.bits[at])]), time = time_told(columns.time[at], is_fine);
+    const numbers = `seq ${columns.seq[at]} ack ${columns.ack[at]} win ${columns.window[at]} len ${columns.text[at]}`;
+    return `<g class="arrow${lines.length > 0 ? " accused" : ""}" data-side="${is_of_a ? "A" : "B"}" data-number="${number}">` +
         `<path class="shaft" d="M${from} ${y}L${to} ${y + SLANT}"/>${head_at(to, y + SLANT, to - from, SLANT, true)}` +
-        `${words(y - 18, `${number} ${flags}`, "strong")}${words(y - 5, `seq ${seq} ack ${ack} win ${window} len ${text}`, "")}${found}</g>`;
+        words(y - 18, time === "" ? told : `${told}<tspan class="time" dx="8">${time}</tspan>`, "strong") +
+        `${words(y - 5, numbers, "")}${found}</g>`;
+}
+
+function counted(count, words) {
+    return `${count} ${words}${count === 1 ? "" : "s"}`;
 }
 
 // How many findings there are, and of what they can be.
-function findings_told(segments, verdicts, are_complete) {
-    const counts = ENDS.map(end => verdicts[end].findings.size), count = counts[0] + counts[1], left = verdicts.A.left;
-    const whole = ENDS.filter(end => are_complete[end]).join(" and ");
-    return [
-        count === 0 ? `No finding in ${segments.length} segments.`
-            : `${count} finding${count === 1 ? "" : "s"} in ${segments.length} segments: ${counts[0]} of A's, ${counts[1]} of B's.`,
+function findings_told({ count, counts, left, complete, columns, findings }) {
+    const whole = ENDS.filter(end => complete[end]).join(" and "), unknown = ENDS.filter((end, place) => counts[place] === null);
+    const sum = counts[0] + counts[1], drawn = columns.number.length;
+    return parts_told([
+        unknown.length > 0 ? `The module can't get the memory that it needs to judge ${unknown.join(" and ")}.`
+            : sum === 0 ? `No finding in ${count} segments.` : `${counted(sum, "finding")} in ${count} segments: ${counts[0]} of A's, ${counts[1]} of B's.`,
         whole === "" ? "Findings are of form and positions alone: something that came may be missing."
             : `Findings are of form and positions, and of ${whole}'s acknowledgements and blocks.`,
         "That there is none doesn't say that nothing is wrong.",
         left === 0 ? "" : `${left} checksum${left === 1 ? " was" : "s were"} left to a device, and made right.`,
-    ].filter(part => part !== "").join(" ");
+        drawn === count ? "" : `The ladder has the first ${drawn} segments.`,
+        sum <= findings.length ? "" : `The first ${findings.length} findings are marked.`,
+    ]);
 }
 
-// The verdict on one end: its findings by the number of the line; null where the module has no memory for it.
-function verdict_of(core, connection, end, is_complete) {
-    const { log, left } = log_of(connection, end), { answer, text } = core.judge(log, is_complete);
-    return answer === WELL || answer === REFUSED ? { findings: findings_of(text), left } : null;
+function option_told({ ends, count, counts }) {
+    const sum = counts === undefined || counts.includes(null) ? 0 : counts[0] + counts[1];
+    return `${ends.A} > ${ends.B}, ${counted(count, "segment")}${sum === 0 ? "" : `, ${counted(sum, "finding")}`}`;
 }
 
-export function captured({ part, choice, complete, told, box, canvas, picture, heads, listed }, core_of) {
-    let connections = [], shown = null, drawn = [0, -1], frame = 0;
+export function captured({ part, choice, complete, told, box, canvas, picture, heads, listed }, judge_one) {
+    let shown = null, drawn = [0, -1], frame = 0, is_fine = false, known = [], added = 0;
 
     function draw(is_forced) {
         if (shown === null) {
             return;
         }
-        const { rows, width, height } = shown, from = box.scrollTop, to = from + box.clientHeight;
+        const { rows, width } = shown, { height } = rows, from = box.scrollTop, to = from + box.clientHeight;
         if (!is_forced && from >= drawn[0] && Math.min(to, height) <= drawn[1]) {
             return;
         }
         // Only what can be seen, and some around it, is drawn.
         drawn = [Math.max(0, from - AROUND_SEEN), Math.min(height, to + AROUND_SEEN)];
-        const [top, bottom] = drawn, seen = rows.filter(row => row.top >= top - MOST_ROW && row.top <= bottom);
+        const [top, bottom] = drawn, seen = [];
+        for (let at = rows.from(top - MOST_ROW); at < shown.columns.number.length && rows.top(at) <= bottom; at += 1) {
+            seen.push(segment_drawn(shown, at));
+        }
         picture.style.top = `${top}px`;
         for (const [name, value] of Object.entries({ width, height: bottom - top, viewBox: `0 ${top} ${width} ${bottom - top}`, "font-size": SIZE })) {
             picture.setAttribute(name, value);
         }
-        picture.innerHTML = `<path class="life" d="M${EDGE} ${top}V${bottom}M${width - EDGE} ${top}V${bottom}"/>` +
-            seen.map(row => segment_drawn(row, width)).join("");
+        picture.innerHTML = `<path class="life" d="M${EDGE} ${top}V${bottom}M${width - EDGE} ${top}V${bottom}"/>${seen.join("")}`;
     }
 
     function fit() {
         if (shown === null || box.clientWidth === 0) {
             return;
         }
-        const width = box.clientWidth, { rows, height } = rows_of(shown.segments, shown.findings, width);
-        shown = { ...shown, rows, width, height };
-        canvas.style.height = `${height}px`;
+        const width = box.clientWidth, rows = rows_of(shown.columns.number.length, shown.findings, width);
+        shown = { ...shown, rows, width };
+        canvas.style.height = `${rows.height}px`;
         draw(true);
     }
 
-    function show_findings({ ends }, findings, segments) {
-        const accused = segments.filter(segment => findings.has(segment.number)), more = accused.length - MOST_LISTED;
-        listed.replaceChildren(...accused.slice(0, MOST_LISTED).map(segment => {
+    function list_findings({ ends, counts, findings }) {
+        const items = findings.slice(0, MOST_LISTED).map(({ number, time, side, rule }) => {
+            const when = time_told(time, is_fine);
+            return `line ${number},${when === "" ? "" : ` ${when},`} ${side} (${ends[side]}): ${rule}`;
+        });
+        const more = counts[0] + counts[1] - items.length;
+        listed.replaceChildren(...[...items, ...more > 0 ? [`and ${more} more`] : []].map(words => {
             const item = document.createElement("li");
-            item.textContent = `line ${segment.number}, ${segment.side} (${ends[segment.side]}): ${findings.get(segment.number)}`;
+            item.textContent = words;
             return item;
         }));
-        if (more > 0) {
-            const item = document.createElement("li");
-            item.textContent = `and ${more} more`;
-            listed.append(item);
-        }
     }
 
-    function judge() {
-        const connection = connections[Number(choice.value)], are_complete = { A: complete.A.checked, B: complete.B.checked };
-        const verdicts = Object.fromEntries(ENDS.map(end => [end, verdict_of(core_of(), connection, end, are_complete[end])]));
-        if (verdicts.A === null || verdicts.B === null) {
-            hide();
-            return;
-        }
-        // Each segment was sent by one end, so that no line has two findings.
-        const findings = new Map([...verdicts.A.findings, ...verdicts.B.findings]), { segments, ends } = connection;
-        shown = { segments, findings, rows: [], width: 0, height: 0 };
-        told.textContent = findings_told(segments, verdicts, are_complete);
+    function show_judged(found) {
+        shown = { ...found, is_fine, rows: rows_of(0, [], 0), width: 0 };
+        told.textContent = findings_told(found);
         heads.replaceChildren(...ENDS.map(end => {
             const name = document.createElement("b");
-            name.textContent = `${end} ${ends[end]}`;
+            name.textContent = `${end} ${found.ends[end]}`;
             return name;
         }));
-        show_findings(connection, findings, segments);
+        list_findings(found);
         part.hidden = false;
         fit();
+    }
+
+    // Asks for the verdict on the connection that is chosen, and shows it once it is there.
+    function judge(then = () => {}) {
+        part.setAttribute("aria-busy", "true");
+        judge_one(Number(choice.value), { A: complete.A.checked, B: complete.B.checked }, found => {
+            part.setAttribute("aria-busy", "false");
+            show_judged(found);
+            then();
+        });
     }
 
     function hide() {
         shown = null;
         part.hidden = true;
+        part.setAttribute("aria-busy", "false");
     }
 
-    choice.addEventListener("change", judge);
-    ENDS.forEach(end => complete[end].addEventListener("change", judge));
+    choice.addEventListener("change", () => judge());
+    ENDS.forEach(end => complete[end].addEventListener("change", () => judge()));
     new ResizeObserver(() => {
         if (shown !== null && box.clientWidth !== shown.width) {
             fit();
@@ -145,14 +188,29 @@ export function captured({ part, choice, complete, told, box, canvas, picture, h
         frame = requestAnimationFrame(() => draw(false));
     }, { passive: true });
     return {
-        // The lines of a capture: its first connection is shown.
-        show(lines) {
-            connections = connections_of(lines);
+        // The connections of a capture; the first is shown, and `then` is called once it is.
+        show(found, then) {
             ENDS.forEach(end => { complete[end].checked = false; });
-            choice.replaceChildren(...connections.map(({ ends, segments }, number) =>
-                new Option(`${ends.A} > ${ends.B}, ${segments.length} segments`, number)));
-            choice.disabled = connections.length < 2;
-            connections.length === 0 ? hide() : judge();
+            [is_fine, known, added] = [found.is_fine, found.connections.length, 0];
+            choice.replaceChildren(...found.connections.map((one, number) => new Option(option_told(one), number)));
+            choice.disabled = found.total < 2;
+            if (found.total === 0) {
+                hide();
+                then();
+            } else {
+                judge(then);
+            }
+        },
+        // Of these connections the findings are counted.
+        count(found) {
+            for (const one of found) {
+                if (one.number < known) {
+                    choice.options[one.number].text = option_told(one);
+                } else if (added < MOST_OPTIONS) {
+                    choice.append(new Option(option_told(one), one.number));
+                    added += 1;
+                }
+            }
         },
         hide,
     };

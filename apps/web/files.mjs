@@ -8,9 +8,9 @@ export function save_file(name, type, text) {
     setTimeout(() => URL.revokeObjectURL(link.href), 10000);
 }
 
-// Calls back with the bytes of a file that is chosen at one of the inputs, or dropped on the page, and its name.
-export function on_file(inputs, on_bytes) {
-    const read = async file => file && on_bytes(new Uint8Array(await file.arrayBuffer()), file.name);
+// Calls back with a file that is chosen at one of the inputs, or dropped on the page.
+export function on_file(inputs, take) {
+    const read = async file => file && take(file);
     for (const input of inputs) {
         input.addEventListener("change", async () => {
             await read(input.files[0]);

@@ -1,6 +1,6 @@
 // Segments as bytes, and what they say: a list that is typed, hexadecimal digits that are pasted, or a capture.
 import { FAULT } from "./module.mjs";
-import { capture_lines, line_of_hex } from "./captures.mjs";
+import { line_of_hex } from "./captures.mjs";
 
 // Digits alone, of a header at least.
 const DIGITS = /^(?:[0-9a-fA-F]{2}){20,}$/;
@@ -10,7 +10,7 @@ function with_addresses(text) {
     return text.split("\n").map(line => DIGITS.test(line) ? line_of_hex(line, "10.0.0.1", "10.0.0.2") : line).join("\n");
 }
 
-export function listing({ part, list, told, shown, ladder_of }, core_of) {
+export function listing({ part, list, told, shown }, core_of, on_typing) {
     function show() {
         if (list.value.trim() === "") {
             told.textContent = shown.textContent = "";
@@ -23,23 +23,21 @@ export function listing({ part, list, told, shown, ladder_of }, core_of) {
     }
 
     list.addEventListener("input", () => {
-        ladder_of.hide();
+        on_typing();
         show();
     });
     return {
-        // Whether these are the bytes of a capture; then its segments are listed, and a connection is judged.
-        take(bytes, name) {
-            const found = capture_lines(bytes);
-            if (found === null) {
-                return false;
-            }
-            list.value = found.lines.map(line => `${line}\n`).join("");
+        // The segments of a capture, or the first of them where it has many.
+        show_capture({ name, lines, count, left_out, fault, connections, total }) {
+            list.value = lines.map(line => `${line}\n`).join("");
             part.open = true;
             show();
-            const left_out = found.left_out === 0 ? "" : `, ${found.left_out} packets without a whole IPv4 TCP segment left out`;
-            told.textContent = `${name}: ${found.lines.length} segments${left_out}.`;
-            ladder_of.show(found.lines);
-            return true;
+            told.textContent = [
+                `${name}: ${count} segments${left_out === 0 ? "" : `, ${left_out} packets without a whole IPv4 TCP segment left out`}.`,
+                fault === null ? "" : `The file is ${fault}.`,
+                lines.length === count ? "" : `The list has the first ${lines.length}.`,
+                connections.length === total ? "" : `Of ${total} connections the first ${connections.length} are listed, and then those with findings.`,
+            ].filter(words => words !== "").join(" ");
         },
     };
 }

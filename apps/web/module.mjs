@@ -1,6 +1,6 @@
 // Calls the module (MODULE.md): texts in, texts out. There is no TCP here.
 
-const BLOCK_UNIT = 16n;
+const BLOCK_UNIT = 16n, PAGE = 65536;
 
 function rounded(n) {
     return (n + BLOCK_UNIT - 1n) / BLOCK_UNIT * BLOCK_UNIT;
@@ -37,7 +37,22 @@ export async function calls(module) {
         return { answer, text: decoder.decode(text) };
     }
 
+    // Twice as much memory, or as much as there can be; false where there can't be more.
+    function grow() {
+        const pages = exports.memory.buffer.byteLength / PAGE;
+        for (const more of [pages, pages / 2, pages / 4].map(Math.floor)) {
+            try {
+                exports.memory.grow(more);
+                return true;
+            } catch {
+                // Less is tried.
+            }
+        }
+        return false;
+    }
+
     return {
+        grow,
         replay: script => call(exports.tcp_web_replay, script),
         steps: script => call(exports.tcp_web_steps, script),
         // The listing of a list of segments; `line` is that of the first bad one, or 0.
@@ -49,7 +64,7 @@ export async function calls(module) {
         // The findings of a log of one end, each with its line; `line` is that of the first bad one, or 0.
         judge(log, is_complete) {
             const found = call((record, at, length, out, room, count) =>
-                exports.tcp_web_judge(record, at, length, is_complete ? 1 : 0, out, room, count, count + 8n), log);
+                exports.tcp_web_judge(record, at, length, is_complete ? 1 : 0, 0, out, room, count, count + 8n), log);
             return { ...found, line: Number(new DataView(exports.memory.buffer).getBigUint64(Number(count) + 8, true)) };
         },
         // By which rule the segment is judged that an event delivers, counted from 0.

@@ -1,7 +1,8 @@
 """Puts the page into one file: python3 apps/web/pack.py MODULE OUT.
 
-The scripts are joined into one, without their imports and exports, so that a name may stand in one of them only; the
-module is put in as base64, and each file of apps/web/examples/ with its first comment as title.
+The scripts are joined into one, without their imports and exports, so that a name may stand in one of them only; and those of the
+worker that reads captures into another. The module is put in as base64, and each file of apps/web/examples/ with its first comment as
+title.
 """
 
 import base64
@@ -11,15 +12,17 @@ import re
 import sys
 
 WEB = pathlib.Path(__file__).resolve().parent
-SCRIPTS = ["module", "run", "words", "told", "draw", "bars", "editor", "ladder", "link", "actions", "acts", "history", "files", "captures", "packets", "connections", "captured", "listing", "page"]
+SCRIPTS = ["module", "run", "words", "told", "draw", "bars", "editor", "ladder", "link", "actions", "acts", "history", "files",
+    "pcapng", "captures", "packets", "connections", "captured", "listing", "reader", "page"]
+WORKER = ["module", "pcapng", "captures", "connections", "reading"]
 PICTURES = ["first-run", "loss-and-blocks", "shut-window"]
 IMPORT = re.compile(r"^import .*?;\n", re.MULTILINE | re.DOTALL)
 NAME = re.compile(r"^(?:async )?(?:function|const|let) (\w+)", re.MULTILINE)
 
 
-def script():
+def joined(scripts):
     parts, names = [], {}
-    for part in SCRIPTS:
+    for part in scripts:
         text = re.sub(r"^export ", "", IMPORT.sub("", (WEB / f"{part}.mjs").read_text()), flags=re.MULTILINE)
         for name in NAME.findall(text):
             if name in names:
@@ -49,7 +52,8 @@ def main():
         ('id="examples">[]', f'id="examples">{examples()}'),
         ('id="pictures">[]', f'id="pictures">{pictures()}'),
         ('id="module">', 'id="module">' + base64.b64encode(module.read_bytes()).decode()),
-        ("/* page.mjs */", script()),
+        ("/* reading.mjs */", joined(WORKER)),
+        ("/* page.mjs */", joined(SCRIPTS)),
     ]:
         if page.count(place) != 1:
             sys.exit(f"pack.py: {place} doesn't stand once in page.html")

@@ -11,9 +11,10 @@ import { lossy_script, run_to_end, with_lines } from "./actions.mjs";
 import { acts } from "./acts.mjs";
 import { history } from "./history.mjs";
 import { on_file, save_file } from "./files.mjs";
-import { captured } from "./captured.mjs";
+import { captured, MOST_OPTIONS } from "./captured.mjs";
 import { listing } from "./listing.mjs";
-import { capture_of } from "./captures.mjs";
+import { capture_of, is_capture } from "./captures.mjs";
+import { reader } from "./reader.mjs";
 import { packets_of } from "./packets.mjs";
 
 const at = id => document.getElementById(id);
@@ -30,13 +31,27 @@ const buttons = acts({
 }, lines => change(with_lines(field.value, lines), true));
 const judged = captured({ part: at("judged"), choice: at("connection"), complete: { A: at("complete-A"), B: at("complete-B") },
     told: at("judged-told"), box: at("captured"), canvas: at("captured-canvas"), picture: at("captured-picture"),
-    heads: at("captured-heads"), listed: at("findings") }, () => core);
+    heads: at("captured-heads"), listed: at("findings") }, (...words) => captures.judge(...words));
 const segments = listing({ part: at("listing-part"), list: at("segments"), told: at("segments-told"),
-    shown: at("segments-listing"), ladder_of: judged }, () => core);
+    shown: at("segments-listing") }, () => core, close_capture);
+const captures = reader({ part: at("reading"), bar: at("reading-bar"), told: at("reading-told"), cancel: at("reading-cancel") }, {
+    program_of: () => at("reader").textContent, module_of: () => compiled,
+    on_listed(found) {
+        segments.show_capture(found);
+        judged.show(found, () => say(`${found.name} is open.`));
+    },
+    on_counted: ({ found }) => judged.count(found),
+    on_end(words, is_over) {
+        if (is_over) {
+            judged.hide();
+        }
+        say(words);
+    },
+});
 const view = ladder(at("ladder"), at("heads"), at("canvas"), at("picture"), { on_row: go, on_segment: choose });
 
 // What is shown: the last script that was taken, its run, and the current event.
-let core = null, taken = "", run = null, places = null, refused_lines = new Set(), step = 0, chosen = null;
+let compiled = null, core = null, taken = "", run = null, places = null, refused_lines = new Set(), step = 0, chosen = null;
 // The script that was saved or linked last, the timer of a play, and the timers of what the module is asked for.
 let kept = "", playing = 0;
 const asked = new Map();
@@ -258,14 +273,23 @@ function save_capture() {
     say(`The capture is saved as tcp.pcap. It has ${packets.length} packet${packets.length === 1 ? "" : "s"}.`);
 }
 
-// A capture is listed, and any other file is a script.
-function open_file(bytes, name) {
-    if (!segments.take(bytes, name)) {
-        const text = new TextDecoder().decode(bytes);
-        load(text);
-        kept = text;
+function close_capture() {
+    captures.stop();
+    judged.hide();
+}
+
+// A capture is read apart from the page, and any other file is a script.
+async function open_file(file) {
+    if (is_capture(new Uint8Array(await file.slice(0, 4).arrayBuffer()))) {
+        close_capture();
+        at("listing-part").open = true;
+        captures.read(file, MOST_OPTIONS);
+        return;
     }
-    say(`${name} is open.`);
+    const text = await file.text();
+    load(text);
+    kept = text;
+    say(`${file.name} is open.`);
 }
 
 async function open_link() {
@@ -413,7 +437,8 @@ async function start() {
     ONE_COLUMN.addEventListener("change", order_parts);
     try {
         const bytes = Uint8Array.from(atob(at("module").textContent.trim()), letter => letter.charCodeAt(0));
-        core = await calls(await WebAssembly.compile(bytes));
+        compiled = await WebAssembly.compile(bytes);
+        core = await calls(compiled);
     } catch {
         at("unsupported").hidden = false;
         at("finished").hidden = false;

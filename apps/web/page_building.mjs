@@ -3,7 +3,6 @@ import { spawnSync } from "node:child_process";
 import fs from "node:fs";
 import path from "node:path";
 import { at } from "./cases.mjs";
-import { bytes_of, capture_of } from "./captures.mjs";
 
 const FIRST = fs.readFileSync(at("crates/tcpkit/data/first-run.script"), "utf8");
 const OWN = "# my own\nlisten B\n";
@@ -177,83 +176,6 @@ async function listed(tab, tools, expect) {
     }
 }
 
-// A log as a capture: its segments, each in the second of its line.
-function capture_of_log(log) {
-    return capture_of(log.split("\n").flatMap((line, seconds) => {
-        const [, source, target, hex] = line.split(" ");
-        return /^(?:came|went) /.test(line) ? [{ seconds, turn: 0, source, target, bytes: bytes_of(hex) }] : [];
-    }));
-}
-
-// What is shown of a capture that is judged. The numbers are those of lines of the list.
-const judged_shown = () => {
-    const text = id => document.getElementById(id).textContent, all = kind => [...document.querySelectorAll(kind)];
-    const accused = all("#captured-picture .accused");
-    return {
-        is_shown: !document.getElementById("judged").hidden, told: text("judged-told").split(". ")[0], heads: all("#captured-heads b").map(
-            part => part.textContent),
-        segments: all("#captured-picture .arrow").length, connections: document.getElementById("connection").options.length,
-        findings: all("#findings li").map(part => part.textContent),
-        accused: accused.map(part => [part.dataset.side, part.dataset.number, [...part.querySelectorAll(".finding")].map(
-            line => line.textContent).join(" ")].join(" ")),
-        colour: accused.length > 0 && getComputedStyle(accused[0].querySelector(".finding")).fill,
-    };
-};
-
-// A capture of a connection with planted faults shows each at its arrow, in the words of the program; one of a stack that breaks no
-// rule shows none.
-async function judged(tab, tools, expect) {
-    const log = fs.readFileSync(at("crates/tcpjudge/data/faults.log"), "utf8"), run = fs.readFileSync(at("crates/tcpjudge/stdout"), "utf8");
-    const places = log.split("\n").flatMap((line, place) => /^(?:came|went) /.test(line) ? [place + 1] : []);
-    const again = "line 38: an acknowledgement of 1, up to which not all came (RFC 9293, 3.4)";
-    const found = [...run.split("\n").slice(0, -2), again].map(line => {
-        const [, number, rule] = /^line (\d+): (.*)$/.exec(line);
-        return { number: places.indexOf(Number(number)) + 1, is_against_came: ["26", "34", "36", "38"].includes(number), rule };
-    });
-    const lines_of = findings => findings.map(({ number, rule }) => `line ${number}, B (10.0.0.2:2): ${rule}`);
-    const arrows_of = findings => findings.map(({ number, rule }) => `B ${number} ${rule}`);
-    const open = async (name, bytes) => {
-        const file = path.join(tab.folder, name);
-        fs.writeFileSync(file, bytes);
-        await tab.choose_file("#capture", file);
-        await tab.until(asked => document.getElementById("said").textContent === `${asked} is open.`, name);
-        return tools.run(judged_shown);
-    };
-    const check = (id, is_checked) => tools.run((box, value) => {
-        document.getElementById(box).checked = value;
-        document.getElementById(box).dispatchEvent(new Event("change"));
-    }, id, is_checked);
-    const form = found.filter(one => !one.is_against_came);
-    const faults = await open("faults.pcap", capture_of_log(log)), accent = await tools.run(() => getComputedStyle(
-        document.querySelector("#heads .phase")).fill);
-    expect("planted faults", faults, {
-        is_shown: true, told: "7 findings in 25 segments: 0 of A's, 7 of B's", heads: ["A 10.0.0.1:1", "B 10.0.0.2:2"], segments: 25, connections: 1,
-        findings: lines_of(form), accused: arrows_of(form), colour: accent,
-    });
-    await check("complete-A", true);
-    expect("A breaks no rule", (await tools.run(judged_shown)).findings, lines_of(form));
-    await check("complete-B", true);
-    const whole = await tools.run(judged_shown);
-    expect("planted faults against what came", [whole.told, whole.findings, whole.accused],
-        ["11 findings in 25 segments: 0 of A's, 11 of B's", lines_of(found), arrows_of(found)]);
-    const [plain, kernel] = ["plain-B", "kernel-A"].map(name => fs.readFileSync(at("checks/judge/data", `${name}.pcap`)));
-    const clean = await open("plain.pcap", plain);
-    expect("a clean capture", [clean.is_shown, clean.told, clean.segments, clean.findings, clean.accused],
-        [true, "No finding in 24 segments", 24, [], []]);
-    // The packets of another file after those of one, behind its header of 24 bytes.
-    const two = await open("two.pcap", Buffer.concat([plain, kernel.subarray(24)]));
-    expect("two connections", [two.connections, two.told, two.segments], [2, "No finding in 24 segments", 24]);
-    await tools.run(() => {
-        document.getElementById("connection").value = "1";
-        document.getElementById("connection").dispatchEvent(new Event("change"));
-    });
-    const second = await tools.run(judged_shown);
-    expect("the second connection", [second.told, second.segments, second.heads],
-        ["No finding in 23 segments", 23, ["A 10.7.0.1:55928", "B 10.7.0.2:7"]]);
-    await tools.run(() => document.getElementById("segments").dispatchEvent(new Event("input")));
-    expect("a list that is typed isn't judged", (await tools.run(judged_shown)).is_shown, false);
-}
-
 function number_of(value, size) {
     return Array.from({ length: size }, (_, at) => (value >>> (8 * at)) & 255);
 }
@@ -363,6 +285,5 @@ export async function building(tab, tools, expect) {
     await opened(tab, tools, expect);
     await listed(tab, tools, expect);
     await captured(tab, tools, expect);
-    await judged(tab, tools, expect);
     await moved(tab, tools, expect);
 }

@@ -6,10 +6,11 @@ import path from "node:path";
 import { pathToFileURL } from "node:url";
 import { browser } from "./browser.mjs";
 import { at, cases, changes, is_text, long_script, phases, refusals, wanted } from "./cases.mjs";
-import { PICTURES, setup } from "./page_tools.mjs";
+import { PHOTOGRAPH, PICTURES, setup } from "./page_tools.mjs";
 import { handling } from "./page_handling.mjs";
 import { looks } from "./page_looks.mjs";
 import { building } from "./page_building.mjs";
+import { captures } from "./page_captures.mjs";
 
 const [page, command, draw] = process.argv.slice(2);
 const address = pathToFileURL(path.resolve(page)).href;
@@ -124,6 +125,29 @@ async function stored(tools) {
     }
 }
 
+// The page as README shows it: an example with a loss, at the step where blocks tell A what B holds, and the loss still in sight. Its letters are
+// those of the machine that draws it, so that it isn't compared.
+async function photographed(tab, tools) {
+    const { file, script, width, height, step } = PHOTOGRAPH;
+    if (draw === "--draw") {
+        await tab.size(width, height);
+        await tab.prefer("prefers-color-scheme", "light");
+        await tools.edit(fs.readFileSync(at(script), "utf8"));
+        await tools.go(step);
+        await tools.run(async () => {
+            document.activeElement.blur();
+            document.getElementById("said").textContent = "";
+            const box = document.getElementById("ladder"), row = document.querySelector("#picture .band").getBoundingClientRect();
+            box.scrollTop += row.bottom - box.getBoundingClientRect().bottom + 4;
+            await new Promise(done => requestAnimationFrame(() => setTimeout(done, 200)));
+        });
+        await tab.picture(at(file));
+        await tab.size(1600, 6000);
+    }
+    const bytes = fs.readFileSync(at(file));
+    expect(`${file}: a picture of this size`, [bytes.toString("latin1", 1, 4), bytes.readUInt32BE(16), bytes.readUInt32BE(20)], ["PNG", width, height]);
+}
+
 const tab = await browser(command);
 try {
     await tab.size(1600, 6000);
@@ -132,8 +156,10 @@ try {
     await reports(tools, all);
     await refused(tools, all);
     await stored(tools);
+    await photographed(tab, tools);
     await looks(tab, tools, expect, address);
     await building(tab, tools, expect);
+    await captures(tab, expect);
     await handling(tab, tools, expect, address);
     await tab.size(1600, 1000);
     await ten_thousand(tab, tools);

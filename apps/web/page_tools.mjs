@@ -10,6 +10,9 @@ export const PICTURES = [
     ["docs/closing-at-once.svg", "apps/web/examples/5-closing-at-once.script"],
 ];
 
+// The page itself.
+export const PHOTOGRAPH = { file: "docs/page.png", script: "apps/web/examples/2-loss-and-blocks.script", width: 1400, height: 960, step: 22 };
+
 export async function setup(tab) {
     const folder = path.join(tab.folder, "saved");
     fs.mkdirSync(folder, { recursive: true });

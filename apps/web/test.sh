@@ -2,7 +2,8 @@
 # Tests the module under node, and the page, with that module in it, in headless Chromium and Firefox: apps/web/test.sh [--draw]
 # [[--module] FILE]. Without FILE the module is apps/web/out/tcp_web.wasm, which apps/web/build.sh builds where there is none. It
 # installs nodejs, chromium, firefox-esr and python3-dpkt by apt-get where this machine lacks them; where it can't, it fails, or, with
-# LEAVE_OUT=1 in the environment, says so and leaves the run out. With --draw the pictures of docs/ are saved anew.
+# LEAVE_OUT=1 in the environment, says so and leaves the run out. With --draw the pictures of docs/ are saved anew, the
+# ladders and page.png.
 set -euo pipefail
 cd "$(dirname "$0")/../.."
 test=page
@@ -27,6 +28,7 @@ if [[ -z $module ]]; then
     module=apps/web/out/tcp_web.wasm
     [[ -e $module ]] || apps/web/build.sh
 fi
+node apps/web/captures_test.mjs
 node apps/web/module_test.mjs "$module"
 node apps/web/explain_test.mjs "$module"
 work=$(mktemp -d)
