@@ -34,7 +34,7 @@ void answers_init(struct answers *answers, uint32_t quiet);
 
 /*
  * A segment has come that tcpcore_take answered by DONE or DROPPED, with this `at_once`. Returns whether it is answered at once:
- * not where it asks for what goes out once in some time, and that went out.
+ * no, if its answer is rate-limited and went out already.
  */
 int answers_arrived(struct answers *answers, const uint8_t *segment, size_t length, uint32_t at_once, uint64_t now);
 

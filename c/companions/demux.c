@@ -2,6 +2,8 @@
 #include "demux.h"
 #include "segment.h"
 
+#include <limits.h>
+
 int demux_init(struct demux *demux, const struct demux_config *config, struct table_slot *slots, uint32_t count)
 {
     size_t room = tcpcore_room(&config->end);
@@ -58,9 +60,9 @@ static void stray(struct demux *demux, tcpcore_addr src, const uint8_t *bytes, s
 /* Where there are too many half-open ends, or no slot is free, the oldest of them makes way (RFC 4987, 3.4). */
 static void keep_limits(struct demux *demux, struct table_slot *newest)
 {
-    struct table_slot *oldest = table_oldest(&demux->table, newest);
     if (demux->table.half_open <= demux->config.backlog && table_free(&demux->table))
         return;
+    struct table_slot *oldest = table_oldest(&demux->table, newest);
     if (oldest)
         demux->counters.recycled++;
     else
@@ -109,7 +111,7 @@ static void deal(struct demux *demux, struct table_slot *slot, const uint8_t *by
         demux->counters.malformed++;
         return;
     }
-    slot->touched = 1;
+    table_wake(&demux->table, slot);
     if (slot->flow.is_urgent)
         emit(demux, slot, now);
 }
@@ -145,7 +147,6 @@ static void reap(struct demux *demux, struct table_slot *slot)
 /* Runs the timers of one end, calls its user, and emits. */
 static void turn(struct demux *demux, struct table_slot *slot, uint64_t now)
 {
-    slot->touched = 0;
     if (flow_run(&slot->flow, &slot->end, now) & TIMERS_GAVE_UP)
         demux->counters.gave_up++;
     if (slot->is_half_open && slot->flow.timers.phase >= TCPCORE_PHASE_ESTABLISHED) {
@@ -156,28 +157,33 @@ static void turn(struct demux *demux, struct table_slot *slot, uint64_t now)
         demux->config.use(slot, demux->config.context);
     emit(demux, slot, now);
     flow_run(&slot->flow, &slot->end, now);
-    if (slot->flow.timers.phase == TCPCORE_PHASE_CLOSED)
+    if (slot->flow.timers.phase == TCPCORE_PHASE_CLOSED) {
         reap(demux, slot);
+        return;
+    }
+    int wait = flow_wait(&slot->flow, now);
+    table_put(&demux->table, slot, wait < 0 ? TIMERS_NEVER : now + (uint64_t)wait);
 }
 
+/* An end that is woken while the others have their turn has its own in the next one. */
 void demux_turn(struct demux *demux, uint64_t now)
 {
-    struct table_slot *slots = demux->table.slots;
-    for (struct table_slot *slot = slots; slot < slots + demux->table.count; slot++)
-        if (slot->is_used && (slot->touched || flow_wait(&slot->flow, now) == 0))
+    table_wake_due(&demux->table, now);
+    for (uint32_t left = demux->table.ready; left > 0; left--) {
+        struct table_slot *slot = table_take(&demux->table);
+        if (slot->is_used)
             turn(demux, slot, now);
+    }
 }
+
+void demux_wake(struct demux *demux, struct table_slot *slot) { table_wake(&demux->table, slot); }
 
 int demux_wait(const struct demux *demux, uint64_t now)
 {
-    const struct table_slot *slots = demux->table.slots;
-    int least = -1;
-    for (const struct table_slot *slot = slots; slot < slots + demux->table.count; slot++) {
-        int wait = !slot->is_used ? -1 : slot->touched ? 0 : flow_wait(&slot->flow, now);
-        if (wait >= 0 && (least < 0 || wait < least))
-            least = wait;
-    }
-    return least;
+    uint64_t due = demux->table.ready > 0 ? now : table_due(&demux->table);
+    if (due == TIMERS_NEVER)
+        return -1;
+    return due <= now ? 0 : due - now < INT_MAX ? (int)(due - now) : INT_MAX;
 }
 
 void demux_free(struct demux *demux)

@@ -68,15 +68,21 @@ int demux_init(struct demux *demux, const struct demux_config *config, struct ta
 
 /*
  * A TCP segment of `length` bytes has come from `src` to its own address. Out of order, or where it fills a gap, it is
- * answered at once (RFC 5681, 4.2); else by demux_turn. `src` can be a peer's: ip_read has tested that.
+ * answered at once (RFC 5681, 4.2); else by demux_turn. `src` can be a peer's: ip_read has tested that. A SYN costs a few
+ * steps, however many ends there are, also where another end makes way for it (RFC 4987, 3.4).
  */
 void demux_arrive(struct demux *demux, tcpcore_addr src, const void *segment, size_t length, uint64_t now);
 
-/* It is `now`: runs the timers, calls the users, emits what is due, and frees the ends that have ended. */
+/* It is `now`: runs the timers, calls the users, emits what is due, and frees the ends that have ended. It looks at those ends alone
+   to which a segment came, whose deadline has come, or that were woken. */
 void demux_turn(struct demux *demux, uint64_t now);
 
-/* The next deadline is in so many milliseconds: 0 where there is work, -1 where there is no deadline, as poll
-   takes it. */
+/* The next turn calls the user of this slot's end, if its handshake is done. Call it also behind calls for the end that were made
+   elsewhere than in `use`: they may have moved its deadline. */
+void demux_wake(struct demux *demux, struct table_slot *slot);
+
+/* The next deadline is in so many milliseconds: 0 where there is work, -1 where there is no deadline, as poll takes it. It looks at the
+   first deadline alone, however many ends there are. */
 int demux_wait(const struct demux *demux, uint64_t now);
 
 /* Frees all ends without a word to their peers. */

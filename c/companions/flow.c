@@ -217,6 +217,10 @@ uint32_t flow_arrive(struct flow *flow, tcpcore_end *end, tcpcore_addr src, tcpc
     const uint8_t *segment = bytes;
     struct tcpcore_status before = status_of(end);
     struct tcpcore_taken taken;
+    if (withholds_reset(&before, segment, length)) {
+        flow->resets++;
+        return TCPCORE_DROPPED;
+    }
     uint32_t answer = tcpcore_taken(end, src, dst, bytes, length, &taken);
     if (answer != TCPCORE_DONE && answer != TCPCORE_DROPPED)
         return answer;

@@ -53,6 +53,7 @@ struct flow {
     uint64_t answer_at;     /* when they have to be acknowledged, or TIMERS_NEVER */
     struct answers answers; /* what was told, and how many answers were withheld */
     uint64_t resent;        /* segments that were sent again */
+    uint64_t resets;        /* resets that were withheld from the end */
     uint64_t fast;          /* how often a loss was found by duplicate acknowledgements */
     uint64_t probes;        /* and how often silence was probed */
     uint64_t probe_at;      /* when it is next, or TIMERS_NEVER */
@@ -65,7 +66,7 @@ struct flow {
     uint32_t sampled;       /* the round trips that were measured when `doubled` was last 0 */
     uint32_t asked;         /* how often a silent peer was asked without an answer */
     uint32_t same;          /* duplicate acknowledgements in a row (RFC 5681, 2) */
-    uint32_t options;       /* bytes of options in the last segment behind the handshake, of which its text has so many fewer */
+    uint32_t options;       /* option bytes of the last segment after the handshake: they reduce its payload */
     uint8_t choices;        /* FLOW_CUBIC, FLOW_NAGLE */
     uint8_t is_overridden;  /* it may */
     uint8_t probed;         /* how often silence was probed since the last progress: at most twice, then it is the timeout's */
@@ -91,10 +92,14 @@ void flow_choose(struct flow *flow, uint32_t choices);
 void flow_keep_alive(struct flow *flow, const struct flow_keep *keep);
 
 /*
- * tcpcore_take, and its answer. Of duplicate acknowledgements the third one without blocks means a loss: the first segment goes out
- * again, and the next that lacks at each partial acknowledgement; all of them where the peer was seen to keep nothing out of order. A
- * SYN that comes again in SYN-RECEIVED says that the SYN,ACK was lost: it goes out in place of an acknowledgement, at most once in
- * ANSWERS_QUIET milliseconds. Sets is_urgent where that wants an answer at once.
+ * tcpcore_taken, and its answer. The third duplicate acknowledgement without blocks means a loss (fast retransmit, RFC 5681, 3.2): the
+ * first segment goes out again, and the next missing one at each partial acknowledgement (fast recovery, RFC 6582); all of them where
+ * the peer was seen to keep nothing out of order. A SYN that comes again in SYN-RECEIVED says that the SYN,ACK was lost: it goes out
+ * in place of an acknowledgement, at most once in ANSWERS_QUIET milliseconds. Sets is_urgent where that wants an answer at once.
+ * A reset is withheld from the end, and answered by TCPCORE_DROPPED, in CLOSING and LAST-ACK while any byte is unread, and in TIME-WAIT
+ * always (RFC 1337, 3). All the peer's bytes have come there, and were acknowledged, and the end would discard what isn't read, where
+ * RFC 9293, 3.10.7.4 deletes the connection's record alone. A peer that has forgotten the connection answers a resend by such a reset,
+ * also on a path that loses nothing. To the end it is as if the reset had been lost: the next one comes when the FIN is sent again.
  */
 uint32_t flow_arrive(struct flow *flow, tcpcore_end *end, tcpcore_addr src, tcpcore_addr dst, const void *bytes,
                      size_t length, uint64_t now);
@@ -119,8 +124,8 @@ uint32_t flow_receive(struct flow *flow, tcpcore_end *end, void *out, size_t roo
 /* It is `now`: timers_run, and its answer. */
 uint32_t flow_run(struct flow *flow, tcpcore_end *end, uint64_t now);
 
-/* tcpcore_emit. It is NOT_DUE, too, where an acknowledgement may wait or is withheld, or what goes out again has to wait: then an
-   acknowledgement that may not goes out alone. What is withheld was written to `out` all the same. */
+/* tcpcore_emit. Also NOT_DUE while an ACK is delayed or withheld, or a retransmission is paced; an ACK that can't wait is then sent
+   alone. What is withheld was written to `out` all the same. */
 uint32_t flow_emit(struct flow *flow, tcpcore_end *end, void *out, size_t room, tcpcore_addr *to, size_t *length,
                    uint64_t now);
 

@@ -2,10 +2,12 @@
  * segment.h: where the fields of a TCP segment lie (RFC 9293, 3.1). The companions' own files include it, and no header of
  * theirs: its names are short.
  *
- * This is C alone, tested with them and not proved. A segment is one of at least SEGMENT_HEADER bytes, all of which are there.
+ * This is C over tcpcore.h, tested with them and not proved. A segment is one of at least SEGMENT_HEADER bytes, all of which are there.
  */
 #ifndef TCPCORE_SEGMENT_H
 #define TCPCORE_SEGMENT_H
+
+#include "tcpcore.h"
 
 #include <stddef.h>
 #include <stdint.h>
@@ -31,5 +33,15 @@ static inline unsigned bits_of(const uint8_t *segment, unsigned bits) { return s
 
 /* The bytes of the header with its options. */
 static inline size_t header_of(const uint8_t *segment) { return 4 * (size_t)(segment[AT_OFFSET] >> 4); }
+
+/* Whether a reset is withheld from an end of this status. In CLOSING and LAST-ACK all bytes of the peer's have come, and the end would
+   discard those that aren't read; in TIME-WAIT each reset is ignored (RFC 1337, 3). To the end it is as if it had been lost. */
+static inline int withholds_reset(const struct tcpcore_status *status, const uint8_t *segment, size_t length)
+{
+    int has_all = status->phase == TCPCORE_PHASE_CLOSING || status->phase == TCPCORE_PHASE_LAST_ACK;
+    if (!segment || length < SEGMENT_HEADER || !bits_of(segment, RST))
+        return 0;
+    return status->phase == TCPCORE_PHASE_TIME_WAIT || (has_all && status->unread > 0);
+}
 
 #endif

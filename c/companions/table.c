@@ -8,11 +8,11 @@
 
 void table_init(struct table *table, struct table_slot *slots, uint32_t count, uint16_t port, const uint8_t secret[16])
 {
-    *table = (struct table){.slots = slots, .count = count, .port = port};
+    *table = (struct table){.slots = slots, .count = count, .port = port, .oldest = NONE, .newest = NONE, .first = NONE};
     memcpy(table->secret, secret, sizeof table->secret);
     for (uint32_t at = 0; at < count; at++) {
         memset(&slots[at], 0, sizeof slots[at]);
-        slots[at].bucket = NONE;
+        slots[at].bucket = slots[at].place = NONE;
         slots[at].next = at + 1 < count ? at + 1 : NONE;
     }
 }
@@ -81,6 +81,28 @@ struct table_slot *table_free(const struct table *table)
     return table->free == NONE ? NULL : &table->slots[table->free];
 }
 
+/* A slot joins the half-open ones as the newest, or leaves them. */
+static void join_half_open(struct table *table, uint32_t at)
+{
+    struct table_slot *slot = &table->slots[at];
+    slot->older = table->newest;
+    slot->newer = NONE;
+    *(slot->older == NONE ? &table->oldest : &table->slots[slot->older].newer) = at;
+    table->newest = at;
+    slot->is_half_open = 1;
+    table->half_open++;
+}
+
+static void leave_half_open(struct table *table, struct table_slot *slot)
+{
+    if (!slot->is_half_open)
+        return;
+    *(slot->older == NONE ? &table->oldest : &table->slots[slot->older].newer) = slot->newer;
+    *(slot->newer == NONE ? &table->newest : &table->slots[slot->newer].older) = slot->older;
+    slot->is_half_open = 0;
+    table->half_open--;
+}
+
 void table_add(struct table *table, tcpcore_addr peer, uint16_t port, uint64_t now)
 {
     uint32_t at = table->free, *bucket = bucket_of(table, peer, port);
@@ -90,38 +112,142 @@ void table_add(struct table *table, tcpcore_addr peer, uint16_t port, uint64_t n
     *bucket = at;
     slot->peer = peer;
     slot->port = port;
-    slot->is_used = slot->is_half_open = slot->touched = 1;
+    slot->is_used = 1;
     slot->began = now;
     slot->user = 0;
     table->used++;
-    table->half_open++;
+    join_half_open(table, at);
+    table_wake(table, slot);
 }
 
-void table_accept(struct table *table, struct table_slot *slot)
-{
-    table->half_open -= slot->is_half_open;
-    slot->is_half_open = 0;
-}
+void table_accept(struct table *table, struct table_slot *slot) { leave_half_open(table, slot); }
 
+/* A slot that is ready stays in that list: who takes it sees that it isn't used. */
 void table_remove(struct table *table, struct table_slot *slot)
 {
     uint32_t at = (uint32_t)(slot - table->slots), *link = bucket_of(table, slot->peer, slot->port);
-    while (*link != at)
-        link = &table->slots[*link].next;
+    for (; *link != at; link = &table->slots[*link].next)
+        table->looked++;
     *link = slot->next;
     tcpcore_free(&slot->end);
-    table_accept(table, slot);
+    leave_half_open(table, slot);
+    table_put(table, slot, TIMERS_NEVER);
     table->used--;
-    slot->is_used = slot->touched = 0;
+    slot->is_used = 0;
     slot->next = table->free;
     table->free = at;
 }
 
-struct table_slot *table_oldest(const struct table *table, const struct table_slot *newest)
+struct table_slot *table_oldest(struct table *table, const struct table_slot *newest)
 {
-    struct table_slot *oldest = NULL;
-    for (struct table_slot *slot = table->slots; slot < table->slots + table->count; slot++)
-        if (slot->is_half_open && slot != newest && (!oldest || slot->began < oldest->began))
-            oldest = slot;
-    return oldest;
+    uint32_t at = table->oldest;
+    table->looked++;
+    if (at != NONE && &table->slots[at] == newest)
+        at = newest->newer;
+    return at == NONE ? NULL : &table->slots[at];
+}
+
+void table_wake(struct table *table, struct table_slot *slot)
+{
+    uint32_t at = (uint32_t)(slot - table->slots);
+    if (slot->is_ready)
+        return;
+    slot->is_ready = 1;
+    *(table->ready == 0 ? &table->first : &table->slots[table->last].ready) = at;
+    table->last = at;
+    table->ready++;
+}
+
+struct table_slot *table_take(struct table *table)
+{
+    struct table_slot *slot = &table->slots[table->first];
+    table->first = slot->ready;
+    table->ready--;
+    table->looked++;
+    slot->is_ready = 0;
+    return slot;
+}
+
+/* The slot at a place of the heap. */
+static struct table_slot *heaped(const struct table *table, uint32_t place)
+{
+    return &table->slots[table->slots[place].heaped];
+}
+
+/* A slot takes this place of the heap. */
+static void settle(struct table *table, struct table_slot *slot, uint32_t place)
+{
+    table->slots[place].heaped = (uint32_t)(slot - table->slots);
+    slot->place = place;
+}
+
+/* The place of the earlier of the two below this one, or where that isn't before `due` this one. */
+static uint32_t below(struct table *table, uint32_t place, uint64_t due)
+{
+    uint32_t first = place < table->timed / 2 ? 2 * place + 1 : table->timed, found = place;
+    for (uint32_t at = first; at < table->timed && at <= first + 1; at++) {
+        table->looked++;
+        if (heaped(table, at)->due < due) {
+            due = heaped(table, at)->due;
+            found = at;
+        }
+    }
+    return found;
+}
+
+/* A slot goes up from this place, or down, to where its deadline belongs. */
+static void sift_up(struct table *table, struct table_slot *slot, uint32_t place)
+{
+    while (place > 0 && slot->due < heaped(table, (place - 1) / 2)->due) {
+        table->looked++;
+        settle(table, heaped(table, (place - 1) / 2), place);
+        place = (place - 1) / 2;
+    }
+    settle(table, slot, place);
+}
+
+static void sift_down(struct table *table, struct table_slot *slot, uint32_t place)
+{
+    for (uint32_t next; (next = below(table, place, slot->due)) != place; place = next)
+        settle(table, heaped(table, next), place);
+    settle(table, slot, place);
+}
+
+/* A slot is put at this place of the heap, or to where it belongs from there. */
+static void sift(struct table *table, struct table_slot *slot, uint32_t place)
+{
+    sift_up(table, slot, place);
+    sift_down(table, slot, slot->place);
+}
+
+/* A slot leaves the heap, and the last one takes its place. */
+static void leave_heap(struct table *table, struct table_slot *slot)
+{
+    uint32_t place = slot->place;
+    if (place == NONE)
+        return;
+    struct table_slot *last = heaped(table, --table->timed);
+    slot->place = NONE;
+    if (last != slot)
+        sift(table, last, place);
+}
+
+void table_put(struct table *table, struct table_slot *slot, uint64_t due)
+{
+    slot->due = due;
+    if (due == TIMERS_NEVER)
+        leave_heap(table, slot);
+    else
+        sift(table, slot, slot->place == NONE ? table->timed++ : slot->place);
+}
+
+uint64_t table_due(const struct table *table) { return table->timed == 0 ? TIMERS_NEVER : heaped(table, 0)->due; }
+
+void table_wake_due(struct table *table, uint64_t now)
+{
+    while (table->timed > 0 && heaped(table, 0)->due <= now) {
+        struct table_slot *slot = heaped(table, 0);
+        table_put(table, slot, TIMERS_NEVER);
+        table_wake(table, slot);
+    }
 }

@@ -1,5 +1,6 @@
 /*
- * table.h: the ends of one port by their peers' addresses and ports, in slots of the caller's. demux.h uses it.
+ * table.h: the ends of one port by their peers' addresses and ports, in slots of the caller's, and when each
+ * has to be looked at. No call walks over all slots but table_init. demux.h uses it.
  *
  * This is C over tcpcore.h and flow.h, tested and not proved. A peer can't choose who shares its list, since that
  * is up to a secret; the same secret goes into the initial sequence numbers (RFC 9293, 3.4.1).
@@ -9,7 +10,7 @@
 
 #include "flow.h"
 
-/* One end and what belongs to it. The caller may read all fields, write `user`, and set `touched`. */
+/* One end and what belongs to it. The caller may read all fields, and write `user`. */
 struct table_slot {
     tcpcore_end end;
     struct flow flow;       /* its times, and what it may send */
@@ -17,9 +18,13 @@ struct table_slot {
     uint16_t port;          /* the peer's port */
     uint8_t is_used;        /* whether an end is in the slot */
     uint8_t is_half_open;   /* whether its handshake wasn't answered yet */
-    uint8_t touched;        /* whether demux_turn has to look at it; the user sets it to be called */
+    uint8_t is_ready;       /* whether the next demux_turn looks at it, whatever the time is */
     uint64_t began;         /* when its SYN came */
+    uint64_t due;           /* when demux_turn looks at it next, or TIMERS_NEVER */
     uint32_t bucket, next;  /* of the table: the first slot of this bucket, and the next one of this slot's */
+    uint32_t older, newer;  /* its neighbours among the half-open ones */
+    uint32_t ready;         /* the next one that is ready */
+    uint32_t place, heaped; /* its own place in the heap of deadlines, and the slot at the place of this slot's number */
     uintptr_t user;         /* the user's own, 0 at first */
 };
 
@@ -28,6 +33,10 @@ struct table {
     uint32_t count;           /* slots */
     uint32_t used, half_open; /* ends, and half-open ones of them */
     uint32_t free;            /* the first free slot */
+    uint32_t oldest, newest;  /* of the half-open ones */
+    uint32_t first, last;     /* of those that are ready, in the order in which they became so */
+    uint32_t ready, timed;    /* how many are ready, and how many have a deadline */
+    uint64_t looked;          /* slots that limits, deadlines and turns have looked at so far */
     uint8_t secret[16];       /* random */
     uint16_t port;            /* its own port */
 };
@@ -44,7 +53,7 @@ struct table_slot *table_find(const struct table *table, tcpcore_addr peer, uint
 /* The slot that table_add takes next, or NULL where none is free. */
 struct table_slot *table_free(const struct table *table);
 
-/* Takes that slot, which isn't NULL, for a peer that has none: half-open since `now`. */
+/* Takes that slot, which isn't NULL, for a peer that has none: half-open since `now`, and ready. */
 void table_add(struct table *table, tcpcore_addr peer, uint16_t port, uint64_t now);
 
 /* The handshake of the slot's end is done. */
@@ -54,6 +63,21 @@ void table_accept(struct table *table, struct table_slot *slot);
 void table_remove(struct table *table, struct table_slot *slot);
 
 /* The oldest half-open one but this slot, or NULL. */
-struct table_slot *table_oldest(const struct table *table, const struct table_slot *newest);
+struct table_slot *table_oldest(struct table *table, const struct table_slot *newest);
+
+/* Makes a slot ready, behind all that are. */
+void table_wake(struct table *table, struct table_slot *slot);
+
+/* The slot that became ready first, where any is: it isn't any more. Its end may have gone meanwhile (`is_used`). */
+struct table_slot *table_take(struct table *table);
+
+/* Sets the deadline of a slot's end; TIMERS_NEVER: none. A heap keeps the earliest first. */
+void table_put(struct table *table, struct table_slot *slot, uint64_t due);
+
+/* The earliest deadline, or TIMERS_NEVER. */
+uint64_t table_due(const struct table *table);
+
+/* Makes those ready whose deadline has come, which have none then. */
+void table_wake_due(struct table *table, uint64_t now);
 
 #endif

@@ -13,7 +13,7 @@ enum { MOST_REORDERED = 16 };
 
 const struct timers_rules TIMERS_RULES = {
     .first_rto = 1000, .least_rto = 1000, .greatest_rto = 60000, .granularity = 1, .time_wait = 240000,
-    .r1 = 3, .r2 = 100000, .syn_limit = 180000, .syn_ack_limit = 180000};
+    .r1 = 3, .r2 = 924600, .syn_limit = 180000, .syn_ack_limit = 180000};
 
 void timers_init(struct timers *timers, const struct timers_rules *rules)
 {

@@ -26,8 +26,9 @@ struct timers_rules {
     uint32_t granularity;   /* of the clock, at least 1 (RFC 6298, 2) */
     uint32_t time_wait;     /* two maximum segment lifetimes, 4 minutes (RFC 9293, 3.4.2) */
     uint32_t r1;            /* so many resends of a segment make the path suspect, at least 3 (RFC 9293, 3.8.3) */
-    uint32_t r2;            /* so long without progress the end is kept, at least 100 s, and until r1 resends have had no answer
-                               (RFC 9293, 3.8.3) */
+    uint32_t r2;            /* so long without progress the end is kept, and until r1 resends have had no answer: at least 100 s (RFC
+                               9293, 3.8.3). The default is what Linux takes, 924.6 s: where a tenth of the segments is lost a
+                               timeout that was backed off to 60 s passes 100 s by chance, though the peer is there */
     uint32_t syn_limit;     /* the same for a SYN: at least 3 minutes (RFC 9293, 3.8.3) */
     uint32_t syn_ack_limit; /* the same for a SYN,ACK; a listener that is flooded takes less (RFC 4987, 3.3) */
     uint32_t fin_wait_2;    /* so long without a byte of the peer's an end stays in FIN-WAIT-2; 0: forever, as the standard has it.

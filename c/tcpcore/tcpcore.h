@@ -71,7 +71,8 @@
  *   (tests/stack.c).
  *
  * THREADS
- *   None is started. One end is used by one thread at a time; two ends have nothing in common. Not for signal handlers.
+ *   None is started. One end is used by one thread at a time: two calls of one end at once break it, and that isn't found. Where
+ *   threads share an end the caller holds a lock around each call. Two ends have nothing in common. Not for signal handlers.
  *
  * WHO OWNS WHAT
  *   The caller places the struct tcpcore_end, sets it to TCPCORE_END_INIT, and frees what tcpcore_new put into it. The struct
@@ -88,7 +89,9 @@
  *   The record in the place of an end, struct tcpcore_rest, is the caller's as a whole: nothing else belongs to it.
  *
  * ANSWERS
- *   Each function answers one number of the table below. A refusal changes no end. What a call writes through a pointer
+ *   Each function answers one number of the table below. A call for an end that was freed answers TCPCORE_NO_END, so that a loop
+ *   over tcpcore_emit that goes on while it answers TCPCORE_DONE ends, and a caller that looks for TCPCORE_NOT_DUE, or TCPCORE_NO_RULE
+ *   of a timer, sees the difference. A refusal changes no end. What a call writes through a pointer
  *   (a count, an address, timers, a status) is written at every answer, and is all 0 unless the answer is TCPCORE_DONE,
  *   but for what an arrival reports beside TCPCORE_DROPPED; buffers stay as they are then. Such a pointer may not be over
  *   the struct, over the buffer of the same call, or over another such pointer: the answer is TCPCORE_OVERLAP, and
@@ -116,7 +119,7 @@ extern "C" {
 #endif
 
 /* The version of this header: it grows with each change of a struct, a call or an answer. */
-#define TCPCORE_VERSION 7
+#define TCPCORE_VERSION 8
 
 /* The answers; tcpcore_strerror has a text for each. */
 enum {
@@ -256,9 +259,10 @@ typedef struct tcpcore_config {
        maximum segment lifetime (RFC 9293, 3.4). */
     uint64_t limit;
     /* The shift of the windows that this end advertises, from 0 to 14 (RFC 7323, 2.2). Ignored where `scales` is 0. A window
-       behind the SYN's is advertised in steps of 2^shift bytes, rounded down: with a `recv_capacity` below 2^shift it is
-       always 0, and the peer sends nothing but probes of a byte. Take the least shift with recv_capacity >> shift at most
-       65,535: 0 for 65,535 bytes, 1 for 65,536, 5 for 1,048,576. */
+       behind the SYN's is advertised in steps of 2^shift bytes, rounded down: it is 0 while fewer than 2^shift bytes are
+       free, with a `recv_capacity` below 2^shift always, and the peer then sends nothing but probes of a byte. No call
+       refuses that. Take the least shift with recv_capacity >> shift at most 65,535 (TCPCORE_LEAST_SHIFT): 0 for 65,535
+       bytes, 1 for 65,536, 5 for 1,048,576. */
     uint8_t window_shift;
     /* Whether this end offers window scaling (RFC 7323, 2.2): 0 is no, anything else yes. */
     uint8_t scales;
@@ -267,6 +271,17 @@ typedef struct tcpcore_config {
     unsigned int : 8;
     unsigned int : 32;
 } tcpcore_config;
+
+/* A config with an MSS of 1,460 bytes, 65,535 bytes each way, selective acknowledgement, TCPCORE_LIMIT, and windows that aren't scaled:
+       tcpcore_config config = TCPCORE_CONFIG_DEFAULT;
+   and then the address, the port and the initial sequence number, which have no default. */
+#define TCPCORE_CONFIG_DEFAULT {{{0, 0, 0, 0}}, 0, 1460, 0, 65535, 65535, TCPCORE_LIMIT, 0, 0, 1}
+
+/* The least window shift with which all of a receive capacity can be advertised, 0 where no scaling is needed; `scales` is set where
+   it is above 0. A greater shift is taken by tcpcore_new, and wastes what it rounds off: see `window_shift`. */
+#define TCPCORE_LEAST_SHIFT(receive) \
+    ((uint64_t)(receive) >> 16 == 0 ? 0 : (uint64_t)(receive) >> 17 == 0 ? 1 : (uint64_t)(receive) >> 18 == 0 ? 2 : \
+     (uint64_t)(receive) >> 19 == 0 ? 3 : (uint64_t)(receive) >> 20 == 0 ? 4 : 5)
 
 /* What tcpcore_status reports. (The tag alone is a type: the name without `struct` is the function.) */
 struct tcpcore_status {
@@ -671,8 +686,10 @@ uint32_t tcpcore_emit_train(tcpcore_end *end, void *out, size_t room, size_t mos
 uint32_t tcpcore_emit_acknowledgement(tcpcore_end *end, void *out, size_t room, tcpcore_addr *to, size_t *length);
 
 /*
- * Of what is in flight, the first segment alone must be sent again, and then new data, as after three duplicate acknowledgements
- * (RFC 5681, 3.2) or a partial one (RFC 6582, 3.2). It takes the place of what was to be sent again until now. Of version 6.
+ * Of what is in flight, as much as one segment carries must be sent again, from SND.UNA on, and then new data, as after three duplicate
+ * acknowledgements (RFC 5681, 3.2) or a partial one (RFC 6582, 3.2). That is the first segment; or several, where they were shorter than
+ * a full one; and where their text leaves room in it for the FIN behind it the FIN, too, which goes out by itself. It takes the place of
+ * what was to be sent again until now. Of version 6.
  *   DONE: it is due. NO_RULE: nothing is in flight. NO_END; NULL; COPIED.
  */
 uint32_t tcpcore_resend_first(tcpcore_end *end);
@@ -753,7 +770,7 @@ uint32_t tcpcore_rest(const tcpcore_end *end, struct tcpcore_rest *rest);
 
 /*
  * A segment has come, for such a record, which answers it as the end would (RFC 9293, 3.10.7.4, and 3.10.7.1 once the connection has
- * ended). Emit then what is due, and where anything was start TCPCORE_TIMER_TIME_WAIT anew.
+ * ended). Then emit; if anything was emitted, restart TCPCORE_TIMER_TIME_WAIT.
  *   As tcpcore_arrive, with NO_REST in place of NO_END; never COPIED.
  */
 uint32_t tcpcore_rest_arrive(struct tcpcore_rest *rest, tcpcore_addr src, tcpcore_addr dst, const void *bytes, size_t length);

@@ -2,6 +2,9 @@
 
 Addresses are 4 bytes, a text ("10.0.0.1") or an ipaddress.IPv4Address; text and segments are bytes, or anything that has a
 buffer of bytes (bytearray, memoryview). A number that doesn't fit its field is a ValueError, before any call.
+
+An end is used by one thread at a time: ctypes lets other threads run during a call, and two calls of one end at once break it. Where
+threads share an end, a lock (threading.Lock) is held around each call. Ends have nothing in common.
 """
 
 from __future__ import annotations
@@ -12,7 +15,7 @@ import ipaddress
 import os
 from typing import Any, Callable, NamedTuple, NoReturn, Optional, Union
 
-VERSION = 7
+VERSION = 8
 EMIT_ROOM = 1520
 TRAIN_ROOM = 65_515
 RESET_ROOM = 20
@@ -189,17 +192,25 @@ class Lent(NamedTuple):
 
 
 class Config(NamedTuple):
-    """What an end is made from; `window_shift` is None where windows aren't scaled, and `limit` is the most bytes that it sends."""
+    """What an end is made from: address, port and `isn`, the initial sequence number, which is chosen as RFC 9293, 3.4.1 says and has no
+    default; by name all else may be left out. `window_shift` is None where windows aren't scaled: `least_shift` has the one to take for
+    a receive capacity above 65,535, since with a greater one the window is 0 while fewer than 2^shift bytes are free. `limit` is the most
+    bytes that it sends."""
 
     addr: Address
     port: int
-    mss: int
-    isn: int
-    send_capacity: int
-    recv_capacity: int
-    window_shift: Optional[int]
-    sack: bool
+    mss: int = 1460
+    isn: Optional[int] = None
+    send_capacity: int = 65_535
+    recv_capacity: int = 65_535
+    window_shift: Optional[int] = None
+    sack: bool = True
     limit: int = LIMIT
+
+
+def least_shift(recv_capacity: int) -> Optional[int]:
+    """The least window shift with which all of this capacity can be advertised (RFC 7323, 2.2), or None where no scaling is needed."""
+    return (recv_capacity >> 16).bit_length() or None
 
 
 class Refused(Exception):
@@ -214,6 +225,7 @@ class Refused(Exception):
 
 
 ANSWERS = frozenset(map(int, Answer))
+REFUSALS = frozenset((NO_END, IN_USE, ROOM, NO_TIMER, NULL, LENGTH, COPIED, OVERLAP, NO_REST))
 
 
 class EndStruct(ctypes.Structure):
@@ -392,6 +404,13 @@ def transmit_of(told: TransmitStruct) -> Transmit:
 loaded: dict[str, Callable[..., Any]] = {}
 
 
+def found_by(answer: int) -> bool:
+    """Whether a call was done. False: no segment is due, or no rule applies; any other answer is a refusal."""
+    if answer not in (DONE, NOT_DUE, NO_RULE):
+        raise Refused(answer)
+    return answer == DONE
+
+
 def address(addr: Address) -> AddrStruct:
     """The C struct of an address."""
     found = ipaddress.IPv4Address(addr).packed if isinstance(addr, (str, ipaddress.IPv4Address)) else bytes(addr)
@@ -488,12 +507,12 @@ class Rest:
 
     def timer(self, timer: int) -> bool:
         """Whether the timer's rule was applied."""
-        return bool(self.calls["rest_timer"](self.struct, number("the timer", timer, 32)) == DONE)
+        return found_by(self.calls["rest_timer"](self.struct, number("the timer", timer, 32)))
 
     def emit(self) -> Optional[tuple[bytes, bytes]]:
         """The address and the bytes of a segment, or None."""
         segment, to, count = ctypes.create_string_buffer(REST_ROOM), AddrStruct(), ctypes.c_size_t()
-        if self.calls["rest_emit"](self.struct, segment, REST_ROOM, to, count) != DONE:
+        if not found_by(self.calls["rest_emit"](self.struct, segment, REST_ROOM, to, count)):
             return None
         return bytes(to.byte), ctypes.string_at(segment, count.value)
 
@@ -514,11 +533,16 @@ class Rest:
 
 
 class End:
-    """One end. A refusal of a user's call is raised as `Refused`. It is freed behind `with`, or when nothing refers to it. It can't
-    be copied. `room` is the most bytes that `receive` hands over at once."""
+    """One end. A call that is refused is raised as `Refused`, so also each that follows `free`, with NO_END. It is freed behind `with`, or
+    when nothing refers to it. It can't be copied. `room` is the most bytes that `receive` hands over at once, at least 1. One thread at a
+    time uses it."""
 
     def __init__(self, config: Config, room: int = 1 << 16) -> None:
         shift = config.window_shift
+        if config.isn is None:
+            raise ValueError("no initial sequence number is chosen (RFC 9293, 3.4.1)")
+        if room < 1:
+            raise ValueError(f"the room is {room}, and receive would have no byte to hand over")
         told = ConfigStruct(
             addr=address(config.addr),
             port=number("the port", config.port, 16),
@@ -549,6 +573,18 @@ class End:
         answer = self.calls[name](self.end, *args)
         if answer != DONE:
             raise Refused(answer)
+
+    def finds(self, name: str, *args: Any) -> bool:
+        """Whether a call found something to do; else nothing is due, or no rule applies. Anything else is refused."""
+        return found_by(self.calls[name](self.end, *args))
+
+    def takes(self, name: str, src: Address, dst: Address, data: Buffer, *args: Any) -> Answer:
+        """What became of a segment. Without an end it is refused."""
+        source, destination, data = address(src), address(dst), octets(data)
+        answer = Answer(self.calls[name](self.end, source, destination, data, len(data), *args))
+        if answer in REFUSALS:
+            raise Refused(answer)
+        return answer
 
     def free(self) -> None:
         self.ask("free")
@@ -622,37 +658,32 @@ class End:
 
     def timer(self, timer: int) -> bool:
         """Whether the timer's rule was applied."""
-        return bool(self.calls["timer"](self.end, number("the timer", timer, 32)) == DONE)
+        return self.finds("timer", number("the timer", timer, 32))
 
     def arrive(self, src: Address, dst: Address, data: Buffer) -> Answer:
         """What became of the segment."""
-        source, destination, data = address(src), address(dst), octets(data)
-        return Answer(self.calls["arrive"](self.end, source, destination, data, len(data)))
+        return self.takes("arrive", src, dst, data)
 
     def take(self, src: Address, dst: Address, data: Buffer) -> tuple[Answer, bool]:
         """What became of the segment, and whether the segment has to be answered at once."""
-        source, destination, data = address(src), address(dst), octets(data)
-        answer = self.calls["take"](self.end, source, destination, data, len(data), self.due)
-        return Answer(answer), self.due.value == 1
+        answer = self.takes("take", src, dst, data, self.due)
+        return answer, self.due.value == 1
 
     def taken(self, src: Address, dst: Address, data: Buffer) -> tuple[Answer, Taken]:
         """What became of the segment, and what it is to the end."""
-        source, destination, data = address(src), address(dst), octets(data)
         told = TakenStruct()
-        answer = self.calls["taken"](self.end, source, destination, data, len(data), told)
-        return Answer(answer), taken_of(told)
+        answer = self.takes("taken", src, dst, data, told)
+        return answer, taken_of(told)
 
     def arrive_vouched(self, src: Address, dst: Address, data: Buffer) -> Answer:
         """What became of the segment, whose checksum something else has found right: it isn't looked at."""
-        source, destination, data = address(src), address(dst), octets(data)
-        return Answer(self.calls["arrive_vouched"](self.end, source, destination, data, len(data)))
+        return self.takes("arrive_vouched", src, dst, data)
 
     def taken_vouched(self, src: Address, dst: Address, data: Buffer) -> tuple[Answer, Taken]:
         """The same, and what it is to the end."""
-        source, destination, data = address(src), address(dst), octets(data)
         told = TakenStruct()
-        answer = self.calls["taken_vouched"](self.end, source, destination, data, len(data), told)
-        return Answer(answer), taken_of(told)
+        answer = self.takes("taken_vouched", src, dst, data, told)
+        return answer, taken_of(told)
 
     def pending(self) -> int:
         """The length of the segment that is due, 0 where none is."""
@@ -661,13 +692,13 @@ class End:
 
     def emit(self) -> Optional[tuple[bytes, bytes]]:
         """The address and the bytes of a segment, or None."""
-        if self.calls["emit"](self.end, self.segment, EMIT_ROOM, self.to, self.count) != DONE:
+        if not self.finds("emit", self.segment, EMIT_ROOM, self.to, self.count):
             return None
         return bytes(self.to.byte), ctypes.string_at(self.segment, self.count.value)
 
     def emit_partial(self) -> Optional[tuple[bytes, bytes]]:
         """As `emit`, for a device that sums: the checksum field has the sum of the pseudo-header alone."""
-        if self.calls["emit_partial"](self.end, self.segment, EMIT_ROOM, self.to, self.count) != DONE:
+        if not self.finds("emit_partial", self.segment, EMIT_ROOM, self.to, self.count):
             return None
         return bytes(self.to.byte), ctypes.string_at(self.segment, self.count.value)
 
@@ -675,31 +706,32 @@ class End:
         """Segments of new text as one, at most so many, for a device that cuts it and sums: what it is, and its bytes, or None."""
         told, whole = TrainStruct(), ctypes.create_string_buffer(TRAIN_ROOM)
         most = number("the number of segments", most, 8 * ctypes.sizeof(ctypes.c_size_t))
-        if self.calls["emit_train"](self.end, whole, TRAIN_ROOM, most, told) != DONE:
+        if not self.finds("emit_train", whole, TRAIN_ROOM, most, told):
             return None
         return Train(transmit_of(told.whole), told.header, told.each, told.segments), ctypes.string_at(whole, told.whole.length)
 
     def emit_acknowledgement(self) -> Optional[tuple[bytes, bytes]]:
         """The acknowledgement that is pending, without data, whatever else is due, or None."""
-        if self.calls["emit_acknowledgement"](self.end, self.segment, EMIT_ROOM, self.to, self.count) != DONE:
+        if not self.finds("emit_acknowledgement", self.segment, EMIT_ROOM, self.to, self.count):
             return None
         return bytes(self.to.byte), ctypes.string_at(self.segment, self.count.value)
 
     def resend_first(self) -> bool:
-        """The first segment in flight alone is due again. Whether anything is in flight."""
-        return bool(self.calls["resend_first"](self.end) == DONE)
+        """Of what is in flight, as much as one segment carries is due again: the first segment, and behind text that leaves room in it the
+        FIN, which goes out by itself. Whether anything is in flight."""
+        return self.finds("resend_first")
 
     def transmit(self) -> Optional[tuple[Transmit, bytes]]:
         """What a segment is, and its bytes, or None."""
         told = TransmitStruct()
-        if self.calls["transmit"](self.end, self.segment, EMIT_ROOM, told) != DONE:
+        if not self.finds("transmit", self.segment, EMIT_ROOM, told):
             return None
         return transmit_of(told), ctypes.string_at(self.segment, told.length)
 
     def next(self) -> Optional[Transmit]:
         """What `transmit` would report, or None."""
         told = TransmitStruct()
-        return transmit_of(told) if self.calls["next"](self.end, told) == DONE else None
+        return transmit_of(told) if self.finds("next", told) else None
 
     def timers(self) -> int:
         """Bit 1 << t where timer t has to run."""

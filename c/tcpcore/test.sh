@@ -20,7 +20,7 @@ warnings="-std=c11 -g -Wall -Wextra -Wpedantic -Wcast-qual -Wconversion -Wshadow
 sanitizers="-O1 -fsanitize=address,undefined -fno-sanitize-recover=all"
 # The header's calls that are the library's; three are the layer's alone.
 calls=$(grep -o '^[a-z].* \**tcpcore_[a-z_]*(' tcpcore.h | sed -n 's/.*tcpcore_\([a-z_]*\)($/\1/p' | grep -vxE 'strerror|version|new_at' | sort)
-tests="examples/two_ends tests/misuse tests/misuse_rest tests/room tests/fields tests/answers tests/cautions tests/rest tests/reports tests/misuse_lending tests/lending tests/train tests/pacing tests/placed"
+tests="examples/two_ends examples/hello tests/misuse tests/misuse_rest tests/room tests/fields tests/answers tests/cautions tests/rest tests/reports tests/misuse_lending tests/lending tests/train tests/pacing tests/placed tests/defaults"
 passed=0
 
 pass() { passed=$((passed + 1)); }
@@ -87,13 +87,15 @@ check_with() {
         runs tests/stack "$compiler" "$level" -static
         depth "$compiler" objdump "$level"
     done
+    # It takes some seconds, and what it runs of the layer the other tests run under the sanitizers.
+    runs tests/blind "$compiler" -O2
     static_block "$compiler"
     # The shared library: the header's calls and no other name.
     "$compiler" $warnings -O2 -shared -fPIC tcpcore.c "$library" -Wl,--exclude-libs,ALL -Wl,-z,defs \
         -o "$shared"
     same "exported names" "$(exports -D "$shared")" "$(printf 'tcpcore_%s\n' $calls strerror version new_at | sort)"
-    for source in examples/two_ends examples/lossy_link tests/fields tests/answers tests/lifetime tests/calls; do
-        prints "${source#*/}" env LIBTCPCORE="$shared" python3 "$source.py"
+    for source in examples/two_ends examples/hello examples/lossy_link tests/fields tests/answers tests/lifetime tests/calls; do
+        prints "${source#*/}" env LIBTCPCORE="$shared" PYTHONPATH="$PWD" python3 "$source.py"
     done
     if has "$package" "$compiler" $sanitizers -I. tests/misuse.c tcpcore.c "$library" -o out/sanitized; then
         for source in $tests; do

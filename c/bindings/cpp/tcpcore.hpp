@@ -1,4 +1,5 @@
-// tcpcore.hpp: tcpcore.h for C++17. An end owns its memory, can be moved, and is freed with its object. What a call refuses is thrown.
+// tcpcore.hpp: tcpcore.h for C++17. An end owns its memory, can be moved, and is freed with its object. What a call refuses is thrown; so is
+// each call of an end that was moved from. One thread at a time uses an end: where threads share one, they hold a lock around each call.
 #ifndef TCPCORE_HPP
 #define TCPCORE_HPP
 
@@ -17,6 +18,18 @@ struct refused : std::runtime_error {
     explicit refused(std::uint32_t found) : std::runtime_error(tcpcore_strerror(found)), answer(found) {}
 };
 
+// The config of TCPCORE_CONFIG_DEFAULT with these fields, which have no default.
+inline tcpcore_config default_config(tcpcore_addr addr, std::uint16_t port, std::uint32_t isn)
+{
+    tcpcore_config config = TCPCORE_CONFIG_DEFAULT;
+    config.addr = addr, config.port = port, config.isn = isn;
+    return config;
+}
+
+// The least window shift with which all of a receive capacity can be advertised; `scales` is set where it is above 0. With a greater one
+// the window is 0 while fewer than 2^shift bytes are free.
+constexpr std::uint8_t least_shift(std::uint64_t receive) { return TCPCORE_LEAST_SHIFT(receive); }
+
 class end {
     // The C struct lies in its block; the object that holds both may move. One that was moved from can only be assigned or destroyed.
     // The end is freed before its block.
@@ -27,6 +40,18 @@ class end {
     std::unique_ptr<tcpcore_end, owner> held;
 
     static void done(std::uint32_t answer) { if (answer != TCPCORE_DONE) throw refused(answer); }
+    // Whether a call found something: nothing is due, or no rule applies, where it didn't.
+    static bool found(std::uint32_t answer)
+    {
+        if (answer != TCPCORE_NOT_DUE && answer != TCPCORE_NO_RULE) done(answer);
+        return answer == TCPCORE_DONE;
+    }
+    // What became of a segment, where there is an end to take it.
+    static std::uint32_t taken_by(std::uint32_t answer)
+    {
+        if (answer >= TCPCORE_NO_END && answer < TCPCORE_NOTHING) throw refused(answer);
+        return answer;
+    }
 
 public:
     explicit end(const tcpcore_config &config)
@@ -78,48 +103,46 @@ public:
     std::size_t emit(unsigned char (&out)[TCPCORE_EMIT_ROOM], tcpcore_addr &to)
     {
         std::size_t length;
-        return tcpcore_emit(raw(), out, sizeof out, &to, &length), length;
+        return found(tcpcore_emit(raw(), out, sizeof out, &to, &length)), length;
     }
     // The length of the acknowledgement that was pending, alone, though data is due; 0 where none goes out before that.
     std::size_t emit_acknowledgement(unsigned char (&out)[TCPCORE_EMIT_ROOM], tcpcore_addr &to)
     {
         std::size_t length;
-        return tcpcore_emit_acknowledgement(raw(), out, sizeof out, &to, &length), length;
+        return found(tcpcore_emit_acknowledgement(raw(), out, sizeof out, &to, &length)), length;
     }
-    // Of what is in flight the first segment alone must be sent again: whether anything is.
-    bool resend_first() { return tcpcore_resend_first(raw()) == TCPCORE_DONE; }
+    // Of what is in flight as much as one segment carries must be sent again, the first segment: whether anything is.
+    bool resend_first() { return found(tcpcore_resend_first(raw())); }
     // As emit, with a report: its length is 0 where none was.
     struct tcpcore_transmit transmit(unsigned char (&out)[TCPCORE_EMIT_ROOM])
     {
         struct tcpcore_transmit told;
-        return tcpcore_transmit(raw(), out, sizeof out, &told), told;
+        return found(tcpcore_transmit(raw(), out, sizeof out, &told)), told;
     }
     // As emit, for a device that sums: the checksum field has the sum of the pseudo-header alone.
     std::size_t emit_partial(unsigned char (&out)[TCPCORE_EMIT_ROOM], tcpcore_addr &to)
     {
         std::size_t length;
-        return tcpcore_emit_partial(raw(), out, sizeof out, &to, &length), length;
+        return found(tcpcore_emit_partial(raw(), out, sizeof out, &to, &length)), length;
     }
     // As many segments of new text as one as the peer's window allows, at most `most`, for a device that cuts them and sums; anything
     // else goes alone. `segments` is 0 where none was due.
     struct tcpcore_train emit_train(void *out, std::size_t room, std::size_t most)
     {
         struct tcpcore_train told;
-        std::uint32_t answer = tcpcore_emit_train(raw(), out, room, most, &told);
-        if (answer != TCPCORE_NOT_DUE) done(answer);
-        return told;
+        return found(tcpcore_emit_train(raw(), out, room, most, &told)), told;
     }
     // What became of the segment: DONE, DROPPED, NOT_MINE, or why it is none; and whether it has to be answered at once.
     std::pair<std::uint32_t, bool> arrive(tcpcore_addr src, tcpcore_addr dst, const void *segment, std::size_t length)
     {
-        std::uint32_t at_once, answer = tcpcore_take(raw(), src, dst, segment, length, &at_once);
+        std::uint32_t at_once, answer = taken_by(tcpcore_take(raw(), src, dst, segment, length, &at_once));
         return {answer, at_once == 1};
     }
     // The same, with a report.
     std::pair<std::uint32_t, struct tcpcore_taken> taken(tcpcore_addr src, tcpcore_addr dst, const void *segment, std::size_t length)
     {
         struct tcpcore_taken told;
-        std::uint32_t answer = tcpcore_taken(raw(), src, dst, segment, length, &told);
+        std::uint32_t answer = taken_by(tcpcore_taken(raw(), src, dst, segment, length, &told));
         return {answer, told};
     }
     // The same of a segment whose checksum a device has found right: it isn't summed again.
@@ -127,10 +150,10 @@ public:
                                                                  std::size_t length)
     {
         struct tcpcore_taken told;
-        std::uint32_t answer = tcpcore_taken_vouched(raw(), src, dst, segment, length, &told);
+        std::uint32_t answer = taken_by(tcpcore_taken_vouched(raw(), src, dst, segment, length, &told));
         return {answer, told};
     }
-    bool timer(std::uint32_t timer) { return tcpcore_timer(raw(), timer) == TCPCORE_DONE; }
+    bool timer(std::uint32_t timer) { return found(tcpcore_timer(raw(), timer)); }
     struct tcpcore_status status() const
     {
         struct tcpcore_status told;

@@ -168,6 +168,51 @@ static void train()
     }
 }
 
+// What the call throws.
+template <typename Call> static std::uint32_t thrown(Call call)
+{
+    try {
+        call();
+    } catch (const tcpcore::refused &found) {
+        return found.answer;
+    }
+    return TCPCORE_DONE;
+}
+
+// An end that was moved from has nothing due and no rule: each call says that there is no end.
+static void moved_from()
+{
+    tcpcore::end a(config(A, 7)), b = std::move(a);
+    unsigned char out[TCPCORE_EMIT_ROOM];
+    tcpcore_addr dst;
+    b.listen();
+    CHECK(b.emit(out, dst) == 0 && !b.timer(TCPCORE_TIMER_RETRANSMIT) && b.arrive(B, A, "x", 1).first == TCPCORE_TOO_SHORT);
+    CHECK(thrown([&] { b.timer(3); }) == TCPCORE_NO_TIMER);
+    CHECK(thrown([&] { a.emit(out, dst); }) == TCPCORE_NULL);
+    CHECK(thrown([&] { a.emit_partial(out, dst); }) == TCPCORE_NULL);
+    CHECK(thrown([&] { a.emit_acknowledgement(out, dst); }) == TCPCORE_NULL);
+    CHECK(thrown([&] { a.emit_train(out, sizeof out, 1); }) == TCPCORE_NULL);
+    CHECK(thrown([&] { a.transmit(out); }) == TCPCORE_NULL);
+    CHECK(thrown([&] { a.resend_first(); }) == TCPCORE_NULL);
+    CHECK(thrown([&] { a.timer(TCPCORE_TIMER_RETRANSMIT); }) == TCPCORE_NULL);
+    CHECK(thrown([&] { a.arrive(B, A, "x", 1); }) == TCPCORE_NULL);
+    CHECK(thrown([&] { a.taken(B, A, "x", 1); }) == TCPCORE_NULL);
+    CHECK(thrown([&] { a.taken_vouched(B, A, "x", 1); }) == TCPCORE_NULL);
+}
+
+// The SYN of a default config has an MSS of 1,460 bytes, permits selective acknowledgement and offers no scaling (RFC 9293, 3.7.1; RFC
+// 2018, 2). Shifts are worked out by hand.
+static void defaults()
+{
+    tcpcore::end a(tcpcore::default_config(A, 7, 1));
+    unsigned char out[TCPCORE_EMIT_ROOM];
+    static const unsigned char options[] = {2, 4, 1460 >> 8, 1460 & 255, 1, 1, 4, 2};
+    tcpcore_addr dst;
+    a.connect(B, 7);
+    CHECK(a.emit(out, dst) == 28 && std::memcmp(out + 20, options, 8) == 0 && out[14] == 255 && out[15] == 255);
+    static_assert(tcpcore::least_shift(65535) == 0 && tcpcore::least_shift(65536) == 1 && tcpcore::least_shift(1048576) == 5);
+}
+
 int main()
 {
     std::vector<tcpcore::end> ends;
@@ -212,6 +257,8 @@ int main()
     beside();
     pacing();
     train();
+    moved_from();
+    defaults();
     a = tcpcore::end(config(A, 9));
     CHECK(a.status().phase == TCPCORE_PHASE_CLOSED);
     std::printf("cpp: %d checks\n", checks);

@@ -1,2 +1,2 @@
-// The portable file, which c/portable/build.sh makes.
-#include "tcpcore_portable.c"
+// The library's one C file, of release/.
+#include "tcpcore.c"

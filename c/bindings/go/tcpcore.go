@@ -1,9 +1,10 @@
 // Package tcpcore is tcpcore.h for Go: one end of one TCP connection, as a value. Struct and block lie in C's memory, so an End may be
-// copied as a pointer; Free gives both back. An end is used by one goroutine at a time.
+// copied as a pointer; Free gives both back. An end is used by one goroutine at a time: two calls of one end at once break it, and neither
+// C nor the race detector sees that, so goroutines that share an end hold a sync.Mutex around each call. Ends have nothing in common.
 package tcpcore
 
 /*
-#cgo CFLAGS: -std=c99 -O2 -I${SRCDIR}/../../tcpcore -I${SRCDIR}/../../portable/out
+#cgo CFLAGS: -std=c99 -O2 -I${SRCDIR}/../../../release
 #include "tcpcore.h"
 #include <stdlib.h>
 */
@@ -11,6 +12,7 @@ import "C"
 
 import (
 	"io"
+	"math/bits"
 	"unsafe"
 )
 
@@ -58,6 +60,15 @@ func done(answer C.uint32_t) error {
 	return nil
 }
 
+// found is whether a call found something: nothing is due, or no rule applies, where it didn't. Anything else is a fault of the caller's,
+// as a call after Free, and panics.
+func found(answer C.uint32_t) bool {
+	if answer != C.TCPCORE_DONE && answer != C.TCPCORE_NOT_DUE && answer != C.TCPCORE_NO_RULE {
+		panic(Refused(answer))
+	}
+	return answer == C.TCPCORE_DONE
+}
+
 // Addr is an IPv4 address.
 type Addr [4]byte
 
@@ -76,6 +87,21 @@ type Config struct {
 	Shift                      int8
 	Sack                       bool
 	Limit                      uint64
+}
+
+// DefaultConfig has this address, port and initial sequence number, which is chosen as RFC 9293, 3.4.1 says; with an MSS of 1,460, 65,535
+// bytes each way, selective acknowledgement, and windows that aren't scaled.
+func DefaultConfig(addr Addr, port uint16, isn uint32) Config {
+	return Config{Addr: addr, Port: port, ISN: isn, MSS: 1460, SendCapacity: 65535, RecvCapacity: 65535, Shift: -1, Sack: true}
+}
+
+// LeastShift is the least Shift with which all of a receive capacity can be advertised (RFC 7323, 2.2), -1 where no scaling is needed. With
+// a greater one the window is 0 while fewer than 1 << Shift bytes are free.
+func LeastShift(recvCapacity uint64) int8 {
+	if recvCapacity <= 65535 {
+		return -1
+	}
+	return int8(bits.Len64(recvCapacity >> 16))
 }
 
 // End is one end.
@@ -110,11 +136,12 @@ func New(config Config) (*End, error) {
 	return end, nil
 }
 
-// Free gives the end up, and its memory back. No call may follow.
+// Free gives the end up, and its memory back; a second time it does nothing. A call that follows is refused, by an answer that
+// tcpcore_strerror names "no end is in the struct", and one that returns no error panics with it.
 func (end *End) Free() {
 	C.tcpcore_free(end.raw)
 	C.free(end.block)
-	end.raw, end.block = nil, nil
+	end.raw, end.block = new(C.tcpcore_end), nil
 }
 
 func (end *End) Connect(addr Addr, port uint16) error {
@@ -182,26 +209,27 @@ func (end *End) Consume(count int) (int, error) {
 // Emit writes the segment that is due; 0 where none is.
 func (end *End) Emit(room *[EmitRoom]byte) (to Addr, length int) {
 	var count C.size_t
-	C.tcpcore_emit(end.raw, unsafe.Pointer(room), EmitRoom, (*C.tcpcore_addr)(unsafe.Pointer(&to)), &count)
+	found(C.tcpcore_emit(end.raw, unsafe.Pointer(room), EmitRoom, (*C.tcpcore_addr)(unsafe.Pointer(&to)), &count))
 	return to, int(count)
 }
 
 // EmitAcknowledgement writes the acknowledgement that is pending, alone, though data is due; 0 where none goes out before that.
 func (end *End) EmitAcknowledgement(room *[EmitRoom]byte) (to Addr, length int) {
 	var count C.size_t
-	C.tcpcore_emit_acknowledgement(end.raw, unsafe.Pointer(room), EmitRoom, (*C.tcpcore_addr)(unsafe.Pointer(&to)), &count)
+	found(C.tcpcore_emit_acknowledgement(end.raw, unsafe.Pointer(room), EmitRoom, (*C.tcpcore_addr)(unsafe.Pointer(&to)), &count))
 	return to, int(count)
 }
 
 // EmitPartial is Emit for a device that sums: the checksum field has the sum of the pseudo-header alone.
 func (end *End) EmitPartial(room *[EmitRoom]byte) (to Addr, length int) {
 	var count C.size_t
-	C.tcpcore_emit_partial(end.raw, unsafe.Pointer(room), EmitRoom, (*C.tcpcore_addr)(unsafe.Pointer(&to)), &count)
+	found(C.tcpcore_emit_partial(end.raw, unsafe.Pointer(room), EmitRoom, (*C.tcpcore_addr)(unsafe.Pointer(&to)), &count))
 	return to, int(count)
 }
 
-// ResendFirst says that of what is in flight the first segment alone must be sent again, and tells whether anything is.
-func (end *End) ResendFirst() bool { return C.tcpcore_resend_first(end.raw) == C.TCPCORE_DONE }
+// ResendFirst says that of what is in flight as much as one segment carries must be sent again, the first segment, and tells whether
+// anything is.
+func (end *End) ResendFirst() bool { return found(C.tcpcore_resend_first(end.raw)) }
 
 // Transmit is a segment that was emitted, by the fields of struct tcpcore_transmit; all 0 where none was due.
 type Transmit struct {
@@ -219,7 +247,7 @@ func transmit(told *C.struct_tcpcore_transmit) Transmit {
 // Transmit is Emit with a report.
 func (end *End) Transmit(room *[EmitRoom]byte) Transmit {
 	var told C.struct_tcpcore_transmit
-	C.tcpcore_transmit(end.raw, unsafe.Pointer(room), EmitRoom, &told)
+	found(C.tcpcore_transmit(end.raw, unsafe.Pointer(room), EmitRoom, &told))
 	return transmit(&told)
 }
 
@@ -282,12 +310,12 @@ func (end *End) TakenVouched(src, dst Addr, segment []byte) (Taken, error) {
 
 // Timer says that a timer has run out, and tells whether its rule was applied. Timers has bit 1 << t where timer t has to run.
 func (end *End) Timer(timer uint32) bool {
-	return C.tcpcore_timer(end.raw, C.uint32_t(timer)) == C.TCPCORE_DONE
+	return found(C.tcpcore_timer(end.raw, C.uint32_t(timer)))
 }
 
 func (end *End) Timers() uint32 {
 	var due C.uint32_t
-	C.tcpcore_timers(end.raw, &due)
+	found(C.tcpcore_timers(end.raw, &due))
 	return uint32(due)
 }
 
@@ -295,7 +323,7 @@ func (end *End) Timers() uint32 {
 type Status = C.struct_tcpcore_status
 
 func (end *End) Status() (status Status) {
-	C.tcpcore_status(end.raw, &status)
+	found(C.tcpcore_status(end.raw, &status))
 	return
 }
 

@@ -305,3 +305,60 @@ func TestRefusals(t *testing.T) {
 		t.Fatal(n, err)
 	}
 }
+
+// refusal is what the call panics with, or nil.
+func refusal(call func()) (found any) {
+	defer func() { found = recover() }()
+	call()
+	return nil
+}
+
+// TestFreed: after Free no call says that nothing is due.
+func TestFreed(t *testing.T) {
+	end := made(t, a)
+	end.Free()
+	end.Free()
+	var room [EmitRoom]byte
+	const noEnd = Refused(31)
+	calls := []func(){
+		func() { end.Emit(&room) }, func() { end.EmitPartial(&room) }, func() { end.EmitAcknowledgement(&room) },
+		func() { end.Transmit(&room) }, func() { end.ResendFirst() }, func() { end.Timer(Retransmit) }, func() { end.Timers() },
+		func() { end.Status() },
+	}
+	for at, call := range calls {
+		if found := refusal(call); found != noEnd {
+			t.Fatal(at, found)
+		}
+	}
+	_, arrived := end.Arrive(b, a, room[:1])
+	_, sent := end.Send(room[:1])
+	_, received := end.Receive(room[:1])
+	_, train := end.EmitTrain(room[:], 1)
+	for _, err := range []error{arrived, sent, received, train, end.Listen(), end.Close()} {
+		if err != noEnd {
+			t.Fatal(err)
+		}
+	}
+	if found := refusal(func() { made(t, a).Timer(3) }); found != Refused(34) {
+		t.Fatal(found)
+	}
+}
+
+// TestDefaults: the SYN has an MSS of 1,460 bytes, permits selective acknowledgement and offers no scaling (RFC 9293, 3.7.1; RFC 2018, 2).
+func TestDefaults(t *testing.T) {
+	end, err := New(DefaultConfig(a, 7, 1))
+	if err != nil || end.Connect(b, 7) != nil {
+		t.Fatal(err)
+	}
+	defer end.Free()
+	var room [EmitRoom]byte
+	_, length := end.Emit(&room)
+	if options := []byte{2, 4, 5, 180, 1, 1, 4, 2}; length != 28 || !bytes.Equal(room[20:28], options) || room[14] != 255 || room[15] != 255 {
+		t.Fatal(room[:length])
+	}
+	for capacity, shift := range map[uint64]int8{1: -1, 65535: -1, 65536: 1, 131071: 1, 131072: 2, 1048575: 4, 1048576: 5} {
+		if found := LeastShift(capacity); found != shift {
+			t.Fatal(capacity, found)
+		}
+	}
+}

@@ -1,6 +1,6 @@
-//! Builds the portable C file with the C compiler (`CC`, else `cc`) and `AR`, or, with the feature `native`, tells where
-//! libtcpcore.a lies: in TCPCORE_LIB_DIR, else where pkg-config says. TCPCORE_SOURCE names the folder of
-//! tcpcore_portable.c and tcpcore.h, which else are in `csrc` of this crate, or in this repository.
+//! Builds the library's one C file with the C compiler (`CC`, else `cc`) and `AR`, or, with the feature `native`, tells
+//! where libtcpcore.a lies: in TCPCORE_LIB_DIR, else where pkg-config says. TCPCORE_SOURCE names the folder of tcpcore.c
+//! and tcpcore.h, which else are in `csrc` of this crate, or in `release` of this repository.
 use std::env;
 use std::path::{Path, PathBuf};
 use std::process::Command;
@@ -27,31 +27,29 @@ fn link_native() {
     println!("cargo:rustc-link-lib=static=tcpcore");
 }
 
-/// The folders that the file and its header may be in, the first that is there.
-fn sources() -> (PathBuf, PathBuf) {
+/// The folder of the file and its header, the first that is there.
+fn source() -> PathBuf {
     let here = PathBuf::from(env::var_os("CARGO_MANIFEST_DIR").expect("cargo sets it"));
     let given = env::var_os("TCPCORE_SOURCE").map(PathBuf::from);
-    let mut places: Vec<(PathBuf, PathBuf)> = given.into_iter().map(|it| (it.clone(), it)).collect();
-    places.push((here.join("csrc"), here.join("csrc")));
-    places.push((here.join("../../portable/out"), here.join("../../tcpcore")));
-    let found = places.into_iter().find(|(file, _)| file.join("tcpcore_portable.c").exists());
-    found.expect("no tcpcore_portable.c: run c/portable/build.sh, or set TCPCORE_SOURCE to its folder")
+    let places = given.into_iter().chain([here.join("csrc"), here.join("../../../release")]);
+    let found = places.into_iter().find(|place| place.join("tcpcore.c").exists());
+    found.expect("no tcpcore.c: set TCPCORE_SOURCE to the folder that it and tcpcore.h are in")
 }
 
 fn build_portable() {
-    let (folder, header) = sources();
-    let file = folder.join("tcpcore_portable.c");
+    let folder = source();
+    let file = folder.join("tcpcore.c");
     let out = PathBuf::from(env::var_os("OUT_DIR").expect("cargo sets it"));
     let (object, archive) = (out.join("tcpcore.o"), out.join("libtcpcore.a"));
     println!("cargo:rerun-if-changed={}", file.display());
-    println!("cargo:rerun-if-changed={}", header.join("tcpcore.h").display());
+    println!("cargo:rerun-if-changed={}", folder.join("tcpcore.h").display());
     let mut compile = Command::new(env::var_os("CC").unwrap_or_else(|| "cc".into()));
     compile.args(["-std=c99", "-O2", "-fPIC", "-ffunction-sections"]);
     compile.args(env::var("CFLAGS").unwrap_or_default().split_whitespace());
     if env::var_os("CARGO_FEATURE_UNCHECKED").is_some() {
         compile.arg("-DTCPCORE_UNCHECKED");
     }
-    run(compile.arg("-I").arg(&header).arg("-c").arg(&file).arg("-o").arg(&object));
+    run(compile.arg("-I").arg(&folder).arg("-c").arg(&file).arg("-o").arg(&object));
     // An archive of before would keep what was in it.
     let _ = std::fs::remove_file(&archive);
     let mut join = Command::new(env::var_os("AR").unwrap_or_else(|| "ar".into()));

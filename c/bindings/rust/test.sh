@@ -42,12 +42,12 @@ LIST
 passes cargo fmt --check
 passes cargo clippy --offline --all-targets -- -D warnings
 RUSTDOCFLAGS="-D warnings" passes cargo doc --offline --no-deps
-tests 27
-tests 27 --features unchecked
+tests 28
+tests 28 --features unchecked
 passes cargo build --offline --no-default-features
 make --silent -C ../../tcpcore OUT="$PWD/out/native" LIBRARY="$library"
 export TCPCORE_LIB_DIR=$PWD/out/native
-tests 27 --features native
+tests 28 --features native
 passes timeout 120 cargo run --quiet --offline --example udp ../../tcpcore/tcpcore.h
 grep -q ' bytes came as they were sent, in ' out/found
 cat out/found

@@ -366,8 +366,116 @@ static void limits(void)
     finish();
 }
 
+/* ---- How much is looked at, in tables of two sizes. */
+
+enum { FEW = 64, MANY = 4096, STEPS = 12 }; /* STEPS is log2(MANY) */
+
+static struct table_slot many[MANY];
+static uint8_t blocks[MANY * (size_t)TCPCORE_MEMORY(100, 100)];
+
+static void drop(const void *segment, size_t length, tcpcore_addr to, void *context)
+{
+    (void)segment, (void)length, (void)to, (void)context;
+}
+
+static void idle(struct table_slot *slot, void *context) { (void)slot, (void)context; }
+
+/* A table of so many slots, with half of them half-open and their SYN,ACKs sent. */
+static void fill(uint32_t size)
+{
+    struct demux_config config = {
+        .end = {.addr = SERVER, .port = PORT, .mss = 1000, .send_capacity = 100, .recv_capacity = 100, .limit = TCPCORE_LIMIT},
+        .memory = blocks, .length = sizeof blocks, .rules = TIMERS_RULES, .backlog = size / 2, .use = idle, .send = drop};
+    memcpy(config.secret, "sixteen letters.", 16);
+    now = 1000000;
+    CHECK(demux_init(&demux, &config, many, size), 1);
+    for (uint32_t at = 0; at < size / 2; at++, now += at % 8 == 0) {
+        plain((uint16_t)(1000 + at), 100, 0, SYN);
+        demux_turn(&demux, now);
+    }
+    CHECK(demux.table.half_open, size / 2);
+}
+
+/* Slots that were looked at since the last call. */
+static uint64_t looked(void)
+{
+    static uint64_t before;
+    uint64_t found = demux.table.looked - before;
+    before = demux.table.looked;
+    return found;
+}
+
+/* With few ends or many, a SYN that is past the backlog and one of an ACK that accepts an end look at a few slots, and so does a turn
+   with nothing to do; one with so many deadlines at those that are due, and at the path of each in the heap. */
+static void scales(void)
+{
+    for (uint32_t size = FEW; size <= MANY; size *= MANY / FEW) {
+        fill(size);
+        looked();
+        for (uint16_t at = 0; at < 20; at++) {
+            plain((uint16_t)(20000 + at), 100, 0, SYN);
+            CHECK(looked() <= 4 + 3 * STEPS, 1);
+            CHECK(demux_wait(&demux, now), 0);
+            demux_turn(&demux, now);
+            CHECK(looked() <= 1 + 3 * STEPS, 1);
+            demux_turn(&demux, now);
+            CHECK(looked(), 0);
+        }
+        CHECK(demux.counters.recycled, 20);
+        CHECK(demux.table.half_open, size / 2);
+        /* Eight SYN,ACKs were sent in each millisecond. Of those that are left the first four were sent 2 ms behind the first ones of
+           all, and go out again after a second. */
+        now += (uint64_t)demux_wait(&demux, now);
+        CHECK(now, 1000000 + 2 + 1000);
+        demux_turn(&demux, now);
+        CHECK(demux.counters.resent, 4);
+        CHECK(looked() <= 4 * (1 + 6 * STEPS), 1);
+        finish();
+    }
+}
+
+/* A user is called where its slot was woken, once in a turn, also where it wakes itself. */
+static void wakes_itself(struct table_slot *slot, void *context)
+{
+    (void)context;
+    slot->user++;
+    demux_wake(&demux, slot);
+}
+
+static void wakes(void)
+{
+    begin();
+    open_from(50);
+    struct table_slot *slot = table_find(&demux.table, CLIENT, 50);
+    demux_turn(&demux, now);
+    CHECK(slot->user, 1);
+    CHECK(demux_wait(&demux, now), -1);
+    demux_wake(&demux, slot);
+    demux_wake(&demux, slot);
+    CHECK(demux_wait(&demux, now), 0);
+    demux_turn(&demux, now);
+    CHECK(slot->user, 2);
+    CHECK(demux_wait(&demux, now), -1);
+    demux.config.use = wakes_itself;
+    demux_wake(&demux, slot);
+    for (uintptr_t calls = 3; calls < 6; calls++) {
+        demux_turn(&demux, now);
+        CHECK(slot->user, calls);
+        CHECK(demux_wait(&demux, now), 0);
+    }
+    /* One that goes before its turn is passed over. */
+    plain(50, 101, 0, RST);
+    demux.config.use = echo;
+    demux_turn(&demux, now);
+    CHECK(demux.table.used, 0);
+    CHECK(demux_wait(&demux, now), -1);
+    finish();
+}
+
 int main(void)
 {
+    scales();
+    wakes();
     limits();
     secret();
     strays();

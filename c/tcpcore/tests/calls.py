@@ -177,8 +177,45 @@ def enums():
     check(raised(Refused, Rest, bytes(48)), "no rest is in the struct")
 
 
+def freed():
+    """Behind `free` no call says that nothing is due: each is refused."""
+    end = End(GOOD)
+    end.listen()
+    check((end.emit(), end.next(), end.timer(Timer.RETRANSMIT), end.resend_first(), end.emit_train(1)), (None, None, False, False, None))
+    check(raised(Refused, end.timer, 3), "no timer has this number")
+    end.free()
+    calls = [end.emit, end.emit_partial, end.emit_acknowledgement, end.resend_first, end.transmit, end.next, end.timers, end.pending]
+    calls += [end.peer, end.status, end.rest, end.listen, end.receive, end.peek, end.acknowledge, end.close, end.abort]
+    calls += [lambda: end.timer(Timer.RETRANSMIT), lambda: end.emit_train(1), lambda: end.send(b"x"), lambda: end.consume(1)]
+    calls += [lambda call=call: call(B, A, b"x") for call in (end.arrive, end.take, end.taken, end.arrive_vouched, end.taken_vouched)]
+    for call in calls:
+        check(raised(Refused, call), "no end is in the struct")
+
+
+def rooms():
+    """b"" is the end of the stream alone: an end that could hand over no byte isn't made."""
+    check(raised(ValueError, End, GOOD, 0), "the room is 0, and receive would have no byte to hand over")
+    a, b = opened(bytes)
+    a.send(b"xy")
+    b.arrive(A, *a.emit())
+    small = End(GOOD._replace(port=3), 1)
+    check((small.room, b.receive(), b.receive()), (1, b"xy", None))
+
+
+def defaults():
+    """The SYN has an MSS of 1,460 bytes, permits selective acknowledgement and offers no scaling (RFC 9293, 3.7.1; RFC 2018, 2)."""
+    end = End(Config(A, 7, isn=1))
+    end.connect(B, 8)
+    syn = end.emit()[1]
+    check((syn[20:], syn[14:16]), (bytes([2, 4, 5, 180, 1, 1, 4, 2]), b"\xff\xff"))
+    check((end.status().room, Config(A, 7).limit), (65535, 2_147_483_632))
+    check(raised(ValueError, End, Config(A, 7)), "no initial sequence number is chosen (RFC 9293, 3.4.1)")
+    capacities = {1: None, 65535: None, 65536: 1, 131071: 1, 131072: 2, 1048575: 4, 1048576: 5}
+    check({capacity: tcpcore.least_shift(capacity) for capacity in capacities}, capacities)
+
+
 def main():
-    for test in (ranges, refusals, copies, buffers, lending, trains, enums):
+    for test in (ranges, refusals, copies, buffers, lending, trains, enums, freed, rooms, defaults):
         test()
     print(f"calls.py: {checks} checks")
 

@@ -133,6 +133,31 @@ static void first(void)
     none_at_all(&a);
 }
 
+/* With the FIN in flight behind so much text: where the text leaves room for it in a segment of 100 bytes it goes out again, too, by
+   itself; behind a full segment it doesn't. */
+static void fin_behind(uint32_t text)
+{
+    CHECK(tcpcore_free(&a), TCPCORE_DONE);
+    CHECK(tcpcore_free(&b), TCPCORE_DONE);
+    make(&a, A, 1, 1000);
+    make(&b, B, 2, 5000);
+    opening();
+    send_bytes(&a, text);
+    CHECK(tcpcore_close(&a), TCPCORE_DONE);
+    for (int times = 0; times < 2; times++) {
+        struct segment segment = emitted(&a);
+        says(&segment, 1001, 5001, text);
+        CHECK(segment.bytes[13] & 1, 0);
+        if (times == 0 || text < 100) {
+            segment = emitted(&a);
+            says(&segment, 1001 + text, 5001, 0);
+            CHECK(segment.bytes[13] & 1, 1);
+        }
+        none_at_all(&a);
+        CHECK(tcpcore_resend_first(&a), TCPCORE_DONE);
+    }
+}
+
 int main(void)
 {
     make(&a, A, 1, 1000);
@@ -143,6 +168,8 @@ int main(void)
     CHECK(tcpcore_abort(&a), TCPCORE_DONE);
     none(&a);
     CHECK(tcpcore_resend_first(&a), TCPCORE_NO_RULE);
+    fin_behind(99);
+    fin_behind(100);
     printf("pacing: %d checks\n", checks);
     return 0;
 }

@@ -1,12 +1,13 @@
 /*
- * What the tests share that have the same traffic by two pairs of ends side by side: the ends, what is under way, the sums of a device
- * (RFC 1071; RFC 9293, 3.1), and random numbers. Who includes it has said CAPACITY, the room of a buffer, and WAITING, how many
+ * What the tests share that have the same traffic by two pairs of ends side by side: the ends, what is under way, and random numbers,
+ * beside the sums of a device. Who includes it has said CAPACITY, the room of a buffer, and WAITING, how many
  * segments may be under way to an end.
  */
 #ifndef TCPCORE_PAIRS_H
 #define TCPCORE_PAIRS_H
 
 #include "check.h"
+#include "sums.h"
 #include "tcpcore.h"
 
 #include <string.h>
@@ -34,28 +35,6 @@ static uint32_t any(uint32_t bound)
     word ^= word >> 7;
     word ^= word << 17;
     return (uint32_t)((word >> 16) % bound);
-}
-
-/* The ones' complement sum over these bytes, and what was summed before (RFC 1071, 1). */
-static uint32_t summed(uint32_t sum, const unsigned char *bytes, size_t length)
-{
-    for (size_t i = 0; i < length; i++)
-        sum += i % 2 ? bytes[i] : (uint32_t)bytes[i] << 8;
-    while (sum >> 16)
-        sum = (sum & 0xffff) + (sum >> 16);
-    return sum;
-}
-
-/* Of the pseudo-header (RFC 9293, 3.1). */
-static uint32_t pseudo(tcpcore_addr src, tcpcore_addr dst, size_t length)
-{
-    return summed(summed(summed((uint32_t)length + 6, src.byte, 4), dst.byte, 4), NULL, 0);
-}
-
-static void put16(unsigned char *at, uint32_t value)
-{
-    at[0] = (unsigned char)(value >> 8);
-    at[1] = (unsigned char)value;
 }
 
 static struct tcpcore_status status_of(int pair, int end)

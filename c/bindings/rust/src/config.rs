@@ -7,6 +7,7 @@ use crate::{sys, Addr, LIMIT};
 /// let config = tcpcore::Config::new([10, 0, 0, 1], 80, 77).capacities(20_000, 200_000);
 /// assert_eq!(config.room(), tcpcore::memory(20_000, 200_000));
 /// ```
+/// [`Config::new`] has a default for all but the address, the port and the initial sequence number.
 #[derive(Clone, Copy)]
 #[must_use]
 pub struct Config(pub(crate) sys::Config);
@@ -42,14 +43,31 @@ impl Config {
     pub const fn capacities(mut self, send: usize, receive: usize) -> Config {
         self.0.send_capacity = send as u64;
         self.0.recv_capacity = receive as u64;
+        self.window_shift(Self::least_shift(receive))
+    }
+
+    /// The least window shift with which all of this receive capacity can be advertised (RFC 7323, 2.2); `None` where no scaling is
+    /// needed.
+    ///
+    /// ```
+    /// use tcpcore::Config;
+    /// assert_eq!([65_535, 65_536, 131_071, 131_072, 1_048_576].map(Config::least_shift), [None, Some(1), Some(1), Some(2), Some(5)]);
+    /// ```
+    pub const fn least_shift(receive: usize) -> Option<u8> {
         let mut shift = 0;
         while receive >> shift > 65535 && shift < 14 {
             shift += 1;
         }
-        self.window_shift(if shift > 0 { Some(shift) } else { None })
+        if shift > 0 {
+            Some(shift)
+        } else {
+            None
+        }
     }
 
-    /// The shift of the windows that are told, 0 to 14 (RFC 7323, 2.2), or that they aren't scaled.
+    /// The shift of the windows that are told, 0 to 14 (RFC 7323, 2.2), or that they aren't scaled. [`Config::capacities`] has chosen the
+    /// least one. With a greater one the window is 0 while fewer than 2^shift bytes are free, with a receive capacity below that always,
+    /// and the peer then sends nothing but probes of a byte.
     pub const fn window_shift(mut self, shift: Option<u8>) -> Config {
         match shift {
             Some(shift) => {

@@ -79,7 +79,8 @@ pub fn versions() -> (u32, u32) {
 }
 
 /// One end of one TCP connection, where it lies: behind a [`Placed`] or a [`Boxed`], as `str` is behind a `String`. It has no size, so
-/// that it can't be moved out of its place.
+/// that it can't be moved out of its place. What changes it takes `&mut self`, so that no two threads can do so at once; threads that
+/// share one hold a lock (`Mutex<Boxed>`).
 #[repr(C)]
 pub struct End {
     raw: sys::End,
@@ -194,8 +195,9 @@ impl End {
         (answer == 0).then(|| (to.byte, &room[..length]))
     }
 
-    /// Of what is in flight, the first segment alone is to be sent again, and then new data (RFC 5681, 3.2; RFC 6582, 3.2). Answers
-    /// whether anything is in flight: where nothing is, nothing changed.
+    /// Of what is in flight, as much as one segment carries is to be sent again, the first segment, and then new data (RFC 5681, 3.2; RFC
+    /// 6582, 3.2). Where its text leaves room in it for the FIN behind it the FIN is, too, which goes out by itself. Answers whether
+    /// anything is in flight: where nothing is, nothing changed.
     pub fn resend_first(&mut self) -> bool {
         unsafe { sys::tcpcore_resend_first(&mut self.raw) == 0 }
     }
