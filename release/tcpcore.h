@@ -1,0 +1,829 @@
+/*
+ * tcpcore.h: one end of one TCP connection, as a value (RFC 9293; window scale of RFC 7323; selective
+ * acknowledgement of RFC 2018). IPv4.
+ *
+ * It is a library for x86-64 and aarch64; or, for any machine, of 32 bits too and of either order of bytes, one C99 file,
+ * c/portable's tcpcore_portable.c, the same code translated to C.
+ *
+ * The library's code for x86-64 needs a processor of level v2, and doesn't test for one: 'rt lib --cpu x86-64' builds for
+ * any, '--cpu x86-64-v3' for later ones. 'rt lib --target aarch64-unknown-linux-gnu' builds for any aarch64.
+ *
+ * WHAT IT IS
+ *   An end has no socket, clock or thread. User calls, timers and the segments that arrive go in; segments and
+ *   the bytes for the user come out. One end carries one connection: after its end free it and make another.
+ *
+ * WHAT THE CALLER DOES
+ *   1. Make an end: tcpcore_new. Open it: tcpcore_connect or tcpcore_listen.
+ *   2. After every call, or after a batch of arrivals, emit until nothing is due: call tcpcore_emit until it answers
+ *      TCPCORE_NOT_DUE. Put each segment into an IPv4 packet (protocol 6) from the address of the config to the address
+ *      that was told, and send it.
+ *   3. Hand each TCP segment that arrives to tcpcore_arrive, without its IPv4 header, with the packet's two addresses; or to
+ *      tcpcore_take, which says where an answer may not wait for the rest of the batch.
+ *   4. Call tcpcore_receive when you want bytes. What isn't read shuts the window. A window that grows by reading makes a
+ *      segment due only where it stood at 0, and a peer that finds it too small waits for a timer of its own: read all that
+ *      is there, or call tcpcore_acknowledge where the window has grown by the smaller of a segment and half the
+ *      recv_capacity since it was advertised (RFC 9293, 3.8.6.2.2).
+ *   5. Keep real time. tcpcore_timers says which timers have to run. When one has run out call tcpcore_timer, and then emit:
+ *
+ *      timer                     starts                starts anew                       takes
+ *      TCPCORE_TIMER_RETRANSMIT  when its bit is set   when `una` has grown, and after   1 second at first, then what
+ *                                                      each run-out, with twice the      measured round trips say, 1 to
+ *                                                      time                              60 seconds (RFC 6298)
+ *      TCPCORE_TIMER_REORDER     when its bit is set   when anything is sent again, and  one round trip; never leave it
+ *                                                      after each run-out                out
+ *      TCPCORE_TIMER_TIME_WAIT   when its bit is set   when a segment that arrives is    two maximum segment lifetimes, 4
+ *                                                      answered: the peer's FIN came     minutes (RFC 9293, 3.4.2)
+ *                                                      again (RFC 9293, 3.10.7.4)
+ *
+ *      Retransmit runs while the peer's window is shut, too: it lets the end probe the window (RFC 9293, 3.8.6.1).
+ *      A timer whose bit is clear is stopped.
+ *   6. Free the end: tcpcore_free. Where there are many, each can be freed in TIME-WAIT once all was read: tcpcore_rest reports what
+ *      takes its place, 48 bytes that answer late segments as it would.
+ *
+ * WHICH END A SEGMENT IS FOR
+ *   A single end on its address needs no choice: hand it whatever comes. With several ends the caller deals out the
+ *   segments, by both addresses and both ports (a pair of sockets identifies a connection: RFC 9293, 4):
+ *   1. to the end, not in CLOSED, whose own address and port are the destination, and whose peer's are the source;
+ *   2. where there is none, to an end in LISTEN whose own address and port are the destination. If it answers
+ *      TCPCORE_DONE the segment was a SYN, its source is the peer, and the end carries that connection: make another
+ *      one to listen on;
+ *   3. where there is neither, to tcpcore_stray_reset, which writes the reset that answers it.
+ *   An end in LISTEN or CLOSED knows no peer. It takes segments from any source to its own address and port, and what
+ *   isn't for it, but a reset, it answers by a reset (in LISTEN what has an ACK: RFC 9293, 3.10.7.1 and 3.10.7.2).
+ *   So a segment of a connection that another end carries, passed to it, ends that connection: the peer takes the
+ *   reset. Never try one end after the other until one doesn't answer TCPCORE_NOT_MINE.
+ *
+ * WHICH ADDRESSES ARE REFUSED
+ *   None: no call looks at what an address means. Before tcpcore_connect and tcpcore_arrive the caller refuses what
+ *   can't be a peer's (RFC 9293, 3.9.2.3): 0.0.0.0, a multicast address (224.0.0.0 to 239.255.255.255), a broadcast
+ *   address (255.255.255.255, and that of its own network), and its own address together with its own port.
+ *
+ * MEMORY
+ *   The library takes no memory from anywhere: an end lies in a block that the caller hands to tcpcore_new, all of it, and no
+ *   call asks for more. tcpcore_new_at puts the struct there, too. Any block will do, static or from malloc, of any alignment. tcpcore_room says how many bytes are
+ *   enough, and TCPCORE_MEMORY(send, receive) the same as a constant: the two capacities, each in whole units of 16 bytes, what
+ *   the end takes beside them, and 15 bytes for a block that doesn't begin at a multiple of 16. That these are enough is
+ *   measured by the tests (tests/room.c), not proved. The linker is asked for memcpy, memmove and memset alone.
+ *
+ * STACK
+ *   A call takes less than TCPCORE_STACK bytes. That isn't proved: the tests read it from the disassembly (tests/depth.py:
+ *   nothing calls through a pointer, and nothing calls itself) and measure it
+ *   (tests/stack.c).
+ *
+ * THREADS
+ *   None is started. One end is used by one thread at a time: two calls of one end at once break it, and that isn't found. Where
+ *   threads share an end the caller holds a lock around each call. Two ends have nothing in common. Not for signal handlers.
+ *
+ * WHO OWNS WHAT
+ *   The caller places the struct tcpcore_end, sets it to TCPCORE_END_INIT, and frees what tcpcore_new put into it. The struct
+ *   isn't copied or moved while it holds an end: a copy is refused (TCPCORE_COPIED). Whose places move, as a language's values
+ *   do, lets it lie in the block (tcpcore_new_at), and moves the pointer alone. A struct whose bytes were saved,
+ *   and put back to the same place after its end was freed, can't be found: it looks as it did while it held the end,
+ *   and a call with it uses a block that was given back.
+ *   The block is the end's from tcpcore_new to tcpcore_free: nobody else reads, writes, moves or frees it, and no other end
+ *   is made in it. Then, and where tcpcore_new was refused, it is the caller's again, whatever its bytes are, and may serve the
+ *   next end. Leaving an end without tcpcore_free loses nothing but the block.
+ *   Buffers belong to the caller; no call keeps a pointer to one.
+ *   What tcpcore_peek and tcpcore_parts lend lies in the block: it may be read, never written, until the next call that changes the
+ *   end (any but peek, parts, next, pending, timers, peer, status and rest).
+ *   The record in the place of an end, struct tcpcore_rest, is the caller's as a whole: nothing else belongs to it.
+ *
+ * ANSWERS
+ *   Each function answers one number of the table below. A call for an end that was freed answers TCPCORE_NO_END, so that a loop
+ *   over tcpcore_emit that goes on while it answers TCPCORE_DONE ends, and a caller that looks for TCPCORE_NOT_DUE, or TCPCORE_NO_RULE
+ *   of a timer, sees the difference. A refusal changes no end. What a call writes through a pointer
+ *   (a count, an address, timers, a status) is written at every answer, and is all 0 unless the answer is TCPCORE_DONE,
+ *   but for what an arrival reports beside TCPCORE_DROPPED; buffers stay as they are then. Such a pointer may not be over
+ *   the struct, over the buffer of the same call, or over another such pointer: the answer is TCPCORE_OVERLAP, and
+ *   nothing is written there. A buffer may be NULL where its length is 0.
+ *
+ * WHAT IS TRUSTED
+ *   What a call does to an end is proved of the library. Not proved: tcpcore.c, the C compiler, the three functions of the
+ *   C library, that a block of TCPCORE_MEMORY bytes is enough, and that this header agrees with the library: layout.h
+ *   asserts where each field lies, and tests/fields.c reads each one back through what an end does. A pointer to memory
+ *   that isn't there, or isn't yours, can't be found: such a call may do anything.
+ */
+#ifndef TCPCORE_H
+#define TCPCORE_H
+
+#include <stddef.h>
+#include <stdint.h>
+
+#ifdef __cplusplus
+extern "C" {
+#ifdef __GNUC__
+/* Four structs have the names of calls. */
+#pragma GCC diagnostic push
+#pragma GCC diagnostic ignored "-Wshadow"
+#endif
+#endif
+
+/* The version of this header: it grows with each change of a struct, a call or an answer. */
+#define TCPCORE_VERSION 8
+
+/* The answers; tcpcore_strerror has a text for each. */
+enum {
+    /* It is done. */
+    TCPCORE_DONE = 0,
+    /* tcpcore_arrive and tcpcore_take: the bytes are no segment, by the first fault; nothing changed. */
+    TCPCORE_TOO_SHORT = 1,    /* fewer than 20 bytes */
+    TCPCORE_TOO_LONG = 2,     /* more than 65,515 bytes */
+    TCPCORE_BAD_CHECKSUM = 3, /* over segment and pseudo-header (RFC 9293, 3.1) */
+    TCPCORE_BAD_OFFSET = 4,   /* the data offset is below 5 words or behind the end */
+    TCPCORE_BAD_OPTION = 5,   /* an option has no length, or one that doesn't fit */
+    TCPCORE_BAD_PADDING = 6,  /* a byte behind the end of the options isn't 0 */
+    /* A user call is refused; nothing changed. */
+    TCPCORE_NOT_OPEN = 11,      /* CLOSED and never opened */
+    TCPCORE_ALREADY_OPEN = 12,  /* opened before */
+    TCPCORE_CLOSING = 13,       /* behind a tcpcore_close */
+    TCPCORE_ENDED = 14,         /* the connection has ended; tcpcore_status says how */
+    TCPCORE_STREAM_FULL = 15,   /* the direction has accepted as many bytes as the config's limit allows */
+    TCPCORE_NOT_CONNECTED = 16, /* no peer is known: of tcpcore_send in LISTEN, of tcpcore_peer */
+    /* tcpcore_new: the config or the block is refused; the block is the caller's. */
+    TCPCORE_BAD_CAPACITY = 21, /* a capacity isn't from 1 to 1,048,576 */
+    TCPCORE_NO_MEMORY = 22,    /* the block is too small */
+    TCPCORE_BAD_MSS = 23,      /* the MSS isn't from 64 to 1,460 */
+    TCPCORE_BAD_SHIFT = 24,    /* the window shift is above 14 */
+    TCPCORE_BAD_LIMIT = 25,    /* the limit isn't from 1 to 2^62 */
+    /* The boundary refuses; nothing changed. */
+    TCPCORE_NO_END = 31,    /* no end is in the struct: never made, or freed */
+    TCPCORE_IN_USE = 32,    /* tcpcore_new: the struct holds an end already */
+    TCPCORE_ROOM = 33,      /* fewer than TCPCORE_EMIT_ROOM bytes; of tcpcore_parts than TCPCORE_HEADER_ROOM, and so on */
+    TCPCORE_NO_TIMER = 34,  /* tcpcore_timer: no timer has this number */
+    TCPCORE_NULL = 35,      /* a pointer is NULL */
+    TCPCORE_LENGTH = 36,    /* a length is above PTRDIFF_MAX */
+    TCPCORE_COPIED = 37,    /* the struct was copied or moved, or never set */
+    TCPCORE_OVERLAP = 38,   /* a buffer or a pointer that is written through lies over the struct, or over the buffer */
+    TCPCORE_NO_REST = 39,   /* tcpcore_rest_..: the struct has no TIME-WAIT record: never reported, or other bytes */
+    /* The call was made and found this. */
+    TCPCORE_NOTHING = 51,       /* tcpcore_receive: nothing to read yet */
+    TCPCORE_END_OF_STREAM = 52, /* tcpcore_receive: the peer closed, and all its bytes were delivered */
+    TCPCORE_NOT_DUE = 53,       /* no segment is due; tcpcore_stray_reset: no reset answers the bytes */
+    TCPCORE_NO_RULE = 54,       /* tcpcore_timer: the timer's bit was clear; nothing changed */
+    TCPCORE_DROPPED = 55,       /* an arrival: the segment was dropped; an answer to it may be due */
+    TCPCORE_NOT_MINE = 56,      /* an arrival: the segment is another connection's; nothing changed */
+    TCPCORE_NOT_AT_REST = 57    /* tcpcore_rest: the end isn't in TIME-WAIT, or has bytes unread */
+};
+
+/* The phases (RFC 9293, 3.3.2). */
+enum {
+    TCPCORE_PHASE_CLOSED = 0,
+    TCPCORE_PHASE_LISTEN = 1,
+    TCPCORE_PHASE_SYN_SENT = 2,
+    TCPCORE_PHASE_SYN_RECEIVED = 3,
+    TCPCORE_PHASE_ESTABLISHED = 4,
+    TCPCORE_PHASE_FIN_WAIT_1 = 5,
+    TCPCORE_PHASE_FIN_WAIT_2 = 6,
+    TCPCORE_PHASE_CLOSE_WAIT = 7,
+    TCPCORE_PHASE_CLOSING = 8,
+    TCPCORE_PHASE_LAST_ACK = 9,
+    TCPCORE_PHASE_TIME_WAIT = 10
+};
+
+/* How the connection ended. */
+enum {
+    TCPCORE_ENDING_NOT_ENDED = 0,
+    TCPCORE_ENDING_ORDERLY = 1,  /* both sides closed, and knew it; what is unread can still be read */
+    TCPCORE_ENDING_RESET = 2,    /* the peer reset it; what was queued or unread is discarded */
+    TCPCORE_ENDING_ABORTED = 3   /* this side aborted it; what was queued or unread is discarded */
+};
+
+/* The timers. Bit 1 << t of tcpcore_timers is timer t's. */
+enum {
+    TCPCORE_TIMER_RETRANSMIT = 0, /* the retransmission timeout (RFC 9293, 3.8.1) */
+    TCPCORE_TIMER_REORDER = 1,    /* what the peer's blocks passed over is taken for lost */
+    TCPCORE_TIMER_TIME_WAIT = 2   /* the TIME-WAIT timeout (RFC 9293, 3.10.8) */
+};
+
+/* How many bytes of a block are enough for an end of these capacities, wherever the block begins. */
+#define TCPCORE_UNITS(size) (((size_t)(size) + 15) / 16 * 16)
+#define TCPCORE_MEMORY(send, receive) (TCPCORE_UNITS(send) + TCPCORE_UNITS(receive) + 704 + 15)
+
+/* How much more of a block tcpcore_new_at wants, in bytes, than tcpcore_new: TCPCORE_MEMORY(send, receive) + TCPCORE_STRUCT_ROOM,
+   or tcpcore_room(config) + TCPCORE_STRUCT_ROOM. */
+#define TCPCORE_STRUCT_ROOM 32
+
+/* The bytes of stack that a call takes at most; and of the portable file, on any machine that it was tried on. */
+#define TCPCORE_STACK 2048
+#define TCPCORE_PORTABLE_STACK 4096
+
+/* The room that tcpcore_emit wants, in bytes: more than the longest segment of an end. */
+#define TCPCORE_EMIT_ROOM 1520
+
+/* The most bytes that tcpcore_emit_train uses: the length of the longest segment in an IPv4 packet. It wants no more room than
+   tcpcore_emit. */
+#define TCPCORE_TRAIN_ROOM 65515
+
+/* The room that tcpcore_parts wants, in bytes: the length of the longest header, options and all (RFC 9293, 3.1). */
+#define TCPCORE_HEADER_ROOM 60
+
+/* The room that tcpcore_stray_reset wants, in bytes: the length of a reset. */
+#define TCPCORE_RESET_ROOM 20
+
+/* The room that tcpcore_rest_emit wants, in bytes: the length of what a rest sends. */
+#define TCPCORE_REST_ROOM 20
+
+/* A limit below which no segment, however old, is taken for another: 2^31 less 16 bytes. */
+#define TCPCORE_LIMIT UINT64_C(2147483632)
+
+/* An end, placed by the caller. Its words are the library's: set them by TCPCORE_END_INIT alone. */
+typedef struct tcpcore_end {
+    uint64_t opaque[3];
+} tcpcore_end;
+
+/* No end. */
+#define TCPCORE_END_INIT {{0, 0, 0}}
+
+/* An IPv4 address, in network order: 10.0.0.1 is {{10, 0, 0, 1}}. */
+typedef struct tcpcore_addr {
+    /* In network order: 10, 0, 0, 1 for 10.0.0.1. */
+    uint8_t byte[4];
+} tcpcore_addr;
+
+/* What an end is made from. */
+typedef struct tcpcore_config {
+    /* The address of this end. */
+    tcpcore_addr addr;
+    /* The port of this end. */
+    uint16_t port;
+    /* The maximum segment size that this end announces, in bytes, from 64 to 1460 (RFC 9293, 3.7.1). */
+    uint16_t mss;
+    /* The initial sequence number, ISS: choose it as RFC 9293, 3.4.1 says. */
+    uint32_t isn;
+    unsigned int : 32;
+    /* The most bytes that are kept for the peer, from 1 to 1,048,576. */
+    uint64_t send_capacity;
+    /* The most bytes that are kept for the user, from 1 to 1,048,576: the greatest receive window. */
+    uint64_t recv_capacity;
+    /* The most bytes that this end's direction carries, from 1 to 2^62. Past TCPCORE_LIMIT the network has to keep the
+       maximum segment lifetime (RFC 9293, 3.4). */
+    uint64_t limit;
+    /* The shift of the windows that this end advertises, from 0 to 14 (RFC 7323, 2.2). Ignored where `scales` is 0. A window
+       behind the SYN's is advertised in steps of 2^shift bytes, rounded down: it is 0 while fewer than 2^shift bytes are
+       free, with a `recv_capacity` below 2^shift always, and the peer then sends nothing but probes of a byte. No call
+       refuses that. Take the least shift with recv_capacity >> shift at most 65,535 (TCPCORE_LEAST_SHIFT): 0 for 65,535
+       bytes, 1 for 65,536, 5 for 1,048,576. */
+    uint8_t window_shift;
+    /* Whether this end offers window scaling (RFC 7323, 2.2): 0 is no, anything else yes. */
+    uint8_t scales;
+    /* Whether this end permits selective acknowledgement (RFC 2018, 2): 0 is no, anything else yes. */
+    uint8_t sack;
+    unsigned int : 8;
+    unsigned int : 32;
+} tcpcore_config;
+
+/* A config with an MSS of 1,460 bytes, 65,535 bytes each way, selective acknowledgement, TCPCORE_LIMIT, and windows that aren't scaled:
+       tcpcore_config config = TCPCORE_CONFIG_DEFAULT;
+   and then the address, the port and the initial sequence number, which have no default. */
+#define TCPCORE_CONFIG_DEFAULT {{{0, 0, 0, 0}}, 0, 1460, 0, 65535, 65535, TCPCORE_LIMIT, 0, 0, 1}
+
+/* The least window shift with which all of a receive capacity can be advertised, 0 where no scaling is needed; `scales` is set where
+   it is above 0. A greater shift is taken by tcpcore_new, and wastes what it rounds off: see `window_shift`. */
+#define TCPCORE_LEAST_SHIFT(receive) \
+    ((uint64_t)(receive) >> 16 == 0 ? 0 : (uint64_t)(receive) >> 17 == 0 ? 1 : (uint64_t)(receive) >> 18 == 0 ? 2 : \
+     (uint64_t)(receive) >> 19 == 0 ? 3 : (uint64_t)(receive) >> 20 == 0 ? 4 : 5)
+
+/* What tcpcore_status reports. (The tag alone is a type: the name without `struct` is the function.) */
+struct tcpcore_status {
+    /* The state of the connection (RFC 9293, 3.3.2): TCPCORE_PHASE_CLOSED, 0, to TCPCORE_PHASE_TIME_WAIT, 10. */
+    uint32_t phase;
+    /* How it ended: TCPCORE_ENDING_NOT_ENDED, 0, to TCPCORE_ENDING_ABORTED, 3. */
+    uint32_t ending;
+    /* The count of bytes that came in order and wait for `tcpcore_receive`. */
+    uint64_t unread;
+    /* The count of text bytes that acknowledgements have released. */
+    uint64_t released;
+    /* The count of text bytes that came in order up to now, read or not. */
+    uint64_t ordered;
+    /* SND.UNA: the oldest position of this end's direction that isn't acknowledged. The SYN is at 0, byte i at 1 + i. */
+    uint64_t una;
+    /* RCV.NXT: the next position of the peer's direction that is expected. The peer's SYN is at 0; this is 1 until it has
+       come. */
+    uint64_t next;
+    /* How many bytes of a long text `tcpcore_send` would accept, by `send_capacity` and `limit`. */
+    uint64_t room;
+    /* The count of bytes that were accepted and not released. */
+    uint64_t queued;
+    /* The count of text bytes that were sent and aren't acknowledged, at most `queued`. SYN and FIN aren't counted. */
+    uint64_t in_flight;
+    /* The most text bytes of a segment of this end, the smaller of both MSS; options take of it. This and the next fields up
+       to `sack` are what both SYNs agreed on, and 0 until the peer's SYN was taken. */
+    uint32_t mss;
+    /* The shift of the windows that this end advertises; 0 where `scaling` is 0. */
+    uint8_t own_shift;
+    /* The shift of the windows that the peer advertises. */
+    uint8_t peer_shift;
+    /* 1 where windows are scaled (RFC 7323, 2.2). */
+    uint8_t scaling;
+    /* 1 where selective acknowledgement is in use (RFC 2018, 2). */
+    uint8_t sack;
+    /* SND.WND in bytes, scaled: the peer's window, from the segment that it was last taken from (RFC 9293, 3.3.1 and
+       3.10.7.4). It is 0 until this end's SYN was acknowledged. */
+    uint32_t snd_wnd;
+    /* RCV.WND in bytes: how much more this end accepts (RFC 9293, 3.3.1). */
+    uint32_t rcv_wnd;
+    /* SND.NXT: the next position of this end's direction to be sent for the first time. */
+    uint64_t nxt;
+    /* 1 once `tcpcore_close` was accepted. */
+    uint32_t closing;
+    /* 1 once the peer's FIN was taken. */
+    uint32_t finished;
+    /* 0. Fields of later versions take their place from here: the struct's size stays. */
+    uint32_t reserved[6];
+};
+
+/* The rules that an arrival goes by (RFC 9293, 3.10.7), in the order of their tests. */
+enum {
+    TCPCORE_RULE_NONE = 0,             /* the bytes are no segment */
+    TCPCORE_RULE_FOREIGN = 1,          /* for another end, or from another source than the peer */
+    TCPCORE_RULE_RESET_IGNORED = 2,    /* a reset that has no effect, or one outside the window (3.10.7.1 to 3.10.7.4) */
+    TCPCORE_RULE_STRAY = 3,            /* CLOSED: a reset answers it (3.10.7.1) */
+    TCPCORE_RULE_ACK_OF_LISTEN = 4,    /* an acknowledgement in LISTEN: a reset answers it (3.10.7.2, second) */
+    TCPCORE_RULE_OPENS_NOTHING = 5,    /* LISTEN, SYN-SENT: it has no effect (3.10.7.2, fourth; 3.10.7.3, fifth) */
+    TCPCORE_RULE_PEER_OPENS = 6,       /* a SYN in LISTEN (3.10.7.2, third) */
+    TCPCORE_RULE_ACK_OF_NO_SYN = 7,    /* SYN-SENT: an acknowledgement that isn't of the SYN: a reset answers it (3.10.7.3, first) */
+    TCPCORE_RULE_PEER_REFUSES = 8,     /* SYN-SENT: a reset that acknowledges the SYN (3.10.7.3, second) */
+    TCPCORE_RULE_PEER_ACCEPTS = 9,     /* SYN-SENT: a SYN that acknowledges the SYN (3.10.7.3, fourth) */
+    TCPCORE_RULE_UNACCEPTABLE = 10,    /* outside the window: an acknowledgement answers it (3.10.7.4, first) */
+    TCPCORE_RULE_PEER_RESETS = 11,     /* a reset at RCV.NXT (3.10.7.4, second) */
+    TCPCORE_RULE_RESET_ELSEWHERE = 12, /* a reset elsewhere in the window: an acknowledgement answers it (3.10.7.4, second) */
+    TCPCORE_RULE_SYN_IN_WINDOW = 13,   /* an acknowledgement answers it (3.10.7.4, fourth) */
+    TCPCORE_RULE_NO_ACK = 14,          /* without ACK: all of it is dropped (3.10.7.4, fifth) */
+    TCPCORE_RULE_ACKS_UNSENT = 15,     /* an acknowledgement of what wasn't sent: an acknowledgement answers it (3.10.7.4, fifth) */
+    TCPCORE_RULE_HANDSHAKE_REFUSED = 16, /* SYN-RECEIVED: an acknowledgement that isn't of the SYN: a reset answers it (3.10.7.4, fifth) */
+    TCPCORE_RULE_HANDSHAKE_REFUSED_SHUT = 17, /* such a one that is unacceptable at a zero window (3.10.7.4, first and fifth) */
+    TCPCORE_RULE_TAKEN = 18,           /* all of it is taken (3.10.7.4, fifth to eighth) */
+    TCPCORE_RULE_TAKEN_SHUT = 19       /* unacceptable at a zero window: only its acknowledgement, window and blocks are taken */
+};
+
+/* What a segment brought of the peer's stream (RFC 9293, 3.10.7.4, seventh and eighth). */
+enum {
+    TCPCORE_BROUGHT_NOTHING = 0,  /* it has neither text nor a FIN */
+    TCPCORE_BROUGHT_IN_ORDER = 1, /* text or a FIN in order: RCV.NXT was moved */
+    TCPCORE_BROUGHT_HELD = 2,     /* text out of order, which is held until what is missing before it comes */
+    TCPCORE_BROUGHT_NOT_KEPT = 3  /* text or a FIN of which nothing is kept */
+};
+
+/* What tcpcore_taken reports of bytes that arrived. All 0 where the answer is a refusal. (The tag alone is a type, as of tcpcore_status.) */
+struct tcpcore_taken {
+    /* 1 where they have to be answered at once (RFC 5681, 4.2). */
+    uint32_t at_once;
+    /* The rule that applied: TCPCORE_RULE_FOREIGN, 1, to TCPCORE_RULE_TAKEN_SHUT, 19; TCPCORE_RULE_NONE, 0, where they are
+       no segment. */
+    uint32_t rule;
+    /* The count of text bytes that their acknowledgement released. SYN and FIN aren't counted. */
+    uint64_t acked;
+    /* What they brought: TCPCORE_BROUGHT_NOTHING, 0, to TCPCORE_BROUGHT_NOT_KEPT, 3. */
+    uint32_t brought;
+    /* 1 where they are a duplicate acknowledgement (RFC 5681, 2): text was in flight, they have no text, no SYN and no FIN,
+       they acknowledge up to SND.UNA, and their window is SND.WND. */
+    uint32_t is_duplicate;
+    /* 1 where SND.WND was taken from them (RFC 9293, 3.10.7.4, fifth). */
+    uint32_t window_taken;
+    /* 0. Fields of later versions take their place from here: the struct's size stays. */
+    uint32_t reserved[9];
+};
+
+/* What a segment is that an end emits. */
+enum {
+    TCPCORE_KIND_NONE = 0,           /* none is due */
+    TCPCORE_KIND_RESET = 1,
+    TCPCORE_KIND_SYN = 2,            /* for the first time or again, with an acknowledgement once the peer's was taken */
+    TCPCORE_KIND_NEW_TEXT = 3,       /* text for the first time, also a byte that probes a window of 0 (RFC 9293, 3.8.6.1) */
+    TCPCORE_KIND_TEXT_AGAIN = 4,     /* text that is retransmitted (RFC 9293, 3.8.1) */
+    TCPCORE_KIND_FIN = 5,
+    TCPCORE_KIND_FIN_AGAIN = 6,
+    TCPCORE_KIND_ACKNOWLEDGEMENT = 7 /* without text */
+};
+
+/* What tcpcore_transmit and tcpcore_next report of a segment. (The tag alone is a type, as of tcpcore_status.) */
+struct tcpcore_transmit {
+    /* The address that it goes to. */
+    tcpcore_addr to;
+    /* Its kind: TCPCORE_KIND_RESET, 1, to TCPCORE_KIND_ACKNOWLEDGEMENT, 7; TCPCORE_KIND_NONE, 0, where there is none. */
+    uint32_t kind;
+    /* Its length in bytes, with its header. */
+    uint64_t length;
+    /* Where it begins, as a position of this end's direction: a SYN at 0, byte i at 1 + i, the FIN after the last byte, an
+       acknowledgement at SND.NXT; 0 of a reset. */
+    uint64_t position;
+    /* The length of its text in bytes. */
+    uint64_t count;
+    /* 0. Fields of later versions take their place from here: the struct's size stays. */
+    uint32_t reserved[8];
+};
+
+/* Segments that tcpcore_emit_train wrote as one, which a device cuts: segment i, from 0 on, has the `each` bytes of its text from
+   i * each on, and the last one has the rest. */
+struct tcpcore_train {
+    /* What was written, as one segment: where it goes and begins, its kind, its length, and that of all its text. */
+    struct tcpcore_transmit whole;
+    /* The length of its header in bytes with options, which each segment has. */
+    uint64_t header;
+    /* The length of the text of each segment but the last, in bytes: 0 where there is no text. */
+    uint64_t each;
+    /* How many segments it is; 1 where there is nothing to cut. */
+    uint64_t segments;
+    /* 0. Fields of later versions take their place from here: the struct's size stays. */
+    uint32_t reserved[10];
+};
+
+/* Bytes that are lent where they lie: two fields in the order of POSIX's struct iovec. `at` is NULL where `length` is 0. */
+typedef struct tcpcore_piece {
+    /* Where they lie. */
+    const void *at;
+    /* How many they are. */
+    size_t length;
+} tcpcore_piece;
+
+/* The unread bytes, as tcpcore_peek lends them: all of `first`, then all of `second`. */
+struct tcpcore_lent {
+    /* The first of them; it is empty only where none is lent. */
+    tcpcore_piece first;
+    /* The rest of them. */
+    tcpcore_piece second;
+    /* 1 where the peer has closed, so that none comes after these. */
+    uint32_t ends;
+    /* 0. Fields of later versions take their place from here: the struct's size stays. */
+    uint32_t reserved[7];
+};
+
+/*
+ * A segment in parts, as tcpcore_parts lends it: its header, which was written, then all of `first`, then all of `second`. (The tag
+ * alone is a type, as of tcpcore_status.)
+ */
+struct tcpcore_parts {
+    /* The address that it goes to. */
+    tcpcore_addr to;
+    /* The length of its header in bytes with options, at most TCPCORE_HEADER_ROOM. */
+    uint32_t header;
+    /* The first of its text; it is empty only where there is none. */
+    tcpcore_piece first;
+    /* The rest of its text. */
+    tcpcore_piece second;
+    /* 0. Fields of later versions take their place from here: the struct's size stays. */
+    uint32_t reserved[6];
+};
+
+/*
+ * What is kept in the place of an end in TIME-WAIT, in 48 bytes, as tcpcore_rest reports it: a plain value, which may be copied,
+ * moved and stored; a copy is another that rests there. All zero there is none. (The tag alone is a type, as of tcpcore_status.)
+ */
+struct tcpcore_rest {
+    /* The library's word for it; with any other there is no record. */
+    uint32_t mark;
+    /* The address of this end. */
+    tcpcore_addr addr;
+    /* The peer's address. */
+    tcpcore_addr peer_addr;
+    /* The port of this end. */
+    uint16_t port;
+    /* The peer's port. */
+    uint16_t peer_port;
+    /* SND.NXT, a sequence number: all before it is acknowledged. */
+    uint32_t seq;
+    /* RCV.NXT, a sequence number. */
+    uint32_t next;
+    /* RCV.WND in bytes, at most 1,048,576. */
+    uint32_t window;
+    /* The address that the waiting reset goes to. This and the next three are ignored where `reset` is 0. */
+    tcpcore_addr reset_addr;
+    /* The sequence number of the reset. */
+    uint32_t reset_seq;
+    /* What the reset acknowledges; ignored where `reset` is 1. */
+    uint32_t reset_ack;
+    /* The port that the reset goes to. */
+    uint16_t reset_port;
+    /* The shift by which the window is advertised, at most 14. */
+    uint8_t shift;
+    /* Whether an acknowledgement is pending: 0 is no, anything else yes. */
+    uint8_t ack;
+    /* The waiting reset: 0 none, 1 one that acknowledges nothing, 2 one that acknowledges. */
+    uint16_t reset;
+    /* How the connection ended: TCPCORE_ENDING_NOT_ENDED, 0, to TCPCORE_ENDING_ABORTED, 3. */
+    uint16_t ending;
+};
+
+/*
+ * Makes an end in *end: CLOSED, empty, nothing due. All of it lies in the `length` bytes at `block`, which may hold anything: see
+ * MEMORY and WHO OWNS WHAT above. *config is read and not kept.
+ *   DONE; IN_USE; BAD_CAPACITY, BAD_MSS, BAD_SHIFT, BAD_LIMIT, NO_MEMORY, the first that applies; NULL; LENGTH; OVERLAP (the
+ *   block lies over the struct); COPIED (the struct is neither TCPCORE_END_INIT nor one that was freed).
+ */
+uint32_t tcpcore_new(tcpcore_end *end, const tcpcore_config *config, void *block, size_t length);
+
+/*
+ * As tcpcore_new, with the struct in the block too, at its front: *end is where. So the caller keeps a pointer, which can be copied
+ * and moved, and an end is one piece of memory. The block has TCPCORE_STRUCT_ROOM bytes more. It may hold anything: that an end is in
+ * it already isn't found. tcpcore_free(*end) frees the end, and the whole block is the caller's again.
+ *   DONE; BAD_CAPACITY, BAD_MSS, BAD_SHIFT, BAD_LIMIT, NO_MEMORY, the first that applies; NULL; LENGTH; OVERLAP (`end` lies in the
+ *   block).
+ */
+uint32_t tcpcore_new_at(tcpcore_end **end, const tcpcore_config *config, void *block, size_t length);
+
+/*
+ * How many bytes of a block are enough for an end with this config, wherever the block begins; 0 where a capacity isn't from
+ * 1 to 1,048,576, or `config` is NULL.
+ */
+size_t tcpcore_room(const tcpcore_config *config);
+
+/*
+ * Frees the end, in any phase: its block is the caller's again. Nothing is sent to the peer: where it has to learn of it,
+ * tcpcore_abort and tcpcore_emit come first. *end is TCPCORE_END_INIT afterwards.
+ *   DONE; NO_END (so a second free is refused); NULL; COPIED.
+ */
+uint32_t tcpcore_free(tcpcore_end *end);
+
+/*
+ * Opens a connection to this address and port (RFC 9293, 3.10.1): SYN-SENT, a SYN is due. Any address and port are
+ * taken: see WHICH ADDRESSES ARE REFUSED above.
+ *   DONE; ENDED, ALREADY_OPEN; NO_END; NULL; COPIED.
+ */
+uint32_t tcpcore_connect(tcpcore_end *end, tcpcore_addr addr, uint16_t port);
+
+/*
+ * Waits for one peer (RFC 9293, 3.10.1): LISTEN. Answers as tcpcore_connect.
+ */
+uint32_t tcpcore_listen(tcpcore_end *end);
+
+/*
+ * Accepts the front of the `length` bytes at `text` that fits the send capacity, and keeps it until the peer has acknowledged it
+ * (RFC 9293, 3.10.2). *taken is its length, 0 to `length`: offer the rest once `released` has grown.
+ *   DONE; ENDED, NOT_OPEN, NOT_CONNECTED, CLOSING, STREAM_FULL; NO_END; NULL; LENGTH; OVERLAP; COPIED.
+ */
+uint32_t tcpcore_send(tcpcore_end *end, const void *text, size_t length, size_t *taken);
+
+/*
+ * Delivers the front of what came in order, at most `room` bytes, at `out` (RFC 9293, 3.10.3). *count is its length; what
+ * lies behind it in `out` stays.
+ * A reset that arrives discards what is unread, in CLOSING, LAST-ACK and TIME-WAIT too, where all the peer's bytes
+ * have come (RFC 9293, 3.10.7.4 has there only that the connection is deleted): read to END_OF_STREAM as soon as they
+ * are there.
+ *   DONE: *count bytes (0 only where room is 0); more may be there. NOTHING: nothing yet. END_OF_STREAM: nothing will come.
+ *   ENDED (behind a reset or an abort), NOT_OPEN; NO_END; NULL; LENGTH; OVERLAP; COPIED.
+ */
+uint32_t tcpcore_receive(tcpcore_end *end, void *out, size_t room, size_t *count);
+
+/*
+ * Lends all unread bytes where they lie in the end's block, for a user who reads them there: no copy is made (RFC 9293, 3.10.3). They
+ * may be read, and not written, until the next call that changes this end. What was read is taken away by tcpcore_consume. Of
+ * version 5.
+ *   As tcpcore_receive; never LENGTH.
+ */
+uint32_t tcpcore_peek(const tcpcore_end *end, struct tcpcore_lent *lent);
+
+/*
+ * Takes the first unread bytes away, at most `count`: *taken is how many. The end is then as after a tcpcore_receive into `count`
+ * bytes, the window and an acknowledgement that is due included. Of version 5.
+ *   DONE: *taken bytes, 0 where nothing is unread, whether or not more may come. ENDED, NOT_OPEN; NO_END; NULL; OVERLAP; COPIED.
+ */
+uint32_t tcpcore_consume(tcpcore_end *end, size_t count, size_t *taken);
+
+/*
+ * Makes an acknowledgement due, which advertises the window as it is now: for a user who has read (4. above). In ESTABLISHED,
+ * FIN-WAIT-1 and FIN-WAIT-2, where the peer may send; in any other phase nothing changes.
+ *   DONE; NO_END; NULL; COPIED.
+ */
+uint32_t tcpcore_acknowledge(tcpcore_end *end);
+
+/*
+ * This side has no more to send (RFC 9293, 3.10.4); what is queued still goes out, and the peer may send on. Before the
+ * handshake was answered the connection ends as aborted.
+ *   DONE; ENDED, NOT_OPEN, CLOSING; NO_END; NULL; COPIED.
+ */
+uint32_t tcpcore_close(tcpcore_end *end);
+
+/*
+ * Aborts the connection (RFC 9293, 3.10.5): CLOSED, aborted; a reset is due where the peer may know of the connection.
+ *   DONE; ENDED, NOT_OPEN; NO_END; NULL; COPIED.
+ */
+uint32_t tcpcore_abort(tcpcore_end *end);
+
+/*
+ * Timer `timer` has expired (RFC 9293, 3.10.8).
+ *   DONE: its rule was applied. NO_RULE: there was none; nothing changed. NO_TIMER; NO_END; NULL; COPIED.
+ */
+uint32_t tcpcore_timer(tcpcore_end *end, uint32_t timer);
+
+/*
+ * A TCP segment of `length` bytes has come from `src` to `dst` (RFC 9293, 3.10.7). What is no segment, or is for
+ * another address or port, changes nothing; nor does what has another source, once a peer is known. In LISTEN and
+ * CLOSED none is known, and a segment of another connection is answered by a reset: see WHICH END A SEGMENT IS FOR.
+ *   DONE: it was taken. DROPPED: it wasn't; an answer may be due. NOT_MINE. TOO_SHORT .. BAD_PADDING: it is none.
+ *   NO_END; NULL; LENGTH; OVERLAP; COPIED.
+ */
+uint32_t tcpcore_arrive(tcpcore_end *end, tcpcore_addr src, tcpcore_addr dst, const void *bytes, size_t length);
+
+/*
+ * As tcpcore_arrive, and reports whether the segment has to be answered at once (RFC 5681, 4.2), by emitting what is due:
+ * *at_once is 1 where it came out of order or filled all or part of a gap, had a SYN or a FIN, or wasn't taken and has an
+ * answer. Where it is 0 an acknowledgement that is due may wait: for a second segment, and at most half a second.
+ *   As tcpcore_arrive.
+ */
+uint32_t tcpcore_take(tcpcore_end *end, tcpcore_addr src, tcpcore_addr dst, const void *bytes, size_t length, uint32_t *at_once);
+
+/*
+ * As tcpcore_arrive, and reports more of what the segment is to the end: whether it has to be answered at once, the rule
+ * that applied, the text that it acknowledged, what it brought, whether it is a duplicate acknowledgement (RFC 5681, 2),
+ * and whether its window was taken. Of version 5.
+ *   As tcpcore_arrive.
+ */
+uint32_t tcpcore_taken(tcpcore_end *end, tcpcore_addr src, tcpcore_addr dst, const void *bytes, size_t length,
+                       struct tcpcore_taken *taken);
+
+/*
+ * As tcpcore_arrive, of a segment whose checksum a device has found right: it isn't summed. Answer and end are those of the
+ * same bytes with the right checksum, whatever the bytes are: the caller drops what the device found wrong. Of version 5.
+ *   As tcpcore_arrive; never BAD_CHECKSUM.
+ */
+uint32_t tcpcore_arrive_vouched(tcpcore_end *end, tcpcore_addr src, tcpcore_addr dst, const void *bytes, size_t length);
+
+/*
+ * As tcpcore_arrive_vouched, with the report of tcpcore_taken. Of version 5.
+ *   As tcpcore_arrive; never BAD_CHECKSUM.
+ */
+uint32_t tcpcore_taken_vouched(tcpcore_end *end, tcpcore_addr src, tcpcore_addr dst, const void *bytes, size_t length,
+                               struct tcpcore_taken *taken);
+
+/*
+ * Writes the segment that is due to `out`, checksum and all (RFC 9293, 3.7, 3.8 and 3.10).
+ *   DONE: it takes the first *length bytes of `out`, and is for address *to; more may be due. What lies behind it in `out` stays.
+ *   NOT_DUE: none. ROOM: `room` is below TCPCORE_EMIT_ROOM. NO_END; NULL; LENGTH; OVERLAP; COPIED.
+ */
+uint32_t tcpcore_emit(tcpcore_end *end, void *out, size_t room, tcpcore_addr *to, size_t *length);
+
+/*
+ * As tcpcore_emit, for a device that sums segments: the checksum field has the ones' complement sum over the pseudo-header alone (RFC
+ * 9293, 3.1; RFC 1071, 2), and no text is summed. The device sums what was written, from the first byte on, and puts the
+ * complement of that sum into the field, bytes 16 and 17: then the bytes are those of tcpcore_emit. Of version 5.
+ *   As tcpcore_emit.
+ */
+uint32_t tcpcore_emit_partial(tcpcore_end *end, void *out, size_t room, tcpcore_addr *to, size_t *length);
+
+/*
+ * Emits the segments that are due as one, for a device that cuts it and sums what it has cut (segmentation offload: virtio-net
+ * with VIRTIO_NET_F_HOST_TSO4, a TUN device with TUN_F_TSO4). Of new text as many go together as what is queued and the peer's
+ * window allow, at most `most` of them, where 0 counts as 1, and as `room` has place for, of which at most TCPCORE_TRAIN_ROOM bytes
+ * are used. Anything else goes alone: a SYN, a FIN, a reset, an acknowledgement, text that is sent again. What is written is one
+ * segment with all the text; its checksum field has the sum of tcpcore_emit_partial, of a pseudo-header with the length of the whole.
+ *
+ * The device cuts the text after each train->each bytes. Each piece has the header of the whole, with the sequence number of its own
+ * first byte, a checksum of its own, and PSH on the last piece alone (RFC 9293, 3.1 and 3.9.1.2). These are the bytes that
+ * train->segments calls of tcpcore_emit would have written, and the end is as after them. In virtio-net's header of a packet whose
+ * IPv4 header begins at byte n, and has 20 bytes: flags VIRTIO_NET_HDR_F_NEEDS_CSUM, csum_start n + 20, csum_offset 16, hdr_len
+ * n + 20 + train->header. Where train->segments is above 1, gso_type is VIRTIO_NET_HDR_GSO_TCPV4 and gso_size is train->each; else
+ * VIRTIO_NET_HDR_GSO_NONE and 0. Of version 7.
+ *   DONE: it takes the first train->whole.length bytes of `out`, and is for address train->whole.to; more may be due. All else as of
+ *   tcpcore_emit.
+ */
+uint32_t tcpcore_emit_train(tcpcore_end *end, void *out, size_t room, size_t most, struct tcpcore_train *train);
+
+/*
+ * As tcpcore_emit, but writes the acknowledgement that is pending, without data, even where data or the FIN is due (RFC 9293,
+ * 3.8.6.3): for a sender that paces what it sends again. Of version 6.
+ *   As tcpcore_emit. NOT_DUE: no acknowledgement is pending, or a reset or SYN has to go out before it.
+ */
+uint32_t tcpcore_emit_acknowledgement(tcpcore_end *end, void *out, size_t room, tcpcore_addr *to, size_t *length);
+
+/*
+ * Of what is in flight, as much as one segment carries must be sent again, from SND.UNA on, and then new data, as after three duplicate
+ * acknowledgements (RFC 5681, 3.2) or a partial one (RFC 6582, 3.2). That is the first segment; or several, where they were shorter than
+ * a full one; and where their text leaves room in it for the FIN behind it the FIN, too, which goes out by itself. It takes the place of
+ * what was to be sent again until now. Of version 6.
+ *   DONE: it is due. NO_RULE: nothing is in flight. NO_END; NULL; COPIED.
+ */
+uint32_t tcpcore_resend_first(tcpcore_end *end);
+
+/*
+ * Writes the header of the segment that is due to `header`, checksum and all, and lends its text where it lies in the end's block:
+ * header and text are together what tcpcore_emit would write, for a gathering write such as POSIX's writev. What lies behind the
+ * header in `header` stays. Nothing changes in the end: once the segment was sent, call tcpcore_sent. The text may be read, and
+ * not written, until the next call that changes this end. Of version 5.
+ *   DONE: parts->header bytes of `header`, and the text. NOT_DUE: no segment is due. ROOM: `room` is below TCPCORE_HEADER_ROOM.
+ *   NO_END; NULL; LENGTH; OVERLAP; COPIED.
+ */
+uint32_t tcpcore_parts(const tcpcore_end *end, void *header, size_t room, struct tcpcore_parts *parts);
+
+/*
+ * Counts the segment that is due as sent: the end is as after a tcpcore_emit. Call it right after that of tcpcore_parts was
+ * sent: a call, an arrival or a timer in between may make another segment due, which then counts as sent. Nothing changes
+ * where none is due. Of version 5.
+ *   DONE; NO_END; NULL; COPIED.
+ */
+uint32_t tcpcore_sent(tcpcore_end *end);
+
+/*
+ * As tcpcore_emit: the same bytes, and the same end behind it. It reports what the segment is, where it begins, and how much text
+ * it has, beside where it goes and its length. Of version 5.
+ *   As tcpcore_emit.
+ */
+uint32_t tcpcore_transmit(tcpcore_end *end, void *out, size_t room, struct tcpcore_transmit *transmit);
+
+/*
+ * Reports what tcpcore_transmit would report now, and writes no segment. Of version 5.
+ *   DONE; NOT_DUE: no segment is due. NO_END; NULL; OVERLAP; COPIED.
+ */
+uint32_t tcpcore_next(const tcpcore_end *end, struct tcpcore_transmit *next);
+
+/*
+ * Reports the length of the segment that tcpcore_emit would write now, 0 where none is due.
+ *   DONE; NO_END; NULL; OVERLAP; COPIED.
+ */
+uint32_t tcpcore_pending(const tcpcore_end *end, uint32_t *due);
+
+/*
+ * Writes the reset that answers a segment of `length` bytes which came from `src` to `dst`, where no end has that address
+ * and port (RFC 9293, 3.10.7.1), to `out`: TCPCORE_RESET_ROOM bytes, to be sent from `dst` to `src`. It is what an end in
+ * CLOSED would emit.
+ *   DONE: it is the first *written bytes of `out`. NOT_DUE: nothing answers the bytes, which are a reset or no segment.
+ *   ROOM: `room` is below TCPCORE_RESET_ROOM. NULL; LENGTH; OVERLAP (of `bytes`, `out` and `written`).
+ */
+uint32_t tcpcore_stray_reset(tcpcore_addr src, tcpcore_addr dst, const void *bytes, size_t length, void *out, size_t room,
+                             size_t *written);
+
+/*
+ * Which timers have to run: in *due bit 1 << t is set where tcpcore_timer(end, t) would answer DONE.
+ *   DONE; NO_END; NULL; COPIED.
+ */
+uint32_t tcpcore_timers(const tcpcore_end *end, uint32_t *due);
+
+/*
+ * Reports the peer's address and port: from tcpcore_connect on, or from the SYN that came in LISTEN on, also after the
+ * connection has ended.
+ *   DONE; NOT_CONNECTED before; NO_END; NULL; OVERLAP; COPIED.
+ */
+uint32_t tcpcore_peer(const tcpcore_end *end, tcpcore_addr *addr, uint16_t *port);
+
+/*
+ * Reports phase, ending, counts, and what the two SYNs agreed on.
+ *   DONE; NO_END; NULL; OVERLAP; COPIED.
+ */
+uint32_t tcpcore_status(const tcpcore_end *end, struct tcpcore_status *status);
+
+/*
+ * Reports what can take the end's place in TIME-WAIT, once nothing is unread: *rest takes no memory, and answers and emits as the
+ * end would, whatever comes. The end stays as it is, and only one of the two may answer: the caller frees the end, and hands the
+ * segments of the connection to *rest.
+ *   DONE; NOT_AT_REST: the end is in another phase, or bytes are unread; ask again later. NO_END; NULL; OVERLAP; COPIED.
+ */
+uint32_t tcpcore_rest(const tcpcore_end *end, struct tcpcore_rest *rest);
+
+/*
+ * A segment has come, for such a record, which answers it as the end would (RFC 9293, 3.10.7.4, and 3.10.7.1 once the connection has
+ * ended). Then emit; if anything was emitted, restart TCPCORE_TIMER_TIME_WAIT.
+ *   As tcpcore_arrive, with NO_REST in place of NO_END; never COPIED.
+ */
+uint32_t tcpcore_rest_arrive(struct tcpcore_rest *rest, tcpcore_addr src, tcpcore_addr dst, const void *bytes, size_t length);
+
+/*
+ * Timer `timer` has expired (RFC 9293, 3.10.8). TCPCORE_TIMER_TIME_WAIT, which runs on from the end's, closes the
+ * connection in order; no other timer has a rule.
+ *   DONE: its rule was applied. NO_RULE: there was none; nothing changed. NO_TIMER; NO_REST; NULL.
+ */
+uint32_t tcpcore_rest_timer(struct tcpcore_rest *rest, uint32_t timer);
+
+/*
+ * Writes the segment that is due to `out`: an acknowledgement, or a reset that waits; TCPCORE_REST_ROOM bytes.
+ *   As tcpcore_emit, but ROOM: `room` is below TCPCORE_REST_ROOM; with NO_REST in place of NO_END; never COPIED.
+ */
+uint32_t tcpcore_rest_emit(struct tcpcore_rest *rest, void *out, size_t room, tcpcore_addr *to, size_t *length);
+
+/*
+ * Reports the length of the segment that tcpcore_rest_emit would write now, TCPCORE_REST_ROOM, or 0 where none is due.
+ *   DONE; NO_REST; NULL; OVERLAP.
+ */
+uint32_t tcpcore_rest_pending(const struct tcpcore_rest *rest, uint32_t *due);
+
+/*
+ * Aborts the connection: CLOSED, aborted; no reset is sent in TIME-WAIT (RFC 9293, 3.10.5).
+ *   DONE; ENDED; NO_REST; NULL.
+ */
+uint32_t tcpcore_rest_abort(struct tcpcore_rest *rest);
+
+/*
+ * Reports the phase, TIME-WAIT, or CLOSED once the connection has ended, and how it did. In CLOSED, once nothing is due, the struct
+ * may be forgotten.
+ *   DONE; NO_REST; NULL; OVERLAP.
+ */
+uint32_t tcpcore_rest_status(const struct tcpcore_rest *rest, uint32_t *phase, uint32_t *ending);
+
+/*
+ * The text of an answer, such as "nothing to read yet". It is never NULL, nobody frees it, and any thread may ask for
+ * it at any time. A number that is no answer has the text "unknown answer".
+ */
+const char *tcpcore_strerror(uint32_t answer);
+
+/*
+ * The TCPCORE_VERSION with which tcpcore.c was compiled. A program that loads a shared library looks that this isn't below its
+ * own. While the soname stays, later versions add calls, answers, and fields in the place of reserved words, and change nothing.
+ */
+uint32_t tcpcore_version(void);
+
+#ifdef __cplusplus
+#ifdef __GNUC__
+#pragma GCC diagnostic pop
+#endif
+}
+#endif
+
+#endif
