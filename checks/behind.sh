@@ -2,8 +2,9 @@
 # What the gate doesn't look at: the programs' exit statuses and their lines on standard error, what tcpkit does where memory is refused,
 # whether the documents show what is in the repository and their commands can be pasted, scripts and C as linters read them, the
 # programs against second ones, the C library under its tests, against lwIP and against this machine's kernel, the portable file on
-# two other machines, what stands on it for Rust, C++, Go and Python, the program as one C file, the tarball in a place without the
-# kit, real clients over usernet, captures, the judge of captures, and the replay as a WebAssembly module.
+# two other machines, what stands on it for Rust, C++, Go and Python, the programs as one C file each, what release/ gives to who has no
+# kit, here with the kit hidden and in a new Debian, the tarball, real clients over usernet, captures, the judge of captures, and the
+# replay as a WebAssembly module.
 # checks/behind.sh FOLDER writes how many of these passed into FOLDER/behind. The libraries and the module are built over what the
 # gate has proved, and after it: two builds at once wait for one another.
 set -euo pipefail
@@ -50,6 +51,9 @@ behind c/bindings/rust/test.sh "$library"
 behind c/bindings/test.sh
 apps/tcpkit/build.sh
 behind apps/tcpkit/test.sh
+behind checks/release/test.sh "$library"
+behind checks/release/debian.sh
+timed checks/examples/test.sh
 behind c/dist/test.sh
 timed checks/live/run.sh
 timed apps/usernet/test.sh "$library" --short

@@ -1,7 +1,7 @@
 #!/usr/bin/env bash
 # Reads all scripts by shellcheck, the C library's layer, its companions, their peers' driver and usernet by clang-tidy, and the
-# library's class for Python by mypy. It installs them by apt-get where this machine lacks them; where that fails it fails, or,
-# with LEAVE_OUT=1 in the environment, says what it leaves out.
+# library's class for Python by mypy; and looks whether the checksum stands on lanes. It installs the linters by apt-get where this
+# machine lacks them; where that fails it fails, or, with LEAVE_OUT=1 in the environment, says what it leaves out.
 set -euo pipefail
 cd "$(dirname "$0")/.."
 test=lint
@@ -24,11 +24,21 @@ if has clang-tidy clang-tidy --version; then
         clang-tidy --quiet --warnings-as-errors='*' --checks="$checks" "$source" -- -std=c11 -Ic -Ic/tcpcore -Ic/companions 2>/dev/null
         passed=$((passed + 1))
     done
+    clang-tidy --quiet --warnings-as-errors='*' --checks="$checks" examples/tun_http.c -- -std=c11 -Ic/tcpcore -Ic/companions 2>/dev/null
+    # The device's folder has a string.h of its own.
+    for source in examples/device/*.c checks/examples/frames.c; do
+        clang-tidy --quiet --warnings-as-errors='*' --checks="$checks" "$source" -- -std=c11 -Iexamples/device -Ic/tcpcore -Ic/companions 2>/dev/null
+        passed=$((passed + 1))
+    done
+    passed=$((passed + 1))
 fi
 if has mypy mypy --version; then
     mypy --strict --no-error-summary --cache-dir=/dev/null c/tcpcore/tcpcore.py c/tcpcore/layout.py
     passed=$((passed + 1))
 fi
+# The checksum stands on lanes.
+checks/lanes.py
+passed=$((passed + 1))
 # What repeats the library's records is what the records make.
 c/tcpcore/layout.py --check
 passed=$((passed + 1))

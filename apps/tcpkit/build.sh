@@ -1,8 +1,8 @@
 #!/usr/bin/env bash
-# Builds out/tcpkit.c, the program tcpkit as one C99 file, which wants a C compiler alone, and out/tcpkit of it: crates/tcp_web, the
-# proved replay and listing as a WebAssembly module of 64 bits (the first argument, or what apps/web/build.sh has left in
-# apps/web/out/build), with its addresses made 32 bits wide by wasm-opt (binaryen), translated to C by wasm2c (wabt) and put together
-# with memory and program by join.py. It installs both by apt-get where this machine lacks them.
+# Builds out/tcpkit.c and out/tcpjudge.c, the two programs as one C99 file each, which want a C compiler alone, and the programs of
+# them: crates/tcp_web, the proved replay, listing and judge as a WebAssembly module of 64 bits (the first argument, or what
+# apps/web/build.sh has left in apps/web/out/build), with its addresses made 32 bits wide by wasm-opt (binaryen), translated to C by
+# wasm2c (wabt) and put together with memory and program by join.py. It installs both by apt-get where this machine lacks them.
 set -euo pipefail
 module=$(realpath -m "${1:-$(dirname "$0")/../web/out/build/crates/tcp_web/out/tcp_web.wasm}")
 cd "$(dirname "$0")"
@@ -17,5 +17,7 @@ LIST
 mkdir -p out
 wasm-opt --enable-memory64 --enable-bulk-memory --enable-mutable-globals -g --memory64-lowering "$module" -o out/tcp_web.wasm
 wasm2c out/tcp_web.wasm -n tcp_web -o out/tcp_web.c
-python3 join.py out/tcp_web.c out/tcpkit.c
-cc -std=c99 -O1 out/tcpkit.c -o out/tcpkit
+for program in tcpkit tcpjudge; do
+    python3 join.py out/tcp_web.c "$program" "out/$program.c"
+    cc -std=c99 -O1 "out/$program.c" -o "out/$program"
+done

@@ -1,6 +1,7 @@
-"""Puts tcpkit.c together: python3 join.py MODULE.c OUT. MODULE.c is what wasm2c makes of crates/tcp_web, with 32-bit addresses. OUT has
-the memory of c/portable/memory.c, wasm2c's functions, what the module has in memory from the start, and program.c around them; so it is
-put together as the portable file of the C library is (c/portable/join.py).
+"""Puts a program together as one C file: python3 join.py MODULE.c PROGRAM OUT, PROGRAM being tcpkit or tcpjudge. MODULE.c is what wasm2c
+makes of crates/tcp_web, with 32-bit addresses. OUT has the memory of c/portable/memory.c, wasm2c's functions, what the module has in
+memory from the start, and common.c with program.c or judge.c around them; so it is put together as the portable file of the C library
+is (c/portable/join.py). What tcpjudge prints when asked for help is the text of the proved program.
 """
 
 import pathlib
@@ -16,9 +17,9 @@ import quicker  # noqa: E402
 
 HEAD = """\
 /*
- * tcpkit.c: the program tcpkit for any machine with a C99 compiler: cc -O2 tcpkit.c -o tcpkit. The proved replay and listing, as wasm2c
- * has translated them from WebAssembly, and around them the program's words, its file and its output. Made by apps/tcpkit/build.sh:
- * change nothing here. docs/TRUST.md says what is proved of such a file, and what isn't.
+ * NAME.c: the program NAME for any machine with a C99 compiler: cc -O2 NAME.c -o NAME. The proved WHAT, as wasm2c has translated
+ * it from WebAssembly, and around it the program's words, its file and its output. Made by apps/tcpkit/build.sh: change nothing here.
+ * docs/TRUST.md says what is proved of such a file, and what isn't.
  */
 #include <inttypes.h>
 #include <stdint.h>
@@ -26,6 +27,7 @@ HEAD = """\
 #include <stdlib.h>
 #include <string.h>
 
+#define PROGRAM "NAME"
 #define TCPCORE_STOP() abort()
 
 /* The module's constants are in its memory, as program.c puts them there. */
@@ -34,6 +36,30 @@ enum { TABLE_AT = 0 };
 
 """
 
+# Of each program: what of it is proved, and the file of its words and its output.
+PROGRAMS = {"tcpkit": ("replay and listing", "program.c"), "tcpjudge": ("judge", "judge.c")}
+JUDGE = HERE.parents[1] / "crates/tcpjudge/src/program.rt"
+
+
+def help_of():
+    """What the proved tcpjudge prints when asked for help, as C."""
+    lines = re.search(r'^const HELP: &str = "(.*?)^";', JUDGE.read_text(), re.M | re.S)[1].splitlines()
+    return "#define HELP \\\n" + " \\\n".join(f'    "{line}\\n"' for line in lines) + "\n\n"
+
+
+def needed(declared, body, program):
+    """Of the module's functions and their declarations those that the program calls, or that these call."""
+    parts = re.split(r"(?m)^(?=static (?:u32|u64|void) w2c_)", body)
+    bodies = {re.match(r"static \w+ (w2c_\w+)\(", part)[1]: part for part in parts if part.startswith("static ")}
+    names, found = set(re.findall(r"\b(w2c_\w+)\(", program)), set()
+    while names:
+        name = names.pop()
+        if name in bodies and name not in found:
+            found.add(name)
+            names |= set(re.findall(r"\b(w2c_\w+)\(", bodies[name]))
+    lines = [line for line in declared.splitlines(keepends=True) if not (named := re.match(r"static \w+ (w2c_\w+)\(", line)) or named[1] in found]
+    return "".join(lines), parts[0] * (not parts[0].startswith("static ")) + "".join(part for name, part in bodies.items() if name in found)
+
 
 def first_of(text, name):
     """What a global begins with."""
@@ -41,18 +67,23 @@ def first_of(text, name):
 
 
 def main():
+    name, out = sys.argv[2], pathlib.Path(sys.argv[3])
+    what, program = PROGRAMS[name]
     text = pathlib.Path(sys.argv[1]).read_text()
     join.KNOWN |= {"I32_ROTL", "I64_ROTL", "i32_load8_s"}
     declared, body = join.functions(text, "tcp_web")
+    own = (HERE / "common.c").read_text() + "\n" + (HERE / program).read_text()
+    declared, body = needed(declared, body, own)
     body, loops, pieces = quicker.quicker(body)
     at, _, data = join.table_of(text)
     places = f"enum {{ STACK = {first_of(text, '__stack_pointer')}, HEAP_BASE = {first_of(text, '__heap_base')}, AT_DATA = {at} }};\n"
     bytes_of = f"static const u8 DATA[] = {{\n{data}\n}};\n\n"
     module = "/* THE MODULE: crates/tcp_web and those below it, function by function, as wasm2c has written them. */\n"
-    parts = [HEAD, (PORTABLE / "memory.c").read_text(), (HERE / "machine.c").read_text(), places, bytes_of, module, declared, body]
-    whole = "".join([*parts, (HERE / "program.c").read_text()])
-    pathlib.Path(sys.argv[2]).write_text(whole)
-    print(f"{sys.argv[2]}: {len(whole.splitlines())} lines, {loops} loops and {pieces} pieces made quicker")
+    head = HEAD.replace("NAME", name).replace("WHAT", what) + (help_of() if name == "tcpjudge" else "")
+    parts = [head, (PORTABLE / "memory.c").read_text(), (HERE / "machine.c").read_text(), places, bytes_of, module, declared, body]
+    whole = "".join([*parts, own])
+    out.write_text(whole)
+    print(f"{out}: {len(whole.splitlines())} lines, {loops} loops and {pieces} pieces made quicker")
 
 
 if __name__ == "__main__":

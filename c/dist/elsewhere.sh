@@ -33,9 +33,9 @@ there() {
 rm -rf "${root:?}/root/$place" && cp "$tarball" "$root/root"
 if inside sh -c 'command -v rt || ls /opt/rattle' >/dev/null 2>&1; then echo "elsewhere: the kit is there"; exit 1; fi
 there "an end in a C program" <<END
-cd /root && tar -xzf $place.tar.gz && cd $place
-cc -I. examples/two_ends.c tcpcore_portable.c -o two_ends
-./two_ends | cmp - tests/expected/two_ends
+cd /root && tar -xzf $place.tar.gz && cd $place/examples
+cc -I.. two_ends.c ../tcpcore_portable.c -o two_ends
+./two_ends | cmp - ../tests/expected/two_ends
 END
 there "the program's first run" <<END
 cd /root/$place

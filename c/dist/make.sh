@@ -1,15 +1,14 @@
 #!/usr/bin/env bash
-# Makes out/tcpcore-0.N.tar.gz, for who has no kit: the portable file (which c/portable/build.sh has made), the machine code of
-# out/prebuilt (prebuilt.sh) and the program as one C file (apps/tcpkit/build.sh), with header, layer, companions, bindings, examples,
-# tests, pages, manual pages, what a Debian package wants, checksums and a bill of materials, and a Makefile that wants a C compiler
-# alone. Made twice from the same files it is the same byte for byte.
+# Makes out/tcpcore-0.N.tar.gz of release/: the library as one C file, the programs tcpkit and tcpjudge, and the page; with the machine
+# code of out/prebuilt (prebuilt.sh), header, layer, companions, bindings, examples, tests, pages, the reader of captures, manual pages,
+# what a Debian package wants, checksums and a bill of materials, and a Makefile that wants a C compiler alone. Made twice from the same
+# files it is the same byte for byte.
 set -euo pipefail
 cd "$(dirname "$0")"
 top=$(cd ../.. && pwd)
 core=$top/c/tcpcore
-file=$top/c/portable/out/tcpcore_portable.c
-[[ -e $file ]] || { echo "dist: no portable file: run c/portable/build.sh"; exit 1; }
-[[ -e $top/apps/tcpkit/out/tcpkit.c ]] || { echo "dist: no program: run apps/tcpkit/build.sh"; exit 1; }
+file=$top/release/tcpcore.c
+cmp "$core/tcpcore.h" "$top/release/tcpcore.h" || { echo "dist: release/ is of another version: run release/make.sh"; exit 1; }
 ls out/prebuilt/*/libtcp_c.a >/dev/null || { echo "dist: no machine code: run c/dist/prebuilt.sh"; exit 1; }
 version=0.$(sed -n 's/^#define TCPCORE_VERSION //p' "$core/tcpcore.h")
 name=tcpcore-$version
@@ -17,7 +16,9 @@ place=out/$name
 when=$(git -C "$top" log -1 --format=%ct)
 
 library() {
-    cp Makefile README.md "$file" "$core/"{tcpcore.c,tcpcore.h,layout.h,tcpcore.map} "$place"
+    cp Makefile README.md "$core/"{tcpcore.c,tcpcore.h,layout.h,tcpcore.map} "$top/release/tcp.html" "$place"
+    # Beside the layer of the machine code, which has the name that it has in c/tcpcore.
+    cp "$file" "$place/tcpcore_portable.c"
     cp -r "$core/examples" "$core/tests" "$place"
     cp "$top"/c/companions/*.[ch] "$place/companions"
     cp "$top/docs/"{EMBEDDING,FORMATS,INSTALL,RULES,TRUST}.md "$top/CHANGELOG.md" "$place/docs"
@@ -29,9 +30,14 @@ library() {
 }
 
 program() {
-    cp "$top/apps/tcpkit/out/tcpkit.c" "$top/crates/tcpkit/data/"{first-run.script,segments.list} "$place/tcpkit"
+    local page
+    cp "$top/release/"{tcpkit,tcpjudge}.c "$top/crates/tcpkit/data/"{first-run.script,segments.list} "$place/tcpkit"
+    cp "$top/crates/tcpjudge/data/faults.log" "$top/apps/capture/"{capture,script_form}.py "$place/tcpkit"
+    cp "$top/crates/tcpjudge/stdout" "$place/tcpkit/faults.report"
     cp "$top/crates/tcpkit/stdout" "$place/tcpkit/first-run.report"
-    sed "s/@DATE@/$(date -u -d "@$when" +%F)/; s/@VERSION@/$version/" "$top/apps/tcpkit/tcpkit.1" >"$place/man/tcpkit.1"
+    for page in tcpkit.1 tcpjudge.1; do
+        sed "s/@DATE@/$(date -u -d "@$when" +%F)/; s/@VERSION@/$version/" "$top/apps/tcpkit/$page" >"$place/man/$page"
+    done
 }
 
 bindings() {

@@ -30,13 +30,14 @@ LONG = {
     r"setsid -f rt ci\b": "proves",
     r"\.ci/run\b": "proves, and runs this test",
     r"checks/quick\.sh\b": "runs this test",
-    r"(make|cc|pkg-config)\b": "wants the library that 'rt lib' builds",
+    r"(make|pkg-config)\b": "wants the library that 'rt lib' builds",
+    r"cc\b.*(yours|portable/out|tcp_c/out)": "wants the library that 'rt lib' builds",
     r"(sudo|apt-get|ldconfig)\b": "installs",
     r"bench/": "takes minutes, and measures",
-    r"(apps/(web|usernet|tcpkit)|c/(dist|portable))/\w+\.sh\b": "builds over proofs",
+    r"(apps/(web|usernet|tcpkit)|c/(dist|portable)|release)/\w+\.sh\b": "builds over proofs",
     r"node apps/web/": "wants the module that 'apps/web/build.sh' builds",
     r"c/(tcpcore|companions)/test\.sh\b": "wants the library that 'rt lib' builds",
-    r"checks/(live|behind|differential|judge)\b": "wants the library that 'rt lib' builds, or the program",
+    r"checks/(live|behind|differential|judge|release)\b": "wants the library that 'rt lib' builds, or the program",
 }
 if subprocess.run(["/usr/bin/python3", "-c", "import dpkt"], capture_output=True, check=False).returncode:
     LONG[r"apps/capture/capture\.py\b"] = "wants python3-dpkt"
@@ -158,7 +159,7 @@ def missing(command):
         if words[0] == "rt" and words[1:2] != ["ci"] and not (folder / "src").is_dir():
             return f"{folder.relative_to(TOP)} is no crate"
         for place, word in enumerate(words if words[0] != "cd" else []):
-            if YOURS.search(word) or word.startswith(("-", "/")) or "=" in word or readme.BUILT.search(word) or "/" not in word:
+            if YOURS.search(word) or word.startswith(("-", "/", "./")) or "=" in word or readme.BUILT.search(word) or "/" not in word:
                 continue
             path = folder / word
             if not path.exists():

@@ -242,7 +242,7 @@ static void faults(int seeds)
                         trial.doubled = kind == 1 || kind == 4 ? RATES[rate] : 0;
                         trial.late = kind == 2 || kind == 4 ? RATES[rate] : 0;
                         trial.damaged = kind == 3 ? RATES[rate] : 0;
-                        /* A fifth is lost each way: the end is patient, or it gives up as it has to, and a peer's timeout grows. */
+                        /* A fifth is lost each way: the end is patient, and a peer's timeout grows. */
                         trial.r2 = rate == 2 ? 1000000 : 0;
                         trial.limit = rate == 2 ? 20000000 : 4000000;
                         run();
@@ -384,13 +384,13 @@ static void aborts(void)
         }
 }
 
-/* The peer vanishes with text under way: the end gives up, at the earliest after 100 s (RFC 9293, 3.8.3). */
+/* The peer vanishes with text under way: the end gives up, at the earliest after 924.6 s (timers.h). */
 static void vanishes(void)
 {
     for (int at = 1; at <= 4; at++) {
         set("vanishes", 1000000, 0);
         trial.vanishes_at = 20 * (uint64_t)at;
-        trial.limit = 400000;
+        trial.limit = 1100000;
         run();
     }
 }

@@ -46,7 +46,7 @@ struct trial {
     uint64_t segments;    /* no more than these while a user pauses, or 0 */
     uint64_t most;        /* no more than these of our end in all, or 0 */
     uint64_t again;       /* no more than these of our end again, or 0 */
-    uint32_t r2;          /* how long our end is patient, in milliseconds; 0: the standard's least */
+    uint32_t r2;          /* how long our end is patient, in milliseconds; 0: as timers.h has it */
 };
 
 extern struct trial trial;
