@@ -2,17 +2,20 @@
 the layers' diagram of docs/ARCHITECTURE.md anew as docs/layers.svg.
 
 README.md becomes index.html, and each other page NAME.html. cmark-gfm (Debian's), which renders as GitHub does, makes the HTML; a
-Mermaid diagram is drawn by dot (graphviz). Pictures are copied. The page of apps/web, FILE or what apps/web/build.sh has made, lies beside
-them as tcp.html. OUT is docs/site/out where none is named. Nothing is loaded from elsewhere, and there is no JavaScript but the page's.
+Mermaid diagram is drawn by dot (graphviz). Pictures are copied. The page of apps/web lies beside them as tcp.html: FILE, or what
+apps/web/build.sh has made, or else release/make.sh. Where a script is named or drawn, a link opens it there. OUT is docs/site/out where none
+is named. Nothing is loaded from elsewhere, and there is no JavaScript but the page's.
 """
 
 import argparse
+import base64
 import html
 import pathlib
 import re
 import shutil
 import subprocess
 import sys
+import zlib
 
 HERE = pathlib.Path(__file__).resolve().parent
 TOP = HERE.parents[1]
@@ -21,6 +24,9 @@ TITLES = {
     "README": "Boqtilen", "INSTALL": "Install", "EMBEDDING": "Embedding", "FORMATS": "Formats", "RULES": "Rules", "PROOFS": "Proofs", "TRUST": "Trust",
     "ARCHITECTURE": "Architecture", "SPEED": "Speed", "DECISIONS": "Decisions", "CHANGELOG": "Changes", "CONTRIBUTING": "Contributing",
 }
+# The scripts that pictures show: apps/web/page_tools.mjs says which the page saves as which picture.
+DRAWN = re.compile(r'\["docs/([\w-]+\.svg)", "([\w/-]+\.script)"\]')
+SCRIPT = re.compile(r"(?<![\w/-])((?:[\w-]+/)+[\w-]+\.script)\b")
 EXTENSIONS = ["table", "autolink", "strikethrough"]
 # A diagram with more boxes runs from the top down.
 MOST_ACROSS = 12
@@ -108,6 +114,33 @@ def linked(body, names):
     return "".join(parts)
 
 
+def opened(path, words):
+    """A link that opens a script of the repository in the page: deflated, in base64 for links (apps/web/link.mjs)."""
+    packer = zlib.compressobj(9, zlib.DEFLATED, -15)
+    packed = base64.urlsafe_b64encode(packer.compress((TOP / path).read_bytes()) + packer.flush()).decode().rstrip("=")
+    return f'<a class="script" href="tcp.html#script={packed}&amp;event=0" title="{path}">{words}</a>'
+
+
+def with_scripts(body):
+    """The text with links to the page: each script that it names is one, and one follows each picture of a script and each block that names
+    one."""
+    drawn_of = dict(DRAWN.findall((TOP / "apps/web/page_tools.mjs").read_text()))
+
+    def is_script(path):
+        return (TOP / path).is_file()
+
+    def after(match):
+        shown = [drawn_of[match[1]]] if match[1] else sorted(set(filter(is_script, SCRIPT.findall(html.unescape(match[0])))))
+        return match[0] + "".join(f'\n<p class="try">{opened(path, "Step through it in the page")}: <code>{path}</code></p>' for path in shown)
+
+    names = "|".join(map(re.escape, drawn_of))
+    body = re.sub(rf'<p><img src="({names})"[^>]*></p>|<pre.*?</pre>', after, body, flags=re.DOTALL)
+    parts = re.split(r'(<pre.*?</pre>|<p class="try">.*?</p>|<a .*?</a>|<[^>]*>)', body, flags=re.DOTALL)
+    for place in range(0, len(parts), 2):
+        parts[place] = SCRIPT.sub(lambda match: opened(match[1], match[1]) if is_script(match[1]) else match[0], parts[place])
+    return "".join(parts)
+
+
 def anchored(body):
     seen = {}
     return HEADING.sub(lambda match: f'<h{match[1]} id="{slug_of(match[2], seen)}">{match[2]}</h{match[1]}>', body)
@@ -127,7 +160,8 @@ def whole(name, body, names, has_page):
 
 def main():
     parser = argparse.ArgumentParser(description="Makes the documents a site.")
-    parser.add_argument("--page", type=pathlib.Path, default=TOP / "apps/web/out/tcp.html")
+    made = [TOP / "apps/web/out/tcp.html", TOP / "release/tcp.html"]
+    parser.add_argument("--page", type=pathlib.Path, default=next(filter(pathlib.Path.exists, made), made[0]))
     parser.add_argument("--layers", action="store_true")
     parser.add_argument("out", nargs="?", type=pathlib.Path, default=HERE / "out")
     words = parser.parse_args()
@@ -140,8 +174,9 @@ def main():
         parts = DIAGRAM.split(path.read_text())
         text = "".join(f'<figure class="diagram">{drawn(part)}</figure>\n' if place % 2 else part for place, part in enumerate(parts))
         body = anchored(linked(rendered(text), names))
+        body = with_scripts(body) if has_page else body
         (words.out / file_of(name)).write_text(whole(name, body, names, has_page))
-    for picture in sorted((TOP / "docs").glob("*.svg")):
+    for picture in sorted([*(TOP / "docs").glob("*.svg"), *(TOP / "docs").glob("*.png")]):
         shutil.copy(picture, words.out)
     shutil.copy(HERE / "site.css", words.out)
     if has_page:
