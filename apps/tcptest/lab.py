@@ -1,0 +1,312 @@
+"""The tester's hand: segments to and from a stack, by hand, and the user of the stack. A row is a function of a Lab."""
+
+from segments import ACK, FIN, PSH, RST, SPACE, SYN, TESTER, TIMES, Segment, ahead, mss, read_packet, times
+from stacks import Gone, NotSeen
+
+__all__ = ["Gone", "Lab", "NotMet", "NotSeen", "Peer", "need"]
+
+# How long a row waits for what has to come, and for what may not come, in seconds.
+SOON, SILENCE = 1.0, 0.12
+
+
+class NotMet(Exception):
+    """The stack doesn't do what a row asks for."""
+
+
+def need(is_so, words):
+    if not is_so:
+        raise NotMet(words)
+
+
+class Lab:
+    """A stack, what is broken about it (broken.py) and the peers that the tester plays."""
+
+    ports = 20000
+
+    def __init__(self, stack, fault=None):
+        self.stack, self.fault, self.peers, self.strays = stack, fault, [], []
+        self.began = stack.now()
+        if fault is not None:
+            fault.begin(self)
+
+    def now(self):
+        return self.stack.now()
+
+    def peer(self, port=None):
+        """A new peer, with a port of its own; the stack's is new, too, if none is named."""
+        Lab.ports = Lab.ports + 1 if Lab.ports < 39000 else 20001
+        made = Peer(self, Lab.ports, port or Lab.ports + 20000)
+        self.peers.append(made)
+        return made
+
+    def write(self, segment):
+        """A segment arrives at the stack. What the stack sent before is read first, so that the log has their order."""
+        self.read()
+        for one in [segment] if self.fault is None else self.fault.came(segment):
+            self.stack.write(one.packet())
+
+    def read(self):
+        """Takes all that the stack has sent to the peers."""
+        for data in self.stack.read():
+            segment = read_packet(data)
+            if segment is not None:
+                self.pass_on(segment)
+        if self.fault is not None:
+            for segment in self.fault.due(self.now()):
+                self.deliver(segment)
+
+    def pass_on(self, segment):
+        for one in [segment] if self.fault is None else self.fault.went(segment):
+            self.deliver(one if one.raw is not None and one is segment else read_packet(one.packet()))
+
+    def deliver(self, segment):
+        segment.when = self.now()
+        for peer in self.peers:
+            if (segment.sport, segment.dport) == (peer.port, peer.own) and segment.target == TESTER:
+                peer.note("went", segment)
+                peer.arrived.append(segment)
+                return
+        self.strays.append(segment)
+
+    def wait(self, seconds, until=lambda: False):
+        """Lets time pass, up to what ends the wait. Answers whether that came."""
+        end = self.now() + seconds
+        while True:
+            self.read()
+            if until():
+                return True
+            left = end - self.now()
+            if left <= 1e-9:
+                return False
+            self.stack.pass_time(left if self.fault is None or self.stack.has_clock else min(left, 0.01))
+
+    def call(self, name, *words, **wishes):
+        """A user's call."""
+        if self.fault is not None:
+            words, wishes = self.fault.calls(name, words, wishes)
+        answer = getattr(self.stack, name)(*words, **wishes)
+        if self.stack.has_clock:
+            self.stack.ask("run", 0)
+        return answer if self.fault is None else self.fault.answers(name, words, answer)
+
+    def skip(self, seconds, until=lambda: False):
+        """Lets a long time pass, which only a stack with the tester's clock can."""
+        if not self.stack.has_clock:
+            raise NotSeen(f"takes {seconds:.0f} s, and the stack's clock is the machine's")
+        return self.wait(seconds, until)
+
+
+class Peer:
+    """A peer of one connection: the tester's port, the stack's, and both sides' next numbers."""
+
+    def __init__(self, lab, own, port):
+        self.lab, self.own, self.port = lab, own, port
+        self.arrived, self.log, self.story = [], [], []
+        self.iss, self.irs = (3_000_000_000 + own * 7919) % SPACE, 0
+        self.nxt, self.rcv, self.window = self.iss, 0, 65535
+        self.answer, self.user = None, None
+        # Once both SYNs had timestamps all segments have them (RFC 7323, 3.2): the stack's last one.
+        self.stamps, self.stamp = False, None
+        # How late a SYN,ACK is answered; and whether the log is one that the judge can read (docs/JUDGE.md).
+        self.delay, self.is_judged = 0.0, True
+
+    def note(self, word, segment):
+        ends = segment.source, segment.target
+        raw = segment.raw if segment.raw is not None else segment.bytes()
+        self.log.append(f"{word} {'.'.join(map(str, ends[0]))} {'.'.join(map(str, ends[1]))} {raw.hex()}")
+        own, other = (self.irs, self.iss) if word == "went" else (self.iss, self.irs)
+        if word == "went" and segment.flags & SYN:
+            own = self.irs = segment.seq
+        if word == "went" and segment.option(TIMES):
+            self.stamp = segment.option(TIMES)[:4]
+        self.story.append((self.lab.now() - self.lab.began, word, segment, segment.words(own, other)))
+
+    # Segments to the stack.
+    def put(self, flags, seq=None, ack=None, **fields):
+        """Sends a segment, at the next number where none is named."""
+        seq = self.nxt if seq is None else seq
+        ack = (self.rcv if flags & ACK else 0) if ack is None else ack
+        options = fields.pop("options", b"")
+        if self.stamps and self.stamp and not flags & (SYN | RST):
+            options = times(int(1000 * self.lab.now()) % SPACE, int.from_bytes(self.stamp, "big")) + options
+        self.stamps |= bool(flags & SYN) and options.find(bytes([TIMES, 10])) >= 0
+        segment = Segment(self.own, self.port, seq, ack, flags, fields.pop("window", self.window), options, fields.pop("text", b""))
+        for name, value in fields.items():
+            setattr(segment, name, value)
+        self.lab.read()
+        self.note("came", segment)
+        self.lab.write(segment)
+
+    def text(self, data, at=0, **fields):
+        """Sends text, `at` bytes behind the next number. The next number stays: `went_on` moves it."""
+        self.put(fields.pop("flags", ACK | PSH), self.nxt + at, text=data, **fields)
+
+    def went_on(self, count):
+        self.nxt = (self.nxt + count) % SPACE
+
+    def acknowledge(self, segment=None, **fields):
+        """Acknowledges all up to a segment's end, or again what was acknowledged."""
+        if segment is not None:
+            self.rcv = segment.end()
+        self.put(ACK, **fields)
+
+    # Segments from the stack.
+    def take(self, wait=SOON):
+        self.lab.wait(wait, lambda: bool(self.arrived))
+        return self.arrived.pop(0) if self.arrived else None
+
+    def all(self, wait=0.05):
+        """All that comes until nothing has come for so long."""
+        found = []
+        while (segment := self.take(wait)) is not None:
+            found.append(segment)
+        return found
+
+    def until(self, holds, wait=SOON):
+        """The first that this holds of, and None where none comes; the ones before it are passed over."""
+        end = self.lab.now() + wait
+        while (left := end - self.lab.now()) > -1e-9:
+            segment = self.take(max(left, 0))
+            if segment is None or holds(segment):
+                return segment
+        return None
+
+    def silent(self, words, wait=SILENCE):
+        found = self.take(wait)
+        need(found is None, f"{words}: {self.said(found)}")
+
+    def said(self, segment):
+        return "nothing" if segment is None else segment.words(self.irs, self.iss)
+
+    def answered(self, wait=SOON):
+        """What comes has to be an acknowledgement of the next number alone."""
+        found = self.take(wait)
+        need(found is not None and found.flags & ~PSH == ACK and found.ack == self.nxt and not found.text, f"answered by {self.said(found)}")
+        return found
+
+    def refused(self, seq, ack=None):
+        """What comes has to be this reset (RFC 9293, 3.10.7.1)."""
+        found = self.take()
+        need(found is not None and found.flags & RST and not found.flags & SYN, f"answered by {self.said(found)}")
+        need(found.seq == seq % SPACE and (ack is None or (found.flags & ACK and found.ack == ack % SPACE)), f"the reset is {self.said(found)}")
+        return found
+
+    # Openings.
+    def syn(self, options=mss(1460), **fields):
+        self.put(SYN, self.iss, options=options, **fields)
+        self.nxt = (self.iss + 1) % SPACE
+
+    def syn_answered(self):
+        """Takes the SYN,ACK."""
+        found = self.answer = self.until(lambda one: one.flags & (SYN | RST))
+        need(found is not None and found.flags & (SYN | ACK | RST) == SYN | ACK and found.ack == self.nxt, f"the SYN is answered by {self.said(found)}")
+        self.irs, self.rcv = found.seq, (found.seq + 1) % SPACE
+        return found
+
+    def open(self, options=mss(1460), window=65535, syn_window=None, **wishes):
+        """The stack listens, and the tester connects. Answers the stack's user."""
+        self.lab.call("listen", self.port, **wishes)
+        return self.join(options, window, syn_window)
+
+    def join(self, options=mss(1460), window=65535, syn_window=None):
+        self.window = window
+        self.syn(options, window=window if syn_window is None else syn_window)
+        self.syn_answered()
+        self.lab.wait(self.delay)
+        self.put(ACK)
+        return self.accept()
+
+    def accept(self):
+        def is_there():
+            self.user = self.lab.call("accept", self.port)
+            return self.user is not None
+
+        need(self.lab.wait(SOON, is_there), "the stack's user isn't given the connection")
+        return self.user
+
+    def connected(self, **wishes):
+        """The stack's user connects. Answers the SYN."""
+        self.user = self.lab.call("connect", self.port, self.own, **wishes)
+        found = self.take()
+        need(found is not None and found.flags & (SYN | ACK) == SYN, f"the stack's user connects, and what comes is {self.said(found)}")
+        self.irs, self.rcv = found.seq, (found.seq + 1) % SPACE
+        return found
+
+    def open_by_stack(self, options=mss(1460), window=65535, **wishes):
+        """The stack connects, and the tester answers."""
+        first = self.connected(**wishes)
+        self.lab.wait(self.delay)
+        self.window = window
+        self.put(SYN | ACK, self.iss, options=options)
+        self.nxt = (self.iss + 1) % SPACE
+        found = self.take()
+        need(found is not None and found.flags & ACK and found.ack == self.nxt, f"the SYN,ACK is answered by {self.said(found)}")
+        return first
+
+    # The stack's user.
+    def send(self, text, **how):
+        return self.lab.call("send", self.user, text, **how)
+
+    def receive(self, most=1 << 16):
+        return self.lab.call("receive", self.user, most)
+
+    def got(self, wait=0.5):
+        """What the user is handed, once anything is."""
+        found = []
+
+        def is_there():
+            found.append(self.receive())
+            return found[-1] is not None
+
+        self.lab.wait(wait, is_there)
+        return found[-1]
+
+    def is_told(self, text, wait=SOON):
+        """The user has to be handed just this text."""
+        whole, end = b"", self.lab.now() + wait
+        while len(whole) < len(text) and self.lab.now() < end:
+            piece = self.got(0.05)
+            need(piece is None or (piece and not isinstance(piece, Gone)), f"the user is told {piece!r}")
+            whole += piece or b""
+        need(whole == text, f"the user is handed {whole[:60]!r}, of {len(whole)} bytes")
+
+    def is_told_nothing(self, words="the user is handed text"):
+        found = self.receive()
+        need(found is None, f"{words}: {found!r}")
+
+    def is_gone(self, wait=SOON):
+        """The user has to be told that the connection failed."""
+        end = self.lab.now() + wait
+        found = None
+        while self.lab.now() < end and (found is None or (isinstance(found, bytes) and found)):
+            found = self.got(0.05)
+        need(isinstance(found, Gone), f"the user is told {found!r}")
+        return found
+
+    def quit(self):
+        """Ends the connection from both sides."""
+        if self.user is not None and not isinstance(self.user, Gone):
+            self.lab.stack.leave(self.user)
+        if self.nxt != self.iss:
+            self.put(RST, self.nxt)
+
+    def bytes_of(self, segments):
+        """The text of segments by their numbers, whatever was sent again; counted from the byte behind the SYN."""
+        whole = {}
+        for one in segments:
+            at = ahead(one.seq, self.irs) - 1
+            whole.update({at + place: byte for place, byte in enumerate(one.text)})
+        return whole
+
+
+def lasts(segments):
+    """The furthest number behind the text and FIN of these."""
+    furthest = segments[0].end()
+    for one in segments[1:]:
+        if ahead(one.end(), furthest) > 0:
+            furthest = one.end()
+    return furthest
+
+
+def is_text(segment):
+    return bool(segment.text) and not segment.flags & (SYN | FIN | RST)

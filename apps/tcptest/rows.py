@@ -1,0 +1,34 @@
+"""The rows: what is asked of a stack, in own words, with the section of the RFC, how it is tried, and how it is broken."""
+
+from dataclasses import dataclass
+from typing import Callable
+
+from broken import Fault
+
+MUST, SHOULD, MAY = "MUST", "SHOULD", "MAY"
+ROWS = []
+
+
+@dataclass
+class Row:
+    name: str  # as --only takes it
+    numbers: tuple  # of RFC 9293, Appendix B; else the RFC and its section
+    section: str
+    asks: str
+    level: str
+    run: Callable
+    fault: Callable  # makes the fault by which the row is seen to fail
+    mended: Callable = None  # where no stack passes: makes what mends one, so that the row is seen to pass
+
+    def title(self):
+        return ", ".join(self.numbers) or self.section
+
+
+def row(numbers, section, asks, fault: Callable[[], Fault], level=MUST, mended=None):
+    """Adds a function of a Lab as a row. It answers its evidence, or raises NotMet or NotSeen. `numbers` are words: "MUST-2 MUST-3"."""
+
+    def add(run):
+        ROWS.append(Row(run.__name__, tuple(numbers.split()), section, asks, level, run, fault, mended))
+        return run
+
+    return add
