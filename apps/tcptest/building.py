@@ -12,7 +12,7 @@ OUT = HERE / "out"
 CC = os.environ.get("CC", "cc")
 LWIP = TOP / "bench/out/lwip-2.1.3/src"
 GO_CODE = pathlib.Path("/usr/share/gocode")
-FLAGS = ("-std=gnu11", "-O2", "-w")
+FLAGS = ("-std=gnu11", "-O1", "-w")
 
 
 class Lacks(Exception):
@@ -35,7 +35,8 @@ def compiled(name, sources, *words):
     folder = OUT / name
     folder.mkdir(parents=True, exist_ok=True)
     made = [folder / f"{source.stem}.o" for source in sources]
-    stale = [source for source, target in zip(sources, made) if is_stale(target, [source, *HERE.glob("stacks/*.h")])]
+    headers = list(HERE.glob("stacks/*.h")) if sources[0].parent == HERE / "stacks" else []
+    stale = [source for source, target in zip(sources, made) if is_stale(target, [source, *headers])]
     if stale:
         run(CC, *FLAGS, *words, "-c", *stale, cwd=folder)
     return made

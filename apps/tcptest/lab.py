@@ -24,13 +24,18 @@ class Lab:
     ports = 20000
 
     def __init__(self, stack, fault=None):
-        self.stack, self.fault, self.peers, self.strays = stack, fault, [], []
-        self.began = stack.now()
+        self.stack, self.fault, self.peers, self.strays, self.called = stack, fault, [], [], []
+        self.began, self.serial = stack.now(), 0
         if fault is not None:
             fault.begin(self)
 
     def now(self):
         return self.stack.now()
+
+    def number(self):
+        """Of events in their order."""
+        self.serial += 1
+        return self.serial
 
     def peer(self, port=None):
         """A new peer, with a port of its own; the stack's is new, too, if none is named."""
@@ -82,11 +87,13 @@ class Lab:
 
     def call(self, name, *words, **wishes):
         """A user's call."""
+        self.read()
         if self.fault is not None:
             words, wishes = self.fault.calls(name, words, wishes)
         answer = getattr(self.stack, name)(*words, **wishes)
         if self.stack.has_clock:
             self.stack.ask("run", 0)
+        self.called.append((self.number(), self.now() - self.began, name, words, answer))
         return answer if self.fault is None else self.fault.answers(name, words, answer)
 
     def skip(self, seconds, until=lambda: False):
@@ -119,7 +126,7 @@ class Peer:
             own = self.irs = segment.seq
         if word == "went" and segment.option(TIMES):
             self.stamp = segment.option(TIMES)[:4]
-        self.story.append((self.lab.now() - self.lab.began, word, segment, segment.words(own, other)))
+        self.story.append((self.lab.now() - self.lab.began, word, segment, segment.words(own, other), self.lab.number()))
 
     # Segments to the stack.
     def put(self, flags, seq=None, ack=None, **fields):

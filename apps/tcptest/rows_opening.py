@@ -109,7 +109,7 @@ class EndsTheFirst(Fault):
         return [segment]
 
 
-@row("MUST-45", "3.9.2.3", "all segments of a connection come from the address that it was opened at",
+@row("MUST-43 MUST-45", "3.9.1.1, 3.9.2.3", "all segments of a connection come from the address that it was opened at",
      lambda: Says(sets(source=bytes([10, 9, 0, 7])), lambda one: bool(one.text)))
 def one_address(lab):
     peer = lab.peer()

@@ -237,7 +237,7 @@ class Child(Calls):
 
     has_clock = True
     # The clock goes on by a millisecond, and by more where long spans pass.
-    STEPS = ((100.0, 1.0), (5.0, 0.1), (0.0, 0.001))
+    STEPS = ((5000.0, 10.0), (100.0, 1.0), (5.0, 0.1), (0.0, 0.001))
 
     def __init__(self, title, program, *words):
         self.title, self.words = title, [program, *words]

@@ -70,9 +70,9 @@ def run_row(stack, row, fault=None):
         verdict, evidence = telling.BROKEN, f"{type(why).__name__}: {why}"
     clear(lab)
     found = telling.Finding(row.name, row.title(), row.section, row.asks, verdict, evidence)
-    found.packets = [(when, segment) for peer in lab.peers for when, _, segment, _ in peer.story]
-    story = sorted((when, word, said, peer.own) for peer in lab.peers for when, word, _, said in peer.story)
-    found.segments = [f"{when:9.3f} {'stack  >' if word == 'went' else 'tester >'} {said}" for when, word, said, _ in story]
+    found.packets = [(when, segment) for peer in lab.peers for when, _, segment, *_ in peer.story]
+    story = sorted((serial, when, word, said) for peer in lab.peers for when, word, _, said, serial in peer.story)
+    found.segments = [f"{when:9.3f} {'stack  >' if word == 'went' else 'tester >'} {said}" for _, when, word, said in story]
     if fault is None:
         found.judged, accused = judging.judged([peer.log for peer in lab.peers if peer.is_judged])
         found.judge = [said for _, said in accused]

@@ -1,0 +1,173 @@
+#!/usr/bin/env python3
+"""Writes docs/CONFORMANCE.md of a run on each stack, and compares our own column with what is left out.
+
+    conformance.py [--stacks linux,ours,lwip,gvisor,slirp] [--write]
+    conformance.py --check                      ours alone, compared with the page and with the list, in a few seconds
+
+Each requirement of requirements.txt has to be met by a row on our end, or named by number under "What is left out" in docs/EMBEDDING.md,
+or shown by the text of a file that requirements.txt cites, or be one that may be left out. A requirement that is none of these fails, and
+so does one that a row finds not met and that isn't named. The status is 1 then."""
+
+import argparse
+import pathlib
+import re
+import sys
+
+import telling
+from building import TOP, Lacks
+from rows import MUST, ROWS
+from tcptest import NAMES, TITLES, run_row, stack_of
+
+HERE = pathlib.Path(__file__).resolve().parent
+PAGE, LIST = TOP / "docs/CONFORMANCE.md", TOP / "docs/EMBEDDING.md"
+NUMBER = re.compile(r"\b(MUST|SHLD|MAY|REC)-(\d+)(?:\s+to\s+(\d+))?")
+RULE = re.compile(r"RFC (7323|2018), ([\d.]+), rule (\d+)")
+SIGNS = {telling.MET: "met", telling.NOT_MET: "**not met**", telling.SHOULD_NOT: "SHOULD: no", telling.MAY_NOT: "MAY: no", telling.NOT_SEEN: "-"}
+ALLOWED = {"permitted", "application"}
+
+
+def requirements():
+    """(number, words, what shows it) of each line."""
+    for line in (HERE / "requirements.txt").read_text().splitlines():
+        if line and not line.startswith("#"):
+            number, words, *shown = [part.strip() for part in line.split(" | ")]
+            yield number, words, shown[0] if shown else ""
+
+
+def named():
+    """The numbers that stand under "What is left out"."""
+    text = LIST.read_text()
+    part = text[text.index("\n## What is left out") :]
+    part = part[: part.index("\n## ", 5)]
+    found = {f"RFC {rfc}, {section} ({rule})" for rfc, section, rule in RULE.findall(part)}
+    for kind, first, last in NUMBER.findall(part):
+        found |= {f"{kind}-{number}" for number in range(int(first), int(last or first) + 1)}
+    return found
+
+
+def is_of(row, number):
+    """Whether a row is about a requirement: by number, or by its section of RFC 7323 or 2018."""
+    return number in row.numbers or (number.startswith("RFC ") and number in re.split("; ", row.section))
+
+
+def is_cited(shown):
+    path, _, text = shown.partition(": ")
+    file = TOP / path
+    return bool(text) and file.is_file() and " ".join(text.split()) in " ".join(file.read_text().split())
+
+
+def state(number, shown, findings, left_out):
+    """What is true of a requirement of ours, and whether that is enough."""
+    mine = [findings[row.name] for row in ROWS if is_of(row, number)]
+    wanting = [found.row for found in mine if found.verdict not in (telling.MET, telling.NOT_SEEN)]
+    if number in left_out:
+        return "left out, by name", True
+    if shown in ALLOWED:
+        return "may be left out" if shown == "permitted" else "for applications", True
+    if wanting:
+        return f"not met by {', '.join(wanting)}, and not named", False
+    if any(found.verdict == telling.MET for found in mine):
+        return "met", True
+    if is_cited(shown):
+        return "shown by " + shown.partition(": ")[0], True
+    return "neither met, nor shown, nor named" + (f" ({shown})" if shown else ""), False
+
+
+def run_all(name):
+    stack = stack_of(name)
+    return stack.title, {row.name: run_row(stack, row) for row in ROWS}
+
+
+def compared(findings):
+    """Prints what is wrong with our own column, and answers how much that is."""
+    left_out, wrong, count = named(), 0, 0
+    known = {number for number, _, _ in requirements()}
+    for number, _, shown in requirements():
+        words, is_enough = state(number, shown, findings, left_out)
+        count += 1
+        wrong += not is_enough
+        if not is_enough:
+            print(f"conformance: {number}: {words}")
+    for row in ROWS:
+        found = findings[row.name]
+        lost = [number for number in row.numbers if number not in known]
+        # A row without a number is a rule of another RFC or of a section: what isn't met there has to be met.
+        bare = not row.numbers and row.level == MUST and found.verdict not in (telling.MET, telling.NOT_SEEN)
+        if lost or bare or found.verdict == telling.BROKEN or found.judge:
+            wrong += 1
+            print(f"conformance: {row.name}: {found.verdict}: {found.evidence} {lost or ''} {found.judge or ''}")
+    print(f"conformance: {count} requirements, {len(ROWS)} rows, {wrong} wrong")
+    return wrong
+
+
+def page(titles, columns):
+    """The page's lines."""
+    out = (HERE / "conformance.md").read_text().rstrip("\n").split("\n")
+    heads = [titles[name] for name in columns]
+    out += ["", "## The counts", "", "| | " + " | ".join(heads) + " |", "|---|" + "---|" * len(heads)]
+    for verdict in telling.ORDER[:-1]:
+        out.append(f"| {verdict} | " + " | ".join(str(sum(found.verdict == verdict for found in columns[name].values())) for name in columns) + " |")
+    out.append("| connections judged | " + " | ".join(str(sum(found.judged for found in columns[name].values())) for name in columns) + " |")
+    out.append("| of these accused | " + " | ".join(str(sum(bool(found.judge) for found in columns[name].values())) for name in columns) + " |")
+    out += ["", "## The rows", "", "| Requirement | Section | Asked | " + " | ".join(heads) + " |", "|---|---|---|" + "---|" * len(heads)]
+    for row in sorted(ROWS, key=order):
+        cells = [SIGNS.get(columns[name][row.name].verdict, columns[name][row.name].verdict) for name in columns]
+        out.append(f"| {', '.join(row.numbers) or '-'} | {row.section} | {row.asks} | " + " | ".join(cells) + " |")
+    out += ["", "## All requirements, of ours", "", "What isn't met, or not seen, with the file that shows it where no row can.", "",
+            "| Requirement | Asked | Ours |", "|---|---|---|"]
+    left_out = named()
+    for number, words, shown in requirements():
+        out.append(f"| {number} | {words} | {state(number, shown, columns['ours'], left_out)[0]} |")
+    return "\n".join(out) + "\n"
+
+
+def order(row):
+    """By section: those of RFC 9293 first."""
+    number = re.findall(r"[\d.]+", row.section)
+    return (row.section.startswith("RFC"), [int(part) for part in ".".join(number).split(".") if part], row.name)
+
+
+def checked():
+    """Ours alone: compared, and with its column of the page."""
+    _, findings = run_all("ours")
+    wrong = compared(findings)
+    text = PAGE.read_text() if PAGE.exists() else ""
+    heads = next((line for line in text.split("\n") if line.startswith("| Requirement | Section")), "")
+    at = [cell.strip() for cell in heads.split("|")].index(TITLES["ours"]) if TITLES["ours"] in heads else None
+    for row in ROWS:
+        wanted = [", ".join(row.numbers) or "-", row.section, row.asks]
+        found = [line for line in text.split("\n") if [cell.strip() for cell in line.split("|")][1:4] == wanted]
+        cell = [part.strip() for part in found[0].split("|")][at] if found and at is not None else "nothing"
+        if cell != SIGNS.get(findings[row.name].verdict):
+            wrong += 1
+            print(f"conformance: {row.name}: the page has {cell}, and the run {findings[row.name].verdict}")
+    return wrong
+
+
+def main():
+    parser = argparse.ArgumentParser(description=__doc__, formatter_class=argparse.RawDescriptionHelpFormatter)
+    parser.add_argument("--stacks", default=",".join(NAMES))
+    parser.add_argument("--write", action="store_true")
+    parser.add_argument("--check", action="store_true")
+    words = parser.parse_args()
+    if words.check:
+        return int(checked() > 0)
+    titles, columns = {}, {}
+    # The kernel's comes last, since it is tested in a network of its own.
+    for name in sorted(words.stacks.split(","), key=lambda one: one == "linux"):
+        try:
+            titles[name], columns[name] = run_all(name)
+        except Lacks as lack:
+            print(f"conformance: {name}: {lack}")
+            return 2
+        print(f"{titles[name]}: {telling.counts(columns[name].values())}", flush=True)
+    text = page(titles, {name: columns[name] for name in NAMES if name in columns})
+    if words.write:
+        PAGE.write_text(text)
+    else:
+        print(text)
+    return int(compared(columns["ours"]) > 0)
+
+
+if __name__ == "__main__":
+    sys.exit(main())

@@ -1,0 +1,130 @@
+"""Scripts in packetdrill's form as texts: read into events, and written of what went in a row."""
+
+import re
+from dataclasses import dataclass
+
+from segments import ACK, BLOCKS, LETTERS, MSS, PERMITTED, SCALE, SPACE, TIMES, ahead
+
+TIME = re.compile(r"^(\*|[+]?[\d.]+(?:~[+]?[\d.]+)?(?:\.\.\.[\d.]+)?)\s+(.*)$")
+PASSED = re.compile(r"%\{.*?\}%|`.*?`", re.DOTALL)
+
+
+@dataclass
+class Event:
+    line: int
+    kind: str  # "at" a time, so much "after" the last event, or "free"
+    at: float
+    late: float  # how much later it may come
+    text: str
+
+
+@dataclass
+class Script:
+    events: list
+    tolerance: float
+
+
+def read(text):
+    """The events of a script. What isn't read is told."""
+    tolerance = re.search(r"--tolerance_usecs=(\d+)", text)
+    text = re.sub(r"/\*.*?\*/", lambda found: "\n" * found[0].count("\n"), text, flags=re.DOTALL)
+    for found in PASSED.findall(text):
+        print(f"  passed over: {found[:50]!r}")
+    text = PASSED.sub(lambda found: "\n" * found[0].count("\n"), text)
+    events = []
+    for line, words in enumerate(text.split("\n"), 1):
+        words = re.sub(r"//.*|(^|\s)#.*", "", words).strip().rstrip(";").strip()
+        if not words or words.startswith("--"):
+            continue
+        found = TIME.match(words)
+        if found:
+            events.append(event(line, found[1], found[2]))
+        else:
+            print(f"  passed over: line {line}: {words[:50]}")
+    return Script(events, int(tolerance[1]) / 1e6 if tolerance else 0.0)
+
+
+def event(line, when, text):
+    if when == "*":
+        return Event(line, "free", 0.0, 0.0, text)
+    first, _, last = when.split("...")[0].partition("~")
+    kind, at = ("after" if first[0] == "+" else "at"), float(first.lstrip("+") or 0)
+    return Event(line, kind, at, float(last.lstrip("+") or 0) - at if last else 0.0, text)
+
+
+def option_words(segment, base):
+    """Options in packetdrill's words, or None where it has none for them."""
+    words, at, data = [], 0, segment.options
+    while at < len(data):
+        kind = data[at]
+        if kind < 2:
+            words.append("nop" if kind else "eol")
+            at += 1
+            continue
+        length = data[at + 1] if at + 1 < len(data) else 0
+        value = data[at + 2 : at + length]
+        if length < 2 or at + length > len(data) or kind not in (MSS, SCALE, PERMITTED, BLOCKS, TIMES):
+            return None
+        words.append(option_word(kind, value, base))
+        at += length
+    return ",".join(words)
+
+
+def option_word(kind, value, base):
+    number = int.from_bytes(value, "big")
+    if kind == BLOCKS:
+        edges = [(int.from_bytes(value[at : at + 4], "big") - base) % SPACE for at in range(0, len(value), 4)]
+        return "sack " + " ".join(f"{left}:{right}" for left, right in zip(edges[::2], edges[1::2]))
+    if kind == TIMES:
+        return f"TS val {int.from_bytes(value[:4], 'big')} ecr {int.from_bytes(value[4:], 'big')}"
+    return {MSS: f"mss {number}", SCALE: f"wscale {number}", PERMITTED: "sackOK"}[kind]
+
+
+def segment_words(peer, word, segment):
+    """A segment as a script has it."""
+    own, other = (peer.irs, peer.iss) if word == "went" else (peer.iss, peer.irs)
+    letters = {"S": 0, "F": 1, "R": 2, "P": 3, ".": 4}
+    flags = "".join(sorted((letter for bit, letter in LETTERS if segment.flags & bit), key=lambda letter: letters.get(letter, 5))) or "."
+    first = ahead(segment.seq, own) % SPACE
+    text = f"{'>' if word == 'went' else '<'} {flags} {first}:{first + len(segment.text)}({len(segment.text)})"
+    text += f" ack {ahead(segment.ack, other) % SPACE}" if segment.flags & ACK else ""
+    options = option_words(segment, peer.irs if word == "came" else peer.iss)
+    lacks = [name for name, is_so in (("options that have no word", options is None), ("a wrong checksum", segment.harm), ("reserved bits", segment.reserved),
+             ("options of IP", word == "came" and segment.ip_options)) if is_so]
+    text += f" win {segment.window}" if word == "came" else ""
+    text += f" <{options}>" if options and (word == "came" or "sack " in options) else " <...>" if segment.options and word == "went" else ""
+    return text, lacks
+
+
+def call_words(name, words, answer, files):
+    """A user's call as a script has it, or None."""
+    if name == "listen":
+        return "listen(3, 16) = 0"
+    if name == "connect":
+        return "connect(3, ..., ...) = -1 EINPROGRESS (Operation now in progress)"
+    if name == "accept":
+        return None if answer is None else "accept(3, ..., ...) = 4"
+    if name == "send" and isinstance(answer, int):
+        return f"write({files}, ..., {len(words[1])}) = {answer}"
+    if name == "receive" and isinstance(answer, bytes) and not isinstance(answer, str):
+        return f"read({files}, ..., 65536) = {len(answer)}"
+    return {"close": f"shutdown({files}, SHUT_WR) = 0", "leave": f"close({files}) = 0"}.get(name)
+
+
+def written(row, title, lab):
+    """A row that was run, as a script: what its first peer sent, what came, and what the user called."""
+    peer = lab.peers[0]
+    out = [f"// {', '.join([*row.numbers, row.section])}: {row.asks}", f"// As it went with {title}; written by apps/tcptest."]
+    if len(lab.peers) > 1:
+        out.append(f"// The row has {len(lab.peers)} connections; this is the first.")
+    out += ["0 socket(..., SOCK_STREAM, IPPROTO_TCP) = 3", "+0 setsockopt(3, SOL_SOCKET, SO_REUSEADDR, [1], 4) = 0", "+0 bind(3, ..., ...) = 0"]
+    files = 3 if any(name == "connect" for _, _, name, *_ in lab.called) else 4
+    events = [(serial, when, segment_words(peer, word, segment)) for when, word, segment, _, serial in peer.story]
+    events += [(serial, when, (call_words(name, words, answer, files), [])) for serial, when, name, words, answer in lab.called]
+    last = 0.0
+    for _, when, (text, lacks) in sorted(one for one in events if one[2][0]):
+        span = when - last
+        time = f"+{span:.3f}" if text[0] != ">" else f"+{span:.3f}~+{1.5 * span + 0.1:.3f}"
+        out.append(f"{time} {text}" + (f"  // with {', '.join(lacks)}" if lacks else ""))
+        last = when
+    return "\n".join(out) + "\n"
