@@ -24,7 +24,7 @@ class Lab:
     ports = 20000
 
     def __init__(self, stack, fault=None):
-        self.stack, self.fault, self.peers, self.strays, self.called = stack, fault, [], [], []
+        self.stack, self.fault, self.peers, self.strays, self.called, self.story = stack, fault, [], [], [], []
         self.began, self.serial = stack.now(), 0
         if fault is not None:
             fault.begin(self)
@@ -72,6 +72,7 @@ class Lab:
                 peer.arrived.append(segment)
                 return
         self.strays.append(segment)
+        self.story.append((self.now() - self.began, "went", segment, segment.words(), self.number()))
 
     def wait(self, seconds, until=lambda: False):
         """Lets time pass, up to what ends the wait. Answers whether that came."""
@@ -93,7 +94,7 @@ class Lab:
         answer = getattr(self.stack, name)(*words, **wishes)
         if self.stack.has_clock:
             self.stack.ask("run", 0)
-        self.called.append((self.number(), self.now() - self.began, name, words, answer))
+        self.called.append((self.number(), self.now() - self.began, name, words, wishes, answer))
         return answer if self.fault is None else self.fault.answers(name, words, answer)
 
     def skip(self, seconds, until=lambda: False):
@@ -257,12 +258,12 @@ class Peer:
     def receive(self, most=1 << 16):
         return self.lab.call("receive", self.user, most)
 
-    def got(self, wait=0.5):
+    def got(self, wait=0.5, most=1 << 16):
         """What the user is handed, once anything is."""
         found = []
 
         def is_there():
-            found.append(self.receive())
+            found.append(self.receive(most))
             return found[-1] is not None
 
         self.lab.wait(wait, is_there)

@@ -10,6 +10,7 @@ sack, TS, or <...>). What else a script has, as %{ }%, commands in backquotes an
 through the proved judge. PSH isn't compared, since each stack sets it by a rule of its own. The status is 0 where all went as the scripts say."""
 
 import argparse
+import contextlib
 import pathlib
 import re
 import struct
@@ -17,8 +18,10 @@ import sys
 
 import judging
 import scripting
+import telling
 from lab import Gone, Lab, NotMet, NotSeen
-from segments import ACK, BLOCKS, LETTERS, MSS, NOP, PERMITTED, PSH, SCALE, SPACE, TIMES, ahead
+from linux import set_kernel
+from segments import ACK, BLOCKS, LETTERS, MSS, NOP, PERMITTED, PSH, SCALE, SPACE, SYN, TIMES, ahead, as_sent
 from tcptest import chosen, stack_of
 
 BITS = {letter: bit for bit, letter in LETTERS}
@@ -72,7 +75,8 @@ class Runner:
         if found is None:
             raise Differs(f"line {event.line}: nothing came, wanted {event.text}")
         if self.own is None:
-            self.own = found.seq
+            # A reset to no connection has the numbers of what it answers.
+            self.own = found.seq if found.flags & SYN else 0
         flags, first, _, length, ack, window, _, options = parts(event.text)
         wanted = (sum(BITS[letter] for letter in flags) & ~PSH, first, length, ack)
         came = (found.flags & ~PSH, ahead(found.seq, self.own) % SPACE, len(found.text), ahead(found.ack, self.peer.iss) % SPACE if found.flags & ACK else None)
@@ -137,7 +141,7 @@ class Runner:
         elif name == "connect":
             peer.user = self.files[words[0]] = lab.call("connect", peer.port, peer.own, **self.wishes)
         elif name in ("read", "recv"):
-            answer = peer.got(0.05)
+            answer = peer.got(0.05, int(words[2]))
             count = -1 if answer is None or isinstance(answer, Gone) else len(answer)
             self.same(count, wanted, f"{text}: the user is told {answer if answer is None or isinstance(answer, Gone) else count}")
             if fault == "EAGAIN" and answer is not None:
@@ -161,6 +165,9 @@ class Runner:
             self.wishes["capacity"] = value
         elif words[2] == "TCP_NODELAY":
             self.wishes["nagle"] = 1 - value
+            if self.peer.user is not None:
+                with contextlib.suppress(NotSeen):
+                    self.lab.call("wish", self.peer.user, nagle=1 - value)
         elif words[2] != "SO_REUSEADDR":
             print(f"  passed over: setsockopt {words[2]}")
 
@@ -197,6 +204,13 @@ def run_script(stack, path):
         stack.stop()
 
 
+def prepared(stack, path):
+    """Of a script's commands in backquotes those that set a variable of the kernel's, where the kernel is the stack."""
+    for name, value in re.findall(r"`sysctl -q net\.ipv4\.(\w+)=(\d+)`", path.read_text()):
+        if not stack.has_clock:
+            set_kernel(name, value)
+
+
 def export(stack, row):
     """A row as it goes with a stack, as a script."""
     stack.start()
@@ -212,7 +226,8 @@ def export(stack, row):
 def main():
     parser = argparse.ArgumentParser(description=__doc__, formatter_class=argparse.RawDescriptionHelpFormatter)
     parser.add_argument("--stack", required=True)
-    parser.add_argument("--export")
+    parser.add_argument("--export", metavar="ROW")
+    parser.add_argument("--pcap", type=pathlib.Path, help="a capture of each script, SCRIPT.pcap in this folder")
     parser.add_argument("scripts", nargs="*", type=pathlib.Path)
     words = parser.parse_args()
     stack, failed = stack_of(words.stack), 0
@@ -220,8 +235,12 @@ def main():
         print(export(stack, next(row for row in chosen(words.export) if row.name == words.export)), end="")
         return 0
     for path in words.scripts:
+        prepared(stack, path)
         is_same, said, runner = run_script(stack, path)
         failed += not is_same
+        if words.pcap:
+            packets = [(when, as_sent(segment)) for when, _, segment, *_ in runner.peer.story]
+            telling.write_capture(words.pcap / f"{path.stem}.pcap", packets)
         print(f"{path.name:28} {said if is_same else 'DIFFERS: ' + said}")
         if not is_same:
             print("\n".join(f"    {when:8.3f} {word} {text}" for when, word, _, text, _ in runner.peer.story[-8:]))

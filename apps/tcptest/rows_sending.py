@@ -61,9 +61,9 @@ def greatest_timeout(lab):
 
 
 def warm(peer, size=30000):
-    """The stack's user sends so much, and all is acknowledged as it comes, so that the congestion window opens."""
+    """The stack's user sends so much, and all is acknowledged half a round trip later, so that the congestion window opens."""
     peer.send(b"x" * size)
-    while found := [one for one in peer.all(0.005) if is_text(one)]:
+    while found := [one for one in peer.all(ROUND_TRIP / 2) if is_text(one)]:
         peer.acknowledge(max(found, key=lambda one: ahead(one.end(), peer.rcv)))
 
 

@@ -29,6 +29,9 @@ def read(text):
     tolerance = re.search(r"--tolerance_usecs=(\d+)", text)
     text = re.sub(r"/\*.*?\*/", lambda found: "\n" * found[0].count("\n"), text, flags=re.DOTALL)
     for found in PASSED.findall(text):
+        # Variables of the kernel's are set before the script begins (packetdrill.py).
+        if found.startswith("`sysctl -q net.ipv4."):
+            continue
         print(f"  passed over: {found[:50]!r}")
     text = PASSED.sub(lambda found: "\n" * found[0].count("\n"), text)
     events = []
@@ -36,6 +39,8 @@ def read(text):
         words = re.sub(r"//.*|(^|\s)#.*", "", words).strip().rstrip(";").strip()
         if not words or words.startswith("--"):
             continue
+        if re.fullmatch(r"[*+]?[\d.]*", words):
+            continue  # what stood here was passed over
         found = TIME.match(words)
         if found:
             events.append(event(line, found[1], found[2]))
@@ -96,10 +101,12 @@ def segment_words(peer, word, segment):
     return text, lacks
 
 
-def call_words(name, words, answer, files):
+def call_words(name, words, wishes, answer, files):
     """A user's call as a script has it, or None."""
     if name == "listen":
         return "listen(3, 16) = 0"
+    if name == "wish" and "nagle" in wishes:
+        return f"setsockopt({files}, SOL_TCP, TCP_NODELAY, [{1 - wishes['nagle']}], 4) = 0"
     if name == "connect":
         return "connect(3, ..., ...) = -1 EINPROGRESS (Operation now in progress)"
     if name == "accept":
@@ -107,8 +114,14 @@ def call_words(name, words, answer, files):
     if name == "send" and isinstance(answer, int):
         return f"write({files}, ..., {len(words[1])}) = {answer}"
     if name == "receive" and isinstance(answer, bytes) and not isinstance(answer, str):
-        return f"read({files}, ..., 65536) = {len(answer)}"
+        return f"read({files}, ..., {words[1] if len(words) > 1 else 65536}) = {len(answer)}"
     return {"close": f"shutdown({files}, SHUT_WR) = 0", "leave": f"close({files}) = 0"}.get(name)
+
+
+def wish_words(wishes):
+    """What is asked of a socket before it listens."""
+    out = [f"+0 setsockopt(3, SOL_SOCKET, SO_RCVBUF, [{wishes['capacity']}], 4) = 0"] if "capacity" in wishes else []
+    return out + ([f"+0 setsockopt(3, SOL_TCP, TCP_NODELAY, [{1 - wishes['nagle']}], 4) = 0"] if "nagle" in wishes else [])
 
 
 def written(row, title, lab):
@@ -118,13 +131,16 @@ def written(row, title, lab):
     if len(lab.peers) > 1:
         out.append(f"// The row has {len(lab.peers)} connections; this is the first.")
     out += ["0 socket(..., SOCK_STREAM, IPPROTO_TCP) = 3", "+0 setsockopt(3, SOL_SOCKET, SO_REUSEADDR, [1], 4) = 0", "+0 bind(3, ..., ...) = 0"]
-    files = 3 if any(name == "connect" for _, _, name, *_ in lab.called) else 4
+    files = 3 if any(called[2] == "connect" for called in lab.called) else 4
     events = [(serial, when, segment_words(peer, word, segment)) for when, word, segment, _, serial in peer.story]
-    events += [(serial, when, (call_words(name, words, answer, files), [])) for serial, when, name, words, answer in lab.called]
+    events += [(serial, when, (call_words(name, words, wishes, answer, files), [])) for serial, when, name, words, wishes, answer in lab.called]
+    for *_, name, _, wishes, _ in lab.called:
+        if name == "listen":
+            out += wish_words(wishes)
     last = 0.0
     for _, when, (text, lacks) in sorted(one for one in events if one[2][0]):
         span = when - last
-        time = f"+{span:.3f}" if text[0] != ">" else f"+{span:.3f}~+{1.5 * span + 0.1:.3f}"
+        time = f"+{span:.3f}" if text[0] != ">" else f"+{0.9 * span:.3f}~+{1.3 * span + 0.1:.3f}"
         out.append(f"{time} {text}" + (f"  // with {', '.join(lacks)}" if lacks else ""))
         last = when
     return "\n".join(out) + "\n"

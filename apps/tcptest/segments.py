@@ -145,6 +145,12 @@ def read_segment(raw):
     return segment
 
 
+def as_sent(segment):
+    """The packet of a segment that was read with the bytes that it came with, its checksum among them; of a made one that packet."""
+    made = segment.packet()
+    return made if segment.raw is None else made[: len(made) - len(segment.raw)] + segment.raw
+
+
 def icmp_error(kind, code, about, extra=0):
     """An error of ICMP from the tester about a segment that the stack sent (RFC 792): its header and 8 bytes."""
     body = struct.pack(">BBHHH", kind, code, 0, 0, extra) + about.packet()[:28]

@@ -239,8 +239,8 @@ class Child(Calls):
     # The clock goes on by a millisecond, and by more where long spans pass.
     STEPS = ((5000.0, 10.0), (100.0, 1.0), (5.0, 0.1), (0.0, 0.001))
 
-    def __init__(self, title, program, *words):
-        self.title, self.words = title, [program, *words]
+    def __init__(self, title, program, settings=None):
+        self.title, self.words, self.settings = title, [program], {**os.environ, **(settings or {})}
         self.child, self.wire, self.control, self.clock = None, None, None, 0.0
 
     def start(self):
@@ -252,7 +252,7 @@ class Child(Calls):
         self.wire.setblocking(False)
         self.control.settimeout(20)
         words = [*self.words, str(wire.fileno()), str(control.fileno())]
-        self.child = subprocess.Popen(words, pass_fds=(wire.fileno(), control.fileno()))
+        self.child = subprocess.Popen(words, pass_fds=(wire.fileno(), control.fileno()), env=self.settings)
         wire.close()
         control.close()
         self.clock = 1000.0

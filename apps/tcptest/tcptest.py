@@ -1,7 +1,8 @@
 #!/usr/bin/env python3
 """One table of what a TCP stack does: requirement, verdict, evidence (README.md).
 
-    tcptest.py --stack linux|ours|lwip|gvisor|slirp|tun:DEVICE [--only WORD] [--json FILE] [--junit FILE] [--segments]
+    tcptest.py --stack linux|ours|lwip|gvisor|slirp|tun:DEVICE [--only WORD,..] [--json FILE] [--junit FILE] [--pcap FOLDER]
+               [--segments] [--set NAME=VALUE]
     tcptest.py --list                                        the rows, and what each asks for
 
 A verdict comes from what was seen on the wire: met, not met, SHOULD not met, MAY not taken, or not seen, where the stack has no call for
@@ -26,10 +27,12 @@ import rows_format  # noqa: E402,F401
 import rows_network  # noqa: E402,F401
 import rows_opening  # noqa: E402,F401
 import rows_sending  # noqa: E402,F401
+import rows_transfer  # noqa: E402,F401
 import telling  # noqa: E402
 from lab import Lab, NotMet, NotSeen  # noqa: E402
-from linux import enter_namespace  # noqa: E402
+from linux import enter_namespace, set_kernel  # noqa: E402
 from rows import MAY, ROWS, SHOULD  # noqa: E402
+from segments import RST, Segment, as_sent  # noqa: E402
 from stacks import Child, Device, Linux  # noqa: E402
 
 TITLES = {"ours": "Boqtilen with its companions", "lwip": "lwIP 2.1.3", "slirp": "libslirp", "gvisor": "gVisor's netstack"}
@@ -70,9 +73,9 @@ def run_row(stack, row, fault=None):
         verdict, evidence = telling.BROKEN, f"{type(why).__name__}: {why}"
     clear(lab)
     found = telling.Finding(row.name, row.title(), row.section, row.asks, verdict, evidence)
-    found.packets = [(when, segment) for peer in lab.peers for when, _, segment, *_ in peer.story]
-    story = sorted((serial, when, word, said) for peer in lab.peers for when, word, _, said, serial in peer.story)
-    found.segments = [f"{when:9.3f} {'stack  >' if word == 'went' else 'tester >'} {said}" for _, when, word, said in story]
+    story = sorted([*lab.story, *(seen for peer in lab.peers for seen in peer.story)], key=lambda seen: seen[-1])
+    found.packets = [(when, as_sent(segment)) for when, _, segment, *_ in story]
+    found.segments = [f"{when:9.3f} {'stack  >' if word == 'went' else 'tester >'} {said}" for when, word, _, said, _ in story]
     if fault is None:
         found.judged, accused = judging.judged([peer.log for peer in lab.peers if peer.is_judged])
         found.judge = [said for _, said in accused]
@@ -93,8 +96,6 @@ def clear(lab):
 
 
 def peer_reset(peer):
-    from segments import RST, Segment
-
     return Segment(peer.own, peer.port, peer.nxt, 0, RST)
 
 
@@ -109,6 +110,8 @@ def read_words():
     parser.add_argument("--only", default="", help="rows of these names or numbers, with commas")
     parser.add_argument("--json", type=pathlib.Path)
     parser.add_argument("--junit", type=pathlib.Path)
+    parser.add_argument("--pcap", type=pathlib.Path, help="a capture of each row, ROW.pcap in this folder")
+    parser.add_argument("--set", action="append", default=[], help="of linux: a variable of net.ipv4, as tcp_syncookies=2")
     parser.add_argument("--segments", action="store_true", help="all segments of each row")
     parser.add_argument("--list", action="store_true")
     return parser.parse_args()
@@ -129,10 +132,14 @@ def main():
     except (building.Lacks, OSError) as lack:
         print(f"tcptest: {lack}", file=sys.stderr)
         return 2
+    for setting in words.set:
+        set_kernel(*setting.split("=", 1))
     print(f"tcptest: {stack.title}, {len(rows)} rows")
     findings = []
     for row in rows:
         findings.append(run_row(stack, row))
+        if words.pcap:
+            telling.write_capture(words.pcap / f"{row.name}.pcap", findings[-1].packets)
         print("\n".join(telling.table(findings[-1:], words.segments)), flush=True)
     print(telling.counts(findings))
     if words.json:

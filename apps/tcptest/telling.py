@@ -1,10 +1,12 @@
 """What was found, as a table, as JSON and as JUnit's XML."""
 
 import json
+import struct
 from dataclasses import asdict, dataclass, field
 from xml.sax.saxutils import escape, quoteattr
 
 MET, NOT_MET, SHOULD_NOT, MAY_NOT, NOT_SEEN, BROKEN = "met", "not met", "SHOULD not met", "MAY not taken", "not seen", "no verdict"
+RAW = 101  # the link type of packets without a link's header
 ORDER = (MET, NOT_MET, SHOULD_NOT, MAY_NOT, NOT_SEEN, BROKEN)
 
 
@@ -23,6 +25,15 @@ class Finding:
     segments: list = field(default_factory=list)
     seconds: float = 0.0
     packets: list = field(default_factory=list, repr=False)
+
+
+def write_capture(path, packets):
+    """A capture (pcap) of raw packets at these seconds."""
+    path.parent.mkdir(parents=True, exist_ok=True)
+    with path.open("wb") as file:
+        file.write(struct.pack("<IHHiIII", 0xA1B2C3D4, 2, 4, 0, 0, 65535, RAW))
+        for when, data in packets:
+            file.write(struct.pack("<IIII", int(when), round(when % 1 * 1_000_000) % 1_000_000, len(data), len(data)) + data)
 
 
 def line(found):

@@ -18,7 +18,8 @@ enum { SEND = 262144, RECEIVE = 131072, SLOTS = 16, STRAYS = 1000, PACKET = IP_H
 
 const unsigned stack_step = 100;
 
-static const struct ip_net OWN = {{{10, 9, 0, 1}}, 24};
+/* The stack's, or where TCPTEST_ADDRESS is set that of the tester, whose partner in a transfer this is. */
+static struct ip_net OWN = {{{10, 9, 0, 1}}, 24};
 
 /* A connection of the user's: of a demux its slot, else an end of its own. */
 struct handle {
@@ -124,6 +125,7 @@ void stack_begin(void)
     }
     memset(handles, 0, sizeof handles);
     port_count = 0;
+    OWN.addr.byte[3] = getenv("TCPTEST_ADDRESS") ? 2 : 1;
     if (getentropy(secret, sizeof secret) < 0)
         abort();
 }
