@@ -3,8 +3,8 @@
 # whether the documents show what is in the repository and their commands can be pasted, scripts and C as linters read them, the
 # programs against second ones, the C library under its tests, against lwIP and against this machine's kernel, the portable file on
 # two other machines, what stands on it for Rust, C++, Go and Python, the programs as one C file each, what release/ gives to who has no
-# kit, here with the kit hidden and in a new Debian, the tarball, real clients over usernet, captures, the judge of captures, and the
-# replay as a WebAssembly module.
+# kit, here with the kit hidden and in a new Debian, the tarball, real clients over usernet, captures, what our end and Linux do row by
+# row, the judge of captures, and the replay as a WebAssembly module.
 # checks/behind.sh FOLDER writes how many of these passed into FOLDER/behind. The libraries and the module are built over what the
 # gate has proved, and after it: two builds at once wait for one another.
 set -euo pipefail
@@ -58,6 +58,7 @@ behind c/dist/test.sh
 timed checks/live/run.sh
 timed apps/usernet/test.sh "$library" --short
 timed apps/capture/test.sh
+timed apps/tcptest/test.sh
 timed checks/judge/test.sh "$PWD/crates/tcpjudge/out/tcpjudge" "$library" --short
 behind apps/web/test.sh apps/web/out/tcp_web.wasm
 behind docs/site/test.sh

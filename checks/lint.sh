@@ -1,5 +1,5 @@
 #!/usr/bin/env bash
-# Reads all scripts by shellcheck, the C library's layer, its companions, their peers' driver and usernet by clang-tidy, and the
+# Reads all scripts by shellcheck, the C library's layer, its companions, their peers' driver, usernet and tcptest by clang-tidy, and the
 # library's class for Python by mypy; and looks whether the checksum stands on lanes. It installs the linters by apt-get where this
 # machine lacks them; where that fails it fails, or, with LEAVE_OUT=1 in the environment, says what it leaves out.
 set -euo pipefail
@@ -31,6 +31,11 @@ if has clang-tidy clang-tidy --version; then
         passed=$((passed + 1))
     done
     passed=$((passed + 1))
+    # The other stacks' files are read with headers of their own.
+    for source in apps/tcptest/stacks/{child,ours,sockets}.c; do
+        clang-tidy --quiet --warnings-as-errors='*' --checks="$checks" "$source" -- -std=c11 -Iapps/tcptest/stacks -Ic/tcpcore -Ic/companions 2>/dev/null
+        passed=$((passed + 1))
+    done
 fi
 if has mypy mypy --version; then
     mypy --strict --no-error-summary --cache-dir=/dev/null c/tcpcore/tcpcore.py c/tcpcore/layout.py

@@ -75,6 +75,7 @@ if (($# == 0)); then
     queue lint checks/lint.sh
     queue lib checks/lib_test.sh
     queue captures captures
+    queue conformance python3 apps/tcptest/conformance.py --check
 fi
 # What release/ has been made of: where the crates are still these, its programs were run above, and aren't built again from crates/.
 made=$(grep '^crates ' release/MADE)

@@ -16,7 +16,7 @@ import sys
 import telling
 from building import TOP, Lacks
 from rows import MUST, ROWS
-from tcptest import NAMES, TITLES, run_row, stack_of
+from tcptest import NAMES, run_row, stack_of
 
 HERE = pathlib.Path(__file__).resolve().parent
 PAGE, LIST = TOP / "docs/CONFORMANCE.md", TOP / "docs/EMBEDDING.md"
@@ -24,6 +24,7 @@ NUMBER = re.compile(r"\b(MUST|SHLD|MAY|REC)-(\d+)(?:\s+to\s+(\d+))?")
 RULE = re.compile(r"RFC (7323|2018), ([\d.]+), rule (\d+)")
 SIGNS = {telling.MET: "met", telling.NOT_MET: "**not met**", telling.SHOULD_NOT: "SHOULD: no", telling.MAY_NOT: "MAY: no", telling.NOT_SEEN: "-"}
 ALLOWED = {"permitted", "application"}
+HEADS = {"linux": "Linux", "ours": "Boqtilen", "lwip": "lwIP", "gvisor": "gVisor", "slirp": "libslirp"}
 
 
 def requirements():
@@ -60,14 +61,14 @@ def state(number, shown, findings, left_out):
     """What is true of a requirement of ours, and whether that is enough."""
     mine = [findings[row.name] for row in ROWS if is_of(row, number)]
     wanting = [found.row for found in mine if found.verdict not in (telling.MET, telling.NOT_SEEN)]
+    if not wanting and any(found.verdict == telling.MET for found in mine):
+        return "met", True
     if number in left_out:
         return "left out, by name", True
     if shown in ALLOWED:
         return "may be left out" if shown == "permitted" else "for applications", True
     if wanting:
         return f"not met by {', '.join(wanting)}, and not named", False
-    if any(found.verdict == telling.MET for found in mine):
-        return "met", True
     if is_cited(shown):
         return "shown by " + shown.partition(": ")[0], True
     return "neither met, nor shown, nor named" + (f" ({shown})" if shown else ""), False
@@ -81,6 +82,11 @@ def run_all(name):
 def compared(findings):
     """Prints what is wrong with our own column, and answers how much that is."""
     left_out, wrong, count = named(), 0, 0
+    # The comparison can fail: where nothing were named, what isn't met would be found.
+    unnamed = [number for number, _, shown in requirements() if not state(number, shown, findings, set())[1]]
+    if not {"MUST-10", "MUST-30", "MUST-49", "SHLD-25"} <= set(unnamed):
+        print(f"conformance: with nothing named {unnamed} would be missed alone")
+        wrong += 1
     known = {number for number, _, _ in requirements()}
     for number, _, shown in requirements():
         words, is_enough = state(number, shown, findings, left_out)
@@ -100,25 +106,40 @@ def compared(findings):
     return wrong
 
 
+def row_of(words):
+    return f"| {' | '.join(str(word) for word in words)} |"
+
+
+def heading(*words):
+    return [row_of(words), "|---" * len(words) + "|"]
+
+
 def page(titles, columns):
     """The page's lines."""
-    out = (HERE / "conformance.md").read_text().rstrip("\n").split("\n")
-    heads = [titles[name] for name in columns]
-    out += ["", "## The counts", "", "| | " + " | ".join(heads) + " |", "|---|" + "---|" * len(heads)]
+    heads, out = [HEADS[name] for name in columns], (HERE / "conformance.md").read_text().rstrip("\n").split("\n")
+    out += ["", "## The counts", "", *heading("", *(titles[name] for name in columns))]
     for verdict in telling.ORDER[:-1]:
-        out.append(f"| {verdict} | " + " | ".join(str(sum(found.verdict == verdict for found in columns[name].values())) for name in columns) + " |")
-    out.append("| connections judged | " + " | ".join(str(sum(found.judged for found in columns[name].values())) for name in columns) + " |")
-    out.append("| of these accused | " + " | ".join(str(sum(bool(found.judge) for found in columns[name].values())) for name in columns) + " |")
-    out += ["", "## The rows", "", "| Requirement | Section | Asked | " + " | ".join(heads) + " |", "|---|---|---|" + "---|" * len(heads)]
+        out.append(row_of([verdict, *(sum(found.verdict == verdict for found in columns[name].values()) for name in columns)]))
+    out.append(row_of(["connections judged", *(sum(found.judged for found in columns[name].values()) for name in columns)]))
+    out.append(row_of(["of these accused", *(sum(len(found.judge) for found in columns[name].values()) for name in columns)]))
+    out += ["", "## The rows", "", *heading("Row", "Requirement", "Section", "Asked", *heads)]
     for row in sorted(ROWS, key=order):
-        cells = [SIGNS.get(columns[name][row.name].verdict, columns[name][row.name].verdict) for name in columns]
-        out.append(f"| {', '.join(row.numbers) or '-'} | {row.section} | {row.asks} | " + " | ".join(cells) + " |")
-    out += ["", "## All requirements, of ours", "", "What isn't met, or not seen, with the file that shows it where no row can.", "",
-            "| Requirement | Asked | Ours |", "|---|---|---|"]
+        out.append(row_of([row.name, ", ".join(row.numbers) or "-", row.section, row.asks, *(sign(columns[name][row.name]) for name in columns)]))
+    out += ["", "## What was seen where a row isn't met", "", *heading("Stack", "Row", "Seen")]
+    for name in columns:
+        for row in sorted(ROWS, key=order):
+            found = columns[name][row.name]
+            if found.verdict not in (telling.MET, telling.NOT_SEEN):
+                out.append(row_of([HEADS[name], row.name, "; ".join([found.evidence, *("the judge: " + said for said in found.judge)]).replace("|", "/")]))
+    out += ["", "## All requirements, of ours", "", *heading("Requirement", "Asked", "Boqtilen")]
     left_out = named()
     for number, words, shown in requirements():
-        out.append(f"| {number} | {words} | {state(number, shown, columns['ours'], left_out)[0]} |")
+        out.append(row_of([number, words, state(number, shown, columns["ours"], left_out)[0]]))
     return "\n".join(out) + "\n"
+
+
+def sign(found):
+    return SIGNS.get(found.verdict, found.verdict)
 
 
 def order(row):
@@ -131,16 +152,15 @@ def checked():
     """Ours alone: compared, and with its column of the page."""
     _, findings = run_all("ours")
     wrong = compared(findings)
-    text = PAGE.read_text() if PAGE.exists() else ""
-    heads = next((line for line in text.split("\n") if line.startswith("| Requirement | Section")), "")
-    at = [cell.strip() for cell in heads.split("|")].index(TITLES["ours"]) if TITLES["ours"] in heads else None
+    rows = [[cell.strip() for cell in line.split("|")[1:-1]] for line in (PAGE.read_text() if PAGE.exists() else "").split("\n")]
+    heads = next((cells for cells in rows if cells[:1] == ["Row"] and HEADS["ours"] in cells), [])
     for row in ROWS:
-        wanted = [", ".join(row.numbers) or "-", row.section, row.asks]
-        found = [line for line in text.split("\n") if [cell.strip() for cell in line.split("|")][1:4] == wanted]
-        cell = [part.strip() for part in found[0].split("|")][at] if found and at is not None else "nothing"
-        if cell != SIGNS.get(findings[row.name].verdict):
+        wanted = [row.name, ", ".join(row.numbers) or "-", row.section, row.asks]
+        cell = next((cells[heads.index(HEADS["ours"])] for cells in rows if heads and cells[:4] == wanted), "nothing")
+        if cell != sign(findings[row.name]):
             wrong += 1
             print(f"conformance: {row.name}: the page has {cell}, and the run {findings[row.name].verdict}")
+    print(f"conformance: our column has {len(ROWS)} rows, {wrong} wrong")
     return wrong
 
 

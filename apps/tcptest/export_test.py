@@ -13,7 +13,8 @@ from rows import ROWS
 from tcptest import stack_of
 
 # What no script can have: another address; a user's call that packetdrill has no word for; minutes, which pass in steps of a second.
-LEFT = {"gives_up", "gives_up_syn", "greatest_timeout", "no_open_to_many", "no_syn_to_many", "no_syn_from_many", "no_syn_from_network", "initial_numbers", "keep_alive_off"}
+LEFT = {"gives_up", "gives_up_syn", "greatest_timeout", "no_open_to_many", "no_syn_to_many", "no_syn_from_many", "no_syn_from_network",
+        "initial_numbers", "keep_alive_off"}
 CALLS = ("keep_alive", "abort", "leaves_unread")
 
 

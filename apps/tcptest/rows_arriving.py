@@ -137,7 +137,8 @@ def text_outside(lab):
     return "an acknowledgement of RCV.NXT for both sides of the window"
 
 
-@row("SHLD-31 MAY-13", "3.10.7.4", "text that comes out of order is kept, and is answered at once", lambda: Hears(drops, lambda one: b"def" in one.text), SHOULD)
+@row("SHLD-31 MAY-13", "3.10.7.4", "text that comes out of order is kept, and is answered at once",
+     lambda: Hears(drops, lambda one: b"def" in one.text), SHOULD)
 def out_of_order(lab):
     peer = lab.peer()
     peer.open()

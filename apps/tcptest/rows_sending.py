@@ -155,7 +155,7 @@ class AllAgain(Bursts):
     """As Bursts; each segment goes out once."""
 
 
-@row("", "RFC 2018, 8", "what a block had is sent again where the peer has it no more", lambda: DropsAgain(1))
+@row("", "RFC 2018, 8", "what a block had is sent again where the peer has it no more", lambda: Trusts())
 def reneging(lab):
     peer = sender(lab)
     before = blocked(peer)
@@ -166,23 +166,19 @@ def reneging(lab):
     return f"{peer.said(found)}, {found.when - before[0].when:.2f} s after the first"
 
 
-class DropsAgain(Fault):
-    """The segment of this place isn't sent again."""
-
-    def __init__(self, place):
-        self.place = place
+class Trusts(Fault):
+    """What a block has had is never sent again."""
 
     def begin(self, lab):
         super().begin(lab)
-        self.order = []
+        self.had = set()
+
+    def came(self, segment):
+        self.had |= set(segment.edges())
+        return [segment]
 
     def went(self, segment):
-        if not has_text(segment):
-            return [segment]
-        if segment.seq in self.order:
-            return [segment] if self.order.index(segment.seq) != self.place else []
-        self.order.append(segment.seq)
-        return [segment]
+        return [] if has_text(segment) and any(ahead(segment.seq, left) >= 0 > ahead(segment.seq, right) for left, right in self.had) else [segment]
 
 
 @row("MUST-17", "3.7.4", "Nagle's rule can be turned off: small pieces go out at once", lambda: Says(drops, has_text, after=1))
@@ -321,15 +317,25 @@ def old_within_again(lab):
 
 @row("SHLD-17", "RFC 7323, 2.4 (5)", "behind a smaller window only the first segment is sent again past its edge", lambda: Bursts(), SHOULD)
 def edge_kept(lab):
-    peer, before = shrunk(lab, 300)
-    edge, seen = (peer.rcv + 300) % SPACE, {}
-    end = lab.now() + 3.2
-    while lab.now() < end:
-        found = peer.take(0.2)
-        if found is not None and is_text(found) and ahead(found.end(), edge) > 0:
+    peer, _ = shrunk(lab, 300)
+    first = past_edge(peer, 300, 2.4)
+    # The peer takes what has room, and its window is shut.
+    peer.rcv = (peer.rcv + 300) % SPACE
+    peer.window = 0
+    peer.acknowledge()
+    second = past_edge(peer, 0, 2.4)
+    return f"past an edge at 300: {first or 'nothing'}; at 0: {second or 'nothing'}"
+
+
+def past_edge(peer, edge, span):
+    """How often text past the edge comes, by where it begins behind what is acknowledged: what isn't the first may not come."""
+    seen, end = {}, peer.lab.now() + span
+    while peer.lab.now() < end:
+        found = peer.take(0.1)
+        if found is not None and is_text(found) and ahead(found.end(), peer.rcv) > edge:
             seen[ahead(found.seq, peer.rcv)] = seen.get(ahead(found.seq, peer.rcv), 0) + 1
-    need(not [at for at in seen if at > 0], f"past the edge at 300, by where it begins: {seen}")
-    return f"past the edge: {seen or 'nothing'}"
+    need(not [at for at in seen if at > 0], f"past the edge at {edge}, by where it begins: {seen}")
+    return seen
 
 
 @row("MUST-35 MUST-36", "3.8.6.1", "a shut window is probed, and what waits is sent once it opens", lambda: Says(drops, lambda one: not is_syn(one), after=0))

@@ -248,7 +248,9 @@ class Child(Calls):
         self.wire, wire = socket.socketpair(socket.AF_UNIX, socket.SOCK_SEQPACKET)
         self.control, control = socket.socketpair(socket.AF_UNIX, socket.SOCK_SEQPACKET)
         for one in self.wire, wire, self.control, control:
-            one.setsockopt(socket.SOL_SOCKET, 32, 1 << 23)  # SO_SNDBUFFORCE: a whole window of packets has room
+            # A whole window of packets has room, where the user may have that (SO_SNDBUFFORCE).
+            with contextlib.suppress(PermissionError):
+                one.setsockopt(socket.SOL_SOCKET, 32, 1 << 23)
         self.wire.setblocking(False)
         self.control.settimeout(20)
         words = [*self.words, str(wire.fileno()), str(control.fileno())]

@@ -36,7 +36,10 @@ void stack_turn(void)
     leave();
 }
 
-int stack_listen(uint16_t port, const struct wishes *wishes) { return netstack_listen(port, (int)wishes->capacity, wishes->nagle, wishes->ttl, wishes->service); }
+int stack_listen(uint16_t port, const struct wishes *wishes)
+{
+    return netstack_listen(port, (int)wishes->capacity, wishes->nagle, wishes->ttl, wishes->service);
+}
 
 int stack_connect(uint16_t port, const uint8_t address[4], uint16_t to, const struct wishes *wishes)
 {
