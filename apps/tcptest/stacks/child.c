@@ -59,6 +59,8 @@ static size_t bytes_of(const char *digits, uint8_t *out)
     return count;
 }
 
+static void say(char *answer, const char *words) { snprintf(answer, LINE, "%s", words); }
+
 static const char *gone_of(long answer) { return answer == STACK_TIMED_OUT ? "gone timeout" : "gone reset"; }
 
 static void receive(int handle, size_t room, char *answer)
@@ -66,10 +68,10 @@ static void receive(int handle, size_t room, char *answer)
     static uint8_t text[TEXT];
     long count = stack_receive(handle, text, room < TEXT ? room : TEXT);
     if (count == STACK_NOTHING || count == STACK_ENDED || count < 0) {
-        strcpy(answer, count == STACK_NOTHING ? "nothing" : count == STACK_ENDED ? "end" : gone_of(count));
+        say(answer, count == STACK_NOTHING ? "nothing" : count == STACK_ENDED ? "end" : gone_of(count));
         return;
     }
-    strcpy(answer, "text ");
+    say(answer, "text ");
     for (long at = 0; at < count; at++)
         snprintf(answer + 5 + 2 * at, 3, "%02x", text[at]);
 }
@@ -79,7 +81,7 @@ static void send_text(int handle, const char *digits, char *answer)
     static uint8_t text[TEXT];
     long count = stack_send(handle, text, bytes_of(digits, text));
     if (count < 0 && count != STACK_NOTHING)
-        strcpy(answer, gone_of(count));
+        say(answer, gone_of(count));
     else
         snprintf(answer, LINE, "ok %ld", count < 0 ? 0 : count);
 }
@@ -87,7 +89,7 @@ static void send_text(int handle, const char *digits, char *answer)
 static void handle_of(int handle, char *answer)
 {
     if (handle < 0)
-        strcpy(answer, "no");
+        say(answer, "no");
     else
         snprintf(answer, LINE, "ok %d", handle);
 }
@@ -98,7 +100,7 @@ static void connect_to(int count, char **words, char *answer)
     struct wishes wishes = wishes_of(count - 4, words + 4);
     sscanf(words[2], "%hhu.%hhu.%hhu.%hhu", to, to + 1, to + 2, to + 3);
     if (!wishes.is_known)
-        strcpy(answer, "unknown");
+        say(answer, "unknown");
     else
         handle_of(stack_connect((uint16_t)atoi(words[1]), to, (uint16_t)atoi(words[3]), &wishes), answer);
 }
@@ -120,31 +122,31 @@ static void call(int count, char **words, char *answer)
     const char *name = words[0];
     int first = count > 1 ? atoi(words[1]) : 0;
     struct wishes wishes = wishes_of(count > 2 ? count - 2 : 0, words + 2);
-    strcpy(answer, "ok");
-    if (!strcmp(name, "run"))
+    say(answer, "ok");
+    if (strcmp(name, "run") == 0)
         run((uint64_t)first);
-    else if (!strcmp(name, "listen"))
-        strcpy(answer, wishes.is_known && stack_listen((uint16_t)first, &wishes) ? "ok" : "unknown");
-    else if (!strcmp(name, "connect") && count >= 4)
+    else if (strcmp(name, "listen") == 0)
+        say(answer, wishes.is_known && stack_listen((uint16_t)first, &wishes) ? "ok" : "unknown");
+    else if (strcmp(name, "connect") == 0 && count >= 4)
         connect_to(count, words, answer);
-    else if (!strcmp(name, "accept"))
+    else if (strcmp(name, "accept") == 0)
         handle_of(stack_accept((uint16_t)first), answer);
-    else if (!strcmp(name, "send") && count == 3)
+    else if (strcmp(name, "send") == 0 && count == 3)
         send_text(first, words[2], answer);
-    else if (!strcmp(name, "receive") && count == 3)
+    else if (strcmp(name, "receive") == 0 && count == 3)
         receive(first, strtoul(words[2], NULL, 10), answer);
-    else if (!strcmp(name, "open"))
+    else if (strcmp(name, "open") == 0)
         snprintf(answer, LINE, "ok %d", stack_is_open(first));
-    else if (!strcmp(name, "close"))
+    else if (strcmp(name, "close") == 0)
         stack_close(first);
-    else if (!strcmp(name, "leave"))
+    else if (strcmp(name, "leave") == 0)
         stack_leave(first);
-    else if (!strcmp(name, "abort"))
+    else if (strcmp(name, "abort") == 0)
         stack_abort(first);
-    else if (!strcmp(name, "forget"))
+    else if (strcmp(name, "forget") == 0)
         stack_begin();
-    else if (strcmp(name, "wish") || !wishes.is_known || !stack_wish(first, &wishes))
-        strcpy(answer, "unknown");
+    else if (strcmp(name, "wish") != 0 || !wishes.is_known || !stack_wish(first, &wishes))
+        say(answer, "unknown");
 }
 
 /* Answers a line. 0 once there are no more. */
@@ -193,7 +195,7 @@ static int attach(const char *device, const char *path)
 
 int main(int count, char **words)
 {
-    if (count == 4 && !strcmp(words[1], "--tun")) {
+    if (count == 4 && strcmp(words[1], "--tun") == 0) {
         if (!attach(words[2], words[3]))
             return perror("child"), 2;
     } else if (count == 3) {

@@ -28,13 +28,13 @@ struct handle {
     tcpcore_end end;
     struct flow flow;
     void *block;
+    size_t waits;             /* bytes of `waiting` */
+    uint8_t *rest;            /* once its end is gone: what was unread */
+    size_t length;            /* of that */
+    uint32_t ending;          /* and how it ended */
+    int has_gone, gave_up;
     int is_used, has_left, closes;
     uint8_t waiting[WAITING]; /* what the user has sent, and flow_send hasn't taken yet; then comes the close, if `closes` */
-    size_t waits;
-    uint32_t ending;          /* once its end is gone: how it ended */
-    int has_gone, gave_up;
-    uint8_t *rest;            /* what was unread then */
-    size_t length;
 };
 
 static struct handle handles[HANDLES];
