@@ -4,6 +4,9 @@
 
 #include <limits.h>
 
+/* For so many milliseconds a half-open end makes way for no other, unless they are too many. */
+enum { GRACE = 1000 };
+
 int demux_init(struct demux *demux, const struct demux_config *config, struct table_slot *slots, uint32_t count)
 {
     size_t room = tcpcore_room(&config->end);
@@ -57,17 +60,22 @@ static void stray(struct demux *demux, tcpcore_addr src, const uint8_t *bytes, s
     demux->answered++;
 }
 
-/* Where there are too many half-open ends, or no slot is free, the oldest of them makes way (RFC 4987, 3.4). */
+/* Of too many half-open ends the oldest makes way (RFC 4987, 3.4). Where no slot is left one that only waits does, or a half-open one
+   whose client has had time to answer, or else the newest itself. */
 static void keep_limits(struct demux *demux, struct table_slot *newest)
 {
-    if (demux->table.half_open <= demux->config.backlog && table_free(&demux->table))
+    struct table *table = &demux->table;
+    int is_past_backlog = table->half_open.count > demux->config.backlog;
+    if (!is_past_backlog && table_free(table))
         return;
-    struct table_slot *oldest = table_oldest(&demux->table, newest);
-    if (oldest)
-        demux->counters.recycled++;
-    else
-        demux->counters.full++;
-    table_remove(&demux->table, oldest ? oldest : newest);
+    struct table_slot *waiting = is_past_backlog ? NULL : table_waiting(table);
+    struct table_slot *oldest = table_oldest(table, newest);
+    if (oldest && !is_past_backlog && newest->began - oldest->began < GRACE)
+        oldest = NULL;
+    demux->counters.shortened += waiting != NULL;
+    demux->counters.recycled += !waiting && oldest;
+    demux->counters.full += !waiting && !oldest;
+    table_remove(table, waiting ? waiting : oldest ? oldest : newest);
 }
 
 /* The block of a slot's end. */
@@ -161,6 +169,8 @@ static void turn(struct demux *demux, struct table_slot *slot, uint64_t now)
         reap(demux, slot);
         return;
     }
+    if (slot->flow.timers.phase == TCPCORE_PHASE_TIME_WAIT && status_of(slot).unread == 0)
+        table_wait(&demux->table, slot);
     int wait = flow_wait(&slot->flow, now);
     table_put(&demux->table, slot, wait < 0 ? TIMERS_NEVER : now + (uint64_t)wait);
 }

@@ -26,6 +26,7 @@ struct demux_counters {
     uint64_t opened;    /* ends made for a SYN */
     uint64_t accepted;  /* of them with the handshake done */
     uint64_t recycled;  /* half-open ends that made way for a newer one (RFC 4987, 3.4) */
+    uint64_t shortened; /* ends that left TIME-WAIT early, because a SYN wanted their slot */
     uint64_t full;      /* SYNs that were dropped: no slot */
     uint64_t strays;    /* resets for no end */
     uint64_t withheld;  /* strays that weren't answered: too many in this second */
@@ -62,8 +63,17 @@ struct demux {
     uint64_t second, answered; /* the second in which the last stray came, and resets in it */
 };
 
-/* Sets a table of `count` slots, at least 2; one of them is always free. Refused, with 0, where a number or the memory is
-   too small, or no end has this config's capacities. */
+/*
+ * Sets a table of `count` slots, at least 2; one of them is always free. Refused, with 0, where a number or the memory is
+ * too small, or no end has this config's capacities.
+ *
+ * A server that closes first has an end in TIME-WAIT for each client that it served, and each takes a slot. Where a SYN
+ * comes and no other slot is free, the end that has waited for the longest time goes, as in the kernels that
+ * bound their TIME-WAIT records: no new client is turned away for an old one's sake. Who wants each to wait for two MSL (RFC 9293,
+ * 3.4.2) gives slots for as many connections as open in that time. Where none waits, the oldest half-open end goes
+ * whose SYN came at least a second ago, since a client that is there has answered by then; else the SYN is dropped, and
+ * its client sends it again.
+ */
 int demux_init(struct demux *demux, const struct demux_config *config, struct table_slot *slots, uint32_t count);
 
 /*

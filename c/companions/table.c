@@ -8,7 +8,8 @@
 
 void table_init(struct table *table, struct table_slot *slots, uint32_t count, uint16_t port, const uint8_t secret[16])
 {
-    *table = (struct table){.slots = slots, .count = count, .port = port, .oldest = NONE, .newest = NONE, .first = NONE};
+    const struct table_list nobody = {.oldest = NONE, .newest = NONE};
+    *table = (struct table){.slots = slots, .count = count, .port = port, .half_open = nobody, .waiting = nobody, .first = NONE};
     memcpy(table->secret, secret, sizeof table->secret);
     for (uint32_t at = 0; at < count; at++) {
         memset(&slots[at], 0, sizeof slots[at]);
@@ -81,26 +82,27 @@ struct table_slot *table_free(const struct table *table)
     return table->free == NONE ? NULL : &table->slots[table->free];
 }
 
-/* A slot joins the half-open ones as the newest, or leaves them. */
-static void join_half_open(struct table *table, uint32_t at)
+/* A slot joins a list as the newest; `is_in` says of the slot that it is in it. It is in one list at most. */
+static void join(struct table *table, struct table_list *list, struct table_slot *slot, uint8_t *is_in)
 {
-    struct table_slot *slot = &table->slots[at];
-    slot->older = table->newest;
+    uint32_t at = (uint32_t)(slot - table->slots);
+    slot->older = list->newest;
     slot->newer = NONE;
-    *(slot->older == NONE ? &table->oldest : &table->slots[slot->older].newer) = at;
-    table->newest = at;
-    slot->is_half_open = 1;
-    table->half_open++;
+    *(slot->older == NONE ? &list->oldest : &table->slots[slot->older].newer) = at;
+    list->newest = at;
+    list->count++;
+    *is_in = 1;
 }
 
-static void leave_half_open(struct table *table, struct table_slot *slot)
+/* It leaves the list, if it is in it. */
+static void leave(struct table *table, struct table_list *list, struct table_slot *slot, uint8_t *is_in)
 {
-    if (!slot->is_half_open)
+    if (!*is_in)
         return;
-    *(slot->older == NONE ? &table->oldest : &table->slots[slot->older].newer) = slot->newer;
-    *(slot->newer == NONE ? &table->newest : &table->slots[slot->newer].older) = slot->older;
-    slot->is_half_open = 0;
-    table->half_open--;
+    *(slot->older == NONE ? &list->oldest : &table->slots[slot->older].newer) = slot->newer;
+    *(slot->newer == NONE ? &list->newest : &table->slots[slot->newer].older) = slot->older;
+    list->count--;
+    *is_in = 0;
 }
 
 void table_add(struct table *table, tcpcore_addr peer, uint16_t port, uint64_t now)
@@ -116,11 +118,20 @@ void table_add(struct table *table, tcpcore_addr peer, uint16_t port, uint64_t n
     slot->began = now;
     slot->user = 0;
     table->used++;
-    join_half_open(table, at);
+    join(table, &table->half_open, slot, &slot->is_half_open);
     table_wake(table, slot);
 }
 
-void table_accept(struct table *table, struct table_slot *slot) { leave_half_open(table, slot); }
+void table_accept(struct table *table, struct table_slot *slot)
+{
+    leave(table, &table->half_open, slot, &slot->is_half_open);
+}
+
+void table_wait(struct table *table, struct table_slot *slot)
+{
+    if (!slot->is_waiting)
+        join(table, &table->waiting, slot, &slot->is_waiting);
+}
 
 /* A slot that is ready stays in that list: who takes it sees that it isn't used. */
 void table_remove(struct table *table, struct table_slot *slot)
@@ -130,7 +141,8 @@ void table_remove(struct table *table, struct table_slot *slot)
         table->looked++;
     *link = slot->next;
     tcpcore_free(&slot->end);
-    leave_half_open(table, slot);
+    leave(table, &table->half_open, slot, &slot->is_half_open);
+    leave(table, &table->waiting, slot, &slot->is_waiting);
     table_put(table, slot, TIMERS_NEVER);
     table->used--;
     slot->is_used = 0;
@@ -140,11 +152,17 @@ void table_remove(struct table *table, struct table_slot *slot)
 
 struct table_slot *table_oldest(struct table *table, const struct table_slot *newest)
 {
-    uint32_t at = table->oldest;
+    uint32_t at = table->half_open.oldest;
     table->looked++;
     if (at != NONE && &table->slots[at] == newest)
         at = newest->newer;
     return at == NONE ? NULL : &table->slots[at];
+}
+
+struct table_slot *table_waiting(struct table *table)
+{
+    table->looked++;
+    return table->waiting.count == 0 ? NULL : &table->slots[table->waiting.oldest];
 }
 
 void table_wake(struct table *table, struct table_slot *slot)

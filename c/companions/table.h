@@ -18,27 +18,34 @@ struct table_slot {
     uint16_t port;          /* the peer's port */
     uint8_t is_used;        /* whether an end is in the slot */
     uint8_t is_half_open;   /* whether its handshake wasn't answered yet */
+    uint8_t is_waiting;     /* whether it is in TIME-WAIT and its user has read all, so that it does nothing but wait */
     uint8_t is_ready;       /* whether the next demux_turn looks at it, whatever the time is */
     uint64_t began;         /* when its SYN came */
     uint64_t due;           /* when demux_turn looks at it next, or TIMERS_NEVER */
     uint32_t bucket, next;  /* of the table: the first slot of this bucket, and the next one of this slot's */
-    uint32_t older, newer;  /* its neighbours among the half-open ones */
+    uint32_t older, newer;  /* its neighbours among the half-open ones, or among those that wait */
     uint32_t ready;         /* the next one that is ready */
     uint32_t place, heaped; /* its own place in the heap of deadlines, and the slot at the place of this slot's number */
     uintptr_t user;         /* the user's own, 0 at first */
 };
 
+/* Slots in the order in which they joined: how many, and the first and the last of them. */
+struct table_list {
+    uint32_t count, oldest, newest;
+};
+
 struct table {
     struct table_slot *slots;
-    uint32_t count;           /* slots */
-    uint32_t used, half_open; /* ends, and half-open ones of them */
-    uint32_t free;            /* the first free slot */
-    uint32_t oldest, newest;  /* of the half-open ones */
-    uint32_t first, last;     /* of those that are ready, in the order in which they became so */
-    uint32_t ready, timed;    /* how many are ready, and how many have a deadline */
-    uint64_t looked;          /* slots that limits, deadlines and turns have looked at so far */
-    uint8_t secret[16];       /* random */
-    uint16_t port;            /* its own port */
+    uint32_t count;              /* slots */
+    uint32_t used;               /* ends */
+    uint32_t free;               /* the first free slot */
+    struct table_list half_open; /* ends whose handshake wasn't answered yet */
+    struct table_list waiting;   /* ends that do nothing but wait in TIME-WAIT */
+    uint32_t first, last;        /* of those that are ready, in the order in which they became so */
+    uint32_t ready, timed;       /* how many are ready, and how many have a deadline */
+    uint64_t looked;             /* slots that limits, deadlines and turns have looked at so far */
+    uint8_t secret[16];          /* random */
+    uint16_t port;               /* its own port */
 };
 
 /* Sets a table of `count` slots, 2 to UINT32_MAX - 1, all free. `port` is its own port. */
@@ -59,11 +66,17 @@ void table_add(struct table *table, tcpcore_addr peer, uint16_t port, uint64_t n
 /* The handshake of the slot's end is done. */
 void table_accept(struct table *table, struct table_slot *slot);
 
+/* The slot's end, whose handshake is done, does nothing from now on but wait in TIME-WAIT. */
+void table_wait(struct table *table, struct table_slot *slot);
+
 /* Frees the slot's end, and the slot. */
 void table_remove(struct table *table, struct table_slot *slot);
 
 /* The oldest half-open one but this slot, or NULL. */
 struct table_slot *table_oldest(struct table *table, const struct table_slot *newest);
+
+/* The one that has been waiting in TIME-WAIT for the longest time, or NULL. */
+struct table_slot *table_waiting(struct table *table);
 
 /* Makes a slot ready, behind all that are. */
 void table_wake(struct table *table, struct table_slot *slot);

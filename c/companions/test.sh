@@ -12,7 +12,7 @@ library=$(realpath -m "${1:-../../crates/tcp_c/out/libtcp_c.a}")
 warnings="-std=c11 -g -Wall -Wextra -Wpedantic -Werror"
 stricter="-Wcast-qual -Wconversion -Wshadow -Wstrict-prototypes"
 sanitizers="-O1 -fsanitize=address,undefined -fno-sanitize-recover=all"
-tests="timers congestion cubic answers flow recovery resets losses fuzz ip table demux faults pairs trains wheel"
+tests="timers congestion cubic answers flow recovery resets losses fuzz ip table demux crowd faults pairs trains wheel"
 passed=0
 
 pass() { passed=$((passed + 1)); }

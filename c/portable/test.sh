@@ -115,7 +115,8 @@ stops() {
         gcc -std=gnu11 -Wall -Wextra -Werror -O1 -I"$layer" tests/stops.c out/stops.o -o "out/stops$words"
     done
     out/stops || fail "an access wasn't stopped"
-    if bash -c 'ulimit -c 0; out/stops-DTCPCORE_UNCHECKED' >out/found 2>&1; then fail "nothing is found where no access is tested"; fi
+    # Where it crashes, the inner shell says so, into the file: this script's output shows nothing that looks like a failure.
+    if bash -c 'ulimit -c 0; out/stops-DTCPCORE_UNCHECKED; exit' >out/found 2>&1; then fail "nothing is found where no access is tested"; fi
     pass
 }
 

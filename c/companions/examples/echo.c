@@ -95,7 +95,8 @@ static void tell(const struct demux *demux, size_t grown)
     const struct demux_counters *of = &demux->counters;
     const struct { const char *name; uint64_t value; } rows[] = {
         {"arrived", of->arrived}, {"malformed", of->malformed}, {"emitted", of->emitted}, {"resent", of->resent},
-        {"accepted", of->accepted}, {"recycled", of->recycled}, {"full", of->full}, {"strays", of->strays}, {"unsaid", of->unsaid},
+        {"accepted", of->accepted}, {"recycled", of->recycled}, {"shortened", of->shortened}, {"full", of->full},
+        {"strays", of->strays}, {"unsaid", of->unsaid},
         {"orderly", of->orderly}, {"gave_up", of->gave_up}, {"used", demux->table.used}, {"memory", grown}};
     for (size_t at = 0; at < sizeof rows / sizeof *rows; at++)
         printf("%s %llu\n", rows[at].name, (unsigned long long)rows[at].value);

@@ -309,7 +309,7 @@ static uint64_t server(void)
             demux_turn(&demux, now);
         if (draw(4) == 0)
             now += draw(2000);
-        CHECK(demux.table.used < SLOTS && demux.table.half_open <= 3, 1);
+        CHECK(demux.table.used < SLOTS && demux.table.half_open.count <= 3, 1);
         CHECK(demux_wait(&demux, now) >= -1, 1);
     }
     demux_free(&demux);
