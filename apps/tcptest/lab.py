@@ -288,7 +288,7 @@ class Peer:
         found = None
         while self.lab.now() < end and (found is None or (isinstance(found, bytes) and found)):
             found = self.got(0.05)
-        need(isinstance(found, Gone), f"the user is told {found!r}")
+        need(isinstance(found, Gone), f"the user is told {heard(found)}")
         return found
 
     def quit(self):
@@ -305,6 +305,11 @@ class Peer:
             at = ahead(one.seq, self.irs) - 1
             whole.update({at + place: byte for place, byte in enumerate(one.text)})
         return whole
+
+
+def heard(answer):
+    """What a user is told, in words."""
+    return {None: "nothing", b"": "the end of the stream"}.get(answer) or repr(answer)
 
 
 def lasts(segments):

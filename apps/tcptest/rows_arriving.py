@@ -1,7 +1,7 @@
 """Rows: what becomes of segments that arrive in a connection (RFC 9293, 3.10.7.4; RFC 5961, 3 to 7; RFC 2018, 4; RFC 5681, 4.2)."""
 
 from broken import Answers, Fault, Hears, Says, Told, copied, drops, has_text, is_alone, is_reset, is_syn, kills, sets
-from lab import NotSeen, need
+from lab import NotSeen, heard, need
 from rows import MAY, SHOULD, row
 from segments import ACK, BLOCKS, FIN, PERMITS, PSH, RST, SYN, URG, ahead, mss
 
@@ -330,7 +330,7 @@ def fin_taken(lab):
     peer.answered()
     peer.is_told(b"last")
     found = peer.got()
-    need(found == b"", f"behind the text the user is told {found!r}")
+    need(found == b"", f"behind the text the user is told {heard(found)}")
     return "acknowledged; 4 bytes and then the end"
 
 

@@ -13,6 +13,8 @@ MANY, ALL_HOSTS, NETWORK_WIDE = bytes([224, 0, 0, 1]), bytes([255, 255, 255, 255
      lambda: Says(sets(seq=lambda _: 1000), is_syn))
 def initial_numbers(lab):
     found = []
+    # Some count from the machine's start.
+    lab.wait(3 if lab.stack.has_clock else 0)
     for _ in range(5):
         peer = lab.peer()
         lab.call("listen", peer.port)

@@ -129,26 +129,32 @@ def fast_retransmit(lab):
 @row("", "RFC 2018, 5.1", "what a block has is not sent again in front of what is missing", lambda: AllAgain(), SHOULD)
 def blocks_heeded(lab):
     peer = sender(lab)
-    before = blocked(peer)
-    found = [one for one in peer.all(0.08) if is_text(one)]
-    again = {ahead(one.seq, before[0].seq) for one in found if ahead(one.seq, lasts(before)) < 0}
-    need(0 in again, f"the first isn't sent again: {sorted(again)}")
-    need(again == {0}, f"sent again are {sorted(again)}")
+    before, again = blocked(peer)
+    again += [(one.seq, True) for one in peer.all(0.08) if is_text(one)]
+    numbers = {seq for seq, _ in again}
+    had = sorted(ahead(seq, before[0].seq) for seq, is_had in again if is_had and seq in {one.seq for one in before[1:]})
+    need(before[0].seq in numbers, "the first isn't sent again")
+    need(not had, f"the first begins at 0; of what a block had those that begin at {had} are sent again")
     return f"of {len(before)} segments the first alone"
 
 
 def blocked(peer):
-    """Five segments in flight, of which all but the first are reported by three acknowledgements."""
+    """Five segments in flight, of which all but the first are reported, one by one. Answers them, and the numbers of what came meanwhile,
+    each with whether a block had it by then."""
     peer.open(options=mss(1000) + PERMITS)
     if peer.answer.option(4) is None:
         raise NotSeen("the stack doesn't agree on blocks")
     warm(peer)
-    before = flight(peer, 5000)
+    before, had, again = flight(peer, 5000), set(), []
     if len(before) < 4:
         raise NotSeen(f"{len(before)} segments in flight")
     for one in before[1:]:
+        had.add(one.seq)
         peer.acknowledge(options=blocks((before[1].seq, one.end())))
-    return before
+        peer.lab.read()
+        again += [(found.seq, found.seq in had) for found in peer.arrived if is_text(found)]
+        peer.arrived.clear()
+    return before, again
 
 
 class AllAgain(Bursts):
@@ -158,7 +164,7 @@ class AllAgain(Bursts):
 @row("", "RFC 2018, 8", "what a block had is sent again where the peer has it no more", lambda: Trusts())
 def reneging(lab):
     peer = sender(lab)
-    before = blocked(peer)
+    before, _ = blocked(peer)
     peer.all(0.05)
     peer.acknowledge(before[0])
     found = peer.until(lambda one: is_text(one) and one.seq == before[1].seq, 4)

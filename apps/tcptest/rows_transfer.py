@@ -160,11 +160,11 @@ def transfer_clean(lab):
     return transferred(lab, 200_000, CLEAN, False)
 
 
-@row("", "3.4, 3.8", "so over a wire that loses, doubles, delays, reorders and damages", lambda: Hears(drops, has_text, after=20))
+@row("", "3.4, 3.8", "the same over a wire that loses, doubles, delays, reorders and damages", lambda: Hears(drops, has_text, after=20))
 def transfer_harmed(lab):
     return transferred(lab, 60_000, HARM, False)
 
 
-@row("", "3.4, 3.8", "so where the stack opens the connection", lambda: Says(drops, has_fin))
+@row("", "3.4, 3.8", "the same where the stack opens the connection", lambda: Says(drops, has_fin))
 def transfer_opened(lab):
     return transferred(lab, 60_000, HARM, True)

@@ -89,7 +89,7 @@ static void send_text(int handle, const char *digits, char *answer)
 static void handle_of(int handle, char *answer)
 {
     if (handle < 0)
-        say(answer, "no");
+        say(answer, handle == STACK_UNKNOWN ? "unknown" : "no");
     else
         snprintf(answer, LINE, "ok %d", handle);
 }

@@ -12,8 +12,9 @@
 #include <stddef.h>
 #include <stdint.h>
 
-/* What stack_receive and stack_send answer in place of a count of bytes. */
-enum { STACK_NOTHING = -1, STACK_ENDED = -2, STACK_RESET = -3, STACK_TIMED_OUT = -4 };
+/* What stack_receive and stack_send answer in place of a count of bytes, and stack_connect in place of a handle where it has no such
+   call. */
+enum { STACK_UNKNOWN = -5, STACK_NOTHING = -1, STACK_ENDED = -2, STACK_RESET = -3, STACK_TIMED_OUT = -4 };
 
 /* The most connections of one run, by their handles, and the most listeners. */
 enum { HANDLES = 64, LISTENERS = 8 };

@@ -114,6 +114,8 @@ int stack_connect(uint16_t port, const uint8_t address[4], uint16_t to, const st
     struct in_addr guest, here = {htonl(INADDR_LOOPBACK)};
     int at = FORWARDED + ++forwarded;
     memcpy(&guest, address, 4);
+    if (guest.s_addr != htonl(0x0a090002))
+        return STACK_UNKNOWN;
     if (slirp_add_hostfwd(slirp, 0, here, at, guest, to) < 0)
         return -1;
     return sockets_connect(port, (uint16_t)at, wishes);
