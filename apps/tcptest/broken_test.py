@@ -38,6 +38,8 @@ def main():
         stack = stack_of(name)
         for row in list(left.values()):
             is_shown, found = shown(stack, row)
+            if not is_shown and not stack.has_clock:
+                is_shown, found = shown(stack, row)  # a loaded machine may have been late
             if is_shown is None:
                 continue
             del left[row.name]

@@ -8,8 +8,7 @@ import pathlib
 import sys
 import tempfile
 
-from packetdrill import export, run_script
-from rows import ROWS
+from packetdrill import export_all, run_script
 from tcptest import stack_of
 
 # What no script can have: another address; a user's call that packetdrill has no word for; minutes, which pass in steps of a second.
@@ -18,25 +17,22 @@ LEFT = {"gives_up", "gives_up_syn", "greatest_timeout", "no_open_to_many", "no_s
 CALLS = ("keep_alive", "abort", "leaves_unread")
 
 
+def is_whole(row, text):
+    """Whether a script has all of its row."""
+    is_left = row.name in LEFT or row.name.startswith(("transfer", *CALLS))
+    return not is_left and "  // with " not in text and "connections; this is the first" not in text
+
+
 def main():
     stack, count, failed = stack_of("ours"), 0, 0
     with tempfile.TemporaryDirectory() as name:
-        for row in ROWS:
-            if row.name in LEFT or row.name.startswith(("transfer", *CALLS)):
-                continue
-            try:
-                text = export(stack, row)
-            except Exception:  # a row that isn't met has no whole script
-                continue
-            if "  // with " in text or "connections; this is the first" in text:
-                continue
-            path = pathlib.Path(name) / f"{row.name}.pkt"
-            path.write_text(text)
-            count += 1
-            is_same, said, _ = run_script(stack, path)
-            if not is_same:
-                failed += 1
-                print(f"FAILED: {row.name}: {said}")
+        for row, path in list(export_all(stack, pathlib.Path(name))):
+            if is_whole(row, path.read_text()):
+                is_same, said, _ = run_script(stack, path)
+                count += 1
+                failed += not is_same
+                if not is_same:
+                    print(f"FAILED: {row.name}: {said}")
     print(f"{count} scripts, {failed} failed")
     return int(failed > 0 or count < 50)
 

@@ -3,6 +3,7 @@
 
     packetdrill.py --stack linux|ours|lwip|gvisor|slirp SCRIPT.pkt ..         each script, and what it differs in
     packetdrill.py --stack ours --export ROW                                  a row as a script, as it went with this stack
+    packetdrill.py --stack ours --export-all FOLDER                           each row that is met, as ROW.pkt in this folder
 
 Read are times (0.1, +0.1, *, a~b, a...b), --tolerance_usecs, calls (socket, setsockopt, bind, listen, accept, connect, read, recv, write,
 send, shutdown, close) and segments (flags S F R P U E W and ., seq:end(length), ack, win, urg, and options mss, nop, eol, sackOK, wscale,
@@ -223,16 +224,34 @@ def export(stack, row):
     return text
 
 
+def export_all(stack, folder):
+    """Writes each row that is met as a script, and answers the rows with their files."""
+    folder.mkdir(parents=True, exist_ok=True)
+    for row in chosen(""):
+        try:
+            text = export(stack, row)
+        except (NotMet, NotSeen):
+            continue
+        path = folder / f"{row.name}.pkt"
+        path.write_text(text)
+        yield row, path
+
+
 def main():
     parser = argparse.ArgumentParser(description=__doc__, formatter_class=argparse.RawDescriptionHelpFormatter)
     parser.add_argument("--stack", required=True)
     parser.add_argument("--export", metavar="ROW")
+    parser.add_argument("--export-all", type=pathlib.Path, metavar="FOLDER")
     parser.add_argument("--pcap", type=pathlib.Path, help="a capture of each script, SCRIPT.pcap in this folder")
     parser.add_argument("scripts", nargs="*", type=pathlib.Path)
     words = parser.parse_args()
     stack, failed = stack_of(words.stack), 0
     if words.export:
         print(export(stack, next(row for row in chosen(words.export) if row.name == words.export)), end="")
+        return 0
+    if words.export_all:
+        count = sum(1 for _ in export_all(stack, words.export_all))
+        print(f"{count} scripts in {words.export_all}")
         return 0
     for path in words.scripts:
         prepared(stack, path)

@@ -37,7 +37,7 @@ def total(segments):
 def backs_off(lab):
     peer = sender(lab)
     peer.open()
-    found, end = flight(peer, 5), lab.now() + (40 if lab.stack.has_clock else 3.2)
+    found, end = flight(peer, 5), lab.now() + (40 if lab.stack.has_clock else 2)
     while (one := peer.take(max(0, end - lab.now()))) is not None:
         need(one.text == b"wwwww" and one.seq == found[0].seq, f"what comes again is {peer.said(one)}")
         found.append(one)
@@ -324,12 +324,13 @@ def old_within_again(lab):
 @row("SHLD-17", "RFC 7323, 2.4 (5)", "behind a smaller window only the first segment is sent again past its edge", lambda: Bursts(), SHOULD)
 def edge_kept(lab):
     peer, _ = shrunk(lab, 300)
-    first = past_edge(peer, 300, 2.4)
+    span = 2.4 if lab.stack.has_clock else 1.2
+    first = past_edge(peer, 300, span)
     # The peer takes what has room, and its window is shut.
     peer.rcv = (peer.rcv + 300) % SPACE
     peer.window = 0
     peer.acknowledge()
-    second = past_edge(peer, 0, 2.4)
+    second = past_edge(peer, 0, span)
     return f"past an edge at 300: {first or 'nothing'}; at 0: {second or 'nothing'}"
 
 
