@@ -263,7 +263,11 @@ class Child(Calls):
         if self.child is not None:
             self.wire.close()
             self.control.close()
-            self.child.wait(10)
+            try:
+                self.child.wait(5)
+            except subprocess.TimeoutExpired:  # a stack that hangs has no verdict, and doesn't hold up the next row
+                self.child.kill()
+                self.child.wait()
             self.child = None
 
     def ask(self, *words):
