@@ -232,6 +232,19 @@ def blocks_permitted(lab):
     return peer.said(found)
 
 
+@row("", "RFC 7323, 2.4 (1)", "all that the told window has room for is taken", lambda: Hears(drops, has_text, after=20))
+def window_honoured(lab):
+    peer = lab.peer()
+    peer.open()
+    size = min(peer.answer.window, 60000)
+    for at in range(0, size, 1000):
+        peer.text(b"h" * min(1000, size - at), at, flags=ACK)
+    peer.went_on(size)
+    need(peer.until(lambda one: one.ack == peer.nxt, 2), f"of {size} bytes that were told not all are acknowledged")
+    peer.is_told(b"h" * size)
+    return f"{size} bytes in the window of the SYN,ACK"
+
+
 @row("MUST-40", "3.8.6.3", "an acknowledgement waits for less than half a second", lambda: SaysLate(is_alone, 0.6))
 def delayed_less(lab):
     peer, spans = lab.peer(), []

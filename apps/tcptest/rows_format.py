@@ -126,6 +126,15 @@ def mss_sent(lab):
     return f"SYN {told[0]}, SYN,ACK {told[1]}"
 
 
+@row("MUST-67", "3.7.1", "the MSS that is told is what a packet of the link has room for, and no more", lambda: Says(sets(options=mss(8960)), is_syn))
+def mss_of_link(lab):
+    peer = lab.peer()
+    peer.open()
+    told = int.from_bytes(peer.answer.option(MSS) or b"", "big")
+    need(0 < told <= 1460, f"{told} where the link's packets have 1500 bytes")
+    return f"{told} where the link's packets have 1500 bytes"
+
+
 @row("MUST-15", "3.7.1", "where no MSS option comes, 536 is assumed", lambda: Hears(GREATER_MSS, is_syn))
 def mss_default(lab):
     peer = lab.peer()
@@ -166,6 +175,23 @@ def push_at_last(lab):
     last = max(found, key=lambda one: ahead(one.seq, peer.irs))
     need(last.flags & PSH, f"the last one is {peer.said(last)}")
     return f"PSH in {sum(bool(one.flags & PSH) for one in found)} of {len(found)} segments, and in the last one"
+
+
+@row("SHLD-27", "3.9.1.2", "of several sends that go out together the last segment alone has PSH",
+     lambda: Says(sets(flags=lambda old: old | PSH), has_text), SHOULD)
+def push_collapsed(lab):
+    peer = lab.peer()
+    peer.open(options=mss(500), window=0)
+    for _ in range(3):
+        peer.send(b"x" * 400)
+    peer.until(lambda one: True, 0.3)
+    peer.window = 5000
+    peer.put(ACK)
+    found = {one.seq: one for one in peer.all(0.1) if is_text(one) and len(one.text) > 1}
+    need(found, "nothing is sent once the window opens")
+    pushed = [bool(one.flags & PSH) for _, one in sorted(found.items(), key=lambda pair: ahead(pair[0], peer.irs))]
+    need(sum(pushed) <= 1, f"PSH in {sum(pushed)} of {len(pushed)} segments")
+    return f"three sends in {len(pushed)} segments, PSH in {sum(pushed)}"
 
 
 @row("MUST-60", "3.9.1.2", "what a user sends doesn't wait for a push", lambda: Says(drops, has_text))

@@ -36,7 +36,21 @@ at_device() {
     until grep -q ready "$work/ready"; do sleep 0.1; done
     ip link set tcptest1 up
     ./tcptest.py --stack tun:tcptest1 --control "$work/calls" --only "MUST-2,MUST-3,half_close,abort_resets,transfer_harmed"
-    kill "$program"
+    # It ends with the tester.
+    wait "$program"
+}
+
+# A stack whose program ends at once has no verdict, and that is a failure.
+ended() {
+    python3 - <<'PYTHON'
+import telling
+from stacks import Child
+from tcptest import chosen, run_row
+rows = chosen("checksum_sent,half_close")
+found = [run_row(Child("no stack", "/bin/false"), row) for row in rows]
+assert len(found) == 2 and all(one.verdict == telling.BROKEN for one in found), found
+print(telling.counts(found))
+PYTHON
 }
 
 # JSON and XML have the row, and its verdict.
@@ -75,6 +89,7 @@ holds "scripts on our end" ./packetdrill.py --stack ours pkt/*.pkt
 holds "scripts on Linux" ./packetdrill.py --stack linux pkt/*.pkt
 holds "rows as scripts" ./export_test.py
 holds "formats" formats
+holds "a stack that has ended" ended
 export -f at_device
 export work
 holds "at a device" unshare --net bash -euc at_device
