@@ -44,6 +44,8 @@ def stack_of(name, control=None):
     building.judge()
     if name == "linux":
         return Linux()
+    if name.startswith("tun:") and control is None:
+        raise building.Lacks("tun:DEVICE wants --control, the socket at which the stack answers user calls")
     if name.startswith("tun:"):
         return Device(name[4:], control)
     if name not in TITLES:
