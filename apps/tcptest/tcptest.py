@@ -8,8 +8,8 @@
 A verdict comes from what was seen on the wire: met, not met, SHOULD not met, MAY not taken, or not seen, where the stack has no call for
 it, or where it takes minutes of a clock that isn't the tester's. Each connection's log goes through the proved judge. The status is 0
 where every MUST that was seen is met and nobody was accused, 1 where not, and 2 where nothing could be tested.
-It wants root, /dev/net/tun, network namespaces, a C compiler and Debian's iproute2. `tun:DEVICE` is a stack that runs already; --control
-names the socket at which it answers user calls.
+It wants a C compiler; for linux, slirp and tun also root, network namespaces and Debian's iproute2, and for linux /dev/net/tun. `tun:DEVICE`
+is a stack that runs already; --control names the socket at which it answers user calls.
 """
 
 import argparse
