@@ -23,7 +23,7 @@ PAGE, LIST = TOP / "docs/CONFORMANCE.md", TOP / "docs/EMBEDDING.md"
 NUMBER = re.compile(r"\b(MUST|SHLD|MAY|REC)-(\d+)(?:\s+to\s+(\d+))?")
 RULE = re.compile(r"RFC (7323|2018), ([\d.]+), rule (\d+)")
 SIGNS = {telling.MET: "met", telling.NOT_MET: "**not met**", telling.SHOULD_NOT: "SHOULD: no", telling.MAY_NOT: "MAY: no", telling.NOT_SEEN: "-"}
-ALLOWED = {"permitted", "application"}
+ALLOWED, CALLERS = {"permitted", "application"}, "caller's, "
 HEADS = {"linux": "Linux", "ours": "Boqtilen", "lwip": "lwIP", "gvisor": "gVisor", "slirp": "libslirp"}
 
 
@@ -69,8 +69,10 @@ def state(number, shown, findings, left_out):
         return "may be left out" if shown == "permitted" else "for applications", True
     if wanting:
         return f"not met by {', '.join(wanting)}, and not named", False
-    if is_cited(shown):
-        return "shown by " + shown.partition(": ")[0], True
+    cited = shown.removeprefix(CALLERS)
+    if is_cited(cited):
+        path = cited.partition(": ")[0]
+        return f"the caller's, as {path} says" if shown != cited else f"shown by {path}", True
     return "neither met, nor shown, nor named" + (f" ({shown})" if shown else ""), False
 
 
@@ -160,6 +162,12 @@ def checked():
         if cell != sign(findings[row.name]):
             wrong += 1
             print(f"conformance: {row.name}: the page has {cell}, and the run {findings[row.name].verdict}")
+    left_out = named()
+    for number, asked, shown in requirements():
+        wanted = [number, asked, state(number, shown, findings, left_out)[0]]
+        if wanted not in rows:
+            wrong += 1
+            print(f"conformance: the page has no line {wanted}")
     print(f"conformance: our column has {len(ROWS)} rows, {wrong} wrong")
     return wrong
 
