@@ -27,8 +27,9 @@ static int enter(const struct tun_config *config)
     char name[64];
     int net = open(config->space, O_RDONLY | O_CLOEXEC);
     snprintf(name, sizeof name, "/proc/%d/ns/user", (int)config->pid);
-    int user = config->pid && geteuid() != 0 ? open(name, O_RDONLY | O_CLOEXEC) : -1;
-    if (net < 0 || (user >= 0 && setns(user, CLONE_NEWUSER) != 0) || setns(net, CLONE_NEWNET) != 0)
+    int enters = config->users || (config->pid && geteuid() != 0);
+    int user = enters ? open(config->users ? config->users : name, O_RDONLY | O_CLOEXEC) : -1;
+    if (net < 0 || (config->users && user < 0) || (user >= 0 && setns(user, CLONE_NEWUSER) != 0) || setns(net, CLONE_NEWNET) != 0)
         return fails(config->space);
     return 0;
 }

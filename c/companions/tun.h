@@ -13,7 +13,8 @@ enum { TUN_HEADER = 10 };
 
 struct tun_config {
     const char *space;  /* the file of the namespace, as /proc/PID/ns/net */
-    pid_t pid;          /* the process whose user namespace is entered first, or 0 */
+    const char *users;  /* the file of the user namespace that is entered first, or NULL */
+    pid_t pid;          /* where that is NULL the process whose user namespace is entered first, unless by root; or 0 */
     const char *name;   /* of the device */
     uint32_t addr;      /* the namespace's address, its highest byte first in the number */
     uint32_t prefix;    /* bits of its network's number */
