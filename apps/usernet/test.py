@@ -231,7 +231,7 @@ def counted_again(place):
 
 def many(place, at_once, in_turn):
     """So many connections at once and then in turn: memory, descriptors and the time of one stay level."""
-    descriptors, held = place.descriptors(), place.counters()["held"]
+    descriptors, held = place.descriptors_of_connections(), place.counters()["held"]
     place.client(sys.executable, __file__, "--many", GATEWAY, str(at_once), "0")
     need("most at once", place.counters()["most"] >= at_once, True)
     place.until(lambda: place.counters()["now"] == 0, 30)
@@ -241,7 +241,7 @@ def many(place, at_once, in_turn):
         spent.append(place.processor_seconds())
     place.until(lambda: place.counters()["now"] == 0, 30)
     need("later ones take as long", spent[2] - spent[1] <= 2 * (spent[1] - spent[0]), True)
-    need("descriptors left", place.descriptors(), descriptors)
+    need("descriptors left", place.descriptors_of_connections(), descriptors)
     need("less than 16 KiB left", place.counters()["held"] < held + MIB // 64, True)
     need("resident memory grew by less than 4 MiB", place.resident() < resident + 4 * MIB, True)
 
@@ -274,11 +274,11 @@ def killed_program(place):
 
 def flows_go(place):
     """Questions to the name server from 300 ports: their sockets are closed some ten seconds later."""
-    descriptors = place.descriptors() - place.counters()["flows_now"]
+    descriptors = place.descriptors_of_connections()
     place.client(sys.executable, __file__, "--questions", NAMESERVER, "300")
     need("flows", place.counters()["flows_now"] >= 250, True)  # a port may be drawn again
     place.until(lambda: place.counters()["flows_now"] < 250, 30)
-    need("descriptors", place.descriptors() - place.counters()["flows_now"], descriptors)
+    need("descriptors", place.descriptors_of_connections(), descriptors)
 
 
 def question(name):

@@ -324,6 +324,13 @@ LogLevel ERROR
     def descriptors(self):
         return len(os.listdir(f"/proc/{self.program.pid}/fd"))
 
+    def descriptors_of_connections(self):
+        """Those that aren't of flows, which go in their own time. A flow that goes while both are counted makes the first count wrong."""
+        while True:
+            before, descriptors = self.counters()["flows_now"], self.descriptors()
+            if self.counters()["flows_now"] == before:
+                return descriptors - before
+
     def processor_seconds(self):
         """The processor time that the program has had."""
         return int(pathlib.Path(f"/proc/{self.program.pid}/schedstat").read_text().split()[0]) / 1e9
