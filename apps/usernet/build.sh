@@ -5,7 +5,7 @@ set -euo pipefail
 cd "$(dirname "$0")"
 library=$(realpath "${1:-../../crates/tcp_c/out/libtcp_c.a}")
 shift || true
-companions=$(printf ' ../../c/companions/%s.c' answers faults icmp ip pairs table timers trains tun udp wheel)
+companions=$(printf ' ../../c/companions/%s.c' answers ethernet faults icmp ip pairs table timers trains tun udp wheel)
 flags="-std=c11 -O2 -g -Wall -Wextra -Wpedantic -Wconversion -Wshadow -Wcast-qual -Werror -I../../c -I../../c/tcpcore"
 mkdir -p out
 ${CC:-gcc} $flags "$@" -pthread usernet.c words.c loop.c conn.c host.c relays.c carry.c limits.c $companions ../../c/tcpcore/tcpcore.c "$library" \

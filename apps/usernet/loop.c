@@ -5,6 +5,7 @@
 #include "companions/segment.h"
 
 #include <errno.h>
+#include <linux/virtio_net.h>
 #include <stdio.h>
 #include <string.h>
 #include <sys/epoll.h>
@@ -35,6 +36,42 @@ static void to_device(const void *packet, size_t length, void *context)
     count(net, EMITTED, write(net->device, packet, length) > 0); /* what it can't take is lost, and sent again */
 }
 
+/* The gateway's address on Ethernet, and the name server's: one of a local administration (IEEE 802). */
+static const struct ethernet_addr GATEWAY = {{0x52, 0x55, 10, 0, 2, 2}};
+
+/* Puts an Ethernet header between the device's header and the packet, for which there is room before both. */
+static uint8_t *with_ethernet(const struct usernet *net, uint8_t *frame)
+{
+    struct virtio_net_hdr front;
+    memcpy(&front, frame, TUN_HEADER);
+    if (front.flags & VIRTIO_NET_HDR_F_NEEDS_CSUM)
+        front.hdr_len = (uint16_t)(front.hdr_len + ETHERNET_HEADER), front.csum_start = (uint16_t)(front.csum_start + ETHERNET_HEADER);
+    frame -= ETHERNET_HEADER;
+    memcpy(frame, &front, TUN_HEADER);
+    ethernet_write(frame + TUN_HEADER, net->host, GATEWAY, ETHERNET_IPV4);
+    return frame;
+}
+
+/* A packet behind the device's header goes to the device, which may have none. */
+static void pass_down(struct usernet *net, uint8_t *frame, size_t length)
+{
+    size_t front = net->offloads ? 0 : TUN_HEADER;
+    if (net->is_tap)
+        frame = with_ethernet(net, frame), length += ETHERNET_HEADER;
+    faults_pass(&net->down, frame + front, length - front, to_device, net);
+}
+
+/* Who asks for the gateway's Ethernet address, or for the name server's, is told. */
+static void answer_arp(struct usernet *net, const uint8_t *frame, size_t length)
+{
+    uint8_t answer[TUN_HEADER + ETHERNET_ANSWER] = {0}, *at = answer + TUN_HEADER;
+    size_t count = ethernet_answer(at, frame, length, GATEWAY, net->gateway);
+    if (count == 0)
+        count = ethernet_answer(at, frame, length, GATEWAY, net->resolver);
+    if (count > 0)
+        to_device(net->offloads ? answer : at, (net->offloads ? TUN_HEADER : 0) + count, net);
+}
+
 void send_segment(struct usernet *net, size_t length, tcpcore_addr from, tcpcore_addr to)
 {
     send_packet(net, length, from, to, IP_TCP);
@@ -43,15 +80,15 @@ void send_segment(struct usernet *net, size_t length, tcpcore_addr from, tcpcore
 /* Nothing of it is left to the device, whose header is all zero where there is one. */
 void send_packet(struct usernet *net, size_t length, tcpcore_addr from, tcpcore_addr to, uint8_t protocol)
 {
-    size_t front = net->offloads ? 0 : TUN_HEADER;
-    memset(net->packet, 0, TUN_HEADER);
-    length = TUN_HEADER + ip_write_any(net->packet + TUN_HEADER, from, to, length, protocol);
-    faults_pass(&net->down, net->packet + front, length - front, to_device, net);
+    uint8_t *frame = net->packet + ETHERNET_HEADER;
+    memset(frame, 0, TUN_HEADER);
+    pass_down(net, frame, TUN_HEADER + ip_write_any(frame + TUN_HEADER, from, to, length, protocol));
 }
 
 void send_train(struct usernet *net, tcpcore_addr from, const struct tcpcore_train *train)
 {
-    faults_pass(&net->down, net->packet, trains_write(net->packet, from, train), to_device, net);
+    uint8_t *frame = net->packet + ETHERNET_HEADER;
+    pass_down(net, frame, trains_write(frame, from, train));
 }
 
 /* What decides which thread has a packet: its addresses and ports, or of an echo its identifier. */
@@ -74,16 +111,24 @@ static void take_packet(struct usernet *net, const struct ip_packet *packet, uin
 }
 
 /* A frame of the device: a packet of this thread's connections and relays, or of another one's, which gets the frame. */
-static void from_device(const void *frame, size_t length, void *context)
+static void from_device(const void *frame, size_t all, void *context)
 {
     struct usernet *net = context;
     const uint8_t *bytes = frame;
+    size_t length = all;
     struct ip_net to = {.prefix = 32};
     struct ip_packet found;
     uint8_t protocol;
     int vouched = 0;
     if (net->offloads)
         bytes = trains_read(frame, length, &length, &vouched);
+    if (bytes && net->is_tap) {
+        if (length < ETHERNET_HEADER || ethernet_type(bytes) != ETHERNET_IPV4) {
+            answer_arp(net, bytes, length);
+            return;
+        }
+        bytes += ETHERNET_HEADER, length -= ETHERNET_HEADER;
+    }
     if (!bytes || length < IP_HEADER)
         return;
     memcpy(&to.addr, bytes + 16, sizeof to.addr);
@@ -98,8 +143,7 @@ static void from_device(const void *frame, size_t length, void *context)
     if (owner == net->index) {
         take_packet(net, &found, protocol, vouched);
     } else {
-        size_t front = net->offloads ? TUN_HEADER : 0;
-        send(net->shared->all[owner]->to_inbox, frame, front + length, MSG_DONTWAIT); /* what it can't take is lost, too */
+        send(net->shared->all[owner]->to_inbox, frame, all, MSG_DONTWAIT); /* what it can't take is lost, too */
     }
 }
 

@@ -330,6 +330,17 @@ def forbidden(host, port):
             raise AssertionError("it was answered")
 
 
+def tapped(place):
+    """Over a TAP device that somebody has made, with offloads and without."""
+    for more in [], ["--no-offloads"]:
+        place.client("ip", "tuntap", "add", "dev", "tap0", "mode", "tap")
+        with place.usernet(0, *more, "-c", "tap0"):
+            need("the device", "10.0.2.100/24" in place.client("ip", "-4", "address", "show", "dev", "tap0"), True)
+            for call in download, upload, iperf, by_name, datagrams, pings, refused, published:
+                call(place)
+        place.client("ip", "link", "delete", "tap0")
+
+
 def descriptors_told(place):
     """Who starts the program reads 1 once it is ready, and closes another descriptor to end it; namespace and device are named as
     slirp4netns has them."""
@@ -385,7 +396,7 @@ def main():
                         name = call.__name__ + (", faults" if fault else "") + (f", {threads} threads" if threads > 1 else "")
                         run(place, name, call, *rest)
                         count += 1
-        for call in few_flows, left_alone, descriptors_told:
+        for call in few_flows, left_alone, tapped, descriptors_told:
             if not words.only or words.only in call.__name__:
                 run(place, call.__name__, call)
                 count += 1

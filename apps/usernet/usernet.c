@@ -68,6 +68,7 @@ static struct usernet *make(uint32_t index, int queue, const uint8_t secret[16])
         return NULL;
     net->index = index, net->shared = &shared;
     net->device = queue, net->offloads = told.device.offloads;
+    net->is_tap = tun_is_tap(queue, net->host.byte);
     net->mss = (uint16_t)(told.device.mtu < 1500 ? told.device.mtu - HEADERS : 1460);
     net->own = host_of(100), net->gateway = host_of(2), net->resolver = host_of(3);
     net->up.percent = net->down.percent = (uint32_t)told.fault;

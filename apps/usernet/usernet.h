@@ -10,6 +10,7 @@
 #define USERNET_H
 
 #include "companions/answers.h"
+#include "companions/ethernet.h"
 #include "companions/faults.h"
 #include "companions/icmp.h"
 #include "companions/ip.h"
@@ -117,6 +118,8 @@ struct usernet {
     int inbox, to_inbox;       /* packets of its connections that another thread has read */
     int is_gone;               /* whether the device is */
     int offloads;              /* whether trains of segments are exchanged with the device */
+    int is_tap;                /* whether packets lie behind Ethernet headers */
+    struct ethernet_addr host; /* then: the namespace's address */
     uint16_t mss, next_port;   /* the maximum segment size; the last of the gateway's ports that was tried */
     tcpcore_addr own, gateway; /* the namespace's address, and that which means the host's loopback */
     tcpcore_addr resolver;     /* that which means the host's name server */
@@ -141,7 +144,7 @@ struct usernet {
     uint8_t reader_block[TCPCORE_MEMORY(1, 1)];
     struct faults up, down;    /* the path between device and ends */
     uint8_t frame[TUN_HEADER + 65535]; /* what the device gave */
-    uint8_t packet[TRAINS_ROOM]; /* what the device is given */
+    uint8_t packet[ETHERNET_HEADER + TRAINS_ROOM]; /* what the device is given */
     uint8_t text[CAPACITY];    /* what a socket gave */
 };
 
@@ -156,7 +159,7 @@ static inline void count(struct usernet *net, enum counter which, uint64_t numbe
 uint32_t owner_of(struct usernet *net, const struct pair *pair);
 
 /* A segment for the namespace is written to segment_place, then sent: summed and of `length` bytes, or what tcpcore_emit_train wrote. */
-static inline uint8_t *segment_place(struct usernet *net) { return net->packet + TRAINS_FRONT; }
+static inline uint8_t *segment_place(struct usernet *net) { return net->packet + ETHERNET_HEADER + TRAINS_FRONT; }
 void send_segment(struct usernet *net, size_t length, tcpcore_addr from, tcpcore_addr to);
 void send_packet(struct usernet *net, size_t length, tcpcore_addr from, tcpcore_addr to, uint8_t protocol);
 void send_train(struct usernet *net, tcpcore_addr from, const struct tcpcore_train *train);

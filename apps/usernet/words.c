@@ -13,7 +13,7 @@ static const char USAGE[] =
     "usernet [OPTION ..] PID|PATH [DEVICE]\n"
     "The network of a namespace, in user space: TCP, UDP and echoes over IPv4. PID is a process in the namespace, or with --netns-type=path PATH\n"
     "is its file. The namespace is 10.0.2.100; 10.0.2.2 leads to the host's loopback, and 10.0.2.3 to its name server. DEVICE is the name that\n"
-    "the namespace's TUN device gets (tun0).\n"
+    "the namespace's TUN device gets (tun0), or of a TAP device that is there.\n"
     "\n"
     "  --publish HOST:PORT:INNER  carries connections to this address and port of the host to a port of the namespace\n"
     "  --disable-host-loopback    10.0.2.2 leads nowhere\n"
@@ -25,7 +25,7 @@ static const char USAGE[] =
     "  -e, --exit-fd FD           ends when the other side of this descriptor is closed\n"
     "  --netns-type pid|path, --userns-path PATH, --netns NAME\n"
     "                             what the namespace is named by; the user namespace that is entered first; NAME as ip netns has it\n"
-    "  -c, --configure            accepted: the device is always given its address, and a route\n"
+    "  -c, --configure            gives a TAP device its address and a route, too, which a TUN device is always given\n"
     "  --threads N                so many threads, 1 to 64 (1)\n"
     "  --no-offloads              exchanges segments with the device one by one, each with its checksum\n"
     "  --stats                    reports counts at its end and on SIGUSR1\n"
@@ -105,7 +105,7 @@ static int read_network(const char *word, struct words *told)
 static int read_option(const char *name, const char *value, struct words *told, struct shared *shared)
 {
     const struct { const char *name; int *flag, value; } FLAGS[] = {
-        {"stats", &told->shows, 1}, {"no-offloads", &told->device.offloads, 0}, {"configure", &(int){0}, 1},
+        {"stats", &told->shows, 1}, {"no-offloads", &told->device.offloads, 0}, {"configure", &told->device.configures, 1},
         {"disable-host-loopback", &shared->has_loopback, 0}, {"disable-dns", &shared->has_dns, 0}};
     for (size_t at = 0; at < sizeof FLAGS / sizeof FLAGS[0]; at++)
         if (strcmp(name, FLAGS[at].name) == 0)
@@ -200,6 +200,7 @@ int words_read(int number, char **words, struct words *told, struct shared *shar
     told->device.space = told->space;
     told->device.mtu = (uint32_t)told->mtu;
     told->device.addr = told->network + 100;
+    told->device.gateway = told->network + 2;
     shared->threads = (uint32_t)told->threads;
     return -1;
 }

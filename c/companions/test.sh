@@ -63,7 +63,7 @@ sanitized() { objects "$1" "$1" $sanitizers && build "$1" examples/echo.c echo.s
 
 check_with() {
     local compiler=$1 package=$2 name level
-    for name in timers congestion cubic answers flow ip icmp udp table demux faults pairs trains wheel; do
+    for name in timers congestion cubic answers flow ip ethernet icmp udp table demux faults pairs trains wheel; do
         check_file "$compiler" "$name"
     done
     # What it needs is the system's; ../../apps/usernet runs it.

@@ -1,4 +1,5 @@
-/* The test of udp.c and icmp.c: datagrams and messages whose checksums are made by hand, and each fault. */
+/* The test of udp.c, icmp.c and ethernet.c: datagrams and messages whose checksums are made by hand, frames, and each fault. */
+#include "../ethernet.h"
 #include "../icmp.h"
 #include "../udp.h"
 #include "tests/check.h"
@@ -114,8 +115,37 @@ static void unreachable(void)
         CHECK(icmp_unreachable(out, ICMP_TOO_BIG, packet, length), 8 + length);
 }
 
+/* 10.0.2.2 at 02:00:00:00:00:aa asks for 10.0.2.15, and is told 02:00:00:00:00:0f (RFC 826). */
+static const uint8_t ASKS[42] = {255, 255, 255, 255, 255, 255, 2, 0, 0, 0, 0, 0xaa, 8, 6, 0, 1, 8, 0, 6, 4, 0, 1,
+                                 2, 0, 0, 0, 0, 0xaa, 10, 0, 2, 2, 0, 0, 0, 0, 0, 0, 10, 0, 2, 15};
+static const uint8_t TOLD[42] = {2, 0, 0, 0, 0, 0xaa, 2, 0, 0, 0, 0, 15, 8, 6, 0, 1, 8, 0, 6, 4, 0, 2,
+                                 2, 0, 0, 0, 0, 15, 10, 0, 2, 15, 2, 0, 0, 0, 0, 0xaa, 10, 0, 2, 2};
+
+static void frames(void)
+{
+    static const struct ethernet_addr OWN = {{2, 0, 0, 0, 0, 15}};
+    static const tcpcore_addr IP = {{10, 0, 2, 15}};
+    uint8_t frame[sizeof ASKS], out[43];
+    memset(out, 0xee, sizeof out);
+    for (size_t length = 0; length <= sizeof ASKS; length++)
+        CHECK(ethernet_answer(out, ASKS, length, OWN, IP), length == sizeof ASKS ? 42 : 0);
+    CHECK(memcmp(out, TOLD, sizeof TOLD), 0);
+    CHECK(out[42], 0xee);
+    CHECK(ethernet_type(out), ETHERNET_ARP);
+    /* Whoever asks, and wherever: all else has to be as it is. */
+    for (size_t at = 0; at < sizeof ASKS; at++) {
+        int is_askers = at < 12 || (at >= 22 && at < 38);
+        memcpy(frame, ASKS, sizeof frame);
+        frame[at] ^= 0x40;
+        CHECK(ethernet_answer(out, frame, sizeof frame, OWN, IP), is_askers ? 42 : 0);
+    }
+    ethernet_write(out, (struct ethernet_addr){{1, 2, 3, 4, 5, 6}}, OWN, ETHERNET_IPV4);
+    CHECK(memcmp(out, "\1\2\3\4\5\6\2\0\0\0\0\17\10\0", 14), 0);
+}
+
 int main(void)
 {
+    frames();
     reads();
     writes();
     echoes();
