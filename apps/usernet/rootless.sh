@@ -1,6 +1,7 @@
 #!/usr/bin/env bash
 # usernet in slirp4netns's place: a user without rights starts rootlesskit with it as --slirp4netns-binary, and gets a page by name over
-# HTTPS, of Debian's mirror, and one of this machine's loopback by 10.0.2.2; with --disable-host-loopback not that one. By hand:
+# HTTPS, of Debian's mirror, also with its sandbox and filter, and one of this machine's loopback by 10.0.2.2; with
+# --disable-host-loopback not that one. By hand:
 # apps/usernet/rootless.sh [PROGRAM], as root, who makes a user for it, and lets everybody open /dev/net/tun meanwhile.
 set -euo pipefail
 cd "$(dirname "$0")"
@@ -46,6 +47,9 @@ page() {
 }
 
 [[ $(page https://deb.debian.org/debian/) == 200 ]] || { cat "$folder/log"; echo "rootless: FAILED: no page by name"; exit 1; }
+passed=$((passed + 1))
+[[ $(page https://deb.debian.org/debian/ --slirp4netns-sandbox=true --slirp4netns-seccomp=true) == 200 ]] ||
+    { cat "$folder/log"; echo "rootless: FAILED: no page with sandbox and filter"; exit 1; }
 passed=$((passed + 1))
 [[ $(page http://10.0.2.2:8097/) == 200 ]] || { cat "$folder/log"; echo "rootless: FAILED: no page of the loopback"; exit 1; }
 passed=$((passed + 1))

@@ -341,6 +341,21 @@ def tapped(place):
         place.client("ip", "link", "delete", "tap0")
 
 
+def boxed(place):
+    """With its sandbox and its filter all goes on as before; it has no rights, and sees no files but those of two folders."""
+    for threads in 1, 3:
+        with place.usernet(0, "--enable-sandbox", "--enable-seccomp", "--threads", threads):
+            status = dict(line.split(":\t") for line in pathlib.Path(f"/proc/{place.program.pid}/status").read_text().splitlines() if ":\t" in line)
+            for name in "CapPrm", "CapEff", "CapBnd":
+                need(name, int(status[name], 16), 0)
+            need("filter", (status["NoNewPrivs"], status["Seccomp"]), ("1", "2"))
+            need("its root", sorted(os.listdir(f"/proc/{place.program.pid}/root")), ["etc", "run"])
+            for call in download, upload, iperf, by_name, datagrams, pings, refused, published, half_close, killed_clients, counted_again:
+                call(place)
+            place.program.send_signal(signal.SIGTERM)
+            need("status", place.program.wait(10), 0)
+
+
 def descriptors_told(place):
     """Who starts the program reads 1 once it is ready, and closes another descriptor to end it; namespace and device are named as
     slirp4netns has them."""
@@ -396,7 +411,7 @@ def main():
                         name = call.__name__ + (", faults" if fault else "") + (f", {threads} threads" if threads > 1 else "")
                         run(place, name, call, *rest)
                         count += 1
-        for call in few_flows, left_alone, tapped, descriptors_told:
+        for call in few_flows, left_alone, tapped, *([] if "WITHOUT_SECCOMP" in os.environ else [boxed]), descriptors_told:
             if not words.only or words.only in call.__name__:
                 run(place, call.__name__, call)
                 count += 1

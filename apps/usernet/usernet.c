@@ -140,11 +140,13 @@ int main(int number, char **words)
     int status = number == 0 ? 1 : words_read(number, words, &told, &shared);
     if (status >= 0)
         return status;
-    if (!set_up())
+    if (!set_up() || (told.is_boxed && !sandbox_enter(&told)))
         return 1;
     for (uint32_t net = 1; net < shared.threads; net++)
         if (pthread_create(&others[net], NULL, run, shared.all[net]) != 0)
             return perror("threads"), 1;
+    if (told.is_filtered && !sandbox_filter())
+        return 1;
     tell_ready();
     loop_run(shared.all[0], signals, told.exits == NO_DESCRIPTOR ? -1 : (int)told.exits, read_signal);
     for (uint32_t net = 1; net < shared.threads; net++)

@@ -240,9 +240,15 @@ struct words {
     uint32_t network;      /* its number, without the host's */
     int is_path;           /* whether the namespace is named by its file */
     int shows;             /* whether counts are reported */
+    int is_boxed, is_filtered; /* whether what isn't needed is given up: files and rights; calls of the system */
 };
 
 #define NO_DESCRIPTOR UINT64_MAX
+
+/* sandbox.c: with one thread, before the others are made: nothing of the file system is left but /etc and /run to be read, and no right. Then,
+   of all threads: no call of the system is left but those that the loop makes. Whether it could be done. */
+int sandbox_enter(const struct words *told);
+int sandbox_filter(void);
 
 /* Reads the program's words, which may publish ports. Answers below 0 where it goes on, else the status to end with. */
 int words_read(int number, char **words, struct words *told, struct shared *shared);
