@@ -4,7 +4,6 @@
 #include "companions/segment.h"
 
 #include <errno.h>
-#include <netinet/in.h>
 #include <netinet/tcp.h>
 #include <stdlib.h>
 #include <string.h>
@@ -203,28 +202,12 @@ static int host_answered(struct usernet *net, struct conn *conn)
     return 0;
 }
 
-/* A socket of the host's that connects to where the client wants to; below 0 where it can't, with errno. */
-static int connect_host(const struct usernet *net, const struct pair *key)
-{
-    struct sockaddr_in to = {.sin_family = AF_INET, .sin_port = htons(key->server_port)};
-    int host = socket(AF_INET, SOCK_STREAM | SOCK_NONBLOCK | SOCK_CLOEXEC, 0);
-    memcpy(&to.sin_addr, &key->server, sizeof to.sin_addr);
-    if (memcmp(&key->server, &net->gateway, sizeof net->gateway) == 0)
-        to.sin_addr.s_addr = htonl(INADDR_LOOPBACK);
-    if (host < 0 || connect(host, (struct sockaddr *)&to, sizeof to) == 0 || errno == EINPROGRESS)
-        return host;
-    int fault = errno;
-    close(host);
-    errno = fault;
-    return -1;
-}
-
 /* A SYN came: the host connects to the same address and port, and its header is kept until it has; text comes again. Where a limit is
    reached, or the system lacks something, the SYN is dropped: it comes again, too. */
 static void open_conn(struct usernet *net, const struct pair *key, const struct ip_packet *packet, int vouched)
 {
     uint32_t capacity = limits_admit(net, key);
-    int host = capacity ? connect_host(net, key) : -1, fault = errno;
+    int host = capacity ? host_socket(net, key->server, key->server_port, SOCK_STREAM, 0) : -1, fault = errno;
     struct conn *conn = host >= 0 ? conn_new(net, key, host, capacity) : NULL;
     if (conn) {
         conn->syn_length = (uint8_t)header_of(packet->segment);

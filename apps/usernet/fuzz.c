@@ -5,9 +5,10 @@
  * Each packet is made here: what it shows is that usernet outlives it (fuzz.py looks at that). It prints how many were sent.
  */
 #define _GNU_SOURCE
-#include "companions/ip.h"
+#include "companions/icmp.h"
 #include "companions/segment.h"
 #include "companions/trains.h"
+#include "companions/udp.h"
 
 #include <arpa/inet.h>
 #include <errno.h>
@@ -341,6 +342,55 @@ static void packets(void)
     put(frame, TUN_HEADER + length);
 }
 
+/* Where a datagram or an echo goes: to who answers, to nobody, to who is silent, to the name server, or anywhere. */
+static tcpcore_addr somewhere(void)
+{
+    static const tcpcore_addr SOME_ADDRS[] = {{{10, 0, 2, 2}}, {{10, 0, 2, 3}}, {{198, 51, 100, 1}}, {{127, 0, 0, 1}}, {{224, 0, 0, 1}}, {{255, 255, 255, 255}}};
+    uint32_t drawn = draw(7);
+    return drawn < 6 ? SOME_ADDRS[drawn] : (tcpcore_addr){{(uint8_t)draw(256), (uint8_t)draw(256), (uint8_t)draw(256), (uint8_t)draw(256)}};
+}
+
+/* A packet of another protocol whose bytes lie at frame + TRAINS_FRONT. */
+static void go_as(uint8_t *frame, tcpcore_addr to, size_t length, uint8_t protocol, size_t sum_at)
+{
+    struct virtio_net_hdr front = {0};
+    if (draw(4) == 0)
+        front.flags = VIRTIO_NET_HDR_F_NEEDS_CSUM, front.csum_start = IP_HEADER, front.csum_offset = (uint16_t)sum_at;
+    memcpy(frame, &front, TUN_HEADER);
+    put(frame, TUN_HEADER + ip_write_any(frame + TUN_HEADER, client, to, length, protocol));
+}
+
+/* Datagrams from many ports, whole ones and such whose length or checksum is wrong. */
+static void datagrams(void)
+{
+    static const uint16_t PORTS[] = {8090, 53, 9, 0};
+    static uint8_t frame[TRAINS_ROOM];
+    uint8_t *bytes = frame + TRAINS_FRONT;
+    tcpcore_addr to = somewhere();
+    size_t text = draw(20) ? draw(100) : draw(1400), length = draw(50) ? UDP_HEADER + text : draw(UDP_HEADER + 1);
+    for (size_t at = 0; at < text; at++)
+        bytes[UDP_HEADER + at] = (uint8_t)draw(256);
+    udp_write(bytes, client, (uint16_t)draw(65536), to, draw(8) ? PORTS[draw(4)] : (uint16_t)draw(65536), text);
+    if (draw(10) == 0)
+        bytes[draw(UDP_HEADER)] = (uint8_t)draw(256);
+    go_as(frame, to, length, IP_UDP, 6);
+}
+
+/* Echoes with many identifiers, and any other message. */
+static void messages(void)
+{
+    static uint8_t frame[TRAINS_ROOM];
+    uint8_t *bytes = frame + TRAINS_FRONT;
+    size_t length = draw(20) ? ICMP_HEADER + draw(100) : draw(ICMP_HEADER + 1);
+    for (size_t at = 0; at < ICMP_HEADER + 100; at++)
+        bytes[at] = (uint8_t)draw(256);
+    if (length >= ICMP_HEADER)
+        icmp_make_echo(bytes, length, draw(4) ? ICMP_ECHO : (uint8_t)draw(256), (uint16_t)draw(65536));
+    if (draw(10) == 0)
+        bytes[draw(ICMP_HEADER)] = (uint8_t)draw(256);
+    go_as(frame, somewhere(), length, IP_ICMP, 2);
+}
+
 /* Connections that end in each way, so that some are opened anew in TIME-WAIT. */
 static void endings(void)
 {
@@ -361,7 +411,7 @@ static void endings(void)
 static const struct kind { const char *name; void (*make)(void); } KINDS[] = {
     {"bad_syns", bad_syns}, {"options", options}, {"half_open", half_open}, {"resets", resets}, {"scan", scan}, {"windows", windows}, {"storm", storm},
     {"noise", noise}, {"packets", packets}, {"endings", endings}, {"one_place", one_place},
-    {"unfit", unfit}};
+    {"unfit", unfit}, {"datagrams", datagrams}, {"messages", messages}};
 enum { COUNT = sizeof KINDS / sizeof KINDS[0] };
 
 static int open_device(const char *name)

@@ -20,8 +20,8 @@ import world
 from world import CLIENTS, GATEWAY, HERE, SERVERS, need
 
 # What --help tells, and the most descriptors that are for no connection.
-CONNECTIONS, HALF_OPEN, EACH, SPARE = 4096, 1024, 256, 64
-KINDS = "resets", "options", "half_open", "scan", "windows", "storm", "noise", "packets", "endings"
+CONNECTIONS, HALF_OPEN, EACH, FLOWS, SPARE = 4096, 1024, 256, 1024, 64
+KINDS = "resets", "options", "half_open", "scan", "windows", "storm", "noise", "packets", "endings", "datagrams", "messages"
 # Seconds within which a client is served, whatever else goes on.
 SOON = 10
 
@@ -55,12 +55,13 @@ class Hostile(world.World):
         need("half-open", found["half_open"] <= HALF_OPEN, True)
         need("most connections", found["most"] <= CONNECTIONS, True)
         need("memory", found["reserved"] <= 1 << 30, True)
-        need("descriptors", self.descriptors() <= CONNECTIONS + SPARE, True)
+        need("flows", found["flows_now"] <= FLOWS, True)
+        need("descriptors", self.descriptors() <= CONNECTIONS + FLOWS + SPARE, True)
         return found
 
     def keeps_descriptors(self):
         """No more than there are connections."""
-        self.until(lambda: self.descriptors() <= self.counters()["now"] + SPARE)
+        self.until(lambda: self.descriptors() <= self.counters()["now"] + self.counters()["flows_now"] + SPARE)
 
     def spends(self, seconds):
         """The processor time of the whole program in so many seconds."""
@@ -106,8 +107,8 @@ def words(place):
     """--help has each limit and what it is where nothing is named; what is no word, or no number behind one, is refused."""
     program = HERE / "out" / place.program_name
     text = subprocess.run([program, "--help"], stdout=subprocess.PIPE, text=True, check=True).stdout
-    limits = {"connections": CONNECTIONS, "half-open": HALF_OPEN, "half-open-each": EACH, "memory": 1024, "ports": 32768, "strays": 1000,
-              "quiet": 500}
+    limits = {"connections": CONNECTIONS, "half-open": HALF_OPEN, "half-open-each": EACH, "memory": 1024, "flows": FLOWS, "ports": 32768,
+              "strays": 1000, "quiet": 500}
     for name, number in limits.items():
         line = next((line for line in text.splitlines() if line.startswith(f"  --{name} ")), "")
         need(f"--{name}", f"({number})" in line, True)

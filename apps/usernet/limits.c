@@ -9,7 +9,7 @@
    that is established and of whose client nothing comes. */
 enum { PARTS = 1024, GRACE = 1000, IDLE = 10000 };
 
-static void queue_leave(struct link *link)
+void queue_leave(struct link *link)
 {
     struct queue *queue = link->queue;
     if (!queue)
@@ -20,7 +20,7 @@ static void queue_leave(struct link *link)
     *link = (struct link){0};
 }
 
-static void queue_add(struct queue *queue, struct link *link)
+void queue_add(struct queue *queue, struct link *link)
 {
     queue_leave(link);
     *link = (struct link){.older = queue->newest, .queue = queue};

@@ -5,6 +5,7 @@
 #include "companions/segment.h"
 
 #include <errno.h>
+#include <linux/virtio_net.h>
 #include <stdio.h>
 #include <string.h>
 #include <sys/epoll.h>
@@ -13,7 +14,7 @@
 #include <unistd.h>
 
 /* PAUSE: the milliseconds for which nothing is accepted where the system lacks what that takes. */
-enum { EVENTS = 256, BATCH = 128, PAUSE = 100, DEVICE = LISTENERS, SIGNALS, INBOX };
+enum { EVENTS = 256, BATCH = 128, PAUSE = 100, DEVICE = LISTENERS, SIGNALS, INBOX, EXITS };
 
 static uint64_t milliseconds(void)
 {
@@ -35,46 +36,114 @@ static void to_device(const void *packet, size_t length, void *context)
     count(net, EMITTED, write(net->device, packet, length) > 0); /* what it can't take is lost, and sent again */
 }
 
-/* Nothing of it is left to the device, whose header is all zero where there is one. */
-void send_segment(struct usernet *net, size_t length, tcpcore_addr from, tcpcore_addr to)
+/* The gateway's address on Ethernet, and the name server's: one of a local administration (IEEE 802). */
+static const struct ethernet_addr GATEWAY = {{0x52, 0x55, 10, 0, 2, 2}};
+
+/* Puts an Ethernet header between the device's header and the packet, for which there is room before both. */
+static uint8_t *with_ethernet(const struct usernet *net, uint8_t *frame)
+{
+    struct virtio_net_hdr front;
+    memcpy(&front, frame, TUN_HEADER);
+    if (front.flags & VIRTIO_NET_HDR_F_NEEDS_CSUM)
+        front.hdr_len = (uint16_t)(front.hdr_len + ETHERNET_HEADER), front.csum_start = (uint16_t)(front.csum_start + ETHERNET_HEADER);
+    frame -= ETHERNET_HEADER;
+    memcpy(frame, &front, TUN_HEADER);
+    ethernet_write(frame + TUN_HEADER, net->host, GATEWAY, ETHERNET_IPV4);
+    return frame;
+}
+
+/* A packet behind the device's header goes to the device, which may have none. */
+static void pass_down(struct usernet *net, uint8_t *frame, size_t length)
 {
     size_t front = net->offloads ? 0 : TUN_HEADER;
-    memset(net->packet, 0, TUN_HEADER);
-    length = TUN_HEADER + ip_write(net->packet + TUN_HEADER, from, to, length);
-    faults_pass(&net->down, net->packet + front, length - front, to_device, net);
+    if (net->is_tap)
+        frame = with_ethernet(net, frame), length += ETHERNET_HEADER;
+    faults_pass(&net->down, frame + front, length - front, to_device, net);
+}
+
+/* Who asks for the gateway's Ethernet address, or for the name server's, is told. */
+static void answer_arp(struct usernet *net, const uint8_t *frame, size_t length)
+{
+    uint8_t answer[TUN_HEADER + ETHERNET_ANSWER] = {0}, *at = answer + TUN_HEADER;
+    size_t count = ethernet_answer(at, frame, length, GATEWAY, net->gateway);
+    if (count == 0)
+        count = ethernet_answer(at, frame, length, GATEWAY, net->resolver);
+    if (count > 0)
+        to_device(net->offloads ? answer : at, (net->offloads ? TUN_HEADER : 0) + count, net);
+}
+
+void send_segment(struct usernet *net, size_t length, tcpcore_addr from, tcpcore_addr to)
+{
+    send_packet(net, length, from, to, IP_TCP);
+}
+
+/* Nothing of it is left to the device, whose header is all zero where there is one. */
+void send_packet(struct usernet *net, size_t length, tcpcore_addr from, tcpcore_addr to, uint8_t protocol)
+{
+    uint8_t *frame = net->packet + ETHERNET_HEADER;
+    memset(frame, 0, TUN_HEADER);
+    pass_down(net, frame, TUN_HEADER + ip_write_any(frame + TUN_HEADER, from, to, length, protocol));
 }
 
 void send_train(struct usernet *net, tcpcore_addr from, const struct tcpcore_train *train)
 {
-    faults_pass(&net->down, net->packet, trains_write(net->packet, from, train), to_device, net);
+    uint8_t *frame = net->packet + ETHERNET_HEADER;
+    pass_down(net, frame, trains_write(frame, from, train));
 }
 
-/* A frame of the device: a packet of this thread's connections, or of another one's, which gets the frame. */
-static void from_device(const void *frame, size_t length, void *context)
+/* What decides which thread has a packet: its addresses and ports, or of an echo its identifier. */
+static struct pair key_of(const struct ip_packet *packet, uint8_t protocol)
+{
+    const uint8_t *bytes = packet->segment;
+    if (protocol == IP_ICMP)
+        return (struct pair){packet->src, packet->dst, icmp_id(bytes), 0, NULL};
+    return (struct pair){packet->src, packet->dst, read16(bytes), read16(bytes + 2), NULL};
+}
+
+static void take_packet(struct usernet *net, const struct ip_packet *packet, uint8_t protocol, int vouched)
+{
+    if (protocol == IP_UDP)
+        relays_datagram(net, packet, vouched);
+    else if (protocol == IP_ICMP)
+        relays_message(net, packet);
+    else
+        arrive(net, packet, vouched);
+}
+
+/* A frame of the device: a packet of this thread's connections and relays, or of another one's, which gets the frame. */
+static void from_device(const void *frame, size_t all, void *context)
 {
     struct usernet *net = context;
     const uint8_t *bytes = frame;
+    size_t length = all;
     struct ip_net to = {.prefix = 32};
     struct ip_packet found;
+    uint8_t protocol;
     int vouched = 0;
     if (net->offloads)
         bytes = trains_read(frame, length, &length, &vouched);
+    if (bytes && net->is_tap) {
+        if (length < ETHERNET_HEADER || ethernet_type(bytes) != ETHERNET_IPV4) {
+            answer_arp(net, bytes, length);
+            return;
+        }
+        bytes += ETHERNET_HEADER, length -= ETHERNET_HEADER;
+    }
     if (!bytes || length < IP_HEADER)
         return;
     memcpy(&to.addr, bytes + 16, sizeof to.addr);
-    if (ip_read(to, bytes, length, &found) != IP_DONE)
+    if (ip_read_any(to, bytes, length, &found, &protocol) != IP_DONE || (protocol != IP_TCP && protocol != IP_UDP && protocol != IP_ICMP))
         return;
-    if (found.length < SEGMENT_HEADER) {
+    if (found.length < (protocol == IP_TCP ? SEGMENT_HEADER : UDP_HEADER)) {
         count(net, MALFORMED, 1);
         return;
     }
-    struct pair key = {found.src, found.dst, read16(found.segment), read16(found.segment + 2), NULL};
+    struct pair key = key_of(&found, protocol);
     uint32_t owner = owner_of(net, &key);
     if (owner == net->index) {
-        arrive(net, &found, vouched);
+        take_packet(net, &found, protocol, vouched);
     } else {
-        size_t front = net->offloads ? TUN_HEADER : 0;
-        send(net->shared->all[owner]->to_inbox, frame, front + length, MSG_DONTWAIT); /* what it can't take is lost, too */
+        send(net->shared->all[owner]->to_inbox, frame, all, MSG_DONTWAIT); /* what it can't take is lost, too */
     }
 }
 
@@ -162,7 +231,7 @@ static void take_socket(struct usernet *net, struct conn *conn, uint32_t events)
     wheel_wake(&net->wheel, &conn->node);
 }
 
-/* An event's number is that of what listens, DEVICE, SIGNALS, INBOX, and else the place of a connection. */
+/* An event's number is that of what listens, DEVICE, SIGNALS, INBOX, EXITS, and else the place of a connection, or one more than that of a relay. */
 static void take_event(struct usernet *net, const struct epoll_event *event, void (*signalled)(void))
 {
     if (event->data.u64 < LISTENERS)
@@ -173,6 +242,10 @@ static void take_event(struct usernet *net, const struct epoll_event *event, voi
         signalled();
     else if (event->data.u64 == INBOX)
         read_inbox(net);
+    else if (event->data.u64 == EXITS)
+        stop_all(net->shared, 0);
+    else if (event->data.u64 & 1)
+        relays_readable(net, (struct relay *)(uintptr_t)(event->data.u64 - 1));
     else
         take_socket(net, event->data.ptr, event->events);
 }
@@ -189,6 +262,7 @@ static void tell_of_now(struct usernet *net)
     tell(net, MOST, net->pairs.most);
     tell(net, HALF_OPEN, net->half_open.count);
     tell(net, RESERVED, net->reserved);
+    tell(net, FLOWS_NOW, net->relays.count + net->brief.count);
 }
 
 int loop_init(struct usernet *net, const uint8_t secret[16])
@@ -199,6 +273,8 @@ int loop_init(struct usernet *net, const uint8_t secret[16])
     net->now = milliseconds();
     wheel_init(&net->wheel, net->now);
     pairs_init(&net->pairs, net->buckets, BUCKETS, secret);
+    pairs_init(&net->datagrams, net->datagram_buckets, FLOW_BUCKETS, secret);
+    pairs_init(&net->echoes, net->echo_buckets, FLOW_BUCKETS, secret);
     if (net->events < 0 || socketpair(AF_UNIX, SOCK_DGRAM | SOCK_CLOEXEC, 0, pair) != 0 ||
         tcpcore_new(&net->reader, &config, net->reader_block, sizeof net->reader_block) != TCPCORE_DONE)
         return 0;
@@ -216,20 +292,25 @@ static void loop_turn(struct usernet *net, void (*signalled)(void))
         pause_all(net);
     for (int at = 0; at < found; at++)
         take_event(net, &events[at], signalled);
+    relays_expire(net);
     turn_all(net);
     free_dropped(net);
+    relays_free(net);
     tell_of_now(net);
 }
 
-void loop_run(struct usernet *net, int signals, void (*signalled)(void))
+void loop_run(struct usernet *net, int signals, int exits, void (*signalled)(void))
 {
     if (signals >= 0)
         watch(net, signals, EPOLLIN, SIGNALS);
+    if (exits >= 0 && !watch(net, exits, 0, EXITS))
+        perror("--exit-fd");
     while (!net->shared->stops) {
         loop_turn(net, signalled);
         if (net->is_gone && stop_all(net->shared, 1))
             fputs("usernet: the device is gone\n", stderr);
     }
     end_all(net);
+    relays_end(net);
     tell_of_now(net);
 }

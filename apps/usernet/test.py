@@ -7,6 +7,7 @@ two namespaces that are made here: "servers" is the host of usernet.
 
 import argparse
 import contextlib
+import errno
 import hashlib
 import http.client
 import http.server
@@ -24,7 +25,7 @@ import threading
 import time
 
 import world
-from world import GATEWAY, need
+from world import FAR, GATEWAY, NAMESERVER, need
 
 MIB = 1 << 20
 
@@ -128,6 +129,56 @@ def refused(place):
     need("at once", time.monotonic() - began < 5, True)
 
 
+def by_name(place):
+    """A name is asked for at the name server that the namespace has, and leads to the gateway."""
+    text = "curl -sf --max-time 60 http://files.test:8080/small | sha256sum"
+    need("by name", place.client("bash", "-o", "pipefail", "-c", text).split()[0], place.digest("small"))
+    need("getent of no name", place.client_status("getent", "ahostsv4", "files.nowhere"), 2)
+
+
+def datagrams(place):
+    before = place.counters()["datagrams"]
+    place.client(sys.executable, __file__, "--datagrams", GATEWAY)
+    need("datagrams that went through", place.counters()["datagrams"] - before >= 2 * len(LENGTHS) * 20, True)
+
+
+LENGTHS = [0, 1, 2, 3, 500, 1471, 1472]
+
+
+def asked(end, text):
+    """The answer to a datagram, which is sent again where it or its answer is lost; what was doubled is passed over."""
+    for _ in range(50):
+        end.send(text)
+        if select.select([end], [], [], 0.5)[0]:
+            found = end.recv(65536)
+            while select.select([end], [], [], 0)[0]:
+                end.recv(65536)
+            return found
+    raise AssertionError("no answer")
+
+
+def send_datagrams(host):
+    """Twenty sockets; each datagram comes back as it was. And where nobody is the sender is told."""
+    ends = [socket.socket(socket.AF_INET, socket.SOCK_DGRAM) for _ in range(20)]
+    for number, end in enumerate(ends):
+        end.connect((host, 8090))
+        for length in LENGTHS:
+            text = bytes((number + at) % 251 for at in range(length))
+            need(f"a datagram of {length}", asked(end, text), text)
+    nobody = socket.socket(socket.AF_INET, socket.SOCK_DGRAM)
+    nobody.connect((host, 9))
+    with contextlib.suppress(ConnectionRefusedError):
+        asked(nobody, b"?")
+        raise AssertionError("nobody answered")
+
+
+def pings(place):
+    """Of the gateway, and of a host behind it; where some are lost one of ten is enough, which ping's status says."""
+    for host in GATEWAY, NAMESERVER, FAR:
+        text = place.client("ping", "-c", "10", "-i", "0.1", "-W", "1", host)
+        need(f"echoes of {host}", place.fault > 0 or " 10 received, 0% packet loss" in text, True)
+
+
 def published(place):
     """From the host into the namespace; and a reset where nobody listens there."""
     with place.start_client(sys.executable, "-m", "http.server", "8000", "--directory", str(place.folder)):
@@ -180,7 +231,7 @@ def counted_again(place):
 
 def many(place, at_once, in_turn):
     """So many connections at once and then in turn: memory, descriptors and the time of one stay level."""
-    descriptors, held = place.descriptors(), place.counters()["held"]
+    descriptors, held = place.descriptors_of_connections(), place.counters()["held"]
     place.client(sys.executable, __file__, "--many", GATEWAY, str(at_once), "0")
     need("most at once", place.counters()["most"] >= at_once, True)
     place.until(lambda: place.counters()["now"] == 0, 30)
@@ -190,7 +241,7 @@ def many(place, at_once, in_turn):
         spent.append(place.processor_seconds())
     place.until(lambda: place.counters()["now"] == 0, 30)
     need("later ones take as long", spent[2] - spent[1] <= 2 * (spent[1] - spent[0]), True)
-    need("descriptors left", place.descriptors(), descriptors)
+    need("descriptors left", place.descriptors_of_connections(), descriptors)
     need("less than 16 KiB left", place.counters()["held"] < held + MIB // 64, True)
     need("resident memory grew by less than 4 MiB", place.resident() < resident + 4 * MIB, True)
 
@@ -221,7 +272,107 @@ def killed_program(place):
     client.wait()
 
 
-CLIENTS = [download, downloads_at_once, upload, git_clone, iperf, redis, postgres, keep_alive, secure_copy, refused,
+def flows_go(place):
+    """Questions to the name server from 300 ports: their sockets are closed some ten seconds later."""
+    descriptors = place.descriptors_of_connections()
+    place.client(sys.executable, __file__, "--questions", NAMESERVER, "300")
+    need("flows", place.counters()["flows_now"] >= 250, True)  # a port may be drawn again
+    place.until(lambda: place.counters()["flows_now"] < 250, 30)
+    need("descriptors", place.descriptors_of_connections(), descriptors)
+
+
+def question(name):
+    labels = b"".join(bytes([len(label)]) + label.encode() for label in name.split("."))
+    return b"\0\1\1\0\0\1\0\0\0\0\0\0" + labels + b"\0\0\1\0\1"
+
+
+def ask(host, ports):
+    """From so many ports, each with its answer."""
+    for _ in range(ports):
+        with socket.socket(socket.AF_INET, socket.SOCK_DGRAM) as end:
+            end.connect((host, 53))
+            need("the address", asked(end, question("a.test"))[-4:], socket.inet_aton(GATEWAY))
+
+
+def few_flows(place):
+    """With a limit of 50 the oldest make way: the newest are served, and no more sockets are open."""
+    with place.usernet(0, "--flows", 50):
+        descriptors = place.descriptors()
+        place.client(sys.executable, __file__, "--questions", NAMESERVER, "300")
+        need("flows", place.counters()["flows_now"], 50)
+        need("descriptors", place.descriptors(), descriptors + 50)
+
+
+def left_alone(place):
+    """The host's loopback and its name server are left alone where the program is told so; the name server without the loopback isn't. All in
+    another network, from another address of the host."""
+    words = ["--cidr", "192.168.7.0/24", "--disable-host-loopback"]
+    with place.usernet(0, *words):
+        place.client(sys.executable, __file__, "--questions", "192.168.7.3", "1")
+        for call in ["curl", "-s", "--max-time", "20", "http://192.168.7.2:8080/"], ["curl", "-s", "--max-time", "20", "http://192.168.7.3:8080/"]:
+            need("curl's status", place.client_status(*call), 7)
+        place.client(sys.executable, __file__, "--forbidden", "192.168.7.2", "8090")
+    with place.usernet(0, "--cidr=192.168.7.0/24", "--disable-dns", "--outbound-addr", FAR):
+        place.client(sys.executable, __file__, "--forbidden", "192.168.7.3", "53")
+        need("by another network", place.client_status("curl", "-sf", "-o", "/dev/null", "http://192.168.7.2:8080/small"), 0)
+        need("outbound", place.client("curl", "-sf", "--max-time", "20", f"http://{FAR}:8091/"), FAR)
+
+
+def forbidden(host, port):
+    """A datagram to there is answered by ICMP: the host can't be reached."""
+    with socket.socket(socket.AF_INET, socket.SOCK_DGRAM) as end:
+        end.connect((host, port))
+        try:
+            asked(end, b"?")
+        except OSError as fault:
+            need("the fault", fault.errno in (errno.EHOSTUNREACH, errno.EACCES), True)
+        else:
+            raise AssertionError("it was answered")
+
+
+def tapped(place):
+    """Over a TAP device that somebody has made, with offloads and without."""
+    for more in [], ["--no-offloads"]:
+        place.client("ip", "tuntap", "add", "dev", "tap0", "mode", "tap")
+        with place.usernet(0, *more, "-c", "tap0"):
+            need("the device", "10.0.2.100/24" in place.client("ip", "-4", "address", "show", "dev", "tap0"), True)
+            for call in download, upload, iperf, by_name, datagrams, pings, refused, published:
+                call(place)
+        place.client("ip", "link", "delete", "tap0")
+
+
+def boxed(place):
+    """With its sandbox and its filter all goes on as before; it has no rights, and sees no files but those of two folders."""
+    for threads in 1, 3:
+        with place.usernet(0, "--enable-sandbox", "--enable-seccomp", "--threads", threads):
+            status = dict(line.split(":\t") for line in pathlib.Path(f"/proc/{place.program.pid}/status").read_text().splitlines() if ":\t" in line)
+            for name in "CapPrm", "CapEff", "CapBnd":
+                need(name, int(status[name], 16), 0)
+            need("filter", (status["NoNewPrivs"], status["Seccomp"]), ("1", "2"))
+            need("its root", sorted(os.listdir(f"/proc/{place.program.pid}/root")), ["etc", "run"])
+            for call in download, upload, iperf, by_name, datagrams, pings, refused, published, half_close, killed_clients, counted_again:
+                call(place)
+            place.program.send_signal(signal.SIGTERM)
+            need("status", place.program.wait(10), 0)
+
+
+def descriptors_told(place):
+    """Who starts the program reads 1 once it is ready, and closes another descriptor to end it; namespace and device are named as
+    slirp4netns has them."""
+    ready, tells = os.pipe()
+    watched, held = os.pipe()
+    words = [world.HERE / "out" / place.program_name, "-c", "-m", "1500", "-r", tells, "--exit-fd", watched, "--netns-type=path", f"/run/netns/{world.CLIENTS}", "tap0"]
+    with world.Child(place.words(world.SERVERS, words), stdout=subprocess.DEVNULL, pass_fds=(tells, watched)) as child:
+        need("ready", os.read(ready, 9), b"1")
+        need("the device", "10.0.2.100/24" in place.client("ip", "-4", "address", "show", "dev", "tap0"), True)
+        need("it runs", child.poll(), None)
+        os.close(held)
+        need("its status", child.wait(10), 0)
+    for descriptor in ready, tells, watched:
+        os.close(descriptor)
+
+
+CLIENTS = [download, downloads_at_once, upload, git_clone, iperf, redis, postgres, keep_alive, secure_copy, refused, by_name, datagrams, pings,
            published, half_close, killed_server, killed_clients, counted_again]
 
 
@@ -252,12 +403,18 @@ def main():
                 calls.append((many, ((2000, 1000) if words.short else (10000, 100000)) if fault == 0 else (200, 200)))
                 if fault == 0 and threads == 1 and not words.short:
                     calls.append((download_past_all_numbers, ()))
+                if fault == 0:
+                    calls.append((flows_go, ()))
                 calls.append((killed_program, ()))
                 for call, rest in calls:
                     if not words.only or words.only in call.__name__:
                         name = call.__name__ + (", faults" if fault else "") + (f", {threads} threads" if threads > 1 else "")
                         run(place, name, call, *rest)
                         count += 1
+        for call in few_flows, left_alone, tapped, *([] if "WITHOUT_SECCOMP" in os.environ else [boxed]), descriptors_told:
+            if not words.only or words.only in call.__name__:
+                run(place, call.__name__, call)
+                count += 1
     need("tests", count > 0, True)
     print(f"usernet: {count} passed")
 
@@ -267,6 +424,12 @@ if __name__ == "__main__":
         requests(sys.argv[2])
     elif "--half-close" in sys.argv:
         half_closing(sys.argv[2])
+    elif "--datagrams" in sys.argv:
+        send_datagrams(sys.argv[2])
+    elif "--questions" in sys.argv:
+        ask(sys.argv[2], int(sys.argv[3]))
+    elif "--forbidden" in sys.argv:
+        forbidden(sys.argv[2], int(sys.argv[3]))
     elif "--many" in sys.argv:
         connect_many(sys.argv[2], int(sys.argv[3]), int(sys.argv[4]))
     else:

@@ -24,12 +24,14 @@ psql postgresql
 sshd openssh-server
 scp openssh-client
 LIST
+has libseccomp-dev test -e /usr/include/seccomp.h || export WITHOUT_SECCOMP=1
 [[ -e $library ]] || { echo "usernet: no $library: run 'rt lib' in crates/tcp_c"; exit 1; }
 ./build.sh "$library"
 PROGRAM=usernet.sanitized ./build.sh "$library" -O1 -fsanitize=address,undefined -fno-sanitize-recover=all
 if [[ ${1-} == --hostile ]]; then
     exec python3 hostile.py "${@:2}"
 fi
+[[ -n ${WITHOUT_SECCOMP-} ]] || out/sandbox_test
 python3 test.py "$@"
 case " $* " in
 *" --only "*) ;;

@@ -1,9 +1,9 @@
 /*
- * usernet: the TCP of a network namespace, in user space.
- *     usernet PID|--netns NAME [--publish HOST:PORT:INNER ..] [OPTION ..]
+ * usernet: the network of a namespace, in user space.
+ *     usernet [OPTION ..] PID|PATH [DEVICE]
  * Each connection of the namespace ends in an end of ours (../../c/tcpcore/tcpcore.h), behind which a socket of the host goes
- * on to the same address and port; 10.0.2.2 is the host's loopback. The namespace is 10.0.2.100. IPv4 and TCP alone:
- * all else is passed over. It prints "ready", ends on SIGTERM or SIGINT with every connection reset, and reports counts
+ * on to the same address and port; datagrams and echoes go through sockets of the host's, too. 10.0.2.2 is the host's loopback,
+ * 10.0.2.3 its name server, 10.0.2.100 the namespace. IPv4 alone. It prints "ready", ends on SIGTERM or SIGINT with every connection reset, and reports counts
  * and bytes held with --stats, at its end and on SIGUSR1. --threads runs so many, each with a queue of the device and the
  * connections that a hash deals to it. --fault loses, doubles and delays so many percent, for tests. What the namespace can hold
  * is limited: --help tells how, and all other words. Where the device is deleted it ends with status 1.
@@ -32,7 +32,7 @@ static void tell(void)
 {
     static const char *const names[COUNTERS] = {
         "opened", "refused", "published", "strays", "gave_up", "malformed", "arrived", "emitted", "up", "down", "full", "recycled",
-        "exhausted", "withheld", "unsaid", "now", "most", "half_open", "reserved"};
+        "exhausted", "withheld", "unsaid", "now", "most", "half_open", "reserved", "flows", "flows_now", "datagrams", "unreachable"};
     struct mallinfo2 held = mallinfo2();
     unsigned long long sums[COUNTERS] = {0};
     for (uint32_t net = 0; net < shared.threads; net++)
@@ -54,6 +54,13 @@ static void read_signal(void)
         tell();
 }
 
+/* The host with this number in the namespace's network. */
+static tcpcore_addr host_of(uint8_t number)
+{
+    uint32_t addr = told.network + number;
+    return (tcpcore_addr){{(uint8_t)(addr >> 24), (uint8_t)(addr >> 16), (uint8_t)(addr >> 8), (uint8_t)addr}};
+}
+
 static struct usernet *make(uint32_t index, int queue, const uint8_t secret[16])
 {
     struct usernet *net = calloc(1, sizeof *net);
@@ -61,8 +68,9 @@ static struct usernet *make(uint32_t index, int queue, const uint8_t secret[16])
         return NULL;
     net->index = index, net->shared = &shared;
     net->device = queue, net->offloads = told.device.offloads;
+    net->is_tap = tun_is_tap(queue, net->host.byte);
     net->mss = (uint16_t)(told.device.mtu < 1500 ? told.device.mtu - HEADERS : 1460);
-    net->own = (tcpcore_addr){{10, 0, 2, 100}}, net->gateway = (tcpcore_addr){{10, 0, 2, 2}};
+    net->own = host_of(100), net->gateway = host_of(2), net->resolver = host_of(3);
     net->up.percent = net->down.percent = (uint32_t)told.fault;
     net->up.state = 2 * index, net->down.state = 2 * index + 1;
     return loop_init(net, secret) ? net : NULL;
@@ -80,10 +88,11 @@ static void share_limits(void)
     getrlimit(RLIMIT_NOFILE, &files);
     files.rlim_cur = files.rlim_max;
     setrlimit(RLIMIT_NOFILE, &files);
-    uint64_t most = files.rlim_max > spare ? files.rlim_max - spare : 1;
+    uint64_t all = files.rlim_max > spare ? files.rlim_max - spare : 2, flows = limits.flows < all / 2 ? limits.flows : all / 2, most = all - flows;
     shared.limits = (struct limits){.connections = share(limits.connections < most ? limits.connections : most),
                                     .half_open = share(limits.half_open), .each = share(limits.each),
-                                    .memory = share(limits.memory * MIB), .ports = limits.ports, .strays = share(limits.strays), .quiet = limits.quiet};
+                                    .memory = share(limits.memory * MIB), .ports = limits.ports, .flows = share(flows),
+                                    .strays = share(limits.strays), .quiet = limits.quiet};
 }
 
 /* Makes all threads' structs; whether it could. */
@@ -107,26 +116,39 @@ static int set_up(void)
     return 1;
 }
 
+/* The network is there: who started the program is told. */
+static void tell_ready(void)
+{
+    puts("ready");
+    fflush(stdout);
+    if (told.ready == NO_DESCRIPTOR)
+        return;
+    if (write((int)told.ready, "1", 1) != 1)
+        perror("--ready-fd");
+    close((int)told.ready);
+}
+
 static void *run(void *net)
 {
-    loop_run(net, -1, NULL);
+    loop_run(net, -1, -1, NULL);
     return NULL;
 }
 
 int main(int number, char **words)
 {
     pthread_t others[THREADS] = {0};
-    int status = number == 0 ? 1 : words_read(words, &told, &shared);
+    int status = number == 0 ? 1 : words_read(number, words, &told, &shared);
     if (status >= 0)
         return status;
-    if (!set_up())
+    if (!set_up() || (told.is_boxed && !sandbox_enter(&told)))
         return 1;
     for (uint32_t net = 1; net < shared.threads; net++)
         if (pthread_create(&others[net], NULL, run, shared.all[net]) != 0)
             return perror("threads"), 1;
-    puts("ready");
-    fflush(stdout);
-    loop_run(shared.all[0], signals, read_signal);
+    if (told.is_filtered && !sandbox_filter())
+        return 1;
+    tell_ready();
+    loop_run(shared.all[0], signals, told.exits == NO_DESCRIPTOR ? -1 : (int)told.exits, read_signal);
     for (uint32_t net = 1; net < shared.threads; net++)
         pthread_join(others[net], NULL);
     if (told.shows)

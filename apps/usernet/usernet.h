@@ -10,17 +10,22 @@
 #define USERNET_H
 
 #include "companions/answers.h"
+#include "companions/ethernet.h"
 #include "companions/faults.h"
+#include "companions/icmp.h"
 #include "companions/ip.h"
 #include "companions/pairs.h"
 #include "companions/timers.h"
 #include "companions/trains.h"
+#include "companions/udp.h"
 #include "companions/wheel.h"
 
+#include <netinet/in.h>
 #include <stdatomic.h>
+#include <time.h>
 
 /* The most and the fewest bytes kept for each direction of a connection, and by how much its windows are shifted. */
-enum { CAPACITY = 262144, LEAST_CAPACITY = 8192, SHIFT = 3, BUCKETS = 65536 };
+enum { CAPACITY = 262144, LEAST_CAPACITY = 8192, SHIFT = 3, BUCKETS = 65536, FLOW_BUCKETS = 4096 };
 
 /* The most threads, and ports that are published; the queues of half-open connections by their destination. */
 enum { THREADS = 64, LISTENERS = 16, PLACES = 4096 };
@@ -54,6 +59,17 @@ struct conn {
     uint8_t syn_length;
 };
 
+/* Datagrams between two ports, or echoes with one identifier: a socket of the host that is connected to the other side. */
+struct relay {
+    struct pair pair;   /* as the namespace has it; of echoes the client's port is the identifier, and the server's 0 */
+    struct link order;  /* among all, by when a packet went through last */
+    struct relay *next;  /* of those that were dropped */
+    uint64_t since;     /* when one went through last */
+    int socket;
+    uint8_t protocol;   /* IP_UDP or IP_ICMP */
+    uint8_t is_dropped; /* whether it waits to be freed */
+};
+
 /* What is counted. */
 enum counter {
     OPENED, REFUSED, PUBLISHED, /* connections of the namespace: done at the host, refused by it; carried in */
@@ -64,6 +80,8 @@ enum counter {
     WITHHELD, UNSAID,           /* resets, and answers of connections, that a limit kept back */
     NOW, MOST, HALF_OPEN,       /* connections now, the most at once, and those half-open now */
     RESERVED,                   /* bytes of all ends now, as limits.memory counts them */
+    FLOWS, FLOWS_NOW,           /* flows of datagrams and echoes so far, and now */
+    DATAGRAMS, UNREACHABLE,     /* datagrams and echoes that went through, either way; those that ICMP said couldn't */
     COUNTERS
 };
 
@@ -74,6 +92,7 @@ struct limits {
     uint64_t each;         /* and of these those to one address and port */
     uint64_t memory;       /* bytes of all ends */
     uint64_t ports;        /* of the gateway's, from which connections are carried in */
+    uint64_t flows;        /* of datagrams and echoes */
     uint64_t strays;       /* resets in a second for what no connection takes */
     uint64_t quiet;        /* milliseconds for which a connection repeats no answer (companions/answers.h) */
 };
@@ -86,6 +105,8 @@ struct shared {
     struct usernet *all[THREADS];
     uint32_t threads;
     struct limits limits;                      /* of each thread: its share of what the program was told */
+    struct in_addr outbound;                   /* the address from which the host's sockets connect; all zero: the system's choice */
+    int has_loopback, has_dns;                 /* whether the host's loopback and its name server are reached */
     struct published published[LISTENERS + 1]; /* the last one's socket is below 0 */
     _Atomic int stops, status;                 /* whether all end, and the program's status then */
 };
@@ -97,8 +118,13 @@ struct usernet {
     int inbox, to_inbox;       /* packets of its connections that another thread has read */
     int is_gone;               /* whether the device is */
     int offloads;              /* whether trains of segments are exchanged with the device */
+    int is_tap;                /* whether packets lie behind Ethernet headers */
+    struct ethernet_addr host; /* then: the namespace's address */
     uint16_t mss, next_port;   /* the maximum segment size; the last of the gateway's ports that was tried */
     tcpcore_addr own, gateway; /* the namespace's address, and that which means the host's loopback */
+    tcpcore_addr resolver;     /* that which means the host's name server */
+    struct timespec read_at;   /* the age of the file of name servers when it was read */
+    struct in_addr nameserver; /* the first one in it */
     uint64_t now;              /* milliseconds */
     uint64_t listens_at;       /* when it listens again, or 0 where it does */
     _Atomic uint64_t counters[COUNTERS];
@@ -108,13 +134,17 @@ struct usernet {
     struct conn *dropped;      /* what is freed behind these events */
     struct queue half_open, active, resting; /* the connections by their phase: active ones by when something came last */
     struct queue places[PLACES];
+    struct pairs datagrams, echoes; /* the relays, by their protocols */
+    struct pair *datagram_buckets[FLOW_BUCKETS], *echo_buckets[FLOW_BUCKETS];
+    struct queue relays, brief; /* all of them, by when a packet went through last: those that are soon over are in `brief` */
+    struct relay *gone;        /* relays that are freed behind these events */
     uint64_t reserved;         /* bytes of all ends */
     uint64_t second, answered; /* the second in which the last stray came, and resets in it */
     tcpcore_end reader;        /* an end that is never opened: it reads what comes for no other */
     uint8_t reader_block[TCPCORE_MEMORY(1, 1)];
     struct faults up, down;    /* the path between device and ends */
     uint8_t frame[TUN_HEADER + 65535]; /* what the device gave */
-    uint8_t packet[TRAINS_ROOM]; /* what the device is given */
+    uint8_t packet[ETHERNET_HEADER + TRAINS_ROOM]; /* what the device is given */
     uint8_t text[CAPACITY];    /* what a socket gave */
 };
 
@@ -129,15 +159,17 @@ static inline void count(struct usernet *net, enum counter which, uint64_t numbe
 uint32_t owner_of(struct usernet *net, const struct pair *pair);
 
 /* A segment for the namespace is written to segment_place, then sent: summed and of `length` bytes, or what tcpcore_emit_train wrote. */
-static inline uint8_t *segment_place(struct usernet *net) { return net->packet + TRAINS_FRONT; }
+static inline uint8_t *segment_place(struct usernet *net) { return net->packet + ETHERNET_HEADER + TRAINS_FRONT; }
 void send_segment(struct usernet *net, size_t length, tcpcore_addr from, tcpcore_addr to);
+void send_packet(struct usernet *net, size_t length, tcpcore_addr from, tcpcore_addr to, uint8_t protocol);
 void send_train(struct usernet *net, tcpcore_addr from, const struct tcpcore_train *train);
 
 /* Makes what a thread has; whether it could. */
 int loop_init(struct usernet *net, const uint8_t secret[16]);
 
-/* Runs until all threads stop, then ends all connections. `signalled` is called where a signal came. */
-void loop_run(struct usernet *net, int signals, void (*signalled)(void));
+/* Runs until all threads stop, then ends all connections. `signalled` is called where a signal came; where the other side of `exits` is
+   closed all stop. Either may be below 0. */
+void loop_run(struct usernet *net, int signals, int exits, void (*signalled)(void));
 
 /* All threads stop, and the program ends with this status; whether no other one was told before. */
 int stop_all(struct shared *shared, int status);
@@ -157,6 +189,19 @@ void free_dropped(struct usernet *net);
 void turn_all(struct usernet *net);
 void end_all(struct usernet *net);
 
+/* host.c: a socket of the host's that is connected to where `to` and `port` lead, or begins to; below 0 where there is none, with errno:
+   EACCES where the program was told to leave that place alone. `kind` is SOCK_STREAM or SOCK_DGRAM. */
+int host_socket(struct usernet *net, tcpcore_addr to, uint16_t port, int kind, int protocol);
+
+/* relays.c: a datagram or an ICMP message came from the namespace; a socket of a relay has something; relays that were silent for long go;
+   those that were dropped are freed; all go. */
+void relays_datagram(struct usernet *net, const struct ip_packet *packet, int vouched);
+void relays_message(struct usernet *net, const struct ip_packet *packet);
+void relays_readable(struct usernet *net, struct relay *relay);
+void relays_expire(struct usernet *net);
+void relays_free(struct usernet *net);
+void relays_end(struct usernet *net);
+
 /* carry.c: text between the end and the host's socket, up to the host and down from it; 0 where the connection can't go on. */
 int carry_up(struct usernet *net, struct conn *conn);
 int carry_down(struct usernet *net, struct conn *conn);
@@ -175,6 +220,10 @@ void limits_follow(struct usernet *net, struct conn *conn, uint32_t phase);
 void limits_touch(struct usernet *net, struct conn *conn);
 void limits_leave(struct usernet *net, struct conn *conn);
 
+/* A place in a queue becomes its newest, or leaves the queue that it is in. */
+void queue_add(struct queue *queue, struct link *link);
+void queue_leave(struct link *link);
+
 /* Whether one more stray is answered in this second. */
 int limits_answer(struct usernet *net);
 
@@ -185,12 +234,23 @@ int is_exhausted(int fault);
 struct words {
     struct tun_config device;
     char space[256];
-    struct limits limits; /* of the whole program, with its memory in MiB */
+    struct limits limits;  /* of the whole program, with its memory in MiB */
     uint64_t mtu, fault, threads;
-    int shows;            /* whether counts are reported */
+    uint64_t ready, exits; /* descriptors, or NO_DESCRIPTOR: one is written to once all is there, the other's end ends the program */
+    uint32_t network;      /* its number, without the host's */
+    int is_path;           /* whether the namespace is named by its file */
+    int shows;             /* whether counts are reported */
+    int is_boxed, is_filtered; /* whether what isn't needed is given up: files and rights; calls of the system */
 };
 
+#define NO_DESCRIPTOR UINT64_MAX
+
+/* sandbox.c: with one thread, before the others are made: nothing of the file system is left but /etc and /run to be read, and no right. Then,
+   of all threads: no call of the system is left but those that the loop makes. Whether it could be done. */
+int sandbox_enter(const struct words *told);
+int sandbox_filter(void);
+
 /* Reads the program's words, which may publish ports. Answers below 0 where it goes on, else the status to end with. */
-int words_read(char **words, struct words *told, struct shared *shared);
+int words_read(int number, char **words, struct words *told, struct shared *shared);
 
 #endif

@@ -3,22 +3,36 @@
 #include "usernet.h"
 
 #include <arpa/inet.h>
+#include <getopt.h>
 #include <stdio.h>
 #include <stdlib.h>
 #include <string.h>
 #include <sys/socket.h>
 
 static const char USAGE[] =
-    "usernet PID|--netns NAME [OPTION ..]\n"
-    "The TCP of a network namespace, in user space: IPv4 and TCP alone. The namespace is 10.0.2.100, and 10.0.2.2 the host's loopback.\n"
+    "usernet [OPTION ..] PID|PATH [DEVICE]\n"
+    "The network of a namespace, in user space: TCP, UDP and echoes over IPv4. PID is a process in the namespace, or with --netns-type=path PATH\n"
+    "is its file. The namespace is 10.0.2.100; 10.0.2.2 leads to the host's loopback, and 10.0.2.3 to its name server. DEVICE is the name that\n"
+    "the namespace's TUN device gets (tun0), or of a TAP device that is there.\n"
     "\n"
     "  --publish HOST:PORT:INNER  carries connections to this address and port of the host to a port of the namespace\n"
+    "  --disable-host-loopback    10.0.2.2 leads nowhere\n"
+    "  --disable-dns              10.0.2.3 leads nowhere\n"
+    "  --outbound-addr ADDRESS    connects from this address of the host\n"
+    "  --cidr ADDRESS/PREFIX      the network, of at most 25 bits, in place of 10.0.2.0/24; its hosts keep their last numbers\n"
+    "  -m, --mtu N                of the device, 576 to 65535 (1500)\n"
+    "  -r, --ready-fd FD          writes 1 to this descriptor once the network is there\n"
+    "  -e, --exit-fd FD           ends when the other side of this descriptor is closed\n"
+    "  --netns-type pid|path, --userns-path PATH, --netns NAME\n"
+    "                             what the namespace is named by; the user namespace that is entered first; NAME as ip netns has it\n"
+    "  -c, --configure            gives a TAP device its address and a route, too, which a TUN device is always given\n"
+    "  --enable-sandbox           gives up the file system, but for /etc and /run to be read, and all rights, once the network is there\n"
+    "  --enable-seccomp           ends where the program makes a call of the system that it never makes by itself\n"
     "  --threads N                so many threads, 1 to 64 (1)\n"
-    "  --mtu N                    of the device, 576 to 65535 (1500)\n"
     "  --no-offloads              exchanges segments with the device one by one, each with its checksum\n"
     "  --stats                    reports counts at its end and on SIGUSR1\n"
     "  --fault PERCENT            loses, doubles and delays so many percent of the packets, 0 to 20 (0), for tests\n"
-    "  --help, --version          says this, or the version of its library, and ends\n"
+    "  -h, --help, -v, --version  says this, or the version of its library, and ends\n"
     "\n"
     "Limits of what the namespace can hold and is answered:\n"
     "  --connections N     so many connections (4096), and no more than there may be descriptors: one whose client was silent for ten\n"
@@ -26,9 +40,12 @@ static const char USAGE[] =
     "  --half-open N       of them so many whose handshake isn't done (1024): after a second one makes way for another\n"
     "  --half-open-each N  of these so many to one address and port (256)\n"
     "  --memory MIB        so much memory for all ends, at least 4 (1024): the less is left, the smaller are the windows of new ones\n"
+    "  --flows N           so many flows of datagrams and echoes (1024): the one that was silent longest makes way for another\n"
     "  --ports N           so many ports of 10.0.2.2 for connections that are carried in (32768), and so no more of these to one port\n"
-    "  --strays N          so many resets a second for what no connection takes, refusals among them (1000)\n"
-    "  --quiet MS          a connection repeats no answer to what it doesn't take for so many milliseconds (500); 0: it always does\n";
+    "  --strays N          so many resets and ICMP messages a second for what leads nowhere, refusals among them (1000)\n"
+    "  --quiet MS          a connection repeats no answer to what it doesn't take for so many milliseconds (500); 0: it always does\n"
+    "\n"
+    "An echo to a host needs the host's leave (net.ipv4.ping_group_range). Datagrams that the namespace cut into pieces are lost.\n";
 
 /* Listens for HOST:PORT:INNER; whether it could. */
 static int publish(const char *word, struct shared *shared)
@@ -56,61 +73,136 @@ static int read_number(const char *word, uint64_t least, uint64_t most, uint64_t
     return *word >= '0' && *word <= '9' && *end == 0 && *number >= least && *number <= most;
 }
 
-/* The words that a number follows; whether these were two of them. */
-static int read_pair(const char *name, const char *word, struct words *told)
+/* Words that a number follows. */
+static int read_limit(const char *name, const char *word, struct words *told)
 {
     struct limits *limits = &told->limits;
     const struct { const char *name; uint64_t *number, least, most; } NAMES[] = {
-        {"--mtu", &told->mtu, 576, 65535}, {"--fault", &told->fault, 0, 20}, {"--threads", &told->threads, 1, THREADS},
-        {"--connections", &limits->connections, 1, 1 << 20}, {"--half-open", &limits->half_open, 1, 1 << 20},
-        {"--half-open-each", &limits->each, 1, 1 << 20}, {"--memory", &limits->memory, 4, 1 << 20},
-        {"--ports", &limits->ports, 1, 32768}, {"--strays", &limits->strays, 0, UINT32_MAX}, {"--quiet", &limits->quiet, 0, 60000}};
+        {"mtu", &told->mtu, 576, 65535}, {"fault", &told->fault, 0, 20}, {"threads", &told->threads, 1, THREADS},
+        {"connections", &limits->connections, 1, 1 << 20}, {"half-open", &limits->half_open, 1, 1 << 20},
+        {"half-open-each", &limits->each, 1, 1 << 20}, {"memory", &limits->memory, 4, 1 << 20}, {"flows", &limits->flows, 1, 1 << 20},
+        {"ports", &limits->ports, 1, 32768}, {"strays", &limits->strays, 0, UINT32_MAX}, {"quiet", &limits->quiet, 0, 60000},
+        {"ready-fd", &told->ready, 0, INT32_MAX}, {"exit-fd", &told->exits, 0, INT32_MAX}};
     for (size_t at = 0; at < sizeof NAMES / sizeof NAMES[0]; at++)
         if (strcmp(name, NAMES[at].name) == 0)
             return read_number(word, NAMES[at].least, NAMES[at].most, NAMES[at].number);
     return 0;
 }
 
-/* One word, with the one behind it where it takes one: how many it was, 0 where it is none. */
-static int read_word(char **word, struct words *told, struct shared *shared)
+/* A network, of which the hosts 2, 3 and 100 are used. */
+static int read_network(const char *word, struct words *told)
 {
-    uint64_t pid;
-    if (strcmp(*word, "--stats") == 0)
-        return told->shows = 1;
-    if (strcmp(*word, "--no-offloads") == 0)
-        return told->device.offloads = 0, 1;
-    if (read_number(*word, 1, INT32_MAX, &pid))
-        return told->device.pid = (pid_t)pid, snprintf(told->space, sizeof told->space, "/proc/%d/ns/net", (int)pid) > 0;
-    if (!word[1])
+    char address[16];
+    struct in_addr found;
+    unsigned prefix;
+    int end = 0;
+    if (sscanf(word, "%15[0-9.]/%2u%n", address, &prefix, &end) != 2 || word[end] || inet_pton(AF_INET, address, &found) != 1 || prefix < 1 || prefix > 25)
         return 0;
-    if (strcmp(*word, "--netns") == 0)
-        return snprintf(told->space, sizeof told->space, "/run/netns/%s", word[1]) > 0 ? 2 : 0;
-    if (strcmp(*word, "--publish") == 0)
-        return publish(word[1], shared) ? 2 : 0;
-    return read_pair(*word, word[1], told) ? 2 : 0;
+    told->network = ntohl(found.s_addr) & ~(UINT32_MAX >> prefix);
+    told->device.prefix = prefix;
+    return 1;
 }
 
-int words_read(char **words, struct words *told, struct shared *shared)
+/* A word with its value, or without one; whether it could be read. */
+static int read_option(const char *name, const char *value, struct words *told, struct shared *shared)
 {
-    *told = (struct words){.device = {.name = "tun0", .addr = 0x0a000264, .prefix = 24, .offloads = 1}, .mtu = 1500, .threads = 1,
-                           .limits = {.connections = 4096, .half_open = 1024, .each = 256, .memory = 1024, .ports = 32768, .strays = 1000,
-                                      .quiet = ANSWERS_QUIET}};
+    const struct { const char *name; int *flag, value; } FLAGS[] = {
+        {"stats", &told->shows, 1}, {"no-offloads", &told->device.offloads, 0}, {"configure", &told->device.configures, 1},
+        {"enable-sandbox", &told->is_boxed, 1}, {"enable-seccomp", &told->is_filtered, 1}, {"disable-host-loopback", &shared->has_loopback, 0}, {"disable-dns", &shared->has_dns, 0}};
+    for (size_t at = 0; at < sizeof FLAGS / sizeof FLAGS[0]; at++)
+        if (strcmp(name, FLAGS[at].name) == 0)
+            return *FLAGS[at].flag = FLAGS[at].value, 1;
+    if (strcmp(name, "netns") == 0)
+        return snprintf(told->space, sizeof told->space, "/run/netns/%s", value) > 0;
+    if (strcmp(name, "netns-type") == 0)
+        return told->is_path = strcmp(value, "path") == 0, told->is_path || strcmp(value, "pid") == 0;
+    if (strcmp(name, "userns-path") == 0)
+        return told->device.users = value, 1;
+    if (strcmp(name, "outbound-addr") == 0)
+        return inet_pton(AF_INET, value, &shared->outbound) == 1;
+    if (strcmp(name, "publish") == 0)
+        return publish(value, shared);
+    if (strcmp(name, "cidr") == 0)
+        return read_network(value, told);
+    return read_limit(name, value, told);
+}
+
+/* The words that aren't options: the namespace, and the device's name. */
+static int read_rest(char **words, struct words *told)
+{
+    uint64_t pid;
+    if (*words && !*told->space) {
+        if (told->is_path)
+            snprintf(told->space, sizeof told->space, "%s", *words);
+        else if (read_number(*words, 1, INT32_MAX, &pid))
+            told->device.pid = (pid_t)pid, snprintf(told->space, sizeof told->space, "/proc/%d/ns/net", (int)pid);
+        else
+            return 0;
+        words++;
+    }
+    if (*words)
+        told->device.name = *words++;
+    return !*words && strlen(told->device.name) < 16;
+}
+
+static const struct option OPTIONS[] = {
+    {"configure", 0, 0, 'c'}, {"mtu", 1, 0, 'm'}, {"ready-fd", 1, 0, 'r'}, {"exit-fd", 1, 0, 'e'}, {"help", 0, 0, 'h'}, {"version", 0, 0, 'v'},
+    {"publish", 1, 0, 0}, {"disable-host-loopback", 0, 0, 0}, {"disable-dns", 0, 0, 0}, {"enable-sandbox", 0, 0, 0}, {"enable-seccomp", 0, 0, 0}, {"outbound-addr", 1, 0, 0}, {"cidr", 1, 0, 0},
+    {"netns-type", 1, 0, 0}, {"userns-path", 1, 0, 0}, {"netns", 1, 0, 0}, {"threads", 1, 0, 0}, {"no-offloads", 0, 0, 0}, {"stats", 0, 0, 0},
+    {"fault", 1, 0, 0}, {"connections", 1, 0, 0}, {"half-open", 1, 0, 0}, {"half-open-each", 1, 0, 0}, {"memory", 1, 0, 0}, {"flows", 1, 0, 0},
+    {"ports", 1, 0, 0}, {"strays", 1, 0, 0}, {"quiet", 1, 0, 0}, {0}};
+
+/* The long name of an option that was told by its letter, or by its place. */
+static const char *name_of(int letter, int place)
+{
+    for (int at = 0; letter && OPTIONS[at].name; at++)
+        if (OPTIONS[at].val == letter)
+            return OPTIONS[at].name;
+    return OPTIONS[place].name;
+}
+
+static int fault(const char *before, const char *word, const char *value)
+{
+    return fprintf(stderr, "usernet: no such word, or no such value behind it: '%s%s%s' (see usernet --help)\n", before, word, value), 1;
+}
+
+/* Reads all options; answers below 0 where it goes on. */
+static int read_options(int number, char **words, struct words *told, struct shared *shared)
+{
+    int letter, place = 0;
+    opterr = 0;
+    while ((letter = getopt_long(number, words, "cm:r:e:hv", OPTIONS, &place)) != -1) {
+        if (letter == 'h')
+            return fputs(USAGE, stdout), 0;
+        if (letter == 'v')
+            return printf("usernet 0.%u\n", tcpcore_version()), 0;
+        if (letter == '?')
+            return fault("", words[optind - 1], "");
+        const char *name = name_of(letter, place);
+        if (!read_option(name, optarg, told, shared))
+            return fault("--", name, optarg ? optarg : "");
+    }
+    return -1;
+}
+
+int words_read(int number, char **words, struct words *told, struct shared *shared)
+{
+    *told = (struct words){.device = {.name = "tun0", .prefix = 24, .offloads = 1}, .network = 0x0a000200, .mtu = 1500, .threads = 1,
+                           .ready = NO_DESCRIPTOR, .exits = NO_DESCRIPTOR,
+                           .limits = {.connections = 4096, .half_open = 1024, .each = 256, .memory = 1024, .ports = 32768, .flows = 1024,
+                                      .strays = 1000, .quiet = ANSWERS_QUIET}};
+    shared->has_loopback = shared->has_dns = 1;
     for (int at = 0; at <= LISTENERS; at++)
         shared->published[at].socket = -1;
-    for (char **word = words + 1; *word;) {
-        int taken = read_word(word, told, shared);
-        if (strcmp(*word, "--help") == 0)
-            return fputs(USAGE, stdout), 0;
-        if (strcmp(*word, "--version") == 0)
-            return printf("usernet 0.%u\n", tcpcore_version()), 0;
-        if (taken == 0)
-            return fprintf(stderr, "usernet: no such word, or no such number behind it: '%s' (see usernet --help)\n", *word), 1;
-        word += taken;
-    }
-    if (!*told->space)
-        return fputs("usernet: no namespace: see usernet --help\n", stderr), 1;
+    int status = read_options(number, words, told, shared);
+    if (status >= 0)
+        return status;
+    if (!read_rest(words + optind, told) || !*told->space)
+        return fputs("usernet: no namespace, or more words than it and a device: see usernet --help\n", stderr), 1;
     told->device.space = told->space;
     told->device.mtu = (uint32_t)told->mtu;
+    told->device.addr = told->network + 100;
+    told->device.gateway = told->network + 2;
     shared->threads = (uint32_t)told->threads;
     return -1;
 }

@@ -17,7 +17,7 @@ import tempfile
 import threading
 import time
 
-GATEWAY = "10.0.2.2"
+GATEWAY, NAMESERVER, FAR = "10.0.2.2", "10.0.2.3", "192.0.2.1"
 SERVERS, CLIENTS = "usernet-servers", "usernet-clients"
 HERE = pathlib.Path(__file__).resolve().parent
 # Seconds that one client may take.
@@ -87,14 +87,48 @@ async def reset(reader, writer):
         writer.close()
 
 
+async def who(reader, writer):
+    with contextlib.suppress(ConnectionError):
+        await reader.readuntil(b"\r\n\r\n")
+        writer.write(b"HTTP/1.0 200 OK\r\n\r\n" + writer.get_extra_info("peername")[0].encode())
+        writer.close()
+
+
+def answer_of(data):
+    """What a name server answers (RFC 1035, 4.1): each name that ends in .test has the gateway's address, and no other one is known."""
+    end = data.index(0, 12) + 5
+    question, kind = data[12:end], data[end - 4 : end - 2]
+    is_known = question[:-4].endswith(b"\4test\0")
+    has_address = is_known and kind == b"\0\1"
+    head = data[:2] + (b"\x81\x80" if is_known else b"\x81\x83") + struct.pack(">HHHH", 1, has_address, 0, 0)
+    return head + question + (b"\xc0\x0c\0\1\0\1" + struct.pack(">IH", 60, 4) + socket.inet_aton(GATEWAY) if has_address else b"")
+
+
+def answer_datagrams(port, answer):
+    """Each datagram is answered, an empty one too, which asyncio wouldn't send."""
+    end = socket.socket(socket.AF_INET, socket.SOCK_DGRAM)
+    end.bind(("127.0.0.1", port))
+
+    def run():
+        while True:
+            data, peer = end.recvfrom(65536)
+            end.sendto(answer(data), peer)
+
+    threading.Thread(target=run, daemon=True).start()
+
+
 def serve():
-    """8081: Handler; 8082: what comes is sent back, and the close after it; 8085: closes at once; 8086: resets what sends anything."""
+    """8081: Handler; 8082: what comes is sent back, and the close after it; 8085: closes at once; 8086: resets what sends anything. And of
+    datagrams 8090: what comes is sent back; 53: answer_of. At FAR 8091: the address from which a client comes."""
     web = http.server.ThreadingHTTPServer(("127.0.0.1", 8081), Handler)
     threading.Thread(target=web.serve_forever, daemon=True).start()
 
     async def run():
         for call, port in (echo, 8082), (close, 8085), (reset, 8086):
             await asyncio.start_server(call, "127.0.0.1", port, backlog=4096)
+        await asyncio.start_server(who, FAR, 8091)
+        answer_datagrams(8090, lambda data: data)
+        answer_datagrams(53, answer_of)
         print("ready", flush=True)
         await asyncio.Event().wait()
 
@@ -127,7 +161,7 @@ class World:
     def __init__(self, size):
         self.folder = pathlib.Path(tempfile.mkdtemp(prefix="usernet."))
         self.folder.chmod(0o755)
-        self.size, self.program, self.digests = size, None, {}
+        self.size, self.program, self.digests, self.fault = size, None, {}, 0
         self.stack = contextlib.ExitStack()
 
     def digest(self, name):
@@ -143,7 +177,14 @@ class World:
                 subprocess.run(["ip", "netns", "delete", name], stderr=subprocess.DEVNULL)
                 subprocess.run(["ip", "netns", "add", name], check=True)
                 stack.callback(subprocess.run, ["ip", "netns", "delete", name])
+            for name, server in (SERVERS, "127.0.0.1"), (CLIENTS, NAMESERVER):
+                settings = pathlib.Path("/etc/netns") / name
+                settings.mkdir(parents=True, exist_ok=True)
+                (settings / "resolv.conf").write_text(f"nameserver {server}\noptions timeout:1 attempts:20\n")
+                stack.callback(shutil.rmtree, settings, ignore_errors=True)
             self.server("ip", "link", "set", "lo", "up")
+            self.server("ip", "address", "add", FAR, "dev", "lo")
+            self.server("sysctl", "-qw", "net.ipv4.ping_group_range=0 2147483647")
             self.digest("large"), self.digest("small")
             self.start_servers(stack)
             self.stack = stack.pop_all()
@@ -268,6 +309,7 @@ LogLevel ERROR
         """The program between both; `fault` percent of the packets are lost, doubled and late."""
         words = [HERE / "out" / self.program_name, "--netns", CLIENTS, "--stats", "--publish", "127.0.0.1:7000:8000", "--publish",
                  "127.0.0.1:7001:8001", *more]
+        self.fault = fault
         if fault:
             words += ["--fault", fault]
         with contextlib.ExitStack() as stack:
@@ -281,6 +323,13 @@ LogLevel ERROR
 
     def descriptors(self):
         return len(os.listdir(f"/proc/{self.program.pid}/fd"))
+
+    def descriptors_of_connections(self):
+        """Those that aren't of flows, which go in their own time. A flow that goes while both are counted makes the first count wrong."""
+        while True:
+            before, descriptors = self.counters()["flows_now"], self.descriptors()
+            if self.counters()["flows_now"] == before:
+                return descriptors - before
 
     def processor_seconds(self):
         """The processor time that the program has had."""

@@ -1,24 +1,13 @@
-/* The IPv4 header around a TCP segment (see ip.h). C beside tcpcore.h, tested and not proved. */
+/* The IPv4 header (see ip.h). C beside tcpcore.h, tested and not proved. */
 #include "ip.h"
 #include "segment.h"
 
 #include <string.h>
 
 /* Of the header (RFC 791, 3.1). */
-enum { PROTOCOL_TCP = 6, TIME_TO_LIVE = 64, DONT_FRAGMENT = 0x4000, MORE_OR_OFFSET = 0x3fff, MOST = 65535 };
+enum { TIME_TO_LIVE = 64, DONT_FRAGMENT = 0x4000, MORE_OR_OFFSET = 0x3fff, MOST = 65535 };
 
 static uint32_t number(tcpcore_addr addr) { return read32(addr.byte); }
-
-/* The one's complement sum of a header (RFC 1071, 1); of one with its checksum in place it is 65,535. */
-static uint32_t sum(const uint8_t *header, size_t length)
-{
-    uint32_t total = 0;
-    for (size_t at = 0; at < length; at += 2)
-        total += read16(header + at);
-    /* Of at most 60 bytes: two additions carry all. */
-    total = (total & MOST) + (total >> 16);
-    return (total & MOST) + (total >> 16);
-}
 
 int ip_may_be_peer(struct ip_net own, tcpcore_addr addr)
 {
@@ -31,7 +20,7 @@ int ip_may_be_peer(struct ip_net own, tcpcore_addr addr)
     return !is_near || own.prefix > 30 || ((theirs & host) != 0 && (theirs & host) != host);
 }
 
-int ip_read(struct ip_net own, const void *bytes, size_t length, struct ip_packet *packet)
+int ip_read_any(struct ip_net own, const void *bytes, size_t length, struct ip_packet *packet, uint8_t *protocol)
 {
     const uint8_t *at = bytes;
     struct ip_packet found;
@@ -42,7 +31,7 @@ int ip_read(struct ip_net own, const void *bytes, size_t length, struct ip_packe
     size_t header = 4 * (size_t)(at[0] & 15), total = read16(at + 2);
     if (header < IP_HEADER || total < header || total > length)
         return IP_BAD_LENGTH;
-    if (sum(at, header) != MOST)
+    if (words_sum(at, header, 0) != MOST)
         return IP_BAD_CHECKSUM;
     memcpy(&found.src, at + 12, 4);
     memcpy(&found.dst, at + 16, 4);
@@ -52,15 +41,32 @@ int ip_read(struct ip_net own, const void *bytes, size_t length, struct ip_packe
         return IP_BAD_SOURCE;
     if (read16(at + 6) & MORE_OR_OFFSET)
         return IP_FRAGMENT;
-    if (at[9] != PROTOCOL_TCP)
-        return IP_OTHER_PROTOCOL;
     found.segment = at + header;
     found.length = total - header;
+    *packet = found;
+    *protocol = at[9];
+    return IP_DONE;
+}
+
+int ip_read(struct ip_net own, const void *bytes, size_t length, struct ip_packet *packet)
+{
+    struct ip_packet found;
+    uint8_t protocol;
+    int answer = ip_read_any(own, bytes, length, &found, &protocol);
+    if (answer != IP_DONE)
+        return answer;
+    if (protocol != IP_TCP)
+        return IP_OTHER_PROTOCOL;
     *packet = found;
     return IP_DONE;
 }
 
 size_t ip_write(void *out, tcpcore_addr src, tcpcore_addr dst, size_t length)
+{
+    return ip_write_any(out, src, dst, length, IP_TCP);
+}
+
+size_t ip_write_any(void *out, tcpcore_addr src, tcpcore_addr dst, size_t length, uint8_t protocol)
 {
     uint8_t *at = out;
     if (length > MOST - IP_HEADER)
@@ -71,9 +77,9 @@ size_t ip_write(void *out, tcpcore_addr src, tcpcore_addr dst, size_t length)
     /* What is never fragmented needs no identification (RFC 6864, 4.1). */
     write16(at + 6, DONT_FRAGMENT);
     at[8] = TIME_TO_LIVE;
-    at[9] = PROTOCOL_TCP;
+    at[9] = protocol;
     memcpy(at + 12, &src, 4);
     memcpy(at + 16, &dst, 4);
-    write16(at + 10, (uint16_t)(MOST - sum(at, IP_HEADER)));
+    write16(at + 10, (uint16_t)(MOST - words_sum(at, IP_HEADER, 0)));
     return length + IP_HEADER;
 }

@@ -1,5 +1,6 @@
 /*
- * ip.h: the IPv4 header around a TCP segment, written, read and checked (RFC 791, 3.1; RFC 1122, 3.2.1).
+ * ip.h: the IPv4 header around a TCP segment, or around what another protocol sends, written, read and checked (RFC 791,
+ * 3.1; RFC 1122, 3.2.1).
  *
  * This is C beside tcpcore.h, tested and not proved. There is no reassembly: a TCP that advertises its MSS keeps clear of
  * fragments.
@@ -11,6 +12,9 @@
 
 /* The bytes of a header without options. */
 #define IP_HEADER 20
+
+/* Protocols, as the header numbers them (RFC 791, 3.1). */
+enum { IP_ICMP = 1, IP_TCP = 6, IP_UDP = 17 };
 
 /* What ip_read answers: the first fault that applies. */
 enum {
@@ -49,10 +53,17 @@ int ip_may_be_peer(struct ip_net own, tcpcore_addr addr);
    passed over. */
 int ip_read(struct ip_net own, const void *bytes, size_t length, struct ip_packet *packet);
 
+/* The same of any protocol, whose number goes into *protocol: `segment` is then all that lies behind the header. It never answers
+   IP_OTHER_PROTOCOL. */
+int ip_read_any(struct ip_net own, const void *bytes, size_t length, struct ip_packet *packet, uint8_t *protocol);
+
 /*
  * Writes the header of a packet that carries a TCP segment of `length` bytes, not to be fragmented, to the 20 bytes
  * at `out`; the segment goes behind it. Answers the packet's length, or 0 where it would be above 65,535 bytes.
  */
 size_t ip_write(void *out, tcpcore_addr src, tcpcore_addr dst, size_t length);
+
+/* The same around what another protocol sends. */
+size_t ip_write_any(void *out, tcpcore_addr src, tcpcore_addr dst, size_t length, uint8_t protocol);
 
 #endif

@@ -27,8 +27,9 @@ static int enter(const struct tun_config *config)
     char name[64];
     int net = open(config->space, O_RDONLY | O_CLOEXEC);
     snprintf(name, sizeof name, "/proc/%d/ns/user", (int)config->pid);
-    int user = config->pid && geteuid() != 0 ? open(name, O_RDONLY | O_CLOEXEC) : -1;
-    if (net < 0 || (user >= 0 && setns(user, CLONE_NEWUSER) != 0) || setns(net, CLONE_NEWNET) != 0)
+    int enters = config->users || (config->pid && geteuid() != 0);
+    int user = enters ? open(config->users ? config->users : name, O_RDONLY | O_CLOEXEC) : -1;
+    if (net < 0 || (config->users && user < 0) || (user >= 0 && setns(user, CLONE_NEWUSER) != 0) || setns(net, CLONE_NEWNET) != 0)
         return fails(config->space);
     return 0;
 }
@@ -42,12 +43,14 @@ static struct sockaddr of_addr(uint32_t addr)
 }
 
 /* Address, MTU, up, and the default route; the loopback device too. */
-static int bring_up(const struct tun_config *config)
+static int bring_up(const struct tun_config *config, int is_tap)
 {
     int control = socket(AF_INET, SOCK_DGRAM | SOCK_CLOEXEC, 0);
     struct ifreq request = {.ifr_mtu = (int)config->mtu}, lo = {.ifr_name = "lo", .ifr_flags = IFF_UP | IFF_RUNNING};
     char name[IFNAMSIZ];
     struct rtentry route = {.rt_dst = of_addr(0), .rt_genmask = of_addr(0), .rt_flags = RTF_UP, .rt_dev = name};
+    if (is_tap)
+        route.rt_gateway = of_addr(config->gateway), route.rt_flags |= RTF_GATEWAY;
     snprintf(name, sizeof name, "%s", config->name);
     memcpy(request.ifr_name, name, sizeof name);
     int bad = control < 0 || ioctl(control, SIOCSIFMTU, &request) != 0;
@@ -63,14 +66,19 @@ static int bring_up(const struct tun_config *config)
     return bad ? fails(config->name) : 0;
 }
 
-/* One queue of the device, which the first of them makes. */
+/* Attaches to the device, and makes it where it isn't there. */
+static int attach(const struct tun_config *config, int device, short kind)
+{
+    struct ifreq request = {.ifr_flags = (short)(IFF_NO_PI | kind | (config->offloads ? IFF_VNET_HDR : 0))};
+    snprintf(request.ifr_name, sizeof request.ifr_name, "%s", config->name);
+    return ioctl(device, TUNSETIFF, &request);
+}
+
+/* One queue of the device, which the first of them makes: a TUN device, unless there is a TAP device of this name. */
 static int queue(const struct tun_config *config, short kind)
 {
-    short flags = (short)(IFF_TUN | IFF_NO_PI | kind | (config->offloads ? IFF_VNET_HDR : 0));
-    struct ifreq request = {.ifr_flags = flags};
     int device = open("/dev/net/tun", O_RDWR | O_NONBLOCK | O_CLOEXEC), header = TUN_HEADER;
-    snprintf(request.ifr_name, sizeof request.ifr_name, "%s", config->name);
-    if (device < 0 || ioctl(device, TUNSETIFF, &request) != 0)
+    if (device < 0 || (attach(config, device, IFF_TUN | kind) != 0 && attach(config, device, IFF_TAP | kind) != 0))
         return fails("/dev/net/tun");
     if (config->offloads && (ioctl(device, TUNSETVNETHDRSZ, &header) != 0 ||
                              ioctl(device, TUNSETOFFLOAD, TUN_F_CSUM | TUN_F_TSO4) != 0))
@@ -103,11 +111,21 @@ static int make(const struct tun_config *config, int channel, uint32_t count)
     if (enter(config) != 0)
         return -1;
     for (uint32_t at = 0; at < count; at++) {
-        int device = queue(config, count > 1 ? IFF_MULTI_QUEUE : 0);
-        if (device < 0 || (at == 0 && bring_up(config) != 0) || pass(channel, device) != 0)
+        int device = queue(config, count > 1 ? IFF_MULTI_QUEUE : 0), is_tap = device >= 0 && tun_is_tap(device, (uint8_t[6]){0});
+        int comes_up = at == 0 && (!is_tap || config->configures);
+        if (device < 0 || (comes_up && bring_up(config, is_tap) != 0) || pass(channel, device) != 0)
             return -1;
     }
     return 0;
+}
+
+int tun_is_tap(int queue, uint8_t addr[6])
+{
+    struct ifreq request = {0}, hardware = {0};
+    if (ioctl(queue, TUNGETIFF, &request) != 0 || !(request.ifr_flags & IFF_TAP) || ioctl(queue, SIOCGIFHWADDR, &hardware) != 0)
+        return 0;
+    memcpy(addr, hardware.ifr_hwaddr.sa_data, 6);
+    return 1;
 }
 
 int tun_open(const struct tun_config *config, int *queues, uint32_t count)

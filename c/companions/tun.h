@@ -1,6 +1,6 @@
 /*
  * tun.h: a TUN device inside a network namespace, brought up with address and default route, read and written from
- * outside it.
+ * outside it; or a TAP device that somebody has made there.
  */
 #ifndef TCPCORE_TUN_H
 #define TCPCORE_TUN_H
@@ -13,16 +13,22 @@ enum { TUN_HEADER = 10 };
 
 struct tun_config {
     const char *space;  /* the file of the namespace, as /proc/PID/ns/net */
-    pid_t pid;          /* the process whose user namespace is entered first, or 0 */
+    const char *users;  /* the file of the user namespace that is entered first, or NULL */
+    pid_t pid;          /* where that is NULL the process whose user namespace is entered first, unless by root; or 0 */
     const char *name;   /* of the device */
     uint32_t addr;      /* the namespace's address, its highest byte first in the number */
     uint32_t prefix;    /* bits of its network's number */
+    uint32_t gateway;   /* of a TAP device that configures: the address behind which all others are */
     uint32_t mtu;       /* of the device, 576 to 65,535 */
+    int configures;     /* whether a TAP device that is there already is given its address, MTU and route */
     int offloads;       /* whether packets of more than the MTU are exchanged, each behind a TUN_HEADER */
 };
 
+/* Whether packets of the device lie behind an Ethernet header, since it is a TAP device. Then *addr is the namespace's own of its two. */
+int tun_is_tap(int queue, uint8_t addr[6]);
+
 /*
- * Makes the device with `count` queues, 1 to 256, and brings it up. The descriptors of the queues don't block. A packet of the
+ * Makes the device with `count` queues, 1 to 256, and brings it up; or attaches to a TAP device of this name. The descriptors of the queues don't block. A packet of the
  * namespace comes out of the queue that its connection's last packet went into, or else of one by a hash. Whether it could; where
  * not, there is a line on stderr.
  */

@@ -36,6 +36,7 @@ LONG = {
     r"bench/": "takes minutes, and measures",
     r"(apps/(web|usernet|tcpkit)|c/(dist|portable)|release)/\w+\.sh\b": "builds over proofs",
     r"apps/tcptest/": "wants root, and takes half a minute",
+    r"apps/usernet/out/": "wants what 'apps/usernet/build.sh' builds",
     r"node apps/web/": "wants the module that 'apps/web/build.sh' builds",
     r"c/(tcpcore|companions)/test\.sh\b": "wants the library that 'rt lib' builds",
     r"checks/(live|behind|differential|judge|release)\b": "wants the library that 'rt lib' builds, or the program",

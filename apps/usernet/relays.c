@@ -1,0 +1,201 @@
+/* Datagrams and echoes of the namespace (see usernet.h). C over the companions of tcpcore.h, tested and not proved. */
+#define _GNU_SOURCE
+#include "usernet.h"
+#include "companions/segment.h"
+
+#include <errno.h>
+#include <stdlib.h>
+#include <string.h>
+#include <sys/epoll.h>
+#include <sys/socket.h>
+#include <unistd.h>
+
+/* SILENCE: the milliseconds after which a relay goes through which nothing went: two minutes (RFC 4787, 4.3), and for a question to a name
+   server or an echo ten seconds. TURNS: the most packets of one relay before others have their turn. */
+enum { SILENCE = 120000, SHORT_SILENCE = 10000, DOMAIN_PORT = 53, TURNS = 32 };
+
+static struct relay *relay_of(struct link *link) { return (struct relay *)(void *)((char *)link - offsetof(struct relay, order)); }
+
+static struct pairs *pairs_of(struct usernet *net, uint8_t protocol) { return protocol == IP_UDP ? &net->datagrams : &net->echoes; }
+
+/* Those that are soon over: questions to name servers, and echoes. */
+static int is_brief(const struct relay *relay) { return relay->protocol == IP_ICMP || relay->pair.server_port == DOMAIN_PORT; }
+
+/* A packet went through. */
+static void touch(struct usernet *net, struct relay *relay)
+{
+    relay->since = net->now;
+    queue_add(is_brief(relay) ? &net->brief : &net->relays, &relay->order);
+    count(net, DATAGRAMS, 1);
+}
+
+/* An event of this turn may be its own, so that it stays where it is. */
+static void drop_relay(struct usernet *net, struct relay *relay)
+{
+    pairs_remove(pairs_of(net, relay->protocol), &relay->pair);
+    queue_leave(&relay->order);
+    close(relay->socket);
+    relay->is_dropped = 1;
+    relay->next = net->gone;
+    net->gone = relay;
+}
+
+void relays_free(struct usernet *net)
+{
+    while (net->gone) {
+        struct relay *relay = net->gone;
+        net->gone = relay->next;
+        free(relay);
+    }
+}
+
+/* The one through which nothing went for the longest time, or NULL. */
+static struct relay *oldest_relay(struct usernet *net)
+{
+    struct relay *oldest = net->relays.oldest ? relay_of(net->relays.oldest) : NULL, *brief = net->brief.oldest ? relay_of(net->brief.oldest) : NULL;
+    return !oldest || (brief && brief->since < oldest->since) ? brief : oldest;
+}
+
+void relays_end(struct usernet *net)
+{
+    for (struct relay *relay; (relay = oldest_relay(net));)
+        drop_relay(net, relay);
+    relays_free(net);
+}
+
+static void expire(struct usernet *net, const struct queue *queue, uint64_t silence)
+{
+    while (queue->oldest && net->now - relay_of(queue->oldest)->since >= silence)
+        drop_relay(net, relay_of(queue->oldest));
+}
+
+void relays_expire(struct usernet *net)
+{
+    expire(net, &net->relays, SILENCE);
+    expire(net, &net->brief, SHORT_SILENCE);
+}
+
+/* The namespace is told that what it sent with these addresses and ports couldn't be delivered, as often as strays are answered. The message
+   has the front of such a packet, which is all that its kernel looks at (RFC 1122, 3.2.2). */
+static void tell_unreachable(struct usernet *net, const struct pair *key, uint8_t protocol, int fault)
+{
+    int code = fault == ECONNREFUSED ? ICMP_NO_PORT : fault == EACCES || fault == EPERM ? ICMP_PROHIBITED : fault == EHOSTUNREACH ? ICMP_NO_HOST : ICMP_NO_NET;
+    uint8_t packet[IP_HEADER + UDP_HEADER] = {0};
+    if (!limits_answer(net))
+        return;
+    size_t length = ip_write_any(packet, key->client, key->server, UDP_HEADER, protocol);
+    if (protocol == IP_UDP)
+        udp_write(packet + IP_HEADER, key->client, key->client_port, key->server, key->server_port, 0);
+    else
+        icmp_make_echo(packet + IP_HEADER, ICMP_HEADER, ICMP_ECHO, key->client_port);
+    length = icmp_unreachable(segment_place(net), (uint8_t)code, packet, length);
+    send_packet(net, length, key->server, key->client, IP_ICMP);
+    count(net, UNREACHABLE, 1);
+}
+
+/* A relay that the namespace begins; NULL where there is none, with errno. The one that was silent for the longest time makes way. */
+static struct relay *new_relay(struct usernet *net, const struct pair *key, uint8_t protocol)
+{
+    while (net->relays.count + net->brief.count >= net->shared->limits.flows)
+        drop_relay(net, oldest_relay(net));
+    int host = host_socket(net, key->server, key->server_port, SOCK_DGRAM, protocol == IP_UDP ? 0 : IPPROTO_ICMP);
+    struct relay *relay = host >= 0 ? malloc(sizeof *relay) : NULL;
+    /* The lowest bit tells it from a connection. */
+    struct epoll_event event = {.events = EPOLLIN, .data.u64 = (uint64_t)(uintptr_t)relay | 1};
+    if (relay && epoll_ctl(net->events, EPOLL_CTL_ADD, host, &event) == 0) {
+        *relay = (struct relay){.pair = *key, .socket = host, .protocol = protocol};
+        pairs_add(pairs_of(net, protocol), &relay->pair);
+        count(net, FLOWS, 1);
+        return relay;
+    }
+    int fault = errno;
+    free(relay);
+    if (host >= 0)
+        close(host);
+    errno = host >= 0 ? ENOMEM : fault;
+    return NULL;
+}
+
+/* What came from the namespace goes to the other side. What a socket can't take is lost, as on any network. */
+static void carry_out(struct usernet *net, const struct pair *key, uint8_t protocol, const uint8_t *text, size_t length)
+{
+    struct relay *relay = (struct relay *)(void *)pairs_find(pairs_of(net, protocol), key);
+    if (!relay)
+        relay = new_relay(net, key, protocol);
+    if (relay)
+        touch(net, relay);
+    /* What an earlier packet met is answered first, and then no more. */
+    if (relay && (send(relay->socket, text, length, MSG_NOSIGNAL) >= 0 ||
+                 (errno == ECONNREFUSED && send(relay->socket, text, length, MSG_NOSIGNAL) >= 0)))
+        return;
+    if (is_exhausted(errno) || errno == EMSGSIZE || errno == EAGAIN)
+        count(net, EXHAUSTED, 1);
+    else
+        tell_unreachable(net, key, protocol, errno);
+}
+
+void relays_datagram(struct usernet *net, const struct ip_packet *packet, int vouched)
+{
+    struct udp found;
+    if (udp_read(packet, vouched, &found) != UDP_DONE) {
+        count(net, MALFORMED, 1);
+        return;
+    }
+    struct pair key = {packet->src, packet->dst, found.src_port, found.dst_port, NULL};
+    carry_out(net, &key, IP_UDP, found.text, found.length);
+}
+
+/* The gateway and the name server answer echoes themselves: there is no such host. */
+static int is_here(const struct usernet *net, tcpcore_addr addr)
+{
+    return memcmp(&addr, &net->gateway, sizeof addr) == 0 || memcmp(&addr, &net->resolver, sizeof addr) == 0;
+}
+
+void relays_message(struct usernet *net, const struct ip_packet *packet)
+{
+    if (!icmp_is_whole(packet)) {
+        count(net, MALFORMED, 1);
+        return;
+    }
+    struct pair key = {packet->src, packet->dst, icmp_id(packet->segment), 0, NULL};
+    if (packet->segment[0] != ICMP_ECHO)
+        return;
+    if (!is_here(net, packet->dst)) {
+        carry_out(net, &key, IP_ICMP, packet->segment, packet->length);
+        return;
+    }
+    memcpy(segment_place(net), packet->segment, packet->length);
+    icmp_make_echo(segment_place(net), packet->length, ICMP_REPLY, key.client_port);
+    send_packet(net, packet->length, packet->dst, packet->src, IP_ICMP);
+    count(net, DATAGRAMS, 1);
+}
+
+/* One packet of the other side's goes to the namespace; whether there was one. */
+static int carry_in(struct usernet *net, struct relay *relay)
+{
+    const struct pair *pair = &relay->pair;
+    uint8_t *place = segment_place(net);
+    size_t front = relay->protocol == IP_UDP ? UDP_HEADER : 0;
+    ssize_t got = recv(relay->socket, place + front, UDP_MOST, MSG_DONTWAIT);
+    if (got < 0) {
+        if (errno != EAGAIN && errno != EINTR)
+            tell_unreachable(net, pair, relay->protocol, errno);
+        return 0;
+    }
+    size_t length = (size_t)got;
+    if (relay->protocol == IP_UDP)
+        length = udp_write(place, pair->server, pair->server_port, pair->client, pair->client_port, length);
+    else if (length >= ICMP_HEADER)
+        icmp_make_echo(place, length, ICMP_REPLY, pair->client_port);
+    else
+        return 1;
+    send_packet(net, length, pair->server, pair->client, relay->protocol);
+    touch(net, relay);
+    return 1;
+}
+
+void relays_readable(struct usernet *net, struct relay *relay)
+{
+    for (int turn = 0; turn < TURNS && !relay->is_dropped && carry_in(net, relay); turn++)
+        ;
+}
