@@ -93,13 +93,23 @@ holds "a stack that has ended" ended
 export -f at_device
 export work
 holds "at a device" unshare --net bash -euc at_device
-holds "findings in Linux" differs linux $findings/linux-*.pkt
+# Of another kernel than the page's nothing is known: there a finding may be mended.
+kernel=$(uname -r | cut -d . -f 1-2)
+if grep -q "Linux $kernel\." ../../docs/CONFORMANCE.md; then
+    holds "findings in Linux" differs linux $findings/linux-*.pkt
+else
+    echo "tcptest: findings in Linux: $kernel is another kernel than the page's, so they aren't asked of it"
+fi
 holds "findings in lwIP" differs lwip $findings/lwip-*.pkt
 if [[ -e /usr/include/slirp/libslirp.h ]]; then
     holds "findings in libslirp" differs slirp $findings/libslirp-*.pkt
+else
+    echo "tcptest: findings in libslirp: libslirp-dev isn't here, so they aren't asked of it"
 fi
 if [[ -e /usr/share/gocode/src/gvisor.dev ]] && command -v go >/dev/null; then
     holds "findings in gVisor" differs gvisor $findings/gvisor-*.pkt
+else
+    echo "tcptest: findings in gVisor: golang-gvisor-gvisor-dev isn't here, so they aren't asked of it"
 fi
 holds "what was found elsewhere, on our end" ./packetdrill.py --stack ours $findings/{linux-small,lwip-text,libslirp-}*.pkt
 echo "tcptest: $passed passed, $left_out left out"
