@@ -1,6 +1,7 @@
-"""Timeouts and round trips written a second time, in fractions, from RFC 6298: `python3 checks/differential/times.py` writes the calls of
-crates/test_timing (stdin) and what they answer (stdout). `--check N [SEED]` makes N random calls, runs them through the built program and
-compares. SRTT and RTTVAR are kept in whole microseconds, rounded down, and every other number as the RFC has it.
+"""Timeouts and round trips written a second time, in fractions, from RFC 6298, with windows.py beside: `python3
+checks/differential/times.py` writes the calls of crates/test_timing (stdin) and what they answer (stdout). `--check N [SEED]` makes N
+random calls, runs them through the built program and compares. SRTT and RTTVAR are kept in whole microseconds, rounded down, and every
+other number as the RFC has it.
 """
 
 import pathlib
@@ -8,6 +9,8 @@ import random
 import subprocess
 import sys
 from fractions import Fraction
+
+import windows
 
 CRATE = pathlib.Path(__file__).resolve().parents[2] / "crates" / "test_timing"
 SECOND = 1_000_000
@@ -89,11 +92,13 @@ class Second:
     """What answers a line."""
 
     def __init__(self):
-        self.estimator, self.watch = Estimator(*STANDARD), Watch()
+        self.estimator, self.watch, self.windows = Estimator(*STANDARD), Watch(), windows.Windows()
 
     def answer(self, line):
         word, *numbers = line.split(" ")
         numbers = [int(number) for number in numbers]
+        if self.windows.knows(word):
+            return self.windows.answer(word, numbers)
         if word == "watch":
             self.watch = Watch()
             return "new"
@@ -165,7 +170,8 @@ def answers_of(lines):
 
 
 def check(count, seed):
-    lines = list(random_calls(random.Random(seed), count))
+    draw = random.Random(seed)
+    lines = [*random_calls(draw, count), *windows.random_calls(draw, count)]
     program = CRATE / "out" / "test_timing"
     if not program.exists():
         sys.exit(f"build it first: (cd {CRATE} && rt run </dev/null)")
@@ -176,12 +182,13 @@ def check(count, seed):
             sys.exit(f"seed {seed}, call {number}: {call}\n  {got}\n  wanted {wanted}")
     if len(out.stdout.splitlines()) != len(lines) or out.returncode != 0:
         sys.exit(f"seed {seed}: status {out.returncode}, {len(out.stdout.splitlines())} answers in place of {len(lines)}")
-    print(f"{len(lines)} calls of timeouts and round trips, no difference")
+    print(f"{len(lines)} calls of timeouts, round trips and windows, no difference")
 
 
 if __name__ == "__main__":
     if sys.argv[1:2] == ["--check"]:
         check(int(sys.argv[2]), int(sys.argv[3]) if len(sys.argv) > 3 else 1)
     else:
-        for name, lines in (("stdin", WORKED), ("stdout", answers_of(WORKED))):
+        rows = [*WORKED, *windows.WORKED]
+        for name, lines in (("stdin", rows), ("stdout", answers_of(rows))):
             (CRATE / name).write_text("".join(line + "\n" for line in lines))

@@ -1,6 +1,6 @@
 -- Answers lie an interval apart.
 use Rattle.std.proofs.Common.{◌≡◌, ℕ, suc, ◌+◌, ◌-◌, ◌*◌, ◌≤◌, Bool, true, false, List, [], ◌∷◌, Option, Some, None, arith, refl}
-use Rattle.std.specs.Prelude.{nat_le, if◌then◌else◌}
+use Rattle.std.specs.Prelude.{if◌then◌else◌}
 use Rattle.std.proofs.lemmas.Bool.Decides.{nat_tests}
 use Rattle.tcp_congestion.specs.declared.limiter.Limiter.{Limiter}
 use Rattle.tcp_congestion.specs.Limiter.{limiter_after, is_over, is_granted, answers, IsAfter, AreApart, OneInAnInterval, is_between, count_between, FewAnswers}

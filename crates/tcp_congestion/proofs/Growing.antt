@@ -3,9 +3,9 @@ use Rattle.std.proofs.Common.{◌≡◌, ℕ, suc, ◌+◌, ◌-◌, ◌*◌, �
 use Rattle.std.specs.Prelude.{min, max, nat_le, nat_lt, ◌==◌, if◌then◌else◌}
 use Rattle.std.proofs.Math.Nat.{mul-le-mul_left}
 use Rattle.std.proofs.lemmas.Bool.Decides.{nat_tests}
-use Rattle.tcp_congestion.specs.Sizes.{max_segment, max_window}
-use Rattle.tcp_congestion.specs.Reno.{Window, IsWindow, with_progress, is_used, avoided, slow_started, grown, after_growth, after_acknowledgement, after_recovering, after_counting, after_duplicate, after_timeout, begins_recovery, is_third, recovered, deflated, halved, limited}
-use Rattle.tcp_congestion.specs.Growth.{Acknowledgement, AvoidanceIsSlow, GrowthIsAcknowledged, LossShrinks, Shrinks, FlightStaysInWindow, after_acks, total as total_of}
+use Rattle.tcp_congestion.specs.Sizes.{max_window}
+use Rattle.tcp_congestion.specs.Reno.{Window, IsWindow, with_progress, is_used, avoided, slow_started, grown, after_growth, after_recovering, is_third, recovered, deflated, halved, limited}
+use Rattle.tcp_congestion.specs.Growth.{Acknowledgement, AvoidanceIsSlow, GrowthIsAcknowledged, LossShrinks, FlightStaysInWindow, after_acks, total as total_of}
 
 -- so far: it grew this many times, and what was acknowledged is used up or kept
 record Grew (w v : Window) (total : ℕ) : Type 0 where

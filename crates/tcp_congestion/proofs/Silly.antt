@@ -1,8 +1,8 @@
 -- No silly segment, and nothing waits longer than the override timeout.
-use Rattle.std.proofs.Common.{◌≡◌, ℕ, zero, suc, ◌+◌, ◌*◌, ◌<◌, ◌≤◌, inl, inr, Bool, true, false, List, [], ◌∷◌, Option, Some, None, arith, refl}
-use Rattle.std.specs.Prelude.{min, nat_lt, nat_le, ◌==◌, ◌⊎◌, if◌then◌else◌}
+use Rattle.std.proofs.Common.{◌≡◌, ℕ, ◌+◌, ◌*◌, ◌<◌, ◌≤◌, inl, inr, Bool, true, false, List, [], ◌∷◌, Option, Some, None, arith, refl}
+use Rattle.std.specs.Prelude.{min, nat_le, ◌==◌, ◌⊎◌, if◌then◌else◌}
 use Rattle.std.proofs.lemmas.Bool.Decides.{nat_tests}
-use Rattle.tcp_congestion.specs.SwsAvoidance.{Sender, Ask, NoSillySegment, NothingWaitsLonger, IsAlone, Waits, AllWait, after_ask, after_asks, is_all, is_alone, is_fraction, is_full, is_over, is_sent, is_worth, length_of, since_or}
+use Rattle.tcp_congestion.specs.SwsAvoidance.{Sender, Ask, NoSillySegment, NothingWaitsLonger, IsAlone, AllWait, after_ask, after_asks, is_alone, is_fraction, is_full, is_over, is_sent, is_worth, since_or}
 
 alone : (s : Sender) (flight : ℕ) (nagle : Bool) → s.is_nagle ≡ nagle → (if nagle then flight == 0 else true) ≡ true → IsAlone s flight
 alone s flight true e h = record { unsent = λ yes-nagle. grind (arith, nat_tests, h) }

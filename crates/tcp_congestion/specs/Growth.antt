@@ -1,5 +1,5 @@
 -- How the window grows and shrinks (RFC 5681, 3), over many acknowledgements.
-use Rattle.std.specs.Prelude.{◌≡◌, ℕ, ◌+◌, ◌-◌, ◌*◌, ◌/◌, ◌<◌, ◌≤◌, max, Bool, true, false, List, [], ◌∷◌}
+use Rattle.std.specs.Prelude.{◌≡◌, ℕ, ◌+◌, ◌*◌, ◌/◌, ◌<◌, ◌≤◌, max, true, false, List, [], ◌∷◌}
 use Rattle.tcp_congestion.specs.Reno.{Window, IsWindow, after_acknowledgement, after_duplicate, after_timeout, begins_recovery, room_of}
 
 -- an acknowledgement: what it acknowledges anew, up to which position, and what is in flight behind it

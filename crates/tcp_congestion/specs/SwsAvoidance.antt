@@ -1,7 +1,7 @@
 -- When data are sent (RFC 9293, 3.8.6.2.1): without the silly window syndrome, and with the Nagle algorithm (RFC 9293, 3.7.4; RFC 1122,
 -- 4.2.3.4) where it is chosen. Sizes are bytes, and times microseconds. `queued` is D, the data that weren't sent yet, all of them
 -- pushed; `usable` is U, the usable window; `flight` is SND.NXT - SND.UNA.
-use Rattle.std.specs.Prelude.{◌≡◌, ℕ, ◌+◌, ◌-◌, ◌*◌, ◌^◌, ◌<◌, ◌≤◌, ◌==◌, ◌⊎◌, min, max, Bool, true, false, nat_lt, nat_le, if◌then◌else◌, List, [], ◌∷◌, Option, Some, None}
+use Rattle.std.specs.Prelude.{◌≡◌, ℕ, ◌+◌, ◌*◌, ◌<◌, ◌≤◌, ◌==◌, ◌⊎◌, min, max, Bool, true, false, nat_le, if◌then◌else◌, List, [], ◌∷◌, Option, Some, None}
 use Rattle.tcp_congestion.specs.Sizes.{max_segment, latest}
 
 pub record Sender : Type 0 where
