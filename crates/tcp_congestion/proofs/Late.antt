@@ -3,7 +3,7 @@ use Rattle.std.proofs.Common.{◌≡◌, ℕ, ◌+◌, ◌*◌, ◌<◌, ◌≤�
 use Rattle.std.specs.Prelude.{min, nat_lt, nat_le, if◌then◌else◌}
 use Rattle.std.proofs.lemmas.Bool.Decides.{nat_tests}
 use Rattle.tcp_congestion.specs.Sizes.{latest}
-use Rattle.tcp_congestion.specs.DelayedAck.{Waiting, Arrival, NoAcknowledgementIsLate, nothing_unacked, after_arrival, after_arrivals, after_delay, is_owed, is_past, is_due, max_delay, since_or, text_of}
+use Rattle.tcp_congestion.specs.DelayedAck.{Waiting, Arrival, NoAcknowledgementIsLate, nothing_unacked, after_arrival, after_arrivals, after_delay, is_owed, is_past, is_due, max_delay, first_since, text_of}
 
 -- no arrival changes what is chosen
 same-rmss : (w : Waiting) (earlier : List Arrival) → (after_arrivals w earlier).rmss ≡ w.rmss
@@ -58,7 +58,7 @@ urgent w later now e =
     owed-due now (after_delay v.delay v.since) (is_owed v) (urgent-owed v.is_urgent (2 * v.rmss) v.unacked (still-urgent w later e))
 
 -- the first text that came is remembered
-remembered : (since : Option ℕ) (at count now : ℕ) → since ≡ Some at → since_or since count now ≡ Some at
+remembered : (since : Option ℕ) (at count now : ℕ) → since ≡ Some at → first_since since count now ≡ Some at
 remembered None at count now e = absurd (cc)
 remembered (Some first) at count now e = e
 

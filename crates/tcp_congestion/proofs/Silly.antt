@@ -2,7 +2,7 @@
 use Rattle.std.proofs.Common.{◌≡◌, ℕ, ◌+◌, ◌*◌, ◌<◌, ◌≤◌, inl, inr, Bool, true, false, List, [], ◌∷◌, Option, Some, None, arith, refl}
 use Rattle.std.specs.Prelude.{min, nat_le, ◌==◌, ◌⊎◌, if◌then◌else◌}
 use Rattle.std.proofs.lemmas.Bool.Decides.{nat_tests}
-use Rattle.tcp_congestion.specs.SwsAvoidance.{Sender, Ask, NoSillySegment, NothingWaitsLonger, IsAlone, AllWait, after_ask, after_asks, is_alone, is_fraction, is_full, is_over, is_sent, is_worth, since_or}
+use Rattle.tcp_congestion.specs.SwsAvoidance.{Sender, Ask, NoSillySegment, NothingWaitsLonger, IsAlone, AllWait, after_ask, after_asks, is_alone, is_fraction, is_full, is_overridden, is_sent, is_worth, waiting_since}
 
 alone : (s : Sender) (flight : ℕ) (nagle : Bool) → s.is_nagle ≡ nagle → (if nagle then flight == 0 else true) ≡ true → IsAlone s flight
 alone s flight true e h = record { unsent = λ yes-nagle. grind (arith, nat_tests, h) }
@@ -20,7 +20,7 @@ worth s queued usable flight true false a e h short =
 worth s queued usable flight false all a e h short = absurd (cc)
 
 silly-by : (s : Sender) (queued usable flight now : ℕ) (whole worthy over : Bool)
-    → nat_le s.mss (min queued usable) ≡ whole → is_worth s queued usable flight ≡ worthy → is_over s.since s.timeout now ≡ over
+    → nat_le s.mss (min queued usable) ≡ whole → is_worth s queued usable flight ≡ worthy → is_overridden s.since s.timeout now ≡ over
     → (if (if whole then true else (if worthy then true else over)) then min s.mss (min queued usable) else 0) < s.mss
     → 0 < (if (if whole then true else (if worthy then true else over)) then min s.mss (min queued usable) else 0)
     → (IsAlone s flight × (((if (if whole then true else (if worthy then true else over)) then min s.mss (min queued usable) else 0) ≡ queued)
@@ -35,7 +35,7 @@ silly-by s queued usable flight now false false false e f o less some = absurd (
 
 pub silly_lem : NoSillySegment
 silly_lem s queued usable flight now less some =
-    silly-by s queued usable flight now (is_full s queued usable) (is_worth s queued usable flight) (is_over s.since s.timeout now) refl refl refl less some
+    silly-by s queued usable flight now (is_full s queued usable) (is_worth s queued usable flight) (is_overridden s.since s.timeout now) refl refl refl less some
 
 -- where data wait nothing is sent
 waits-unsent : (mss sendable : ℕ) (b : Bool) → 0 < mss → 0 < sendable → (if b then min mss sendable else 0) ≡ 0 → b ≡ false
@@ -43,14 +43,14 @@ waits-unsent mss sendable true m h e = absurd (omega (arith, m, h, e))
 waits-unsent mss sendable false m h e = refl
 
 -- something is more than nothing
-some-left : (sendable at : ℕ) (since : Option ℕ) (now : ℕ) (b : Bool) → (sendable == 0) ≡ b → 0 < sendable → since_or since now ≡ Some at
-    → (if b then None else since_or since now) ≡ Some at
+some-left : (sendable at : ℕ) (since : Option ℕ) (now : ℕ) (b : Bool) → (sendable == 0) ≡ b → 0 < sendable → waiting_since since now ≡ Some at
+    → (if b then None else waiting_since since now) ≡ Some at
 some-left sendable at since now true e h is = absurd (grind (arith, nat_tests, e, h))
 some-left sendable at since now false e h is = is
 
 -- and they wait since when they did, or from now on
-since-kept : (mss sendable at now : ℕ) (since : Option ℕ) (b : Bool) → 0 < mss → 0 < sendable → (if b then min mss sendable else 0) ≡ 0 → since_or since now ≡ Some at
-    → (if b then None else (if sendable == 0 then None else since_or since now)) ≡ Some at
+since-kept : (mss sendable at now : ℕ) (since : Option ℕ) (b : Bool) → 0 < mss → 0 < sendable → (if b then min mss sendable else 0) ≡ 0 → waiting_since since now ≡ Some at
+    → (if b then None else (if sendable == 0 then None else waiting_since since now)) ≡ Some at
 since-kept mss sendable at now since true m h e is = absurd (omega (arith, m, h, e))
 since-kept mss sendable at now since false m h e is = some-left sendable at since now (sendable == 0) refl h is
 
@@ -62,11 +62,11 @@ same-mss : (s : Sender) (asks : List Ask) → (after_asks s asks).mss ≡ s.mss
 same-mss s [] = refl
 same-mss s (a ∷ earlier) = same-mss s earlier
 
-known : (since : Option ℕ) (at now : ℕ) → since ≡ Some at → since_or since now ≡ Some at
+known : (since : Option ℕ) (at now : ℕ) → since ≡ Some at → waiting_since since now ≡ Some at
 known None at now e = absurd (cc)
 known (Some since) at now e = e
 
-unknown : (since : Option ℕ) (now : ℕ) → since ≡ None → since_or since now ≡ Some now
+unknown : (since : Option ℕ) (now : ℕ) → since ≡ None → waiting_since since now ≡ Some now
 unknown None now e = refl
 unknown (Some since) now e = absurd (cc)
 
@@ -83,9 +83,9 @@ over-unsent true worthy over e = absurd (cc)
 over-unsent false true over e = absurd (cc)
 over-unsent false false over e = e
 
-not-over : (since : Option ℕ) (timeout at now : ℕ) → since ≡ Some at → is_over since timeout now ≡ false → now < at + timeout
-not-over None timeout at now e h = absurd (cc)
-not-over (Some since) timeout at now e h =
+not-overridden : (since : Option ℕ) (timeout at now : ℕ) → since ≡ Some at → is_overridden since timeout now ≡ false → now < at + timeout
+not-overridden None timeout at now e h = absurd (cc)
+not-overridden (Some since) timeout at now e h =
     let same : since ≡ at = cc in
     let less : now < since + timeout = grind (arith, nat_tests, h) in
     omega (arith, same, less)
@@ -102,6 +102,6 @@ waits_lem s first last between m none w all l =
     let unsent : is_sent v last.queued last.usable last.flight last.now ≡ false =
     waits-unsent v.mss (min last.queued last.usable) (is_sent v last.queued last.usable last.flight last.now) (omega (arith, same, m)) (l.0) (l.1) in
     let less : last.now < first.now + v.timeout =
-    not-over v.since v.timeout first.now last.now (still begun first.now between m at-first all)
-    (over-unsent (is_full v last.queued last.usable) (is_worth v last.queued last.usable last.flight) (is_over v.since v.timeout last.now) unsent) in
+    not-overridden v.since v.timeout first.now last.now (still begun first.now between m at-first all)
+    (over-unsent (is_full v last.queued last.usable) (is_worth v last.queued last.usable last.flight) (is_overridden v.since v.timeout last.now) unsent) in
     omega (arith, less, time)

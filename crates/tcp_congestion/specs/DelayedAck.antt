@@ -7,9 +7,9 @@ pub record Waiting : Type 0 where
   pub rmss : ℕ
   -- how long an acknowledgement may wait
   pub delay : ℕ
-  -- of the text that came and isn't acknowledged so much as two full segments
+  -- how much text came that isn't acknowledged, up to two full segments
   pub unacked : ℕ
-  -- when the first of it came
+  -- when the first of it came, where any did
   pub since : Option ℕ
   -- a segment came that has to be acknowledged at once
   pub is_urgent : Bool
@@ -25,15 +25,15 @@ abbrev pub new_waiting : ℕ → ℕ → Waiting
 new_waiting rmss delay = record { rmss = rmss; delay = delay; unacked = 0; since = None; is_urgent = false }
 
 -- text waits from the first that came on
-abbrev pub since_or : Option ℕ → ℕ → ℕ → Option ℕ
-since_or (Some first) count now = Some first
-since_or None count now = if nat_lt 0 count then Some now else None
+abbrev pub first_since : Option ℕ → ℕ → ℕ → Option ℕ
+first_since (Some first) count now = Some first
+first_since None count now = if nat_lt 0 count then Some now else None
 
 -- A SEGMENT CAME with so much new text, in order or not, at a time
 abbrev pub after_arrival : Waiting → ℕ → Bool → ℕ → Waiting
 after_arrival w count at_once now = record w {
   unacked = min (2 * w.rmss) (w.unacked + count);
-  since = since_or w.since count now;
+  since = first_since w.since count now;
   is_urgent = if at_once then true else w.is_urgent;
 }
 

@@ -52,8 +52,7 @@ avoided w all =
 abbrev pub grown : Window → ℕ → Window
 grown w acked = if nat_lt w.cwnd w.ssthresh then slow_started w acked else avoided w (w.bytes_acked + min acked w.cwnd)
 
--- half of the window was in flight when the acknowledgement came: else the user doesn't fill it, and its size is of no path
--- (RFC 7661, 4.3)
+-- half of the window was in flight when the acknowledgement came (RFC 7661, 4.3): one that isn't filled says nothing of the path
 abbrev pub is_used : Window → ℕ → ℕ → Bool
 is_used w acked flight = nat_le w.cwnd (2 * (acked + flight))
 

@@ -39,9 +39,9 @@ abbrev pub is_fraction : Sender → ℕ → ℕ → Bool
 is_fraction s queued usable = nat_le s.max_wnd (2 * min queued usable)
 
 -- (4) the override timeout occurs
-abbrev pub is_over : Option ℕ → ℕ → ℕ → Bool
-is_over None timeout now = false
-is_over (Some since) timeout now = nat_le (since + timeout) now
+abbrev pub is_overridden : Option ℕ → ℕ → ℕ → Bool
+is_overridden None timeout now = false
+is_overridden (Some since) timeout now = nat_le (since + timeout) now
 
 abbrev pub is_worth : Sender → ℕ → ℕ → ℕ → Bool
 is_worth s queued usable flight =
@@ -49,20 +49,20 @@ is_worth s queued usable flight =
 
 abbrev pub is_sent : Sender → ℕ → ℕ → ℕ → ℕ → Bool
 is_sent s queued usable flight now =
-    if is_full s queued usable then true else (if is_worth s queued usable flight then true else is_over s.since s.timeout now)
+    if is_full s queued usable then true else (if is_worth s queued usable flight then true else is_overridden s.since s.timeout now)
 
 -- how long the next segment is, 0 where there is none or it waits
 abbrev pub length_of : Sender → ℕ → ℕ → ℕ → ℕ → ℕ
 length_of s queued usable flight now = if is_sent s queued usable flight now then min s.mss (min queued usable) else 0
 
-abbrev pub since_or : Option ℕ → ℕ → Option ℕ
-since_or None now = Some now
-since_or (Some since) now = Some since
+abbrev pub waiting_since : Option ℕ → ℕ → Option ℕ
+waiting_since None now = Some now
+waiting_since (Some since) now = Some since
 
 -- data wait from when they could have been sent first
 abbrev pub since_after : Sender → ℕ → ℕ → ℕ → ℕ → Option ℕ
 since_after s queued usable flight now =
-    if is_sent s queued usable flight now then None else (if min queued usable == 0 then None else since_or s.since now)
+    if is_sent s queued usable flight now then None else (if min queued usable == 0 then None else waiting_since s.since now)
 
 abbrev pub after_asked : Sender → ℕ → ℕ → ℕ → ℕ → Sender
 after_asked s queued usable flight now = record s { since = since_after s queued usable flight now }
@@ -83,7 +83,7 @@ abbrev pub NoSillySegment : Type 0
 NoSillySegment =
     (s : Sender) (queued usable flight now : ℕ) → length_of s queued usable flight now < s.mss → 0 < length_of s queued usable flight now
     → (IsAlone s flight × ((length_of s queued usable flight now ≡ queued) ⊎ (s.max_wnd ≤ 2 * length_of s queued usable flight now)))
-    ⊎ (is_over s.since s.timeout now ≡ true)
+    ⊎ (is_overridden s.since s.timeout now ≡ true)
 
 -- the sender is asked for the next segment
 pub record Ask : Type 0 where

@@ -120,8 +120,9 @@ impl Reno {
         (self.cwnd + self.limited()).saturating_sub(flight)
     }
 
-    /// All before `snd_una` is acknowledged, `acked` bytes of it by what has just come, and `flight` bytes aren't. Returns
-    /// whether the first segment has to be sent again, because this is a partial acknowledgement (RFC 6582, 3.2, 3).
+    /// SND.UNA has moved on: all before `snd_una` is acknowledged, `acked` bytes of it by what has just come, and `flight`
+    /// bytes aren't. Returns whether the first segment has to be sent again, because this is a partial acknowledgement (RFC
+    /// 6582, 3.2, 3).
     #[must_use]
     pub fn acknowledged(&mut self, acked: u64, snd_una: u64, flight: u64) -> bool
         ensures again { result ≡ is_partial self.old snd_una }
@@ -141,8 +142,8 @@ impl Reno {
         false
     }
 
-    /// A duplicate acknowledgement of `snd_una` has come (RFC 5681, 2), while `flight` bytes are in flight, up to the
-    /// position `snd_nxt`. Returns whether the first segment has to be sent again, because this is the third one and begins
+    /// A duplicate acknowledgement has come (RFC 5681, 2), so that SND.UNA is still `snd_una`, while `flight` bytes are in
+    /// flight, up to the position `snd_nxt`. Returns whether the first segment has to be sent again, because this is the third one and begins
     /// fast recovery (RFC 5681, 3.2; RFC 6582, 3.2, 2).
     #[must_use]
     pub fn duplicate(&mut self, snd_una: u64, flight: u64, snd_nxt: u64) -> bool

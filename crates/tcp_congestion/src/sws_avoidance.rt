@@ -57,14 +57,18 @@ impl SwsAvoidance {
     }
 
     /// How long the next segment is: of `queued` bytes that weren't sent, with room for `usable` in the window, SND.UNA +
-    /// SND.WND - SND.NXT, while `flight` bytes aren't acknowledged. 0: nothing can be sent, or what can waits for more.
+    /// SND.WND - SND.NXT or what the congestion window leaves of it, while `flight` bytes aren't acknowledged. 0: nothing can
+    /// be sent, or what can waits for more.
     #[must_use]
     pub fn next_segment(&mut self, queued: u64, usable: u64, flight: u64, now: u64) -> u64
         ensures length { result ≡ length_of self.old queued usable flight now }
         ensures after { self.new ≡ after_asked self.old queued usable flight now }
     {
         let sendable = queued.min(usable);
-        if self.mss <= sendable || self.is_worth(queued, usable, flight) || self.is_over(now) {
+        if self.mss <= sendable
+            || self.is_worth(queued, usable, flight)
+            || self.is_overridden(now)
+        {
             self.since = None;
             return self.mss.min(sendable);
         }
@@ -87,7 +91,7 @@ impl SwsAvoidance {
         }
     }
 
-    ghost use Rattle.tcp_congestion.specs.SwsAvoidance.{is_over, is_worth};
+    ghost use Rattle.tcp_congestion.specs.SwsAvoidance.{is_overridden, is_worth};
 
     /// Whether a segment that isn't full is worth its header now.
     fn is_worth(&self, queued: u64, usable: u64, flight: u64) -> bool
@@ -100,8 +104,8 @@ impl SwsAvoidance {
     }
 
     /// Whether the override timeout has passed.
-    fn is_over(&self, now: u64) -> bool
-        ensures { result ≡ is_over self.now.since self.now.timeout now }
+    fn is_overridden(&self, now: u64) -> bool
+        ensures { result ≡ is_overridden self.now.since self.now.timeout now }
     {
         match self.since {
             Some(since) => since <= now && self.timeout <= now - since,
