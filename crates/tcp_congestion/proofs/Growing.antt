@@ -4,7 +4,7 @@ use Rattle.std.specs.Prelude.{min, max, nat_le, nat_lt, ◌==◌, if◌then◌el
 use Rattle.std.proofs.Math.Nat.{mul-le-mul_left}
 use Rattle.std.proofs.lemmas.Bool.Decides.{nat_tests}
 use Rattle.tcp_congestion.specs.Sizes.{max_window}
-use Rattle.tcp_congestion.specs.Reno.{Window, IsWindow, with_progress, is_used, avoided, slow_started, grown, after_growth, after_recovering, is_third, recovered, deflated, halved, limited}
+use Rattle.tcp_congestion.specs.Reno.{Window, IsWindow, with_progress, is_used, avoided, slow_started, grown, after_growth, after_recovering, is_third, recovered, deflated, begun, halved, inflated, limited}
 use Rattle.tcp_congestion.specs.Growth.{Acknowledgement, AvoidanceIsSlow, GrowthIsAcknowledged, LossShrinks, FlightStaysInWindow, after_acks, total as total_of}
 
 -- so far: it grew this many times, and what was acknowledged is used up or kept
@@ -94,7 +94,8 @@ grew w (ack ∷ earlier) is calm past =
     let h : Grew w (after_acks w earlier) (total_of earlier) = grew w earlier is calm past in
     let t = h.threshold in
     let l = h.least in
-    when-open (λ v. Grew w v (ack.acked + total_of earlier)) (after_acks w earlier) ack.acked ack.snd_una ack.flight (after_acks w earlier).is_recovering refl h.open_still
+    when-open (λ v. Grew w v (ack.acked + total_of earlier)) (after_acks w earlier) ack.acked ack.snd_una ack.flight
+    (after_acks w earlier).is_recovering refl h.open_still
     (by-use w (with_progress (after_acks w earlier)) (total_of earlier) ack.acked (is_used (after_acks w earlier) ack.acked ack.flight)
     (omega (arith, t, l, past)) (progressed w (after_acks w earlier) (total_of earlier) h))
 
@@ -112,7 +113,8 @@ record GrewAtMost (w v : Window) (total : ℕ) : Type 0 where
   open_still : v.is_recovering ≡ false
 
 most-by-size : (w v : Window) (total all extra : ℕ) (b : Bool) → nat_le v.cwnd all ≡ b → GrewAtMost w v total → all ≤ v.bytes_acked + extra
-    → GrewAtMost w (if b then record v { cwnd = min max_window (v.cwnd + v.smss); bytes_acked = all - v.cwnd } else record v { bytes_acked = all }) (extra + total)
+    → GrewAtMost w (if b then record v { cwnd = min max_window (v.cwnd + v.smss); bytes_acked = all - v.cwnd } else record v { bytes_acked = all })
+    (extra + total)
 most-by-size w v total all extra true e h from =
     let full : v.cwnd ≤ all = grind (arith, nat_tests, e) in
     let b = h.both in
@@ -143,7 +145,8 @@ grew-at-most w (ack ∷ earlier) is calm =
     let h : GrewAtMost w (after_acks w earlier) (total_of earlier) = grew-at-most w earlier is calm in
     let p : GrewAtMost w (with_progress (after_acks w earlier)) (total_of earlier) =
     record { both = h.both; least = h.least; most = h.most; open_still = h.open_still } in
-    when-open (λ v. GrewAtMost w v (ack.acked + total_of earlier)) (after_acks w earlier) ack.acked ack.snd_una ack.flight (after_acks w earlier).is_recovering refl h.open_still
+    when-open (λ v. GrewAtMost w v (ack.acked + total_of earlier)) (after_acks w earlier) ack.acked ack.snd_una ack.flight
+    (after_acks w earlier).is_recovering refl h.open_still
     (most-by-use w (with_progress (after_acks w earlier)) (total_of earlier) ack.acked (is_used (after_acks w earlier) ack.acked ack.flight) p)
 
 pub acknowledged_lem : GrowthIsAcknowledged
@@ -151,7 +154,8 @@ acknowledged_lem w acks is calm = let b = (grew-at-most w acks is calm).both in 
 
 -- ---- a loss
 third : (w : Window) (snd_una flight snd_nxt : ℕ) (recovering is_third_one : Bool) → (if recovering then false else is_third_one) ≡ true
-    → (if recovering then record w { cwnd = min max_window (w.cwnd + w.smss) } else (if is_third_one then record (halved w flight) { cwnd = (halved w flight).ssthresh + 3 * w.smss; bytes_acked = 0; recover = snd_nxt; is_recovering = true; duplicates = 0 } else record w { duplicates = min 3 (w.duplicates + 1) })).cwnd
+    → (if recovering then inflated w
+    else (if is_third_one then begun (halved w flight) snd_nxt else record w { duplicates = min 3 (w.duplicates + 1) })).cwnd
     ≤ max (flight / 2) (2 * w.smss) + 3 * w.smss
 third w snd_una flight snd_nxt true b e = absurd (cc)
 third w snd_una flight snd_nxt false true e = omega arith
@@ -164,7 +168,8 @@ once w snd_una false true e = grind (arith, nat_tests, e)
 once w snd_una false false e = absurd (cc)
 
 full : (w : Window) (acked snd_una flight : ℕ) (recovering before : Bool) → recovering ≡ true → nat_lt snd_una w.recover ≡ before → w.recover ≤ snd_una
-    → (if recovering then (if before then deflated (with_progress w) acked else recovered (with_progress w) flight) else after_growth (with_progress w) acked flight).cwnd
+    → (if recovering then (if before then deflated (with_progress w) acked else recovered (with_progress w) flight)
+    else after_growth (with_progress w) acked flight).cwnd
     ≤ w.ssthresh
 full w acked snd_una flight false b going e h = absurd (cc)
 full w acked snd_una flight true true going e h = absurd (grind (arith, nat_tests, e, h))

@@ -35,7 +35,8 @@ silly-by s queued usable flight now false false false e f o less some = absurd (
 
 pub silly_lem : NoSillySegment
 silly_lem s queued usable flight now less some =
-    silly-by s queued usable flight now (is_full s queued usable) (is_worth s queued usable flight) (is_overridden s.since s.timeout now) refl refl refl less some
+    silly-by s queued usable flight now (is_full s queued usable) (is_worth s queued usable flight) (is_overridden s.since s.timeout now)
+    refl refl refl less some
 
 -- where data wait nothing is sent
 waits-unsent : (mss sendable : ℕ) (b : Bool) → 0 < mss → 0 < sendable → (if b then min mss sendable else 0) ≡ 0 → b ≡ false
@@ -49,7 +50,8 @@ some-left sendable at since now true e h is = absurd (grind (arith, nat_tests, e
 some-left sendable at since now false e h is = is
 
 -- and they wait since when they did, or from now on
-since-kept : (mss sendable at now : ℕ) (since : Option ℕ) (b : Bool) → 0 < mss → 0 < sendable → (if b then min mss sendable else 0) ≡ 0 → waiting_since since now ≡ Some at
+since-kept : (mss sendable at now : ℕ) (since : Option ℕ) (b : Bool) → 0 < mss → 0 < sendable → (if b then min mss sendable else 0) ≡ 0
+    → waiting_since since now ≡ Some at
     → (if b then None else (if sendable == 0 then None else waiting_since since now)) ≡ Some at
 since-kept mss sendable at now since true m h e is = absurd (omega (arith, m, h, e))
 since-kept mss sendable at now since false m h e is = some-left sendable at since now (sendable == 0) refl h is

@@ -107,7 +107,8 @@ one-more : (n : ℕ) (e : Estimate) → (backed_off n e).rto ≡ min e.rules.gre
 one-more n e h same =
     let rules : (backed_off n e).rules.greatest ≡ e.rules.greatest = ap (λ (x : Rules). x.greatest) same in
     let power : 2 ^ suc n * e.rto ≡ 2 * (2 ^ n * e.rto) = rw pow-suc (omega arith) in
-    let step : min e.rules.greatest (2 * min e.rules.greatest (2 ^ n * e.rto)) ≡ min e.rules.greatest (2 * (2 ^ n * e.rto)) = doubled e.rules.greatest (2 ^ n) e.rto in
+    let step : min e.rules.greatest (2 * min e.rules.greatest (2 ^ n * e.rto)) ≡ min e.rules.greatest (2 * (2 ^ n * e.rto)) =
+    doubled e.rules.greatest (2 ^ n) e.rto in
     let new : (backed_off (suc n) e).rto ≡ min (backed_off n e).rules.greatest (2 * (backed_off n e).rto) = refl in
     cc
 
