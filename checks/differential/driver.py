@@ -1,0 +1,354 @@
+"""One end's timers written a second time, from RFC 6298, RFC 9293 (3.8.3, 3.8.6.1 and 3.10.8), RFC 1337 and RFC 5681 (3.1), around the small end
+of crates/test_driver: `python3 checks/differential/driver.py` writes the calls of that program (stdin) and what they answer (stdout). The calls
+come of a loop over a wire that takes 20 ms each way and loses segments. `--check N [SEED]` makes N random calls, runs them through the built
+program and compares.
+"""
+
+import pathlib
+import random
+import subprocess
+import sys
+
+from times import SECOND, STANDARD, Estimator, Watch
+
+CRATE = pathlib.Path(__file__).resolve().parents[2] / "crates" / "test_driver"
+LAST = 2**62
+MOST = 2**64 - 1
+WAY = 20_000
+
+
+class Small:
+    """The end: it sends numbers, one in a segment."""
+
+    def __init__(self, first):
+        self.una = self.nxt = self.accepted = first
+        self.again, self.unread = [], 0
+        self.gap = self.owed = self.rests = self.closed = self.over = False
+
+    def wants(self):
+        wanted = {"retransmit": self.una < self.nxt, "reorder": self.gap, "time-wait": self.rests}
+        return {timer for timer, is_wanted in wanted.items() if is_wanted and not self.over}
+
+    def due(self):
+        if self.over:
+            return None
+        if self.again:
+            return self.again[0], 1
+        return (self.nxt, 1) if self.nxt < self.accepted else (self.nxt, 0) if self.owed else None
+
+    def transmit(self):
+        due = self.due()
+        if due and self.again:
+            self.again.pop(0)
+        elif due:
+            self.nxt += due[1]
+        self.owed = self.owed and self.over
+        return due
+
+    def acknowledge(self):
+        due = (self.nxt, 0) if self.owed and not self.over else None
+        self.owed = False
+        return due
+
+    def arrive(self, ack, gap, fin):
+        before, self.una = self.una, max(self.una, min(self.nxt, ack))
+        self.again = [number for number in self.again if number >= self.una]
+        self.gap = gap == 1
+        if fin == 1:
+            self.owed, self.unread = True, 1
+            self.rests = self.rests or self.una == self.nxt
+        return self.una - before
+
+    def expire(self, timer):
+        if timer == "retransmit":
+            self.again, self.gap = list(range(self.una, self.nxt)), False
+        elif timer == "reorder":
+            self.again = [self.una]
+        else:
+            self.over = True
+
+    def resend_first(self):
+        can = self.una < self.nxt and not self.over
+        if can:
+            self.again = [self.una]
+        return can
+
+    def send(self, count):
+        can = not self.closed and not self.over
+        self.accepted += min(count, 100) if can else 0
+        return can
+
+    def close(self):
+        can = self.send(1)
+        self.closed = self.closed or can
+        return can
+
+    def abort(self):
+        can, self.over = not self.over, True
+        return can
+
+
+class Second:
+    """What answers a line."""
+
+    def new(self, now, first, time_wait, suspect, handshake, user):
+        self.end, self.estimator, self.watch = Small(first), Estimator(*STANDARD), Watch()
+        self.clock, self.una = min(LAST, now), first
+        self.time_wait, self.suspect, self.handshake, self.user = time_wait, suspect, handshake, user
+        self.deadlines, self.sent = {}, set()
+        self.since, self.expiries, self.patience, self.bursts = None, 0, self.estimator.rto, False
+        self.follow()
+        return "new"
+
+    def passes(self, now):
+        self.clock = max(self.clock, min(LAST, now))
+
+    def follow(self):
+        """RFC 6298, 5.1 to 5.3: a timer is started when it isn't running, and anew when something is acknowledged."""
+        wanted, is_news = self.end.wants(), self.end.una != self.una
+        self.una = self.end.una
+        if is_news:
+            trip = self.estimator.srtt
+            self.patience = self.estimator.rto if trip is None else min(trip, self.estimator.rto)
+        spans = {"retransmit": self.estimator.rto, "reorder": min(self.patience, self.estimator.rto), "time-wait": min(LAST, self.time_wait)}
+        for timer, span in spans.items():
+            if timer not in wanted:
+                self.deadlines.pop(timer, None)
+            elif timer not in self.deadlines or (is_news and timer != "time-wait"):
+                self.deadlines[timer] = self.clock + span
+        if "retransmit" not in wanted:
+            self.since, self.expiries = None, 0
+        elif self.since is None or is_news:
+            self.since, self.expiries = self.clock, 0 if is_news else self.expiries
+
+    def given_up_at(self):
+        """RFC 9293, 3.8.3: behind the first threshold, and after the time of the second."""
+        limit = self.handshake if self.una == 0 else self.user
+        if self.expiries < self.suspect or self.since is None or limit is None:
+            return None
+        return self.since + min(LAST, limit)
+
+    def all_deadlines(self):
+        at = self.given_up_at()
+        return {**({} if at is None else {"user": at}), **self.deadlines}
+
+    def arrive(self, now, ack, gap, fin, window, flags):
+        if self.bursts:
+            return "emit-first"
+        if self.end.rests and flags & 4:
+            return "withheld"
+        self.passes(now)
+        acked = self.end.arrive(ack, gap, fin)
+        if self.una == 0 and self.end.una > 0 and self.expiries > 0:
+            self.estimator.syn_resent()
+        trip = self.watch.acked(self.end.una, self.clock)
+        if trip != "-":
+            self.estimator.sample(int(trip))
+        if window == 0 and self.end.una > 0:
+            self.since, self.expiries = None, 0
+        self.follow()
+        return f"taken {acked}"
+
+    def emit(self, now, window):
+        self.passes(now)
+        due = self.end.due()
+        is_past = due is not None and due[0] > self.end.una and due[1] > 0 and due[0] + due[1] > self.end.una + window
+        out = self.end.acknowledge() if is_past else self.end.transmit()
+        if out is None:
+            self.bursts = False
+        else:
+            if out[1] and out[0] < max(self.sent, default=-1) + 1:
+                self.deadlines.pop("reorder", None)
+            self.deadlines.pop("time-wait", None)
+            self.watch.sent(*out, self.clock)
+            self.sent.update(range(out[0], out[0] + out[1]))
+        self.follow()
+        return "-" if out is None else f"sent {out[0]} {out[1]}"
+
+    def timeout(self, now):
+        self.passes(now)
+        passed = [timer for timer, at in self.all_deadlines().items() if at <= self.clock]
+        order = [timer for timer in ("user", "retransmit", "reorder", "time-wait") if timer in passed]
+        if self.bursts or not order:
+            return "-"
+        timer = order[0]
+        self.deadlines.pop(timer, None)
+        self.bursts = True
+        if timer == "retransmit":
+            self.expiries += 1
+            self.estimator.expired()
+        elif timer == "reorder":
+            self.patience = min(self.estimator.rto, 2 * min(self.patience, self.estimator.rto))
+        elif timer == "user":
+            self.since, self.expiries = None, 0
+        self.end.expire(timer)
+        self.follow()
+        return timer
+
+    def uses(self, word, now, *count):
+        self.passes(now)
+        if word == "receive":
+            answer, self.end.unread = self.end.unread, 0
+        else:
+            answer = getattr(self.end, word.replace("-", "_"))(*count)
+        self.follow()
+        return str(answer).lower()
+
+    def answer(self, line):
+        word, *words = line.split(" ")
+        numbers = [None if word == "-" else int(word) for word in words]
+        if word == "user-timeout":
+            self.user, answer = numbers[0], "set"
+        elif word in ("new", "arrive", "emit", "timeout"):
+            answer = getattr(self, word)(*numbers)
+        else:
+            answer = self.uses(word, *numbers)
+        at = min(self.all_deadlines().values(), default="-")
+        suspect = " suspect" if self.expiries >= self.suspect else ""
+        return f"{answer} {at} {self.estimator.rto} {self.end.nxt - self.end.una}{suspect}"
+
+
+class Turns:
+    """The caller's loop, a wire that loses the segments that `lost` has, counted from 0, and a peer that keeps what comes early."""
+
+    def __init__(self, first, limits, window, lost=(), shown=9):
+        self.second, self.lines, self.window, self.lost, self.shown = Second(), [], window, set(lost), shown
+        self.now, self.count, self.next, self.early, self.coming = 0, 0, first, set(), []
+        self.call(f"new 0 {first} {limits}")
+
+    def call(self, line):
+        self.lines.append(line)
+        return self.second.answer(line).split(" ")
+
+    def emits(self):
+        while (answer := self.call(f"emit {self.now} {self.window}"))[0] == "sent":
+            start, count = int(answer[1]), int(answer[2])
+            if self.count not in self.lost and count:
+                self.early.add(start)
+                while self.next in self.early:
+                    self.next += 1
+                gap = int(any(number > self.next for number in self.early))
+                self.coming.append((self.now + 2 * WAY, f"{self.next} {gap} 0 {self.shown} 0"))
+            self.count += 1
+
+    def turn(self, *calls):
+        for call in calls:
+            word, *rest = call.split(" ")
+            self.call(" ".join([word, str(self.now), *rest]))
+        self.emits()
+
+    def runs(self, most):
+        """Until nothing is to come, or so many turns have passed."""
+        for _ in range(most):
+            deadlines = list(self.second.all_deadlines().values())
+            times = [at for at, _ in self.coming] + deadlines
+            if not times:
+                return
+            self.now = max(self.now, min(times))
+            while self.coming and self.coming[0][0] <= self.now:
+                self.call(f"arrive {self.now} {self.coming.pop(0)[1]}")
+            self.turn("timeout")
+
+
+LIMITS = "240000000 3 180000000 300000000"
+
+
+def worked():
+    # Nothing is lost, three numbers at a time: SYN, eight of text, FIN; then the peer's FIN, which comes again; a reset in TIME-WAIT.
+    orderly = Turns(0, LIMITS, 3)
+    orderly.turn("send 1")
+    orderly.runs(2)
+    orderly.turn("send 8", "close", "send 1", "resend-first")
+    orderly.runs(9)
+    for fin in ("10 0 1 9 0", "10 0 1 9 0", "10 0 1 9 4", "10 0 0 9 4"):
+        orderly.now += SECOND
+        orderly.turn(f"arrive {fin}", "receive")
+    orderly.runs(3)
+    # The third of nine is lost, and lost again: the peer reports the gap, and the time for reordering doubles.
+    gap = Turns(1, LIMITS, MOST, lost=(2, 9))
+    gap.turn("send 9")
+    gap.runs(9)
+    # The SYN is lost twice, so that text begins with 3 s; then the last of three numbers three times.
+    late = Turns(0, LIMITS, 9, lost=(0, 1, 5, 6, 7))
+    late.turn("send 1")
+    late.runs(4)
+    late.turn("send 3")
+    late.runs(9)
+    # Nothing arrives: the path is suspect, and the end is given up once a user timeout is set. So is a SYN.
+    silent = Turns(1, "240000000 3 180000000 -", 4, lost=range(99))
+    silent.turn("send 6")
+    silent.runs(6)
+    silent.lines.append("user-timeout 100000000")
+    silent.second.answer(silent.lines[-1])
+    silent.runs(9)
+    unanswered = Turns(0, LIMITS, 4, lost=range(99))
+    unanswered.turn("send 1")
+    unanswered.runs(12)
+    # A peer with a shut window answers: it is there.
+    shut = Turns(1, "1000000 2 1000000 5000000", 4, lost=range(99))
+    shut.turn("send 1")
+    for _ in range(4):
+        shut.runs(2)
+        shut.turn("arrive 1 0 0 0 0")
+    shut.runs(6)
+    # Nothing is taken in a burst, no timer expires, and time doesn't go back.
+    burst = ["new 7 1 5 3 - -", "send 7 4", "emit 7 100", "emit 6 100", "timeout 1000006", "timeout 1000007", "arrive 1000008 2 0 0 9 0", "timeout 9000000",
+             "send 9000000 1", "emit 8000000 100", "arrive 9000000 2 0 1 9 0", "emit 9000000 1", "emit 9000000 1", "arrive 9000000 2 0 1 9 0",
+             "emit 9000000 0", "resend-first 9000001", "emit 9000001 0", "emit 9000001 0", f"timeout {MOST}", f"emit {MOST} 3", f"abort {MOST}",
+             f"abort {MOST}", "emit 9000002 3", "close 9000003", f"timeout {MOST}"]  # fmt: skip
+    turns = (orderly, gap, late, silent, unanswered, shut)
+    return [line for turn in turns for line in turn.lines] + burst
+
+
+def random_calls(draw, count):
+    now = 0
+    for number in range(count):
+        now += draw.choice((0, 1, 1000, draw.randrange(40_000), draw.randrange(2 * SECOND), draw.randrange(100 * SECOND)))
+        at = draw.choice((now, now, now, max(0, now - 5000)))
+        kind = draw.randrange(20)
+        if kind == 0 or number == 0:
+            limits = [draw.choice(("-", draw.randrange(200 * SECOND), MOST)) for _ in range(2)]
+            time_wait = draw.choice((draw.randrange(100 * SECOND), MOST))
+            yield f"new {at} {draw.choice((0, 1, 5))} {time_wait} {draw.randrange(4)} {limits[0]} {limits[1]}"
+        elif kind < 9:
+            yield f"emit {at} {draw.choice((0, 1, 2, 5, MOST))}"
+        elif kind < 12:
+            flags = draw.choice((0, 16, 20, 4))
+            yield f"arrive {at} {draw.randrange(12)} {draw.randrange(2)} {draw.choice((0, 0, 1))} {draw.choice((0, 9))} {flags}"
+        elif kind < 16:
+            yield f"timeout {at}"
+        elif kind == 16:
+            yield draw.choice((f"user-timeout {draw.randrange(100 * SECOND)}", "user-timeout -"))
+        elif kind < 19:
+            yield f"send {at} {draw.randrange(4)}"
+        else:
+            yield draw.choice((f"receive {at}", f"close {at}", f"resend-first {at}", f"abort {at}"))
+
+
+def answers_of(lines):
+    second = Second()
+    return [second.answer(line) for line in lines]
+
+
+def check(count, seed):
+    lines = list(random_calls(random.Random(seed), count))
+    program = CRATE / "out" / "test_driver"
+    if not program.exists():
+        sys.exit(f"build it first: (cd {CRATE} && rt run </dev/null)")
+    text = "".join(line + "\n" for line in lines)
+    out = subprocess.run([program], input=text, capture_output=True, text=True)
+    for number, (call, wanted, got) in enumerate(zip(lines, answers_of(lines), out.stdout.splitlines()), 1):
+        if wanted != got:
+            sys.exit(f"seed {seed}, call {number}: {call}\n  {got}\n  wanted {wanted}")
+    if len(out.stdout.splitlines()) != len(lines) or out.returncode != 0:
+        sys.exit(f"seed {seed}: status {out.returncode}, {len(out.stdout.splitlines())} answers in place of {len(lines)}")
+    print(f"{len(lines)} calls of a driver, no difference")
+
+
+if __name__ == "__main__":
+    if sys.argv[1:2] == ["--check"]:
+        check(int(sys.argv[2]), int(sys.argv[3]) if len(sys.argv) > 3 else 1)
+    else:
+        lines = worked() + list(random_calls(random.Random(1), 120))
+        for name, texts in (("stdin", lines), ("stdout", answers_of(lines))):
+            (CRATE / name).write_text("".join(text + "\n" for text in texts))

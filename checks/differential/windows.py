@@ -1,0 +1,239 @@
+"""The values of crates/tcp_congestion written a second time, plainly, from the RFCs: what times.py, beside this, compares with them.
+Segments that were sent, answers that went out and text that came are kept one by one, and what a rule says is looked up among them.
+"""
+
+from fractions import Fraction
+
+HIGH = 2**40
+
+
+class Reno:
+    """RFC 5681, 3 and 4.1, with RFC 6582, 3.2, RFC 3042 and RFC 6928, by the names of these."""
+
+    def __init__(self, smss):
+        self.smss = smss
+        self.cwnd = self.iw = min(10 * smss, max(2 * smss, 14600))
+        self.ssthresh = HIGH
+        self.recover = 0
+        self.fast_recovery = self.resent_by_timer = False
+        self.dupacks = self.bytes_acked = 0
+
+    def grow(self, acked, before):
+        if Fraction(before, self.cwnd) < Fraction(1, 2):
+            return
+        if self.cwnd < self.ssthresh:
+            self.cwnd = min(HIGH, self.cwnd + min(acked, self.smss))
+            return
+        self.bytes_acked += min(acked, self.cwnd)
+        if self.bytes_acked >= self.cwnd:
+            self.bytes_acked -= self.cwnd
+            self.cwnd = min(HIGH, self.cwnd + self.smss)
+
+    def equation_4(self, flight):
+        return max(min(flight, self.cwnd) // 2, 2 * self.smss)
+
+    def acknowledged(self, acked, una, flight):
+        self.dupacks, self.resent_by_timer = 0, False
+        if not self.fast_recovery:
+            self.grow(acked, acked + flight)
+            return self.shown()
+        if una >= self.recover:
+            self.cwnd = min(self.ssthresh, max(flight, self.smss) + self.smss)
+            self.fast_recovery, self.bytes_acked = False, 0
+            return self.shown()
+        self.cwnd = max(0, self.cwnd - acked)
+        if acked >= self.smss:
+            self.cwnd += self.smss
+        self.cwnd = max(self.cwnd, self.smss)
+        return self.shown("again")
+
+    def duplicate(self, una, flight, nxt):
+        if self.fast_recovery:
+            self.cwnd = min(HIGH, self.cwnd + self.smss)
+            return self.shown()
+        self.dupacks += 1
+        if self.dupacks != 3 or una <= self.recover:
+            return self.shown()
+        self.ssthresh = self.equation_4(flight)
+        self.cwnd = self.ssthresh + 3 * self.smss
+        self.recover, self.fast_recovery, self.bytes_acked = nxt, True, 0
+        self.dupacks = 0
+        return self.shown("again")
+
+    def timed_out(self, flight, nxt):
+        if not self.resent_by_timer:
+            self.ssthresh = self.equation_4(flight)
+        self.cwnd, self.bytes_acked, self.dupacks = self.smss, 0, 0
+        self.recover, self.fast_recovery, self.resent_by_timer = nxt, False, True
+        return self.shown()
+
+    def syn_lost(self):
+        self.cwnd = self.smss
+        return self.shown()
+
+    def idle(self):
+        self.cwnd = min(self.iw, self.cwnd)
+        return self.shown()
+
+    def room(self, flight):
+        beyond = 0 if self.fast_recovery else min(self.dupacks, 2) * self.smss
+        return str(max(0, self.cwnd + beyond - flight))
+
+    def shown(self, again=""):
+        return " ".join(filter(None, (str(self.cwnd), str(self.ssthresh), "recovering" if self.fast_recovery else "", again)))
+
+
+class Delayed:
+    """RFC 5681, 4.2, and RFC 9293, 3.8.6.3: what came since the last acknowledgement, a segment each."""
+
+    def __init__(self, rmss, delay):
+        self.rmss, self.delay, self.came = rmss, delay, []
+
+    def arrived(self, count, urgent, now):
+        self.came.append((count, urgent, now))
+        return self.shown()
+
+    def answered(self):
+        self.came = []
+        return self.shown()
+
+    def deadline(self):
+        if any(urgent for _, urgent, _ in self.came) or sum(count for count, _, _ in self.came) >= 2 * self.rmss:
+            return 0
+        return next((now + self.delay for count, _, now in self.came if count), None)
+
+    def due(self, now):
+        deadline = self.deadline()
+        return "true" if deadline is not None and now >= deadline else "false"
+
+    def shown(self):
+        deadline = self.deadline()
+        return "-" if deadline is None else str(deadline)
+
+
+class Sws:
+    """RFC 9293, 3.8.6.2.1: the four conditions under which data are sent, of which Nagle's brackets are those of 3.7.4."""
+
+    def __init__(self, mss, nagle, timeout):
+        self.mss, self.nagle, self.timeout = mss, bool(nagle), timeout
+        self.windows, self.waiting_since = [0], None
+
+    def window(self, wnd):
+        self.windows.append(wnd)
+        return "taken"
+
+    def segment(self, d, u, flight, now):
+        least = min(d, u)
+        bracket = flight == 0 or not self.nagle
+        override = self.waiting_since is not None and now - self.waiting_since >= self.timeout
+        conditions = (least >= self.mss, bracket and d <= u, bracket and least >= Fraction(1, 2) * max(self.windows), override)
+        if any(conditions) or least == 0:
+            self.waiting_since = None
+        elif self.waiting_since is None:
+            self.waiting_since = now
+        length = min(least, self.mss) if any(conditions) else 0
+        return f"{length} {'-' if self.waiting_since is None else self.waiting_since + self.timeout}"
+
+
+class Limiter:
+    """RFC 5961, 7: no two answers within an interval."""
+
+    def __init__(self, interval):
+        self.interval, self.times = interval, []
+
+    def grant(self, now):
+        if any(now < time + self.interval for time in self.times):
+            return "false"
+        self.times.append(now)
+        return "true"
+
+
+class Windows:
+    """What answers a line on one of these."""
+
+    MADE = {"reno": Reno, "delayed": Delayed, "sws": Sws, "limiter": Limiter}
+    CALLS = {
+        **dict.fromkeys(("acknowledged", "duplicate", "timed-out", "syn-lost", "idle", "room"), "reno"),
+        **dict.fromkeys(("arrived", "answered", "due"), "delayed"),
+        **dict.fromkeys(("window", "segment"), "sws"),
+        "grant": "limiter",
+    }
+
+    def __init__(self):
+        self.values = {}
+
+    def knows(self, word):
+        return word in self.MADE or word in self.CALLS
+
+    def answer(self, word, numbers):
+        if word in self.CALLS:
+            return getattr(self.values[self.CALLS[word]], word.replace("-", "_"))(*numbers)
+        is_refused = word != "limiter" and not 0 < numbers[0] <= 65535 or word == "delayed" and numbers[1] >= 500_000
+        if is_refused:
+            return "refused"
+        self.values[word] = self.MADE[word](*numbers)
+        return "new" if word in ("sws", "limiter") else self.values[word].shown()
+
+
+# In segments of 100 bytes: slow start, a loss that the third duplicate finds with a partial acknowledgement and a full one, congestion
+# avoidance, duplicates of what was sent again, and two timeouts in a row.
+WORKED = [
+    "reno 0", "reno 65536", "reno 1", "reno 1460", "reno 2190", "reno 8000", "reno 65535", "reno 100",
+    "room 0", "room 400", "room 2000", "acknowledged 100 101 900", "acknowledged 200 301 900", "acknowledged 50 351 900", "acknowledged 100 451 100",
+    "duplicate 451 1250 1701", "room 1250", "duplicate 451 1350 1801", "room 1450", "duplicate 451 1450 1901", "room 1450", "duplicate 451 1450 1901",
+    "acknowledged 100 551 1350", "acknowledged 50 601 1300", "acknowledged 900 1501 400", "acknowledged 400 1901 200", "room 200",
+    "duplicate 1901 300 2201", "duplicate 1901 300 2201", "duplicate 1901 300 2201", "room 300", "acknowledged 100 2001 250",
+    "duplicate 2001 300 2301", "duplicate 2001 300 2301", "duplicate 2001 300 2301", "acknowledged 300 2301 0",
+    "acknowledged 100 2401 300", "acknowledged 100 2501 300", "acknowledged 100 2601 300", "acknowledged 700 3301 300", "acknowledged 100 3401 10",
+    "timed-out 1000 4401", "timed-out 1000 4401", "duplicate 3401 1000 4401", "duplicate 3401 1000 4401", "duplicate 3401 1000 4401", "room 0",
+    "acknowledged 1000 4401 0", "acknowledged 100 4501 300", "timed-out 500 5001", "acknowledged 100 4601 400", "timed-out 400 5001",
+    "syn-lost", "idle", "reno 1000", *["acknowledged 1000 1001 10000"] * 3, "idle", "syn-lost", "duplicate 10001 5000 15001",
+    # Both segments of a pair, a single one, one that can't wait with text and without, half segments, and none; no delay, the longest.
+    "delayed 1000 500000", "delayed 0 1", "delayed 65536 1", "delayed 65535 499999", "due 0", "delayed 1000 40000", "arrived 1000 0 100", "due 40099",
+    "due 40100", "arrived 999 0 200", "due 201", "arrived 1 0 300", "due 0", "answered", "due 999999", "arrived 0 0 400", "arrived 10 1 500", "answered",
+    "arrived 0 1 600", "due 600", "answered", "arrived 500 0 700", "arrived 500 0 800", "arrived 500 0 900", "arrived 500 0 1000", "answered",
+    "arrived 4611686018427387904 0 1100", "answered", "delayed 1000 0", "arrived 1 0 1200", "due 1199", "due 1200",
+    # A full segment, all that is queued, half of the greatest window and a byte less, nothing to send, no room; the override timeout; Nagle.
+    "sws 0 0 1", "sws 65536 0 1", "sws 1000 0 500000", "window 4001", "segment 5000 1000 0 10", "segment 5000 999 0 20", "window 1000",
+    "segment 5000 999 4000 500019", "segment 5000 999 4000 500020", "segment 5000 999 4000 500021", "segment 0 4000 0 500022", "segment 5000 0 0 500023",
+    "segment 10 10 4000 500024", "segment 10 9 0 500025", "segment 3000 2001 0 500026", "sws 1000 1 200000", "window 1500", "segment 10 1500 1 10",
+    "segment 10 1500 0 11", "segment 999 1500 1 12", "segment 1000 1500 1 13", "segment 900 750 1 14", "segment 900 750 0 15", "segment 900 749 0 16",
+    # An interval, to the microsecond; a clock that goes back; no limit.
+    "limiter 500000", "grant 10", "grant 11", "grant 500009", "grant 500010", "grant 20", "grant 1000010", "limiter 0", "grant 5", "grant 5",
+]  # fmt: skip
+
+
+def random_calls(draw, count):
+    """Sums of bytes are as a connection would have them, times go on, and now and then a number is anything."""
+    una, nxt, now = 1, 1, 0
+    yield from ("reno 1000", "delayed 1000 40000", "sws 1000 1 500000", "limiter 500000")
+    for _ in range(count):
+        now += draw.choice((0, 1, 1000, draw.randrange(300_000)))
+        kind = draw.randrange(24)
+        size = draw.choice((0, 1, 500, 1000, 2000, draw.randrange(20_000)))
+        if kind == 0:
+            una, nxt = 1, 1
+            yield f"reno {draw.choice((1, 536, 1000, 1460, 9000, 65535))}"
+        elif kind < 6:
+            nxt += size
+            acked = draw.choice((nxt - una, min(1000, nxt - una), draw.randrange(nxt - una + 1)))
+            una += acked
+            yield f"acknowledged {acked} {una} {nxt - una}"
+        elif kind < 10:
+            yield from [f"duplicate {una} {nxt - una} {nxt}"] * draw.randrange(1, 6)
+        elif kind == 10:
+            yield draw.choice((f"timed-out {nxt - una} {nxt}", f"timed-out {nxt - una} {nxt}", "syn-lost", "idle"))
+        elif kind == 11:
+            yield f"room {draw.choice((nxt - una, size, 2**draw.randrange(62)))}"
+        elif kind == 12:
+            yield draw.choice((f"delayed {draw.choice((1, 1000, 65535))} {draw.choice((0, 40000, 499999))}", f"limiter {draw.choice((0, 1, 500000))}"))
+        elif kind < 15:
+            yield f"arrived {size} {draw.randrange(8) // 7} {now}"
+        elif kind < 17:
+            yield draw.choice(("answered", f"due {now}"))
+        elif kind == 17:
+            yield draw.choice((f"sws {draw.choice((1, 1000, 65535))} {draw.randrange(2)} {draw.choice((0, 100000, 500000))}", f"window {4 * size}"))
+        elif kind < 22:
+            yield f"segment {draw.choice((size, draw.randrange(4000)))} {draw.randrange(4000)} {draw.choice((0, size))} {now}"
+        else:
+            yield f"grant {now}"

@@ -1,0 +1,4 @@
+mod Growing
+mod Apart
+mod Late
+mod Silly

@@ -1,0 +1,54 @@
+-- How the window grows and shrinks (RFC 5681, 3), over many acknowledgements.
+use Rattle.std.specs.Prelude.{◌≡◌, ℕ, ◌+◌, ◌*◌, ◌/◌, ◌<◌, ◌≤◌, max, true, false, List, [], ◌∷◌}
+use Rattle.tcp_congestion.specs.Reno.{Window, IsWindow, after_acknowledgement, after_duplicate, after_timeout, begins_recovery, room_of}
+
+-- an acknowledgement: what it acknowledges anew, up to which position, and what is in flight behind it
+pub record Acknowledgement : Type 0 where
+  pub acked : ℕ
+  pub snd_una : ℕ
+  pub flight : ℕ
+
+-- these came one after another, the newest of which comes first
+abbrev pub after_acks : Window → List Acknowledgement → Window
+after_acks w [] = w
+after_acks w (ack ∷ earlier) = after_acknowledgement (after_acks w earlier) ack.acked ack.snd_una ack.flight
+
+abbrev pub total : List Acknowledgement → ℕ
+total [] = 0
+total (ack ∷ earlier) = ack.acked + total earlier
+
+-- CONGESTION AVOIDANCE GROWS BY A SEGMENT A WINDOW at most (RFC 5681, 3.1): so many segments, for which as many windows were
+-- acknowledged
+pub record GrewSlowly (w v : Window) (all : ℕ) : Type 0 where
+  pub times : ℕ
+  pub cwnd : v.cwnd ≤ w.cwnd + times * w.smss
+  pub acked : times * w.cwnd ≤ w.bytes_acked + all
+
+abbrev pub AvoidanceIsSlow : Type 0
+AvoidanceIsSlow =
+    (w : Window) (acks : List Acknowledgement) → IsWindow w → w.is_recovering ≡ false → w.ssthresh ≤ w.cwnd
+    → GrewSlowly w (after_acks w acks) (total acks)
+
+-- NO FASTER THAN WHAT IS ACKNOWLEDGED, in slow start, too (RFC 5681, 3.1), so that a window is at most doubled in a round trip
+abbrev pub GrowthIsAcknowledged : Type 0
+GrowthIsAcknowledged =
+    (w : Window) (acks : List Acknowledgement) → IsWindow w → w.is_recovering ≡ false
+    → (after_acks w acks).cwnd ≤ w.cwnd + w.bytes_acked + total acks
+
+-- A LOSS SHRINKS THE WINDOW (RFC 5681, 3.1 and 3.2; RFC 6582, 3.2): where the third duplicate begins fast recovery to three segments
+-- more than half of what was in flight, or than two segments, and that only behind all that the last loss concerned; once all is
+-- acknowledged to ssthresh at most; to a segment where the timer expires
+pub record Shrinks (w : Window) (snd_una flight snd_nxt : ℕ) : Type 0 where
+  pub third : begins_recovery w snd_una ≡ true → (after_duplicate w snd_una flight snd_nxt).cwnd ≤ max (flight / 2) (2 * w.smss) + 3 * w.smss
+  pub once : begins_recovery w snd_una ≡ true → w.recover < snd_una
+  pub full :
+      (acked : ℕ) → w.is_recovering ≡ true → w.recover ≤ snd_una → (after_acknowledgement w acked snd_una flight).cwnd ≤ w.ssthresh
+  pub timeout : (after_timeout w flight snd_nxt).cwnd ≡ w.smss
+
+abbrev pub LossShrinks : Type 0
+LossShrinks = (w : Window) (snd_una flight snd_nxt : ℕ) → Shrinks w snd_una flight snd_nxt
+
+-- NO MORE THAN THE WINDOW, and two segments for the first two duplicates (RFC 3042, 2), is in flight once what has room was sent, or
+-- no more than was before
+abbrev pub FlightStaysInWindow : Type 0
+FlightStaysInWindow = (w : Window) (flight more : ℕ) → more ≤ room_of w flight → flight + more ≤ max flight (w.cwnd + 2 * w.smss)

@@ -1,0 +1,163 @@
+-- The congestion window (RFC 5681, 3 and 4.1; RFC 6582, 3.2; RFC 3042, 2). All sizes are bytes, and positions count from the SYN, which
+-- is at 0, in the direction of what is sent (RFC 9293, 3.4). `flight` is FlightSize: what was sent and isn't acknowledged.
+use Rattle.std.specs.Prelude.{ℕ, ◌+◌, ◌-◌, ◌*◌, ◌/◌, ◌<◌, ◌≤◌, ◌==◌, min, max, Bool, true, false, nat_lt, nat_le, if◌then◌else◌}
+use Rattle.tcp_congestion.specs.Sizes.{max_segment, max_window}
+
+pub record Window : Type 0 where
+  -- SMSS, of a full segment
+  pub smss : ℕ
+  pub cwnd : ℕ
+  pub ssthresh : ℕ
+  -- acknowledged towards the next segment of congestion avoidance
+  pub bytes_acked : ℕ
+  -- the position after all that was sent when the last loss was found
+  pub recover : ℕ
+  -- fast recovery goes on
+  pub is_recovering : Bool
+  -- the timer has expired, and nothing was acknowledged since
+  pub is_timed_out : Bool
+  -- duplicate acknowledgements in a row, of which three count
+  pub duplicates : ℕ
+
+-- IW (RFC 6928, 2)
+abbrev pub initial_window : ℕ → ℕ
+initial_window smss = min (10 * smss) (max (2 * smss) 14600)
+
+-- ssthresh is arbitrarily high (RFC 5681, 3.1), and recover is the initial sequence number (RFC 6582, 3.2, 1)
+abbrev pub new_window : ℕ → Window
+new_window smss = record {
+  smss = smss;
+  cwnd = initial_window smss;
+  ssthresh = max_window;
+  bytes_acked = 0;
+  recover = 0;
+  is_recovering = false;
+  is_timed_out = false;
+  duplicates = 0;
+}
+
+-- ---- how it grows
+
+-- SLOW START (RFC 5681, 3.1, equation 2): cwnd += min (N, SMSS)
+abbrev pub slow_started : Window → ℕ → Window
+slow_started w acked = record w { cwnd = min max_window (w.cwnd + min acked w.smss) }
+
+-- CONGESTION AVOIDANCE (RFC 5681, 3.1; RFC 3465, 2.1): cwnd += SMSS once a window was acknowledged
+abbrev pub avoided : Window → ℕ → Window
+avoided w all =
+    if nat_le w.cwnd all
+    then record w { cwnd = min max_window (w.cwnd + w.smss); bytes_acked = all - w.cwnd }
+    else record w { bytes_acked = all }
+
+abbrev pub grown : Window → ℕ → Window
+grown w acked = if nat_lt w.cwnd w.ssthresh then slow_started w acked else avoided w (w.bytes_acked + min acked w.cwnd)
+
+-- half of the window was in flight when the acknowledgement came (RFC 7661, 4.3): one that isn't filled says nothing of the path
+abbrev pub is_used : Window → ℕ → ℕ → Bool
+is_used w acked flight = nat_le w.cwnd (2 * (acked + flight))
+
+abbrev pub after_growth : Window → ℕ → ℕ → Window
+after_growth w acked flight = if is_used w acked flight then grown w acked else w
+
+-- ---- how a loss is repaired
+
+-- ssthresh = max (FlightSize / 2, 2 * SMSS) (RFC 5681, 3.1, equation 4), where what limited transmit sent past cwnd isn't counted
+-- (RFC 5681, 3.2, 2)
+abbrev pub halved : Window → ℕ → Window
+halved w flight = record w { ssthresh = max (min flight w.cwnd / 2) (2 * w.smss) }
+
+-- FAST RECOVERY BEGINS (RFC 5681, 3.2, 3; RFC 6582, 3.2, 2): cwnd = ssthresh + 3 * SMSS, and recover is set
+abbrev pub begun : Window → ℕ → Window
+begun w snd_nxt = record w {
+  cwnd = w.ssthresh + 3 * w.smss;
+  bytes_acked = 0;
+  recover = snd_nxt;
+  is_recovering = true;
+  duplicates = 0;
+}
+
+-- each further duplicate is a segment that has left the network (RFC 5681, 3.2, 4)
+abbrev pub inflated : Window → Window
+inflated w = record w { cwnd = min max_window (w.cwnd + w.smss) }
+
+-- A PARTIAL ACKNOWLEDGEMENT (RFC 6582, 3.2, 3): cwnd is deflated by what it acknowledges, SMSS is added back where that is as much;
+-- and a segment at least is left
+abbrev pub deflated : Window → ℕ → Window
+deflated w acked = record w { cwnd = max w.smss ((w.cwnd - acked) + (if nat_le w.smss acked then w.smss else 0)) }
+
+-- A FULL ONE (RFC 6582, 3.2, 3): cwnd = min (ssthresh, max (FlightSize, SMSS) + SMSS)
+abbrev pub recovered : Window → ℕ → Window
+recovered w flight = record w { cwnd = min w.ssthresh (max flight w.smss + w.smss); bytes_acked = 0; is_recovering = false }
+
+-- ---- what happens to it
+
+-- something was acknowledged: nothing is a duplicate of what came before it, and the first segment is another one
+abbrev pub with_progress : Window → Window
+with_progress w = record w { is_timed_out = false; duplicates = 0 }
+
+abbrev pub is_partial : Window → ℕ → Bool
+is_partial w snd_una = if w.is_recovering then nat_lt snd_una w.recover else false
+
+abbrev pub after_recovering : Window → ℕ → ℕ → ℕ → Window
+after_recovering w acked snd_una flight = if nat_lt snd_una w.recover then deflated w acked else recovered w flight
+
+-- ALL BEFORE snd_una IS ACKNOWLEDGED, `acked` bytes of it now, and `flight` bytes aren't
+abbrev pub after_acknowledgement : Window → ℕ → ℕ → ℕ → Window
+after_acknowledgement w acked snd_una flight =
+    if w.is_recovering
+    then after_recovering (with_progress w) acked snd_una flight
+    else after_growth (with_progress w) acked flight
+
+-- THE THIRD DUPLICATE of an acknowledgement of more than recover (RFC 5681, 3.2, 2; RFC 6582, 3.2, 2): what is before recover may have
+-- been sent twice, and then duplicates say nothing
+abbrev pub is_third : Window → ℕ → Bool
+is_third w snd_una = if w.duplicates == 2 then nat_lt w.recover snd_una else false
+
+abbrev pub begins_recovery : Window → ℕ → Bool
+begins_recovery w snd_una = if w.is_recovering then false else is_third w snd_una
+
+abbrev pub after_counting : Window → ℕ → ℕ → ℕ → Window
+after_counting w snd_una flight snd_nxt =
+    if is_third w snd_una then begun (halved w flight) snd_nxt else record w { duplicates = min 3 (w.duplicates + 1) }
+
+-- A DUPLICATE ACKNOWLEDGEMENT came (RFC 5681, 2)
+abbrev pub after_duplicate : Window → ℕ → ℕ → ℕ → Window
+after_duplicate w snd_una flight snd_nxt = if w.is_recovering then inflated w else after_counting w snd_una flight snd_nxt
+
+-- THE TIMER HAS EXPIRED (RFC 5681, 3.1): cwnd is the loss window, SMSS; ssthresh is set the first time that a segment is sent again by
+-- the timer, and held then. Fast recovery is over, and recover is set (RFC 6582, 3.2, 4)
+abbrev pub after_timeout : Window → ℕ → ℕ → Window
+after_timeout w flight snd_nxt = record (if w.is_timed_out then w else halved w flight) {
+  cwnd = w.smss;
+  bytes_acked = 0;
+  recover = snd_nxt;
+  is_recovering = false;
+  is_timed_out = true;
+  duplicates = 0;
+}
+
+-- A SYN WAS LOST: the window begins with one segment (RFC 5681, 3.1)
+abbrev pub after_syn_resent : Window → Window
+after_syn_resent w = record w { cwnd = w.smss }
+
+-- NOTHING WAS SENT for longer than the timeout: cwnd is the restart window, min (IW, cwnd) (RFC 5681, 4.1)
+abbrev pub after_idle : Window → Window
+after_idle w = record w { cwnd = min (initial_window w.smss) w.cwnd }
+
+-- LIMITED TRANSMIT (RFC 3042, 2): each of the first two duplicates lets a new segment out beyond cwnd, which stays as it is
+abbrev pub limited : Window → ℕ
+limited w = if w.is_recovering then 0 else min w.duplicates 2 * w.smss
+
+abbrev pub room_of : Window → ℕ → ℕ
+room_of w flight = (w.cwnd + limited w) - flight
+
+-- ---- what always holds
+pub record IsWindow (w : Window) : Type 0 where
+  pub positive : 0 < w.smss
+  pub fits : w.smss ≤ max_segment
+  pub least : w.smss ≤ w.cwnd
+  pub most : w.cwnd ≤ max_window
+  pub threshold : 2 * w.smss ≤ w.ssthresh
+  pub threshold_most : w.ssthresh ≤ max_window
+  pub acked : w.bytes_acked ≤ max_window
+  pub duplicates : w.duplicates ≤ 3

@@ -1,0 +1,20 @@
+//! How much may be in flight, and when data and acknowledgements go out. Plain values without a clock or a socket: a time
+//! is a count of microseconds that the caller passes.
+//!
+//! - [`Reno`]: the congestion window (RFC 5681, with NewReno's recovery of RFC 6582 and the limited transmit of RFC 3042).
+//! - [`DelayedAck`]: when what came is acknowledged (RFC 9293, 3.8.6.3; RFC 5681, 4.2).
+//! - [`Limiter`]: one answer in an interval (RFC 5961, 7).
+//! - [`SwsAvoidance`]: when data are sent, without silly windows, and with the Nagle algorithm (RFC 9293, 3.8.6.2.1, 3.7.4).
+//! - [`laws`]: what follows of them, however they are computed.
+#![tactic(auto)]
+
+mod delayed_ack;
+pub mod laws;
+mod limiter;
+mod reno;
+mod sws_avoidance;
+
+pub use delayed_ack::{DELAY, DelayedAck, MAX_DELAY};
+pub use limiter::Limiter;
+pub use reno::{MAX_SEGMENT, MAX_WINDOW, Reno};
+pub use sws_avoidance::{OVERRIDE, SwsAvoidance};

@@ -1,0 +1,275 @@
+ghost use Rattle.std.specs.Prelude.{◌≡◌, ◌≤◌, ◌<◌, ◌*◌};
+
+use std::marker::Model;
+
+/// No segment is longer (RFC 9293, 3.7.1).
+pub const MAX_SEGMENT: u64 = 65_535;
+
+/// No window grows past this: 2^40 bytes.
+pub const MAX_WINDOW: u64 = 1 << 40;
+
+/// The congestion window of one connection (RFC 5681, 3), with NewReno's recovery (RFC 6582) and limited transmit (RFC
+/// 3042). Sizes are bytes; positions count from the SYN, which is at 0, in the direction of what is sent (RFC 9293, 3.4).
+#[derive(Clone, Copy, Debug, PartialEq, Eq)]
+pub struct Reno {
+    smss: u64,
+    cwnd: u64,
+    ssthresh: u64,
+    bytes_acked: u64,
+    recover: u64,
+    is_recovering: bool,
+    is_timed_out: bool,
+    duplicates: u64,
+}
+
+impl Model for Reno {
+    ghost use Rattle.tcp_congestion.specs.Reno.{Window, IsWindow};
+
+    ghost Value = { Window };
+
+    ghost view = { λ r. record {
+      smss = r.smss;
+      cwnd = r.cwnd;
+      ssthresh = r.ssthresh;
+      bytes_acked = r.bytes_acked;
+      recover = r.recover;
+      is_recovering = r.is_recovering;
+      is_timed_out = r.is_timed_out;
+      duplicates = r.duplicates;
+    } };
+
+    ghost invariant = { λ r. IsWindow (record {
+      smss = r.smss;
+      cwnd = r.cwnd;
+      ssthresh = r.ssthresh;
+      bytes_acked = r.bytes_acked;
+      recover = r.recover;
+      is_recovering = r.is_recovering;
+      is_timed_out = r.is_timed_out;
+      duplicates = r.duplicates;
+    }) };
+
+    ghost inverse = { λ w. record {
+      smss = w.smss;
+      cwnd = w.cwnd;
+      ssthresh = w.ssthresh;
+      bytes_acked = w.bytes_acked;
+      recover = w.recover;
+      is_recovering = w.is_recovering;
+      is_timed_out = w.is_timed_out;
+      duplicates = w.duplicates;
+    } };
+}
+
+impl Reno {
+    ghost use Rattle.tcp_congestion.specs.Reno.{new_window, room_of, after_acknowledgement, is_partial, after_duplicate, begins_recovery, after_timeout, after_syn_resent, after_idle};
+    ghost use Rattle.tcp_congestion.specs.Sizes.{max_segment, max_window};
+
+    /// The window of a connection that begins, with full segments of `smss` bytes as both SYNs agreed on them: IW (RFC
+    /// 6928, 2).
+    pub fn new(smss: u64) -> Reno
+        requires least { 0 < smss }
+        requires most { smss ≤ max_segment }
+        ensures { result ≡ new_window smss }
+    {
+        Reno {
+            smss,
+            cwnd: initial_window(smss),
+            ssthresh: MAX_WINDOW,
+            bytes_acked: 0,
+            recover: 0,
+            is_recovering: false,
+            is_timed_out: false,
+            duplicates: 0,
+        }
+    }
+
+    /// The congestion window: at least one segment.
+    #[must_use]
+    pub fn cwnd(&self) -> u64
+        ensures value { result ≡ self.now.cwnd }
+        ensures least { self.now.smss ≤ result }
+        ensures most { result ≤ max_window }
+    {
+        self.cwnd
+    }
+
+    /// The slow start threshold: at least two segments. Below it the window grows by slow start.
+    #[must_use]
+    pub fn ssthresh(&self) -> u64
+        ensures value { result ≡ self.now.ssthresh }
+        ensures least { 2 * self.now.smss ≤ result }
+    {
+        self.ssthresh
+    }
+
+    /// Whether fast recovery goes on: a loss was found by duplicates and isn't repaired yet (RFC 6582, 3.2).
+    #[must_use]
+    pub fn is_recovering(&self) -> bool
+        ensures { result ≡ self.now.is_recovering }
+    {
+        self.is_recovering
+    }
+
+    /// How many bytes may be sent beside the `flight` bytes that aren't acknowledged, as far as the peer's window allows it
+    /// as well. Where blocks are exchanged, what goes past `cwnd` is for duplicates with a new block (RFC 5681, 3.2, 1).
+    #[must_use]
+    pub fn room(&self, flight: u64) -> u64
+        ensures { result ≡ room_of self.now flight }
+    {
+        (self.cwnd + self.limited()).saturating_sub(flight)
+    }
+
+    /// SND.UNA has moved on: all before `snd_una` is acknowledged, `acked` bytes of it by what has just come, and `flight`
+    /// bytes aren't. Returns whether the first segment has to be sent again, because this is a partial acknowledgement (RFC
+    /// 6582, 3.2, 3).
+    #[must_use]
+    pub fn acknowledged(&mut self, acked: u64, snd_una: u64, flight: u64) -> bool
+        ensures again { result ≡ is_partial self.old snd_una }
+        ensures after { self.new ≡ after_acknowledgement self.old acked snd_una flight }
+    {
+        self.is_timed_out = false;
+        self.duplicates = 0;
+        if !self.is_recovering {
+            self.grow(acked, flight);
+            return false;
+        }
+        if snd_una < self.recover {
+            self.deflate(acked);
+            return true;
+        }
+        self.end_recovery(flight);
+        false
+    }
+
+    /// A duplicate acknowledgement has come (RFC 5681, 2), so that SND.UNA is still `snd_una`, while `flight` bytes are in
+    /// flight, up to the position `snd_nxt`. Returns whether the first segment has to be sent again, because this is the third one and begins
+    /// fast recovery (RFC 5681, 3.2; RFC 6582, 3.2, 2).
+    #[must_use]
+    pub fn duplicate(&mut self, snd_una: u64, flight: u64, snd_nxt: u64) -> bool
+        ensures again { result ≡ begins_recovery self.old snd_una }
+        ensures after { self.new ≡ after_duplicate self.old snd_una flight snd_nxt }
+    {
+        if self.is_recovering {
+            self.cwnd = MAX_WINDOW.min(self.cwnd + self.smss);
+            return false;
+        }
+        if self.duplicates == 2 && self.recover < snd_una {
+            self.begin_recovery(flight, snd_nxt);
+            return true;
+        }
+        self.duplicates = 3.min(self.duplicates + 1);
+        false
+    }
+
+    /// The retransmission timer has expired while `flight` bytes were in flight, up to the position `snd_nxt` (RFC 5681,
+    /// 3.1; RFC 6582, 3.2, 4). A timer that probes a shut window says nothing of the path (RFC 9293, 3.8.6.1): then it isn't
+    /// called.
+    pub fn timed_out(&mut self, flight: u64, snd_nxt: u64)
+        ensures { self.new ≡ after_timeout self.old flight snd_nxt }
+    {
+        if !self.is_timed_out {
+            self.halve(flight);
+        }
+        self.cwnd = self.smss;
+        self.bytes_acked = 0;
+        self.recover = snd_nxt;
+        self.is_recovering = false;
+        self.is_timed_out = true;
+        self.duplicates = 0;
+    }
+
+    /// The handshake is over, and its SYN was lost (RFC 5681, 3.1). RFC 6928, 2, recommends to call it only where the SYN was
+    /// sent again more than once.
+    pub fn syn_was_resent(&mut self)
+        ensures { self.new ≡ after_syn_resent self.old }
+    {
+        self.cwnd = self.smss;
+    }
+
+    /// Data are sent again after nothing was sent for longer than the timeout (RFC 5681, 4.1).
+    pub fn was_idle(&mut self)
+        ensures { self.new ≡ after_idle self.old }
+    {
+        self.cwnd = initial_window(self.smss).min(self.cwnd);
+    }
+
+    ghost use Rattle.tcp_congestion.specs.Reno.{after_growth, begun, deflated, halved, limited, recovered};
+
+    /// What the first two duplicates let out beyond the window (RFC 3042, 2).
+    fn limited(&self) -> u64
+        ensures { result ≡ limited self.now }
+    {
+        if self.is_recovering {
+            0
+        } else {
+            self.duplicates.min(2) * self.smss
+        }
+    }
+
+    /// Slow start or congestion avoidance (RFC 5681, 3.1), where half of the window was in use (RFC 7661, 4.3).
+    fn grow(&mut self, acked: u64, flight: u64)
+        ensures { self.new ≡ after_growth self.old acked flight }
+    {
+        if 2 * (acked.min(MAX_WINDOW) + flight.min(MAX_WINDOW)) < self.cwnd {
+            return;
+        }
+        if self.cwnd < self.ssthresh {
+            self.cwnd = MAX_WINDOW.min(self.cwnd + acked.min(self.smss));
+            return;
+        }
+        self.bytes_acked += acked.min(self.cwnd);
+        if self.cwnd <= self.bytes_acked {
+            self.bytes_acked -= self.cwnd;
+            self.cwnd = MAX_WINDOW.min(self.cwnd + self.smss);
+        }
+    }
+
+    /// ssthresh = max(FlightSize / 2, 2 * SMSS) (RFC 5681, 3.1, equation 4).
+    fn halve(&mut self, flight: u64)
+        ensures { self.new ≡ halved self.old flight }
+    {
+        self.ssthresh = (flight.min(self.cwnd) / 2).max(2 * self.smss);
+    }
+
+    /// Fast recovery begins (RFC 5681, 3.2, 2 and 3; RFC 6582, 3.2, 2).
+    fn begin_recovery(&mut self, flight: u64, snd_nxt: u64)
+        ensures { self.new ≡ begun (halved self.old flight) snd_nxt }
+    {
+        self.halve(flight);
+        self.cwnd = self.ssthresh + 3 * self.smss;
+        self.bytes_acked = 0;
+        self.recover = snd_nxt;
+        self.is_recovering = true;
+        self.duplicates = 0;
+    }
+
+    /// A partial acknowledgement (RFC 6582, 3.2, 3): the window shrinks by what it acknowledges, less a segment.
+    fn deflate(&mut self, acked: u64)
+        ensures { self.new ≡ deflated self.old acked }
+    {
+        let added_back = if self.smss <= acked { self.smss } else { 0 };
+        self.cwnd = self.smss.max(self.cwnd.saturating_sub(acked) + added_back);
+    }
+
+    /// A full one (RFC 6582, 3.2, 3).
+    fn end_recovery(&mut self, flight: u64)
+        ensures { self.new ≡ recovered self.old flight }
+    {
+        let needed = flight.min(MAX_WINDOW).max(self.smss) + self.smss;
+        self.cwnd = self.ssthresh.min(needed);
+        self.bytes_acked = 0;
+        self.is_recovering = false;
+    }
+}
+
+ghost use Rattle.tcp_congestion.specs.Reno.{initial_window};
+ghost use Rattle.tcp_congestion.specs.Sizes.{max_segment};
+
+/// IW (RFC 6928, 2).
+fn initial_window(smss: u64) -> u64
+    requires { smss ≤ max_segment }
+    ensures { result ≡ initial_window smss }
+{
+    (10 * smss).min((2 * smss).max(14_600))
+}

@@ -1,0 +1,6 @@
+pub mod Limits
+pub mod Deadlines
+pub mod Machine
+pub mod Times
+pub mod Driver
+pub mod Calls

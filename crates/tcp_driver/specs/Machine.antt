@@ -1,0 +1,39 @@
+-- An end without a clock, as functions of its state S.
+use Rattle.std.specs.Prelude.{ℕ, Bool, List, Option}
+use Rattle.tcp_driver.specs.declared.machine.Report.{Report}
+use Rattle.tcp_driver.specs.declared.machine.Sent.{Sent}
+use Rattle.tcp_driver.specs.declared.machine.Timer.{Timer}
+use Rattle.tcp_driver.specs.declared.machine.Wants.{Wants}
+
+pub record Machine (S : Type 0) : Type 0 where
+  -- the bytes that an emission requires of its buffer
+  pub room : ℕ
+  -- which timers have to run
+  pub wants : S → Wants
+  -- SND.UNA, and how many numbers are in flight
+  pub una : S → ℕ
+  pub flight : S → ℕ
+  -- whether a reset counts as lost
+  pub ignores_resets : S → Bool
+  -- after a timer's expiry
+  pub expired : S → Timer → S
+  -- what is reported of an arrival, and the state after it
+  pub report : S → List ℕ → Report
+  pub arrived : S → List ℕ → S
+  -- what is due, what is written of it, and the state after its emission
+  pub due : S → Option Sent
+  pub written : S → List ℕ → List ℕ
+  pub emitted : S → S
+  -- the same of an acknowledgement alone
+  pub alone : S → Option Sent
+  pub written_alone : S → List ℕ → List ℕ
+  pub acknowledged : S → S
+  -- whether anything is in flight, and the state after the first segment of it is to go out again
+  pub can_resend : S → Bool
+  pub first_resent : S → S
+  -- after the user's calls, and what is read
+  pub sent : S → List ℕ → S
+  pub read : S → List ℕ → List ℕ
+  pub received : S → ℕ → S
+  pub closed : S → S
+  pub aborted : S → S

@@ -1,0 +1,247 @@
+ghost use Rattle.std.specs.Prelude.{max, ◌≡◌, ◌≤◌, ◌+◌, IfSome, length};
+ghost use Rattle.tcp_driver.specs.Driver.{is_reset, waits};
+
+use crate::limits::Limits;
+use crate::machine::{Core, Report, Sent, Timer};
+use crate::timers::Timers;
+use std::marker::Model;
+use tcp_timing::{Estimator, Rules};
+
+/// What became of an arrival.
+#[derive(Clone, Copy, Debug, PartialEq, Eq)]
+pub enum Taken {
+    /// The end has taken it.
+    Done(Report),
+    /// A timer has expired, and what is due then has to go out first: nothing has changed. Emit, and pass it again.
+    EmitFirst,
+    /// It is a reset that counts as lost: nothing has changed.
+    Withheld,
+}
+
+/// One end with its times (RFC 6298, 5; RFC 9293, 3.8.3 and 3.10.8). There is a deadline exactly while the end wants its
+/// timer to run.
+#[derive(Drop)]
+pub struct Driver<C: Core + Drop> {
+    core: C,
+    timers: Timers,
+}
+
+impl<C: Core + Drop> Model for Driver<C> {
+    ghost use Rattle.tcp_driver.specs.Driver.{Driving, IsTimely};
+
+    ghost Value = { Driving C };
+
+    ghost view = { λ d. record { core = d.core; times = d.timers } };
+
+    ghost invariant = { λ d. IsTimely C.machine (record { core = d.core; times = d.timers }) };
+}
+
+impl<C: Core + Drop> Driver<C> {
+    ghost use Rattle.std.specs.Prelude.{is_some};
+    ghost use Rattle.tcp_driver.specs.Driver.{after_arrival, after_emission, after_time, after_user, after_user_timeout, arrival_answer, at, new_driving, sent_of, written_of};
+    ghost use Rattle.tcp_driver.specs.Times.{expiry, is_suspect, next_expiry, wants_any};
+    ghost use Rattle.tcp_timing.specs.Rules.{IsSound};
+
+    /// An end that was opened already (`connect`, `listen`): its timers run from now on.
+    pub fn new(core: C, rules: Rules, limits: Limits, now: u64) -> Driver<C>
+        requires { IsSound rules }
+        ensures { result ≡ new_driving C.machine core rules limits now }
+    {
+        let now = crate::deadlines::LAST.min(now);
+        let una = core.una();
+        let mut timers = Timers::new(rules, limits, una, now);
+        timers.follow(core.wants(), una, now);
+        Driver { core, timers }
+    }
+
+    /// When `timeout` has to be called, if nothing else happens before: there is such a time exactly while some timer has
+    /// to run, and it is at most the greatest timeout after the last call, or in TIME-WAIT its length.
+    #[must_use]
+    pub fn poll_at(&self) -> Option<u64>
+        ensures value { result ≡ next_expiry self.now.times }
+        ensures owed { is_some result ≡ wants_any (C.machine.wants self.now.core) }
+        ensures soon { IfSome result (λ time. time ≤ self.now.times.clock + max self.now.times.estimate.rules.greatest self.now.times.limits.time_wait) }
+    {
+        self.timers.next_expiry()
+    }
+
+    /// A segment has come, at a time. In a burst it isn't taken, and some resets count as lost.
+    pub fn arrive(&mut self, now: u64, bytes: &[u8]) -> Taken
+        ensures answer { result ≡ arrival_answer C.machine self.old bytes.now }
+        ensures state { self.new ≡ after_arrival C.machine self.old (at self.old now) bytes.now }
+    {
+        if self.timers.is_bursting() {
+            return Taken::EmitFirst;
+        }
+        if self.core.ignores_resets() && is_reset(bytes) {
+            return Taken::Withheld;
+        }
+        let now = self.timers.time_at(now);
+        let report = self.core.arrive(bytes);
+        let una = self.core.una();
+        self.timers.measure(una, report.window, now);
+        self.timers.follow(self.core.wants(), una, now);
+        Taken::Done(report)
+    }
+
+    /// Writes the segment that is due, if one is. What ends more than `window` numbers past SND.UNA waits, unless nothing
+    /// before it is in flight (RFC 5681, 3.1); then a pending acknowledgement goes alone. `u64::MAX` holds nothing back. A
+    /// burst is over once nothing goes out.
+    pub fn emit(&mut self, now: u64, window: u64, out: &mut [u8]) -> Option<Sent>
+        requires { C.machine.room ≤ length out.old }
+        ensures sent { result ≡ sent_of C.machine self.old.core window }
+        ensures most { IfSome result (λ sent. sent.len ≤ C.machine.room) }
+        ensures written { out.new ≡ written_of C.machine self.old.core window out.old }
+        ensures state { self.new ≡ after_emission C.machine self.old (at self.old now) window }
+    {
+        let now = self.timers.time_at(now);
+        let sent = if waits(self.core.next(), self.core.una(), window) {
+            self.core.acknowledge(out)
+        } else {
+            self.core.transmit(out)
+        };
+        self.timers.emitted(sent, now);
+        self.timers.follow(self.core.wants(), self.core.una(), now);
+        sent
+    }
+
+    /// It is `now`: the timer that has expired, if one has. Then a burst begins: all that is due goes out before anything
+    /// is taken, and before another timer expires. After the user timeout the connection is aborted.
+    pub fn timeout(&mut self, now: u64) -> Option<Timer>
+        ensures expired { result ≡ expiry self.old.times (at self.old now) }
+        ensures state { self.new ≡ after_time C.machine self.old (at self.old now) }
+    {
+        let now = self.timers.time_at(now);
+        let Some(timer) = self.timers.expiry(now) else {
+            self.timers.pass(now);
+            return None;
+        };
+        self.core.expire(timer);
+        self.timers.expire(timer);
+        self.timers.follow(self.core.wants(), self.core.una(), now);
+        Some(timer)
+    }
+
+    /// Whether the retransmission timer has expired so often without an answer that the path to the peer may be dead, of
+    /// which the user is told (RFC 9293, 3.8.3).
+    #[must_use]
+    pub fn is_suspect(&self) -> bool
+        ensures { result ≡ is_suspect self.now.times }
+    {
+        self.timers.is_suspect()
+    }
+
+    /// Sets the user timeout: how long, in microseconds, what was sent may be without an answer before the connection is
+    /// aborted (RFC 9293, 3.8.3); the time that has passed already counts. `None` is forever. A SYN has a limit of its own,
+    /// [`Limits::handshake`].
+    pub fn set_user_timeout(&mut self, limit: Option<u64>)
+        ensures { self.new ≡ after_user_timeout self.old limit }
+    {
+        self.timers.set_user_timeout(limit);
+    }
+
+    /// The end.
+    #[must_use]
+    pub fn core(&self) -> &C
+        ensures { result.now ≡ self.now.core }
+    {
+        &self.core
+    }
+
+    /// The retransmission timeout and the round trip.
+    #[must_use]
+    pub fn estimator(&self) -> &Estimator
+        ensures { result.now ≡ self.now.times.estimate }
+    {
+        self.timers.estimator()
+    }
+
+    /// How many numbers are in flight.
+    #[must_use]
+    pub fn flight(&self) -> u64
+        ensures { result ≡ C.machine.flight self.now.core }
+    {
+        self.core.flight()
+    }
+
+    /// Of what is in flight the first segment goes out again at once (RFC 5681, 3.2): whether anything is in flight.
+    pub fn resend_first(&mut self, now: u64) -> bool
+        ensures answer { result ≡ C.machine.can_resend self.old.core }
+        ensures state { self.new ≡ after_user C.machine self.old (at self.old now) (C.machine.first_resent self.old.core) }
+    {
+        let now = self.timers.time_at(now);
+        let answer = self.core.resend_first();
+        self.timers.follow(self.core.wants(), self.core.una(), now);
+        answer
+    }
+
+    /// The user has text to send (RFC 9293, 3.10.2).
+    pub fn send(&mut self, now: u64, text: &[u8]) -> C::Sending
+        ensures answer { result ≡ C.send_answer self.old.core text.now }
+        ensures state { self.new ≡ after_user C.machine self.old (at self.old now) (C.machine.sent self.old.core text.now) }
+    {
+        let now = self.timers.time_at(now);
+        let answer = self.core.send(text);
+        self.timers.follow(self.core.wants(), self.core.una(), now);
+        answer
+    }
+
+    /// The user reads (RFC 9293, 3.10.3).
+    pub fn receive(&mut self, now: u64, out: &mut [u8]) -> C::Receiving
+        ensures answer { result ≡ C.receive_answer self.old.core (length out.old) }
+        ensures read { out.new ≡ C.machine.read self.old.core out.old }
+        ensures state { self.new ≡ after_user C.machine self.old (at self.old now) (C.machine.received self.old.core (length out.old)) }
+    {
+        let now = self.timers.time_at(now);
+        let answer = self.core.receive(out);
+        self.timers.follow(self.core.wants(), self.core.una(), now);
+        answer
+    }
+
+    /// The user has no more to send (RFC 9293, 3.10.4).
+    pub fn close(&mut self, now: u64) -> C::Closing
+        ensures answer { result ≡ C.close_answer self.old.core }
+        ensures state { self.new ≡ after_user C.machine self.old (at self.old now) (C.machine.closed self.old.core) }
+    {
+        let now = self.timers.time_at(now);
+        let answer = self.core.close();
+        self.timers.follow(self.core.wants(), self.core.una(), now);
+        answer
+    }
+
+    /// The user gives the connection up (RFC 9293, 3.10.5).
+    pub fn abort(&mut self, now: u64) -> C::Aborting
+        ensures answer { result ≡ C.abort_answer self.old.core }
+        ensures state { self.new ≡ after_user C.machine self.old (at self.old now) (C.machine.aborted self.old.core) }
+    {
+        let now = self.timers.time_at(now);
+        let answer = self.core.abort();
+        self.timers.follow(self.core.wants(), self.core.una(), now);
+        answer
+    }
+}
+
+/// RST among the flags of a segment (RFC 9293, 3.1).
+const RST: u8 = 4;
+
+/// Whether a segment has the bit RST.
+fn is_reset(bytes: &[u8]) -> bool
+    ensures { result ≡ is_reset bytes.now }
+{
+    match bytes.get(13) {
+        Some(flags) => *flags & RST != 0,
+        None => false,
+    }
+}
+
+/// Whether what is due ends past a window, where anything before it is in flight.
+fn waits(due: Option<Sent>, una: u64, window: u64) -> bool
+    ensures { result ≡ waits due una window }
+{
+    match due {
+        Some(sent) => {
+            una < sent.start && window.saturating_sub(sent.start.saturating_sub(una)) < sent.count
+        }
+        None => false,
+    }
+}

@@ -1,0 +1,19 @@
+//! What follows of a driver, whatever its end is and whatever is called. These functions do nothing when they run: each
+//! carries the law that it ensures.
+ghost use Rattle.tcp_driver.specs.Calls.{BurstIsWhole, TimeoutComesInTime};
+
+use crate::machine::Core;
+
+/// Between an expiry and the emission that finds nothing to send, the end has done nothing but expire, emit, and what its
+/// user asked: no arrival is taken, and no other timer expires.
+pub fn burst_is_whole<C: Core>()
+    ensures { BurstIsWhole C.machine }
+{}
+
+/// While something waits for an acknowledgement and nothing new is acknowledged, the retransmission timer keeps its
+/// deadline, whatever else is called, and the first `timeout` outside a burst that isn't before it is its expiry, or the
+/// user timeout's. So who makes no call later than `late` after the time that `poll_at` gave has it expire at most the
+/// greatest timeout and `late` after it was started.
+pub fn timeout_comes_in_time<C: Core>()
+    ensures { TimeoutComesInTime C.machine }
+{}

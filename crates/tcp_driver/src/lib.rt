@@ -1,0 +1,26 @@
+//! One end with its times: bytes and times go in, segments and the time of the next call come out. It has no clock: a time
+//! is a count of microseconds, which the caller passes, and which never goes back.
+//!
+//! - [`Core`]: what an end is to it: an end without a clock.
+//! - [`Driver`]: that end with its timers (RFC 6298, 5; RFC 9293, 3.8.3 and 3.10.8).
+//! - [`Limits`]: how long an end waits before it is given up, and how long TIME-WAIT is.
+//! - [`laws`]: what follows, whatever the end is and whatever is called.
+//!
+//! The caller's loop, each turn at some time `now`:
+//! 1. waits for a segment or for [`Driver::poll_at`], whichever comes first,
+//! 2. passes each segment that has come to [`Driver::arrive`],
+//! 3. calls [`Driver::timeout`], and makes its own calls,
+//! 4. calls [`Driver::emit`] and sends what it writes, until it answers `None`.
+#![tactic(auto)]
+
+mod deadlines;
+mod driver;
+pub mod laws;
+mod limits;
+mod machine;
+mod timers;
+
+pub use deadlines::LAST;
+pub use driver::{Driver, Taken};
+pub use limits::Limits;
+pub use machine::{Core, Report, Sent, Timer, Wants};

@@ -1,0 +1,31 @@
+ghost use Rattle.std.specs.Prelude.{◌≡◌};
+ghost use Rattle.tcp_driver.specs.Limits.{standard};
+
+/// How long an end waits, in microseconds.
+#[derive(Clone, Copy, Debug, PartialEq, Eq)]
+pub struct Limits {
+    /// How long TIME-WAIT is: two maximum segment lifetimes (RFC 9293, 3.4.2).
+    pub time_wait: u64,
+    /// After so many expiries of the retransmission timer without an answer the path is suspect, and before them no end is
+    /// given up: 3 or more (RFC 9293, 3.8.3).
+    pub suspect_after: u32,
+    /// How long a SYN may be without an answer: 3 minutes or more (RFC 9293, 3.8.3). `None` is forever.
+    pub handshake: Option<u64>,
+    /// The user timeout: how long all else may be, 100 s or more (RFC 9293, 3.8.3). `None` is forever.
+    pub user: Option<u64>,
+}
+
+impl Limits {
+    /// The values of RFC 9293: 4 minutes of TIME-WAIT, 3 expiries, 3 minutes for a SYN, and a user timeout of 5 minutes
+    /// (3.4.2, 3.8.3 and 3.9.1.1).
+    pub fn standard() -> Limits
+        ensures { result ≡ standard }
+    {
+        Limits {
+            time_wait: 240_000_000,
+            suspect_after: 3,
+            handshake: Some(180_000_000),
+            user: Some(300_000_000),
+        }
+    }
+}

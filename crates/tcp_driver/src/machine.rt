@@ -1,0 +1,149 @@
+ghost use Rattle.std.specs.Prelude.{◌≡◌, ◌+◌, ◌<◌, ◌≤◌, ◌^◌, IfSome, length, ℕ, List};
+
+/// A segment: its length in bytes, the position where it begins, and how many numbers it takes (RFC 9293, 3.4). A position
+/// counts from the SYN, which is at 0.
+#[derive(Clone, Copy, Debug, PartialEq, Eq)]
+pub struct Sent {
+    /// The length of the segment, in bytes.
+    pub len: usize,
+    /// The position of its first number.
+    pub start: u64,
+    /// How many numbers it takes: one for each byte of text, one for a SYN, one for a FIN.
+    pub count: u64,
+}
+
+/// The timers of an end (RFC 9293, 3.10.8; RFC 2018, 5).
+#[derive(Clone, Copy, Debug, PartialEq, Eq)]
+pub enum Timer {
+    /// The retransmission timeout: what is in flight goes out again.
+    Retransmit,
+    /// The reordering timeout: what fills the gaps that the peer reported goes out again.
+    Reorder,
+    /// The TIME-WAIT timeout: the connection ends.
+    TimeWait,
+    /// The user timeout: the connection is aborted.
+    User,
+}
+
+/// Which timers have to run. The user timeout counts while the retransmission timer runs.
+#[derive(Clone, Copy, Debug, PartialEq, Eq)]
+pub struct Wants {
+    /// Whether something waits for an acknowledgement, or for a window.
+    pub retransmit: bool,
+    /// Whether the peer has reported a gap: it holds something, and lacks what comes before it.
+    pub reorder: bool,
+    /// Whether the end is in TIME-WAIT.
+    pub time_wait: bool,
+}
+
+/// What an arrival has brought.
+#[derive(Clone, Copy, Debug, PartialEq, Eq)]
+pub struct Report {
+    /// How many text bytes were acknowledged.
+    pub acked: u64,
+    /// Whether it is a duplicate acknowledgement (RFC 5681, 2).
+    pub is_duplicate: bool,
+    /// Whether it has to be answered at once (RFC 5681, 4.2).
+    pub at_once: bool,
+    /// The peer's window, in bytes, where it was taken from the segment.
+    pub window: Option<u64>,
+}
+
+/// An end without a clock (RFC 9293, 3.10): which timers have to run, and what each event leads to.
+pub trait Core {
+    /// What `send` answers.
+    type Sending;
+    /// What `receive` answers.
+    type Receiving;
+    /// What `close` answers.
+    type Closing;
+    /// What `abort` answers.
+    type Aborting;
+
+    ghost use Rattle.tcp_driver.specs.Machine.{Machine};
+
+    /// What it does, as functions of its state.
+    ghost machine: { Machine Self };
+
+    ghost send_answer: { Self → List ℕ → Self.Sending };
+
+    ghost receive_answer: { Self → ℕ → Self.Receiving };
+
+    ghost close_answer: { Self → Self.Closing };
+
+    ghost abort_answer: { Self → Self.Aborting };
+
+    /// Which timers have to run.
+    fn wants(&self) -> Wants
+        ensures { result ≡ machine.wants self.now };
+
+    /// SND.UNA, as a position.
+    fn una(&self) -> u64
+        ensures { result ≡ machine.una self.now };
+
+    /// How many numbers are in flight.
+    fn flight(&self) -> u64
+        ensures { result ≡ machine.flight self.now };
+
+    /// Whether a reset counts as lost now: in TIME-WAIT (RFC 1337, 3), and in CLOSING and LAST-ACK while there is text that
+    /// the user hasn't read, which a reset would discard.
+    fn ignores_resets(&self) -> bool
+        ensures { result ≡ machine.ignores_resets self.now };
+
+    /// A timer has expired.
+    fn expire(&mut self, timer: Timer)
+        ensures { self.new ≡ machine.expired self.old timer };
+
+    /// A segment has come.
+    fn arrive(&mut self, bytes: &[u8]) -> Report
+        ensures report { result ≡ machine.report self.old bytes.now }
+        ensures state { self.new ≡ machine.arrived self.old bytes.now };
+
+    /// What is due; nothing changes.
+    fn next(&self) -> Option<Sent>
+        ensures { result ≡ machine.due self.now };
+
+    /// Writes the segment that is due, if one is.
+    fn transmit(&mut self, out: &mut [u8]) -> Option<Sent>
+        requires room { machine.room ≤ length out.old }
+        ensures due { result ≡ machine.due self.old }
+        ensures written { out.new ≡ machine.written self.old out.old }
+        ensures state { self.new ≡ machine.emitted self.old }
+        ensures most { IfSome result (λ sent. sent.len ≤ machine.room) }
+        ensures fits { IfSome result (λ sent. sent.start + sent.count < 2 ^ 64) };
+
+    /// Writes the acknowledgement alone, where one is pending.
+    fn acknowledge(&mut self, out: &mut [u8]) -> Option<Sent>
+        requires room { machine.room ≤ length out.old }
+        ensures due { result ≡ machine.alone self.old }
+        ensures written { out.new ≡ machine.written_alone self.old out.old }
+        ensures state { self.new ≡ machine.acknowledged self.old }
+        ensures most { IfSome result (λ sent. sent.len ≤ machine.room) }
+        ensures fits { IfSome result (λ sent. sent.start + sent.count < 2 ^ 64) };
+
+    /// Of what is in flight the first segment goes out again (RFC 5681, 3.2): whether anything is in flight.
+    fn resend_first(&mut self) -> bool
+        ensures answer { result ≡ machine.can_resend self.old }
+        ensures state { self.new ≡ machine.first_resent self.old };
+
+    /// The user has text to send (RFC 9293, 3.10.2).
+    fn send(&mut self, text: &[u8]) -> Self::Sending
+        ensures answer { result ≡ send_answer self.old text.now }
+        ensures state { self.new ≡ machine.sent self.old text.now };
+
+    /// The user reads (RFC 9293, 3.10.3).
+    fn receive(&mut self, out: &mut [u8]) -> Self::Receiving
+        ensures answer { result ≡ receive_answer self.old (length out.old) }
+        ensures read { out.new ≡ machine.read self.old out.old }
+        ensures state { self.new ≡ machine.received self.old (length out.old) };
+
+    /// The user has no more to send (RFC 9293, 3.10.4).
+    fn close(&mut self) -> Self::Closing
+        ensures answer { result ≡ close_answer self.old }
+        ensures state { self.new ≡ machine.closed self.old };
+
+    /// The user gives the connection up (RFC 9293, 3.10.5).
+    fn abort(&mut self) -> Self::Aborting
+        ensures answer { result ≡ abort_answer self.old }
+        ensures state { self.new ≡ machine.aborted self.old };
+}

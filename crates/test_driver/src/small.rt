@@ -1,0 +1,206 @@
+//! A small end: numbers without bytes, one in a segment.
+ghost use Rattle.std.specs.Prelude.{◌≡◌};
+ghost use Rattle.test_driver.specs.Small.{segment};
+
+use tcp_driver::{Core, Report, Sent, Timer, Wants};
+
+/// The bytes of each of its segments.
+const SEGMENT: usize = 14;
+
+/// An end that sends numbers, one in a segment. What comes to it is an acknowledgement, whether the peer reports a gap, the
+/// peer's FIN, and its window: a byte each. Byte 13 has the bit RST, as in a segment of RFC 9293, 3.1.
+#[derive(Clone, Copy, Debug, PartialEq, Eq)]
+pub struct Small {
+    /// The first number that isn't acknowledged.
+    pub una: u64,
+    /// The next one to send.
+    pub nxt: u64,
+    /// The one after all that the user gave.
+    pub accepted: u64,
+    /// What goes out again begins here ..
+    pub again: u64,
+    /// .. and ends here.
+    pub until: u64,
+    /// What came and wasn't read.
+    pub unread: u64,
+    /// Whether the peer reports a gap.
+    pub has_gap: bool,
+    /// Whether an acknowledgement is pending.
+    pub is_owed: bool,
+    /// Whether it is in TIME-WAIT.
+    pub is_resting: bool,
+    /// Whether the user has closed.
+    pub is_closed: bool,
+    /// Whether the connection is over.
+    pub is_over: bool,
+}
+
+impl Core for Small {
+    ghost use Rattle.test_driver.specs.Small.{is_open, machine, takes_text};
+
+    type Sending = bool;
+
+    type Receiving = u64;
+
+    type Closing = bool;
+
+    type Aborting = bool;
+
+    ghost machine = { machine };
+
+    ghost send_answer = { λ s text. takes_text s };
+
+    ghost receive_answer = { λ s room. s.unread };
+
+    ghost close_answer = { λ s. takes_text s };
+
+    ghost abort_answer = { λ s. is_open s };
+
+    fn wants(&self) -> Wants {
+        Wants {
+            retransmit: self.una < self.nxt && !self.is_over,
+            reorder: self.has_gap && !self.is_over,
+            time_wait: self.is_resting && !self.is_over,
+        }
+    }
+
+    fn una(&self) -> u64 {
+        self.una
+    }
+
+    fn flight(&self) -> u64 {
+        self.nxt.saturating_sub(self.una)
+    }
+
+    fn ignores_resets(&self) -> bool {
+        self.is_resting
+    }
+
+    fn expire(&mut self, timer: Timer) {
+        match timer {
+            Timer::Retransmit => {
+                self.again = self.una;
+                self.until = self.nxt;
+                self.has_gap = false;
+            }
+            Timer::Reorder => {
+                self.again = self.una;
+                self.until = self.una.saturating_add(1);
+            }
+            Timer::TimeWait | Timer::User => self.is_over = true,
+        }
+    }
+
+    fn arrive(&mut self, bytes: &[u8]) -> Report {
+        let [ack, gap, fin, window, ..] = bytes else {
+            return Report {
+                acked: 0,
+                is_duplicate: false,
+                at_once: false,
+                window: None,
+            };
+        };
+        let before = self.una;
+        self.una = before.max(self.nxt.min(u64::from(*ack)));
+        self.again = self.again.max(self.una);
+        self.has_gap = *gap == 1;
+        if *fin == 1 {
+            self.is_owed = true;
+            self.unread = 1;
+            self.is_resting = self.is_resting || self.una == self.nxt;
+        }
+        Report {
+            acked: self.una.saturating_sub(before),
+            is_duplicate: u64::from(*ack) == before,
+            at_once: *fin == 1,
+            window: Some(u64::from(*window)),
+        }
+    }
+
+    fn next(&self) -> Option<Sent> {
+        if self.is_over {
+            None
+        } else if self.again < self.until {
+            Some(segment(self.again, 1))
+        } else if self.nxt < self.accepted {
+            Some(segment(self.nxt, 1))
+        } else if self.is_owed {
+            Some(segment(self.nxt, 0))
+        } else {
+            None
+        }
+    }
+
+    fn transmit(&mut self, _out: &mut [u8]) -> Option<Sent> {
+        let due = self.next();
+        if self.is_over {
+            return due;
+        }
+        if self.again < self.until {
+            self.again += 1;
+        } else if self.nxt < self.accepted {
+            self.nxt += 1;
+        }
+        self.is_owed = false;
+        due
+    }
+
+    fn acknowledge(&mut self, _out: &mut [u8]) -> Option<Sent> {
+        let is_due = self.is_owed && !self.is_over;
+        self.is_owed = false;
+        if is_due {
+            Some(segment(self.nxt, 0))
+        } else {
+            None
+        }
+    }
+
+    fn resend_first(&mut self) -> bool {
+        let can = self.una < self.nxt && !self.is_over;
+        if can {
+            self.again = self.una;
+            self.until = self.una + 1;
+        }
+        can
+    }
+
+    fn send(&mut self, text: &[u8]) -> bool {
+        let can = !self.is_closed && !self.is_over;
+        if can {
+            self.accepted = self.accepted.saturating_add(text.len() as u64);
+        }
+        can
+    }
+
+    fn receive(&mut self, _out: &mut [u8]) -> u64 {
+        let unread = self.unread;
+        self.unread = 0;
+        unread
+    }
+
+    fn close(&mut self) -> bool {
+        let can = !self.is_closed && !self.is_over;
+        if can {
+            self.accepted = self.accepted.saturating_add(1);
+            self.is_closed = true;
+        }
+        can
+    }
+
+    fn abort(&mut self) -> bool {
+        let can = !self.is_over;
+        self.is_over = true;
+        can
+    }
+}
+
+/// A segment with so many numbers.
+fn segment(start: u64, count: u64) -> Sent
+    ensures { result ≡ segment start count }
+{
+    Sent {
+        len: SEGMENT,
+        start,
+        count,
+    }
+}
