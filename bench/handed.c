@@ -1,9 +1,9 @@
 /*
- * handed MODE COUNT: two ends of the C library, in memory that the program hands in.
+ * handed MODE COUNT: two ends of the C library, in memory that the program hands in, moved as crates/bench_transfer moves two of Rattle's.
+ * - in_order: COUNT bursts of two segments with an acknowledgement, their text copied in and out; each_acknowledged: with one of each.
+ * - one_byte: the same with segments of one byte.
  * - connection: makes two ends, opens, closes them one after the other, and frees them, COUNT times.
- * - copied: COUNT bursts of two segments in order with an acknowledgement, as crates/bench_transfer has them: the user's text is
- *   copied in and out.
- * - lent: the same, but the reader has the text lent, and both ends leave sums to a device.
+ * - lent: as in_order, but the reader has the text lent, and both ends leave sums to a device.
  * - trains: as lent, with bursts of TRAIN segments that go out as one, and arrive so.
  */
 #include "tcpcore.h"
@@ -91,15 +91,19 @@ static void burst_of_trains(void)
     size_t count;
     tcpcore_send(&a, text, sizeof text, &count);
     carry_train();
-    carry(&b, B, &a);
+    /* Read before it is acknowledged, so that the window has room for the next train. */
     read_lent();
+    carry(&b, B, &a);
 }
 
-static void burst(void)
+/* Two segments that are written at once. */
+static void burst(int acknowledges_each)
 {
     size_t count;
     tcpcore_send(&a, text, (size_t)2 * SEGMENT, &count);
     carry(&a, A, &b);
+    if (acknowledges_each)
+        carry(&b, B, &a);
     carry(&a, A, &b);
     carry(&b, B, &a);
     if (is_lent)
@@ -108,27 +112,45 @@ static void burst(void)
         tcpcore_receive(&b, read_bytes, sizeof read_bytes, &count);
 }
 
+static void burst_of_bytes(void)
+{
+    size_t count;
+    for (int k = 0; k < 2; k++) {
+        tcpcore_send(&a, text, 1, &count);
+        carry(&a, A, &b);
+    }
+    carry(&b, B, &a);
+    tcpcore_receive(&b, read_bytes, 2, &count);
+}
+
+static int connections(unsigned long count)
+{
+    unsigned long closed = 0;
+    for (unsigned long k = 0; k < count; k++)
+        closed += (unsigned long)connection();
+    printf("%lu connections were opened and closed\n", closed);
+    return closed == count ? 0 : 1;
+}
+
 int main(int number, char **words)
 {
     struct tcpcore_status status;
     if (number != 3)
         return 2;
-    unsigned long count = strtoul(words[2], NULL, 10), closed = 0;
+    const char *mode = words[1];
+    unsigned long count = strtoul(words[2], NULL, 10), each = (unsigned long)2 * SEGMENT;
     memset(text, 'a', sizeof text);
-    if (strcmp(words[1], "connection") == 0) {
-        for (unsigned long k = 0; k < count; k++)
-            closed += (unsigned long)connection();
-        printf("%lu connections were opened and closed\n", closed);
-        return 0;
-    }
+    if (strcmp(mode, "connection") == 0)
+        return connections(count);
     open_both();
-    is_lent = strcmp(words[1], "copied") != 0;
+    is_lent = strcmp(mode, "lent") == 0 || strcmp(mode, "trains") == 0;
+    int is_of_bytes = strcmp(mode, "one_byte") == 0, is_of_trains = strcmp(mode, "trains") == 0;
+    int acknowledges_each = strcmp(mode, "each_acknowledged") == 0;
+    if (is_of_bytes || is_of_trains)
+        each = is_of_bytes ? 2 : sizeof text;
     for (unsigned long k = 0; k < count; k++)
-        if (strcmp(words[1], "trains") == 0)
-            burst_of_trains();
-        else
-            burst();
+        is_of_bytes ? burst_of_bytes() : is_of_trains ? burst_of_trains() : burst(acknowledges_each);
     tcpcore_status(&a, &status);
     printf("%llu bytes were moved and acknowledged\n", (unsigned long long)status.released);
-    return 0;
+    return status.released == count * each ? 0 : 1;
 }

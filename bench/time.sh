@@ -1,17 +1,19 @@
 #!/bin/sh
-# Times our ends beside lwIP's best build and beside the moving of bytes alone, in cycles of the processor's clock. A library that is
-# preloaded reads the clock at every 100th call of memcpy or memmove, and the first percentile of these windows, of some microseconds
-# each, is taken. The programs run in turns, five times (`bench/time.sh TURNS` takes another number), and what counts is the least of
-# all turns, since other work on the machine only adds: a line has the ratio of these, and beside it the least and the greatest ratio
-# within a turn.
-# `bench/time.sh TURNS --cpu=x86-64-v3` builds our program and lwIP's best for that processor.
+# Times our ends beside lwIP's two builds and beside the moving of bytes alone, in cycles of the processor's clock. What counts is what
+# users get: the C library, the portable file, which Rust, Go and Python take where they find no machine code, and each binding over the
+# C library; beside them the same ends compiled as one unit with a program in Rattle. A library that is preloaded reads the clock at every
+# 100th call of memcpy or memmove, and the first percentile of these windows, of some microseconds each, is taken. The programs run in
+# turns, five times (`bench/time.sh TURNS` takes another number), and what counts is the least of all turns, since other work on the
+# machine only adds; a ratio has beside it the least and the greatest within a turn.
+# `bench/time.sh TURNS --cpu=x86-64-v3` builds the one unit and lwIP's best for that processor.
 # - in order, one byte: a segment of 1,460 bytes, or of one, both ends together, with half an acknowledgement.
 # - acknowledgement: what a second one adds to two segments in order.
 # - connection: two ends made in memory that is handed in, handshake, orderly close (bench/handed.c); lwIP's from its pool.
+# - lent: the reader lent its text, and both ends leaving sums to a device; trains: as lent, and 30 segments go out and arrive as one.
 # - floor: four copies and two sums of 1,460 bytes; once: one copy (bench/floor.c).
-# - lent: the C library's ends, the reader lent its text, and both leaving sums to a device; copied: without either; trains: as lent, and
-#   30 segments go out and arrive as one.
-# It wants gcc, apt-get, the network and the C library (`rt lib` in crates/tcp_c); our program is built anew where it is stale.
+# - bindings (bench/bound): what each takes more than C for the same calls, over the same library.
+# It wants gcc, g++, cargo, go, python3, apt-get, the network, the C library (`rt lib` in crates/tcp_c) and the portable file
+# (c/portable/build.sh, or else that of release/); the one unit is built anew where it is stale.
 set -eu
 
 top=$(cd "$(dirname "$0")/.." && pwd)
@@ -20,70 +22,132 @@ mkdir -p "$out"
 . "$top/bench/common.sh"
 turns=${1:-5}
 [ $# -eq 0 ] || shift
-processor=x86-64-v2
+library=$top/crates/tcp_c/out/libtcp_c.a
+portable=$top/c/portable/out/tcpcore_portable.c
+[ -e "$library" ] || { echo "bench: no $library: run 'rt lib' in crates/tcp_c" >&2; exit 1; }
+[ -e "$portable" ] || portable=$top/release/tcpcore.c
 build_ours "$@"
 build_both_lwips "$@"
-library=$top/crates/tcp_c/out/libtcp_c.a
-[ -e "$library" ] || { echo "bench: no $library: run 'rt lib' in crates/tcp_c" >&2; exit 1; }
+core=$top/c/tcpcore
 gcc -O2 -shared -fPIC "$top/bench/windows.c" -o "$out/windows.so" -ldl
 gcc -O3 -march="$processor" "$top/bench/floor.c" -o "$out/floor"
-gcc -O2 -I"$top/c/tcpcore" "$top/bench/handed.c" "$top/c/tcpcore/tcpcore.c" "$library" -o "$out/handed"
-bursts=100000
-connections=40000
-trains=10000
+gcc -O2 -I"$core" "$top/bench/handed.c" "$core/tcpcore.c" "$library" -o "$out/handed"
+gcc -O2 -I"$core" "$top/bench/handed.c" "$portable" -o "$out/portable"
 
-# The cycles of one burst of a program of so many; its words follow.
-burst() {
-    count=$1
-    shift
+# The programs of the bindings, over the C library, in $out/bound.
+build_bound() {
+    bound=$out/bound
+    mkdir -p "$bound/rust/src" "$bound/go"
+    make --silent -C "$core" OUT="$bound" LIBRARY="$library"
+    g++ -O2 -std=c++17 -I"$core" -I"$top/c/bindings/cpp" "$top/bench/bound/handed.cpp" "$bound/libtcpcore.a" -o "$bound/cpp"
+    cp "$top/bench/bound/handed.rs" "$bound/rust/src/main.rs"
+    printf '[package]\nname = "handed"\nversion = "0.1.0"\nedition = "2021"\n\n[dependencies]\ntcpcore = { path = "%s", features = ["native"] }\n' \
+        "$top/c/bindings/rust" >"$bound/rust/Cargo.toml"
+    (cd "$bound/rust" && TCPCORE_LIB_DIR=$bound cargo build --quiet --release --offline)
+    cp "$top/bench/bound/handed.go" "$bound/go/main.go"
+    printf 'module handed\n\ngo 1.19\n\nrequire tcpcore v0.0.0\n\nreplace tcpcore => %s\n' "$top/c/bindings/go" >"$bound/go/go.mod"
+    (cd "$bound/go" && CGO_LDFLAGS=-L$bound GOPROXY=off GOFLAGS=-mod=mod go build -tags tcpcore_native -o "$bound/handed.go" .)
+}
+build_bound
+
+# How many calls of memcpy and memmove a program makes, and the cycles of a window of 100 of them.
+windows() {
     WINDOWS=$out/windows LD_PRELOAD=$out/windows.so "$@" >/dev/null
-    awk -v count="$count" '{ printf "%.1f ", $2 * $1 / 100 / count }' "$out/windows"
+    cat "$out/windows"
+}
+
+# Of a column and a mode, the cycles of one burst of so many; the program's words follow.
+burst() {
+    column=$1
+    mode=$2
+    count=$3
+    shift 3
+    windows "$@" | awk -v what="$column $mode" -v count="$count" '{ print what, $2 * $1 / 100 / count }'
+}
+
+# The same of a program that makes calls before its first burst.
+bound() {
+    column=$1
+    mode=$2
+    count=$3
+    shift 3
+    less=$(windows "$@" "$mode" 0 | awk '{ print $1 }')
+    windows "$@" "$mode" "$count" | awk -v what="$column $mode" -v count="$count" -v less="$less" '{ print what, $2 * ($1 - less) / 100 / count }'
+}
+
+turn() {
+    for mode in in_order one_byte each_acknowledged; do
+        burst unit $mode 100000 "$ours" $mode 100000 65536
+        burst c $mode 100000 "$out/handed" $mode 100000
+        burst portable $mode 40000 "$out/portable" $mode 40000
+        burst best $mode 100000 "$out/best" $mode 100000
+        burst shipped $mode 100000 "$out/shipped" $mode 100000
+    done
+    burst c connection 40000 "$out/handed" connection 40000
+    burst portable connection 10000 "$out/portable" connection 10000
+    burst best connection 40000 "$out/best" connection 40000
+    burst shipped connection 40000 "$out/shipped" connection 40000
+    burst floor floor 100000 "$out/floor" floor 100000
+    burst floor once 100000 "$out/floor" once 100000
+    for column in handed portable; do
+        name=$([ $column = handed ] && echo c || echo portable)
+        burst "$name" lent 40000 "$out/$column" lent 40000
+        burst "$name" trains 10000 "$out/$column" trains 10000
+    done
+    for mode in in_order one_byte; do
+        bound cpp $mode 40000 "$bound/cpp"
+        bound rust $mode 40000 "$bound/rust/target/release/handed"
+        bound go $mode 40000 "$bound/handed.go"
+        LIBTCPCORE=$(echo "$bound"/libtcpcore.so.*) PYTHONPATH=$core bound python $mode 4000 python3 "$top/bench/bound/handed.py"
+    done
 }
 
 tell_commit
-for _ in $(seq "$turns"); do
-    burst $bursts "$ours" in_order $bursts 65536
-    burst $bursts "$out/best" in_order $bursts
-    burst $bursts "$ours" one_byte $bursts 65536
-    burst $bursts "$out/best" one_byte $bursts
-    burst $bursts "$ours" each_acknowledged $bursts 65536
-    burst $connections "$out/handed" connection $connections
-    burst $connections "$out/best" connection $connections
-    burst $bursts "$out/floor" floor $bursts
-    burst $bursts "$out/floor" once $bursts
-    burst $bursts "$out/handed" copied $bursts
-    burst $bursts "$out/handed" lent $bursts
-    burst $trains "$out/handed" trains $trains
-    burst $bursts "$out/best" each_acknowledged $bursts
-    echo
+echo "load $(cut -d ' ' -f 1-3 /proc/loadavg)"
+for number in $(seq "$turns"); do
+    turn | sed "s/^/$number /"
 done | awk '
-    { for (i = 1; i <= NF; i++) of[i, NR] = $i }
-    function least(a,   i, x) {
-        x = of[a, 1]
-        for (i = 2; i <= NR; i++) if (of[a, i] < x) x = of[a, i]
+    { of[$2, $3, $1] = $4; last = $1 }
+    function least(column, mode,   i, x) {
+        x = of[column, mode, 1]
+        for (i = 2; i <= last; i++) if (of[column, mode, i] < x) x = of[column, mode, i]
         return x
     }
-    function cycles(name, part, a, b) {
-        printf "%-44s %8.0f cycles\n", name, (least(a) - (b ? least(b) : 0)) / part
+    # A row of cycles, of a mode, in so many parts, less another mode.
+    function row(name, mode, part, but,   i, x) {
+        printf "%-28s", name
+        for (i = 1; i <= 5; i++) {
+            x = least(columns[i], mode)
+            if (x == "") printf " %12s", "-"
+            else printf " %12.0f", (x - (but ? least(columns[i], but) : 0)) / part
+        }
+        printf "\n"
     }
-    # of a burst of column a, in so many parts of one of column b
-    function ratio(name, a, b, parts,   i, x, low, high) {
-        parts = parts ? parts : 1
-        for (i = 1; i <= NR; i++) {
-            x = of[a, i] / parts / of[b, i]
+    # How often one fits another in a mode.
+    function ratio(name, over, under, mode,   i, x, low, high) {
+        for (i = 1; i <= last; i++) {
+            x = of[over, mode, i] / of[under, mode, i]
             if (i == 1 || x < low) low = x
             if (i == 1 || x > high) high = x
         }
-        printf "%-44s %8.2f times, %.2f to %.2f\n", name, least(a) / parts / least(b), low, high
+        printf "%-50s %6.2f (%.2f to %.2f)\n", name, least(over, mode) / least(under, mode), low, high
+    }
+    function ratios(name, over, under) {
+        ratio(name ", a segment in order", over, under, "in_order"); ratio(name ", one byte", over, under, "one_byte")
+        ratio(name ", a connection", over, under, "connection")
+    }
+    # What a binding takes more than C for a segment.
+    function more(name, column) {
+        printf "%-28s %12.0f %12.0f\n", name, (least(column, "in_order") - least("c", "in_order")) / 2, (least(column, "one_byte") - least("c", "one_byte")) / 2
     }
     END {
-        cycles("a segment in order, ours", 2, 1); cycles("a segment in order, lwIP", 2, 2)
-        cycles("a segment of one byte, ours", 2, 3); cycles("an acknowledgement, ours", 1, 5, 1)
-        cycles("an acknowledgement, lwIP", 1, 13, 2)
-        cycles("a connection, memory handed in, ours", 1, 6); cycles("floor: four copies, two sums", 2, 8); cycles("one copy", 2, 9)
-        cycles("copied, C library", 2, 10); cycles("lent, sums left to a device, C library", 2, 11)
-        cycles("so, in trains", 30, 12)
-        ratio("lwIP / ours, a segment in order", 2, 1); ratio("lwIP / ours, one byte", 4, 3)
-        ratio("lwIP / ours, a connection", 7, 6); ratio("ours / floor", 1, 8); ratio("lent, sums left to a device / one copy", 11, 9)
-        ratio("lent, in trains, sums left to a device / one copy", 12, 9, 15)
+        split("c portable best shipped unit", columns, " ")
+        printf "%-28s %12s %12s %12s %12s %12s\n", "cycles", "C library", "portable", "lwIP, best", "lwIP, ships", "one unit"
+        row("a segment in order", "in_order", 2); row("a segment of one byte", "one_byte", 2)
+        row("an acknowledgement more", "each_acknowledged", 1, "in_order"); row("a connection", "connection", 1)
+        row("lent, sums left to a device", "lent", 2); row("so, in trains of 30", "trains", 30)
+        printf "%-28s %12.0f\n%-28s %12.0f\n", "four copies and two sums", least("floor", "floor") / 2, "one copy", least("floor", "once") / 2
+        ratios("lwIP, best / C library", "best", "c"); ratios("lwIP, as it ships / portable", "shipped", "portable")
+        printf "%-28s %12s %12s\n", "more than C", "in order", "one byte"
+        more("C++", "cpp"); more("Rust", "rust"); more("Go", "go"); more("Python", "python")
     }'

@@ -48,7 +48,7 @@ behind checks/peers/lwip.sh "$library"
 c/portable/build.sh
 behind c/portable/test.sh --short "$library"
 behind c/bindings/rust/test.sh "$library"
-behind c/bindings/test.sh
+behind c/bindings/test.sh "$library"
 apps/tcpkit/build.sh
 behind apps/tcpkit/test.sh
 behind checks/release/test.sh "$library"

@@ -1,15 +1,30 @@
 #!/usr/bin/env bash
-# C++'s header and Go's package over the portable file, which c/portable/build.sh makes: one test each. It installs g++ and golang-go by
-# apt-get where this machine lacks them; where that fails it fails, or, with LEAVE_OUT=1 in the environment, says what it leaves out.
+# C++'s header over the portable file, which c/portable/build.sh makes; Go's package over that of release/ and over the native library
+# (the first argument, or crates/tcp_c's own); and Python's package as it is installed, over both: one test each. It installs g++,
+# golang-go and Python's own by apt-get where this machine lacks them; where that fails it fails, or, with LEAVE_OUT=1 in the
+# environment, says what it leaves out.
 set -euo pipefail
 cd "$(dirname "$0")"
 # shellcheck disable=SC2034
 test=bindings
 . ../../checks/lib.sh
 passed=0
+library=$(realpath -m "${1:-../../crates/tcp_c/out/libtcp_c.a}")
 [[ -e ../portable/out/tcpcore_portable.c ]] || { echo "bindings: no portable file: run c/portable/build.sh"; exit 1; }
+[[ -e $library ]] || { echo "bindings: no $library: run 'rt lib' in crates/tcp_c"; exit 1; }
 
 mkdir -p cpp/out
+# A folder as the tarball has them: the layer, and this machine's code.
+mkdir -p "out/tarball/prebuilt/$(uname -m | sed 's/^x86_64$/x86-64/')"
+cp ../tcpcore/{tcpcore.c,tcpcore.h,layout.h} out/tarball
+cp "$library" out/tarball/prebuilt/*/
+
+# A program or a library has the machine code in it, and nothing of the portable file, whose functions are named w2c_.
+is_native() {
+    nm "$1" >out/names
+    if ! grep -q tcp_c_emit out/names || grep -q w2c_ out/names; then echo "bindings: $1 isn't over the machine code"; exit 1; fi
+}
+
 if has g++ g++ --version; then
     sanitizers="-O1 -fsanitize=address,undefined -fno-sanitize-recover=all"
     gcc -std=c99 $sanitizers -I../tcpcore -c ../portable/out/tcpcore_portable.c -o cpp/out/tcpcore.o
@@ -20,6 +35,28 @@ fi
 if has golang-go go version; then
     [[ -z $(gofmt -l go) ]] || { echo "bindings: gofmt would change $(gofmt -l go)"; exit 1; }
     (cd go && GOPROXY=off GOFLAGS=-mod=mod go vet . && GOPROXY=off GOFLAGS=-mod=mod timeout 300 go test -count=1 .)
+    # The same over the native library.
+    make --silent -C ../tcpcore OUT="$PWD/out/native" LIBRARY="$library"
+    export CGO_LDFLAGS=-L$PWD/out/native
+    (cd go && GOPROXY=off GOFLAGS=-mod=mod timeout 300 go test -tags tcpcore_native -count=1 -o ../out/go_test .)
+    is_native out/go_test
+    passed=$((passed + 2))
+fi
+# Python's package, installed in a folder of its own, with the library that TCPCORE_PREBUILT asks for.
+python_over() {
+    local site=$PWD/out/site.$1
+    rm -rf "$site" python/build
+    TCPCORE_PREBUILT=$2 /usr/bin/python3 -m pip install --quiet --no-index --no-deps --no-build-isolation --root-user-action=ignore \
+        --target "$site" ./python
+    mkdir -p out/alone/tests
+    cp ../tcpcore/tests/calls.py out/alone/tests
+    PYTHONPATH=$site timeout 300 /usr/bin/python3 out/alone/tests/calls.py
     passed=$((passed + 1))
+}
+if has python3-pip /usr/bin/python3 -m pip --version && has python3-setuptools /usr/bin/python3 -c 'import setuptools' &&
+    has python3-wheel /usr/bin/python3 -c 'import wheel'; then
+    python_over portable ""
+    python_over prebuilt "$PWD/out/tarball"
+    is_native out/site.prebuilt/tcpcore/libtcpcore.so
 fi
 echo "bindings: $passed passed, $left_out left out"

@@ -137,17 +137,27 @@ manual
 package
 cd "$there"
 if has cargo /usr/bin/cargo --version; then
-    bare sh -c "cd $place/rust && cargo test --offline"
-    (($(awk '/^test result: ok/ { sum += $4 } END { print sum + 0 }' told) >= 14))
+    # Over the machine code around it, and over the portable file.
+    for words in "" TCPCORE_PREBUILT=; do
+        bare sh -c "cd $place/rust && $words cargo test --offline"
+        (($(awk '/^test result: ok/ { sum += $4 } END { print sum + 0 }' told) >= 14))
+    done
 fi
 if has python3-pip /usr/bin/python3 -m pip --version && has python3-setuptools /usr/bin/python3 -c 'import setuptools' &&
     has python3-wheel /usr/bin/python3 -c 'import wheel'; then
-    # A wheel, installed elsewhere.
-    bare sh -c "cd $place/python && python3 -m pip wheel --no-index --no-deps --no-build-isolation -w $there ."
-    bare python3 -m pip install --no-index --no-deps --target "$there/site" "$(echo tcpcore-"$version"-*.whl)"
     mkdir alone
     cp "$place/tests/calls.py" alone
-    bare env PYTHONPATH="$there/site" python3 alone/calls.py
-    grep -q '^calls.py: [1-9][0-9]* checks' told
+    # A wheel, installed elsewhere; over each of the two.
+    for words in "" TCPCORE_PREBUILT=; do
+        rm -rf site "$place/python/build" tcpcore-"$version"-*.whl
+        bare sh -c "cd $place/python && $words python3 -m pip wheel --no-index --no-deps --no-build-isolation -w $there ."
+        bare python3 -m pip install --no-index --no-deps --target "$there/site" "$(echo tcpcore-"$version"-*.whl)"
+        bare env PYTHONPATH="$there/site" python3 alone/calls.py
+        grep -q '^calls.py: [1-9][0-9]* checks' told
+        # The portable file's functions have names of their own.
+        if nm site/tcpcore/libtcpcore.so | grep -q w2c_; then is_portable=yes; else is_portable=; fi
+        [[ ${words:+yes} == "$is_portable" ]] || fail "the wheel isn't over what was asked for"
+        pass
+    done
 fi
 echo "dist: $passed passed, $left_out left out"

@@ -26,7 +26,6 @@ struct call {
 };
 
 /* How many bytes each field of a record has, in turn. */
-static const u8 OF_ADDR[] = {1, 1, 1, 1, 0};
 static const u8 OF_CONFIG[] = {1, 1, 1, 1, 2, 2, 4, 4, 8, 8, 8, 1, 1, 1, 0};
 static const u8 OF_STATUS[] = {4, 4, 8, 8, 8, 8, 8, 8, 8, 8, 4, 1, 1, 1, 1, 4, 4, 8, 4, 4, 0};
 static const u8 OF_TAKEN[] = {4, 4, 8, 4, 4, 4, 0};
@@ -46,7 +45,7 @@ static void carry_record(void *to, const void *from, const u8 *sizes)
             out[i] = in[IS_REVERSED ? *sizes - 1 - i : i];
 }
 
-static void see(struct call *call, int window, const void *data, size_t size)
+STEP void see(struct call *call, int window, const void *data, size_t size)
 {
     struct window found = {(u8 *)(uintptr_t)data, size < PLACE ? (u32)size : PLACE};
     call->machine.w2c_memory.read[window] = call->machine.w2c_memory.written[window] = found;
@@ -54,19 +53,21 @@ static void see(struct call *call, int window, const void *data, size_t size)
         call->machine.w2c_memory.written[window].size = 0;
 }
 
-static u64 length_of(size_t size) { return size < PLACE ? size : PLACE; }
+STEP u64 length_of(size_t size) { return size < PLACE ? size : PLACE; }
 
-static void begin(struct call *call)
+STEP void begin(struct call *call)
 {
-    memset(&call->machine, 0, sizeof call->machine);
     call->machine.w2c___stack_pointer = MODULE_STACK;
+    call->machine.w2c_in_call = 0;
     see(call, IN_STACK, call->frame, FRAME);
-    put64(call->frame + AT_HANDLE, 0);
-    put64(call->frame + AT_HANDLE + 8, 0);
+    see(call, IN_BLOCK, NULL, 0); /* until a call shows it; so of the others */
+    see(call, IN_READ, NULL, 0);
+    see(call, IN_WRITTEN, NULL, 0);
+    memset(call->frame + AT_HANDLE, 0, 2 * sizeof(u64));
 }
 
 /* With the end that is in the handle, if there is one. */
-static void begin_with(struct call *call, const struct handle *handle)
+STEP void begin_with(struct call *call, const struct handle *handle)
 {
     begin(call);
     if (handle->at >> 32 != MARK)
@@ -78,14 +79,16 @@ static void begin_with(struct call *call, const struct handle *handle)
 }
 
 /* The handle as the call has left it. */
-static void end_with(const struct call *call, struct handle *handle)
+STEP void end_with(const struct call *call, struct handle *handle)
 {
     int is_live = get64(call->frame + AT_HANDLE) == MARK_OF_LIVE;
     handle->mark = is_live ? (uintptr_t)call->machine.w2c_memory.read[IN_BLOCK].data : 0;
     handle->at = is_live ? (u64)MARK << 32 | get32(call->frame + AT_HANDLE + 8) : 0;
 }
 
-static void put_addr(struct call *call, u32 at, const tcpcore_addr *addr) { carry_record(call->frame + at, addr, OF_ADDR); }
+/* An address is bytes, which lie the same on any machine. */
+STEP void put_addr(struct call *call, u32 at, const tcpcore_addr *addr) { memcpy(call->frame + at, addr, sizeof *addr); }
+STEP void get_addr(const struct call *call, tcpcore_addr *addr) { memcpy(addr, call->frame + AT_DST, sizeof *addr); }
 
 /* A call of the module, with the end in the handle: `made` is its name and what stands behind the handle. */
 #define WITH_END(handle) \
@@ -158,7 +161,7 @@ static uint32_t tcp_c_receive(struct handle *handle, uint8_t *out, size_t room, 
 }
 
 /* Where the program sees what the module lends of the block. */
-static uint64_t lent_at(const struct call *call, uint64_t at)
+STEP uint64_t lent_at(const struct call *call, uint64_t at)
 {
     return (uintptr_t)call->machine.w2c_memory.read[IN_BLOCK].data + ((u32)at & PLACE);
 }
@@ -210,7 +213,7 @@ static uint32_t tcp_c_timer(struct handle *handle, uint32_t timer)
 }
 
 /* A segment has come from one address to the other. */
-static void put_segment(struct call *call, const tcpcore_addr *src, const tcpcore_addr *dst, const uint8_t *bytes, size_t length)
+STEP void put_segment(struct call *call, const tcpcore_addr *src, const tcpcore_addr *dst, const uint8_t *bytes, size_t length)
 {
     put_addr(call, AT_SRC, src);
     put_addr(call, AT_DST, dst);
@@ -270,13 +273,13 @@ static uint32_t tcp_c_taken_vouched(struct handle *handle, const tcpcore_addr *s
 }
 
 /* What a call tells of a segment that it wrote. */
-static void get_written(const struct call *call, tcpcore_addr *to, size_t *length)
+STEP void get_written(const struct call *call, tcpcore_addr *to, size_t *length)
 {
-    carry_record(to, call->frame + AT_DST, OF_ADDR);
+    get_addr(call, to);
     *length = (size_t)get64(call->frame + AT_FOUND);
 }
 
-static void put_written(struct call *call, const tcpcore_addr *to, uint8_t *out, size_t room)
+STEP void put_written(struct call *call, const tcpcore_addr *to, uint8_t *out, size_t room)
 {
     put_addr(call, AT_DST, to);
     put64(call->frame + AT_FOUND, 0);
@@ -410,7 +413,7 @@ static uint32_t tcp_c_peer(struct handle *handle, tcpcore_addr *addr, uint16_t *
     put_addr(&call, AT_DST, addr);
     put16(call.frame + AT_FOUND, 0);
     uint32_t answer = w2c_tcp_c_peer(M, AT_HANDLE, AT_DST, AT_FOUND);
-    carry_record(addr, call.frame + AT_DST, OF_ADDR);
+    get_addr(&call, addr);
     *port = get16(call.frame + AT_FOUND);
     end_with(&call, handle);
     return answer;

@@ -147,9 +147,10 @@ def main():
     declared, body = functions(text, "tcp_c")
     at, size, constants = table_of(text)
     stack = (stack_of(body) + 15) // 16 * 16
-    body, loops, pieces = quicker.quicker(body)
-    if loops < 10 or pieces < 5:
-        stop(f"{loops} loops and {pieces} pieces of code could be made quicker: wasm2c or the compiler writes them in other forms")
+    body, loops, summed, pieces = quicker.quicker(body)
+    if loops < 10 or summed < 1 or pieces < 5:
+        stop(f"{loops} loops that copy, {summed} that sum and {pieces} pieces of code could be made quicker: wasm2c or the compiler writes"
+             " them in other forms")
     own = f"\n/* The module's own stack: what its deepest chain of calls takes. */\nenum {{ MODULE_STACK = {stack} }};\n\n"
     table = f"/* The module's constants, and where they lie. */\nenum {{ TABLE_AT = {at} }};\n#define TABLE_SIZE {size}\n"
     table += f"static const unsigned char TABLE[] = {{\n{constants}\n}};\n\n" if size > 0 else "\n"
@@ -158,7 +159,7 @@ def main():
     text = "".join(parts)
     pathlib.Path(sys.argv[2]).write_text(text)
     print(f"{sys.argv[2]}: {len(text.splitlines())} lines, {declared.count(';')} functions, {stack} bytes of the module's stack,"
-          f" {loops} loops and {pieces} pieces made quicker")
+          f" {loops} loops that copy, {summed} that sum and {pieces} pieces made quicker")
 
 
 if __name__ == "__main__":

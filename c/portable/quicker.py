@@ -10,6 +10,8 @@ lies in its window, and then load.
 
 import re
 
+import sums
+
 LEAST = 4
 MEMORY = "&instance->w2c_memory"
 BASE = re.compile(r" *w2c_j(\d) = (w2c_[lp]\d+);")
@@ -98,8 +100,9 @@ def spanned(lines):
 
 
 def quicker(text):
-    """wasm2c's functions, and how many loops and pieces of code were found."""
+    """wasm2c's functions, and how many loops that copy, loops that sum and pieces of code were found."""
     text, loops = copy_loop().subn(ahead, text)
+    text, summed = sums.ahead_of_sums(text)
     functions, pieces = re.split(r"(?<=^\}\n)", text, flags=re.M), 0
     for i, function in enumerate(functions):
         lines, count = spanned(function.splitlines(keepends=True))
@@ -107,4 +110,4 @@ def quicker(text):
             head = next(n for n, line in enumerate(lines) if line.endswith("{\n"))
             lines.insert(head + 1, "".join(f"  const u8 *near{k};\n" for k in range(count)))
             functions[i], pieces = "".join(lines), pieces + count
-    return "".join(functions), loops, pieces
+    return "".join(functions), loops, summed, pieces

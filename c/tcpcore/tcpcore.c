@@ -7,6 +7,16 @@
 
 #include <string.h>
 
+/*
+ * A step that calls begin or end with. It is compiled into each of them, because as functions such steps take as long as some of the
+ * library's own calls; but not where the compiler is told to make code small, or to make nothing quick.
+ */
+#if defined(__GNUC__) && defined(__OPTIMIZE__) && !defined(__OPTIMIZE_SIZE__)
+#define STEP static inline __attribute__((always_inline))
+#else
+#define STEP static inline
+#endif
+
 /* The struct's first two words are the library's handle; the third is the struct's own address while it holds an end. */
 struct handle {
     uint64_t mark;
@@ -69,10 +79,10 @@ uint32_t tcp_c_rest_pending(const struct tcpcore_rest *, uint32_t *);
 uint32_t tcp_c_rest_abort(struct tcpcore_rest *);
 uint32_t tcp_c_rest_status(const struct tcpcore_rest *, uint32_t *, uint32_t *);
 
-static struct handle *handle(tcpcore_end *end) { return (struct handle *)end->opaque; }
+STEP struct handle *handle(tcpcore_end *end) { return (struct handle *)end->opaque; }
 
 /* For a call that changes no end: the library takes the end out of its handle and puts it back, where it was. */
-static struct handle copy_of(const tcpcore_end *end)
+STEP struct handle copy_of(const tcpcore_end *end)
 {
     struct handle copy;
     memcpy(&copy, end->opaque, sizeof copy);
@@ -80,16 +90,17 @@ static struct handle copy_of(const tcpcore_end *end)
 }
 
 /* Whether the struct may be used where it lies: all zero, or with its own address. The library tests the mark. */
-static uint32_t refusal(const tcpcore_end *end)
+STEP uint32_t refusal(const tcpcore_end *end)
 {
     if (!end)
         return TCPCORE_NULL;
-    int empty = !(end->opaque[0] | end->opaque[1] | end->opaque[OWNER]);
-    return empty || end->opaque[OWNER] == (uintptr_t)end ? TCPCORE_DONE : TCPCORE_COPIED;
+    if (end->opaque[OWNER] == (uintptr_t)end)
+        return TCPCORE_DONE;
+    return (end->opaque[0] | end->opaque[1] | end->opaque[OWNER]) == 0 ? TCPCORE_DONE : TCPCORE_COPIED;
 }
 
 /* Whether two stretches of memory have a byte in common. */
-static int overlap(const void *one, size_t size, const void *other, size_t length)
+STEP int overlap(const void *one, size_t size, const void *other, size_t length)
 {
     uintptr_t first = (uintptr_t)one, second = (uintptr_t)other;
     return first < second ? second - first < size && length > 0 : first - second < length && size > 0;
@@ -107,18 +118,18 @@ struct object {
     size_t size;
 };
 
-static struct object end_at(const tcpcore_end *end) { return (struct object){end, sizeof *end}; }
+STEP struct object end_at(const tcpcore_end *end) { return (struct object){end, sizeof *end}; }
 
-static struct object rest_at(const struct tcpcore_rest *rest) { return (struct object){rest, sizeof *rest}; }
+STEP struct object rest_at(const struct tcpcore_rest *rest) { return (struct object){rest, sizeof *rest}; }
 
 /* Whether it may be written there: not over the struct, and not over the buffer of the same call. */
-static int is_apart(struct place place, struct object object, const void *bytes, size_t length)
+STEP int is_apart(struct place place, struct object object, const void *bytes, size_t length)
 {
     return !overlap(place.at, place.size, object.at, object.size) && !overlap(place.at, place.size, bytes, length);
 }
 
 /* Why a call isn't made, with a struct, a buffer beside it, and a place for what the call finds. */
-static uint32_t refusal_beside(struct object object, const void *bytes, size_t length, struct place place)
+STEP uint32_t refusal_beside(struct object object, const void *bytes, size_t length, struct place place)
 {
     if (!object.at || !place.at || (!bytes && length > 0))
         return TCPCORE_NULL;
@@ -129,7 +140,7 @@ static uint32_t refusal_beside(struct object object, const void *bytes, size_t l
 }
 
 /* The same with two places. */
-static uint32_t refusal_beside_two(struct object object, const void *bytes, size_t length, struct place one, struct place other)
+STEP uint32_t refusal_beside_two(struct object object, const void *bytes, size_t length, struct place one, struct place other)
 {
     uint32_t answer = one.at ? refusal_beside(object, bytes, length, other) : TCPCORE_NULL;
     int apart = is_apart(one, object, bytes, length) && !overlap(one.at, one.size, other.at, other.size);
@@ -137,34 +148,43 @@ static uint32_t refusal_beside_two(struct object object, const void *bytes, size
 }
 
 /* The same with an end, which has to lie where it was made. */
-static uint32_t refusal_with(const tcpcore_end *end, const void *bytes, size_t length, struct place place)
+STEP uint32_t refusal_with(const tcpcore_end *end, const void *bytes, size_t length, struct place place)
 {
     uint32_t answer = refusal_beside(end_at(end), bytes, length, place);
     return answer != TCPCORE_DONE ? answer : refusal(end);
 }
 
-static uint32_t refusal_with_two(const tcpcore_end *end, const void *bytes, size_t length, struct place one, struct place other)
+STEP uint32_t refusal_with_two(const tcpcore_end *end, const void *bytes, size_t length, struct place one, struct place other)
 {
     uint32_t answer = refusal_beside_two(end_at(end), bytes, length, one, other);
     return answer != TCPCORE_DONE ? answer : refusal(end);
 }
 
-/* Writes what a call has found, but over the struct or the buffer. */
-static void put(struct place place, struct object object, const void *bytes, size_t length, const void *found)
+/* Writes what a call would have found that was refused, but over the struct or the buffer. */
+static void put_if_apart(struct place place, struct object object, const void *bytes, size_t length, const void *found)
 {
     if (place.at && is_apart(place, object, bytes, length > PTRDIFF_MAX ? 0 : length))
         memcpy(place.at, found, place.size);
 }
 
+/* Writes what a call has found. One that wasn't refused has a place that is apart. */
+STEP void put(uint32_t refused, struct place place, struct object object, const void *bytes, size_t length, const void *found)
+{
+    if (refused == TCPCORE_DONE)
+        memcpy(place.at, found, place.size);
+    else
+        put_if_apart(place, object, bytes, length, found);
+}
+
 /* Where an empty slice, block or place lies: it is never at NULL. No byte is read or written there. */
 #define NOWHERE ((void *)(uintptr_t)UNIT)
 
-static uint8_t *start(void *bytes) { return bytes ? bytes : NOWHERE; }
+STEP uint8_t *start(void *bytes) { return bytes ? bytes : NOWHERE; }
 
-static const uint8_t *front(const void *bytes) { return bytes ? bytes : NOWHERE; }
+STEP const uint8_t *front(const void *bytes) { return bytes ? bytes : NOWHERE; }
 
 /* The whole units of the caller's block. */
-static struct block units_of(void *bytes, size_t length)
+STEP struct block units_of(void *bytes, size_t length)
 {
     size_t before = -(uintptr_t)bytes % UNIT;
     if (length < before + UNIT)
@@ -194,8 +214,8 @@ uint32_t tcpcore_new_at(tcpcore_end **end, const tcpcore_config *config, void *b
     struct object from = {config, 0};
     tcpcore_end *made = NULL;
     struct place place = {end, sizeof(void *)};
-    uint32_t answer = refusal_beside(from, block, length, place);
-    if (answer == TCPCORE_DONE) {
+    uint32_t refused = refusal_beside(from, block, length, place), answer = refused;
+    if (refused == TCPCORE_DONE) {
         struct block units = units_of(block, length);
         tcpcore_end empty = TCPCORE_END_INIT, *at = units.size < TCPCORE_STRUCT_ROOM ? &empty : units.at;
         size_t room = at == &empty ? units.size : TCPCORE_STRUCT_ROOM;
@@ -204,7 +224,7 @@ uint32_t tcpcore_new_at(tcpcore_end **end, const tcpcore_config *config, void *b
         answer = tcpcore_new(at, &copy, (uint8_t *)units.at + room, units.size - room);
         made = answer == TCPCORE_DONE ? at : NULL;
     }
-    put(place, from, block, length, &made);
+    put(refused, place, from, block, length, &made);
     return answer;
 }
 
@@ -241,10 +261,10 @@ uint32_t tcpcore_send(tcpcore_end *end, const void *text, size_t length, size_t 
 {
     size_t found = 0;
     struct place place = {taken, sizeof *taken};
-    uint32_t answer = refusal_with(end, text, length, place);
-    if (answer == TCPCORE_DONE)
+    uint32_t refused = refusal_with(end, text, length, place), answer = refused;
+    if (refused == TCPCORE_DONE)
         answer = tcp_c_send(handle(end), front(text), length, &found);
-    put(place, end_at(end), text, length, &found);
+    put(refused, place, end_at(end), text, length, &found);
     return answer;
 }
 
@@ -252,15 +272,15 @@ uint32_t tcpcore_receive(tcpcore_end *end, void *out, size_t room, size_t *count
 {
     size_t found = 0;
     struct place place = {count, sizeof *count};
-    uint32_t answer = refusal_with(end, out, room, place);
-    if (answer == TCPCORE_DONE)
+    uint32_t refused = refusal_with(end, out, room, place), answer = refused;
+    if (refused == TCPCORE_DONE)
         answer = tcp_c_receive(handle(end), start(out), room, &found);
-    put(place, end_at(end), out, room, &found);
+    put(refused, place, end_at(end), out, room, &found);
     return answer;
 }
 
 /* A piece where the library has lent it; no bytes lie nowhere. */
-static tcpcore_piece piece_of(uint64_t at, uint64_t length)
+STEP tcpcore_piece piece_of(uint64_t at, uint64_t length)
 {
     return (tcpcore_piece){length > 0 ? (const void *)(uintptr_t)at : NULL, (size_t)length};
 }
@@ -269,8 +289,8 @@ uint32_t tcpcore_peek(const tcpcore_end *end, struct tcpcore_lent *lent)
 {
     struct tcpcore_lent found = {.ends = 0};
     struct place place = {lent, sizeof *lent};
-    uint32_t answer = refusal_with(end, NULL, 0, place);
-    if (answer == TCPCORE_DONE) {
+    uint32_t refused = refusal_with(end, NULL, 0, place), answer = refused;
+    if (refused == TCPCORE_DONE) {
         struct handle copy = copy_of(end);
         struct lent told = {.ends = 0};
         answer = tcp_c_peek(&copy, &told);
@@ -278,7 +298,7 @@ uint32_t tcpcore_peek(const tcpcore_end *end, struct tcpcore_lent *lent)
         found.second = piece_of(told.second, told.second_length);
         found.ends = told.ends;
     }
-    put(place, end_at(end), NULL, 0, &found);
+    put(refused, place, end_at(end), NULL, 0, &found);
     return answer;
 }
 
@@ -286,10 +306,10 @@ uint32_t tcpcore_consume(tcpcore_end *end, size_t count, size_t *taken)
 {
     size_t found = 0;
     struct place place = {taken, sizeof *taken};
-    uint32_t answer = refusal_with(end, NULL, 0, place);
-    if (answer == TCPCORE_DONE)
+    uint32_t refused = refusal_with(end, NULL, 0, place), answer = refused;
+    if (refused == TCPCORE_DONE)
         answer = tcp_c_consume(handle(end), count, &found);
-    put(place, end_at(end), NULL, 0, &found);
+    put(refused, place, end_at(end), NULL, 0, &found);
     return answer;
 }
 
@@ -333,10 +353,10 @@ uint32_t tcpcore_take(tcpcore_end *end, tcpcore_addr src, tcpcore_addr dst, cons
 {
     uint32_t found = 0;
     struct place place = {at_once, sizeof *at_once};
-    uint32_t answer = refusal_with(end, bytes, length, place);
-    if (answer == TCPCORE_DONE)
+    uint32_t refused = refusal_with(end, bytes, length, place), answer = refused;
+    if (refused == TCPCORE_DONE)
         answer = tcp_c_take(handle(end), &src, &dst, front(bytes), length, &found);
-    put(place, end_at(end), bytes, length, &found);
+    put(refused, place, end_at(end), bytes, length, &found);
     return answer;
 }
 
@@ -345,10 +365,10 @@ uint32_t tcpcore_taken(tcpcore_end *end, tcpcore_addr src, tcpcore_addr dst, con
 {
     struct tcpcore_taken found = {0};
     struct place place = {taken, sizeof *taken};
-    uint32_t answer = refusal_with(end, bytes, length, place);
-    if (answer == TCPCORE_DONE)
+    uint32_t refused = refusal_with(end, bytes, length, place), answer = refused;
+    if (refused == TCPCORE_DONE)
         answer = tcp_c_taken(handle(end), &src, &dst, front(bytes), length, &found);
-    put(place, end_at(end), bytes, length, &found);
+    put(refused, place, end_at(end), bytes, length, &found);
     return answer;
 }
 
@@ -363,17 +383,17 @@ uint32_t tcpcore_taken_vouched(tcpcore_end *end, tcpcore_addr src, tcpcore_addr 
 {
     struct tcpcore_taken found = {0};
     struct place place = {taken, sizeof *taken};
-    uint32_t answer = refusal_with(end, bytes, length, place);
-    if (answer == TCPCORE_DONE)
+    uint32_t refused = refusal_with(end, bytes, length, place), answer = refused;
+    if (refused == TCPCORE_DONE)
         answer = tcp_c_taken_vouched(handle(end), &src, &dst, front(bytes), length, &found);
-    put(place, end_at(end), bytes, length, &found);
+    put(refused, place, end_at(end), bytes, length, &found);
     return answer;
 }
 
 /* Which of the library's calls writes a segment and its length: none is called through a pointer (tests/depth.py). */
 enum writer { EMIT, EMIT_PARTIAL, EMIT_ACKNOWLEDGEMENT };
 
-static uint32_t written_by(enum writer writer, struct handle *end, uint8_t *out, size_t room, tcpcore_addr *to, size_t *length)
+STEP uint32_t written_by(enum writer writer, struct handle *end, uint8_t *out, size_t room, tcpcore_addr *to, size_t *length)
 {
     if (writer == EMIT_PARTIAL)
         return tcp_c_emit_partial(end, out, room, to, length);
@@ -382,16 +402,16 @@ static uint32_t written_by(enum writer writer, struct handle *end, uint8_t *out,
     return tcp_c_emit(end, out, room, to, length);
 }
 
-static uint32_t write_by(enum writer writer, tcpcore_end *end, void *out, size_t room, tcpcore_addr *to, size_t *length)
+STEP uint32_t write_by(enum writer writer, tcpcore_end *end, void *out, size_t room, tcpcore_addr *to, size_t *length)
 {
     tcpcore_addr address = {{0, 0, 0, 0}};
     size_t found = 0;
     struct place where = {to, sizeof *to}, place = {length, sizeof *length};
-    uint32_t answer = refusal_with_two(end, out, room, where, place);
-    if (answer == TCPCORE_DONE)
+    uint32_t refused = refusal_with_two(end, out, room, where, place), answer = refused;
+    if (refused == TCPCORE_DONE)
         answer = written_by(writer, handle(end), start(out), room, &address, &found);
-    put(where, end_at(end), out, room, &address);
-    put(place, end_at(end), out, room, &found);
+    put(refused, where, end_at(end), out, room, &address);
+    put(refused, place, end_at(end), out, room, &found);
     return answer;
 }
 
@@ -414,8 +434,8 @@ uint32_t tcpcore_emit_train(tcpcore_end *end, void *out, size_t room, size_t mos
 {
     struct tcpcore_train found = {.segments = 0};
     struct place place = {train, sizeof *train};
-    uint32_t answer = refusal_with(end, out, room, place);
-    if (answer == TCPCORE_DONE) {
+    uint32_t refused = refusal_with(end, out, room, place), answer = refused;
+    if (refused == TCPCORE_DONE) {
         struct train told = {.segments = 0};
         answer = tcp_c_emit_train(handle(end), start(out), room, most, &told);
         found.whole.to = told.to;
@@ -427,7 +447,7 @@ uint32_t tcpcore_emit_train(tcpcore_end *end, void *out, size_t room, size_t mos
         found.each = told.each;
         found.segments = told.segments;
     }
-    put(place, end_at(end), out, room, &found);
+    put(refused, place, end_at(end), out, room, &found);
     return answer;
 }
 
@@ -435,8 +455,8 @@ uint32_t tcpcore_parts(const tcpcore_end *end, void *header, size_t room, struct
 {
     struct tcpcore_parts found = {.header = 0};
     struct place place = {parts, sizeof *parts};
-    uint32_t answer = refusal_with(end, header, room, place);
-    if (answer == TCPCORE_DONE) {
+    uint32_t refused = refusal_with(end, header, room, place), answer = refused;
+    if (refused == TCPCORE_DONE) {
         struct handle copy = copy_of(end);
         struct parts told = {.header = 0};
         answer = tcp_c_parts(&copy, start(header), room, &told);
@@ -445,7 +465,7 @@ uint32_t tcpcore_parts(const tcpcore_end *end, void *header, size_t room, struct
         found.first = piece_of(told.first, told.first_length);
         found.second = piece_of(told.second, told.second_length);
     }
-    put(place, end_at(end), header, room, &found);
+    put(refused, place, end_at(end), header, room, &found);
     return answer;
 }
 
@@ -459,10 +479,10 @@ uint32_t tcpcore_transmit(tcpcore_end *end, void *out, size_t room, struct tcpco
 {
     struct tcpcore_transmit found = {0};
     struct place place = {transmit, sizeof *transmit};
-    uint32_t answer = refusal_with(end, out, room, place);
-    if (answer == TCPCORE_DONE)
+    uint32_t refused = refusal_with(end, out, room, place), answer = refused;
+    if (refused == TCPCORE_DONE)
         answer = tcp_c_transmit(handle(end), start(out), room, &found);
-    put(place, end_at(end), out, room, &found);
+    put(refused, place, end_at(end), out, room, &found);
     return answer;
 }
 
@@ -470,12 +490,12 @@ uint32_t tcpcore_next(const tcpcore_end *end, struct tcpcore_transmit *next)
 {
     struct tcpcore_transmit found = {0};
     struct place place = {next, sizeof *next};
-    uint32_t answer = refusal_with(end, NULL, 0, place);
-    if (answer == TCPCORE_DONE) {
+    uint32_t refused = refusal_with(end, NULL, 0, place), answer = refused;
+    if (refused == TCPCORE_DONE) {
         struct handle copy = copy_of(end);
         answer = tcp_c_next(&copy, &found);
     }
-    put(place, end_at(end), NULL, 0, &found);
+    put(refused, place, end_at(end), NULL, 0, &found);
     return answer;
 }
 
@@ -483,24 +503,24 @@ uint32_t tcpcore_pending(const tcpcore_end *end, uint32_t *due)
 {
     uint32_t found = 0;
     struct place place = {due, sizeof *due};
-    uint32_t answer = refusal_with(end, NULL, 0, place);
-    if (answer == TCPCORE_DONE) {
+    uint32_t refused = refusal_with(end, NULL, 0, place), answer = refused;
+    if (refused == TCPCORE_DONE) {
         struct handle copy = copy_of(end);
         answer = tcp_c_pending(&copy, &found);
     }
-    put(place, end_at(end), NULL, 0, &found);
+    put(refused, place, end_at(end), NULL, 0, &found);
     return answer;
 }
 
 /* Whether a place is over neither of two buffers. */
-static int is_beside(struct place place, const void *bytes, size_t length, const void *out, size_t room)
+STEP int is_beside(struct place place, const void *bytes, size_t length, const void *out, size_t room)
 {
     return !overlap(place.at, place.size, bytes, length > PTRDIFF_MAX ? 0 : length)
            && !overlap(place.at, place.size, out, room > PTRDIFF_MAX ? 0 : room);
 }
 
 /* Why no reset is looked for: a pointer, a length, or two of the three lie over each other. */
-static uint32_t refusal_of_stray(const void *bytes, size_t length, const void *out, size_t room, struct place place)
+STEP uint32_t refusal_of_stray(const void *bytes, size_t length, const void *out, size_t room, struct place place)
 {
     if (!place.at || (!bytes && length > 0) || (!out && room > 0))
         return TCPCORE_NULL;
@@ -526,12 +546,12 @@ uint32_t tcpcore_timers(const tcpcore_end *end, uint32_t *due)
 {
     uint32_t found = 0;
     struct place place = {due, sizeof *due};
-    uint32_t answer = refusal_with(end, NULL, 0, place);
-    if (answer == TCPCORE_DONE) {
+    uint32_t refused = refusal_with(end, NULL, 0, place), answer = refused;
+    if (refused == TCPCORE_DONE) {
         struct handle copy = copy_of(end);
         answer = tcp_c_timers(&copy, &found);
     }
-    put(place, end_at(end), NULL, 0, &found);
+    put(refused, place, end_at(end), NULL, 0, &found);
     return answer;
 }
 
@@ -540,13 +560,13 @@ uint32_t tcpcore_peer(const tcpcore_end *end, tcpcore_addr *addr, uint16_t *port
     tcpcore_addr address = {{0, 0, 0, 0}};
     uint16_t found = 0;
     struct place where = {addr, sizeof *addr}, place = {port, sizeof *port};
-    uint32_t answer = refusal_with_two(end, NULL, 0, where, place);
-    if (answer == TCPCORE_DONE) {
+    uint32_t refused = refusal_with_two(end, NULL, 0, where, place), answer = refused;
+    if (refused == TCPCORE_DONE) {
         struct handle copy = copy_of(end);
         answer = tcp_c_peer(&copy, &address, &found);
     }
-    put(where, end_at(end), NULL, 0, &address);
-    put(place, end_at(end), NULL, 0, &found);
+    put(refused, where, end_at(end), NULL, 0, &address);
+    put(refused, place, end_at(end), NULL, 0, &found);
     return answer;
 }
 
@@ -554,12 +574,12 @@ uint32_t tcpcore_status(const tcpcore_end *end, struct tcpcore_status *status)
 {
     struct tcpcore_status found = {0};
     struct place place = {status, sizeof *status};
-    uint32_t answer = refusal_with(end, NULL, 0, place);
-    if (answer == TCPCORE_DONE) {
+    uint32_t refused = refusal_with(end, NULL, 0, place), answer = refused;
+    if (refused == TCPCORE_DONE) {
         struct handle copy = copy_of(end);
         answer = tcp_c_status(&copy, &found);
     }
-    put(place, end_at(end), NULL, 0, &found);
+    put(refused, place, end_at(end), NULL, 0, &found);
     return answer;
 }
 
@@ -567,12 +587,12 @@ uint32_t tcpcore_rest(const tcpcore_end *end, struct tcpcore_rest *rest)
 {
     struct tcpcore_rest found = {0};
     struct place place = {rest, sizeof *rest};
-    uint32_t answer = refusal_with(end, NULL, 0, place);
-    if (answer == TCPCORE_DONE) {
+    uint32_t refused = refusal_with(end, NULL, 0, place), answer = refused;
+    if (refused == TCPCORE_DONE) {
         struct handle copy = copy_of(end);
         answer = tcp_c_rest(&copy, &found);
     }
-    put(place, end_at(end), NULL, 0, &found);
+    put(refused, place, end_at(end), NULL, 0, &found);
     return answer;
 }
 
@@ -592,11 +612,11 @@ uint32_t tcpcore_rest_emit(struct tcpcore_rest *rest, void *out, size_t room, tc
     tcpcore_addr address = {{0, 0, 0, 0}};
     size_t found = 0;
     struct place where = {to, sizeof *to}, place = {length, sizeof *length};
-    uint32_t answer = refusal_beside_two(rest_at(rest), out, room, where, place);
-    if (answer == TCPCORE_DONE)
+    uint32_t refused = refusal_beside_two(rest_at(rest), out, room, where, place), answer = refused;
+    if (refused == TCPCORE_DONE)
         answer = tcp_c_rest_emit(rest, start(out), room, &address, &found);
-    put(where, rest_at(rest), out, room, &address);
-    put(place, rest_at(rest), out, room, &found);
+    put(refused, where, rest_at(rest), out, room, &address);
+    put(refused, place, rest_at(rest), out, room, &found);
     return answer;
 }
 
@@ -604,10 +624,10 @@ uint32_t tcpcore_rest_pending(const struct tcpcore_rest *rest, uint32_t *due)
 {
     uint32_t found = 0;
     struct place place = {due, sizeof *due};
-    uint32_t answer = refusal_beside(rest_at(rest), NULL, 0, place);
-    if (answer == TCPCORE_DONE)
+    uint32_t refused = refusal_beside(rest_at(rest), NULL, 0, place), answer = refused;
+    if (refused == TCPCORE_DONE)
         answer = tcp_c_rest_pending(rest, &found);
-    put(place, rest_at(rest), NULL, 0, &found);
+    put(refused, place, rest_at(rest), NULL, 0, &found);
     return answer;
 }
 
@@ -617,11 +637,11 @@ uint32_t tcpcore_rest_status(const struct tcpcore_rest *rest, uint32_t *phase, u
 {
     uint32_t found[2] = {0, 0};
     struct place one = {phase, sizeof *phase}, other = {ending, sizeof *ending};
-    uint32_t answer = refusal_beside_two(rest_at(rest), NULL, 0, one, other);
-    if (answer == TCPCORE_DONE)
+    uint32_t refused = refusal_beside_two(rest_at(rest), NULL, 0, one, other), answer = refused;
+    if (refused == TCPCORE_DONE)
         answer = tcp_c_rest_status(rest, &found[0], &found[1]);
-    put(one, rest_at(rest), NULL, 0, &found[0]);
-    put(other, rest_at(rest), NULL, 0, &found[1]);
+    put(refused, one, rest_at(rest), NULL, 0, &found[0]);
+    put(refused, other, rest_at(rest), NULL, 0, &found[1]);
     return answer;
 }
 

@@ -1,4 +1,6 @@
-"""Builds the library's one C file into the package, as its libtcpcore.so, with the C compiler (CC, else cc). The file and its header are in
+"""Builds the library into the package, as its libtcpcore.so, with the C compiler (CC, else cc): over the proved machine code where there is
+one for what that compiles for, the layer tcpcore.c and prebuilt/MACHINE/libtcp_c.a, as the tarball has them, around this folder or in the
+one that TCPCORE_PREBUILT names (empty, it says that there is none); else of the one C file for any machine. That and its header are in
 csrc beside this, with the package's text; or in release/ of the repository, whose c/tcpcore/tcpcore.py is the text then."""
 
 import os
@@ -25,14 +27,41 @@ def package():
     return "out/tcpcore"
 
 
+def compiler():
+    """The compiler's words."""
+    return [*shlex.split(os.environ.get("CC", "cc")), "-O2", "-fPIC", *shlex.split(os.environ.get("CFLAGS", ""))]
+
+
+def machine():
+    """The name of the machine code that runs where what is compiled runs, of those that there are; nothing where it is another machine."""
+    told = subprocess.run([*compiler(), "-dM", "-E", "-x", "c", os.devnull], check=True, capture_output=True, text=True).stdout
+    has = {line.split()[1] for line in told.splitlines()}
+    if not {"__linux__", "__LP64__"} <= has:
+        return None
+    if "__x86_64__" in has:
+        return "x86-64-v2" if {"__SSE4_2__", "__POPCNT__"} <= has else "x86-64"
+    return "aarch64" if "__aarch64__" in has and "__AARCH64EL__" in has else None
+
+
+def words():
+    """What is compiled, and how."""
+    given = os.environ.get("TCPCORE_PREBUILT")
+    folder, name = pathlib.Path(given) if given else HERE.parent, machine() if given != "" else None
+    code = folder / "prebuilt" / str(name) / "libtcp_c.a"
+    if name and code.exists() and (folder / "layout.h").exists():
+        return ["-std=c11", f"-I{folder}", folder / "tcpcore.c", code, "-Wl,--exclude-libs,ALL"]
+    if given:
+        raise SystemExit(f"TCPCORE_PREBUILT: no layer, or no {code}")
+    return ["-std=c99", f"-I{SOURCE}", SOURCE / "tcpcore.c"]
+
+
 class Build(build_py):
     """The package with its library."""
 
     def run(self):
         super().run()
         out = pathlib.Path(self.build_lib, "tcpcore", "libtcpcore.so")
-        words = [*shlex.split(os.environ.get("CC", "cc")), "-std=c99", "-O2", "-fPIC", *shlex.split(os.environ.get("CFLAGS", ""))]
-        subprocess.run([*words, "-shared", f"-I{SOURCE}", SOURCE / "tcpcore.c", "-o", out], check=True)
+        subprocess.run([*compiler(), "-shared", *words(), "-o", out], check=True)
 
 
 class Binary(Distribution):

@@ -1,7 +1,6 @@
 #!/usr/bin/env bash
-# The Rust crate with Debian's rustc and cargo, without a network: layout, clippy, documents, tests with the portable file (which
-# c/portable/build.sh makes) and with the native library (the first argument, or crates/tcp_c's own), without std, and the example
-# over sockets. It installs what this machine lacks by apt-get; where that fails it fails, or, with LEAVE_OUT=1 in the environment,
+# The Rust crate with Debian's rustc and cargo, without a network: layout, clippy, documents, tests with the portable file, over the
+# machine code (the first argument, or crates/tcp_c's own) and with the installed library, without std, and the example over sockets. It installs what this machine lacks by apt-get; where that fails it fails, or, with LEAVE_OUT=1 in the environment,
 # says what it leaves out. Stops at the first failure.
 set -euo pipefail
 cd "$(dirname "$0")"
@@ -37,7 +36,6 @@ cargo-clippy rust-clippy
 rustfmt rustfmt
 make make
 LIST
-[[ -e ../../portable/out/tcpcore_portable.c ]] || { echo "rust: no portable file: run c/portable/build.sh"; exit 1; }
 [[ -e $library ]] || { echo "rust: no $library: run 'rt lib' in crates/tcp_c"; exit 1; }
 passes cargo fmt --check
 passes cargo clippy --offline --all-targets -- -D warnings
@@ -45,6 +43,15 @@ RUSTDOCFLAGS="-D warnings" passes cargo doc --offline --no-deps
 tests 28
 tests 28 --features unchecked
 passes cargo build --offline --no-default-features
+# A folder as the tarball has them: the layer, and this machine's code, under both names that a target may ask for.
+for machine in x86-64 x86-64-v2 aarch64; do
+    mkdir -p "out/tarball/prebuilt/$machine"
+    cp "$library" "out/tarball/prebuilt/$machine"
+done
+cp ../../tcpcore/{tcpcore.c,tcpcore.h,layout.h} out/tarball
+rm -rf out/target/debug/build
+TCPCORE_PREBUILT=$PWD/out/tarball tests 28
+cat out/target/debug/build/tcpcore-*/output | grep -q static=tcp_c || { echo "rust: the machine code isn't linked"; exit 1; }
 make --silent -C ../../tcpcore OUT="$PWD/out/native" LIBRARY="$library"
 export TCPCORE_LIB_DIR=$PWD/out/native
 tests 28 --features native

@@ -6,6 +6,7 @@
 
 static jmp_buf back;
 #define TCPCORE_STOP() longjmp(back, 1)
+#define STEP static inline
 enum { TABLE_AT = 0 };
 #define TABLE_SIZE 0
 #include "../memory.c"

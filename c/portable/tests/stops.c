@@ -14,7 +14,7 @@
 #include <string.h>
 #include <sys/time.h>
 
-enum { CAPACITY = 256, BLOCK = TCPCORE_MEMORY(CAPACITY, CAPACITY), BESIDE = 4096, PAINT = 0x5a, TURNS = 20000 };
+enum { CAPACITY = 1024, SEGMENT = 700, BLOCK = TCPCORE_MEMORY(CAPACITY, CAPACITY), BESIDE = 4096, PAINT = 0x5a, TURNS = 20000 };
 
 static struct {
     unsigned char before[BESIDE], block[BLOCK], between[BESIDE], out[TCPCORE_EMIT_ROOM], after[BESIDE];
@@ -44,14 +44,16 @@ static void call(tcpcore_end *end)
     tcpcore_addr to;
     size_t length;
     uint32_t word;
-    unsigned char segment[100];
-    for (size_t i = 0; i < sizeof segment; i++)
+    /* Of most the sums are taken ahead of their loop. */
+    unsigned char segment[SEGMENT];
+    size_t size = next(SEGMENT + 1);
+    for (size_t i = 0; i < size; i++)
         segment[i] = (unsigned char)next(256);
     switch (next(8)) {
-    case 0: tcpcore_send(end, segment, sizeof segment, &length); break;
+    case 0: tcpcore_send(end, segment, size, &length); break;
     case 1: tcpcore_receive(end, memory.out, sizeof memory.out, &length); break;
     case 2: tcpcore_emit(end, memory.out, sizeof memory.out, &to, &length); break;
-    case 3: tcpcore_arrive(end, B, A, segment, sizeof segment); break;
+    case 3: tcpcore_arrive(end, B, A, segment, size); break;
     case 4: tcpcore_timer(end, next(3)); break;
     case 5: tcpcore_status(end, &status); break;
     case 6: tcpcore_pending(end, &word); break;
