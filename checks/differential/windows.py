@@ -17,6 +17,7 @@ class Reno:
         self.recover = 0
         self.fast_recovery = self.resent_by_timer = False
         self.dupacks = self.bytes_acked = 0
+        self.pipe = 0
 
     def grow(self, acked, before):
         if Fraction(before, self.cwnd) < Fraction(1, 2):
@@ -34,6 +35,7 @@ class Reno:
 
     def acknowledged(self, acked, una, flight):
         self.dupacks, self.resent_by_timer = 0, False
+        self.pipe = max(0, self.pipe - acked)
         if not self.fast_recovery:
             self.grow(acked, acked + flight)
             return self.shown()
@@ -57,15 +59,22 @@ class Reno:
         self.ssthresh = self.equation_4(flight)
         self.cwnd = self.ssthresh + 3 * self.smss
         self.recover, self.fast_recovery, self.bytes_acked = nxt, True, 0
-        self.dupacks = 0
+        self.dupacks = self.pipe = 0
         return self.shown("again")
 
     def timed_out(self, flight, nxt):
         if not self.resent_by_timer:
             self.ssthresh = self.equation_4(flight)
-        self.cwnd, self.bytes_acked, self.dupacks = self.smss, 0, 0
+        self.cwnd, self.bytes_acked, self.dupacks, self.pipe = self.smss, 0, 0, 0
         self.recover, self.fast_recovery, self.resent_by_timer = nxt, False, True
         return self.shown()
+
+    def resent(self, count):
+        self.pipe += count
+        return self.shown()
+
+    def may_resend(self):
+        return "true" if self.pipe < self.cwnd else "false"
 
     def syn_lost(self):
         self.cwnd = self.smss
@@ -153,7 +162,7 @@ class Windows:
 
     MADE = {"reno": Reno, "delayed": Delayed, "sws": Sws, "limiter": Limiter}
     CALLS = {
-        **dict.fromkeys(("acknowledged", "duplicate", "timed-out", "syn-lost", "idle", "room"), "reno"),
+        **dict.fromkeys(("acknowledged", "duplicate", "timed-out", "resent", "may-resend", "syn-lost", "idle", "room"), "reno"),
         **dict.fromkeys(("arrived", "answered", "due"), "delayed"),
         **dict.fromkeys(("window", "segment"), "sws"),
         "grant": "limiter",
@@ -185,8 +194,9 @@ WORKED = [
     "duplicate 1901 300 2201", "duplicate 1901 300 2201", "duplicate 1901 300 2201", "room 300", "acknowledged 100 2001 250",
     "duplicate 2001 300 2301", "duplicate 2001 300 2301", "duplicate 2001 300 2301", "acknowledged 300 2301 0",
     "acknowledged 100 2401 300", "acknowledged 100 2501 300", "acknowledged 100 2601 300", "acknowledged 700 3301 300", "acknowledged 100 3401 10",
-    "timed-out 1000 4401", "timed-out 1000 4401", "duplicate 3401 1000 4401", "duplicate 3401 1000 4401", "duplicate 3401 1000 4401", "room 0",
-    "acknowledged 1000 4401 0", "acknowledged 100 4501 300", "timed-out 500 5001", "acknowledged 100 4601 400", "timed-out 400 5001",
+    "may-resend", "timed-out 1000 4401", "may-resend", "resent 99", "may-resend", "resent 1", "may-resend", "timed-out 1000 4401", "resent 100",
+    "may-resend", "duplicate 3401 1000 4401", "duplicate 3401 1000 4401", "duplicate 3401 1000 4401", "room 0",
+    "acknowledged 100 3501 900", "may-resend", "resent 200", "may-resend", "acknowledged 900 4401 0", "may-resend", "acknowledged 100 4501 300", "timed-out 500 5001", "acknowledged 100 4601 400", "timed-out 400 5001",
     "syn-lost", "idle", "reno 1000", *["acknowledged 1000 1001 10000"] * 3, "idle", "syn-lost", "duplicate 10001 5000 15001",
     # Both segments of a pair, a single one, one that can't wait with text and without, half segments, and none; no delay, the longest.
     "delayed 1000 500000", "delayed 0 1", "delayed 65536 1", "delayed 65535 499999", "due 0", "delayed 1000 40000", "arrived 1000 0 100", "due 40099",
@@ -222,7 +232,8 @@ def random_calls(draw, count):
         elif kind < 10:
             yield from [f"duplicate {una} {nxt - una} {nxt}"] * draw.randrange(1, 6)
         elif kind == 10:
-            yield draw.choice((f"timed-out {nxt - una} {nxt}", f"timed-out {nxt - una} {nxt}", "syn-lost", "idle"))
+            yield draw.choice((f"timed-out {nxt - una} {nxt}", f"timed-out {nxt - una} {nxt}", f"resent {size}", "may-resend", "syn-lost", "idle"))
+            yield from ("may-resend", f"resent {draw.choice((size, 2**61))}", "may-resend")
         elif kind == 11:
             yield f"room {draw.choice((nxt - una, size, 2**draw.randrange(62)))}"
         elif kind == 12:

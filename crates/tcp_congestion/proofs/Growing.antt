@@ -5,7 +5,7 @@ use Rattle.std.proofs.Math.Nat.{mul-le-mul_left}
 use Rattle.std.proofs.lemmas.Bool.Decides.{nat_tests}
 use Rattle.tcp_congestion.specs.Sizes.{max_window}
 use Rattle.tcp_congestion.specs.Reno.{Window, IsWindow, with_progress, is_used, avoided, slow_started, grown, after_growth, after_recovering, is_third, recovered, deflated, begun, halved, inflated, limited}
-use Rattle.tcp_congestion.specs.Growth.{Acknowledgement, AvoidanceIsSlow, GrowthIsAcknowledged, LossShrinks, FlightStaysInWindow, after_acks, total as total_of}
+use Rattle.tcp_congestion.specs.Growth.{Acknowledgement, AvoidanceIsSlow, GrowthIsAcknowledged, LossShrinks, FlightStaysInWindow, ResendsStayInWindow, after_acks, total as total_of}
 
 -- so far: it grew this many times, and what was acknowledged is used up or kept
 record Grew (w v : Window) (total : ℕ) : Type 0 where
@@ -60,8 +60,8 @@ by-use w v total acked true past h = by-phase w v total acked (nat_lt v.cwnd v.s
 by-use w v total acked false past h = kept w v total v.bytes_acked acked h (omega arith)
 
 -- what progress leaves as it is
-progressed : (w v : Window) (total : ℕ) → Grew w v total → Grew w (with_progress v) total
-progressed w v total h = record {
+progressed : (w v : Window) (total acked : ℕ) → Grew w v total → Grew w (with_progress v acked) total
+progressed w v total acked h = record {
   times = h.times;
   cwnd = h.cwnd;
   least = h.least;
@@ -74,8 +74,8 @@ progressed w v total h = record {
 
 -- an acknowledgement is one of growth where fast recovery doesn't go on
 when-open : (P : Window → Type 0) (w : Window) (acked snd_una flight : ℕ) (b : Bool) → w.is_recovering ≡ b → b ≡ false
-    → P (after_growth (with_progress w) acked flight)
-    → P (if b then after_recovering (with_progress w) acked snd_una flight else after_growth (with_progress w) acked flight)
+    → P (after_growth (with_progress w acked) acked flight)
+    → P (if b then after_recovering (with_progress w acked) acked snd_una flight else after_growth (with_progress w acked) acked flight)
 when-open P w acked snd_una flight true e calm h = absurd (cc)
 when-open P w acked snd_una flight false e calm h = h
 
@@ -96,8 +96,8 @@ grew w (ack ∷ earlier) is calm past =
     let l = h.least in
     when-open (λ v. Grew w v (ack.acked + total_of earlier)) (after_acks w earlier) ack.acked ack.snd_una ack.flight
     (after_acks w earlier).is_recovering refl h.open_still
-    (by-use w (with_progress (after_acks w earlier)) (total_of earlier) ack.acked (is_used (after_acks w earlier) ack.acked ack.flight)
-    (omega (arith, t, l, past)) (progressed w (after_acks w earlier) (total_of earlier) h))
+    (by-use w (with_progress (after_acks w earlier) ack.acked) (total_of earlier) ack.acked (is_used (after_acks w earlier) ack.acked ack.flight)
+    (omega (arith, t, l, past)) (progressed w (after_acks w earlier) (total_of earlier) ack.acked h))
 
 pub slow_lem : AvoidanceIsSlow
 slow_lem w acks is calm past =
@@ -143,11 +143,11 @@ grew-at-most : (w : Window) (acks : List Acknowledgement) → IsWindow w → w.i
 grew-at-most w [] is calm = record { both = omega arith; least = is.least; most = is.most; open_still = calm }
 grew-at-most w (ack ∷ earlier) is calm =
     let h : GrewAtMost w (after_acks w earlier) (total_of earlier) = grew-at-most w earlier is calm in
-    let p : GrewAtMost w (with_progress (after_acks w earlier)) (total_of earlier) =
+    let p : GrewAtMost w (with_progress (after_acks w earlier) ack.acked) (total_of earlier) =
     record { both = h.both; least = h.least; most = h.most; open_still = h.open_still } in
     when-open (λ v. GrewAtMost w v (ack.acked + total_of earlier)) (after_acks w earlier) ack.acked ack.snd_una ack.flight
     (after_acks w earlier).is_recovering refl h.open_still
-    (most-by-use w (with_progress (after_acks w earlier)) (total_of earlier) ack.acked (is_used (after_acks w earlier) ack.acked ack.flight) p)
+    (most-by-use w (with_progress (after_acks w earlier) ack.acked) (total_of earlier) ack.acked (is_used (after_acks w earlier) ack.acked ack.flight) p)
 
 pub acknowledged_lem : GrowthIsAcknowledged
 acknowledged_lem w acks is calm = let b = (grew-at-most w acks is calm).both in omega (arith, b)
@@ -168,8 +168,8 @@ once w snd_una false true e = grind (arith, nat_tests, e)
 once w snd_una false false e = absurd (cc)
 
 full : (w : Window) (acked snd_una flight : ℕ) (recovering before : Bool) → recovering ≡ true → nat_lt snd_una w.recover ≡ before → w.recover ≤ snd_una
-    → (if recovering then (if before then deflated (with_progress w) acked else recovered (with_progress w) flight)
-    else after_growth (with_progress w) acked flight).cwnd
+    → (if recovering then (if before then deflated (with_progress w acked) acked else recovered (with_progress w acked) flight)
+    else after_growth (with_progress w acked) acked flight).cwnd
     ≤ w.ssthresh
 full w acked snd_una flight false b going e h = absurd (cc)
 full w acked snd_una flight true true going e h = absurd (grind (arith, nat_tests, e, h))
@@ -192,3 +192,16 @@ two-segments w false =
 
 pub stays_lem : FlightStaysInWindow
 stays_lem w flight more h = let two : limited w ≤ 2 * w.smss = two-segments w w.is_recovering in omega (arith, two, h)
+
+nothing-resent : (smss : ℕ) → 0 < smss → nat_lt 0 smss ≡ true
+nothing-resent smss h = grind (arith, nat_tests, h)
+
+one-resent : (smss count : ℕ) → smss ≤ max_window → smss ≤ count → nat_lt (min max_window (0 + count)) smss ≡ false
+one-resent smss count fits h = let least : smss ≤ min max_window (0 + count) = omega (arith, fits, h) in grind (arith, nat_tests, least)
+
+pub resends_lem : ResendsStayInWindow
+resends_lem w flight snd_nxt count is = record {
+  most = λ may. let less : w.resent < w.cwnd = grind (arith, nat_tests, may) in omega (arith, less);
+  first = nothing-resent w.smss is.positive;
+  alone = λ full. let l = is.least in let m = is.most in one-resent w.smss count (omega (arith, l, m)) full;
+}

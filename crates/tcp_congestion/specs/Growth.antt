@@ -1,6 +1,6 @@
 -- How the window grows and shrinks (RFC 5681, 3), over many acknowledgements.
 use Rattle.std.specs.Prelude.{◌≡◌, ℕ, ◌+◌, ◌*◌, ◌/◌, ◌<◌, ◌≤◌, max, true, false, List, [], ◌∷◌}
-use Rattle.tcp_congestion.specs.Reno.{Window, IsWindow, after_acknowledgement, after_duplicate, after_timeout, begins_recovery, room_of}
+use Rattle.tcp_congestion.specs.Reno.{Window, IsWindow, after_acknowledgement, after_duplicate, after_timeout, after_resent, begins_recovery, may_resend, room_of}
 
 -- an acknowledgement: what it acknowledges anew, up to which position, and what is in flight behind it
 pub record Acknowledgement : Type 0 where
@@ -47,6 +47,16 @@ pub record Shrinks (w : Window) (snd_una flight snd_nxt : ℕ) : Type 0 where
 
 abbrev pub LossShrinks : Type 0
 LossShrinks = (w : Window) (snd_una flight snd_nxt : ℕ) → Shrinks w snd_una flight snd_nxt
+
+-- RESENDS STAY IN THE WINDOW (RFC 5681, 3.1): who sends a segment again when it may has no more than a window of it in flight, and that
+-- segment; and behind a timeout none beside the first until something is acknowledged
+pub record ResendsStay (w : Window) (flight snd_nxt count : ℕ) : Type 0 where
+  pub most : may_resend w ≡ true → (after_resent w count).resent ≤ w.cwnd + count
+  pub first : may_resend (after_timeout w flight snd_nxt) ≡ true
+  pub alone : w.smss ≤ count → may_resend (after_resent (after_timeout w flight snd_nxt) count) ≡ false
+
+abbrev pub ResendsStayInWindow : Type 0
+ResendsStayInWindow = (w : Window) (flight snd_nxt count : ℕ) → IsWindow w → ResendsStay w flight snd_nxt count
 
 -- NO MORE THAN THE WINDOW, and two segments for the first two duplicates (RFC 3042, 2), is in flight once what has room was sent, or
 -- no more than was before

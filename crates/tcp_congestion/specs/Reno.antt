@@ -18,6 +18,8 @@ pub record Window : Type 0 where
   pub is_timed_out : Bool
   -- duplicate acknowledgements in a row, of which three count
   pub duplicates : ℕ
+  -- what was sent again since the last loss was found, and isn't acknowledged
+  pub resent : ℕ
 
 -- IW (RFC 6928, 2)
 abbrev pub initial_window : ℕ → ℕ
@@ -34,6 +36,7 @@ new_window smss = record {
   is_recovering = false;
   is_timed_out = false;
   duplicates = 0;
+  resent = 0;
 }
 
 -- ---- how it grows
@@ -74,6 +77,7 @@ begun w snd_nxt = record w {
   recover = snd_nxt;
   is_recovering = true;
   duplicates = 0;
+  resent = 0;
 }
 
 -- each further duplicate is a segment that has left the network (RFC 5681, 3.2, 4)
@@ -92,8 +96,8 @@ recovered w flight = record w { cwnd = min w.ssthresh (max flight w.smss + w.sms
 -- ---- what happens to it
 
 -- something was acknowledged: nothing is a duplicate of what came before it, and the first segment is another one
-abbrev pub with_progress : Window → Window
-with_progress w = record w { is_timed_out = false; duplicates = 0 }
+abbrev pub with_progress : Window → ℕ → Window
+with_progress w acked = record w { is_timed_out = false; duplicates = 0; resent = w.resent - acked }
 
 abbrev pub is_partial : Window → ℕ → Bool
 is_partial w snd_una = if w.is_recovering then nat_lt snd_una w.recover else false
@@ -105,8 +109,8 @@ after_recovering w acked snd_una flight = if nat_lt snd_una w.recover then defla
 abbrev pub after_acknowledgement : Window → ℕ → ℕ → ℕ → Window
 after_acknowledgement w acked snd_una flight =
     if w.is_recovering
-    then after_recovering (with_progress w) acked snd_una flight
-    else after_growth (with_progress w) acked flight
+    then after_recovering (with_progress w acked) acked snd_una flight
+    else after_growth (with_progress w acked) acked flight
 
 -- THE THIRD DUPLICATE of an acknowledgement of more than recover (RFC 5681, 3.2, 2; RFC 6582, 3.2, 2): what is before recover may have
 -- been sent twice, and then duplicates say nothing
@@ -134,7 +138,16 @@ after_timeout w flight snd_nxt = record (if w.is_timed_out then w else halved w 
   is_recovering = false;
   is_timed_out = true;
   duplicates = 0;
+  resent = 0;
 }
+
+-- SO MUCH WAS SENT AGAIN. What a loss concerns isn't in flight any more, so that what is sent again is all that is: it begins with the
+-- loss window and grows by slow start, as new data would (RFC 5681, 3.1)
+abbrev pub after_resent : Window → ℕ → Window
+after_resent w count = record w { resent = min max_window (w.resent + count) }
+
+abbrev pub may_resend : Window → Bool
+may_resend w = nat_lt w.resent w.cwnd
 
 -- A SYN WAS LOST: the window begins with one segment (RFC 5681, 3.1)
 abbrev pub after_syn_resent : Window → Window
@@ -161,3 +174,4 @@ pub record IsWindow (w : Window) : Type 0 where
   pub threshold_most : w.ssthresh ≤ max_window
   pub acked : w.bytes_acked ≤ max_window
   pub duplicates : w.duplicates ≤ 3
+  pub resent : w.resent ≤ max_window

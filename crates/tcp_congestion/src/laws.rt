@@ -3,7 +3,7 @@
 ghost use Rattle.tcp_congestion.specs.DelayedAck.{NoAcknowledgementIsLate};
 ghost use Rattle.tcp_congestion.specs.SwsAvoidance.{NoSillySegment, NothingWaitsLonger};
 ghost use Rattle.tcp_congestion.specs.Limiter.{FewAnswers, OneInAnInterval};
-ghost use Rattle.tcp_congestion.specs.Growth.{AvoidanceIsSlow, FlightStaysInWindow, GrowthIsAcknowledged, LossShrinks};
+ghost use Rattle.tcp_congestion.specs.Growth.{AvoidanceIsSlow, FlightStaysInWindow, GrowthIsAcknowledged, LossShrinks, ResendsStayInWindow};
 
 /// In congestion avoidance the window grows by at most a segment for each window that is acknowledged (RFC 5681, 3.1).
 pub fn avoidance_is_slow()
@@ -20,6 +20,12 @@ pub fn growth_is_acknowledged()
 /// all that was in flight; a timeout shrinks it to one segment (RFC 5681, 3.1 and 3.2; RFC 6582, 3.2).
 pub fn loss_shrinks()
     ensures { LossShrinks }
+{}
+
+/// Who sends again when it may has no more than a window of it and a segment in flight; after a timeout that is one segment,
+/// until something is acknowledged (RFC 5681, 3.1).
+pub fn resends_stay_in_window()
+    ensures { ResendsStayInWindow }
 {}
 
 /// Who sends what has room has at most a window and two segments in flight, or what was in flight before (RFC 5681, 3.1;

@@ -20,6 +20,7 @@ pub struct Reno {
     is_recovering: bool,
     is_timed_out: bool,
     duplicates: u64,
+    resent: u64,
 }
 
 impl Model for Reno {
@@ -36,6 +37,7 @@ impl Model for Reno {
       is_recovering = r.is_recovering;
       is_timed_out = r.is_timed_out;
       duplicates = r.duplicates;
+      resent = r.resent;
     } };
 
     ghost invariant = { λ r. IsWindow (record {
@@ -47,6 +49,7 @@ impl Model for Reno {
       is_recovering = r.is_recovering;
       is_timed_out = r.is_timed_out;
       duplicates = r.duplicates;
+      resent = r.resent;
     }) };
 
     ghost inverse = { λ w. record {
@@ -58,11 +61,12 @@ impl Model for Reno {
       is_recovering = w.is_recovering;
       is_timed_out = w.is_timed_out;
       duplicates = w.duplicates;
+      resent = w.resent;
     } };
 }
 
 impl Reno {
-    ghost use Rattle.tcp_congestion.specs.Reno.{new_window, room_of, after_acknowledgement, is_partial, after_duplicate, begins_recovery, after_timeout, after_syn_resent, after_idle};
+    ghost use Rattle.tcp_congestion.specs.Reno.{new_window, room_of, after_acknowledgement, is_partial, after_duplicate, begins_recovery, after_timeout, after_resent, may_resend, after_syn_resent, after_idle};
     ghost use Rattle.tcp_congestion.specs.Sizes.{max_segment, max_window};
 
     /// The window of a connection that begins, with full segments of `smss` bytes as both SYNs agreed on them: IW (RFC
@@ -81,6 +85,7 @@ impl Reno {
             is_recovering: false,
             is_timed_out: false,
             duplicates: 0,
+            resent: 0,
         }
     }
 
@@ -130,6 +135,7 @@ impl Reno {
     {
         self.is_timed_out = false;
         self.duplicates = 0;
+        self.resent = self.resent.saturating_sub(acked);
         if !self.is_recovering {
             self.grow(acked, flight);
             return false;
@@ -177,6 +183,23 @@ impl Reno {
         self.is_recovering = false;
         self.is_timed_out = true;
         self.duplicates = 0;
+        self.resent = 0;
+    }
+
+    /// Whether what a loss concerns may be sent again now, a segment of it: no more than a window of it is in flight (RFC
+    /// 5681, 3.1). After a timeout that is one segment first.
+    #[must_use]
+    pub fn may_resend(&self) -> bool
+        ensures { result ≡ may_resend self.now }
+    {
+        self.resent < self.cwnd
+    }
+
+    /// A segment with `count` bytes was sent again.
+    pub fn resent(&mut self, count: u64)
+        ensures { self.new ≡ after_resent self.old count }
+    {
+        self.resent = MAX_WINDOW.min(self.resent + count.min(MAX_WINDOW));
     }
 
     /// The handshake is over, and its SYN was lost (RFC 5681, 3.1). RFC 6928, 2, recommends to call it only where the SYN was
@@ -242,6 +265,7 @@ impl Reno {
         self.recover = snd_nxt;
         self.is_recovering = true;
         self.duplicates = 0;
+        self.resent = 0;
     }
 
     /// A partial acknowledgement (RFC 6582, 3.2, 3): the window shrinks by what it acknowledges, less a segment.

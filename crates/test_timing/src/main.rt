@@ -4,7 +4,8 @@
 //! - `watch` begins with another watch; it takes `sent START COUNT NOW` and `acked UNA NOW`.
 //! - `reno SMSS` begins with another congestion window; `acknowledged ACKED UNA FLIGHT`, `duplicate UNA FLIGHT NXT`,
 //!   `timed-out FLIGHT NXT`, `syn-lost` and `idle` answer cwnd and ssthresh, `recovering` while fast recovery goes on, and
-//!   `again` where the first segment has to be sent again; `room FLIGHT` answers how much may be sent.
+//!   `again` where the first segment has to be sent again; `room FLIGHT` answers how much may be sent, and `may-resend`
+//!   whether a segment may be sent again, of which `resent COUNT` says that it was.
 //! - `delayed RMSS DELAY` begins with another delay; `arrived COUNT URGENT NOW`, `answered` and `due NOW` answer when an
 //!   acknowledgement is due.
 //! - `sws MSS NAGLE TIMEOUT` begins with another sender; `window WND` and `segment QUEUED USABLE FLIGHT NOW` answer how long

@@ -23,6 +23,10 @@ pub(crate) fn answer_reno(
             write!(answers, "{}", reno.room(number(rest)?))?;
             Ok(())
         }
+        b"may-resend" => {
+            write!(answers, "{}", reno.may_resend())?;
+            Ok(())
+        }
         _ => {
             let again = happens(reno, word, rest)?;
             show(reno, again, answers)
@@ -46,6 +50,10 @@ fn happens(reno: &mut Reno, word: &[u8], rest: &[u8]) -> Result<bool, LineError>
         b"timed-out" => {
             let (flight, rest) = first_number(rest)?;
             reno.timed_out(flight, number(rest)?);
+            Ok(false)
+        }
+        b"resent" => {
+            reno.resent(number(rest)?);
             Ok(false)
         }
         b"syn-lost" => {
