@@ -4,7 +4,8 @@
 # apt-get where this machine lacks it) makes its addresses 32 bits wide, so that every browser with WebAssembly runs it.
 # The gate takes no crate for another machine: crates.txt has it as a library for this one, so that the gate proves it,
 # and here it is proved once more and built in a folder of its own with copies of the crates that it stands on,
-# apps/web/out/build; or here, with --here, where all of this is such a copy.
+# apps/web/out/build, which goes at the end, since the gate takes no crates but those of the repository; or here, with --here, where all
+# of this is such a copy.
 set -euo pipefail
 cd "$(dirname "$0")/../.."
 # shellcheck disable=SC2034
@@ -14,8 +15,8 @@ install_commands <<'LIST'
 wasm-opt binaryen
 LIST
 place=apps/web/out/build
-# What an earlier build copied may have files that are gone.
-rm -rf "$place/crates"
+# What an earlier build left, where it was stopped.
+rm -rf "$place"
 mkdir -p "$place/crates" apps/web/out
 
 # No program, and no library for C.
@@ -24,6 +25,7 @@ if [[ ${1-} == --here ]]; then
     [[ ! -e .git ]] || { echo "apps/web/build.sh: with --here it changes crates.txt, and here is no copy"; exit 1; }
     place=.
 else
+    trap 'rm -rf apps/web/out/build' EXIT
     # Without what a check keeps beside them.
     libraries=$(sed -nE "s/$lines.*/crates\/\1/p" crates.txt)
     tar --exclude=out -cf - HANDLES crates/tcp_web $libraries | tar -xf - -C "$place"
