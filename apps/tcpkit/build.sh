@@ -1,10 +1,10 @@
 #!/usr/bin/env bash
 # Builds out/tcpkit.c and out/tcpjudge.c, the two programs as one C99 file each, which want a C compiler alone, and the programs of
 # them: crates/tcp_web, the proved replay, listing and judge as a WebAssembly module of 64 bits (the first argument, or what
-# apps/web/build.sh has left in apps/web/out/build), with its addresses made 32 bits wide by wasm-opt (binaryen), translated to C by
+# apps/web/build.sh has left in apps/web/out), with its addresses made 32 bits wide by wasm-opt (binaryen), translated to C by
 # wasm2c (wabt) and put together with memory and program by join.py. It installs both by apt-get where this machine lacks them.
 set -euo pipefail
-module=$(realpath -m "${1:-$(dirname "$0")/../web/out/build/crates/tcp_web/out/tcp_web.wasm}")
+module=$(realpath -m "${1:-$(dirname "$0")/../web/out/tcp_web.64.wasm}")
 cd "$(dirname "$0")"
 # shellcheck disable=SC2034
 test=tcpkit

@@ -39,5 +39,7 @@ echo "$listed" >"$place/crates.txt"
 (cd "$place/crates/tcp_web" && rt lib)
 wasm-opt --enable-memory64 --enable-bulk-memory --enable-mutable-globals --memory64-lowering \
     "$place/crates/tcp_web/out/tcp_web.wasm" -o apps/web/out/tcp_web.wasm
+# Before its addresses were made narrow: the programs in C are made of it.
+cp "$place/crates/tcp_web/out/tcp_web.wasm" apps/web/out/tcp_web.64.wasm
 ls -l apps/web/out/tcp_web.wasm
 python3 apps/web/pack.py apps/web/out/tcp_web.wasm apps/web/out/tcp.html

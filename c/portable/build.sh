@@ -1,8 +1,8 @@
 #!/usr/bin/env bash
 # Builds out/tcpcore_portable.c, one C99 file with the library of crates/tcp_c in it, for any machine: 'rt lib' proves the crate and
-# builds it for WebAssembly with 64-bit addresses, in a copy, out/build, since the gate has it for this machine; wasm-opt (binaryen)
-# makes the addresses 32 bits wide, wasm2c (wabt) writes C, and join.py puts that together with the layer of c/tcpcore. It
-# installs both by apt-get where this machine lacks them.
+# builds it for WebAssembly with 64-bit addresses, in a copy, out/build, since the gate has it for this machine. The copy goes at the end,
+# because the gate takes no other crates in the tree. wasm-opt (binaryen) makes the addresses 32 bits wide, wasm2c (wabt) writes C, and
+# join.py puts that together with the layer of c/tcpcore. It installs both by apt-get where this machine lacks them.
 # With --module FILE it begins with that module: crates/tcp_c as 'rt lib' has built it before.
 set -euo pipefail
 cd "$(dirname "$0")"
@@ -17,15 +17,17 @@ install_commands <<'LIST'
 wasm-opt binaryen
 wasm2c wabt
 LIST
-mkdir -p "$build/crates"
+mkdir -p out
 if [[ ${1-} == --module ]]; then
     module=$(realpath "$2")
 else
     # tcp_c, and the crates below it.
     lines='^(region_heap|tcp_numbers|tcp_wire|tcp_sendq|tcp_reasm|tcp_halves|tcp_conn|tcp_c)( staticlib)?:'
     mapfile -t folders < <(sed -nE "s/$lines.*/crates\/\1/p" "$top/crates.txt")
-    # What an earlier build copied may have files that are gone; what it kept beside them stays.
-    find "$build/crates" -mindepth 2 -maxdepth 2 ! -name out -exec rm -rf {} +
+    # What an earlier build left, where it was stopped.
+    rm -rf "$build"
+    mkdir -p "$build"
+    trap 'rm -rf "$build"' EXIT
     tar -C "$top" --exclude=out -cf - HANDLES "${folders[@]}" | tar -xf - -C "$build"
     grep -E "$lines" "$top/crates.txt" | sed 's/^tcp_c staticlib:/tcp_c wasm64:/' >"$build/crates.txt"
     (cd "$build/crates/tcp_c" && rt lib)
