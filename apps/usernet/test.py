@@ -356,6 +356,20 @@ def boxed(place):
             need("status", place.program.wait(10), 0)
 
 
+def boxed_quietly(place):
+    """The filter lets through what streams and threads call by themselves: what is written goes to a device, a word is at fault, and each of
+    sixteen threads asks for memory."""
+    with open(__file__) as file, open(os.devnull, "w") as nowhere:
+        words = [world.HERE / "out" / place.program_name, "--netns", world.CLIENTS, "--enable-sandbox", "--enable-seccomp", "--threads", 16,
+                 "--exit-fd", file.fileno()]
+        with world.Child(place.words(world.SERVERS, words), stdout=nowhere, stderr=nowhere, pass_fds=[file.fileno()]) as child:
+            place.until(lambda: child.poll() is not None or place.client_status("ping", "-c", "1", "-W", "1", GATEWAY) == 0)
+            need("it runs", child.poll(), None)
+            place.client(sys.executable, __file__, "--many", GATEWAY, "300", "0")
+            child.terminate()
+            need("its status", child.wait(10), 0)
+
+
 def descriptors_told(place):
     """Who starts the program reads 1 once it is ready, and closes another descriptor to end it; namespace and device are named as
     slirp4netns has them."""
@@ -411,7 +425,7 @@ def main():
                         name = call.__name__ + (", faults" if fault else "") + (f", {threads} threads" if threads > 1 else "")
                         run(place, name, call, *rest)
                         count += 1
-        for call in few_flows, left_alone, tapped, *([] if "WITHOUT_SECCOMP" in os.environ else [boxed]), descriptors_told:
+        for call in few_flows, left_alone, tapped, *([] if "WITHOUT_SECCOMP" in os.environ else [boxed, boxed_quietly]), descriptors_told:
             if not words.only or words.only in call.__name__:
                 run(place, call.__name__, call)
                 count += 1

@@ -20,6 +20,7 @@
 #include <sys/resource.h>
 #include <sys/signalfd.h>
 #include <unistd.h>
+#include <wchar.h>
 
 /* The bytes of both headers, and the descriptors that are for no connection: of the program, and of each thread. */
 enum { HEADERS = 40, SPARE = 32, SPARE_EACH = 8, MIB = 1 << 20 };
@@ -134,9 +135,20 @@ static void *run(void *net)
     return NULL;
 }
 
+/* A stream that is first used behind the filter would ask the system what its file is, which the filter doesn't allow: so stdout is given its
+   buffer here, and stderr the width of its characters. Where nobody reads what is written the program goes on. */
+static void prepare_streams(void)
+{
+    static char room[BUFSIZ];
+    setvbuf(stdout, room, _IOFBF, sizeof room);
+    fwide(stderr, -1);
+    signal(SIGPIPE, SIG_IGN);
+}
+
 int main(int number, char **words)
 {
     pthread_t others[THREADS] = {0};
+    prepare_streams();
     int status = number == 0 ? 1 : words_read(number, words, &told, &shared);
     if (status >= 0)
         return status;
