@@ -370,6 +370,32 @@ def boxed_quietly(place):
             need("its status", child.wait(10), 0)
 
 
+def refused_words(place):
+    """What can't be meant is said, and nothing begins: descriptors that nobody opened, ports that aren't, networks that are too small, names
+    that are too long. A program whose descriptors are closed by mistake couldn't be ended, or would write to a connection."""
+    path = "/" * 250 + f"run/netns/{world.CLIENTS}"
+    publish = ["127.0.0.1:99999:80", "127.0.0.1:7005:80x", "127.0.0.1:7005:", "127.0.0.1:0:80", "127.0.0.1:7005:0", "a:7005:80"]
+    cidr = ["10.0.2.0/24x", "10.0.2.0/26", "10.0.2.0/0", "10.0.2.0", "10.0.2/24", ""]
+    words = [["--ready-fd", "99"], ["-r", "3"], ["-e", "99"], ["-r", "4294967297"], ["-r", "-1"], ["--netns", path], ["--netns-type=path", path],
+             *(["--publish", word] for word in publish), *(["--cidr", word] for word in cidr), ["--publish", "127.0.0.1:7006:80", "-r", "3"],
+             ["--outbound-addr", ""], ["-m", "575"], ["--threads", "65"], ["sixteen_is_a_lot"]]
+    for call in words:
+        space = [] if path in call else ["--netns", world.CLIENTS]
+        done = subprocess.run(place.words(world.SERVERS, ["timeout", 5, world.HERE / "out" / place.program_name, *space, *call]), stdout=subprocess.PIPE,
+                              stderr=subprocess.DEVNULL)
+        need(str(call), (done.returncode, done.stdout), (1, b""))
+
+
+def few_descriptors(place):
+    """Where there may be hardly more descriptors than the program has by itself, flows and connections make way for each other."""
+    words = ["prlimit", "--nofile=41", world.HERE / "out" / place.program_name, "--netns", world.CLIENTS]
+    with contextlib.ExitStack() as stack:
+        child = place.start_server(stack, *words)
+        for _ in range(3):
+            place.client(sys.executable, __file__, "--questions", NAMESERVER, "3")
+            need("it runs", child.poll(), None)
+
+
 def descriptors_told(place):
     """Who starts the program reads 1 once it is ready, and closes another descriptor to end it; namespace and device are named as
     slirp4netns has them."""
@@ -425,7 +451,7 @@ def main():
                         name = call.__name__ + (", faults" if fault else "") + (f", {threads} threads" if threads > 1 else "")
                         run(place, name, call, *rest)
                         count += 1
-        for call in few_flows, left_alone, tapped, *([] if "WITHOUT_SECCOMP" in os.environ else [boxed, boxed_quietly]), descriptors_told:
+        for call in few_flows, few_descriptors, refused_words, left_alone, tapped, *([] if "WITHOUT_SECCOMP" in os.environ else [boxed, boxed_quietly]), descriptors_told:
             if not words.only or words.only in call.__name__:
                 run(place, call.__name__, call)
                 count += 1

@@ -89,7 +89,7 @@ static void share_limits(void)
     getrlimit(RLIMIT_NOFILE, &files);
     files.rlim_cur = files.rlim_max;
     setrlimit(RLIMIT_NOFILE, &files);
-    uint64_t all = files.rlim_max > spare ? files.rlim_max - spare : 2, flows = limits.flows < all / 2 ? limits.flows : all / 2, most = all - flows;
+    uint64_t all = files.rlim_max > spare + 2 ? files.rlim_max - spare : 2, flows = limits.flows < all / 2 ? limits.flows : all / 2, most = all - flows;
     shared.limits = (struct limits){.connections = share(limits.connections < most ? limits.connections : most),
                                     .half_open = share(limits.half_open), .each = share(limits.each),
                                     .memory = share(limits.memory * MIB), .ports = limits.ports, .flows = share(flows),
@@ -126,7 +126,8 @@ static void tell_ready(void)
         return;
     if (write((int)told.ready, "1", 1) != 1)
         perror("--ready-fd");
-    close((int)told.ready);
+    if (told.ready > STDERR_FILENO) /* else a socket would have its number, and get what is said */
+        close((int)told.ready);
 }
 
 static void *run(void *net)
