@@ -272,6 +272,24 @@ def killed_program(place):
     client.wait()
 
 
+def sent_to_many(place):
+    """What goes to many hosts, or by broadcast, is answered by nothing."""
+    before = place.counters()
+    place.client(sys.executable, __file__, "--to-many", "224.0.0.251", "255.255.255.255")
+    after = place.counters()
+    need("answers", [after[name] - before[name] for name in ("unreachable", "strays", "flows")], [0, 0, 0])
+    need("packets", after["arrived"] - before["arrived"] >= 20, True)
+
+
+def send_to_many(hosts):
+    for host in hosts:
+        with socket.socket(socket.AF_INET, socket.SOCK_DGRAM) as end:
+            end.setsockopt(socket.SOL_SOCKET, socket.SO_BROADCAST, 1)
+            for _ in range(10):
+                end.sendto(b"?", (host, 5353))
+    time.sleep(0.2)
+
+
 def flows_go(place):
     """Questions to the name server from 300 ports: their sockets are closed some ten seconds later."""
     descriptors = place.descriptors_of_connections()
@@ -338,6 +356,9 @@ def tapped(place):
             need("the device", "10.0.2.100/24" in place.client("ip", "-4", "address", "show", "dev", "tap0"), True)
             for call in download, upload, iperf, by_name, datagrams, pings, refused, published:
                 call(place)
+            place.client("ip", "link", "set", "tap0", "address", "02:00:00:00:00:77")
+            place.client("ip", "route", "replace", "default", "via", GATEWAY)
+            pings(place)
         place.client("ip", "link", "delete", "tap0")
 
 
@@ -350,6 +371,9 @@ def boxed(place):
                 need(name, int(status[name], 16), 0)
             need("filter", (status["NoNewPrivs"], status["Seccomp"]), ("1", "2"))
             need("its root", sorted(os.listdir(f"/proc/{place.program.pid}/root")), ["etc", "run"])
+            mounts = [line.split()[4:6] for line in pathlib.Path(f"/proc/{place.program.pid}/mountinfo").read_text().splitlines()]
+            need("what is mounted below a folder", len(mounts) > 3, True)
+            need("what can be written to", [folder for folder, how in mounts if "ro" not in how.split(",")], [])
             for call in download, upload, iperf, by_name, datagrams, pings, refused, published, half_close, killed_clients, counted_again:
                 call(place)
             place.program.send_signal(signal.SIGTERM)
@@ -444,7 +468,7 @@ def main():
                 if fault == 0 and threads == 1 and not words.short:
                     calls.append((download_past_all_numbers, ()))
                 if fault == 0:
-                    calls.append((flows_go, ()))
+                    calls += [(flows_go, ()), (sent_to_many, ())]
                 calls.append((killed_program, ()))
                 for call, rest in calls:
                     if not words.only or words.only in call.__name__:
@@ -468,6 +492,8 @@ if __name__ == "__main__":
         send_datagrams(sys.argv[2])
     elif "--questions" in sys.argv:
         ask(sys.argv[2], int(sys.argv[3]))
+    elif "--to-many" in sys.argv:
+        send_to_many(sys.argv[2:])
     elif "--forbidden" in sys.argv:
         forbidden(sys.argv[2], int(sys.argv[3]))
     elif "--many" in sys.argv:
