@@ -15,17 +15,22 @@
 enum { DOMAIN_PORT = 53 };
 static const char SERVERS[] = "/etc/resolv.conf";
 
-/* The first name server of the file that has an IPv4 address; 127.0.0.1 where there is none. */
+/* The first name server of the file that has an IPv4 address; 127.0.0.1 where there is none, or where it is 0.0.0.0, which means this host. Of a
+   line that is longer than any name server's the rest isn't taken for another one. */
 static struct in_addr first_server(void)
 {
     struct in_addr found = {htonl(INADDR_LOOPBACK)};
     char line[256], word[64];
     FILE *file = fopen(SERVERS, "re");
-    int has_one = 0;
-    while (file && !has_one && fgets(line, sizeof line, file))
-        has_one = sscanf(line, " nameserver %63s", word) == 1 && inet_pton(AF_INET, word, &found) == 1;
+    int has_one = 0, begins = 1;
+    while (file && !has_one && fgets(line, sizeof line, file)) {
+        has_one = begins && sscanf(line, " nameserver %63s", word) == 1 && inet_pton(AF_INET, word, &found) == 1;
+        begins = strchr(line, '\n') != NULL;
+    }
     if (file)
         fclose(file);
+    if (found.s_addr == 0)
+        found.s_addr = htonl(INADDR_LOOPBACK);
     return found;
 }
 

@@ -410,6 +410,17 @@ def refused_words(place):
         need(str(call), (done.returncode, done.stdout), (1, b""))
 
 
+def name_servers(place):
+    """The file of name servers is read again where it has changed: the first one of IPv4 is asked, and what stands in a long remark isn't."""
+    settings = pathlib.Path("/etc/netns") / world.SERVERS / "resolv.conf"
+    kept = settings.read_text()
+    with place.usernet(0):
+        for text in "nameserver ::1\nnameserver 127.0.0.1", "#" * 255 + "nameserver 127.0.0.66\nnameserver 127.0.0.1", "nameserver 0.0.0.0", "":
+            settings.write_text(text)
+            place.client(sys.executable, __file__, "--questions", NAMESERVER, "1")
+    settings.write_text(kept)
+
+
 def few_descriptors(place):
     """Where there may be hardly more descriptors than the program has by itself, flows and connections make way for each other."""
     words = ["prlimit", "--nofile=41", world.HERE / "out" / place.program_name, "--netns", world.CLIENTS]
@@ -475,7 +486,7 @@ def main():
                         name = call.__name__ + (", faults" if fault else "") + (f", {threads} threads" if threads > 1 else "")
                         run(place, name, call, *rest)
                         count += 1
-        for call in few_flows, few_descriptors, refused_words, left_alone, tapped, *([] if "WITHOUT_SECCOMP" in os.environ else [boxed, boxed_quietly]), descriptors_told:
+        for call in few_flows, few_descriptors, name_servers, refused_words, left_alone, tapped, *([] if "WITHOUT_SECCOMP" in os.environ else [boxed, boxed_quietly]), descriptors_told:
             if not words.only or words.only in call.__name__:
                 run(place, call.__name__, call)
                 count += 1
