@@ -62,14 +62,18 @@ static struct in_addr address_of(struct usernet *net, tcpcore_addr to, uint16_t 
     return found;
 }
 
-/* A socket has the address that the program was told to go out by, but towards the loopback. */
+/* A socket has the address that the program was told to go out by, but towards the loopback. Where the host doesn't have this address nothing is
+   reached by it: that is no want of ports, which end later. */
 static int is_bound(const struct usernet *net, int socket, struct in_addr to)
 {
     struct sockaddr_in from = {.sin_family = AF_INET, .sin_addr = net->shared->outbound};
     if (from.sin_addr.s_addr == 0 || ntohl(to.s_addr) >> 24 == 127)
         return 1;
     setsockopt(socket, IPPROTO_IP, IP_BIND_ADDRESS_NO_PORT, &(int){1}, sizeof(int));
-    return bind(socket, (struct sockaddr *)&from, sizeof from) == 0;
+    int is_done = bind(socket, (struct sockaddr *)&from, sizeof from) == 0;
+    if (!is_done && errno == EADDRNOTAVAIL)
+        errno = ENETUNREACH;
+    return is_done;
 }
 
 int host_socket(struct usernet *net, tcpcore_addr to, uint16_t port, int kind, int protocol)

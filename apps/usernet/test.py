@@ -334,6 +334,9 @@ def left_alone(place):
         place.client(sys.executable, __file__, "--forbidden", "192.168.7.3", "53")
         need("by another network", place.client_status("curl", "-sf", "-o", "/dev/null", "http://192.168.7.2:8080/small"), 0)
         need("outbound", place.client("curl", "-sf", "--max-time", "20", f"http://{FAR}:8091/"), FAR)
+    with place.usernet(0, "--outbound-addr", "198.51.100.7"):  # nobody's
+        need("curl's status", place.client_status("curl", "-s", "--max-time", "20", f"http://{FAR}:8091/"), 7)
+        need("the loopback", place.client_status("curl", "-sf", "-o", "/dev/null", f"http://{GATEWAY}:8080/small"), 0)
 
 
 def forbidden(host, port):

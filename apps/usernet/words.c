@@ -72,7 +72,10 @@ static int publish(const char *word, struct shared *shared)
     at.sin_port = htons((uint16_t)port);
     shared->published[number] = (struct published){listener, (uint16_t)inner};
     setsockopt(listener, SOL_SOCKET, SO_REUSEADDR, &(int){1}, sizeof(int));
-    return bind(listener, (struct sockaddr *)&at, sizeof at) == 0 && listen(listener, 1024) == 0;
+    if (bind(listener, (struct sockaddr *)&at, sizeof at) == 0 && listen(listener, 1024) == 0)
+        return 1;
+    perror(word);
+    return 0;
 }
 
 /* Whether a descriptor is one that the program was started with: its own are all closed where another one is started. */
