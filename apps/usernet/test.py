@@ -489,7 +489,8 @@ def main():
                         name = call.__name__ + (", faults" if fault else "") + (f", {threads} threads" if threads > 1 else "")
                         run(place, name, call, *rest)
                         count += 1
-        for call in few_flows, few_descriptors, name_servers, refused_words, left_alone, tapped, *([] if "WITHOUT_SECCOMP" in os.environ else [boxed, boxed_quietly]), descriptors_told:
+        boxes = [] if "WITHOUT_SECCOMP" in os.environ else [boxed, boxed_quietly]
+        for call in few_flows, few_descriptors, name_servers, refused_words, left_alone, tapped, *boxes, descriptors_told:
             if not words.only or words.only in call.__name__:
                 run(place, call.__name__, call)
                 count += 1
