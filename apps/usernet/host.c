@@ -15,17 +15,22 @@
 enum { DOMAIN_PORT = 53 };
 static const char SERVERS[] = "/etc/resolv.conf";
 
-/* The first name server of the file that has an IPv4 address; 127.0.0.1 where there is none. */
+/* The first name server of the file that has an IPv4 address; 127.0.0.1 where there is none, or where it is 0.0.0.0, which means this host. Of a
+   line that is longer than any name server's the rest isn't taken for another one. */
 static struct in_addr first_server(void)
 {
     struct in_addr found = {htonl(INADDR_LOOPBACK)};
     char line[256], word[64];
     FILE *file = fopen(SERVERS, "re");
-    int has_one = 0;
-    while (file && !has_one && fgets(line, sizeof line, file))
-        has_one = sscanf(line, " nameserver %63s", word) == 1 && inet_pton(AF_INET, word, &found) == 1;
+    int has_one = 0, begins = 1;
+    while (file && !has_one && fgets(line, sizeof line, file)) {
+        has_one = begins && sscanf(line, " nameserver %63s", word) == 1 && inet_pton(AF_INET, word, &found) == 1;
+        begins = strchr(line, '\n') != NULL;
+    }
     if (file)
         fclose(file);
+    if (found.s_addr == 0)
+        found.s_addr = htonl(INADDR_LOOPBACK);
     return found;
 }
 
@@ -57,14 +62,18 @@ static struct in_addr address_of(struct usernet *net, tcpcore_addr to, uint16_t 
     return found;
 }
 
-/* A socket has the address that the program was told to go out by, but towards the loopback. */
+/* A socket has the address that the program was told to go out by, but towards the loopback. Where the host doesn't have this address nothing is
+   reached by it: that is no want of ports, which end later. */
 static int is_bound(const struct usernet *net, int socket, struct in_addr to)
 {
     struct sockaddr_in from = {.sin_family = AF_INET, .sin_addr = net->shared->outbound};
     if (from.sin_addr.s_addr == 0 || ntohl(to.s_addr) >> 24 == 127)
         return 1;
     setsockopt(socket, IPPROTO_IP, IP_BIND_ADDRESS_NO_PORT, &(int){1}, sizeof(int));
-    return bind(socket, (struct sockaddr *)&from, sizeof from) == 0;
+    int is_done = bind(socket, (struct sockaddr *)&from, sizeof from) == 0;
+    if (!is_done && errno == EADDRNOTAVAIL)
+        errno = ENETUNREACH;
+    return is_done;
 }
 
 int host_socket(struct usernet *net, tcpcore_addr to, uint16_t port, int kind, int protocol)

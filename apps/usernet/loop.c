@@ -110,7 +110,23 @@ static void take_packet(struct usernet *net, const struct ip_packet *packet, uin
         arrive(net, packet, vouched);
 }
 
-/* A frame of the device: a packet of this thread's connections and relays, or of another one's, which gets the frame. */
+/* What lies behind the Ethernet header of a frame, where that is a packet, else NULL; a question is answered. The namespace's address is from
+   then on that of this frame: somebody may have given the device another one. */
+static const uint8_t *without_ethernet(struct usernet *net, const uint8_t *bytes, size_t *length)
+{
+    if (*length < ETHERNET_HEADER)
+        return NULL;
+    net->host = ethernet_src(bytes);
+    if (ethernet_type(bytes) != ETHERNET_IPV4) {
+        answer_arp(net, bytes, *length);
+        return NULL;
+    }
+    *length -= ETHERNET_HEADER;
+    return bytes + ETHERNET_HEADER;
+}
+
+/* A frame of the device: a packet of this thread's connections and relays, or of another one's, which gets the frame. What goes to many
+   hosts, or by broadcast, has no host behind it, and is answered by nobody (RFC 1122, 3.2.2; RFC 9293, 3.9.2.3). */
 static void from_device(const void *frame, size_t all, void *context)
 {
     struct usernet *net = context;
@@ -122,14 +138,9 @@ static void from_device(const void *frame, size_t all, void *context)
     int vouched = 0;
     if (net->offloads)
         bytes = trains_read(frame, length, &length, &vouched);
-    if (bytes && net->is_tap) {
-        if (length < ETHERNET_HEADER || ethernet_type(bytes) != ETHERNET_IPV4) {
-            answer_arp(net, bytes, length);
-            return;
-        }
-        bytes += ETHERNET_HEADER, length -= ETHERNET_HEADER;
-    }
-    if (!bytes || length < IP_HEADER)
+    if (bytes && net->is_tap)
+        bytes = without_ethernet(net, bytes, &length);
+    if (!bytes || length < IP_HEADER || bytes[16] >= 224)
         return;
     memcpy(&to.addr, bytes + 16, sizeof to.addr);
     if (ip_read_any(to, bytes, length, &found, &protocol) != IP_DONE || (protocol != IP_TCP && protocol != IP_UDP && protocol != IP_ICMP))

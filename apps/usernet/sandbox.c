@@ -35,13 +35,14 @@ static int enter_users(const struct words *told)
     return is_there;
 }
 
-/* A folder of the system's is in the new root, and nothing can be written to it. */
+/* A folder of the system's is in the new root, and nothing can be written to it, nor to what is mounted in it: so it takes Linux 5.12. */
 static int keep_folder(const char *name)
 {
+    struct mount_attr only_read = {.attr_set = MOUNT_ATTR_RDONLY | MOUNT_ATTR_NOSUID | MOUNT_ATTR_NODEV | MOUNT_ATTR_NOEXEC};
     char place[64];
     snprintf(place, sizeof place, "/tmp%s", name);
     return mkdir(place, 0755) == 0 && mount(name, place, NULL, MS_BIND | MS_REC, NULL) == 0 &&
-           mount(NULL, place, NULL, MS_BIND | MS_REMOUNT | MS_RDONLY | MS_NOSUID | MS_NODEV | MS_NOEXEC, NULL) == 0;
+           mount_setattr(AT_FDCWD, place, AT_RECURSIVE, &only_read, sizeof only_read) == 0;
 }
 
 /* The root is an empty folder but for /etc and /run, of which the file of name servers is read. */
@@ -81,8 +82,8 @@ static const int CALLS[] = {
     SCMP_SYS(recvfrom), SCMP_SYS(recvmsg), SCMP_SYS(sendto), SCMP_SYS(sendmsg), SCMP_SYS(accept4), SCMP_SYS(connect), SCMP_SYS(bind),
     SCMP_SYS(shutdown), SCMP_SYS(getsockopt), SCMP_SYS(setsockopt), SCMP_SYS(clock_gettime), SCMP_SYS(futex), SCMP_SYS(brk), SCMP_SYS(mmap),
     SCMP_SYS(munmap), SCMP_SYS(mremap), SCMP_SYS(mprotect), SCMP_SYS(madvise), SCMP_SYS(fstat), SCMP_SYS(newfstatat), SCMP_SYS(lseek),
-    SCMP_SYS(rt_sigprocmask), SCMP_SYS(rt_sigreturn), SCMP_SYS(restart_syscall), SCMP_SYS(sched_yield), SCMP_SYS(set_robust_list), SCMP_SYS(rseq),
-    SCMP_SYS(exit), SCMP_SYS(exit_group)};
+    SCMP_SYS(rt_sigprocmask), SCMP_SYS(rt_sigreturn), SCMP_SYS(restart_syscall), SCMP_SYS(sched_yield), SCMP_SYS(sched_getaffinity), SCMP_SYS(set_robust_list),
+    SCMP_SYS(rseq), SCMP_SYS(exit), SCMP_SYS(exit_group)};
 
 /* Beside them sockets of IPv4 alone, and files that are only read. Whatever else is called ends the program. */
 int sandbox_filter(void)

@@ -272,6 +272,24 @@ def killed_program(place):
     client.wait()
 
 
+def sent_to_many(place):
+    """What goes to many hosts, or by broadcast, is answered by nothing."""
+    before = place.counters()
+    place.client(sys.executable, __file__, "--to-many", "224.0.0.251", "255.255.255.255")
+    after = place.counters()
+    need("answers", [after[name] - before[name] for name in ("unreachable", "strays", "flows")], [0, 0, 0])
+    need("packets", after["arrived"] - before["arrived"] >= 20, True)
+
+
+def send_to_many(hosts):
+    for host in hosts:
+        with socket.socket(socket.AF_INET, socket.SOCK_DGRAM) as end:
+            end.setsockopt(socket.SOL_SOCKET, socket.SO_BROADCAST, 1)
+            for _ in range(10):
+                end.sendto(b"?", (host, 5353))
+    time.sleep(0.2)
+
+
 def flows_go(place):
     """Questions to the name server from 300 ports: their sockets are closed some ten seconds later."""
     descriptors = place.descriptors_of_connections()
@@ -316,6 +334,9 @@ def left_alone(place):
         place.client(sys.executable, __file__, "--forbidden", "192.168.7.3", "53")
         need("by another network", place.client_status("curl", "-sf", "-o", "/dev/null", "http://192.168.7.2:8080/small"), 0)
         need("outbound", place.client("curl", "-sf", "--max-time", "20", f"http://{FAR}:8091/"), FAR)
+    with place.usernet(0, "--outbound-addr", "198.51.100.7"):  # nobody's
+        need("curl's status", place.client_status("curl", "-s", "--max-time", "20", f"http://{FAR}:8091/"), 7)
+        need("the loopback", place.client_status("curl", "-sf", "-o", "/dev/null", f"http://{GATEWAY}:8080/small"), 0)
 
 
 def forbidden(host, port):
@@ -338,6 +359,9 @@ def tapped(place):
             need("the device", "10.0.2.100/24" in place.client("ip", "-4", "address", "show", "dev", "tap0"), True)
             for call in download, upload, iperf, by_name, datagrams, pings, refused, published:
                 call(place)
+            place.client("ip", "link", "set", "tap0", "address", "02:00:00:00:00:77")
+            place.client("ip", "route", "replace", "default", "via", GATEWAY)
+            pings(place)
         place.client("ip", "link", "delete", "tap0")
 
 
@@ -350,10 +374,64 @@ def boxed(place):
                 need(name, int(status[name], 16), 0)
             need("filter", (status["NoNewPrivs"], status["Seccomp"]), ("1", "2"))
             need("its root", sorted(os.listdir(f"/proc/{place.program.pid}/root")), ["etc", "run"])
+            mounts = [line.split()[4:6] for line in pathlib.Path(f"/proc/{place.program.pid}/mountinfo").read_text().splitlines()]
+            need("what is mounted below a folder", len(mounts) > 3, True)
+            need("what can be written to", [folder for folder, how in mounts if "ro" not in how.split(",")], [])
             for call in download, upload, iperf, by_name, datagrams, pings, refused, published, half_close, killed_clients, counted_again:
                 call(place)
             place.program.send_signal(signal.SIGTERM)
             need("status", place.program.wait(10), 0)
+
+
+def boxed_quietly(place):
+    """The filter lets through what streams and threads call by themselves: what is written goes to a device, a word is at fault, and each of
+    sixteen threads asks for memory."""
+    with open(__file__) as file, open(os.devnull, "w") as nowhere:
+        words = [world.HERE / "out" / place.program_name, "--netns", world.CLIENTS, "--enable-sandbox", "--enable-seccomp", "--threads", 16,
+                 "--exit-fd", file.fileno()]
+        with world.Child(place.words(world.SERVERS, words), stdout=nowhere, stderr=nowhere, pass_fds=[file.fileno()]) as child:
+            place.until(lambda: child.poll() is not None or place.client_status("ping", "-c", "1", "-W", "1", GATEWAY) == 0)
+            need("it runs", child.poll(), None)
+            place.client(sys.executable, __file__, "--many", GATEWAY, "300", "0")
+            child.terminate()
+            need("its status", child.wait(10), 0)
+
+
+def refused_words(place):
+    """What can't be meant is said, and nothing begins: descriptors that nobody opened, ports that aren't, networks that are too small, names
+    that are too long. A program whose descriptors are closed by mistake couldn't be ended, or would write to a connection."""
+    path = "/" * 250 + f"run/netns/{world.CLIENTS}"
+    publish = ["127.0.0.1:99999:80", "127.0.0.1:7005:80x", "127.0.0.1:7005:", "127.0.0.1:0:80", "127.0.0.1:7005:0", "a:7005:80"]
+    cidr = ["10.0.2.0/24x", "10.0.2.0/26", "10.0.2.0/0", "10.0.2.0", "10.0.2/24", ""]
+    words = [["--ready-fd", "99"], ["-r", "3"], ["-e", "99"], ["-r", "4294967297"], ["-r", "-1"], ["--netns", path], ["--netns-type=path", path],
+             *(["--publish", word] for word in publish), *(["--cidr", word] for word in cidr), ["--publish", "127.0.0.1:7006:80", "-r", "3"],
+             ["--outbound-addr", ""], ["-m", "575"], ["--threads", "65"], ["sixteen_is_a_lot"]]
+    for call in words:
+        space = [] if path in call else ["--netns", world.CLIENTS]
+        done = subprocess.run(place.words(world.SERVERS, ["timeout", 5, world.HERE / "out" / place.program_name, *space, *call]), stdout=subprocess.PIPE,
+                              stderr=subprocess.DEVNULL)
+        need(str(call), (done.returncode, done.stdout), (1, b""))
+
+
+def name_servers(place):
+    """The file of name servers is read again where it has changed: the first one of IPv4 is asked, and what stands in a long remark isn't."""
+    settings = pathlib.Path("/etc/netns") / world.SERVERS / "resolv.conf"
+    kept = settings.read_text()
+    with place.usernet(0):
+        for text in "nameserver ::1\nnameserver 127.0.0.1", "#" * 255 + "nameserver 127.0.0.66\nnameserver 127.0.0.1", "nameserver 0.0.0.0", "":
+            settings.write_text(text)
+            place.client(sys.executable, __file__, "--questions", NAMESERVER, "1")
+    settings.write_text(kept)
+
+
+def few_descriptors(place):
+    """Where there may be hardly more descriptors than the program has by itself, flows and connections make way for each other."""
+    words = ["prlimit", "--nofile=41", world.HERE / "out" / place.program_name, "--netns", world.CLIENTS]
+    with contextlib.ExitStack() as stack:
+        child = place.start_server(stack, *words)
+        for _ in range(3):
+            place.client(sys.executable, __file__, "--questions", NAMESERVER, "3")
+            need("it runs", child.poll(), None)
 
 
 def descriptors_told(place):
@@ -404,14 +482,15 @@ def main():
                 if fault == 0 and threads == 1 and not words.short:
                     calls.append((download_past_all_numbers, ()))
                 if fault == 0:
-                    calls.append((flows_go, ()))
+                    calls += [(flows_go, ()), (sent_to_many, ())]
                 calls.append((killed_program, ()))
                 for call, rest in calls:
                     if not words.only or words.only in call.__name__:
                         name = call.__name__ + (", faults" if fault else "") + (f", {threads} threads" if threads > 1 else "")
                         run(place, name, call, *rest)
                         count += 1
-        for call in few_flows, left_alone, tapped, *([] if "WITHOUT_SECCOMP" in os.environ else [boxed]), descriptors_told:
+        boxes = [] if "WITHOUT_SECCOMP" in os.environ else [boxed, boxed_quietly]
+        for call in few_flows, few_descriptors, name_servers, refused_words, left_alone, tapped, *boxes, descriptors_told:
             if not words.only or words.only in call.__name__:
                 run(place, call.__name__, call)
                 count += 1
@@ -428,6 +507,8 @@ if __name__ == "__main__":
         send_datagrams(sys.argv[2])
     elif "--questions" in sys.argv:
         ask(sys.argv[2], int(sys.argv[3]))
+    elif "--to-many" in sys.argv:
+        send_to_many(sys.argv[2:])
     elif "--forbidden" in sys.argv:
         forbidden(sys.argv[2], int(sys.argv[3]))
     elif "--many" in sys.argv:

@@ -20,6 +20,7 @@
 #include <sys/resource.h>
 #include <sys/signalfd.h>
 #include <unistd.h>
+#include <wchar.h>
 
 /* The bytes of both headers, and the descriptors that are for no connection: of the program, and of each thread. */
 enum { HEADERS = 40, SPARE = 32, SPARE_EACH = 8, MIB = 1 << 20 };
@@ -88,7 +89,7 @@ static void share_limits(void)
     getrlimit(RLIMIT_NOFILE, &files);
     files.rlim_cur = files.rlim_max;
     setrlimit(RLIMIT_NOFILE, &files);
-    uint64_t all = files.rlim_max > spare ? files.rlim_max - spare : 2, flows = limits.flows < all / 2 ? limits.flows : all / 2, most = all - flows;
+    uint64_t all = files.rlim_max > spare + 2 ? files.rlim_max - spare : 2, flows = limits.flows < all / 2 ? limits.flows : all / 2, most = all - flows;
     shared.limits = (struct limits){.connections = share(limits.connections < most ? limits.connections : most),
                                     .half_open = share(limits.half_open), .each = share(limits.each),
                                     .memory = share(limits.memory * MIB), .ports = limits.ports, .flows = share(flows),
@@ -125,7 +126,8 @@ static void tell_ready(void)
         return;
     if (write((int)told.ready, "1", 1) != 1)
         perror("--ready-fd");
-    close((int)told.ready);
+    if (told.ready > STDERR_FILENO) /* else a socket would have its number, and get what is said */
+        close((int)told.ready);
 }
 
 static void *run(void *net)
@@ -134,9 +136,20 @@ static void *run(void *net)
     return NULL;
 }
 
+/* A stream that is first used behind the filter would ask the system what its file is, which the filter doesn't allow: so stdout is given its
+   buffer here, and stderr the width of its characters. Where nobody reads what is written the program goes on. */
+static void prepare_streams(void)
+{
+    static char room[BUFSIZ];
+    setvbuf(stdout, room, _IOFBF, sizeof room);
+    fwide(stderr, -1);
+    signal(SIGPIPE, SIG_IGN);
+}
+
 int main(int number, char **words)
 {
     pthread_t others[THREADS] = {0};
+    prepare_streams();
     int status = number == 0 ? 1 : words_read(number, words, &told, &shared);
     if (status >= 0)
         return status;

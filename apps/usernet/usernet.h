@@ -119,7 +119,7 @@ struct usernet {
     int is_gone;               /* whether the device is */
     int offloads;              /* whether trains of segments are exchanged with the device */
     int is_tap;                /* whether packets lie behind Ethernet headers */
-    struct ethernet_addr host; /* then: the namespace's address */
+    struct ethernet_addr host; /* then: the namespace's address, as its last frame has it */
     uint16_t mss, next_port;   /* the maximum segment size; the last of the gateway's ports that was tried */
     tcpcore_addr own, gateway; /* the namespace's address, and that which means the host's loopback */
     tcpcore_addr resolver;     /* that which means the host's name server */

@@ -3,6 +3,7 @@
 #include "usernet.h"
 
 #include <arpa/inet.h>
+#include <fcntl.h>
 #include <getopt.h>
 #include <stdio.h>
 #include <stdlib.h>
@@ -47,24 +48,6 @@ static const char USAGE[] =
     "\n"
     "An echo to a host needs the host's leave (net.ipv4.ping_group_range). Datagrams that the namespace cut into pieces are lost.\n";
 
-/* Listens for HOST:PORT:INNER; whether it could. */
-static int publish(const char *word, struct shared *shared)
-{
-    struct sockaddr_in at = {.sin_family = AF_INET};
-    char host[16];
-    uint16_t port, inner;
-    int number = 0, listener = socket(AF_INET, SOCK_STREAM | SOCK_NONBLOCK | SOCK_CLOEXEC, 0);
-    while (shared->published[number].socket >= 0)
-        number++;
-    if (number == LISTENERS || sscanf(word, "%15[0-9.]:%hu:%hu", host, &port, &inner) != 3 ||
-        inet_pton(AF_INET, host, &at.sin_addr) != 1)
-        return 0;
-    at.sin_port = htons(port);
-    shared->published[number] = (struct published){listener, inner};
-    setsockopt(listener, SOL_SOCKET, SO_REUSEADDR, &(int){1}, sizeof(int));
-    return bind(listener, (struct sockaddr *)&at, sizeof at) == 0 && listen(listener, 1024) == 0;
-}
-
 /* A number from `least` to `most`; whether the word is one. */
 static int read_number(const char *word, uint64_t least, uint64_t most, uint64_t *number)
 {
@@ -72,6 +55,31 @@ static int read_number(const char *word, uint64_t least, uint64_t most, uint64_t
     *number = strtoull(word, &end, 10);
     return *word >= '0' && *word <= '9' && *end == 0 && *number >= least && *number <= most;
 }
+
+/* Listens for HOST:PORT:INNER; whether it could. */
+static int publish(const char *word, struct shared *shared)
+{
+    struct sockaddr_in at = {.sin_family = AF_INET};
+    char host[16], ports[2][6];
+    uint64_t port, inner;
+    int number = 0, end = 0, listener = socket(AF_INET, SOCK_STREAM | SOCK_NONBLOCK | SOCK_CLOEXEC, 0);
+    while (shared->published[number].socket >= 0)
+        number++;
+    if (number == LISTENERS || sscanf(word, "%15[0-9.]:%5[0-9]:%5[0-9]%n", host, ports[0], ports[1], &end) != 3 || word[end] ||
+        !read_number(ports[0], 1, UINT16_MAX, &port) || !read_number(ports[1], 1, UINT16_MAX, &inner) ||
+        inet_pton(AF_INET, host, &at.sin_addr) != 1)
+        return 0;
+    at.sin_port = htons((uint16_t)port);
+    shared->published[number] = (struct published){listener, (uint16_t)inner};
+    setsockopt(listener, SOL_SOCKET, SO_REUSEADDR, &(int){1}, sizeof(int));
+    if (bind(listener, (struct sockaddr *)&at, sizeof at) == 0 && listen(listener, 1024) == 0)
+        return 1;
+    perror(word);
+    return 0;
+}
+
+/* Whether a descriptor is one that the program was started with: its own are all closed where another one is started. */
+static int is_given(uint64_t descriptor) { return fcntl((int)descriptor, F_GETFD) == 0; }
 
 /* Words that a number follows. */
 static int read_limit(const char *name, const char *word, struct words *told)
@@ -85,7 +93,8 @@ static int read_limit(const char *name, const char *word, struct words *told)
         {"ready-fd", &told->ready, 0, INT32_MAX}, {"exit-fd", &told->exits, 0, INT32_MAX}};
     for (size_t at = 0; at < sizeof NAMES / sizeof NAMES[0]; at++)
         if (strcmp(name, NAMES[at].name) == 0)
-            return read_number(word, NAMES[at].least, NAMES[at].most, NAMES[at].number);
+            return read_number(word, NAMES[at].least, NAMES[at].most, NAMES[at].number) &&
+                   (NAMES[at].most != INT32_MAX || is_given(*NAMES[at].number));
     return 0;
 }
 
@@ -113,7 +122,7 @@ static int read_option(const char *name, const char *value, struct words *told, 
         if (strcmp(name, FLAGS[at].name) == 0)
             return *FLAGS[at].flag = FLAGS[at].value, 1;
     if (strcmp(name, "netns") == 0)
-        return snprintf(told->space, sizeof told->space, "/run/netns/%s", value) > 0;
+        return snprintf(told->space, sizeof told->space, "/run/netns/%s", value) < (int)sizeof told->space;
     if (strcmp(name, "netns-type") == 0)
         return told->is_path = strcmp(value, "path") == 0, told->is_path || strcmp(value, "pid") == 0;
     if (strcmp(name, "userns-path") == 0)
@@ -127,19 +136,23 @@ static int read_option(const char *name, const char *value, struct words *told, 
     return read_limit(name, value, told);
 }
 
+/* What the namespace is named by; whether it could be read. */
+static int read_space(const char *word, struct words *told)
+{
+    uint64_t pid;
+    if (told->is_path)
+        return snprintf(told->space, sizeof told->space, "%s", word) < (int)sizeof told->space;
+    if (!read_number(word, 1, INT32_MAX, &pid))
+        return 0;
+    told->device.pid = (pid_t)pid;
+    return snprintf(told->space, sizeof told->space, "/proc/%d/ns/net", (int)pid) > 0;
+}
+
 /* The words that aren't options: the namespace, and the device's name. */
 static int read_rest(char **words, struct words *told)
 {
-    uint64_t pid;
-    if (*words && !*told->space) {
-        if (told->is_path)
-            snprintf(told->space, sizeof told->space, "%s", *words);
-        else if (read_number(*words, 1, INT32_MAX, &pid))
-            told->device.pid = (pid_t)pid, snprintf(told->space, sizeof told->space, "/proc/%d/ns/net", (int)pid);
-        else
-            return 0;
-        words++;
-    }
+    if (*words && !*told->space && !read_space(*words++, told))
+        return 0;
     if (*words)
         told->device.name = *words++;
     return !*words && strlen(told->device.name) < 16;
@@ -163,7 +176,7 @@ static const char *name_of(int letter, int place)
 
 static int fault(const char *before, const char *word, const char *value)
 {
-    return fprintf(stderr, "usernet: no such word, or no such value behind it: '%s%s%s' (see usernet --help)\n", before, word, value), 1;
+    return fprintf(stderr, "usernet: no such word, or no such value behind it: '%s%s%s%s' (see usernet --help)\n", before, word, *value ? "=" : "", value), 1;
 }
 
 /* Reads all options; answers below 0 where it goes on. */

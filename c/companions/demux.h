@@ -48,7 +48,8 @@ struct demux_config {
     uint32_t strays;           /* the most resets for no end in a second */
     uint8_t secret[16];        /* random: of the initial sequence numbers and of the table (RFC 9293, 3.4.1) */
     /* The user of an end, called once its handshake is done and then whenever something may have changed. It reads and
-       sends by flow_receive and flow_send. */
+       sends by flow_receive and flow_send. What it keeps by the slot's `user` it lets go where the end is CLOSED, or in TIME-WAIT with
+       all read: an end that makes way there (`shortened`) goes without another call. */
     void (*use)(struct table_slot *slot, void *context);
     /* Takes a segment for `to`, to be put behind an IPv4 header. */
     void (*send)(const void *segment, size_t length, tcpcore_addr to, void *context);

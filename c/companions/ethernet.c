@@ -15,6 +15,13 @@ void ethernet_write(uint8_t *out, struct ethernet_addr dst, struct ethernet_addr
     write16(out + 12, type);
 }
 
+struct ethernet_addr ethernet_src(const uint8_t *frame)
+{
+    struct ethernet_addr src;
+    memcpy(&src, frame + 6, sizeof src);
+    return src;
+}
+
 uint16_t ethernet_type(const uint8_t *frame) { return read16(frame + 12); }
 
 size_t ethernet_answer(uint8_t *out, const uint8_t *frame, size_t length, struct ethernet_addr own, tcpcore_addr ip)

@@ -21,6 +21,9 @@ struct ethernet_addr {
 /* Writes a header to the 14 bytes at `out`. */
 void ethernet_write(uint8_t *out, struct ethernet_addr dst, struct ethernet_addr src, uint16_t type);
 
+/* From where a frame of at least 14 bytes comes. */
+struct ethernet_addr ethernet_src(const uint8_t *frame);
+
 /* What a frame of at least 14 bytes carries. */
 uint16_t ethernet_type(const uint8_t *frame);
 
