@@ -345,7 +345,8 @@ static void packets(void)
 /* Where a datagram or an echo goes: to who answers, to nobody, to who is silent, to the name server, or anywhere. */
 static tcpcore_addr somewhere(void)
 {
-    static const tcpcore_addr SOME_ADDRS[] = {{{10, 0, 2, 2}}, {{10, 0, 2, 3}}, {{198, 51, 100, 1}}, {{127, 0, 0, 1}}, {{224, 0, 0, 1}}, {{255, 255, 255, 255}}};
+    static const tcpcore_addr SOME_ADDRS[] = {{{10, 0, 2, 2}}, {{10, 0, 2, 3}}, {{198, 51, 100, 1}}, {{127, 0, 0, 1}}, {{224, 0, 0, 1}},
+                                              {{255, 255, 255, 255}}};
     uint32_t drawn = draw(7);
     return drawn < 6 ? SOME_ADDRS[drawn] : (tcpcore_addr){{(uint8_t)draw(256), (uint8_t)draw(256), (uint8_t)draw(256), (uint8_t)draw(256)}};
 }

@@ -117,7 +117,8 @@ static int read_option(const char *name, const char *value, struct words *told, 
 {
     const struct { const char *name; int *flag, value; } FLAGS[] = {
         {"stats", &told->shows, 1}, {"no-offloads", &told->device.offloads, 0}, {"configure", &told->device.configures, 1},
-        {"enable-sandbox", &told->is_boxed, 1}, {"enable-seccomp", &told->is_filtered, 1}, {"disable-host-loopback", &shared->has_loopback, 0}, {"disable-dns", &shared->has_dns, 0}};
+        {"enable-sandbox", &told->is_boxed, 1}, {"enable-seccomp", &told->is_filtered, 1}, {"disable-host-loopback", &shared->has_loopback, 0},
+        {"disable-dns", &shared->has_dns, 0}};
     for (size_t at = 0; at < sizeof FLAGS / sizeof FLAGS[0]; at++)
         if (strcmp(name, FLAGS[at].name) == 0)
             return *FLAGS[at].flag = FLAGS[at].value, 1;
@@ -160,7 +161,8 @@ static int read_rest(char **words, struct words *told)
 
 static const struct option OPTIONS[] = {
     {"configure", 0, 0, 'c'}, {"mtu", 1, 0, 'm'}, {"ready-fd", 1, 0, 'r'}, {"exit-fd", 1, 0, 'e'}, {"help", 0, 0, 'h'}, {"version", 0, 0, 'v'},
-    {"publish", 1, 0, 0}, {"disable-host-loopback", 0, 0, 0}, {"disable-dns", 0, 0, 0}, {"enable-sandbox", 0, 0, 0}, {"enable-seccomp", 0, 0, 0}, {"outbound-addr", 1, 0, 0}, {"cidr", 1, 0, 0},
+    {"publish", 1, 0, 0}, {"disable-host-loopback", 0, 0, 0}, {"disable-dns", 0, 0, 0}, {"enable-sandbox", 0, 0, 0}, {"enable-seccomp", 0, 0, 0},
+    {"outbound-addr", 1, 0, 0}, {"cidr", 1, 0, 0},
     {"netns-type", 1, 0, 0}, {"userns-path", 1, 0, 0}, {"netns", 1, 0, 0}, {"threads", 1, 0, 0}, {"no-offloads", 0, 0, 0}, {"stats", 0, 0, 0},
     {"fault", 1, 0, 0}, {"connections", 1, 0, 0}, {"half-open", 1, 0, 0}, {"half-open-each", 1, 0, 0}, {"memory", 1, 0, 0}, {"flows", 1, 0, 0},
     {"ports", 1, 0, 0}, {"strays", 1, 0, 0}, {"quiet", 1, 0, 0}, {0}};

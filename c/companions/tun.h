@@ -28,9 +28,9 @@ struct tun_config {
 int tun_is_tap(int queue, uint8_t addr[6]);
 
 /*
- * Makes the device with `count` queues, 1 to 256, and brings it up; or attaches to a TAP device of this name. The descriptors of the queues don't block. A packet of the
- * namespace comes out of the queue that its connection's last packet went into, or else of one by a hash. Whether it could; where
- * not, there is a line on stderr.
+ * Makes the device with `count` queues, 1 to 256, and brings it up; or attaches to a TAP device of this name. The
+ * descriptors of the queues don't block. A packet of the namespace comes out of the queue that its connection's last packet went
+ * into, or else of one by a hash. Whether it could; where not, there is a line on stderr.
  */
 int tun_open(const struct tun_config *config, int *queues, uint32_t count);
 
