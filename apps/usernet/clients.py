@@ -134,15 +134,14 @@ def datagrams(place):
 LENGTHS = [0, 1, 2, 3, 500, 1471, 1472]
 
 
-def asked(end, text):
-    """The answer to a datagram, which is sent again where it or its answer is lost; what was doubled is passed over."""
+def asked(end, text, earlier=()):
+    """The answer to a datagram, which is sent again where it or its answer is lost. What was doubled is passed over, and what was late:
+    answers to earlier ones."""
     for _ in range(50):
         end.send(text)
-        if select.select([end], [], [], 0.5)[0]:
-            found = end.recv(65536)
-            while select.select([end], [], [], 0)[0]:
-                end.recv(65536)
-            return found
+        while select.select([end], [], [], 0.5)[0]:
+            if (found := end.recv(65536)) not in earlier:
+                return found
     raise AssertionError("no answer")
 
 
@@ -151,9 +150,9 @@ def send_datagrams(host):
     ends = [socket.socket(socket.AF_INET, socket.SOCK_DGRAM) for _ in range(20)]
     for number, end in enumerate(ends):
         end.connect((host, 8090))
-        for length in LENGTHS:
-            text = bytes((number + at) % 251 for at in range(length))
-            need(f"a datagram of {length}", asked(end, text), text)
+        texts = [bytes((number + at) % 251 for at in range(length)) for length in LENGTHS]
+        for at, text in enumerate(texts):
+            need(f"a datagram of {len(text)}", asked(end, text, texts[:at]), text)
     nobody = socket.socket(socket.AF_INET, socket.SOCK_DGRAM)
     nobody.connect((host, 9))
     with contextlib.suppress(ConnectionRefusedError):
