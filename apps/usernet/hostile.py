@@ -140,7 +140,7 @@ def one_place(place):
     need("few were connected", found["opened"] <= EACH * (seconds + 2), True)
     need("the others were dropped", found["full"] > 10000, True)
     time.sleep(1)
-    place.client(sys.executable, HERE / "test.py", "--half-close", GATEWAY)
+    place.client(sys.executable, HERE / "clients.py", "--half-close", GATEWAY)
     need("some made way", place.counters()["recycled"] > found["recycled"], True)
     place.ends()
 
