@@ -29,6 +29,8 @@ HEAD = """\
 
 #define PROGRAM "NAME"
 #define TCPCORE_STOP() abort()
+/* What memory.c has compiled into its callers. */
+#define STEP static inline
 
 /* The module's constants are in its memory, as program.c puts them there. */
 enum { TABLE_AT = 0 };
