@@ -14,7 +14,7 @@ built() {
     shift
     echo "release: $* ..."
     "$@" 2>&1 | tee "$log/$name"
-    grep -E '^(axioms|logic=proved) ' "$log/$name" | sed "s/^/$name: /" >>"$log/proofs"
+    grep -E '^(axioms |logic=proved .*target=)' "$log/$name" | sed "s/^/$name: /" >>"$log/proofs"
 }
 
 made() {

@@ -8,6 +8,7 @@ stack passes, the other way round, a stack is mended, and must pass. A row for w
 import argparse
 import sys
 
+import building
 import telling
 from tcptest import chosen, run_row, stack_of
 
@@ -34,6 +35,9 @@ def main():
     words = parser.parse_args()
     rows, failed = chosen(words.only), 0
     left = {row.name: row for row in rows}
+    for name in words.stacks.split(","):
+        # Before Linux has this process enter a namespace without a network: a source may have to be fetched.
+        getattr(building, name, lambda: None)()
     for name in words.stacks.split(","):
         stack = stack_of(name)
         for row in list(left.values()):
