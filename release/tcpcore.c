@@ -155,6 +155,16 @@ HOLDS(sizeof(struct parts) == 40);
 #undef FIELD
 
 
+/*
+ * A step that calls begin or end with. It is compiled into each of them, because as functions such steps take as long as some of the
+ * library's own calls; but not where the compiler is told to make code small, or to make nothing quick.
+ */
+#if defined(__GNUC__) && defined(__OPTIMIZE__) && !defined(__OPTIMIZE_SIZE__)
+#define STEP static inline __attribute__((always_inline))
+#else
+#define STEP static inline
+#endif
+
 /* The struct's first two words are the library's handle; the third is the struct's own address while it holds an end. */
 struct handle {
     uint64_t mark;
@@ -216,10 +226,10 @@ static uint32_t tcp_c_rest_pending(const struct tcpcore_rest *, uint32_t *);
 static uint32_t tcp_c_rest_abort(struct tcpcore_rest *);
 static uint32_t tcp_c_rest_status(const struct tcpcore_rest *, uint32_t *, uint32_t *);
 
-static struct handle *handle(tcpcore_end *end) { return (struct handle *)end->opaque; }
+STEP struct handle *handle(tcpcore_end *end) { return (struct handle *)end->opaque; }
 
 /* For a call that changes no end: the library takes the end out of its handle and puts it back, where it was. */
-static struct handle copy_of(const tcpcore_end *end)
+STEP struct handle copy_of(const tcpcore_end *end)
 {
     struct handle copy;
     memcpy(&copy, end->opaque, sizeof copy);
@@ -227,16 +237,17 @@ static struct handle copy_of(const tcpcore_end *end)
 }
 
 /* Whether the struct may be used where it lies: all zero, or with its own address. The library tests the mark. */
-static uint32_t refusal(const tcpcore_end *end)
+STEP uint32_t refusal(const tcpcore_end *end)
 {
     if (!end)
         return TCPCORE_NULL;
-    int empty = !(end->opaque[0] | end->opaque[1] | end->opaque[OWNER]);
-    return empty || end->opaque[OWNER] == (uintptr_t)end ? TCPCORE_DONE : TCPCORE_COPIED;
+    if (end->opaque[OWNER] == (uintptr_t)end)
+        return TCPCORE_DONE;
+    return (end->opaque[0] | end->opaque[1] | end->opaque[OWNER]) == 0 ? TCPCORE_DONE : TCPCORE_COPIED;
 }
 
 /* Whether two stretches of memory have a byte in common. */
-static int overlap(const void *one, size_t size, const void *other, size_t length)
+STEP int overlap(const void *one, size_t size, const void *other, size_t length)
 {
     uintptr_t first = (uintptr_t)one, second = (uintptr_t)other;
     return first < second ? second - first < size && length > 0 : first - second < length && size > 0;
@@ -254,18 +265,18 @@ struct object {
     size_t size;
 };
 
-static struct object end_at(const tcpcore_end *end) { return (struct object){end, sizeof *end}; }
+STEP struct object end_at(const tcpcore_end *end) { return (struct object){end, sizeof *end}; }
 
-static struct object rest_at(const struct tcpcore_rest *rest) { return (struct object){rest, sizeof *rest}; }
+STEP struct object rest_at(const struct tcpcore_rest *rest) { return (struct object){rest, sizeof *rest}; }
 
 /* Whether it may be written there: not over the struct, and not over the buffer of the same call. */
-static int is_apart(struct place place, struct object object, const void *bytes, size_t length)
+STEP int is_apart(struct place place, struct object object, const void *bytes, size_t length)
 {
     return !overlap(place.at, place.size, object.at, object.size) && !overlap(place.at, place.size, bytes, length);
 }
 
 /* Why a call isn't made, with a struct, a buffer beside it, and a place for what the call finds. */
-static uint32_t refusal_beside(struct object object, const void *bytes, size_t length, struct place place)
+STEP uint32_t refusal_beside(struct object object, const void *bytes, size_t length, struct place place)
 {
     if (!object.at || !place.at || (!bytes && length > 0))
         return TCPCORE_NULL;
@@ -276,7 +287,7 @@ static uint32_t refusal_beside(struct object object, const void *bytes, size_t l
 }
 
 /* The same with two places. */
-static uint32_t refusal_beside_two(struct object object, const void *bytes, size_t length, struct place one, struct place other)
+STEP uint32_t refusal_beside_two(struct object object, const void *bytes, size_t length, struct place one, struct place other)
 {
     uint32_t answer = one.at ? refusal_beside(object, bytes, length, other) : TCPCORE_NULL;
     int apart = is_apart(one, object, bytes, length) && !overlap(one.at, one.size, other.at, other.size);
@@ -284,34 +295,43 @@ static uint32_t refusal_beside_two(struct object object, const void *bytes, size
 }
 
 /* The same with an end, which has to lie where it was made. */
-static uint32_t refusal_with(const tcpcore_end *end, const void *bytes, size_t length, struct place place)
+STEP uint32_t refusal_with(const tcpcore_end *end, const void *bytes, size_t length, struct place place)
 {
     uint32_t answer = refusal_beside(end_at(end), bytes, length, place);
     return answer != TCPCORE_DONE ? answer : refusal(end);
 }
 
-static uint32_t refusal_with_two(const tcpcore_end *end, const void *bytes, size_t length, struct place one, struct place other)
+STEP uint32_t refusal_with_two(const tcpcore_end *end, const void *bytes, size_t length, struct place one, struct place other)
 {
     uint32_t answer = refusal_beside_two(end_at(end), bytes, length, one, other);
     return answer != TCPCORE_DONE ? answer : refusal(end);
 }
 
-/* Writes what a call has found, but over the struct or the buffer. */
-static void put(struct place place, struct object object, const void *bytes, size_t length, const void *found)
+/* Writes what a call would have found that was refused, but over the struct or the buffer. */
+static void put_if_apart(struct place place, struct object object, const void *bytes, size_t length, const void *found)
 {
     if (place.at && is_apart(place, object, bytes, length > PTRDIFF_MAX ? 0 : length))
         memcpy(place.at, found, place.size);
 }
 
+/* Writes what a call has found. One that wasn't refused has a place that is apart. */
+STEP void put(uint32_t refused, struct place place, struct object object, const void *bytes, size_t length, const void *found)
+{
+    if (refused == TCPCORE_DONE)
+        memcpy(place.at, found, place.size);
+    else
+        put_if_apart(place, object, bytes, length, found);
+}
+
 /* Where an empty slice, block or place lies: it is never at NULL. No byte is read or written there. */
 #define NOWHERE ((void *)(uintptr_t)UNIT)
 
-static uint8_t *start(void *bytes) { return bytes ? bytes : NOWHERE; }
+STEP uint8_t *start(void *bytes) { return bytes ? bytes : NOWHERE; }
 
-static const uint8_t *front(const void *bytes) { return bytes ? bytes : NOWHERE; }
+STEP const uint8_t *front(const void *bytes) { return bytes ? bytes : NOWHERE; }
 
 /* The whole units of the caller's block. */
-static struct block units_of(void *bytes, size_t length)
+STEP struct block units_of(void *bytes, size_t length)
 {
     size_t before = -(uintptr_t)bytes % UNIT;
     if (length < before + UNIT)
@@ -341,8 +361,8 @@ uint32_t tcpcore_new_at(tcpcore_end **end, const tcpcore_config *config, void *b
     struct object from = {config, 0};
     tcpcore_end *made = NULL;
     struct place place = {end, sizeof(void *)};
-    uint32_t answer = refusal_beside(from, block, length, place);
-    if (answer == TCPCORE_DONE) {
+    uint32_t refused = refusal_beside(from, block, length, place), answer = refused;
+    if (refused == TCPCORE_DONE) {
         struct block units = units_of(block, length);
         tcpcore_end empty = TCPCORE_END_INIT, *at = units.size < TCPCORE_STRUCT_ROOM ? &empty : units.at;
         size_t room = at == &empty ? units.size : TCPCORE_STRUCT_ROOM;
@@ -351,7 +371,7 @@ uint32_t tcpcore_new_at(tcpcore_end **end, const tcpcore_config *config, void *b
         answer = tcpcore_new(at, &copy, (uint8_t *)units.at + room, units.size - room);
         made = answer == TCPCORE_DONE ? at : NULL;
     }
-    put(place, from, block, length, &made);
+    put(refused, place, from, block, length, &made);
     return answer;
 }
 
@@ -388,10 +408,10 @@ uint32_t tcpcore_send(tcpcore_end *end, const void *text, size_t length, size_t 
 {
     size_t found = 0;
     struct place place = {taken, sizeof *taken};
-    uint32_t answer = refusal_with(end, text, length, place);
-    if (answer == TCPCORE_DONE)
+    uint32_t refused = refusal_with(end, text, length, place), answer = refused;
+    if (refused == TCPCORE_DONE)
         answer = tcp_c_send(handle(end), front(text), length, &found);
-    put(place, end_at(end), text, length, &found);
+    put(refused, place, end_at(end), text, length, &found);
     return answer;
 }
 
@@ -399,15 +419,15 @@ uint32_t tcpcore_receive(tcpcore_end *end, void *out, size_t room, size_t *count
 {
     size_t found = 0;
     struct place place = {count, sizeof *count};
-    uint32_t answer = refusal_with(end, out, room, place);
-    if (answer == TCPCORE_DONE)
+    uint32_t refused = refusal_with(end, out, room, place), answer = refused;
+    if (refused == TCPCORE_DONE)
         answer = tcp_c_receive(handle(end), start(out), room, &found);
-    put(place, end_at(end), out, room, &found);
+    put(refused, place, end_at(end), out, room, &found);
     return answer;
 }
 
 /* A piece where the library has lent it; no bytes lie nowhere. */
-static tcpcore_piece piece_of(uint64_t at, uint64_t length)
+STEP tcpcore_piece piece_of(uint64_t at, uint64_t length)
 {
     return (tcpcore_piece){length > 0 ? (const void *)(uintptr_t)at : NULL, (size_t)length};
 }
@@ -416,8 +436,8 @@ uint32_t tcpcore_peek(const tcpcore_end *end, struct tcpcore_lent *lent)
 {
     struct tcpcore_lent found = {.ends = 0};
     struct place place = {lent, sizeof *lent};
-    uint32_t answer = refusal_with(end, NULL, 0, place);
-    if (answer == TCPCORE_DONE) {
+    uint32_t refused = refusal_with(end, NULL, 0, place), answer = refused;
+    if (refused == TCPCORE_DONE) {
         struct handle copy = copy_of(end);
         struct lent told = {.ends = 0};
         answer = tcp_c_peek(&copy, &told);
@@ -425,7 +445,7 @@ uint32_t tcpcore_peek(const tcpcore_end *end, struct tcpcore_lent *lent)
         found.second = piece_of(told.second, told.second_length);
         found.ends = told.ends;
     }
-    put(place, end_at(end), NULL, 0, &found);
+    put(refused, place, end_at(end), NULL, 0, &found);
     return answer;
 }
 
@@ -433,10 +453,10 @@ uint32_t tcpcore_consume(tcpcore_end *end, size_t count, size_t *taken)
 {
     size_t found = 0;
     struct place place = {taken, sizeof *taken};
-    uint32_t answer = refusal_with(end, NULL, 0, place);
-    if (answer == TCPCORE_DONE)
+    uint32_t refused = refusal_with(end, NULL, 0, place), answer = refused;
+    if (refused == TCPCORE_DONE)
         answer = tcp_c_consume(handle(end), count, &found);
-    put(place, end_at(end), NULL, 0, &found);
+    put(refused, place, end_at(end), NULL, 0, &found);
     return answer;
 }
 
@@ -480,10 +500,10 @@ uint32_t tcpcore_take(tcpcore_end *end, tcpcore_addr src, tcpcore_addr dst, cons
 {
     uint32_t found = 0;
     struct place place = {at_once, sizeof *at_once};
-    uint32_t answer = refusal_with(end, bytes, length, place);
-    if (answer == TCPCORE_DONE)
+    uint32_t refused = refusal_with(end, bytes, length, place), answer = refused;
+    if (refused == TCPCORE_DONE)
         answer = tcp_c_take(handle(end), &src, &dst, front(bytes), length, &found);
-    put(place, end_at(end), bytes, length, &found);
+    put(refused, place, end_at(end), bytes, length, &found);
     return answer;
 }
 
@@ -492,10 +512,10 @@ uint32_t tcpcore_taken(tcpcore_end *end, tcpcore_addr src, tcpcore_addr dst, con
 {
     struct tcpcore_taken found = {0};
     struct place place = {taken, sizeof *taken};
-    uint32_t answer = refusal_with(end, bytes, length, place);
-    if (answer == TCPCORE_DONE)
+    uint32_t refused = refusal_with(end, bytes, length, place), answer = refused;
+    if (refused == TCPCORE_DONE)
         answer = tcp_c_taken(handle(end), &src, &dst, front(bytes), length, &found);
-    put(place, end_at(end), bytes, length, &found);
+    put(refused, place, end_at(end), bytes, length, &found);
     return answer;
 }
 
@@ -510,17 +530,17 @@ uint32_t tcpcore_taken_vouched(tcpcore_end *end, tcpcore_addr src, tcpcore_addr 
 {
     struct tcpcore_taken found = {0};
     struct place place = {taken, sizeof *taken};
-    uint32_t answer = refusal_with(end, bytes, length, place);
-    if (answer == TCPCORE_DONE)
+    uint32_t refused = refusal_with(end, bytes, length, place), answer = refused;
+    if (refused == TCPCORE_DONE)
         answer = tcp_c_taken_vouched(handle(end), &src, &dst, front(bytes), length, &found);
-    put(place, end_at(end), bytes, length, &found);
+    put(refused, place, end_at(end), bytes, length, &found);
     return answer;
 }
 
 /* Which of the library's calls writes a segment and its length: none is called through a pointer (tests/depth.py). */
 enum writer { EMIT, EMIT_PARTIAL, EMIT_ACKNOWLEDGEMENT };
 
-static uint32_t written_by(enum writer writer, struct handle *end, uint8_t *out, size_t room, tcpcore_addr *to, size_t *length)
+STEP uint32_t written_by(enum writer writer, struct handle *end, uint8_t *out, size_t room, tcpcore_addr *to, size_t *length)
 {
     if (writer == EMIT_PARTIAL)
         return tcp_c_emit_partial(end, out, room, to, length);
@@ -529,16 +549,16 @@ static uint32_t written_by(enum writer writer, struct handle *end, uint8_t *out,
     return tcp_c_emit(end, out, room, to, length);
 }
 
-static uint32_t write_by(enum writer writer, tcpcore_end *end, void *out, size_t room, tcpcore_addr *to, size_t *length)
+STEP uint32_t write_by(enum writer writer, tcpcore_end *end, void *out, size_t room, tcpcore_addr *to, size_t *length)
 {
     tcpcore_addr address = {{0, 0, 0, 0}};
     size_t found = 0;
     struct place where = {to, sizeof *to}, place = {length, sizeof *length};
-    uint32_t answer = refusal_with_two(end, out, room, where, place);
-    if (answer == TCPCORE_DONE)
+    uint32_t refused = refusal_with_two(end, out, room, where, place), answer = refused;
+    if (refused == TCPCORE_DONE)
         answer = written_by(writer, handle(end), start(out), room, &address, &found);
-    put(where, end_at(end), out, room, &address);
-    put(place, end_at(end), out, room, &found);
+    put(refused, where, end_at(end), out, room, &address);
+    put(refused, place, end_at(end), out, room, &found);
     return answer;
 }
 
@@ -561,8 +581,8 @@ uint32_t tcpcore_emit_train(tcpcore_end *end, void *out, size_t room, size_t mos
 {
     struct tcpcore_train found = {.segments = 0};
     struct place place = {train, sizeof *train};
-    uint32_t answer = refusal_with(end, out, room, place);
-    if (answer == TCPCORE_DONE) {
+    uint32_t refused = refusal_with(end, out, room, place), answer = refused;
+    if (refused == TCPCORE_DONE) {
         struct train told = {.segments = 0};
         answer = tcp_c_emit_train(handle(end), start(out), room, most, &told);
         found.whole.to = told.to;
@@ -574,7 +594,7 @@ uint32_t tcpcore_emit_train(tcpcore_end *end, void *out, size_t room, size_t mos
         found.each = told.each;
         found.segments = told.segments;
     }
-    put(place, end_at(end), out, room, &found);
+    put(refused, place, end_at(end), out, room, &found);
     return answer;
 }
 
@@ -582,8 +602,8 @@ uint32_t tcpcore_parts(const tcpcore_end *end, void *header, size_t room, struct
 {
     struct tcpcore_parts found = {.header = 0};
     struct place place = {parts, sizeof *parts};
-    uint32_t answer = refusal_with(end, header, room, place);
-    if (answer == TCPCORE_DONE) {
+    uint32_t refused = refusal_with(end, header, room, place), answer = refused;
+    if (refused == TCPCORE_DONE) {
         struct handle copy = copy_of(end);
         struct parts told = {.header = 0};
         answer = tcp_c_parts(&copy, start(header), room, &told);
@@ -592,7 +612,7 @@ uint32_t tcpcore_parts(const tcpcore_end *end, void *header, size_t room, struct
         found.first = piece_of(told.first, told.first_length);
         found.second = piece_of(told.second, told.second_length);
     }
-    put(place, end_at(end), header, room, &found);
+    put(refused, place, end_at(end), header, room, &found);
     return answer;
 }
 
@@ -606,10 +626,10 @@ uint32_t tcpcore_transmit(tcpcore_end *end, void *out, size_t room, struct tcpco
 {
     struct tcpcore_transmit found = {0};
     struct place place = {transmit, sizeof *transmit};
-    uint32_t answer = refusal_with(end, out, room, place);
-    if (answer == TCPCORE_DONE)
+    uint32_t refused = refusal_with(end, out, room, place), answer = refused;
+    if (refused == TCPCORE_DONE)
         answer = tcp_c_transmit(handle(end), start(out), room, &found);
-    put(place, end_at(end), out, room, &found);
+    put(refused, place, end_at(end), out, room, &found);
     return answer;
 }
 
@@ -617,12 +637,12 @@ uint32_t tcpcore_next(const tcpcore_end *end, struct tcpcore_transmit *next)
 {
     struct tcpcore_transmit found = {0};
     struct place place = {next, sizeof *next};
-    uint32_t answer = refusal_with(end, NULL, 0, place);
-    if (answer == TCPCORE_DONE) {
+    uint32_t refused = refusal_with(end, NULL, 0, place), answer = refused;
+    if (refused == TCPCORE_DONE) {
         struct handle copy = copy_of(end);
         answer = tcp_c_next(&copy, &found);
     }
-    put(place, end_at(end), NULL, 0, &found);
+    put(refused, place, end_at(end), NULL, 0, &found);
     return answer;
 }
 
@@ -630,24 +650,24 @@ uint32_t tcpcore_pending(const tcpcore_end *end, uint32_t *due)
 {
     uint32_t found = 0;
     struct place place = {due, sizeof *due};
-    uint32_t answer = refusal_with(end, NULL, 0, place);
-    if (answer == TCPCORE_DONE) {
+    uint32_t refused = refusal_with(end, NULL, 0, place), answer = refused;
+    if (refused == TCPCORE_DONE) {
         struct handle copy = copy_of(end);
         answer = tcp_c_pending(&copy, &found);
     }
-    put(place, end_at(end), NULL, 0, &found);
+    put(refused, place, end_at(end), NULL, 0, &found);
     return answer;
 }
 
 /* Whether a place is over neither of two buffers. */
-static int is_beside(struct place place, const void *bytes, size_t length, const void *out, size_t room)
+STEP int is_beside(struct place place, const void *bytes, size_t length, const void *out, size_t room)
 {
     return !overlap(place.at, place.size, bytes, length > PTRDIFF_MAX ? 0 : length)
            && !overlap(place.at, place.size, out, room > PTRDIFF_MAX ? 0 : room);
 }
 
 /* Why no reset is looked for: a pointer, a length, or two of the three lie over each other. */
-static uint32_t refusal_of_stray(const void *bytes, size_t length, const void *out, size_t room, struct place place)
+STEP uint32_t refusal_of_stray(const void *bytes, size_t length, const void *out, size_t room, struct place place)
 {
     if (!place.at || (!bytes && length > 0) || (!out && room > 0))
         return TCPCORE_NULL;
@@ -673,12 +693,12 @@ uint32_t tcpcore_timers(const tcpcore_end *end, uint32_t *due)
 {
     uint32_t found = 0;
     struct place place = {due, sizeof *due};
-    uint32_t answer = refusal_with(end, NULL, 0, place);
-    if (answer == TCPCORE_DONE) {
+    uint32_t refused = refusal_with(end, NULL, 0, place), answer = refused;
+    if (refused == TCPCORE_DONE) {
         struct handle copy = copy_of(end);
         answer = tcp_c_timers(&copy, &found);
     }
-    put(place, end_at(end), NULL, 0, &found);
+    put(refused, place, end_at(end), NULL, 0, &found);
     return answer;
 }
 
@@ -687,13 +707,13 @@ uint32_t tcpcore_peer(const tcpcore_end *end, tcpcore_addr *addr, uint16_t *port
     tcpcore_addr address = {{0, 0, 0, 0}};
     uint16_t found = 0;
     struct place where = {addr, sizeof *addr}, place = {port, sizeof *port};
-    uint32_t answer = refusal_with_two(end, NULL, 0, where, place);
-    if (answer == TCPCORE_DONE) {
+    uint32_t refused = refusal_with_two(end, NULL, 0, where, place), answer = refused;
+    if (refused == TCPCORE_DONE) {
         struct handle copy = copy_of(end);
         answer = tcp_c_peer(&copy, &address, &found);
     }
-    put(where, end_at(end), NULL, 0, &address);
-    put(place, end_at(end), NULL, 0, &found);
+    put(refused, where, end_at(end), NULL, 0, &address);
+    put(refused, place, end_at(end), NULL, 0, &found);
     return answer;
 }
 
@@ -701,12 +721,12 @@ uint32_t tcpcore_status(const tcpcore_end *end, struct tcpcore_status *status)
 {
     struct tcpcore_status found = {0};
     struct place place = {status, sizeof *status};
-    uint32_t answer = refusal_with(end, NULL, 0, place);
-    if (answer == TCPCORE_DONE) {
+    uint32_t refused = refusal_with(end, NULL, 0, place), answer = refused;
+    if (refused == TCPCORE_DONE) {
         struct handle copy = copy_of(end);
         answer = tcp_c_status(&copy, &found);
     }
-    put(place, end_at(end), NULL, 0, &found);
+    put(refused, place, end_at(end), NULL, 0, &found);
     return answer;
 }
 
@@ -714,12 +734,12 @@ uint32_t tcpcore_rest(const tcpcore_end *end, struct tcpcore_rest *rest)
 {
     struct tcpcore_rest found = {0};
     struct place place = {rest, sizeof *rest};
-    uint32_t answer = refusal_with(end, NULL, 0, place);
-    if (answer == TCPCORE_DONE) {
+    uint32_t refused = refusal_with(end, NULL, 0, place), answer = refused;
+    if (refused == TCPCORE_DONE) {
         struct handle copy = copy_of(end);
         answer = tcp_c_rest(&copy, &found);
     }
-    put(place, end_at(end), NULL, 0, &found);
+    put(refused, place, end_at(end), NULL, 0, &found);
     return answer;
 }
 
@@ -739,11 +759,11 @@ uint32_t tcpcore_rest_emit(struct tcpcore_rest *rest, void *out, size_t room, tc
     tcpcore_addr address = {{0, 0, 0, 0}};
     size_t found = 0;
     struct place where = {to, sizeof *to}, place = {length, sizeof *length};
-    uint32_t answer = refusal_beside_two(rest_at(rest), out, room, where, place);
-    if (answer == TCPCORE_DONE)
+    uint32_t refused = refusal_beside_two(rest_at(rest), out, room, where, place), answer = refused;
+    if (refused == TCPCORE_DONE)
         answer = tcp_c_rest_emit(rest, start(out), room, &address, &found);
-    put(where, rest_at(rest), out, room, &address);
-    put(place, rest_at(rest), out, room, &found);
+    put(refused, where, rest_at(rest), out, room, &address);
+    put(refused, place, rest_at(rest), out, room, &found);
     return answer;
 }
 
@@ -751,10 +771,10 @@ uint32_t tcpcore_rest_pending(const struct tcpcore_rest *rest, uint32_t *due)
 {
     uint32_t found = 0;
     struct place place = {due, sizeof *due};
-    uint32_t answer = refusal_beside(rest_at(rest), NULL, 0, place);
-    if (answer == TCPCORE_DONE)
+    uint32_t refused = refusal_beside(rest_at(rest), NULL, 0, place), answer = refused;
+    if (refused == TCPCORE_DONE)
         answer = tcp_c_rest_pending(rest, &found);
-    put(place, rest_at(rest), NULL, 0, &found);
+    put(refused, place, rest_at(rest), NULL, 0, &found);
     return answer;
 }
 
@@ -764,11 +784,11 @@ uint32_t tcpcore_rest_status(const struct tcpcore_rest *rest, uint32_t *phase, u
 {
     uint32_t found[2] = {0, 0};
     struct place one = {phase, sizeof *phase}, other = {ending, sizeof *ending};
-    uint32_t answer = refusal_beside_two(rest_at(rest), NULL, 0, one, other);
-    if (answer == TCPCORE_DONE)
+    uint32_t refused = refusal_beside_two(rest_at(rest), NULL, 0, one, other), answer = refused;
+    if (refused == TCPCORE_DONE)
         answer = tcp_c_rest_status(rest, &found[0], &found[1]);
-    put(one, rest_at(rest), NULL, 0, &found[0]);
-    put(other, rest_at(rest), NULL, 0, &found[1]);
+    put(refused, one, rest_at(rest), NULL, 0, &found[0]);
+    put(refused, other, rest_at(rest), NULL, 0, &found[1]);
     return answer;
 }
 
@@ -872,7 +892,7 @@ static void stop(void)
 }
 
 /* Where `size` bytes at an address lie that are written: at most PLACE of them. */
-static inline u8 *place(const Memory *memory, u32 address, u32 size)
+STEP u8 *place(const Memory *memory, u32 address, u32 size)
 {
     const struct window *window = memory->written + (address >> 30);
     u32 at = address & PLACE;
@@ -901,7 +921,7 @@ static inline const u8 *constant(u32 address, u32 size)
 #endif
 
 /* The same of bytes that are read. */
-static inline const u8 *read_place(const Memory *memory, u32 address, u32 size)
+STEP const u8 *read_place(const Memory *memory, u32 address, u32 size)
 {
     const struct window *window = memory->read + (address >> 30);
     u32 at = address & PLACE;
@@ -945,12 +965,12 @@ static inline void put32(u8 *to, u32 value) { PUT(u32); }
 static inline void put64(u8 *to, u64 value) { PUT(u64); }
 
 #define LOAD(name, R, bits) \
-    static inline R name(const Memory *memory, u64 address) \
+    STEP R name(const Memory *memory, u64 address) \
     { \
         return get##bits(read_place(memory, (u32)address, bits / 8)); \
     }
 #define STORE(name, V, bits) \
-    static inline void name(const Memory *memory, u64 address, V value) \
+    STEP void name(const Memory *memory, u64 address, V value) \
     { \
         put##bits(place(memory, (u32)address, bits / 8), (u##bits)value); \
     }
@@ -1005,6 +1025,57 @@ static inline u64 copied_ahead(const Memory *memory, u64 destination, u64 source
         return 0;
     memmove(there->data + to, here->data + from, count);
     return count;
+}
+
+/*
+ * What turns of a loop add that sums words of 16 bits: LANES words a turn, side by side, each to a sum of its own, and each one's high
+ * byte to another. There are so few turns that no sum of bytes is longer than 16 bits, so that four of them lie in a word of 64.
+ */
+enum { LANES = 16, TURN = 2 * LANES, MOST_TURNS = 256 };
+#define HIGHS UINT64_C(0x00ff00ff00ff00ff)
+
+struct sums {
+    u64 length, lows[LANES / 4], highs[LANES / 4];
+};
+
+/* A function that isn't compiled into what calls it, so that its loop is made for the processor's vectors. */
+#ifdef __GNUC__
+#define APART __attribute__((noinline))
+#else
+#define APART
+#endif
+
+static inline u32 high_of(const struct sums *sums, int lane) { return (u16)(sums->highs[lane / 4] >> lane % 4 * 16); }
+
+static inline u32 word_of(const struct sums *sums, int lane)
+{
+    return (u16)(sums->lows[lane / 4] >> lane % 4 * 16) + (high_of(sums, lane) << 8);
+}
+
+/*
+ * Of such a loop, `left` bytes in all: what all its turns but the last add, or its first MOST_TURNS, and how many bytes these are; 0 where
+ * one would stop. What four words add up to is less the 256fold of their high bytes what their low ones add up to.
+ */
+static APART struct sums summed_ahead(const Memory *memory, u64 source, u64 left)
+{
+    struct sums sums = {0, {0}, {0}};
+    u32 from = (u32)source, turns = left > MOST_TURNS * TURN ? MOST_TURNS : (u32)left / TURN - 1;
+    const struct window *here = memory->read + (from >> 30);
+    from &= PLACE;
+    if (left < 2 * TURN || from + turns * TURN > here->size)
+        return sums;
+    const u8 *at = here->data + from;
+    for (u32 turn = 0; turn < turns; turn++, at += TURN) {
+        u64 one = get64(at), two = get64(at + 8), three = get64(at + 16), four = get64(at + 24);
+        sums.lows[0] += one, sums.highs[0] += one >> 8 & HIGHS;
+        sums.lows[1] += two, sums.highs[1] += two >> 8 & HIGHS;
+        sums.lows[2] += three, sums.highs[2] += three >> 8 & HIGHS;
+        sums.lows[3] += four, sums.highs[3] += four >> 8 & HIGHS;
+    }
+    for (int i = 0; i < LANES / 4; i++)
+        sums.lows[i] -= sums.highs[i] << 8;
+    sums.length = turns * TURN;
+    return sums;
 }
 
 static inline u32 remainder_of(u32 value, u32 by)
@@ -1523,6 +1594,43 @@ static u32 w2c_tcp_numbers__sums__long_sum(Machine * instance, u64 w2c_p0, u64 w
     w2c_l33 = w2c_i0;
     w2c_i0 = 0u;
     w2c_l34 = w2c_i0;
+    {
+      struct sums ahead = summed_ahead(&instance->w2c_memory, w2c_l40, 0 - w2c_l39);
+      w2c_l40 += ahead.length;
+      w2c_l39 += ahead.length;
+      w2c_l19 += word_of(&ahead, 0);
+      w2c_l20 += word_of(&ahead, 1);
+      w2c_l21 += word_of(&ahead, 2);
+      w2c_l22 += word_of(&ahead, 3);
+      w2c_l23 += word_of(&ahead, 4);
+      w2c_l24 += word_of(&ahead, 5);
+      w2c_l25 += word_of(&ahead, 6);
+      w2c_l26 += word_of(&ahead, 7);
+      w2c_l27 += word_of(&ahead, 8);
+      w2c_l28 += word_of(&ahead, 9);
+      w2c_l29 += word_of(&ahead, 10);
+      w2c_l30 += word_of(&ahead, 11);
+      w2c_l31 += word_of(&ahead, 12);
+      w2c_l32 += word_of(&ahead, 13);
+      w2c_l33 += word_of(&ahead, 14);
+      w2c_l34 += word_of(&ahead, 15);
+      w2c_l3 += high_of(&ahead, 0);
+      w2c_l4 += high_of(&ahead, 1);
+      w2c_l5 += high_of(&ahead, 2);
+      w2c_l6 += high_of(&ahead, 3);
+      w2c_l7 += high_of(&ahead, 4);
+      w2c_l8 += high_of(&ahead, 5);
+      w2c_l9 += high_of(&ahead, 6);
+      w2c_l10 += high_of(&ahead, 7);
+      w2c_l11 += high_of(&ahead, 8);
+      w2c_l12 += high_of(&ahead, 9);
+      w2c_l13 += high_of(&ahead, 10);
+      w2c_l14 += high_of(&ahead, 11);
+      w2c_l15 += high_of(&ahead, 12);
+      w2c_l16 += high_of(&ahead, 13);
+      w2c_l17 += high_of(&ahead, 14);
+      w2c_l18 += high_of(&ahead, 15);
+    }
     w2c_L2: 
       w2c_j0 = w2c_l40;
       w2c_i0 = (u32)(w2c_j0);
@@ -42330,7 +42438,6 @@ struct call {
 };
 
 /* How many bytes each field of a record has, in turn. */
-static const u8 OF_ADDR[] = {1, 1, 1, 1, 0};
 static const u8 OF_CONFIG[] = {1, 1, 1, 1, 2, 2, 4, 4, 8, 8, 8, 1, 1, 1, 0};
 static const u8 OF_STATUS[] = {4, 4, 8, 8, 8, 8, 8, 8, 8, 8, 4, 1, 1, 1, 1, 4, 4, 8, 4, 4, 0};
 static const u8 OF_TAKEN[] = {4, 4, 8, 4, 4, 4, 0};
@@ -42350,7 +42457,7 @@ static void carry_record(void *to, const void *from, const u8 *sizes)
             out[i] = in[IS_REVERSED ? *sizes - 1 - i : i];
 }
 
-static void see(struct call *call, int window, const void *data, size_t size)
+STEP void see(struct call *call, int window, const void *data, size_t size)
 {
     struct window found = {(u8 *)(uintptr_t)data, size < PLACE ? (u32)size : PLACE};
     call->machine.w2c_memory.read[window] = call->machine.w2c_memory.written[window] = found;
@@ -42358,19 +42465,21 @@ static void see(struct call *call, int window, const void *data, size_t size)
         call->machine.w2c_memory.written[window].size = 0;
 }
 
-static u64 length_of(size_t size) { return size < PLACE ? size : PLACE; }
+STEP u64 length_of(size_t size) { return size < PLACE ? size : PLACE; }
 
-static void begin(struct call *call)
+STEP void begin(struct call *call)
 {
-    memset(&call->machine, 0, sizeof call->machine);
     call->machine.w2c___stack_pointer = MODULE_STACK;
+    call->machine.w2c_in_call = 0;
     see(call, IN_STACK, call->frame, FRAME);
-    put64(call->frame + AT_HANDLE, 0);
-    put64(call->frame + AT_HANDLE + 8, 0);
+    see(call, IN_BLOCK, NULL, 0); /* until a call shows it; so of the others */
+    see(call, IN_READ, NULL, 0);
+    see(call, IN_WRITTEN, NULL, 0);
+    memset(call->frame + AT_HANDLE, 0, 2 * sizeof(u64));
 }
 
 /* With the end that is in the handle, if there is one. */
-static void begin_with(struct call *call, const struct handle *handle)
+STEP void begin_with(struct call *call, const struct handle *handle)
 {
     begin(call);
     if (handle->at >> 32 != MARK)
@@ -42382,14 +42491,16 @@ static void begin_with(struct call *call, const struct handle *handle)
 }
 
 /* The handle as the call has left it. */
-static void end_with(const struct call *call, struct handle *handle)
+STEP void end_with(const struct call *call, struct handle *handle)
 {
     int is_live = get64(call->frame + AT_HANDLE) == MARK_OF_LIVE;
     handle->mark = is_live ? (uintptr_t)call->machine.w2c_memory.read[IN_BLOCK].data : 0;
     handle->at = is_live ? (u64)MARK << 32 | get32(call->frame + AT_HANDLE + 8) : 0;
 }
 
-static void put_addr(struct call *call, u32 at, const tcpcore_addr *addr) { carry_record(call->frame + at, addr, OF_ADDR); }
+/* An address is bytes, which lie the same on any machine. */
+STEP void put_addr(struct call *call, u32 at, const tcpcore_addr *addr) { memcpy(call->frame + at, addr, sizeof *addr); }
+STEP void get_addr(const struct call *call, tcpcore_addr *addr) { memcpy(addr, call->frame + AT_DST, sizeof *addr); }
 
 /* A call of the module, with the end in the handle: `made` is its name and what stands behind the handle. */
 #define WITH_END(handle) \
@@ -42462,7 +42573,7 @@ static uint32_t tcp_c_receive(struct handle *handle, uint8_t *out, size_t room, 
 }
 
 /* Where the program sees what the module lends of the block. */
-static uint64_t lent_at(const struct call *call, uint64_t at)
+STEP uint64_t lent_at(const struct call *call, uint64_t at)
 {
     return (uintptr_t)call->machine.w2c_memory.read[IN_BLOCK].data + ((u32)at & PLACE);
 }
@@ -42514,7 +42625,7 @@ static uint32_t tcp_c_timer(struct handle *handle, uint32_t timer)
 }
 
 /* A segment has come from one address to the other. */
-static void put_segment(struct call *call, const tcpcore_addr *src, const tcpcore_addr *dst, const uint8_t *bytes, size_t length)
+STEP void put_segment(struct call *call, const tcpcore_addr *src, const tcpcore_addr *dst, const uint8_t *bytes, size_t length)
 {
     put_addr(call, AT_SRC, src);
     put_addr(call, AT_DST, dst);
@@ -42574,13 +42685,13 @@ static uint32_t tcp_c_taken_vouched(struct handle *handle, const tcpcore_addr *s
 }
 
 /* What a call tells of a segment that it wrote. */
-static void get_written(const struct call *call, tcpcore_addr *to, size_t *length)
+STEP void get_written(const struct call *call, tcpcore_addr *to, size_t *length)
 {
-    carry_record(to, call->frame + AT_DST, OF_ADDR);
+    get_addr(call, to);
     *length = (size_t)get64(call->frame + AT_FOUND);
 }
 
-static void put_written(struct call *call, const tcpcore_addr *to, uint8_t *out, size_t room)
+STEP void put_written(struct call *call, const tcpcore_addr *to, uint8_t *out, size_t room)
 {
     put_addr(call, AT_DST, to);
     put64(call->frame + AT_FOUND, 0);
@@ -42714,7 +42825,7 @@ static uint32_t tcp_c_peer(struct handle *handle, tcpcore_addr *addr, uint16_t *
     put_addr(&call, AT_DST, addr);
     put16(call.frame + AT_FOUND, 0);
     uint32_t answer = w2c_tcp_c_peer(M, AT_HANDLE, AT_DST, AT_FOUND);
-    carry_record(addr, call.frame + AT_DST, OF_ADDR);
+    get_addr(&call, addr);
     *port = get16(call.frame + AT_FOUND);
     end_with(&call, handle);
     return answer;

@@ -11,6 +11,8 @@
 
 #define PROGRAM "tcpjudge"
 #define TCPCORE_STOP() abort()
+/* What memory.c has compiled into its callers. */
+#define STEP static inline
 
 /* The module's constants are in its memory, as program.c puts them there. */
 enum { TABLE_AT = 0 };
@@ -78,7 +80,7 @@ static void stop(void)
 }
 
 /* Where `size` bytes at an address lie that are written: at most PLACE of them. */
-static inline u8 *place(const Memory *memory, u32 address, u32 size)
+STEP u8 *place(const Memory *memory, u32 address, u32 size)
 {
     const struct window *window = memory->written + (address >> 30);
     u32 at = address & PLACE;
@@ -107,7 +109,7 @@ static inline const u8 *constant(u32 address, u32 size)
 #endif
 
 /* The same of bytes that are read. */
-static inline const u8 *read_place(const Memory *memory, u32 address, u32 size)
+STEP const u8 *read_place(const Memory *memory, u32 address, u32 size)
 {
     const struct window *window = memory->read + (address >> 30);
     u32 at = address & PLACE;
@@ -151,12 +153,12 @@ static inline void put32(u8 *to, u32 value) { PUT(u32); }
 static inline void put64(u8 *to, u64 value) { PUT(u64); }
 
 #define LOAD(name, R, bits) \
-    static inline R name(const Memory *memory, u64 address) \
+    STEP R name(const Memory *memory, u64 address) \
     { \
         return get##bits(read_place(memory, (u32)address, bits / 8)); \
     }
 #define STORE(name, V, bits) \
-    static inline void name(const Memory *memory, u64 address, V value) \
+    STEP void name(const Memory *memory, u64 address, V value) \
     { \
         put##bits(place(memory, (u32)address, bits / 8), (u##bits)value); \
     }
@@ -211,6 +213,57 @@ static inline u64 copied_ahead(const Memory *memory, u64 destination, u64 source
         return 0;
     memmove(there->data + to, here->data + from, count);
     return count;
+}
+
+/*
+ * What turns of a loop add that sums words of 16 bits: LANES words a turn, side by side, each to a sum of its own, and each one's high
+ * byte to another. There are so few turns that no sum of bytes is longer than 16 bits, so that four of them lie in a word of 64.
+ */
+enum { LANES = 16, TURN = 2 * LANES, MOST_TURNS = 256 };
+#define HIGHS UINT64_C(0x00ff00ff00ff00ff)
+
+struct sums {
+    u64 length, lows[LANES / 4], highs[LANES / 4];
+};
+
+/* A function that isn't compiled into what calls it, so that its loop is made for the processor's vectors. */
+#ifdef __GNUC__
+#define APART __attribute__((noinline))
+#else
+#define APART
+#endif
+
+static inline u32 high_of(const struct sums *sums, int lane) { return (u16)(sums->highs[lane / 4] >> lane % 4 * 16); }
+
+static inline u32 word_of(const struct sums *sums, int lane)
+{
+    return (u16)(sums->lows[lane / 4] >> lane % 4 * 16) + (high_of(sums, lane) << 8);
+}
+
+/*
+ * Of such a loop, `left` bytes in all: what all its turns but the last add, or its first MOST_TURNS, and how many bytes these are; 0 where
+ * one would stop. What four words add up to is less the 256fold of their high bytes what their low ones add up to.
+ */
+static APART struct sums summed_ahead(const Memory *memory, u64 source, u64 left)
+{
+    struct sums sums = {0, {0}, {0}};
+    u32 from = (u32)source, turns = left > MOST_TURNS * TURN ? MOST_TURNS : (u32)left / TURN - 1;
+    const struct window *here = memory->read + (from >> 30);
+    from &= PLACE;
+    if (left < 2 * TURN || from + turns * TURN > here->size)
+        return sums;
+    const u8 *at = here->data + from;
+    for (u32 turn = 0; turn < turns; turn++, at += TURN) {
+        u64 one = get64(at), two = get64(at + 8), three = get64(at + 16), four = get64(at + 24);
+        sums.lows[0] += one, sums.highs[0] += one >> 8 & HIGHS;
+        sums.lows[1] += two, sums.highs[1] += two >> 8 & HIGHS;
+        sums.lows[2] += three, sums.highs[2] += three >> 8 & HIGHS;
+        sums.lows[3] += four, sums.highs[3] += four >> 8 & HIGHS;
+    }
+    for (int i = 0; i < LANES / 4; i++)
+        sums.lows[i] -= sums.highs[i] << 8;
+    sums.length = turns * TURN;
+    return sums;
 }
 
 static inline u32 remainder_of(u32 value, u32 by)
@@ -10457,6 +10510,43 @@ static u32 w2c_tcp_numbers__sums__long_sum(Machine * instance, u64 w2c_p0, u64 w
     w2c_l33 = w2c_i0;
     w2c_i0 = 0u;
     w2c_l34 = w2c_i0;
+    {
+      struct sums ahead = summed_ahead(&instance->w2c_memory, w2c_l40, 0 - w2c_l39);
+      w2c_l40 += ahead.length;
+      w2c_l39 += ahead.length;
+      w2c_l19 += word_of(&ahead, 0);
+      w2c_l20 += word_of(&ahead, 1);
+      w2c_l21 += word_of(&ahead, 2);
+      w2c_l22 += word_of(&ahead, 3);
+      w2c_l23 += word_of(&ahead, 4);
+      w2c_l24 += word_of(&ahead, 5);
+      w2c_l25 += word_of(&ahead, 6);
+      w2c_l26 += word_of(&ahead, 7);
+      w2c_l27 += word_of(&ahead, 8);
+      w2c_l28 += word_of(&ahead, 9);
+      w2c_l29 += word_of(&ahead, 10);
+      w2c_l30 += word_of(&ahead, 11);
+      w2c_l31 += word_of(&ahead, 12);
+      w2c_l32 += word_of(&ahead, 13);
+      w2c_l33 += word_of(&ahead, 14);
+      w2c_l34 += word_of(&ahead, 15);
+      w2c_l3 += high_of(&ahead, 0);
+      w2c_l4 += high_of(&ahead, 1);
+      w2c_l5 += high_of(&ahead, 2);
+      w2c_l6 += high_of(&ahead, 3);
+      w2c_l7 += high_of(&ahead, 4);
+      w2c_l8 += high_of(&ahead, 5);
+      w2c_l9 += high_of(&ahead, 6);
+      w2c_l10 += high_of(&ahead, 7);
+      w2c_l11 += high_of(&ahead, 8);
+      w2c_l12 += high_of(&ahead, 9);
+      w2c_l13 += high_of(&ahead, 10);
+      w2c_l14 += high_of(&ahead, 11);
+      w2c_l15 += high_of(&ahead, 12);
+      w2c_l16 += high_of(&ahead, 13);
+      w2c_l17 += high_of(&ahead, 14);
+      w2c_l18 += high_of(&ahead, 15);
+    }
     w2c_L2: 
       w2c_j0 = w2c_l40;
       w2c_i0 = (u32)(w2c_j0);
