@@ -32,7 +32,7 @@ EXTENSIONS = ["table", "autolink", "strikethrough"]
 MOST_ACROSS = 12
 DIAGRAM = re.compile(r"^```mermaid\n(.*?)^```\n", re.MULTILINE | re.DOTALL)
 NODE = r"(\w+)(?:\[([^\]]*)\])?"
-EDGE = re.compile(rf"^\s*{NODE} --> {NODE}$")
+EDGE = re.compile(rf"^\s*{NODE}(?: --> {NODE})?$")
 HEADING = re.compile(r"<h([1-6])>(.*?)</h\1>", re.DOTALL)
 TAG = re.compile(r"<[^>]*>")
 
@@ -53,8 +53,8 @@ def title_of(name):
 
 
 def parts_of(diagram):
-    """The boxes of a flowchart, each with its label where it has one, and its arrows."""
-    labels, edges = {}, []
+    """The boxes of a flowchart, each with its label where it has one, and its arrows. A line may be a box without one."""
+    labels, names, edges = {}, [], []
     for line in diagram.split("\n")[1:]:
         if not line.strip():
             continue
@@ -64,8 +64,10 @@ def parts_of(diagram):
         for name, label in ((edge[1], edge[2]), (edge[3], edge[4])):
             if label:
                 labels[name] = label.replace("<br>", "\\n")
-        edges.append((edge[1], edge[3]))
-    return {name: labels.get(name, name) for edge in edges for name in edge}, edges
+        names += [name for name in (edge[1], edge[3]) if name]
+        if edge[3]:
+            edges.append((edge[1], edge[3]))
+    return {name: labels.get(name, name) for name in names}, edges
 
 
 def drawn(diagram, ground="transparent"):
