@@ -89,11 +89,10 @@ turn() {
     burst shipped connection 40000 "$out/shipped" connection 40000
     burst floor floor 100000 "$out/floor" floor 100000
     burst floor once 100000 "$out/floor" once 100000
-    for column in handed portable; do
-        name=$([ $column = handed ] && echo c || echo portable)
-        burst "$name" lent 40000 "$out/$column" lent 40000
-        burst "$name" trains 10000 "$out/$column" trains 10000
-    done
+    burst c lent 40000 "$out/handed" lent 40000
+    burst c trains 10000 "$out/handed" trains 10000
+    burst portable lent 40000 "$out/portable" lent 40000
+    burst portable trains 10000 "$out/portable" trains 10000
     for mode in in_order one_byte; do
         bound cpp $mode 40000 "$bound/cpp"
         bound rust $mode 40000 "$bound/rust/target/release/handed"
