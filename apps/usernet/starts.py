@@ -124,12 +124,14 @@ def few_descriptors(place):
 
 
 def descriptors_told(place):
-    """Who starts the program reads 1 once it is ready, and closes another descriptor to end it; namespace and device are named as
-    slirp4netns has them."""
+    """The line with which podman starts slirp4netns. Who starts the program reads 1 once it is ready, and closes another descriptor to end
+    it."""
     ready, tells = os.pipe()
     watched, held = os.pipe()
     space = "--netns-type=path", f"/run/netns/{world.CLIENTS}"
-    words = [world.HERE / "out" / place.program_name, "-c", "-m", "1500", "-r", tells, "--exit-fd", watched, *space, "tap0"]
+    boxes = [] if "WITHOUT_SECCOMP" in os.environ else ["--enable-sandbox", "--enable-seccomp"]
+    words = ["--disable-host-loopback", "--mtu=65520", *boxes, "-c", "-e", watched, "-r", tells, *space, "tap0"]
+    words.insert(0, world.HERE / "out" / place.program_name)
     with world.Child(place.words(world.SERVERS, words), stdout=subprocess.DEVNULL, pass_fds=(tells, watched)) as child:
         need("ready", os.read(ready, 9), b"1")
         need("the device", "10.0.2.100/24" in place.client("ip", "-4", "address", "show", "dev", "tap0"), True)

@@ -6,10 +6,9 @@ program and compares.
 
 import pathlib
 import random
-import subprocess
 import sys
 
-from times import SECOND, STANDARD, Estimator, Watch
+from times import SECOND, STANDARD, Estimator, Watch, compared, stored
 
 CRATE = pathlib.Path(__file__).resolve().parents[2] / "crates" / "test_driver"
 LAST = 2**62
@@ -332,17 +331,7 @@ def answers_of(lines):
 
 def check(count, seed):
     lines = list(random_calls(random.Random(seed), count))
-    program = CRATE / "out" / "test_driver"
-    if not program.exists():
-        sys.exit(f"build it first: (cd {CRATE} && rt run </dev/null)")
-    text = "".join(line + "\n" for line in lines)
-    out = subprocess.run([program], input=text, capture_output=True, text=True)
-    for number, (call, wanted, got) in enumerate(zip(lines, answers_of(lines), out.stdout.splitlines()), 1):
-        if wanted != got:
-            sys.exit(f"seed {seed}, call {number}: {call}\n  {got}\n  wanted {wanted}")
-    if len(out.stdout.splitlines()) != len(lines) or out.returncode != 0:
-        sys.exit(f"seed {seed}: status {out.returncode}, {len(out.stdout.splitlines())} answers in place of {len(lines)}")
-    print(f"{len(lines)} calls of a driver, no difference")
+    compared(CRATE, lines, answers_of(lines), seed, "a driver")
 
 
 if __name__ == "__main__":
@@ -350,5 +339,4 @@ if __name__ == "__main__":
         check(int(sys.argv[2]), int(sys.argv[3]) if len(sys.argv) > 3 else 1)
     else:
         lines = worked() + list(random_calls(random.Random(1), 120))
-        for name, texts in (("stdin", lines), ("stdout", answers_of(lines))):
-            (CRATE / name).write_text("".join(text + "\n" for text in texts))
+        stored(CRATE, lines, answers_of(lines))

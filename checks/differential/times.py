@@ -169,20 +169,31 @@ def answers_of(lines):
     return [second.answer(line) for line in lines]
 
 
+def compared(crate, lines, wanted, seed, what):
+    """What the built program of a crate answers to these lines is compared with what is wanted; the first that differs ends all."""
+    program = crate / "out" / crate.name
+    if not program.exists():
+        sys.exit(f"build it first: (cd {crate} && rt run </dev/null)")
+    text = "".join(line + "\n" for line in lines)
+    out = subprocess.run([program], input=text, capture_output=True, text=True)
+    for number, (call, right, got) in enumerate(zip(lines, wanted, out.stdout.splitlines()), 1):
+        if right != got:
+            sys.exit(f"seed {seed}, call {number}: {call}\n  {got}\n  wanted {right}")
+    if len(out.stdout.splitlines()) != len(lines) or out.returncode != 0:
+        sys.exit(f"seed {seed}: status {out.returncode}, {len(out.stdout.splitlines())} answers in place of {len(lines)}")
+    print(f"{len(lines)} calls of {what}, no difference")
+
+
+def stored(crate, lines, answers):
+    """The calls and their answers become the stored rows of a crate."""
+    for name, texts in (("stdin", lines), ("stdout", answers)):
+        (crate / name).write_text("".join(text + "\n" for text in texts))
+
+
 def check(count, seed):
     draw = random.Random(seed)
     lines = [*random_calls(draw, count), *windows.random_calls(draw, count)]
-    program = CRATE / "out" / "test_timing"
-    if not program.exists():
-        sys.exit(f"build it first: (cd {CRATE} && rt run </dev/null)")
-    text = "".join(line + "\n" for line in lines)
-    out = subprocess.run([program], input=text, capture_output=True, text=True)
-    for number, (call, wanted, got) in enumerate(zip(lines, answers_of(lines), out.stdout.splitlines()), 1):
-        if wanted != got:
-            sys.exit(f"seed {seed}, call {number}: {call}\n  {got}\n  wanted {wanted}")
-    if len(out.stdout.splitlines()) != len(lines) or out.returncode != 0:
-        sys.exit(f"seed {seed}: status {out.returncode}, {len(out.stdout.splitlines())} answers in place of {len(lines)}")
-    print(f"{len(lines)} calls of timeouts, round trips and windows, no difference")
+    compared(CRATE, lines, answers_of(lines), seed, "timeouts, round trips and windows")
 
 
 if __name__ == "__main__":
@@ -190,5 +201,4 @@ if __name__ == "__main__":
         check(int(sys.argv[2]), int(sys.argv[3]) if len(sys.argv) > 3 else 1)
     else:
         rows = [*WORKED, *windows.WORKED]
-        for name, lines in (("stdin", rows), ("stdout", answers_of(rows))):
-            (CRATE / name).write_text("".join(line + "\n" for line in lines))
+        stored(CRATE, rows, answers_of(rows))
