@@ -45,7 +45,7 @@ run_stored() {
         data+=(--data "${file#"$crate/data/"}=$top/$file")
     done < <(find "$crate/data" -type f 2>/dev/null)
     # The interpreter's run stops early: the compiled one tells.
-    told=$(cd "$crate" && timeout 900 rt try --steps 1000 "${data[@]}" --cases "$cases" 2>&1) || true
+    told=$(cd "$crate" && timeout 900 rt try --steps 1000 --seconds 900 "${data[@]}" --cases "$cases" 2>&1) || true
     echo "$told"
     grep -q '^case=stored run=ended .* output=expected' <<<"$told"
 }
