@@ -1,6 +1,6 @@
 -- The table of answers, one for all calls. A refusal of the end has its own number: 1 to 6 for bytes that are no segment, 11
 -- to 16 for a call, 21 to 25 for a config.
-use Rattle.std.specs.Prelude.{ℕ, Option, Some, None, Result, Ok, Err}
+use Rattle.std.specs.Prelude.{ℕ, if◌then◌else◌, is_some, Option, Some, None, Result, Ok, Err}
 use Rattle.tcp_wire.specs.Refusals.{decode_error_number}
 use Rattle.tcp_conn.specs.declared.outcome.CallError.{CallError}
 use Rattle.tcp_conn.specs.declared.outcome.Received.{Received}
@@ -45,6 +45,10 @@ end_of_stream = 52
 -- no segment is due
 abbrev pub nothing_due : ℕ
 nothing_due = 53
+
+-- the answer of a call that writes or reports the segment that is due, of which it found this
+abbrev pub due_number : {A : Type 0} → Option A → ℕ
+due_number found = if is_some found then done else nothing_due
 
 -- the timer's rule doesn't apply
 abbrev pub no_rule : ℕ

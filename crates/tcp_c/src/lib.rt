@@ -143,13 +143,13 @@
 #![tactic(auto)]
 
 mod answers;
+mod emission;
 mod handle;
 mod held;
 mod lending;
 mod loose;
 mod making;
 mod pacing;
-mod partial;
 mod parts;
 mod records;
 mod reports;
@@ -167,12 +167,12 @@ pub use answers::{
     DONE, END_OF_STREAM, IN_USE, LITTLE_ROOM, NO_END, NO_REST, NO_RULE, NO_TIMER, NOT_AT_REST,
     NOTHING_DUE, NOTHING_UNREAD, SEGMENT_DROPPED, SEGMENT_NOT_MINE,
 };
+pub use emission::{tcp_c_emit, tcp_c_emit_acknowledgement, tcp_c_emit_partial};
 pub use handle::{Handle, MARK_OF_LIVE};
 pub use held::Held;
 pub use lending::{tcp_c_consume, tcp_c_peek};
 pub use making::{tcp_c_free, tcp_c_new};
-pub use pacing::{tcp_c_emit_acknowledgement, tcp_c_resend_first};
-pub use partial::tcp_c_emit_partial;
+pub use pacing::tcp_c_resend_first;
 pub use parts::{tcp_c_parts, tcp_c_sent};
 pub use records::{CAddr, CConfig, CLent, CParts, CRest, CStatus, CTaken, CTrain, CTransmit};
 pub use reports::{tcp_c_next, tcp_c_taken, tcp_c_transmit};
@@ -182,7 +182,7 @@ pub use rest_calls::{
 };
 pub use rests::MARK_OF_REST;
 pub use room::tcp_c_room;
-pub use segments::{tcp_c_arrive, tcp_c_emit, tcp_c_stray_reset, tcp_c_take};
+pub use segments::{tcp_c_arrive, tcp_c_stray_reset, tcp_c_take};
 pub use status::{tcp_c_peer, tcp_c_pending, tcp_c_status};
 pub use timing::{tcp_c_timer, tcp_c_timers};
 pub use trains::tcp_c_emit_train;

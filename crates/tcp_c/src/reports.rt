@@ -1,15 +1,16 @@
 //! What is reported to C of bytes that arrived, and of a segment that was written.
-ghost use Rattle.std.specs.Prelude.{◌≡◌, length, option_map};
+ghost use Rattle.std.specs.Prelude.{◌≡◌, length, option_map, unwrap_or};
 ghost use Rattle.tcp_conn.specs.Arrival.{after_arrival, arrival_answer};
 ghost use Rattle.tcp_conn.specs.declared.emission.TheConstants.{EMIT_ROOM};
-ghost use Rattle.tcp_c.specs.Answers.{answer_of, arrival_number};
-ghost use Rattle.tcp_c.specs.Reports.{brought_number, kind_number, next_of, no_taken, no_transmit, rule_number, rule_told, taken_of, transmit_of};
-ghost use Rattle.tcp_c.specs.Segments.{after_emission_within, emission_number, written_buffer};
+ghost use Rattle.tcp_c.specs.Answers.{answer_of, arrival_number, due_number};
+ghost use Rattle.tcp_c.specs.Reports.{brought_number, kind_number, kind_told, next_of, no_taken, no_transmit, rule_number, rule_told, taken_of, transmit_of};
+ghost use Rattle.tcp_c.specs.Segments.{after_emission_within, emission_number, nowhere, written_buffer};
+ghost use Rattle.tcp_c.specs.Status.{flag};
 
 use crate::answers::{DONE, LITTLE_ROOM, NO_END, NOTHING_DUE, arrival_number};
 use crate::handle::Handle;
 use crate::records::{CAddr, CTaken, CTransmit};
-use tcp_conn::{Brought, EMIT_ROOM, Judgement, Kind, Transmit};
+use tcp_conn::{Brought, EMIT_ROOM, Judgement, Kind, Taken, Transmit};
 use tcp_wire::Addr;
 
 /// The number of a rule, in the order of the tests.
@@ -40,7 +41,7 @@ fn rule_number(rule: Judgement) -> u32
 }
 
 /// The number of the rule that applied, 0 where none did.
-pub(crate) fn rule_told(rule: Option<Judgement>) -> u32
+fn rule_told(rule: Option<Judgement>) -> u32
     ensures { result ≡ rule_told rule }
 {
     match rule {
@@ -50,7 +51,7 @@ pub(crate) fn rule_told(rule: Option<Judgement>) -> u32
 }
 
 /// The number of what a segment brought.
-pub(crate) fn brought_number(brought: Brought) -> u32
+fn brought_number(brought: Brought) -> u32
     ensures { result ≡ brought_number brought }
 {
     match brought {
@@ -121,6 +122,41 @@ fn record_of(sent: Transmit) -> CTransmit
     }
 }
 
+/// The one way out of a call that reports the segment that is due: what it is, and nothing where none is.
+#[inline(always)]
+fn report_due(due: Option<Transmit>) -> (u32, CTransmit)
+    ensures answer { result.0 ≡ due_number (option_map (λ sent. sent.len) due) }
+    ensures to { result.1.to.byte ≡ unwrap_or (option_map (λ sent. sent.to.0) due) nowhere }
+    ensures kind { result.1.kind ≡ kind_told (option_map (λ sent. sent.kind) due) }
+    ensures len { result.1.length ≡ unwrap_or (option_map (λ sent. sent.len) due) 0 }
+    ensures position { result.1.position ≡ unwrap_or (option_map (λ sent. sent.position) due) 0 }
+    ensures count { result.1.count ≡ unwrap_or (option_map (λ sent. sent.count) due) 0 }
+{
+    match due {
+        Some(sent) => (DONE, record_of(sent)),
+        None => (NOTHING_DUE, no_transmit()),
+    }
+}
+
+/// What is reported of bytes that arrived.
+pub(crate) fn report_taken(found: Taken) -> CTaken
+    ensures at_once { result.at_once ≡ flag found.at_once }
+    ensures rule { result.rule ≡ rule_told found.rule }
+    ensures acked { result.acked ≡ found.acked }
+    ensures brought { result.brought ≡ brought_number found.brought }
+    ensures is_duplicate { result.is_duplicate ≡ flag found.is_duplicate }
+    ensures window_taken { result.window_taken ≡ flag found.window_taken }
+{
+    CTaken {
+        at_once: u32::from(found.at_once),
+        rule: rule_told(found.rule),
+        acked: found.acked,
+        brought: brought_number(found.brought),
+        is_duplicate: u32::from(found.is_duplicate),
+        window_taken: u32::from(found.window_taken),
+    }
+}
+
 /// Takes bytes as `tcp_c_arrive` does, with a report: whether the segment has to be answered at once (RFC 5681, 4.2),
 /// the rule that applied, and the text that was acknowledged. It also has what the segment brought, whether it is a
 /// duplicate acknowledgement (RFC 5681, 2), and whether its window was taken.
@@ -142,14 +178,7 @@ pub extern "C" fn tcp_c_taken(
     };
     let found = end.take(Addr(src.byte), Addr(dst.byte), bytes);
     handle.put(end);
-    *taken = CTaken {
-        at_once: u32::from(found.at_once),
-        rule: rule_told(found.rule),
-        acked: found.acked,
-        brought: brought_number(found.brought),
-        is_duplicate: u32::from(found.is_duplicate),
-        window_taken: u32::from(found.window_taken),
-    };
+    *taken = report_taken(found);
     arrival_number(found.arrival)
 }
 
@@ -176,11 +205,9 @@ pub extern "C" fn tcp_c_transmit(
     }
     let sent = end.transmit(out);
     handle.put(end);
-    let Some(sent) = sent else {
-        return NOTHING_DUE;
-    };
-    *transmit = record_of(sent);
-    DONE
+    let (answer, found) = report_due(sent);
+    *transmit = found;
+    answer
 }
 
 /// What `tcp_c_transmit` would report now. 53, and all zero, where no segment is due.
@@ -196,9 +223,7 @@ pub extern "C" fn tcp_c_next(handle: &mut Handle, transmit: &mut CTransmit) -> u
     };
     let next = end.next_transmit();
     handle.put(end);
-    let Some(next) = next else {
-        return NOTHING_DUE;
-    };
-    *transmit = record_of(next);
-    DONE
+    let (answer, found) = report_due(next);
+    *transmit = found;
+    answer
 }

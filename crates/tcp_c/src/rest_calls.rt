@@ -10,9 +10,9 @@ ghost use Rattle.tcp_c.specs.Segments.{after_emission_within, emission_number, w
 ghost use Rattle.tcp_c.specs.Status.{ending_number, length_due, phase_number};
 
 use crate::answers::{
-    DONE, LITTLE_ROOM, NO_END, NO_REST, NO_RULE, NO_TIMER, NOT_AT_REST, NOTHING_DUE,
-    arrival_number, call_number,
+    DONE, LITTLE_ROOM, NO_END, NO_REST, NO_RULE, NO_TIMER, NOT_AT_REST, arrival_number, call_number,
 };
+use crate::emission::report_sent;
 use crate::handle::Handle;
 use crate::records::{CAddr, CRest};
 use crate::rests::{no_record, record_of, rest_of};
@@ -106,13 +106,7 @@ pub extern "C" fn tcp_c_rest_emit(
     }
     let sent = kept.emit(out);
     *rest = record_of(&kept);
-    let Some((destination, length)) = sent else {
-        return NOTHING_DUE;
-    };
-    let Addr(byte) = destination;
-    to.byte = byte;
-    *count = length;
-    DONE
+    report_sent(sent, to, count)
 }
 
 /// Reports the length of the segment that `tcp_c_rest_emit` would write now, [`REST_LEN`], or 0 where none is due. 39

@@ -1,17 +1,16 @@
-//! Segments in and out.
+//! Segments that come in, and the reset that answers one for which there is no end.
 ghost use Rattle.std.specs.Prelude.{◌≡◌, length, option_map};
 ghost use Rattle.tcp_conn.specs.Arrival.{arrival_answer, after_arrival};
 ghost use Rattle.tcp_conn.specs.AtOnce.{answers_at_once};
 ghost use Rattle.tcp_conn.specs.Stray.{stray_reset};
-ghost use Rattle.tcp_conn.specs.declared.emission.TheConstants.{EMIT_ROOM};
 ghost use Rattle.tcp_c.specs.Answers.{answer_of, number_written, arrival_number};
-ghost use Rattle.tcp_c.specs.Segments.{emission_number, after_emission_within, written_length, written_destination, written_buffer, stray_number, stray_buffer, stray_length};
+ghost use Rattle.tcp_c.specs.Segments.{stray_number, stray_buffer, stray_length};
 ghost use Rattle.tcp_c.specs.Status.{flag};
 
 use crate::answers::{DONE, LITTLE_ROOM, NO_END, NOTHING_DUE, arrival_number};
 use crate::handle::Handle;
 use crate::records::CAddr;
-use tcp_conn::{EMIT_ROOM, RESET_LEN, stray_reset};
+use tcp_conn::{RESET_LEN, stray_reset};
 use tcp_wire::Addr;
 
 /// Takes bytes that came from `src` to `dst`, whatever they are (RFC 9293, 3.10.7). 1 to 6 where they are no segment,
@@ -51,41 +50,6 @@ pub extern "C" fn tcp_c_take(
     handle.put(end);
     *at_once = u32::from(taken.at_once);
     arrival_number(taken.arrival)
-}
-
-/// Writes the segment that is due into the front of `out`, and reports where it goes and its length (RFC 9293, 3.7, 3.8
-/// and 3.10). 33 where `out` has less than [`EMIT_ROOM`] bytes, 53 where none is due: then nothing changes.
-#[unsafe(no_mangle)]
-pub extern "C" fn tcp_c_emit(
-    handle: &mut Handle,
-    out: &mut [u8],
-    to: &mut CAddr,
-    count: &mut usize,
-) -> u32
-    ensures answer { result ≡ answer_of (emission_number EMIT_ROOM (length out.old)) handle.old.held.end }
-    ensures bytes { out.new ≡ written_buffer EMIT_ROOM out.old handle.old.held.end }
-    ensures destination { to.new.byte ≡ written_destination EMIT_ROOM (length out.old) handle.old.held.end }
-    ensures count { count.new ≡ number_written (written_length EMIT_ROOM (length out.old)) handle.old.held.end }
-    ensures state { handle.new.held.end ≡ option_map (after_emission_within EMIT_ROOM (length out.old)) handle.old.held.end }
-{
-    to.byte = [0; 4];
-    *count = 0;
-    let Some(mut end) = handle.take() else {
-        return NO_END;
-    };
-    if out.len() < EMIT_ROOM {
-        handle.put(end);
-        return LITTLE_ROOM;
-    }
-    let sent = end.emit(out);
-    handle.put(end);
-    let Some((destination, length)) = sent else {
-        return NOTHING_DUE;
-    };
-    let Addr(byte) = destination;
-    to.byte = byte;
-    *count = length;
-    DONE
 }
 
 /// Writes the reset that answers bytes from `src` to `dst`, where there is no end, into the front of `out`, and reports

@@ -8,7 +8,7 @@ ghost use Rattle.tcp_c.specs.Reports.{taken_of};
 use crate::answers::{NO_END, arrival_number};
 use crate::handle::Handle;
 use crate::records::{CAddr, CTaken};
-use crate::reports::{brought_number, no_taken, rule_told};
+use crate::reports::{no_taken, report_taken};
 use tcp_wire::Addr;
 
 /// Takes bytes whose checksum a device has found right, and doesn't sum them. Answer and end are those of
@@ -51,13 +51,6 @@ pub extern "C" fn tcp_c_taken_vouched(
     };
     let found = end.take_vouched(Addr(src.byte), Addr(dst.byte), bytes);
     handle.put(end);
-    *taken = CTaken {
-        at_once: u32::from(found.at_once),
-        rule: rule_told(found.rule),
-        acked: found.acked,
-        brought: brought_number(found.brought),
-        is_duplicate: u32::from(found.is_duplicate),
-        window_taken: u32::from(found.window_taken),
-    };
+    *taken = report_taken(found);
     arrival_number(found.arrival)
 }
