@@ -44,7 +44,7 @@ static size_t move(tcpcore_end *from, tcpcore_addr src, tcpcore_end *to)
     return count;
 }
 
-static void tell(void *block)
+static void report(void *block)
 {
     unsigned char pages[PAGES];
     int count = 0;
@@ -65,11 +65,11 @@ int main(int number, char **words)
     carry(&a, A, &b);
     carry(&b, B, &a);
     carry(&a, A, &b);
-    tell(block);
+    report(block);
     for (unsigned long k = 0; k < echoes; k++) {
         moved += move(&a, A, &b) + move(&b, B, &a);
         if (k == 0 || k + 1 == echoes)
-            tell(block);
+            report(block);
     }
     printf("\n");
     return moved == 2 * TEXT * echoes ? 0 : 1;

@@ -54,7 +54,7 @@ static int compare(const void *one, const void *other)
     return (a > b) - (a < b);
 }
 
-__attribute__((destructor)) static void tell(void)
+__attribute__((destructor)) static void report(void)
 {
     const char *name = getenv("WINDOWS");
     FILE *file = name ? fopen(name, "w") : NULL;

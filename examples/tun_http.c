@@ -118,7 +118,7 @@ static int open_device(const char *name)
 static int set_up(struct server *server, char **words)
 {
     struct demux_config config = {
-        .end = TCPCORE_CONFIG_DEFAULT, .rules = TIMERS_RULES, .delay = FLOW_DELAY, .backlog = SLOTS / 2, .strays = 1000,
+        .end = TCPCORE_CONFIG_DEFAULT, .rules = TIMERS_RULES, .delay = FLOW_ACK_DELAY, .backlog = SLOTS / 2, .strays = 1000,
         .memory = server->memory, .length = sizeof server->memory, .use = use, .send = send_segment, .context = server};
     uint8_t *byte = server->own.addr.byte;
     if (sscanf(words[2], "%hhu.%hhu.%hhu.%hhu/%hhu", byte, byte + 1, byte + 2, byte + 3, &server->own.prefix) != 5)
@@ -132,7 +132,7 @@ static int set_up(struct server *server, char **words)
        asks nothing keeps it: a server for strangers has a limit for that, as device/main.c has. */
     config.rules.time_wait = 2000;
     config.rules.fin_wait_2 = 60000;
-    config.keep = (struct flow_keep){.idle = 60000, .interval = 10000, .most = 6};
+    config.keep = (struct flow_keep_alive){.idle = 60000, .interval = 10000, .most = 6};
     server->device = open_device(words[1]);
     return server->device >= 0 && getentropy(config.secret, sizeof config.secret) == 0 &&
            demux_init(&server->demux, &config, server->slots, SLOTS);

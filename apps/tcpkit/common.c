@@ -104,21 +104,21 @@ static u32 call_in(module_call *call, const struct text *input, u8 *memory, u32 
 typedef int outcome(u32 answer, const u8 *memory, const struct text *input);
 
 /* Makes the call, in a memory that grows until it is enough, up to what an address of a window has; the program's status. */
-static int run(module_call *call, const struct text *input, outcome *tell)
+static int run(module_call *call, const struct text *input, outcome *report)
 {
     int status = -1;
     for (u32 size = UINT32_C(1) << 26; status < 0 && size > 0; size = size < UINT32_C(1) << 29 ? size * 2 : 0) {
         u8 *memory = size / 4 > input->length ? calloc(1, size) : NULL;
         u32 answer = memory ? call_in(call, input, memory, size) : NO_MEMORY;
         if (answer <= FAULT)
-            status = tell(answer, memory, input);
+            status = report(answer, memory, input);
         free(memory);
     }
     return status < 0 ? fault(NO_MEMORY) : status;
 }
 
 /* Writes what a call has put behind the input, and flushes; 0, or the status of a fault. */
-static int write_told(const u8 *memory, const struct text *input)
+static int write_reported(const u8 *memory, const struct text *input)
 {
     size_t count = (size_t)get64(memory + AT_COUNT);
     if (count > 0 && fwrite(memory + place_of_output(input->length), 1, count, stdout) < count)
@@ -127,9 +127,9 @@ static int write_told(const u8 *memory, const struct text *input)
 }
 
 /* The status of an answer to a list or a log, in which a fault is that of a line. */
-static int tell_lines(u32 answer, const u8 *memory, const struct text *input)
+static int report_lines(u32 answer, const u8 *memory, const struct text *input)
 {
-    int status = write_told(memory, input);
+    int status = write_reported(memory, input);
     if (status != 0)
         return status;
     if (answer == FAULT)

@@ -38,9 +38,9 @@ static u32 judge(Machine *machine, u32 length, u32 out, u32 room)
 }
 
 /* The status of a judged log. One with no finding that isn't clean has no segment that the end sent. */
-static int tell_verdict(u32 answer, const u8 *memory, const struct text *input)
+static int report_verdict(u32 answer, const u8 *memory, const struct text *input)
 {
-    int status = tell_lines(answer, memory, input);
+    int status = report_lines(answer, memory, input);
     size_t length = (size_t)get64(memory + AT_COUNT), last = sizeof NO_FINDING - 1;
     const u8 *end = memory + place_of_output(input->length) + length;
     if (status != REFUSED || length < last || memcmp(end - last, NO_FINDING, last) != 0)
@@ -57,7 +57,7 @@ int main(int count, char **words)
     if (help)
         return fputs(HELP, stdout) == EOF || fflush(stdout) != 0 ? fault(NO_OUTPUT) : WELL;
     int number = !path ? WORDS : read_all(strcmp(path, "-") == 0 ? stdin : fopen(path, "rb"), &input);
-    status = number != 0 ? fault(number) : run(judge, &input, tell_verdict);
+    status = number != 0 ? fault(number) : run(judge, &input, report_verdict);
     free(input.bytes);
     return status;
 }

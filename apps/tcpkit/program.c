@@ -25,10 +25,10 @@ static u32 replay(Machine *machine, u32 length, u32 out, u32 room)
 }
 
 /* The status of a replay, whose fault is a line of its own for standard error. */
-static int tell_replay(u32 answer, const u8 *memory, const struct text *input)
+static int report_replay(u32 answer, const u8 *memory, const struct text *input)
 {
     if (answer != FAULT) {
-        int status = write_told(memory, input);
+        int status = write_reported(memory, input);
         return status != 0 ? status : (int)answer;
     }
     fwrite(memory + place_of_output(input->length), 1, (size_t)get64(memory + AT_COUNT), stderr);
@@ -43,9 +43,9 @@ int main(int count, char **words)
     if (number != 0)
         status = fault(number);
     else if (words[1][0] == 'd')
-        status = run(decode, &input, tell_lines);
+        status = run(decode, &input, report_lines);
     else
-        status = run(replay, &input, tell_replay);
+        status = run(replay, &input, report_replay);
     free(input.bytes);
     return status;
 }

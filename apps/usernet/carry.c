@@ -8,12 +8,12 @@
 #include <sys/uio.h>
 
 /* The client learns of the room, where its window has become small and has grown by a segment (RFC 9293, 3.8.6.2.2). */
-static void tell_window(const struct usernet *net, struct conn *conn)
+static void report_window(const struct usernet *net, struct conn *conn)
 {
     struct tcpcore_status status;
     tcpcore_status(&conn->end, &status);
-    uint64_t edge = conn->answers.edge, told = edge > status.next ? edge - status.next : 0;
-    if (2 * told < conn->capacity && edge_of(conn, &status) >= edge + step_of(net, conn))
+    uint64_t edge = conn->answers.edge, reported = edge > status.rcv_position ? edge - status.rcv_position : 0;
+    if (2 * reported < conn->capacity && edge_of(conn, &status) >= edge + step_of(net, conn))
         tcpcore_acknowledge(&conn->end);
 }
 
@@ -31,7 +31,7 @@ int carry_up(struct usernet *net, struct conn *conn)
         if (sent < 0 && errno != EAGAIN)
             return 0;
         tcpcore_consume(&conn->end, sent > 0 ? (size_t)sent : 0, &taken);
-        tell_window(net, conn);
+        report_window(net, conn);
         count(net, UP, taken);
         conn->can_write = taken == length;
     }

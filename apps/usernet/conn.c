@@ -72,7 +72,7 @@ void free_dropped(struct usernet *net)
 
 uint64_t edge_of(const struct conn *conn, const struct tcpcore_status *status)
 {
-    return status->next + conn->capacity - status->unread;
+    return status->rcv_position + conn->capacity - status->unread;
 }
 
 uint64_t step_of(const struct usernet *net, const struct conn *conn)
@@ -92,7 +92,7 @@ static int goes(struct usernet *net, struct conn *conn, const struct tcpcore_tra
     }
     timers_sent(&conn->timers, sent, net->now);
     if (bits_of(segment, ACK))
-        answers_told(&conn->answers, segment, edge);
+        answers_sent(&conn->answers, segment, edge);
     return 1;
 }
 
@@ -263,13 +263,13 @@ void conn_publish(struct usernet *net, int socket, uint16_t port)
 static int reopens(const struct conn *conn, const uint8_t *bytes)
 {
     struct tcpcore_status status = status_of(conn);
-    uint32_t after = read32(bytes + AT_SEQ) - (conn->first + (uint32_t)status.next);
+    uint32_t after = read32(bytes + AT_SEQ) - (conn->first + (uint32_t)status.rcv_position);
     return status.phase == TCPCORE_PHASE_TIME_WAIT && after < UINT32_C(1) << 31;
 }
 
 /* Whether a segment is answered before the others of its batch are read. What the end refuses brought it nothing: with text or
    without, it is answered once in a while. */
-static int may_answer(struct usernet *net, struct conn *conn, const struct ip_packet *packet, const struct tcpcore_taken *taken)
+static int may_answer(struct usernet *net, struct conn *conn, const struct ip_packet *packet, const struct tcpcore_arrive_report *taken)
 {
     uint8_t bare[SEGMENT_HEADER];
     if (taken->rule < TCPCORE_RULE_UNACCEPTABLE || taken->rule >= TCPCORE_RULE_TAKEN)
@@ -284,17 +284,17 @@ static int may_answer(struct usernet *net, struct conn *conn, const struct ip_pa
 static void take(struct usernet *net, struct conn *conn, const struct ip_packet *packet, int vouched)
 {
     struct tcpcore_status before = status_of(conn);
-    struct tcpcore_taken taken;
+    struct tcpcore_arrive_report taken;
     if (withholds_reset(&before, packet->segment, packet->length))
         return; /* what the client has sent goes to the host first */
     uint32_t answer =
-        vouched ? tcpcore_taken_vouched(&conn->end, packet->src, packet->dst, packet->segment, packet->length, &taken)
-                : tcpcore_taken(&conn->end, packet->src, packet->dst, packet->segment, packet->length, &taken);
+        vouched ? tcpcore_arrive_vouched_with_report(&conn->end, packet->src, packet->dst, packet->segment, packet->length, &taken)
+                : tcpcore_arrive_with_report(&conn->end, packet->src, packet->dst, packet->segment, packet->length, &taken);
     if (taken.rule == TCPCORE_RULE_NONE) {
         count(net, MALFORMED, answer >= TCPCORE_TOO_SHORT && answer <= TCPCORE_BAD_PADDING);
         return;
     }
-    timers_taken(&conn->timers, &conn->end, &taken, net->now);
+    timers_arrived_with_report(&conn->timers, &conn->end, &taken, net->now);
     limits_touch(net, conn);
     if (may_answer(net, conn, packet, &taken))
         emit(net, conn); /* out of order, or a gap was filled (RFC 5681, 4.2) */
@@ -330,8 +330,8 @@ static void turn(struct usernet *net, struct conn *conn)
 {
     if (!conn->is_open && !host_answered(net, conn))
         return;
-    if (timers_run(&conn->timers, &conn->end, net->now) & TIMERS_GAVE_UP)
-        count(net, GAVE_UP, 1);
+    if (timers_run(&conn->timers, &conn->end, net->now) & TIMERS_ABORTED)
+        count(net, ABANDONED, 1);
     if (conn->socket >= 0 && conn->timers.phase >= TCPCORE_PHASE_ESTABLISHED &&
         (!carry_up(net, conn) || !carry_down(net, conn)))
         tcpcore_abort(&conn->end);

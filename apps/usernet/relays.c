@@ -77,7 +77,7 @@ void relays_expire(struct usernet *net)
 
 /* The namespace is told that what it sent with these addresses and ports couldn't be delivered, as often as strays are answered. The message
    has the front of such a packet, which is all that its kernel looks at (RFC 1122, 3.2.2). */
-static void tell_unreachable(struct usernet *net, const struct pair *key, uint8_t protocol, int fault)
+static void report_unreachable(struct usernet *net, const struct pair *key, uint8_t protocol, int fault)
 {
     int code = fault == ECONNREFUSED ? ICMP_NO_PORT : fault == EACCES || fault == EPERM ? ICMP_PROHIBITED : fault == EHOSTUNREACH ? ICMP_NO_HOST : ICMP_NO_NET;
     uint8_t packet[IP_HEADER + UDP_HEADER] = {0};
@@ -131,7 +131,7 @@ static void carry_out(struct usernet *net, const struct pair *key, uint8_t proto
     if (is_exhausted(errno) || errno == EMSGSIZE || errno == EAGAIN)
         count(net, EXHAUSTED, 1);
     else
-        tell_unreachable(net, key, protocol, errno);
+        report_unreachable(net, key, protocol, errno);
 }
 
 void relays_datagram(struct usernet *net, const struct ip_packet *packet, int vouched)
@@ -179,7 +179,7 @@ static int carry_in(struct usernet *net, struct relay *relay)
     ssize_t got = recv(relay->socket, place + front, UDP_MOST, MSG_DONTWAIT);
     if (got < 0) {
         if (errno != EAGAIN && errno != EINTR)
-            tell_unreachable(net, pair, relay->protocol, errno);
+            report_unreachable(net, pair, relay->protocol, errno);
         return 0;
     }
     size_t length = (size_t)got;

@@ -73,7 +73,7 @@ struct relay {
 /* What is counted. */
 enum counter {
     OPENED, REFUSED, PUBLISHED, /* connections of the namespace: done at the host, refused by it; carried in */
-    STRAYS, GAVE_UP, MALFORMED, /* resets for what no connection takes; connections that timers gave up; what was no segment */
+    STRAYS, ABANDONED, MALFORMED, /* resets for what no connection takes; connections that timers gave up; what was no segment */
     ARRIVED, EMITTED, UP, DOWN, /* packets; bytes of text */
     FULL, RECYCLED,             /* connections that a limit kept out; half-open or silent ones that made way for another */
     EXHAUSTED,                  /* connections that found no descriptor, memory or port of the host */
@@ -247,10 +247,10 @@ struct words {
 
 /* sandbox.c: with one thread, before the others are made: nothing of the file system is left but /etc and /run to be read, and no right. Then,
    of all threads: no call of the system is left but those that the loop makes. Whether it could be done. */
-int sandbox_enter(const struct words *told);
+int sandbox_enter(const struct words *options);
 int sandbox_filter(void);
 
 /* Reads the program's words, which may publish ports. Answers below 0 where it goes on, else the status to end with. */
-int words_read(int number, char **words, struct words *told, struct shared *shared);
+int words_read(int number, char **words, struct words *options, struct shared *shared);
 
 #endif

@@ -57,7 +57,7 @@ int answers_may_go(struct answers *answers, const uint8_t *segment, size_t lengt
     return go_alone(answers, now);
 }
 
-void answers_told(struct answers *answers, const uint8_t *segment, uint64_t edge)
+void answers_sent(struct answers *answers, const uint8_t *segment, uint64_t edge)
 {
     answers->ack = read32(segment + AT_ACK);
     answers->window = read16(segment + AT_WINDOW);

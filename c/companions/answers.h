@@ -33,7 +33,7 @@ struct answers {
 void answers_init(struct answers *answers, uint32_t quiet);
 
 /*
- * A segment has come that tcpcore_take answered by DONE or DROPPED, with this `at_once`. Returns whether it is answered at once:
+ * A segment has come that tcpcore_arrive_with_at_once answered by DONE or DROPPED, with this `at_once`. Returns whether it is answered at once:
  * no, if its answer is rate-limited and went out already.
  */
 int answers_arrived(struct answers *answers, const uint8_t *segment, size_t length, uint32_t at_once, uint64_t now);
@@ -50,6 +50,6 @@ int answers_may_go(struct answers *answers, const uint8_t *segment, size_t lengt
 void answers_begin(struct answers *answers, uint64_t now);
 
 /* This segment, which acknowledges, has gone out. */
-void answers_told(struct answers *answers, const uint8_t *segment, uint64_t edge);
+void answers_sent(struct answers *answers, const uint8_t *segment, uint64_t edge);
 
 #endif

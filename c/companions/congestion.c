@@ -42,7 +42,7 @@ static uint64_t flight_of(const struct congestion *congestion) { return congesti
 uint64_t congestion_room(const struct congestion *congestion)
 {
     uint64_t left = congestion->loss == CONGESTION_RECOVERY ? congestion->left : congestion->left / 2;
-    uint64_t window = congestion->cwnd + left + congestion->limited, flight = flight_of(congestion);
+    uint64_t window = congestion->cwnd + left + congestion->limited_transmit, flight = flight_of(congestion);
     return window > flight ? window - flight : 0;
 }
 
@@ -67,22 +67,22 @@ static void grow(struct congestion *congestion, uint64_t acked, uint64_t flight)
     }
 }
 
-void congestion_acknowledged(struct congestion *congestion, uint64_t released, int tells_blocks)
+void congestion_acknowledged(struct congestion *congestion, uint64_t released, int reports_blocks)
 {
     uint64_t acked = released - congestion->released, flight = flight_of(congestion);
     congestion->released = released;
-    if (acked == 0 && tells_blocks && congestion->loss != CONGESTION_TIMED_OUT)
+    if (acked == 0 && reports_blocks && congestion->loss != CONGESTION_TIMED_OUT)
         congestion->left = smaller(congestion->left + congestion->mss, flight);
     congestion->left -= smaller(congestion->left, acked);
     congestion->again -= smaller(congestion->again, acked);
     if (acked > 0)
-        congestion->limited = 0;
+        congestion->limited_transmit = 0;
     if (acked > 0 && congestion->loss != CONGESTION_RECOVERY)
         grow(congestion, acked, flight);
     if (congestion->loss != CONGESTION_OPEN && released >= congestion->recover) {
         congestion->loss = CONGESTION_OPEN;
         congestion->left = congestion->again = 0;
-        congestion->is_clocked = 0;
+        congestion->is_ack_clocked = 0;
     }
 }
 
@@ -98,8 +98,8 @@ void congestion_lost(struct congestion *congestion, uint32_t loss, uint32_t coun
 {
     uint64_t flight = smaller(flight_of(congestion), congestion->cwnd);
     uint32_t timed_out = loss == CONGESTION_TIMED_OUT;
-    congestion->again = congestion->limited = 0;
-    congestion->is_clocked = 0;
+    congestion->again = congestion->limited_transmit = 0;
+    congestion->is_ack_clocked = 0;
     congestion->credit = (int64_t)congestion->mss;
     congestion->counted = now;
     /* One halving for all that was given before it (RFC 6582, 3.2). */
@@ -115,15 +115,15 @@ void congestion_lost(struct congestion *congestion, uint32_t loss, uint32_t coun
     congestion->timeouts += timed_out;
 }
 
-void congestion_duplicate(struct congestion *congestion)
+void congestion_limited_transmit(struct congestion *congestion)
 {
     if (congestion->loss == CONGESTION_OPEN)
-        congestion->limited = smaller(congestion->limited + congestion->mss, LIMITED * congestion->mss);
+        congestion->limited_transmit = smaller(congestion->limited_transmit + congestion->mss, LIMITED * congestion->mss);
 }
 
-void congestion_clocked(struct congestion *congestion)
+void congestion_ack_clocked(struct congestion *congestion)
 {
-    congestion->is_clocked = 1;
+    congestion->is_ack_clocked = 1;
     congestion->allowed = 1;
 }
 
@@ -170,7 +170,7 @@ static int64_t credit_at(const struct congestion *congestion, uint64_t now, uint
 /* Time counts as spent once it was worth a byte that may go out: a fraction of one isn't lost, however often it is asked. */
 int congestion_may_resend(struct congestion *congestion, uint64_t now, uint64_t trip)
 {
-    if (congestion->is_clocked)
+    if (congestion->is_ack_clocked)
         return congestion->allowed > 0;
     int64_t credit = credit_at(congestion, now, trip);
     if (credit <= 0)
@@ -182,7 +182,7 @@ int congestion_may_resend(struct congestion *congestion, uint64_t now, uint64_t 
 
 uint64_t congestion_resend_at(const struct congestion *congestion, uint64_t trip)
 {
-    if (congestion->is_clocked)
+    if (congestion->is_ack_clocked)
         return congestion->allowed > 0 ? congestion->counted : UINT64_MAX;
     uint64_t lacks = congestion->credit > 0 ? 0 : (uint64_t)(1 - congestion->credit), each = 1000 * congestion->cwnd;
     if (congestion->again >= congestion->cwnd)

@@ -33,11 +33,11 @@ struct congestion {
     int64_t credit;     /* what may go out again now */
     uint64_t counted;   /* when that was counted */
     uint64_t limited;   /* what may be given for the first two duplicates (RFC 3042) */
-    uint64_t allowed;   /* where is_clocked: so many segments may go out again */
+    uint64_t allowed;   /* where is_ack_clocked: so many segments may go out again */
     uint64_t now, trip; /* the time and the round trip, in milliseconds, as told last */
     struct cubic cubic; /* what RFC 9438 remembers, where is_cubic */
     uint32_t is_cubic;  /* the window grows and shrinks by RFC 9438 */
-    uint32_t is_clocked; /* what goes out again is paced by acknowledgements, not by time */
+    uint32_t is_ack_clocked; /* what goes out again is paced by acknowledgements, not by time */
     uint32_t is_keeping; /* where no block reports it: the peer was seen to keep what comes out of order */
     uint32_t drops;     /* and so often in a row it was seen to keep nothing */
     uint32_t loss;      /* CONGESTION_OPEN .. CONGESTION_TIMED_OUT */
@@ -62,9 +62,9 @@ uint64_t congestion_room(const struct congestion *congestion);
 
 /*
  * An acknowledgement has come, and of what was given `released` bytes are acknowledged now. One that releases nothing
- * but `tells_blocks` says that a segment has left the network (RFC 2018, 4).
+ * but `reports_blocks` says that a segment has left the network (RFC 2018, 4).
  */
-void congestion_acknowledged(struct congestion *congestion, uint64_t released, int tells_blocks);
+void congestion_acknowledged(struct congestion *congestion, uint64_t released, int reports_blocks);
 
 /*
  * It was found that segments were lost, by blocks (CONGESTION_RECOVERY) or since the timeout ran out
@@ -76,13 +76,13 @@ void congestion_lost(struct congestion *congestion, uint32_t loss, uint32_t coun
  * One of the first two duplicate acknowledgements without a block has come: a segment more may be given, which makes the peer send
  * the third one (RFC 3042).
  */
-void congestion_duplicate(struct congestion *congestion);
+void congestion_limited_transmit(struct congestion *congestion);
 
 /*
  * What was just found lost was told by duplicate acknowledgements (RFC 5681, 3.2) or by silence: behind congestion_lost. One segment may
  * go out again, and further ones as congestion_progress says.
  */
-void congestion_clocked(struct congestion *congestion);
+void congestion_ack_clocked(struct congestion *congestion);
 
 /*
  * In a recovery without blocks `released` bytes are acknowledged now: before congestion_acknowledged. More than what had gone out again:

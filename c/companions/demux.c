@@ -155,8 +155,8 @@ static void reap(struct demux *demux, struct table_slot *slot)
 /* Runs the timers of one end, calls its user, and emits. */
 static void turn(struct demux *demux, struct table_slot *slot, uint64_t now)
 {
-    if (flow_run(&slot->flow, &slot->end, now) & TIMERS_GAVE_UP)
-        demux->counters.gave_up++;
+    if (flow_run(&slot->flow, &slot->end, now) & TIMERS_ABORTED)
+        demux->counters.abandoned++;
     if (slot->is_half_open && slot->flow.timers.phase >= TCPCORE_PHASE_ESTABLISHED) {
         table_accept(&demux->table, slot);
         demux->counters.accepted++;

@@ -32,7 +32,7 @@ struct demux_counters {
     uint64_t withheld;  /* strays that weren't answered: too many in this second */
     uint64_t unsaid;    /* answers of ends that weren't sent: they'd say what was just said (answers.h) */
     uint64_t orderly, reset, aborted; /* how ends ended */
-    uint64_t gave_up;   /* of the aborted those that the timers abandoned */
+    uint64_t abandoned;   /* of the aborted those that the timers abandoned */
 };
 
 /* What a table is made from. */
@@ -41,9 +41,9 @@ struct demux_config {
     void *memory;              /* the blocks of all slots' ends, tcpcore_room(&end) bytes for each slot */
     size_t length;             /* how many bytes these are */
     struct timers_rules rules; /* of each end; a syn_ack_limit of some seconds frees half-open ends (RFC 4987, 3.3) */
-    uint32_t delay;            /* how long an acknowledgement may wait, in milliseconds: FLOW_DELAY, or 0 */
+    uint32_t delay;            /* how long an acknowledgement may wait, in milliseconds: FLOW_ACK_DELAY, or 0 */
     uint32_t choices;          /* bits of FLOW_CUBIC and FLOW_NAGLE */
-    struct flow_keep keep;     /* when silent peers are asked; all zero: never */
+    struct flow_keep_alive keep;     /* when silent peers are asked; all zero: never */
     uint32_t backlog;          /* the most half-open ends, at least 1 (RFC 4987, 3.2) */
     uint32_t strays;           /* the most resets for no end in a second */
     uint8_t secret[16];        /* random: of the initial sequence numbers and of the table (RFC 9293, 3.4.1) */

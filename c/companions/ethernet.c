@@ -27,18 +27,18 @@ uint16_t ethernet_type(const uint8_t *frame) { return read16(frame + 12); }
 size_t ethernet_answer(uint8_t *out, const uint8_t *frame, size_t length, struct ethernet_addr own, tcpcore_addr ip)
 {
     const uint8_t *asks = frame + ETHERNET_HEADER;
-    uint8_t *told = out + ETHERNET_HEADER;
+    uint8_t *reply = out + ETHERNET_HEADER;
     struct ethernet_addr peer;
     if (length < ETHERNET_ANSWER || ethernet_type(frame) != ETHERNET_ARP || memcmp(asks, KIND, sizeof KIND) != 0 ||
         read16(asks + AT_OPERATION) != REQUEST || memcmp(asks + AT_TARGET_IP, &ip, sizeof ip) != 0)
         return 0;
     memcpy(&peer, asks + AT_SENDER, sizeof peer);
     ethernet_write(out, peer, own, ETHERNET_ARP);
-    memcpy(told, KIND, sizeof KIND);
-    write16(told + AT_OPERATION, REPLY);
-    memcpy(told + AT_SENDER, &own, sizeof own);
-    memcpy(told + AT_SENDER_IP, &ip, sizeof ip);
-    memcpy(told + AT_TARGET, &peer, sizeof peer);
-    memcpy(told + AT_TARGET_IP, asks + AT_SENDER_IP, sizeof ip);
+    memcpy(reply, KIND, sizeof KIND);
+    write16(reply + AT_OPERATION, REPLY);
+    memcpy(reply + AT_SENDER, &own, sizeof own);
+    memcpy(reply + AT_SENDER_IP, &ip, sizeof ip);
+    memcpy(reply + AT_TARGET, &peer, sizeof peer);
+    memcpy(reply + AT_TARGET_IP, asks + AT_SENDER_IP, sizeof ip);
     return ETHERNET_ANSWER;
 }

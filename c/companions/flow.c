@@ -22,11 +22,11 @@ void flow_init(struct flow *flow, const tcpcore_config *config, const struct tim
     timers_init(&flow->timers, rules);
     congestion_init(&flow->congestion, config->mss);
     answers_init(&flow->answers, ANSWERS_QUIET);
-    flow->sends = config->send_capacity;
-    flow->keeps = config->recv_capacity;
-    flow->delay = delay;
-    flow->window = UINT64_MAX;
-    flow->answer_at = flow->override_at = flow->probe_at = TIMERS_NEVER;
+    flow->send_capacity = config->send_capacity;
+    flow->recv_capacity = config->recv_capacity;
+    flow->ack_delay = delay;
+    flow->snd_wnd = UINT64_MAX;
+    flow->delayed_ack_at = flow->override_at = flow->probe_at = TIMERS_NEVER;
 }
 
 void flow_choose(struct flow *flow, uint32_t choices)
@@ -35,7 +35,7 @@ void flow_choose(struct flow *flow, uint32_t choices)
     congestion_choose(&flow->congestion, (choices & FLOW_CUBIC) != 0);
 }
 
-void flow_keep_alive(struct flow *flow, const struct flow_keep *keep) { flow->keep = *keep; }
+void flow_keep_alive(struct flow *flow, const struct flow_keep_alive *keep) { flow->keep_alive = *keep; }
 
 static struct tcpcore_status status_of(const tcpcore_end *end)
 {
@@ -63,13 +63,13 @@ static uint64_t flight_of(const struct flow *flow)
 /* `moved` bytes of text have come in order. */
 static void received(struct flow *flow, uint64_t moved, int at_once, uint64_t now)
 {
-    flow->unanswered += moved;
+    flow->unacked += moved;
     if (at_once)
-        flow->is_urgent = flow->is_owed = 1;
-    if (flow->unanswered >= ANSWERED * flow->congestion.mss)
-        flow->is_owed = 1;
-    if (moved > 0 && flow->answer_at == TIMERS_NEVER)
-        flow->answer_at = now + flow->delay;
+        flow->is_urgent = flow->is_ack_due = 1;
+    if (flow->unacked >= ANSWERED * flow->congestion.mss)
+        flow->is_ack_due = 1;
+    if (moved > 0 && flow->delayed_ack_at == TIMERS_NEVER)
+        flow->delayed_ack_at = now + flow->ack_delay;
 }
 
 /* The milliseconds after which silence is probed (RFC 8985, 7.2): two round trips, or more where these vary, and where the peer may
@@ -96,7 +96,7 @@ static void await(struct flow *flow, uint64_t now)
 static int begin(struct flow *flow, int is_all, uint64_t now)
 {
     congestion_lost(&flow->congestion, CONGESTION_RECOVERY, 0, now);
-    flow->is_all = is_all != 0;
+    flow->is_resending_all = is_all != 0;
     flow->is_resending = 1;
     return 1;
 }
@@ -107,7 +107,7 @@ static int begin_first(struct flow *flow, tcpcore_end *end, uint64_t now)
     if (tcpcore_resend_first(end) != TCPCORE_DONE)
         return 0;
     begin(flow, 0, now);
-    congestion_clocked(&flow->congestion);
+    congestion_ack_clocked(&flow->congestion);
     return 1;
 }
 
@@ -124,7 +124,7 @@ static int begin_anew(struct flow *flow, tcpcore_end *end, uint64_t now)
     if (tcpcore_timer(end, TCPCORE_TIMER_RETRANSMIT) != TCPCORE_DONE)
         return 0;
     congestion_lost(&flow->congestion, CONGESTION_TIMED_OUT, 2, now);
-    flow->is_all = flow->is_resending = 1;
+    flow->is_resending_all = flow->is_resending = 1;
     return 1;
 }
 
@@ -135,12 +135,12 @@ static void duplicate(struct flow *flow, tcpcore_end *end, uint64_t now)
     int is_dropping = flow->congestion.drops >= DROPS;
     if (flow->is_shut || loss == CONGESTION_TIMED_OUT || (loss == CONGESTION_RECOVERY && !is_dropping))
         return;
-    if (++flow->same < DUPLICATES) {
-        congestion_duplicate(&flow->congestion);
+    if (++flow->duplicate_acks < DUPLICATES) {
+        congestion_limited_transmit(&flow->congestion);
         return;
     }
-    if (flow->same == DUPLICATES && (is_dropping ? begin_all(flow, end, now) : begin_first(flow, end, now)))
-        flow->fast++;
+    if (flow->duplicate_acks == DUPLICATES && (is_dropping ? begin_all(flow, end, now) : begin_first(flow, end, now)))
+        flow->fast_retransmits++;
 }
 
 /* A partial acknowledgement: of what was sent when the loss was found something still lacks. It is the segment that comes next (RFC
@@ -149,16 +149,16 @@ static void partial(struct flow *flow, tcpcore_end *end)
 {
     struct congestion *congestion = &flow->congestion;
     if (congestion->is_keeping && tcpcore_resend_first(end) == TCPCORE_DONE) {
-        congestion_clocked(congestion);
-        flow->is_all = 0;
-    } else if (!flow->is_all) {
-        flow->is_all = tcpcore_timer(end, TCPCORE_TIMER_RETRANSMIT) == TCPCORE_DONE;
+        congestion_ack_clocked(congestion);
+        flow->is_resending_all = 0;
+    } else if (!flow->is_resending_all) {
+        flow->is_resending_all = tcpcore_timer(end, TCPCORE_TIMER_RETRANSMIT) == TCPCORE_DONE;
     }
     flow->is_resending = 1;
 }
 
 /* What an arrival acknowledges, and what it says of losses; of blocks where it has nothing but options. */
-static void acknowledged(struct flow *flow, tcpcore_end *end, const struct tcpcore_taken *taken, int tells_blocks,
+static void acknowledged(struct flow *flow, tcpcore_end *end, const struct tcpcore_arrive_report *taken, int reports_blocks,
                          const struct tcpcore_status *after, uint64_t now)
 {
     struct congestion *congestion = &flow->congestion;
@@ -169,9 +169,9 @@ static void acknowledged(struct flow *flow, tcpcore_end *end, const struct tcpco
     congestion_clock(congestion, now, trip_of(flow));
     if (is_partial)
         congestion_progress(congestion, after->released, flow->probed > 0);
-    congestion_acknowledged(congestion, after->released, after->sack ? tells_blocks : is_same && congestion->is_keeping);
+    congestion_acknowledged(congestion, after->released, after->sack ? reports_blocks : is_same && congestion->is_keeping);
     if (taken->acked > 0)
-        flow->same = flow->probed = 0;
+        flow->duplicate_acks = flow->probed = 0;
     if (taken->acked > 0 || is_same)
         await(flow, now);
     if (is_partial && congestion->loss == CONGESTION_RECOVERY)
@@ -193,21 +193,21 @@ static void repeated(struct flow *flow, tcpcore_end *end, const uint8_t *segment
 /* The peer's window as the end has it, which an old segment doesn't change (RFC 9293, 3.10.7.4). */
 static void window_is(struct flow *flow, uint64_t window)
 {
-    flow->window = window;
-    flow->widest = flow->widest > window ? flow->widest : window;
+    flow->snd_wnd = window;
+    flow->max_snd_wnd = flow->max_snd_wnd > window ? flow->max_snd_wnd : window;
     flow->is_shut = window == 0;
 }
 
 /* A window that has room for no segment, and not for half of the greatest one, is left alone where nothing is in flight, for
-   FLOW_OVERRIDE at most (RFC 9293, 3.8.6.2.1). */
+   FLOW_SWS_OVERRIDE at most (RFC 9293, 3.8.6.2.1). */
 static void mind_override(struct flow *flow, uint64_t now)
 {
-    uint64_t window = flow->window;
-    if (flight_of(flow) > 0 || window == 0 || window >= full_of(flow) || 2 * window >= flow->widest) {
+    uint64_t window = flow->snd_wnd;
+    if (flight_of(flow) > 0 || window == 0 || window >= full_of(flow) || 2 * window >= flow->max_snd_wnd) {
         flow->override_at = TIMERS_NEVER;
         flow->is_overridden = 0;
     } else if (flow->override_at == TIMERS_NEVER && !flow->is_overridden) {
-        flow->override_at = now + FLOW_OVERRIDE;
+        flow->override_at = now + FLOW_SWS_OVERRIDE;
     }
 }
 
@@ -216,44 +216,44 @@ uint32_t flow_arrive(struct flow *flow, tcpcore_end *end, tcpcore_addr src, tcpc
 {
     const uint8_t *segment = bytes;
     struct tcpcore_status before = status_of(end);
-    struct tcpcore_taken taken;
+    struct tcpcore_arrive_report taken;
     if (withholds_reset(&before, segment, length)) {
         flow->resets++;
         return TCPCORE_DROPPED;
     }
-    uint32_t answer = tcpcore_taken(end, src, dst, bytes, length, &taken);
+    uint32_t answer = tcpcore_arrive_with_report(end, src, dst, bytes, length, &taken);
     if (answer != TCPCORE_DONE && answer != TCPCORE_DROPPED)
         return answer;
     struct tcpcore_status after = status_of(end);
     int is_answered = answers_arrived(&flow->answers, segment, length, taken.at_once, now);
-    int tells_blocks = taken.brought == TCPCORE_BROUGHT_NOTHING && length > SEGMENT_HEADER;
+    int reports_blocks = taken.brought == TCPCORE_BROUGHT_NOTHING && length > SEGMENT_HEADER;
     flow->heard_at = now;
-    flow->asked = flow->is_asking = 0;
-    timers_taken(&flow->timers, end, &taken, now);
+    flow->keep_alives = flow->is_keep_alive_due = 0;
+    timers_arrived_with_report(&flow->timers, end, &taken, now);
     if (answer == TCPCORE_DROPPED && is_answered)
         repeated(flow, end, segment, &before, now);
     if (after.phase >= TCPCORE_PHASE_ESTABLISHED)
         window_is(flow, after.snd_wnd);
-    acknowledged(flow, end, &taken, tells_blocks, &after, now);
+    acknowledged(flow, end, &taken, reports_blocks, &after, now);
     mind_override(flow, now);
-    received(flow, after.next - before.next, is_answered, now);
+    received(flow, after.rcv_position - before.rcv_position, is_answered, now);
     return answer;
 }
 
 /* Whether so much room in the peer's window is worth a segment that isn't full, where nothing is in flight. */
 static int is_worth(const struct flow *flow, uint64_t room)
 {
-    return room > 0 && (2 * room >= flow->widest || flow->is_overridden);
+    return room > 0 && (2 * room >= flow->max_snd_wnd || flow->is_overridden);
 }
 
 size_t flow_room(const struct flow *flow, size_t length)
 {
-    uint64_t flight = flight_of(flow), window = flow->window > flight ? flow->window - flight : 0;
-    uint64_t sends = smaller(congestion_room(&flow->congestion), flow->sends - flight), room = smaller(window, sends);
+    uint64_t flight = flight_of(flow), window = flow->snd_wnd > flight ? flow->snd_wnd - flight : 0;
+    uint64_t sends = smaller(congestion_room(&flow->congestion), flow->send_capacity - flight), room = smaller(window, sends);
     uint64_t part = length < room ? length : room, whole = part - part % full_of(flow);
     if (flight > 0)
         return (size_t)(length <= room && !(flow->choices & FLOW_NAGLE) ? length : whole);
-    if (flow->window == 0)
+    if (flow->snd_wnd == 0)
         return (size_t)smaller(smaller(length, sends), 1);
     if (length <= room || (whole == 0 && (sends < window || is_worth(flow, room))))
         return (size_t)part;
@@ -271,20 +271,20 @@ uint32_t flow_send(struct flow *flow, tcpcore_end *end, const void *text, size_t
 /* The right edge of the window that the end would advertise. */
 static uint64_t edge_of(const struct flow *flow, const struct tcpcore_status *status)
 {
-    return status->next + flow->keeps - status->unread;
+    return status->rcv_position + flow->recv_capacity - status->unread;
 }
 
 /* What a window has to grow by to be told (RFC 9293, 3.8.6.2.2). */
-static uint64_t step_of(const struct flow *flow) { return smaller(flow->congestion.mss, flow->keeps / 2); }
+static uint64_t step_of(const struct flow *flow) { return smaller(flow->congestion.mss, flow->recv_capacity / 2); }
 
 uint32_t flow_receive(struct flow *flow, tcpcore_end *end, void *out, size_t room, size_t *count)
 {
     uint32_t answer = tcpcore_receive(end, out, room, count);
     struct tcpcore_status status = status_of(end);
-    uint64_t edge = flow->answers.edge, told = edge > status.next ? edge - status.next : 0;
-    if (answer == TCPCORE_DONE && 2 * told < flow->keeps && edge_of(flow, &status) >= edge + step_of(flow)) {
+    uint64_t edge = flow->answers.edge, reported = edge > status.rcv_position ? edge - status.rcv_position : 0;
+    if (answer == TCPCORE_DONE && 2 * reported < flow->recv_capacity && edge_of(flow, &status) >= edge + step_of(flow)) {
         tcpcore_acknowledge(end);
-        flow->is_owed = 1;
+        flow->is_ack_due = 1;
     }
     return answer;
 }
@@ -294,9 +294,9 @@ static uint64_t keep_at(const struct flow *flow)
 {
     uint32_t phase = flow->timers.phase;
     int is_silent = phase == TCPCORE_PHASE_ESTABLISHED || phase == TCPCORE_PHASE_FIN_WAIT_2;
-    if (flow->keep.idle == 0 || !is_silent || flight_of(flow) > 0)
+    if (flow->keep_alive.idle == 0 || !is_silent || flight_of(flow) > 0)
         return TIMERS_NEVER;
-    return flow->asked == 0 ? flow->heard_at + flow->keep.idle : flow->asked_at + flow->keep.interval;
+    return flow->keep_alives == 0 ? flow->heard_at + flow->keep_alive.idle : flow->keep_alive_sent_at + flow->keep_alive.interval;
 }
 
 /* Asks a silent peer, or gives it up. */
@@ -304,13 +304,13 @@ static uint32_t keep_alive(struct flow *flow, tcpcore_end *end, uint64_t now)
 {
     if (keep_at(flow) > now)
         return 0;
-    if (flow->asked >= flow->keep.most) {
+    if (flow->keep_alives >= flow->keep_alive.most) {
         tcpcore_abort(end);
-        return TIMERS_RAN | TIMERS_GAVE_UP;
+        return TIMERS_RAN | TIMERS_ABORTED;
     }
-    flow->asked++;
-    flow->asked_at = now;
-    flow->is_asking = 1;
+    flow->keep_alives++;
+    flow->keep_alive_sent_at = now;
+    flow->is_keep_alive_due = 1;
     tcpcore_acknowledge(end);
     return TIMERS_RAN;
 }
@@ -329,7 +329,7 @@ static uint32_t probe(struct flow *flow, tcpcore_end *end, uint64_t now)
         return 0;
     if (flow->congestion.loss != CONGESTION_TIMED_OUT ? !begin_first(flow, end, now) : !begin_anew(flow, end, now))
         return 0;
-    flow->probes++;
+    flow->tail_loss_probes++;
     return TIMERS_RAN;
 }
 
@@ -344,7 +344,7 @@ uint32_t flow_run(struct flow *flow, tcpcore_end *end, uint64_t now)
     if (found & (TIMERS_TIMED_OUT | TIMERS_LOST) && !flow->is_shut) {
         congestion_clock(&flow->congestion, now, trip_of(flow));
         congestion_lost(&flow->congestion, loss, flow->timers.resent, now);
-        flow->same = 0;
+        flow->duplicate_acks = 0;
         flow->is_resending = 1;
     }
     if (flight_of(flow) == 0 && now - flow->sent_at > flow->timers.rto)
@@ -368,22 +368,22 @@ static int answers_alone(const tcpcore_end *end, const struct tcpcore_transmit *
 static int fate_of(struct flow *flow, const tcpcore_end *end, uint64_t now)
 {
     struct tcpcore_transmit next;
-    int may_wait = !flow->is_owed && now < flow->answer_at;
+    int may_wait = !flow->is_ack_due && now < flow->delayed_ack_at;
     tcpcore_next(end, &next);
     /* All of it was acknowledged meanwhile, or has gone out. */
     if (next.kind != TCPCORE_KIND_TEXT_AGAIN && next.kind != TCPCORE_KIND_FIN_AGAIN)
         flow->is_resending = 0;
     if (flow->is_resending && !congestion_may_resend(&flow->congestion, now, trip_of(flow)))
         return may_wait ? WAITS : ANSWERS;
-    return may_wait && flow->unanswered > 0 && answers_alone(end, &next) ? WAITS : GOES;
+    return may_wait && flow->unacked > 0 && answers_alone(end, &next) ? WAITS : GOES;
 }
 
 /* Nothing that came waits for an acknowledgement. */
 static void answered(struct flow *flow)
 {
-    flow->unanswered = 0;
-    flow->answer_at = TIMERS_NEVER;
-    flow->is_owed = flow->is_urgent = 0;
+    flow->unacked = 0;
+    flow->delayed_ack_at = TIMERS_NEVER;
+    flow->is_ack_due = flow->is_urgent = 0;
 }
 
 /* A segment was emitted, of which this was reported. */
@@ -403,15 +403,15 @@ static void sent(struct flow *flow, const tcpcore_end *end, const uint8_t *segme
         flow->options = (uint32_t)(transmit->length - transmit->count - SEGMENT_HEADER);
     if (bits_of(segment, ACK)) {
         answered(flow);
-        answers_told(&flow->answers, segment, edge_of(flow, &status));
+        answers_sent(&flow->answers, segment, edge_of(flow, &status));
     }
 }
 
 /* Makes an acknowledgement one that asks: SEG.SEQ is one less (RFC 9293, 3.8.4), and the checksum follows (RFC 1624). */
 static int asks(struct flow *flow, uint8_t *segment, size_t length)
 {
-    int is_asking = flow->is_asking;
-    flow->is_asking = 0;
+    int is_asking = flow->is_keep_alive_due;
+    flow->is_keep_alive_due = 0;
     if (!is_asking || length != header_of(segment) || bits_of(segment, SYN | FIN | RST))
         return 0;
     uint32_t seq = read32(segment + AT_SEQ), sum = (uint32_t)(uint16_t)~read16(segment + AT_CHECKSUM);
@@ -468,7 +468,7 @@ uint32_t flow_emit(struct flow *flow, tcpcore_end *end, void *out, size_t room, 
 int flow_wait(const struct flow *flow, uint64_t now)
 {
     uint64_t paced = flow->is_resending ? congestion_resend_at(&flow->congestion, trip_of(flow)) : TIMERS_NEVER;
-    uint64_t at = smaller(smaller(flow->answer_at, paced), smaller(flow->override_at, keep_at(flow)));
+    uint64_t at = smaller(smaller(flow->delayed_ack_at, paced), smaller(flow->override_at, keep_at(flow)));
     at = smaller(at, flow->probe_at);
     uint64_t span = at <= now ? 0 : smaller(at - now, INT_MAX);
     int wait = timers_wait(&flow->timers, now);

@@ -4,7 +4,7 @@
  * delayed (RFC 9293, 3.8.6.3; RFC 5681, 4.2) and limited (RFC 5961, 7), and no silly windows (RFC 9293, 3.8.6.2): none is
  * advertised, and none is filled.
  *
- * This is C over tcpcore.h, timers.h, congestion.h and answers.h, tested and not proved. tcpcore_taken, tcpcore_send,
+ * This is C over tcpcore.h, timers.h, congestion.h and answers.h, tested and not proved. tcpcore_arrive_with_report, tcpcore_send,
  * tcpcore_receive, tcpcore_transmit, tcpcore_emit_acknowledgement and tcpcore_resend_first are called through it, and so is timers_run;
  * all other calls are made as they are.
  *
@@ -22,11 +22,11 @@
 #include "timers.h"
 
 /* How long an acknowledgement waits for a second segment, in milliseconds; below 500 (RFC 9293, 3.8.6.3). */
-#define FLOW_DELAY 40
+#define FLOW_ACK_DELAY 40
 
 /* What to send waits for no longer, in milliseconds, where a part of a segment has room in the window, and nothing is in flight
    (RFC 9293, 3.8.6.2.1: 0.1 to 1 s). */
-#define FLOW_OVERRIDE 500
+#define FLOW_SWS_OVERRIDE 500
 
 /* What may be chosen, as bits. */
 enum {
@@ -36,7 +36,7 @@ enum {
 
 /* When a peer of which nothing was heard is asked whether it is there (RFC 9293, 3.8.4). All zero: never, as the standard wants it
    where nobody asks for it. */
-struct flow_keep {
+struct flow_keep_alive {
     uint32_t idle;     /* after so many milliseconds: 2 hours or more */
     uint32_t interval; /* and again after each so many, above 0: 75 s by custom */
     uint32_t most;     /* and with so many unanswered the end is aborted, above 0: 9 by custom */
@@ -62,7 +62,7 @@ struct flow {
     uint64_t override_at;   /* when a part of a segment may fill a silly window, or TIMERS_NEVER */
     uint64_t heard_at;      /* when a segment came last */
     uint64_t asked_at;      /* when a silent peer was asked last */
-    struct flow_keep keep;
+    struct flow_keep_alive keep;
     uint32_t sampled;       /* the round trips that were measured when `doubled` was last 0 */
     uint32_t asked;         /* how often a silent peer was asked without an answer */
     uint32_t same;          /* duplicate acknowledgements in a row (RFC 5681, 2) */
@@ -75,7 +75,7 @@ struct flow {
     uint8_t is_shut;        /* the peer's window is, as the end has it: an old segment may say another */
     uint8_t is_resending;   /* what goes out next may go out again */
     uint8_t is_all;         /* and that is all that was sent, not its first segment */
-    uint8_t is_owed;        /* an acknowledgement may not wait */
+    uint8_t is_ack_due;        /* an acknowledgement may not wait */
     uint8_t is_urgent;      /* not even for the next arrival: emit now (RFC 5681, 4.2) */
 };
 
@@ -89,10 +89,10 @@ void flow_choose(struct flow *flow, uint32_t choices);
  * Asks a silent peer in ESTABLISHED and FIN-WAIT-2, where nothing is in flight: what goes out is the end's acknowledgement with
  * SEG.SEQ one less, which no peer takes and each answers (RFC 9293, 3.8.4). It is the one segment that isn't the end's own.
  */
-void flow_keep_alive(struct flow *flow, const struct flow_keep *keep);
+void flow_keep_alive(struct flow *flow, const struct flow_keep_alive *keep);
 
 /*
- * tcpcore_taken, and its answer. The third duplicate acknowledgement without blocks means a loss (fast retransmit, RFC 5681, 3.2): the
+ * tcpcore_arrive_with_report, and its answer. The third duplicate acknowledgement without blocks means a loss (fast retransmit, RFC 5681, 3.2): the
  * first segment goes out again, and the next missing one at each partial acknowledgement (fast recovery, RFC 6582); all of them where
  * the peer was seen to keep nothing out of order. A SYN that comes again in SYN-RECEIVED says that the SYN,ACK was lost: it goes out
  * in place of an acknowledgement, at most once in ANSWERS_QUIET milliseconds. Sets is_urgent where that wants an answer at once.
@@ -107,7 +107,7 @@ uint32_t flow_arrive(struct flow *flow, tcpcore_end *end, tcpcore_addr src, tcpc
 /*
  * Of a text of `length` bytes those that flow_send takes now (RFC 9293, 3.8.6.2.1): all that has room in both windows, or full
  * segments. Where nothing is in flight also what fills a room of half of the greatest window or more, a byte where the window is
- * shut, which probes it, and once FLOW_OVERRIDE has passed what has room. With FLOW_NAGLE nothing but full segments while anything
+ * shut, which probes it, and once FLOW_SWS_OVERRIDE has passed what has room. With FLOW_NAGLE nothing but full segments while anything
  * is in flight.
  */
 size_t flow_room(const struct flow *flow, size_t length);

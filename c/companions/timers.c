@@ -90,17 +90,17 @@ static void begin_anew(struct timers *timers, uint64_t now)
     timers->resent = 0;
 }
 
-void timers_taken(struct timers *timers, const tcpcore_end *end, const struct tcpcore_taken *taken, uint64_t now)
+void timers_arrived_with_report(struct timers *timers, const tcpcore_end *end, const struct tcpcore_arrive_report *taken, uint64_t now)
 {
     struct tcpcore_status status;
-    if (taken->window_taken && tcpcore_status(end, &status) == TCPCORE_DONE && status.snd_wnd == 0 && timers->una > 0)
+    if (taken->window_taken && tcpcore_status(end, &status) == TCPCORE_DONE && status.snd_wnd == 0 && timers->snd_una > 0)
         begin_anew(timers, now);
 }
 
 void timers_arrived(struct timers *timers, const void *segment, size_t length, uint64_t now)
 {
     const uint8_t *bytes = segment;
-    if (length >= SEGMENT_HEADER && bits_of(bytes, ACK) && read16(bytes + AT_WINDOW) == 0 && timers->una > 0)
+    if (length >= SEGMENT_HEADER && bits_of(bytes, ACK) && read16(bytes + AT_WINDOW) == 0 && timers->snd_una > 0)
         begin_anew(timers, now);
 }
 
@@ -128,8 +128,8 @@ static void sample(struct timers *timers, uint64_t milliseconds)
 /* The peer has acknowledged what it hadn't: the retransmission timer starts anew (RFC 6298, 5.3). */
 static void progress(struct timers *timers, uint64_t una, uint64_t now)
 {
-    int ends_handshake = timers->una == 0;
-    timers->una = una;
+    int ends_handshake = timers->snd_una == 0;
+    timers->snd_una = una;
     timers->reordered = 0;
     if (ends_handshake && timers->resent > 0 && timers->rules.first_rto < AFTER_SYN_RESENT)
         timers->rto = AFTER_SYN_RESENT;
@@ -144,7 +144,7 @@ static void progress(struct timers *timers, uint64_t una, uint64_t now)
 /* An end in FIN-WAIT-2 has a limit where the rules say so, from when it came there, and anew with all that comes. */
 static void limit_fin_wait_2(struct timers *timers, const struct tcpcore_status *status, uint64_t now)
 {
-    int is_moved = status->phase != timers->phase || status->next != timers->next;
+    int is_moved = status->phase != timers->phase || status->rcv_position != timers->rcv_position;
     if (status->phase != TCPCORE_PHASE_FIN_WAIT_2 || timers->rules.fin_wait_2 == 0)
         timers->left_at = TIMERS_NEVER;
     else if (is_moved)
@@ -159,9 +159,9 @@ static void follow(struct timers *timers, tcpcore_end *end, uint64_t now)
     if (tcpcore_status(end, &status) == TCPCORE_DONE && tcpcore_timers(end, &due) == TCPCORE_DONE) {
         limit_fin_wait_2(timers, &status, now);
         timers->phase = status.phase;
-        timers->next = status.next;
-        if (status.una != timers->una)
-            progress(timers, status.una, now);
+        timers->rcv_position = status.rcv_position;
+        if (status.snd_una != timers->snd_una)
+            progress(timers, status.snd_una, now);
     }
     for (uint32_t timer = 0; timer < 3; timer++) {
         int was_off = timers->deadline[timer] == TIMERS_NEVER;
@@ -195,7 +195,7 @@ static uint32_t retransmit(struct timers *timers, tcpcore_end *end, uint64_t now
 {
     if (is_given_up(timers, now)) {
         tcpcore_abort(end);
-        return TIMERS_RAN | TIMERS_GAVE_UP;
+        return TIMERS_RAN | TIMERS_ABORTED;
     }
     timers->resent++;
     timers->rto = timers->rto < timers->rules.greatest_rto / 2 ? 2 * timers->rto : timers->rules.greatest_rto;
@@ -209,7 +209,7 @@ uint32_t timers_run(struct timers *timers, tcpcore_end *end, uint64_t now)
     follow(timers, end, now);
     if (timers->left_at <= now) {
         tcpcore_abort(end);
-        found = TIMERS_RAN | TIMERS_GAVE_UP;
+        found = TIMERS_RAN | TIMERS_ABORTED;
     }
     for (uint32_t timer = 0; timer < 3; timer++) {
         if (timers->deadline[timer] > now)

@@ -4,7 +4,7 @@
  * This is C over tcpcore.h, tested and not proved. An end is right at any times; these are the standard's.
  *
  * The caller has the clock: `now` is a count of milliseconds that never goes back. In each turn of its loop it
- *   1. hands arrivals to tcpcore_taken, and each report to timers_taken,
+ *   1. hands arrivals to tcpcore_arrive_with_report, and each report to timers_arrived_with_report,
  *   2. calls timers_run, then makes its own calls (tcpcore_receive, tcpcore_send, tcpcore_close),
  *   3. transmits, and hands each report to timers_sent,
  *   4. calls timers_run once more, which starts the timers of what was sent, and waits for timers_wait at most.
@@ -42,7 +42,7 @@ extern const struct timers_rules TIMERS_RULES;
 enum {
     TIMERS_RAN = 1,     /* a timer ran out and its rule was applied: emit */
     TIMERS_SUSPECT = 2, /* a segment was resent r1 times or more: the path to the peer may be dead (RFC 9293, 3.8.3) */
-    TIMERS_GAVE_UP = 4, /* a limit was reached, and the end was aborted: emit its reset */
+    TIMERS_ABORTED = 4, /* a limit was reached, and the end was aborted: emit its reset */
     TIMERS_TIMED_OUT = 8, /* of those that ran out one was Retransmit */
     TIMERS_LOST = 16    /* one was Reorder: segments were lost */
 };
@@ -84,17 +84,17 @@ int timers_sent(struct timers *timers, const struct tcpcore_transmit *sent, uint
 int timers_emitted(struct timers *timers, const void *segment, size_t length, uint64_t now);
 
 /*
- * A segment has come to the end, of which tcpcore_taken reported this. A peer that answers with a window of 0 is there: it is
+ * A segment has come to the end, of which tcpcore_arrive_with_report reported this. A peer that answers with a window of 0 is there: it is
  * probed for as long as it answers (RFC 9293, 3.8.6.1).
  */
-void timers_taken(struct timers *timers, const tcpcore_end *end, const struct tcpcore_taken *taken, uint64_t now);
+void timers_arrived_with_report(struct timers *timers, const tcpcore_end *end, const struct tcpcore_arrive_report *taken, uint64_t now);
 
 /* The same of a segment of `length` bytes that tcpcore_arrive answered by TCPCORE_DONE. */
 void timers_arrived(struct timers *timers, const void *segment, size_t length, uint64_t now);
 
 /*
  * It is `now`: takes the sample of what was acknowledged, starts and stops the timers as tcpcore_timers says, and
- * applies those that have run out. Answers bits of TIMERS_RAN, TIMERS_SUSPECT and TIMERS_GAVE_UP, or 0.
+ * applies those that have run out. Answers bits of TIMERS_RAN, TIMERS_SUSPECT and TIMERS_ABORTED, or 0.
  */
 uint32_t timers_run(struct timers *timers, tcpcore_end *end, uint64_t now);
 

@@ -28,12 +28,12 @@ struct call {
 /* How many bytes each field of a record has, in turn. */
 static const u8 OF_CONFIG[] = {1, 1, 1, 1, 2, 2, 4, 4, 8, 8, 8, 1, 1, 1, 0};
 static const u8 OF_STATUS[] = {4, 4, 8, 8, 8, 8, 8, 8, 8, 8, 4, 1, 1, 1, 1, 4, 4, 8, 4, 4, 0};
-static const u8 OF_TAKEN[] = {4, 4, 8, 4, 4, 4, 0};
+static const u8 OF_ARRIVE_REPORT[] = {4, 4, 8, 4, 4, 4, 0};
 static const u8 OF_TRANSMIT[] = {1, 1, 1, 1, 4, 8, 8, 8, 0};
 static const u8 OF_TRAIN[] = {1, 1, 1, 1, 4, 8, 8, 8, 8, 8, 8, 0};
 static const u8 OF_LENT[] = {8, 8, 8, 8, 4, 0};
 static const u8 OF_PARTS[] = {1, 1, 1, 1, 4, 8, 8, 8, 8, 0};
-static const u8 OF_REST[] = {4, 1, 1, 1, 1, 1, 1, 1, 1, 2, 2, 4, 4, 4, 1, 1, 1, 1, 4, 4, 2, 1, 1, 2, 2, 0};
+static const u8 OF_TIME_WAIT[] = {4, 1, 1, 1, 1, 1, 1, 1, 1, 2, 2, 4, 4, 4, 1, 1, 1, 1, 4, 4, 2, 1, 1, 2, 2, 0};
 
 /* Carries a record between the program's memory and the module's: their fields lie at the same places. */
 static void carry_record(void *to, const void *from, const u8 *sizes)
@@ -228,26 +228,26 @@ static uint32_t tcp_c_arrive(struct handle *handle, const tcpcore_addr *src, con
     ANSWER(handle, w2c_tcp_c_arrive(M, AT_HANDLE, AT_SRC, AT_DST, WINDOW(IN_READ), length_of(length)));
 }
 
-static uint32_t tcp_c_take(struct handle *handle, const tcpcore_addr *src, const tcpcore_addr *dst, const uint8_t *bytes,
+static uint32_t tcp_c_arrive_with_at_once(struct handle *handle, const tcpcore_addr *src, const tcpcore_addr *dst, const uint8_t *bytes,
                            size_t length, uint32_t *at_once)
 {
     WITH_END(handle);
     put_segment(&call, src, dst, bytes, length);
     put32(call.frame + AT_FOUND, 0);
-    uint32_t answer = w2c_tcp_c_take(M, AT_HANDLE, AT_SRC, AT_DST, WINDOW(IN_READ), length_of(length), AT_FOUND);
+    uint32_t answer = w2c_tcp_c_arrive_with_at_once(M, AT_HANDLE, AT_SRC, AT_DST, WINDOW(IN_READ), length_of(length), AT_FOUND);
     *at_once = get32(call.frame + AT_FOUND);
     end_with(&call, handle);
     return answer;
 }
 
-static uint32_t tcp_c_taken(struct handle *handle, const tcpcore_addr *src, const tcpcore_addr *dst, const uint8_t *bytes,
-                            size_t length, struct tcpcore_taken *taken)
+static uint32_t tcp_c_arrive_with_report(struct handle *handle, const tcpcore_addr *src, const tcpcore_addr *dst, const uint8_t *bytes,
+                            size_t length, struct tcpcore_arrive_report *taken)
 {
     WITH_END(handle);
     put_segment(&call, src, dst, bytes, length);
-    carry_record(call.frame + AT_RECORD, taken, OF_TAKEN);
-    uint32_t answer = w2c_tcp_c_taken(M, AT_HANDLE, AT_SRC, AT_DST, WINDOW(IN_READ), length_of(length), AT_RECORD);
-    carry_record(taken, call.frame + AT_RECORD, OF_TAKEN);
+    carry_record(call.frame + AT_RECORD, taken, OF_ARRIVE_REPORT);
+    uint32_t answer = w2c_tcp_c_arrive_with_report(M, AT_HANDLE, AT_SRC, AT_DST, WINDOW(IN_READ), length_of(length), AT_RECORD);
+    carry_record(taken, call.frame + AT_RECORD, OF_ARRIVE_REPORT);
     end_with(&call, handle);
     return answer;
 }
@@ -260,14 +260,14 @@ static uint32_t tcp_c_arrive_vouched(struct handle *handle, const tcpcore_addr *
     ANSWER(handle, w2c_tcp_c_arrive_vouched(M, AT_HANDLE, AT_SRC, AT_DST, WINDOW(IN_READ), length_of(length)));
 }
 
-static uint32_t tcp_c_taken_vouched(struct handle *handle, const tcpcore_addr *src, const tcpcore_addr *dst, const uint8_t *bytes,
-                                    size_t length, struct tcpcore_taken *taken)
+static uint32_t tcp_c_arrive_vouched_with_report(struct handle *handle, const tcpcore_addr *src, const tcpcore_addr *dst, const uint8_t *bytes,
+                                    size_t length, struct tcpcore_arrive_report *taken)
 {
     WITH_END(handle);
     put_segment(&call, src, dst, bytes, length);
-    carry_record(call.frame + AT_RECORD, taken, OF_TAKEN);
-    uint32_t answer = w2c_tcp_c_taken_vouched(M, AT_HANDLE, AT_SRC, AT_DST, WINDOW(IN_READ), length_of(length), AT_RECORD);
-    carry_record(taken, call.frame + AT_RECORD, OF_TAKEN);
+    carry_record(call.frame + AT_RECORD, taken, OF_ARRIVE_REPORT);
+    uint32_t answer = w2c_tcp_c_arrive_vouched_with_report(M, AT_HANDLE, AT_SRC, AT_DST, WINDOW(IN_READ), length_of(length), AT_RECORD);
+    carry_record(taken, call.frame + AT_RECORD, OF_ARRIVE_REPORT);
     end_with(&call, handle);
     return answer;
 }
@@ -429,71 +429,71 @@ static uint32_t tcp_c_status(struct handle *handle, struct tcpcore_status *statu
     return answer;
 }
 
-static uint32_t tcp_c_rest(struct handle *handle, struct tcpcore_rest *rest)
+static uint32_t tcp_c_time_wait(struct handle *handle, struct tcpcore_time_wait *time_wait)
 {
     WITH_END(handle);
-    carry_record(call.frame + AT_RECORD, rest, OF_REST);
-    uint32_t answer = w2c_tcp_c_rest(M, AT_HANDLE, AT_RECORD);
-    carry_record(rest, call.frame + AT_RECORD, OF_REST);
+    carry_record(call.frame + AT_RECORD, time_wait, OF_TIME_WAIT);
+    uint32_t answer = w2c_tcp_c_time_wait(M, AT_HANDLE, AT_RECORD);
+    carry_record(time_wait, call.frame + AT_RECORD, OF_TIME_WAIT);
     end_with(&call, handle);
     return answer;
 }
 
 /* A call of the module with what rests in a struct. */
-#define WITH_REST(rest) \
+#define WITH_TIME_WAIT(time_wait) \
     struct call call; \
     begin(&call); \
-    carry_record(call.frame + AT_RECORD, rest, OF_REST)
-#define ANSWER_OF_REST(rest, made) \
+    carry_record(call.frame + AT_RECORD, time_wait, OF_TIME_WAIT)
+#define ANSWER_OF_TIME_WAIT(time_wait, made) \
     uint32_t answer = made; \
-    carry_record(rest, call.frame + AT_RECORD, OF_REST); \
+    carry_record(time_wait, call.frame + AT_RECORD, OF_TIME_WAIT); \
     return answer
 
-static uint32_t tcp_c_rest_arrive(struct tcpcore_rest *rest, const tcpcore_addr *src, const tcpcore_addr *dst, const uint8_t *bytes,
+static uint32_t tcp_c_time_wait_arrive(struct tcpcore_time_wait *time_wait, const tcpcore_addr *src, const tcpcore_addr *dst, const uint8_t *bytes,
                                   size_t length)
 {
-    WITH_REST(rest);
+    WITH_TIME_WAIT(time_wait);
     put_segment(&call, src, dst, bytes, length);
-    ANSWER_OF_REST(rest, w2c_tcp_c_rest_arrive(M, AT_RECORD, AT_SRC, AT_DST, WINDOW(IN_READ), length_of(length)));
+    ANSWER_OF_TIME_WAIT(time_wait, w2c_tcp_c_time_wait_arrive(M, AT_RECORD, AT_SRC, AT_DST, WINDOW(IN_READ), length_of(length)));
 }
 
-static uint32_t tcp_c_rest_timer(struct tcpcore_rest *rest, uint32_t timer)
+static uint32_t tcp_c_time_wait_timer(struct tcpcore_time_wait *time_wait, uint32_t timer)
 {
-    WITH_REST(rest);
-    ANSWER_OF_REST(rest, w2c_tcp_c_rest_timer(M, AT_RECORD, timer));
+    WITH_TIME_WAIT(time_wait);
+    ANSWER_OF_TIME_WAIT(time_wait, w2c_tcp_c_time_wait_timer(M, AT_RECORD, timer));
 }
 
-static uint32_t tcp_c_rest_emit(struct tcpcore_rest *rest, uint8_t *out, size_t room, tcpcore_addr *to, size_t *length)
+static uint32_t tcp_c_time_wait_emit(struct tcpcore_time_wait *time_wait, uint8_t *out, size_t room, tcpcore_addr *to, size_t *length)
 {
-    WITH_REST(rest);
+    WITH_TIME_WAIT(time_wait);
     put_written(&call, to, out, room);
-    uint32_t answer = w2c_tcp_c_rest_emit(M, AT_RECORD, WINDOW(IN_WRITTEN), length_of(room), AT_DST, AT_FOUND);
+    uint32_t answer = w2c_tcp_c_time_wait_emit(M, AT_RECORD, WINDOW(IN_WRITTEN), length_of(room), AT_DST, AT_FOUND);
     get_written(&call, to, length);
-    carry_record(rest, call.frame + AT_RECORD, OF_REST);
+    carry_record(time_wait, call.frame + AT_RECORD, OF_TIME_WAIT);
     return answer;
 }
 
-static uint32_t tcp_c_rest_pending(const struct tcpcore_rest *rest, uint32_t *due)
+static uint32_t tcp_c_time_wait_pending(const struct tcpcore_time_wait *time_wait, uint32_t *due)
 {
-    WITH_REST(rest);
+    WITH_TIME_WAIT(time_wait);
     put32(call.frame + AT_FOUND, 0);
-    uint32_t answer = w2c_tcp_c_rest_pending(M, AT_RECORD, AT_FOUND);
+    uint32_t answer = w2c_tcp_c_time_wait_pending(M, AT_RECORD, AT_FOUND);
     *due = get32(call.frame + AT_FOUND);
     return answer;
 }
 
-static uint32_t tcp_c_rest_abort(struct tcpcore_rest *rest)
+static uint32_t tcp_c_time_wait_abort(struct tcpcore_time_wait *time_wait)
 {
-    WITH_REST(rest);
-    ANSWER_OF_REST(rest, w2c_tcp_c_rest_abort(M, AT_RECORD));
+    WITH_TIME_WAIT(time_wait);
+    ANSWER_OF_TIME_WAIT(time_wait, w2c_tcp_c_time_wait_abort(M, AT_RECORD));
 }
 
-static uint32_t tcp_c_rest_status(const struct tcpcore_rest *rest, uint32_t *phase, uint32_t *ending)
+static uint32_t tcp_c_time_wait_status(const struct tcpcore_time_wait *time_wait, uint32_t *phase, uint32_t *ending)
 {
-    WITH_REST(rest);
+    WITH_TIME_WAIT(time_wait);
     put32(call.frame + AT_FOUND, 0);
     put32(call.frame + AT_OTHER, 0);
-    uint32_t answer = w2c_tcp_c_rest_status(M, AT_RECORD, AT_FOUND, AT_OTHER);
+    uint32_t answer = w2c_tcp_c_time_wait_status(M, AT_RECORD, AT_FOUND, AT_OTHER);
     *phase = get32(call.frame + AT_FOUND);
     *ending = get32(call.frame + AT_OTHER);
     return answer;

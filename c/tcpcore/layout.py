@@ -58,10 +58,10 @@ STRUCTS = {
     "CAddr": Struct("tcpcore_addr"),
     "CConfig": Struct("tcpcore_config"),
     "CStatus": Struct("struct tcpcore_status", 128),
-    "CTaken": Struct("struct tcpcore_taken", 64),
+    "CArriveReport": Struct("struct tcpcore_arrive_report", 64),
     "CTransmit": Struct("struct tcpcore_transmit", 64),
     "CTrain": Struct("struct train", inner=True),
-    "CRest": Struct("struct tcpcore_rest"),
+    "CTimeWait": Struct("struct tcpcore_time_wait"),
     "CLent": Struct("struct lent", inner=True),
     "CParts": Struct("struct parts", inner=True),
 }

@@ -50,11 +50,11 @@ uint32_t tcp_c_close(struct handle *);
 uint32_t tcp_c_abort(struct handle *);
 uint32_t tcp_c_timer(struct handle *, uint32_t);
 uint32_t tcp_c_arrive(struct handle *, const tcpcore_addr *, const tcpcore_addr *, const uint8_t *, size_t);
-uint32_t tcp_c_take(struct handle *, const tcpcore_addr *, const tcpcore_addr *, const uint8_t *, size_t, uint32_t *);
-uint32_t tcp_c_taken(struct handle *, const tcpcore_addr *, const tcpcore_addr *, const uint8_t *, size_t, struct tcpcore_taken *);
+uint32_t tcp_c_arrive_with_at_once(struct handle *, const tcpcore_addr *, const tcpcore_addr *, const uint8_t *, size_t, uint32_t *);
+uint32_t tcp_c_arrive_with_report(struct handle *, const tcpcore_addr *, const tcpcore_addr *, const uint8_t *, size_t, struct tcpcore_arrive_report *);
 uint32_t tcp_c_arrive_vouched(struct handle *, const tcpcore_addr *, const tcpcore_addr *, const uint8_t *, size_t);
-uint32_t tcp_c_taken_vouched(struct handle *, const tcpcore_addr *, const tcpcore_addr *, const uint8_t *, size_t,
-                             struct tcpcore_taken *);
+uint32_t tcp_c_arrive_vouched_with_report(struct handle *, const tcpcore_addr *, const tcpcore_addr *, const uint8_t *, size_t,
+                             struct tcpcore_arrive_report *);
 uint32_t tcp_c_peek(struct handle *, struct lent *);
 uint32_t tcp_c_consume(struct handle *, size_t, size_t *);
 uint32_t tcp_c_emit(struct handle *, uint8_t *, size_t, tcpcore_addr *, size_t *);
@@ -71,13 +71,13 @@ uint32_t tcp_c_stray_reset(const tcpcore_addr *, const tcpcore_addr *, const uin
 uint32_t tcp_c_timers(struct handle *, uint32_t *);
 uint32_t tcp_c_peer(struct handle *, tcpcore_addr *, uint16_t *);
 uint32_t tcp_c_status(struct handle *, struct tcpcore_status *);
-uint32_t tcp_c_rest(struct handle *, struct tcpcore_rest *);
-uint32_t tcp_c_rest_arrive(struct tcpcore_rest *, const tcpcore_addr *, const tcpcore_addr *, const uint8_t *, size_t);
-uint32_t tcp_c_rest_timer(struct tcpcore_rest *, uint32_t);
-uint32_t tcp_c_rest_emit(struct tcpcore_rest *, uint8_t *, size_t, tcpcore_addr *, size_t *);
-uint32_t tcp_c_rest_pending(const struct tcpcore_rest *, uint32_t *);
-uint32_t tcp_c_rest_abort(struct tcpcore_rest *);
-uint32_t tcp_c_rest_status(const struct tcpcore_rest *, uint32_t *, uint32_t *);
+uint32_t tcp_c_time_wait(struct handle *, struct tcpcore_time_wait *);
+uint32_t tcp_c_time_wait_arrive(struct tcpcore_time_wait *, const tcpcore_addr *, const tcpcore_addr *, const uint8_t *, size_t);
+uint32_t tcp_c_time_wait_timer(struct tcpcore_time_wait *, uint32_t);
+uint32_t tcp_c_time_wait_emit(struct tcpcore_time_wait *, uint8_t *, size_t, tcpcore_addr *, size_t *);
+uint32_t tcp_c_time_wait_pending(const struct tcpcore_time_wait *, uint32_t *);
+uint32_t tcp_c_time_wait_abort(struct tcpcore_time_wait *);
+uint32_t tcp_c_time_wait_status(const struct tcpcore_time_wait *, uint32_t *, uint32_t *);
 
 STEP struct handle *handle(tcpcore_end *end) { return (struct handle *)end->opaque; }
 
@@ -120,7 +120,7 @@ struct object {
 
 STEP struct object end_at(const tcpcore_end *end) { return (struct object){end, sizeof *end}; }
 
-STEP struct object rest_at(const struct tcpcore_rest *rest) { return (struct object){rest, sizeof *rest}; }
+STEP struct object time_wait_at(const struct tcpcore_time_wait *time_wait) { return (struct object){time_wait, sizeof *time_wait}; }
 
 /* Whether it may be written there: not over the struct, and not over the buffer of the same call. */
 STEP int is_apart(struct place place, struct object object, const void *bytes, size_t length)
@@ -292,11 +292,11 @@ uint32_t tcpcore_peek(const tcpcore_end *end, struct tcpcore_lent *lent)
     uint32_t refused = refusal_with(end, NULL, 0, place), answer = refused;
     if (refused == TCPCORE_DONE) {
         struct handle copy = copy_of(end);
-        struct lent told = {.ends = 0};
-        answer = tcp_c_peek(&copy, &told);
-        found.first = piece_of(told.first, told.first_length);
-        found.second = piece_of(told.second, told.second_length);
-        found.ends = told.ends;
+        struct lent reported = {.ends = 0};
+        answer = tcp_c_peek(&copy, &reported);
+        found.first = piece_of(reported.first, reported.first_length);
+        found.second = piece_of(reported.second, reported.second_length);
+        found.ends = reported.ends;
     }
     put(refused, place, end_at(end), NULL, 0, &found);
     return answer;
@@ -349,25 +349,25 @@ uint32_t tcpcore_arrive(tcpcore_end *end, tcpcore_addr src, tcpcore_addr dst, co
     return answer != TCPCORE_DONE ? answer : tcp_c_arrive(handle(end), &src, &dst, front(bytes), length);
 }
 
-uint32_t tcpcore_take(tcpcore_end *end, tcpcore_addr src, tcpcore_addr dst, const void *bytes, size_t length, uint32_t *at_once)
+uint32_t tcpcore_arrive_with_at_once(tcpcore_end *end, tcpcore_addr src, tcpcore_addr dst, const void *bytes, size_t length, uint32_t *at_once)
 {
     uint32_t found = 0;
     struct place place = {at_once, sizeof *at_once};
     uint32_t refused = refusal_with(end, bytes, length, place), answer = refused;
     if (refused == TCPCORE_DONE)
-        answer = tcp_c_take(handle(end), &src, &dst, front(bytes), length, &found);
+        answer = tcp_c_arrive_with_at_once(handle(end), &src, &dst, front(bytes), length, &found);
     put(refused, place, end_at(end), bytes, length, &found);
     return answer;
 }
 
-uint32_t tcpcore_taken(tcpcore_end *end, tcpcore_addr src, tcpcore_addr dst, const void *bytes, size_t length,
-                       struct tcpcore_taken *taken)
+uint32_t tcpcore_arrive_with_report(tcpcore_end *end, tcpcore_addr src, tcpcore_addr dst, const void *bytes, size_t length,
+                       struct tcpcore_arrive_report *taken)
 {
-    struct tcpcore_taken found = {0};
+    struct tcpcore_arrive_report found = {0};
     struct place place = {taken, sizeof *taken};
     uint32_t refused = refusal_with(end, bytes, length, place), answer = refused;
     if (refused == TCPCORE_DONE)
-        answer = tcp_c_taken(handle(end), &src, &dst, front(bytes), length, &found);
+        answer = tcp_c_arrive_with_report(handle(end), &src, &dst, front(bytes), length, &found);
     put(refused, place, end_at(end), bytes, length, &found);
     return answer;
 }
@@ -378,14 +378,14 @@ uint32_t tcpcore_arrive_vouched(tcpcore_end *end, tcpcore_addr src, tcpcore_addr
     return answer != TCPCORE_DONE ? answer : tcp_c_arrive_vouched(handle(end), &src, &dst, front(bytes), length);
 }
 
-uint32_t tcpcore_taken_vouched(tcpcore_end *end, tcpcore_addr src, tcpcore_addr dst, const void *bytes, size_t length,
-                               struct tcpcore_taken *taken)
+uint32_t tcpcore_arrive_vouched_with_report(tcpcore_end *end, tcpcore_addr src, tcpcore_addr dst, const void *bytes, size_t length,
+                               struct tcpcore_arrive_report *taken)
 {
-    struct tcpcore_taken found = {0};
+    struct tcpcore_arrive_report found = {0};
     struct place place = {taken, sizeof *taken};
     uint32_t refused = refusal_with(end, bytes, length, place), answer = refused;
     if (refused == TCPCORE_DONE)
-        answer = tcp_c_taken_vouched(handle(end), &src, &dst, front(bytes), length, &found);
+        answer = tcp_c_arrive_vouched_with_report(handle(end), &src, &dst, front(bytes), length, &found);
     put(refused, place, end_at(end), bytes, length, &found);
     return answer;
 }
@@ -436,16 +436,16 @@ uint32_t tcpcore_emit_train(tcpcore_end *end, void *out, size_t room, size_t mos
     struct place place = {train, sizeof *train};
     uint32_t refused = refusal_with(end, out, room, place), answer = refused;
     if (refused == TCPCORE_DONE) {
-        struct train told = {.segments = 0};
-        answer = tcp_c_emit_train(handle(end), start(out), room, most, &told);
-        found.whole.to = told.to;
-        found.whole.kind = told.kind;
-        found.whole.length = told.length;
-        found.whole.position = told.position;
-        found.whole.count = told.count;
-        found.header = told.header;
-        found.each = told.each;
-        found.segments = told.segments;
+        struct train reported = {.segments = 0};
+        answer = tcp_c_emit_train(handle(end), start(out), room, most, &reported);
+        found.whole.to = reported.to;
+        found.whole.kind = reported.kind;
+        found.whole.length = reported.length;
+        found.whole.position = reported.position;
+        found.whole.count = reported.count;
+        found.header = reported.header;
+        found.each = reported.each;
+        found.segments = reported.segments;
     }
     put(refused, place, end_at(end), out, room, &found);
     return answer;
@@ -458,12 +458,12 @@ uint32_t tcpcore_parts(const tcpcore_end *end, void *header, size_t room, struct
     uint32_t refused = refusal_with(end, header, room, place), answer = refused;
     if (refused == TCPCORE_DONE) {
         struct handle copy = copy_of(end);
-        struct parts told = {.header = 0};
-        answer = tcp_c_parts(&copy, start(header), room, &told);
-        found.to = told.to;
-        found.header = told.header;
-        found.first = piece_of(told.first, told.first_length);
-        found.second = piece_of(told.second, told.second_length);
+        struct parts reported = {.header = 0};
+        answer = tcp_c_parts(&copy, start(header), room, &reported);
+        found.to = reported.to;
+        found.header = reported.header;
+        found.first = piece_of(reported.first, reported.first_length);
+        found.second = piece_of(reported.second, reported.second_length);
     }
     put(refused, place, end_at(end), header, room, &found);
     return answer;
@@ -583,65 +583,65 @@ uint32_t tcpcore_status(const tcpcore_end *end, struct tcpcore_status *status)
     return answer;
 }
 
-uint32_t tcpcore_rest(const tcpcore_end *end, struct tcpcore_rest *rest)
+uint32_t tcpcore_time_wait(const tcpcore_end *end, struct tcpcore_time_wait *time_wait)
 {
-    struct tcpcore_rest found = {0};
-    struct place place = {rest, sizeof *rest};
+    struct tcpcore_time_wait found = {0};
+    struct place place = {time_wait, sizeof *time_wait};
     uint32_t refused = refusal_with(end, NULL, 0, place), answer = refused;
     if (refused == TCPCORE_DONE) {
         struct handle copy = copy_of(end);
-        answer = tcp_c_rest(&copy, &found);
+        answer = tcp_c_time_wait(&copy, &found);
     }
     put(refused, place, end_at(end), NULL, 0, &found);
     return answer;
 }
 
-uint32_t tcpcore_rest_arrive(struct tcpcore_rest *rest, tcpcore_addr src, tcpcore_addr dst, const void *bytes, size_t length)
+uint32_t tcpcore_time_wait_arrive(struct tcpcore_time_wait *time_wait, tcpcore_addr src, tcpcore_addr dst, const void *bytes, size_t length)
 {
-    uint32_t answer = refusal_beside(rest_at(rest), bytes, length, (struct place){NOWHERE, 0});
-    return answer != TCPCORE_DONE ? answer : tcp_c_rest_arrive(rest, &src, &dst, front(bytes), length);
+    uint32_t answer = refusal_beside(time_wait_at(time_wait), bytes, length, (struct place){NOWHERE, 0});
+    return answer != TCPCORE_DONE ? answer : tcp_c_time_wait_arrive(time_wait, &src, &dst, front(bytes), length);
 }
 
-uint32_t tcpcore_rest_timer(struct tcpcore_rest *rest, uint32_t timer)
+uint32_t tcpcore_time_wait_timer(struct tcpcore_time_wait *time_wait, uint32_t timer)
 {
-    return rest ? tcp_c_rest_timer(rest, timer) : TCPCORE_NULL;
+    return time_wait ? tcp_c_time_wait_timer(time_wait, timer) : TCPCORE_NULL;
 }
 
-uint32_t tcpcore_rest_emit(struct tcpcore_rest *rest, void *out, size_t room, tcpcore_addr *to, size_t *length)
+uint32_t tcpcore_time_wait_emit(struct tcpcore_time_wait *time_wait, void *out, size_t room, tcpcore_addr *to, size_t *length)
 {
     tcpcore_addr address = {{0, 0, 0, 0}};
     size_t found = 0;
     struct place where = {to, sizeof *to}, place = {length, sizeof *length};
-    uint32_t refused = refusal_beside_two(rest_at(rest), out, room, where, place), answer = refused;
+    uint32_t refused = refusal_beside_two(time_wait_at(time_wait), out, room, where, place), answer = refused;
     if (refused == TCPCORE_DONE)
-        answer = tcp_c_rest_emit(rest, start(out), room, &address, &found);
-    put(refused, where, rest_at(rest), out, room, &address);
-    put(refused, place, rest_at(rest), out, room, &found);
+        answer = tcp_c_time_wait_emit(time_wait, start(out), room, &address, &found);
+    put(refused, where, time_wait_at(time_wait), out, room, &address);
+    put(refused, place, time_wait_at(time_wait), out, room, &found);
     return answer;
 }
 
-uint32_t tcpcore_rest_pending(const struct tcpcore_rest *rest, uint32_t *due)
+uint32_t tcpcore_time_wait_pending(const struct tcpcore_time_wait *time_wait, uint32_t *due)
 {
     uint32_t found = 0;
     struct place place = {due, sizeof *due};
-    uint32_t refused = refusal_beside(rest_at(rest), NULL, 0, place), answer = refused;
+    uint32_t refused = refusal_beside(time_wait_at(time_wait), NULL, 0, place), answer = refused;
     if (refused == TCPCORE_DONE)
-        answer = tcp_c_rest_pending(rest, &found);
-    put(refused, place, rest_at(rest), NULL, 0, &found);
+        answer = tcp_c_time_wait_pending(time_wait, &found);
+    put(refused, place, time_wait_at(time_wait), NULL, 0, &found);
     return answer;
 }
 
-uint32_t tcpcore_rest_abort(struct tcpcore_rest *rest) { return rest ? tcp_c_rest_abort(rest) : TCPCORE_NULL; }
+uint32_t tcpcore_time_wait_abort(struct tcpcore_time_wait *time_wait) { return time_wait ? tcp_c_time_wait_abort(time_wait) : TCPCORE_NULL; }
 
-uint32_t tcpcore_rest_status(const struct tcpcore_rest *rest, uint32_t *phase, uint32_t *ending)
+uint32_t tcpcore_time_wait_status(const struct tcpcore_time_wait *time_wait, uint32_t *phase, uint32_t *ending)
 {
     uint32_t found[2] = {0, 0};
     struct place one = {phase, sizeof *phase}, other = {ending, sizeof *ending};
-    uint32_t refused = refusal_beside_two(rest_at(rest), NULL, 0, one, other), answer = refused;
+    uint32_t refused = refusal_beside_two(time_wait_at(time_wait), NULL, 0, one, other), answer = refused;
     if (refused == TCPCORE_DONE)
-        answer = tcp_c_rest_status(rest, &found[0], &found[1]);
-    put(refused, one, rest_at(rest), NULL, 0, &found[0]);
-    put(refused, other, rest_at(rest), NULL, 0, &found[1]);
+        answer = tcp_c_time_wait_status(time_wait, &found[0], &found[1]);
+    put(refused, one, time_wait_at(time_wait), NULL, 0, &found[0]);
+    put(refused, other, time_wait_at(time_wait), NULL, 0, &found[1]);
     return answer;
 }
 
@@ -673,14 +673,14 @@ static const char *const TEXTS[] = {
     [TCPCORE_LENGTH] = "a length is above PTRDIFF_MAX",
     [TCPCORE_COPIED] = "the struct was copied, moved or never set",
     [TCPCORE_OVERLAP] = "a buffer or a pointer overlaps the struct or another one",
-    [TCPCORE_NO_REST] = "no rest is in the struct",
+    [TCPCORE_NO_TIME_WAIT] = "no rest is in the struct",
     [TCPCORE_NOTHING] = "nothing to read yet",
     [TCPCORE_END_OF_STREAM] = "the peer has closed, and all its bytes were read",
     [TCPCORE_NOT_DUE] = "no segment is due",
     [TCPCORE_NO_RULE] = "this timer isn't running",
     [TCPCORE_DROPPED] = "the segment was passed over",
     [TCPCORE_NOT_MINE] = "the segment is another connection's",
-    [TCPCORE_NOT_AT_REST] = "not in TIME-WAIT, or bytes are unread",
+    [TCPCORE_NOT_TIME_WAIT] = "not in TIME-WAIT, or bytes are unread",
 };
 
 const char *tcpcore_strerror(uint32_t answer)

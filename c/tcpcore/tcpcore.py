@@ -19,7 +19,7 @@ VERSION = 8
 EMIT_ROOM = 1520
 TRAIN_ROOM = 65_515
 RESET_ROOM = 20
-REST_ROOM = 20
+TIME_WAIT_ROOM = 20
 STRUCT_ROOM = 32
 LIMIT = 2_147_483_632
 
@@ -33,8 +33,8 @@ class Answer(enum.IntEnum):
     DONE, TOO_SHORT, TOO_LONG, BAD_CHECKSUM, BAD_OFFSET, BAD_OPTION, BAD_PADDING = range(7)
     NOT_OPEN, ALREADY_OPEN, CLOSING, ENDED, STREAM_FULL, NOT_CONNECTED = range(11, 17)
     BAD_CAPACITY, NO_MEMORY, BAD_MSS, BAD_SHIFT, BAD_LIMIT = range(21, 26)
-    NO_END, IN_USE, ROOM, NO_TIMER, NULL, LENGTH, COPIED, OVERLAP, NO_REST = range(31, 40)
-    NOTHING, END_OF_STREAM, NOT_DUE, NO_RULE, DROPPED, NOT_MINE, NOT_AT_REST = range(51, 58)
+    NO_END, IN_USE, ROOM, NO_TIMER, NULL, LENGTH, COPIED, OVERLAP, NO_TIME_WAIT = range(31, 40)
+    NOTHING, END_OF_STREAM, NOT_DUE, NO_RULE, DROPPED, NOT_MINE, NOT_TIME_WAIT = range(51, 58)
 
     def __str__(self) -> str:
         return str(int(self))
@@ -50,8 +50,8 @@ class Answer(enum.IntEnum):
 DONE, TOO_SHORT, TOO_LONG, BAD_CHECKSUM, BAD_OFFSET, BAD_OPTION, BAD_PADDING = list(Answer)[:7]
 NOT_OPEN, ALREADY_OPEN, CLOSING, ENDED, STREAM_FULL, NOT_CONNECTED = list(Answer)[7:13]
 BAD_CAPACITY, NO_MEMORY, BAD_MSS, BAD_SHIFT, BAD_LIMIT = list(Answer)[13:18]
-NO_END, IN_USE, ROOM, NO_TIMER, NULL, LENGTH, COPIED, OVERLAP, NO_REST = list(Answer)[18:27]
-NOTHING, END_OF_STREAM, NOT_DUE, NO_RULE, DROPPED, NOT_MINE, NOT_AT_REST = list(Answer)[27:]
+NO_END, IN_USE, ROOM, NO_TIMER, NULL, LENGTH, COPIED, OVERLAP, NO_TIME_WAIT = list(Answer)[18:27]
+NOTHING, END_OF_STREAM, NOT_DUE, NO_RULE, DROPPED, NOT_MINE, NOT_TIME_WAIT = list(Answer)[27:]
 
 
 class Phase(str, enum.Enum):
@@ -137,8 +137,8 @@ class Status(NamedTuple):
     unread: int
     released: int
     ordered: int
-    una: int
-    next: int
+    snd_una: int
+    rcv_position: int
     room: int
     queued: int
     in_flight: int
@@ -149,13 +149,13 @@ class Status(NamedTuple):
     sack: int
     snd_wnd: int
     rcv_wnd: int
-    nxt: int
+    snd_nxt: int
     closing: int
     finished: int
 
 
-class Taken(NamedTuple):
-    """What `taken` reports of a segment: struct tcpcore_taken has each field's meaning."""
+class ArriveReport(NamedTuple):
+    """What `arrive_with_report` reports of a segment: struct tcpcore_arrive_report has each field's meaning."""
 
     at_once: bool
     rule: Rule
@@ -225,7 +225,7 @@ class Refused(Exception):
 
 
 ANSWERS = frozenset(map(int, Answer))
-REFUSALS = frozenset((NO_END, IN_USE, ROOM, NO_TIMER, NULL, LENGTH, COPIED, OVERLAP, NO_REST))
+REFUSALS = frozenset((NO_END, IN_USE, ROOM, NO_TIMER, NULL, LENGTH, COPIED, OVERLAP, NO_TIME_WAIT))
 
 
 class EndStruct(ctypes.Structure):
@@ -262,8 +262,8 @@ class StatusStruct(ctypes.Structure):
         ("unread", ctypes.c_uint64),
         ("released", ctypes.c_uint64),
         ("ordered", ctypes.c_uint64),
-        ("una", ctypes.c_uint64),
-        ("next", ctypes.c_uint64),
+        ("snd_una", ctypes.c_uint64),
+        ("rcv_position", ctypes.c_uint64),
         ("room", ctypes.c_uint64),
         ("queued", ctypes.c_uint64),
         ("in_flight", ctypes.c_uint64),
@@ -274,14 +274,14 @@ class StatusStruct(ctypes.Structure):
         ("sack", ctypes.c_uint8),
         ("snd_wnd", ctypes.c_uint32),
         ("rcv_wnd", ctypes.c_uint32),
-        ("nxt", ctypes.c_uint64),
+        ("snd_nxt", ctypes.c_uint64),
         ("closing", ctypes.c_uint32),
         ("finished", ctypes.c_uint32),
         ("reserved", ctypes.c_uint32 * 6),
     ]
 
 
-class TakenStruct(ctypes.Structure):
+class ArriveReportStruct(ctypes.Structure):
     _fields_ = [
         ("at_once", ctypes.c_uint32),
         ("rule", ctypes.c_uint32),
@@ -322,16 +322,16 @@ class LentStruct(ctypes.Structure):
     _fields_ = [("first", PieceStruct), ("second", PieceStruct), ("ends", ctypes.c_uint32), ("reserved", ctypes.c_uint32 * 7)]
 
 
-class RestStruct(ctypes.Structure):
+class TimeWaitStruct(ctypes.Structure):
     _fields_ = [
         ("mark", ctypes.c_uint32),
         ("addr", AddrStruct),
         ("peer_addr", AddrStruct),
         ("port", ctypes.c_uint16),
         ("peer_port", ctypes.c_uint16),
-        ("seq", ctypes.c_uint32),
-        ("next", ctypes.c_uint32),
-        ("window", ctypes.c_uint32),
+        ("snd_nxt", ctypes.c_uint32),
+        ("rcv_nxt", ctypes.c_uint32),
+        ("rcv_wnd", ctypes.c_uint32),
         ("reset_addr", AddrStruct),
         ("reset_seq", ctypes.c_uint32),
         ("reset_ack", ctypes.c_uint32),
@@ -344,7 +344,7 @@ class RestStruct(ctypes.Structure):
 
 
 END, SIZE, OUT = ctypes.POINTER(EndStruct), ctypes.c_size_t, ctypes.POINTER(ctypes.c_size_t)
-REST, WORD = ctypes.POINTER(RestStruct), ctypes.POINTER(ctypes.c_uint32)
+RECORD, WORD = ctypes.POINTER(TimeWaitStruct), ctypes.POINTER(ctypes.c_uint32)
 CALLS = {
     "new": [END, ctypes.POINTER(ConfigStruct), ctypes.c_char_p, SIZE],
     "new_at": [ctypes.POINTER(END), ctypes.POINTER(ConfigStruct), ctypes.c_char_p, SIZE],
@@ -359,10 +359,10 @@ CALLS = {
     "abort": [END],
     "timer": [END, ctypes.c_uint32],
     "arrive": [END, AddrStruct, AddrStruct, ctypes.c_char_p, SIZE],
-    "take": [END, AddrStruct, AddrStruct, ctypes.c_char_p, SIZE, ctypes.POINTER(ctypes.c_uint32)],
-    "taken": [END, AddrStruct, AddrStruct, ctypes.c_char_p, SIZE, ctypes.POINTER(TakenStruct)],
+    "arrive_with_at_once": [END, AddrStruct, AddrStruct, ctypes.c_char_p, SIZE, ctypes.POINTER(ctypes.c_uint32)],
+    "arrive_with_report": [END, AddrStruct, AddrStruct, ctypes.c_char_p, SIZE, ctypes.POINTER(ArriveReportStruct)],
     "arrive_vouched": [END, AddrStruct, AddrStruct, ctypes.c_char_p, SIZE],
-    "taken_vouched": [END, AddrStruct, AddrStruct, ctypes.c_char_p, SIZE, ctypes.POINTER(TakenStruct)],
+    "arrive_vouched_with_report": [END, AddrStruct, AddrStruct, ctypes.c_char_p, SIZE, ctypes.POINTER(ArriveReportStruct)],
     "peek": [END, ctypes.POINTER(LentStruct)],
     "consume": [END, SIZE, OUT],
     "emit": [END, ctypes.c_char_p, SIZE, ctypes.POINTER(AddrStruct), OUT],
@@ -377,23 +377,23 @@ CALLS = {
     "timers": [END, ctypes.POINTER(ctypes.c_uint32)],
     "peer": [END, ctypes.POINTER(AddrStruct), ctypes.POINTER(ctypes.c_uint16)],
     "status": [END, ctypes.POINTER(StatusStruct)],
-    "rest": [END, REST],
-    "rest_arrive": [REST, AddrStruct, AddrStruct, ctypes.c_char_p, SIZE],
-    "rest_timer": [REST, ctypes.c_uint32],
-    "rest_emit": [REST, ctypes.c_char_p, SIZE, ctypes.POINTER(AddrStruct), OUT],
-    "rest_pending": [REST, WORD],
-    "rest_abort": [REST],
-    "rest_status": [REST, WORD, WORD],
+    "time_wait": [END, RECORD],
+    "time_wait_arrive": [RECORD, AddrStruct, AddrStruct, ctypes.c_char_p, SIZE],
+    "time_wait_timer": [RECORD, ctypes.c_uint32],
+    "time_wait_emit": [RECORD, ctypes.c_char_p, SIZE, ctypes.POINTER(AddrStruct), OUT],
+    "time_wait_pending": [RECORD, WORD],
+    "time_wait_abort": [RECORD],
+    "time_wait_status": [RECORD, WORD, WORD],
     "strerror": [ctypes.c_uint32],
     "version": [],
 }
 RESULTS = {"room": SIZE, "strerror": ctypes.c_char_p}
 
 
-def taken_of(told: TakenStruct) -> Taken:
+def arrive_report_of(told: ArriveReportStruct) -> ArriveReport:
     """The named fields of the struct."""
     brought, is_duplicate, window_taken = Brought(told.brought), told.is_duplicate == 1, told.window_taken == 1
-    return Taken(told.at_once == 1, Rule(told.rule), told.acked, brought, is_duplicate, window_taken)
+    return ArriveReport(told.at_once == 1, Rule(told.rule), told.acked, brought, is_duplicate, window_taken)
 
 
 def transmit_of(told: TransmitStruct) -> Transmit:
@@ -478,13 +478,13 @@ def stray_reset(src: Address, dst: Address, data: Buffer) -> Optional[bytes]:
     return ctypes.string_at(out, count.value) if answer == DONE else None
 
 
-class Rest:
-    """What rests in the place of an end in TIME-WAIT: made by `End.rest`, or of the bytes of another. A copy is another that rests."""
+class TimeWait:
+    """What rests in the place of an end in TIME-WAIT: made by `End.time_wait`, or of the bytes of another. A copy is another that rests."""
 
     def __init__(self, data: Buffer) -> None:
-        if len(octets(data)) != ctypes.sizeof(RestStruct):
-            raise ValueError(f"what rests has {ctypes.sizeof(RestStruct)} bytes, not {len(octets(data))}")
-        self.struct, self.calls = RestStruct.from_buffer_copy(data), library()
+        if len(octets(data)) != ctypes.sizeof(TimeWaitStruct):
+            raise ValueError(f"what rests has {ctypes.sizeof(TimeWaitStruct)} bytes, not {len(octets(data))}")
+        self.struct, self.calls = TimeWaitStruct.from_buffer_copy(data), library()
         # Bytes that are no rest's are found here.
         self.status()
 
@@ -492,27 +492,27 @@ class Rest:
         return bytes(self.struct)
 
     def __reduce__(self) -> tuple[Any, ...]:
-        return Rest, (bytes(self),)
+        return TimeWait, (bytes(self),)
 
     def ask(self, name: str, *args: Any) -> None:
         """A call that is done or refused."""
-        answer = self.calls[f"rest_{name}"](self.struct, *args)
+        answer = self.calls[f"time_wait_{name}"](self.struct, *args)
         if answer != DONE:
             raise Refused(answer)
 
     def arrive(self, src: Address, dst: Address, data: Buffer) -> Answer:
         """What became of the segment."""
         source, destination, data = address(src), address(dst), octets(data)
-        return Answer(self.calls["rest_arrive"](self.struct, source, destination, data, len(data)))
+        return Answer(self.calls["time_wait_arrive"](self.struct, source, destination, data, len(data)))
 
     def timer(self, timer: int) -> bool:
         """Whether the timer's rule was applied."""
-        return found_by(self.calls["rest_timer"](self.struct, number("the timer", timer, 32)))
+        return found_by(self.calls["time_wait_timer"](self.struct, number("the timer", timer, 32)))
 
     def emit(self) -> Optional[tuple[bytes, bytes]]:
         """The address and the bytes of a segment, or None."""
-        segment, to, count = ctypes.create_string_buffer(REST_ROOM), AddrStruct(), ctypes.c_size_t()
-        if not found_by(self.calls["rest_emit"](self.struct, segment, REST_ROOM, to, count)):
+        segment, to, count = ctypes.create_string_buffer(TIME_WAIT_ROOM), AddrStruct(), ctypes.c_size_t()
+        if not found_by(self.calls["time_wait_emit"](self.struct, segment, TIME_WAIT_ROOM, to, count)):
             return None
         return bytes(to.byte), ctypes.string_at(segment, count.value)
 
@@ -664,26 +664,26 @@ class End:
         """What became of the segment."""
         return self.takes("arrive", src, dst, data)
 
-    def take(self, src: Address, dst: Address, data: Buffer) -> tuple[Answer, bool]:
+    def arrive_with_at_once(self, src: Address, dst: Address, data: Buffer) -> tuple[Answer, bool]:
         """What became of the segment, and whether the segment has to be answered at once."""
-        answer = self.takes("take", src, dst, data, self.due)
+        answer = self.takes("arrive_with_at_once", src, dst, data, self.due)
         return answer, self.due.value == 1
 
-    def taken(self, src: Address, dst: Address, data: Buffer) -> tuple[Answer, Taken]:
+    def arrive_with_report(self, src: Address, dst: Address, data: Buffer) -> tuple[Answer, ArriveReport]:
         """What became of the segment, and what it is to the end."""
-        told = TakenStruct()
-        answer = self.takes("taken", src, dst, data, told)
-        return answer, taken_of(told)
+        told = ArriveReportStruct()
+        answer = self.takes("arrive_with_report", src, dst, data, told)
+        return answer, arrive_report_of(told)
 
     def arrive_vouched(self, src: Address, dst: Address, data: Buffer) -> Answer:
         """What became of the segment, whose checksum something else has found right: it isn't looked at."""
         return self.takes("arrive_vouched", src, dst, data)
 
-    def taken_vouched(self, src: Address, dst: Address, data: Buffer) -> tuple[Answer, Taken]:
+    def arrive_vouched_with_report(self, src: Address, dst: Address, data: Buffer) -> tuple[Answer, ArriveReport]:
         """The same, and what it is to the end."""
-        told = TakenStruct()
-        answer = self.takes("taken_vouched", src, dst, data, told)
-        return answer, taken_of(told)
+        told = ArriveReportStruct()
+        answer = self.takes("arrive_vouched_with_report", src, dst, data, told)
+        return answer, arrive_report_of(told)
 
     def pending(self) -> int:
         """The length of the segment that is due, 0 where none is."""
@@ -753,12 +753,12 @@ class End:
         told = {name: getattr(self.told, name) for name in Status._fields}
         return Status(**told | {"phase": PHASES[told["phase"]], "ending": ENDINGS[told["ending"]]})
 
-    def rest(self) -> Optional[Rest]:
+    def time_wait(self) -> Optional[TimeWait]:
         """What can take this end's place in TIME-WAIT, once nothing is unread, or None before."""
-        struct = RestStruct()
-        answer = self.calls["rest"](self.end, struct)
-        if answer == NOT_AT_REST:
+        struct = TimeWaitStruct()
+        answer = self.calls["time_wait"](self.end, struct)
+        if answer == NOT_TIME_WAIT:
             return None
         if answer != DONE:
             raise Refused(answer)
-        return Rest(bytes(struct))
+        return TimeWait(bytes(struct))

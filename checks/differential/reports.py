@@ -18,7 +18,7 @@ if __name__ == "__main__" and len(sys.argv) > 1:
 sys.path.insert(0, f"{TOP}/c/tcpcore")
 
 import tcpcore  # noqa: E402
-from tcpcore import Brought, Kind, Rule, Taken, Transmit  # noqa: E402
+from tcpcore import Brought, Kind, Rule, ArriveReport, Transmit  # noqa: E402
 
 # No answer follows from these.
 SILENT = (Rule.FOREIGN, Rule.RESET_IGNORED, Rule.OPENS_NOTHING, Rule.NO_ACK, Rule.PEER_REFUSES, Rule.PEER_RESETS)
@@ -108,10 +108,10 @@ class Reporting(End):
         self.is_window_taken = self.is_kept = False
         answer = super().arrive(src, dst, data)
         if answer.startswith("malformed"):
-            self.taken = Taken(False, Rule.NONE, 0, Brought.NOTHING, False, False)
+            self.taken = ArriveReport(False, Rule.NONE, 0, Brought.NOTHING, False, False)
             return answer
         urgent, brought = self.is_urgent(rule, s, had_gap), self.brought(rule, s, next_before)
-        self.taken = Taken(urgent, rule, self.released - released, brought, is_duplicate, self.is_window_taken)
+        self.taken = ArriveReport(urgent, rule, self.released - released, brought, is_duplicate, self.is_window_taken)
         return answer
 
     def emit(self):
@@ -152,7 +152,7 @@ def call(library, words):
     """Makes the call of a line, whatever it answers; a report where it has one."""
     name, *rest = words.split()
     if name == "arrive":
-        return library.taken(address(rest[0]), address(rest[1]), octets(rest[2]))[1]
+        return library.arrive_with_report(address(rest[0]), address(rest[1]), octets(rest[2]))[1]
     if name == "emit":
         before, sent = library.next(), library.transmit()
         return (before, sent and sent[0])
@@ -196,7 +196,7 @@ def one(seed, seen):
         words, count = (lines.pop()[0], count) if lines else (line(rng, end)[0], count - 1)
         found = call(library, words)
         if words.startswith("arrive"):
-            differs(seed, words, found, end.taken)
+            differs(seed, words, found, end.arrive_with_report)
             seen.update([f"rule {found.rule.name}", f"brought {found.brought.name}"])
             seen.update(name for name in ("at_once", "acked", "is_duplicate", "window_taken") if getattr(found, name))
         elif words == "emit-acknowledgement":
@@ -205,7 +205,7 @@ def one(seed, seen):
             differs(seed, words, found, (end.sent, end.sent))
             seen.update([f"kind {end.sent.kind.name}" if end.sent else "none due"])
         told = library.status()
-        differs(seed, words, (told.snd_wnd, told.rcv_wnd, told.nxt, told.closing, told.finished), end.status())
+        differs(seed, words, (told.snd_wnd, told.rcv_wnd, told.snd_nxt, told.closing, told.finished), end.status())
 
 
 def main():

@@ -187,9 +187,9 @@ def flooded(server):
     need("closed in order", server.counters["orderly"], 1 + beside)
     # At its end a backlog of half-open ends was left, of which good ones may have taken some places.
     counters = server.counters
-    need("given up of a backlog", BACKLOG - 16 <= counters["gave_up"] <= BACKLOG, True)
+    need("given up of a backlog", BACKLOG - 16 <= counters["abandoned"] <= BACKLOG, True)
     # All the others made way; the device may have dropped a few.
-    gone = counters["gave_up"] + counters["recycled"] + counters["full"]
+    gone = counters["abandoned"] + counters["recycled"] + counters["full"]
     need("half-open ends that ended", 0.9 * count <= gone <= count + lost, True)
 
 
@@ -206,7 +206,7 @@ def vanished(server):
     time.sleep(3.5)
     server.stop()
     need("closed in order", server.counters["orderly"], 1)
-    need("given up", server.counters["gave_up"], 1)
+    need("given up", server.counters["abandoned"], 1)
 
 
 # The program's numbers: least and greatest timeout, limits of a SYN,ACK and of text, in milliseconds; percent dropped.
@@ -233,7 +233,7 @@ def run_case(program, name, case, numbers):
     finally:
         server.kill()
     counters = server.counters
-    keys = "arrived", "emitted", "accepted", "recycled", "strays", "gave_up"
+    keys = "arrived", "emitted", "accepted", "recycled", "strays", "abandoned"
     words = " ".join(f"{key} {counters[key]}" for key in keys)
     print(f"{name:24} {time.monotonic() - began:6.2f} s  {words}", flush=True)
     return True

@@ -124,7 +124,7 @@ static const char *fault_of(void)
     return trial.users[OWN].read < trial.users[PEER].size || trial.users[PEER].read < trial.users[OWN].size ? "bytes are missing" : 0;
 }
 
-static void tell(const char *fault)
+static void report(const char *fault)
 {
     printf("case %d: %s: %s\n    own sends %llu, of which %llu were read; the peer %llu, of which %llu; %s opens; loss %u doubles %u late %u "
            "damaged %u seed %u, mss %u shift %d sack %d capacity %u delay %u; %llu ms, %llu and %llu segments\n", count, trial.name, fault,
@@ -132,8 +132,8 @@ static void tell(const char *fault)
            (unsigned long long)trial.users[PEER].size, (unsigned long long)trial.users[OWN].read, trial.opens == OWN ? "own" : "peer",
            trial.lost, trial.doubled, trial.late, trial.damaged, trial.seed, trial.mss, trial.shift, trial.sack, trial.keeps,
            trial.delay, (unsigned long long)(now - began), (unsigned long long)wire_count(OWN), (unsigned long long)wire_count(PEER));
-    own_tell(OWN);
-    peer_tell();
+    own_report(OWN);
+    peer_report();
 }
 
 /* Runs the case in `trial`. Answers the milliseconds until the peer's user had read all. */
@@ -165,7 +165,7 @@ static uint64_t run(void)
         return 0;
     }
     if (fault)
-        tell(fault);
+        report(fault);
     failed += fault != 0;
     return read_at > 0 ? read_at - began : now - began;
 }
@@ -415,7 +415,7 @@ static void bulk(uint64_t size)
     for (int variant = 0; variant < 4; variant++) {
         uint64_t took = bulk_case(size, variant % 2, (uint32_t)(1 + variant / 2));
         if (took > 0)
-            printf("    %s: %llu bytes at 2 percent loss: %llu ms\n", trial.name, (unsigned long long)size, (unsigned long long)took), own_tell(OWN);
+            printf("    %s: %llu bytes at 2 percent loss: %llu ms\n", trial.name, (unsigned long long)size, (unsigned long long)took), own_report(OWN);
     }
 }
 

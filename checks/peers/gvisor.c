@@ -98,7 +98,7 @@ uint64_t peer_wait(uint64_t until) { return until; }
 int peer_is_over(void) { return has_failed || (has_ended && trial.users[PEER].has_closed); }
 const char *peer_fault(void) { return 0; }
 
-void peer_tell(void)
+void peer_report(void)
 {
     printf("    gVisor: state %d ended %d failed %d closed %d\n", netstack_state(), has_ended, has_failed, trial.users[PEER].has_closed);
 }

@@ -128,4 +128,4 @@ uint64_t peer_wait(uint64_t until)
 
 int peer_is_over(void) { return sockets_is_over(); }
 const char *peer_fault(void) { return 0; }
-void peer_tell(void) { sockets_tell(); }
+void peer_report(void) { sockets_report(); }

@@ -215,7 +215,7 @@ const char *peer_fault(void)
     return has_given_up ? "gave up in LAST-ACK, without a word, what it had to send (tcp.c, line 1373)" : 0;
 }
 
-void peer_tell(void)
+void peer_report(void)
 {
     printf("    lwIP: %s, %d of text held", is_gone ? "gone" : end ? tcp_debug_state_str(end->state) : "never there", held ? held->tot_len : 0);
     if (end)

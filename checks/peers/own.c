@@ -12,7 +12,7 @@ static struct own {
     tcpcore_end end;
     struct flow flow;
     tcpcore_config config;
-    int gave_up;
+    int abandoned;
     uint8_t block[TCPCORE_MEMORY(CAPACITY, CAPACITY)];
 } owns[2];
 
@@ -33,12 +33,12 @@ void own_begin(int side)
                                    .limit = TCPCORE_LIMIT, .window_shift = (uint8_t)trial.shift, .scales = trial.shift > 0,
                                    .sack = (uint8_t)trial.sack};
     own->end = (tcpcore_end)TCPCORE_END_INIT;
-    own->gave_up = 0;
+    own->abandoned = 0;
     if (tcpcore_new(&own->end, &own->config, own->block, sizeof own->block) != TCPCORE_DONE)
         abort();
     struct timers_rules rules = TIMERS_RULES;
     rules.r2 = trial.r2 > 0 ? trial.r2 : rules.r2;
-    flow_init(&own->flow, &own->config, &rules, FLOW_DELAY);
+    flow_init(&own->flow, &own->config, &rules, FLOW_ACK_DELAY);
     flow_choose(&own->flow, (trial.nagle ? FLOW_NAGLE : 0) | (trial.cubic ? FLOW_CUBIC : 0));
     if (trial.opens == side)
         tcpcore_connect(&own->end, addr_of(1 - side), (uint16_t)(2 - side));
@@ -96,11 +96,11 @@ static void use(int side)
 void own_turn(int side)
 {
     struct own *own = &owns[side];
-    own->gave_up |= !!(flow_run(&own->flow, &own->end, now) & TIMERS_GAVE_UP);
+    own->abandoned |= !!(flow_run(&own->flow, &own->end, now) & TIMERS_ABORTED);
     if (own->flow.timers.phase >= TCPCORE_PHASE_ESTABLISHED)
         use(side);
     emit(side);
-    own->gave_up |= !!(flow_run(&own->flow, &own->end, now) & TIMERS_GAVE_UP);
+    own->abandoned |= !!(flow_run(&own->flow, &own->end, now) & TIMERS_ABORTED);
 }
 
 uint64_t own_next(int side)
@@ -118,7 +118,7 @@ int own_is_over(int side)
 const char *own_fault(int side)
 {
     struct tcpcore_status status = status_of(side);
-    if (owns[side].gave_up)
+    if (owns[side].abandoned)
         return "gave up";
     return status.ending == TCPCORE_ENDING_RESET ? "was reset" : status.ending == TCPCORE_ENDING_ABORTED ? "aborted" : 0;
 }
@@ -126,14 +126,14 @@ const char *own_fault(int side)
 uint64_t own_resent(int side) { return owns[side].flow.resent; }
 uint64_t own_timeouts(int side) { return owns[side].flow.congestion.timeouts; }
 
-void own_tell(int side)
+void own_report(int side)
 {
     struct tcpcore_status status = status_of(side);
     const struct flow *flow = &owns[side].flow;
     printf("    phase %u ending %u una %llu in flight %llu queued %llu window %u cwnd %llu, resent %llu, fast %llu, timeouts %u, losses %u, "
-           "withheld %llu, probes %llu\n", status.phase, status.ending, (unsigned long long)status.una, (unsigned long long)status.in_flight,
+           "withheld %llu, probes %llu\n", status.phase, status.ending, (unsigned long long)status.snd_una, (unsigned long long)status.in_flight,
            (unsigned long long)status.queued, status.snd_wnd, (unsigned long long)flow->congestion.cwnd,
-           (unsigned long long)flow->resent, (unsigned long long)flow->fast, flow->congestion.timeouts, flow->congestion.losses,
+           (unsigned long long)flow->resent, (unsigned long long)flow->fast_retransmits, flow->congestion.timeouts, flow->congestion.losses,
            (unsigned long long)flow->answers.withheld,
-           (unsigned long long)flow->probes);
+           (unsigned long long)flow->tail_loss_probes);
 }

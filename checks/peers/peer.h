@@ -85,7 +85,7 @@ void own_turn(int side);
 uint64_t own_next(int side);
 int own_is_over(int side);
 const char *own_fault(int side);
-void own_tell(int side);
+void own_report(int side);
 uint64_t own_resent(int side); /* segments that it sent again, as its emissions were reported */
 uint64_t own_timeouts(int side);
 
@@ -99,7 +99,7 @@ void peer_turn(void);
 uint64_t peer_next(void);
 uint64_t peer_wait(uint64_t until); /* the time when that comes, or something arrives before */
 int peer_is_over(void);
-void peer_tell(void);
+void peer_report(void);
 
 /* 0, or the name of a fault of the peer's own that this run shows. */
 const char *peer_fault(void);

@@ -20,4 +20,4 @@ int peer_is_over(void)
 }
 
 const char *peer_fault(void) { return 0; }
-void peer_tell(void) { own_tell(PEER); }
+void peer_report(void) { own_report(PEER); }

@@ -19,7 +19,7 @@ struct row {
     int32_t seq, ack;
     unsigned bits;
     uint32_t text;
-    uint32_t answer;     /* of tcpcore_take */
+    uint32_t answer;     /* of tcpcore_arrive_with_at_once */
     unsigned emits;      /* the bits of the segment that answers, NONE: none does */
     int32_t moved;       /* by how much RCV.NXT has grown */
     uint32_t phase;
@@ -69,7 +69,7 @@ static uint32_t arrive(uint32_t seq, uint32_t ack, unsigned bits, const char *op
     static uint8_t bytes[MOST];
     uint32_t at_once;
     size_t length = make(bytes, seq, ack, bits, options, text);
-    return tcpcore_take(&end, PEER, OWN, bytes, length, &at_once);
+    return tcpcore_arrive_with_at_once(&end, PEER, OWN, bytes, length, &at_once);
 }
 
 /* Emits one segment; its bits, or NONE. */
@@ -251,13 +251,13 @@ static void answers(const struct row *row)
     count++;
     establish();
     struct tcpcore_status before = status_of();
-    uint32_t answer = arrive(PEER_ISN + (uint32_t)before.next + (uint32_t)row->seq, ISN + 1 + SENT + (uint32_t)row->ack, row->bits,
+    uint32_t answer = arrive(PEER_ISN + (uint32_t)before.rcv_position + (uint32_t)row->seq, ISN + 1 + SENT + (uint32_t)row->ack, row->bits,
                              row->options, row->text);
     must(row->name, "the answer", answer, row->answer);
     must(row->name, "what is emitted", emit(), row->emits);
     if (row->emits != NONE)
-        must(row->name, "what it acknowledges", (int32_t)(read32(out + AT_ACK) - PEER_ISN - (uint32_t)before.next), row->moved);
-    must(row->name, "what comes next", (long long)(status_of().next - before.next), row->moved);
+        must(row->name, "what it acknowledges", (int32_t)(read32(out + AT_ACK) - PEER_ISN - (uint32_t)before.rcv_position), row->moved);
+    must(row->name, "what comes next", (long long)(status_of().rcv_position - before.rcv_position), row->moved);
     must(row->name, "the phase", status_of().phase, row->phase);
     must(row->name, "a second segment", emit(), NONE);
 }

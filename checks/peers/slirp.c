@@ -151,10 +151,10 @@ const char *peer_fault(void)
     return syns > 1 ? "a SYN that comes again empties its send buffer (tcp_input.c, line 1542)" : 0;
 }
 
-void peer_tell(void)
+void peer_report(void)
 {
     char *all = slirp_connection_info(slirp);
-    sockets_tell();
+    sockets_report();
     printf("    %d SYNs\n%s", syns, all);
     free(all);
 }

@@ -118,7 +118,7 @@ void sockets_use(void)
 
 int sockets_is_over(void) { return has_failed || (has_ended && trial.users[PEER].has_closed); }
 
-void sockets_tell(void)
+void sockets_report(void)
 {
     printf("    %s: open %d ended %d failed %d closed %d\n", PEER_NAME, is_open, has_ended, has_failed, trial.users[PEER].has_closed);
 }

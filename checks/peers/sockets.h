@@ -13,6 +13,6 @@ void sockets_use(void);
 /* The connection is over for it: both directions are closed, or it was reset. */
 int sockets_is_over(void);
 
-void sockets_tell(void);
+void sockets_report(void);
 
 #endif

@@ -140,7 +140,7 @@ static void end_patience(uint64_t now)
 static int set_up(void)
 {
     struct demux_config config = {
-        .end = TCPCORE_CONFIG_DEFAULT, .rules = TIMERS_RULES, .delay = FLOW_DELAY, .backlog = SLOTS - 1, .strays = 10,
+        .end = TCPCORE_CONFIG_DEFAULT, .rules = TIMERS_RULES, .delay = FLOW_ACK_DELAY, .backlog = SLOTS - 1, .strays = 10,
         .memory = server.memory, .length = sizeof server.memory, .use = use, .send = send_segment,
         /* This board has no source of random bytes. Whoever knows the secret can guess sequence numbers (RFC 9293, 3.4.1): a device
            that anybody can reach takes it from a source of its own, or is given one when it is made. */

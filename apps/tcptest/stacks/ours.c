@@ -32,7 +32,7 @@ struct handle {
     uint8_t *rest;            /* once its end is gone: what was unread */
     size_t length;            /* of that */
     uint32_t ending;          /* and how it ended */
-    int has_gone, gave_up;
+    int has_gone, abandoned;
     int is_used, has_left, closes;
     uint8_t waiting[WAITING]; /* what the user has sent, and flow_send hasn't taken yet; then comes the close, if `closes` */
 };
@@ -106,7 +106,7 @@ static void use(struct table_slot *slot, void *context)
     handle->rest = malloc(status.unread + 1);
     tcpcore_receive(&slot->end, handle->rest, status.unread, &handle->length);
     handle->ending = status.ending;
-    handle->gave_up = status.ending == TCPCORE_ENDING_ABORTED;
+    handle->abandoned = status.ending == TCPCORE_ENDING_ABORTED;
     handle->has_gone = 1;
     handle->slot = NULL;
 }
@@ -142,9 +142,9 @@ static tcpcore_config config_of(uint16_t port, const struct wishes *wishes)
     return config;
 }
 
-static struct flow_keep keep_of(const struct wishes *wishes)
+static struct flow_keep_alive keep_of(const struct wishes *wishes)
 {
-    return (struct flow_keep){.idle = wishes->idle, .interval = wishes->interval, .most = wishes->keeps ? 9 : 0};
+    return (struct flow_keep_alive){.idle = wishes->idle, .interval = wishes->interval, .most = wishes->keeps ? 9 : 0};
 }
 
 /* Whether this can be wished: the companions write the header of IPv4 themselves, and have no times of keep-alives of their own. */
@@ -155,7 +155,7 @@ static int can_be(const struct wishes *wishes)
 
 int stack_listen(uint16_t port, const struct wishes *wishes)
 {
-    struct demux_config config = {.end = config_of(port, wishes), .rules = TIMERS_RULES, .delay = FLOW_DELAY, .backlog = SLOTS / 2,
+    struct demux_config config = {.end = config_of(port, wishes), .rules = TIMERS_RULES, .delay = FLOW_ACK_DELAY, .backlog = SLOTS / 2,
                                   .strays = STRAYS, .use = use, .send = send_segment, .keep = keep_of(wishes),
                                   .choices = wishes->nagle > 0 ? FLOW_NAGLE : 0};
     if (port_count == LISTENERS || !can_be(wishes))
@@ -179,9 +179,9 @@ int stack_connect(uint16_t port, const uint8_t address[4], uint16_t to, const st
     handle->block = malloc(tcpcore_room(&config));
     if (tcpcore_new(&handle->end, &config, handle->block, tcpcore_room(&config)) != TCPCORE_DONE)
         return -1;
-    flow_init(&handle->flow, &config, &TIMERS_RULES, FLOW_DELAY);
+    flow_init(&handle->flow, &config, &TIMERS_RULES, FLOW_ACK_DELAY);
     flow_choose(&handle->flow, wishes->nagle > 0 ? FLOW_NAGLE : 0);
-    struct flow_keep keep = keep_of(wishes);
+    struct flow_keep_alive keep = keep_of(wishes);
     flow_keep_alive(&handle->flow, &keep);
     tcpcore_connect(&handle->end, peer, to);
     return (int)(handle - handles);
@@ -208,9 +208,9 @@ static void wake(struct handle *handle)
         demux_wake(handle->demux, handle->slot);
 }
 
-static long fault_of(uint32_t ending, int gave_up)
+static long fault_of(uint32_t ending, int abandoned)
 {
-    return ending == TCPCORE_ENDING_RESET ? STACK_RESET : gave_up ? STACK_TIMED_OUT : STACK_ENDED;
+    return ending == TCPCORE_ENDING_RESET ? STACK_RESET : abandoned ? STACK_TIMED_OUT : STACK_ENDED;
 }
 
 long stack_send(int number, const void *text, size_t length)
@@ -231,7 +231,7 @@ static long receive_rest(struct handle *handle, void *out, size_t room)
 {
     size_t count = room < handle->length ? room : handle->length;
     if (count == 0)
-        return fault_of(handle->ending, handle->gave_up);
+        return fault_of(handle->ending, handle->abandoned);
     memcpy(out, handle->rest, count);
     memmove(handle->rest, handle->rest + count, handle->length -= count);
     return (long)count;
@@ -292,7 +292,7 @@ void stack_leave(int number)
 
 int stack_wish(int number, const struct wishes *wishes)
 {
-    struct flow_keep keep = keep_of(wishes);
+    struct flow_keep_alive keep = keep_of(wishes);
     if (!wishes->keeps || !can_be(wishes) || wishes->nagle >= 0 || wishes->capacity > 0 || !end_of(&handles[number]))
         return 0;
     flow_keep_alive(flow_of(&handles[number]), &keep);

@@ -116,8 +116,8 @@ public:
     // As emit, with a report: its length is 0 where none was.
     struct tcpcore_transmit transmit(unsigned char (&out)[TCPCORE_EMIT_ROOM])
     {
-        struct tcpcore_transmit told;
-        return found(tcpcore_transmit(raw(), out, sizeof out, &told)), told;
+        struct tcpcore_transmit reported;
+        return found(tcpcore_transmit(raw(), out, sizeof out, &reported)), reported;
     }
     // As emit, for a device that sums: the checksum field has the sum of the pseudo-header alone.
     std::size_t emit_partial(unsigned char (&out)[TCPCORE_EMIT_ROOM], tcpcore_addr &to)
@@ -129,35 +129,35 @@ public:
     // else goes alone. `segments` is 0 where none was due.
     struct tcpcore_train emit_train(void *out, std::size_t room, std::size_t most)
     {
-        struct tcpcore_train told;
-        return found(tcpcore_emit_train(raw(), out, room, most, &told)), told;
+        struct tcpcore_train reported;
+        return found(tcpcore_emit_train(raw(), out, room, most, &reported)), reported;
     }
     // What became of the segment: DONE, DROPPED, NOT_MINE, or why it is none; and whether it has to be answered at once.
     std::pair<std::uint32_t, bool> arrive(tcpcore_addr src, tcpcore_addr dst, const void *segment, std::size_t length)
     {
-        std::uint32_t at_once, answer = taken_by(tcpcore_take(raw(), src, dst, segment, length, &at_once));
+        std::uint32_t at_once, answer = taken_by(tcpcore_arrive_with_at_once(raw(), src, dst, segment, length, &at_once));
         return {answer, at_once == 1};
     }
     // The same, with a report.
-    std::pair<std::uint32_t, struct tcpcore_taken> taken(tcpcore_addr src, tcpcore_addr dst, const void *segment, std::size_t length)
+    std::pair<std::uint32_t, struct tcpcore_arrive_report> arrive_with_report(tcpcore_addr src, tcpcore_addr dst, const void *segment, std::size_t length)
     {
-        struct tcpcore_taken told;
-        std::uint32_t answer = taken_by(tcpcore_taken(raw(), src, dst, segment, length, &told));
-        return {answer, told};
+        struct tcpcore_arrive_report reported;
+        std::uint32_t answer = taken_by(tcpcore_arrive_with_report(raw(), src, dst, segment, length, &reported));
+        return {answer, reported};
     }
     // The same of a segment whose checksum a device has found right: it isn't summed again.
-    std::pair<std::uint32_t, struct tcpcore_taken> taken_vouched(tcpcore_addr src, tcpcore_addr dst, const void *segment,
+    std::pair<std::uint32_t, struct tcpcore_arrive_report> arrive_vouched_with_report(tcpcore_addr src, tcpcore_addr dst, const void *segment,
                                                                  std::size_t length)
     {
-        struct tcpcore_taken told;
-        std::uint32_t answer = taken_by(tcpcore_taken_vouched(raw(), src, dst, segment, length, &told));
-        return {answer, told};
+        struct tcpcore_arrive_report reported;
+        std::uint32_t answer = taken_by(tcpcore_arrive_vouched_with_report(raw(), src, dst, segment, length, &reported));
+        return {answer, reported};
     }
     bool timer(std::uint32_t timer) { return found(tcpcore_timer(raw(), timer)); }
     struct tcpcore_status status() const
     {
-        struct tcpcore_status told;
-        return done(tcpcore_status(raw(), &told)), told;
+        struct tcpcore_status reported;
+        return done(tcpcore_status(raw(), &reported)), reported;
     }
     // For the calls of tcpcore.h that aren't here.
     tcpcore_end *raw() const { return held.get(); }

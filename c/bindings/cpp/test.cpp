@@ -61,12 +61,12 @@ static void beside()
     std::uint64_t position = 1;
     tcpcore_addr dst;
     while (std::size_t length = a.emit(one, dst)) {
-        struct tcpcore_transmit told = c.transmit(other);
-        CHECK(told.length == length && std::memcmp(one, other, length) == 0);
-        CHECK(told.kind == (told.count > 0 ? TCPCORE_KIND_NEW_TEXT : TCPCORE_KIND_FIN) && told.position == position);
-        position += told.count;
+        struct tcpcore_transmit reported = c.transmit(other);
+        CHECK(reported.length == length && std::memcmp(one, other, length) == 0);
+        CHECK(reported.kind == (reported.count > 0 ? TCPCORE_KIND_NEW_TEXT : TCPCORE_KIND_FIN) && reported.position == position);
+        position += reported.count;
         std::pair<std::uint32_t, bool> became = b.arrive(A, B, one, length);
-        std::pair<std::uint32_t, struct tcpcore_taken> report = d.taken(A, B, other, length);
+        std::pair<std::uint32_t, struct tcpcore_arrive_report> report = d.arrive_with_report(A, B, other, length);
         CHECK(report.first == became.first && (report.second.at_once == 1) == became.second);
         CHECK(report.second.rule == TCPCORE_RULE_TAKEN && report.second.brought == TCPCORE_BROUGHT_IN_ORDER);
     }
@@ -99,8 +99,8 @@ static void pacing()
     std::string text(3000, 'z');
     CHECK(a.send(text.data(), text.size()) == text.size());
     for (std::uint64_t position = 1; position < 3001; position += 1000) {
-        struct tcpcore_transmit told = a.transmit(out);
-        CHECK(told.kind == TCPCORE_KIND_NEW_TEXT && told.position == position && told.count == 1000);
+        struct tcpcore_transmit reported = a.transmit(out);
+        CHECK(reported.kind == TCPCORE_KIND_NEW_TEXT && reported.position == position && reported.count == 1000);
     }
     CHECK(a.timer(TCPCORE_TIMER_RETRANSMIT) && b.send("x", 1) == 1);
     std::size_t length = b.emit(out, dst);
@@ -149,7 +149,7 @@ static void train()
         CHECK(length == (i < 3 ? 1020 : 520) && std::memcmp(one + 20, room.data() + 20 + 1000 * i, length - 20) == 0);
         b.arrive(A, dst, one, length);
     }
-    std::pair<std::uint32_t, struct tcpcore_taken> report = d.taken_vouched(A, B, room.data(), 20 + text.size());
+    std::pair<std::uint32_t, struct tcpcore_arrive_report> report = d.arrive_vouched_with_report(A, B, room.data(), 20 + text.size());
     CHECK(report.first == TCPCORE_DONE && report.second.brought == TCPCORE_BROUGHT_IN_ORDER);
     CHECK(a.emit(one, dst) == 0 && c.emit_train(room.data(), room.size(), 64).segments == 0);
     std::size_t length = b.emit(one, dst);
@@ -196,8 +196,8 @@ static void moved_from()
     CHECK(thrown([&] { a.resend_first(); }) == TCPCORE_NULL);
     CHECK(thrown([&] { a.timer(TCPCORE_TIMER_RETRANSMIT); }) == TCPCORE_NULL);
     CHECK(thrown([&] { a.arrive(B, A, "x", 1); }) == TCPCORE_NULL);
-    CHECK(thrown([&] { a.taken(B, A, "x", 1); }) == TCPCORE_NULL);
-    CHECK(thrown([&] { a.taken_vouched(B, A, "x", 1); }) == TCPCORE_NULL);
+    CHECK(thrown([&] { a.arrive_with_report(B, A, "x", 1); }) == TCPCORE_NULL);
+    CHECK(thrown([&] { a.arrive_vouched_with_report(B, A, "x", 1); }) == TCPCORE_NULL);
 }
 
 // The SYN of a default config has an MSS of 1,460 bytes, permits selective acknowledgement and offers no scaling (RFC 9293, 3.7.1; RFC

@@ -275,37 +275,37 @@ func (end *End) EmitTrain(room []byte, most int) (Train, error) {
 // Arrive takes a segment: nil where it was taken, else what became of it; and whether it has to be answered at once.
 func (end *End) Arrive(src, dst Addr, segment []byte) (atOnce bool, err error) {
 	var found C.uint32_t
-	err = done(C.tcpcore_take(end.raw, src.c(), dst.c(), front(segment), C.size_t(len(segment)), &found))
+	err = done(C.tcpcore_arrive_with_at_once(end.raw, src.c(), dst.c(), front(segment), C.size_t(len(segment)), &found))
 	return found == 1, err
 }
 
-// Taken is what an arrival was to the end, by the fields of struct tcpcore_taken; Rule has the header's number, TCPCORE_RULE_FOREIGN and
+// ArriveReport is what an arrival was to the end, by the fields of struct tcpcore_arrive_report; Rule has the header's number, TCPCORE_RULE_FOREIGN and
 // so on.
-type Taken struct {
+type ArriveReport struct {
 	AtOnce                   bool
 	Rule, Brought            uint32
 	Acked                    uint64
 	IsDuplicate, WindowTaken bool
 }
 
-func taken(told *C.struct_tcpcore_taken) Taken {
-	return Taken{told.at_once == 1, uint32(told.rule), uint32(told.brought), uint64(told.acked), told.is_duplicate == 1,
+func arriveReport(told *C.struct_tcpcore_arrive_report) ArriveReport {
+	return ArriveReport{told.at_once == 1, uint32(told.rule), uint32(told.brought), uint64(told.acked), told.is_duplicate == 1,
 		told.window_taken == 1}
 }
 
-// Taken is Arrive with a report.
-func (end *End) Taken(src, dst Addr, segment []byte) (Taken, error) {
-	var told C.struct_tcpcore_taken
-	err := done(C.tcpcore_taken(end.raw, src.c(), dst.c(), front(segment), C.size_t(len(segment)), &told))
-	return taken(&told), err
+// ArriveWithReport is Arrive with a report.
+func (end *End) ArriveWithReport(src, dst Addr, segment []byte) (ArriveReport, error) {
+	var told C.struct_tcpcore_arrive_report
+	err := done(C.tcpcore_arrive_with_report(end.raw, src.c(), dst.c(), front(segment), C.size_t(len(segment)), &told))
+	return arriveReport(&told), err
 }
 
-// TakenVouched is Taken of a segment whose checksum a device has found right: it isn't summed again. One that the device found wrong never
+// ArriveVouchedWithReport is ArriveWithReport of a segment whose checksum a device has found right: it isn't summed again. One that the device found wrong never
 // goes here.
-func (end *End) TakenVouched(src, dst Addr, segment []byte) (Taken, error) {
-	var told C.struct_tcpcore_taken
-	err := done(C.tcpcore_taken_vouched(end.raw, src.c(), dst.c(), front(segment), C.size_t(len(segment)), &told))
-	return taken(&told), err
+func (end *End) ArriveVouchedWithReport(src, dst Addr, segment []byte) (ArriveReport, error) {
+	var told C.struct_tcpcore_arrive_report
+	err := done(C.tcpcore_arrive_vouched_with_report(end.raw, src.c(), dst.c(), front(segment), C.size_t(len(segment)), &told))
+	return arriveReport(&told), err
 }
 
 // Timer says that a timer has run out, and tells whether its rule was applied. Timers has bit 1 << t where timer t has to run.

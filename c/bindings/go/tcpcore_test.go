@@ -111,9 +111,9 @@ func transfer(t *testing.T, one, other, third, fourth *End, position uint64) uin
 		}
 		position += uint64(told.Count)
 		atOnce, err := other.Arrive(a, dst, room[:length])
-		report, same := fourth.Taken(a, dst, beside[:length])
+		report, same := fourth.ArriveWithReport(a, dst, beside[:length])
 		// Rule 18: all of it is taken.
-		if report != (Taken{AtOnce: atOnce, Rule: 18, Brought: InOrder, WindowTaken: true}) || same != err {
+		if report != (ArriveReport{AtOnce: atOnce, Rule: 18, Brought: InOrder, WindowTaken: true}) || same != err {
 			t.Fatal(report, err, same)
 		}
 	}
@@ -261,7 +261,7 @@ func TestTrain(t *testing.T) {
 		}
 		other.Arrive(a, dst, small[:length])
 	}
-	report, err := fourth.TakenVouched(a, b, room[:3520])
+	report, err := fourth.ArriveVouchedWithReport(a, b, room[:3520])
 	if report.Rule != 18 || report.Brought != InOrder || err != nil {
 		t.Fatal(report, err)
 	}
@@ -292,7 +292,7 @@ func TestRefusals(t *testing.T) {
 	if _, err := end.Arrive(b, a, nil); !errors.Is(err, Refused(1)) {
 		t.Fatal(err)
 	}
-	if _, err := end.Taken(b, a, nil); !errors.Is(err, Refused(1)) {
+	if _, err := end.ArriveWithReport(b, a, nil); !errors.Is(err, Refused(1)) {
 		t.Fatal(err)
 	}
 	if _, _, err := end.Peek(); !errors.Is(err, Refused(11)) {

@@ -90,14 +90,14 @@ static void use(struct table_slot *slot, void *context)
 }
 
 /* Prints the counters, the ends that are left, and by how much memory has grown. */
-static void tell(const struct demux *demux, size_t grown)
+static void report(const struct demux *demux, size_t grown)
 {
     const struct demux_counters *of = &demux->counters;
     const struct { const char *name; uint64_t value; } rows[] = {
         {"arrived", of->arrived}, {"malformed", of->malformed}, {"emitted", of->emitted}, {"resent", of->resent},
         {"accepted", of->accepted}, {"recycled", of->recycled}, {"shortened", of->shortened}, {"full", of->full},
         {"strays", of->strays}, {"unsaid", of->unsaid},
-        {"orderly", of->orderly}, {"gave_up", of->gave_up}, {"used", demux->table.used}, {"memory", grown}};
+        {"orderly", of->orderly}, {"abandoned", of->abandoned}, {"used", demux->table.used}, {"memory", grown}};
     for (size_t at = 0; at < sizeof rows / sizeof *rows; at++)
         printf("%s %llu\n", rows[at].name, (unsigned long long)rows[at].value);
 }
@@ -107,7 +107,7 @@ static int set_up(struct echo *echo, int count, char **words)
 {
     struct demux_config config = {
         .end = {.mss = 1460, .limit = TCPCORE_LIMIT, .window_shift = SHIFT, .scales = 1, .sack = 1},
-        .rules = TIMERS_RULES, .backlog = BACKLOG, .strays = STRAYS, .delay = FLOW_DELAY,
+        .rules = TIMERS_RULES, .backlog = BACKLOG, .strays = STRAYS, .delay = FLOW_ACK_DELAY,
         .memory = echo->memory, .length = sizeof echo->memory, .use = use, .send = send_segment, .context = echo};
     struct timers_rules *rules = &config.rules;
     uint32_t *numbers[] = {&rules->least_rto, &rules->greatest_rto, &rules->syn_ack_limit,
@@ -146,7 +146,7 @@ int main(int count, char **words)
         read_device(&echo, now);
         demux_turn(&echo.demux, now);
     }
-    tell(&echo.demux, mallinfo2().uordblks - memory);
+    report(&echo.demux, mallinfo2().uordblks - memory);
     demux_free(&echo.demux);
     return 0;
 }

@@ -4,8 +4,8 @@
 #include "made.h"
 
 /* The numbers of A as B has them: what comes next, and what A acknowledged. */
-static uint32_t next_of_a(void) { return UINT32_MAX - 3000 + (uint32_t)b.flow.timers.next; }
-static uint32_t next_of_b(void) { return UINT32_MAX - 3000 + (uint32_t)a.flow.timers.next; }
+static uint32_t next_of_a(void) { return UINT32_MAX - 3000 + (uint32_t)b.flow.timers.rcv_position; }
+static uint32_t next_of_b(void) { return UINT32_MAX - 3000 + (uint32_t)a.flow.timers.rcv_position; }
 
 /* With no limit in either end. */
 static void unlimited(void) { a.flow.answers.quiet = b.flow.answers.quiet = 0; }
@@ -160,10 +160,10 @@ static void resets(void)
 /* Keep-alives of both kinds (RFC 9293, 3.8.4), a second apart: each is answered; and what asks by text always. */
 static void keep_alives(void)
 {
-    open_both(FLOW_DELAY);
+    open_both(FLOW_ACK_DELAY);
     CHECK(give(&a, 10), 10);
     CHECK(carry(&a, &b), 1);
-    now += FLOW_DELAY;
+    now += FLOW_ACK_DELAY;
     CHECK(carry(&b, &a), 1);
     for (int at = 0; at < 5; at++, now += 1000) {
         CHECK(hand(next_of_a() - 1, next_of_b(), ACK, 0), TCPCORE_DROPPED);
@@ -199,7 +199,7 @@ static void probes(void)
 /* Behind a hole each segment is answered at once, however many come in a millisecond (RFC 5681, 4.2). */
 static void duplicates(void)
 {
-    open_both(FLOW_DELAY);
+    open_both(FLOW_ACK_DELAY);
     for (uint32_t at = 1; at < 10; at++) {
         CHECK(hand(next_of_a() + 10 * at, next_of_b(), ACK, 10), TCPCORE_DONE);
         CHECK(b.flow.is_urgent, 1);

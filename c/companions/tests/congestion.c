@@ -193,7 +193,7 @@ static void partial(void)
     c.cwnd = c.given = 10 * MSS;
     congestion_lost(&c, CONGESTION_RECOVERY, 0, 5);
     CHECK(congestion_may_resend(&c, 5, 10000), 1);
-    congestion_clocked(&c);
+    congestion_ack_clocked(&c);
     CHECK(congestion_may_resend(&c, 5, 10000), 1);
     congestion_resent(&c, MSS);
     CHECK(congestion_may_resend(&c, 50, 10000), 0);

@@ -41,7 +41,7 @@ static void floods(void)
         CHECK(count < KEPT, 1);
     }
     /* Sent at once, and again after 1 and 3 s; given up after 7 with a reset. */
-    CHECK(demux.counters.gave_up, 2);
+    CHECK(demux.counters.abandoned, 2);
     CHECK(demux.counters.aborted, 2);
     CHECK(demux.table.used, 1);
     finish();

@@ -162,7 +162,7 @@ static void limits(void)
     CHECK(demux_wait(&demux, now), -1);
     finish();
     begin();
-    demux.config.keep = (struct flow_keep){.idle = 7200000, .interval = 75000, .most = 9};
+    demux.config.keep = (struct flow_keep_alive){.idle = 7200000, .interval = 75000, .most = 9};
     isn = open_from(50);
     count = 0;
     for (uint64_t began = now; demux_wait(&demux, now) >= 0; demux_turn(&demux, now)) {
@@ -173,7 +173,7 @@ static void limits(void)
     }
     CHECK(count, 10);
     last(PORT, 50, isn + 1, 0, RST);
-    CHECK(demux.counters.gave_up, 1);
+    CHECK(demux.counters.abandoned, 1);
     finish();
 }
 

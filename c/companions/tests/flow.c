@@ -4,7 +4,7 @@
 /* RFC 9293, 3.8.6.3; RFC 5681, 4.2: the second full segment, or 40 ms, or at once. */
 static void delayed(void)
 {
-    open_both(FLOW_DELAY);
+    open_both(FLOW_ACK_DELAY);
     CHECK(give(&a, 500), 500);
     CHECK(carry(&a, &b), 1);
     CHECK(emit(&b), 0);
@@ -49,7 +49,7 @@ static void delayed(void)
 /* RFC 5681, 4.2: out of order, and where a gap is filled wholly or in part. */
 static void broken(void)
 {
-    open_both(FLOW_DELAY);
+    open_both(FLOW_ACK_DELAY);
     uint8_t old[20];
     memcpy(old, segments[0], sizeof old);
     CHECK(give(&a, 5 * MSS), 5 * MSS);
@@ -240,12 +240,12 @@ static void reordered(void)
 /* RFC 9293, 3.8.6.2.2: a window that was shut is told once a full segment fits; one that is half open by itself. */
 static void window(void)
 {
-    open_both(FLOW_DELAY);
+    open_both(FLOW_ACK_DELAY);
     CHECK(give(&a, MSS), MSS);
     CHECK(carry(&a, &b), 1);
     read(&b, MSS);
     CHECK(emit(&b), 0);
-    now += FLOW_DELAY;
+    now += FLOW_ACK_DELAY;
     CHECK(carry(&b, &a), 1);
     for (size_t at = 0, taken; at < 40 * MSS; at += taken) {
         taken = give(&a, 40 * MSS - at);

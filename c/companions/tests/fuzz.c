@@ -60,9 +60,9 @@ static struct timers_rules some_rules(void)
     return rules;
 }
 
-static struct flow_keep some_keep(void)
+static struct flow_keep_alive some_keep(void)
 {
-    return draw(3) ? (struct flow_keep){0} : (struct flow_keep){.idle = 1 + draw(5000), .interval = 1 + draw(1000), .most = 1 + draw(5)};
+    return draw(3) ? (struct flow_keep_alive){0} : (struct flow_keep_alive){.idle = 1 + draw(5000), .interval = 1 + draw(1000), .most = 1 + draw(5)};
 }
 
 static void make(int at)
@@ -70,7 +70,7 @@ static void make(int at)
     static const uint32_t SIZES[] = {1, 2, 100, 1000, 1461, 5000, 65535, CAPACITY}, MSS[] = {64, 65, 536, 1460};
     struct side *side = &sides[at];
     struct timers_rules rules = some_rules();
-    struct flow_keep keep = some_keep();
+    struct flow_keep_alive keep = some_keep();
     side->config = (tcpcore_config){.addr = addr_of(at), .port = (uint16_t)(1 + at), .mss = (uint16_t)one_of(MSS, 4),
                                     .isn = draw(2) ? UINT32_MAX - draw(3000) : draw(UINT32_MAX), .send_capacity = one_of(SIZES, 8),
                                     .recv_capacity = one_of(SIZES, 8), .limit = draw(8) ? TCPCORE_LIMIT : 1 + draw(50000),
@@ -78,7 +78,7 @@ static void make(int at)
     side->sent = side->read = count[at] = 0;
     side->end = (tcpcore_end)TCPCORE_END_INIT;
     CHECK(tcpcore_new(&side->end, &side->config, side->block, sizeof side->block), TCPCORE_DONE);
-    flow_init(&side->flow, &side->config, &rules, draw(2) * FLOW_DELAY);
+    flow_init(&side->flow, &side->config, &rules, draw(2) * FLOW_ACK_DELAY);
     flow_choose(&side->flow, draw(4));
     flow_keep_alive(&side->flow, &keep);
 }
@@ -89,7 +89,7 @@ static void look(int at)
     const struct flow *flow = &sides[at].flow;
     const struct congestion *congestion = &flow->congestion;
     CHECK(congestion->released <= congestion->given, 1);
-    CHECK(congestion->given - congestion->released <= flow->sends, 1);
+    CHECK(congestion->given - congestion->released <= flow->send_capacity, 1);
     CHECK(congestion->mss >= 64 && congestion->mss <= 1460, 1);
     CHECK(congestion->cwnd >= congestion->mss || congestion->cwnd >= 64, 1);
     CHECK(congestion->cwnd < UINT32_MAX, 1);
@@ -173,7 +173,7 @@ static void arrive(int to)
     uint8_t bytes[TCPCORE_EMIT_ROOM];
     size_t length = 0;
     if (is_forged && draw(4) == 0) {
-        uint32_t next = other->config.isn + (uint32_t)status_of(to).next, una = side->config.isn + (uint32_t)status_of(to).una;
+        uint32_t next = other->config.isn + (uint32_t)status_of(to).rcv_position, una = side->config.isn + (uint32_t)status_of(to).snd_una;
         length = forge(bytes, (uint16_t)(2 - to), (uint16_t)(1 + to), near(next, next + CAPACITY), near(una, una + CAPACITY));
     } else if (count[1 - to] > 0) {
         unsigned ago = 1 + (draw(3) ? draw(4) : draw(KEPT - 1));
@@ -296,7 +296,7 @@ static uint64_t server(void)
     uint64_t steps = 1 + draw(MOST);
     struct demux_config config = {
         .end = {.addr = addr_of(0), .port = 7, .mss = 536, .send_capacity = 2000, .recv_capacity = 2000, .limit = TCPCORE_LIMIT, .sack = 1},
-        .memory = memory, .length = sizeof memory, .rules = some_rules(), .delay = FLOW_DELAY, .choices = draw(4), .keep = some_keep(),
+        .memory = memory, .length = sizeof memory, .rules = some_rules(), .delay = FLOW_ACK_DELAY, .choices = draw(4), .keep = some_keep(),
         .backlog = 3, .strays = 5, .use = serve, .send = keep};
     CHECK(demux_init(&demux, &config, slots, SLOTS), 1);
     for (uint64_t step = 0; step < steps; step++) {

@@ -82,7 +82,7 @@ static void lives(const struct side *side)
 static void carries(uint32_t seed)
 {
     size_t left[2] = {EACH, EACH}, came[2] = {0, 0};
-    open_both(FLOW_DELAY);
+    open_both(FLOW_ACK_DELAY);
     state = seed;
     for (int at = 0; at < 2; at++)
         first[at] = behind[at] = 0;

@@ -16,7 +16,7 @@ static void reset_a(void)
     struct tcpcore_status status = status_of(&a);
     write16(reset, 2);
     write16(reset + 2, 1);
-    write32(reset + AT_SEQ, UINT32_MAX - 3000 + (uint32_t)status.next);
+    write32(reset + AT_SEQ, UINT32_MAX - 3000 + (uint32_t)status.rcv_position);
     reset[AT_OFFSET] = 0x50;
     reset[AT_BITS] = RST;
     write_checksum(reset, sizeof reset, 1 + 2);

@@ -194,7 +194,7 @@ static void syn_again(void)
 
 /* RFC 9293, 3.8.3: a SYN is sent again for at least 3 minutes. By 1, 2, 4 .. 60 s that is at 1, 3, 7, 15, 31, 63,
    123 and 183 s. */
-static void gives_up_syn(void)
+static void abandons_syn(void)
 {
     make_both(&TIMERS_RULES, 65535);
     uint64_t began = now;
@@ -205,7 +205,7 @@ static void gives_up_syn(void)
     }
     CHECK(now - began, 183000);
     CHECK(a.emitted, 8);
-    CHECK(!!(a.found & TIMERS_GAVE_UP), 1);
+    CHECK(!!(a.found & TIMERS_ABORTED), 1);
     struct tcpcore_status status;
     CHECK(tcpcore_status(&a.end, &status), TCPCORE_DONE);
     CHECK(status.ending, TCPCORE_ENDING_ABORTED);
@@ -213,7 +213,7 @@ static void gives_up_syn(void)
 }
 
 /* The same for a SYN,ACK with a limit of 5 s: at 1, 3 and 7 s, and then a reset. */
-static void gives_up_syn_ack(void)
+static void abandons_syn_ack(void)
 {
     struct timers_rules rules = TIMERS_RULES;
     rules.syn_ack_limit = 5000;
@@ -227,13 +227,13 @@ static void gives_up_syn_ack(void)
     }
     CHECK(now - began, 7000);
     CHECK(b.emitted, 4);
-    CHECK(!!(b.found & TIMERS_GAVE_UP), 1);
+    CHECK(!!(b.found & TIMERS_ABORTED), 1);
     free_both();
 }
 
 /* RFC 9293, 3.8.3: text for at least 100 s, and as long as Linux, 924.6 s: by 1, 2, 4 .. 32 and then 60 s that is at 63 + 15 * 60
    s, behind 6 + 14 resends. The peer hears of it by a reset. */
-static void gives_up_text(void)
+static void abandons_text(void)
 {
     make_both(&TIMERS_RULES, 65535);
     open_both(10);
@@ -243,7 +243,7 @@ static void gives_up_text(void)
     a.emitted = 0;
     while (timers_wait(&a.timers, now) >= 0) {
         wait_for(&a);
-        carry(&a, &b, a.found & TIMERS_GAVE_UP ? ALL : NOBODY);
+        carry(&a, &b, a.found & TIMERS_ABORTED ? ALL : NOBODY);
     }
     CHECK(now - began, 963000);
     CHECK(a.emitted, 21);
@@ -281,12 +281,12 @@ static void answers_lost(void)
         CHECK(carry(&a, &b, ALL), 1);
         CHECK(carry(&b, &a, lost == 1 ? ALL : NOBODY), 1);
     }
-    CHECK(a.found & TIMERS_GAVE_UP, 0);
+    CHECK(a.found & TIMERS_ABORTED, 0);
     CHECK(timers_wait(&a.timers, now), -1);
     send_text(&a, 1000);
     CHECK(carry(&a, &b, NOBODY), 1);
     uint64_t began = now;
-    for (int resends = 0; !(a.found & TIMERS_GAVE_UP); resends++) {
+    for (int resends = 0; !(a.found & TIMERS_ABORTED); resends++) {
         CHECK(resends <= 3, 1);
         CHECK(wait_for(&a), 60000);
         carry(&a, &b, NOBODY);
@@ -311,9 +311,9 @@ static void shut_window(void)
         CHECK(carry(&a, &b, ALL), 1);
         CHECK(carry(&b, &a, ALL), 1);
     }
-    CHECK(a.found & TIMERS_GAVE_UP, 0);
+    CHECK(a.found & TIMERS_ABORTED, 0);
     began = now;
-    while (!(a.found & TIMERS_GAVE_UP)) {
+    while (!(a.found & TIMERS_ABORTED)) {
         CHECK(timers_wait(&a.timers, now) > 0, 1);
         wait_for(&a);
         carry(&a, &b, NOBODY);
@@ -368,7 +368,7 @@ static void time_wait(void)
     CHECK(b.timers.phase, TCPCORE_PHASE_CLOSED);
     CHECK(wait_for(&a), 240000);
     CHECK(a.timers.phase, TCPCORE_PHASE_CLOSED);
-    CHECK(a.found & TIMERS_GAVE_UP, 0);
+    CHECK(a.found & TIMERS_ABORTED, 0);
     CHECK(timers_wait(&a.timers, now), -1);
     free_both();
 }
@@ -395,7 +395,7 @@ static void fin_wait_2(void)
         now += 60000;
         run(&a);
         CHECK(a.timers.phase, limit == 0 ? TCPCORE_PHASE_FIN_WAIT_2 : TCPCORE_PHASE_CLOSED);
-        CHECK(a.found & TIMERS_GAVE_UP, limit == 0 ? 0 : TIMERS_GAVE_UP);
+        CHECK(a.found & TIMERS_ABORTED, limit == 0 ? 0 : TIMERS_ABORTED);
         CHECK(carry(&a, &b, ALL), limit > 0);
         free_both();
     }
@@ -407,9 +407,9 @@ int main(void)
     starts_anew();
     backs_off();
     syn_again();
-    gives_up_syn();
-    gives_up_syn_ack();
-    gives_up_text();
+    abandons_syn();
+    abandons_syn_ack();
+    abandons_text();
     answers_lost();
     shut_window();
     reordering();

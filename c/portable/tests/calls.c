@@ -28,8 +28,8 @@ struct side {
     tcpcore_end end;
     tcpcore_addr addr;
     uint16_t port;
-    struct tcpcore_rest rest;
-    int is_resting;
+    struct tcpcore_time_wait time_wait;
+    int is_time_wait;
     unsigned long emitted;
     struct kept kept[KEPT];
     unsigned char block[BLOCK + 48];
@@ -59,7 +59,7 @@ static void mix(uint64_t value)
         sum = (sum ^ (value & 255)) * UINT64_C(1099511628211);
 }
 
-static uint32_t told(uint32_t answer)
+static uint32_t reported(uint32_t answer)
 {
     answers[answer < ANSWERS ? answer : 0]++;
     mix(answer);
@@ -119,15 +119,15 @@ static void make(struct side *side)
     /* Where a block begins decides whether few bytes are enough: on each machine at the same distance from a multiple of 16. */
     unsigned char *even = side->block + -(uintptr_t)side->block % 16;
     mix(wanted);
-    side->is_resting = 0;
-    told(tcpcore_new(&side->end, &config, even + next(16), length));
+    side->is_time_wait = 0;
+    reported(tcpcore_new(&side->end, &config, even + next(16), length));
 }
 
 /* What is due, and the same once it is written, each number of it. */
 static uint32_t transmit(struct side *side, struct kept *kept, size_t given, size_t *length)
 {
     struct tcpcore_transmit all[2];
-    told(tcpcore_next(&side->end, &all[0]));
+    reported(tcpcore_next(&side->end, &all[0]));
     uint32_t answer = tcpcore_transmit(&side->end, kept->bytes, given, &all[1]);
     for (int i = 0; i < 2; i++) {
         mix_bytes(all[i].to.byte, 4), mix(all[i].kind), mix(all[i].length), mix(all[i].position), mix(all[i].count);
@@ -161,7 +161,7 @@ static uint32_t parts(struct side *side, struct kept *kept, size_t given, size_t
         mix(all.reserved[i]);
     *length = all.header + gather(kept->bytes + all.header, &all.first, &all.second);
     if (answer == TCPCORE_DONE || answer == TCPCORE_NOT_DUE)
-        told(tcpcore_sent(&side->end));
+        reported(tcpcore_sent(&side->end));
     return answer;
 }
 
@@ -197,19 +197,19 @@ static uint32_t train(struct side *side, struct kept *kept, size_t given, size_t
     return answer;
 }
 
-static void emit(struct side *side, int rests)
+static void emit(struct side *side, int is_in_time_wait)
 {
     struct kept *kept = &side->kept[side->emitted % KEPT];
     size_t given = next(50) ? TCPCORE_EMIT_ROOM : next(TCPCORE_EMIT_ROOM), length;
-    uint32_t alone = !rests && next(8) == 0;
+    uint32_t alone = !is_in_time_wait && next(8) == 0;
     uint32_t answer = alone                    ? tcpcore_emit_acknowledgement(&side->end, kept->bytes, given, &kept->to, &length)
-                      : rests                  ? tcpcore_rest_emit(&side->rest, kept->bytes, given, &kept->to, &length)
+                      : is_in_time_wait                  ? tcpcore_time_wait_emit(&side->time_wait, kept->bytes, given, &kept->to, &length)
                       : side->emitted % 5 == 1 ? transmit(side, kept, given, &length)
                       : side->emitted % 5 == 2 ? partial(side, kept, given, &length)
                       : side->emitted % 5 == 3 ? parts(side, kept, given, &length)
                       : side->emitted % 5 == 4 ? train(side, kept, given, &length)
                                                : tcpcore_emit(&side->end, kept->bytes, given, &kept->to, &length);
-    if (told(answer) == TCPCORE_DONE) {
+    if (reported(answer) == TCPCORE_DONE) {
         kept->length = length;
         side->emitted++;
     }
@@ -258,7 +258,7 @@ static void harm(struct kept *kept, tcpcore_addr src)
 static void arrive(struct side *from, struct side *to)
 {
     static struct kept kept;
-    struct tcpcore_taken taken = {0};
+    struct tcpcore_arrive_report taken = {0};
     uint32_t back = next(next(3) ? 3 : KEPT);
     if (from->emitted <= back)
         return;
@@ -268,60 +268,60 @@ static void arrive(struct side *from, struct side *to)
     memcpy(kept.bytes, sent->bytes, sent->length);
     if (next(12) == 0)
         harm(&kept, from->addr);
-    if (to->is_resting)
-        told(tcpcore_rest_arrive(&to->rest, from->addr, kept.to, kept.bytes, kept.length));
+    if (to->is_time_wait)
+        reported(tcpcore_time_wait_arrive(&to->time_wait, from->addr, kept.to, kept.bytes, kept.length));
     else if (next(8) == 0)
-        told(tcpcore_arrive_vouched(&to->end, from->addr, kept.to, kept.bytes, kept.length));
+        reported(tcpcore_arrive_vouched(&to->end, from->addr, kept.to, kept.bytes, kept.length));
     else if (next(8) == 0)
-        told(tcpcore_taken_vouched(&to->end, from->addr, kept.to, kept.bytes, kept.length, &taken));
+        reported(tcpcore_arrive_vouched_with_report(&to->end, from->addr, kept.to, kept.bytes, kept.length, &taken));
     else if (next(2))
-        told(tcpcore_arrive(&to->end, from->addr, kept.to, kept.bytes, kept.length));
+        reported(tcpcore_arrive(&to->end, from->addr, kept.to, kept.bytes, kept.length));
     else if (next(2))
-        told(tcpcore_take(&to->end, from->addr, kept.to, kept.bytes, kept.length, &taken.at_once));
+        reported(tcpcore_arrive_with_at_once(&to->end, from->addr, kept.to, kept.bytes, kept.length, &taken.at_once));
     else
-        told(tcpcore_taken(&to->end, from->addr, kept.to, kept.bytes, kept.length, &taken));
+        reported(tcpcore_arrive_with_report(&to->end, from->addr, kept.to, kept.bytes, kept.length, &taken));
     mix(taken.at_once), mix(taken.rule), mix(taken.acked), mix(taken.brought), mix(taken.is_duplicate), mix(taken.window_taken);
     for (size_t i = 0; i < sizeof taken.reserved / sizeof *taken.reserved; i++)
         mix(taken.reserved[i]);
     if (next(8) == 0) {
         size_t written = 0;
-        if (told(tcpcore_stray_reset(from->addr, kept.to, kept.bytes, kept.length, room, next(9) ? 20 : next(20), &written)) == 0)
+        if (reported(tcpcore_stray_reset(from->addr, kept.to, kept.bytes, kept.length, room, next(9) ? 20 : next(20), &written)) == 0)
             mix_bytes(room, written);
         mix(written);
     }
 }
 
-static void tell(struct side *side)
+static void report(struct side *side)
 {
     struct tcpcore_status status;
     tcpcore_addr addr;
     uint16_t port;
     uint32_t due, phase, ending;
-    told(tcpcore_status(&side->end, &status));
-    mix(status.phase), mix(status.ending), mix(status.unread), mix(status.released), mix(status.ordered), mix(status.una);
-    mix(status.next), mix(status.room), mix(status.queued), mix(status.in_flight), mix(status.mss), mix(status.own_shift);
+    reported(tcpcore_status(&side->end, &status));
+    mix(status.phase), mix(status.ending), mix(status.unread), mix(status.released), mix(status.ordered), mix(status.snd_una);
+    mix(status.rcv_position), mix(status.room), mix(status.queued), mix(status.in_flight), mix(status.mss), mix(status.own_shift);
     mix(status.peer_shift), mix(status.scaling), mix(status.sack), mix(status.snd_wnd);
-    mix(status.rcv_wnd), mix(status.nxt), mix(status.closing), mix(status.finished);
+    mix(status.rcv_wnd), mix(status.snd_nxt), mix(status.closing), mix(status.finished);
     for (size_t i = 0; i < sizeof status.reserved / sizeof *status.reserved; i++)
         mix(status.reserved[i]);
-    told(tcpcore_pending(&side->end, &due)), mix(due);
-    told(tcpcore_timers(&side->end, &due)), mix(due);
-    told(tcpcore_peer(&side->end, &addr, &port)), mix_bytes(addr.byte, 4), mix(port);
-    told(tcpcore_rest_pending(&side->rest, &due)), mix(due);
-    told(tcpcore_rest_status(&side->rest, &phase, &ending)), mix(phase), mix(ending);
+    reported(tcpcore_pending(&side->end, &due)), mix(due);
+    reported(tcpcore_timers(&side->end, &due)), mix(due);
+    reported(tcpcore_peer(&side->end, &addr, &port)), mix_bytes(addr.byte, 4), mix(port);
+    reported(tcpcore_time_wait_pending(&side->time_wait, &due)), mix(due);
+    reported(tcpcore_time_wait_status(&side->time_wait, &phase, &ending)), mix(phase), mix(ending);
 }
 
-static void tell_rest(const struct tcpcore_rest *rest)
+static void report_time_wait(const struct tcpcore_time_wait *time_wait)
 {
-    mix(rest->mark), mix_bytes(rest->addr.byte, 4), mix_bytes(rest->peer_addr.byte, 4), mix(rest->port), mix(rest->peer_port);
-    mix(rest->seq), mix(rest->next), mix(rest->window), mix_bytes(rest->reset_addr.byte, 4), mix(rest->reset_seq);
-    mix(rest->reset_ack), mix(rest->reset_port), mix(rest->shift), mix(rest->ack), mix(rest->reset), mix(rest->ending);
+    mix(time_wait->mark), mix_bytes(time_wait->addr.byte, 4), mix_bytes(time_wait->peer_addr.byte, 4), mix(time_wait->port), mix(time_wait->peer_port);
+    mix(time_wait->snd_nxt), mix(time_wait->rcv_nxt), mix(time_wait->rcv_wnd), mix_bytes(time_wait->reset_addr.byte, 4), mix(time_wait->reset_seq);
+    mix(time_wait->reset_ack), mix(time_wait->reset_port), mix(time_wait->shift), mix(time_wait->ack), mix(time_wait->reset), mix(time_wait->ending);
 }
 
 static void send(struct side *side)
 {
     size_t taken, length = next(next(2) ? 300 : TEXT);
-    told(tcpcore_send(&side->end, text + next((uint32_t)(TEXT - length)), length, &taken));
+    reported(tcpcore_send(&side->end, text + next((uint32_t)(TEXT - length)), length, &taken));
     mix(taken);
 }
 
@@ -330,11 +330,11 @@ static void read_lent(struct side *side)
 {
     struct tcpcore_lent lent;
     size_t count;
-    told(tcpcore_peek(&side->end, &lent)), mix(lent.ends);
+    reported(tcpcore_peek(&side->end, &lent)), mix(lent.ends);
     for (size_t i = 0; i < sizeof lent.reserved / sizeof *lent.reserved; i++)
         mix(lent.reserved[i]);
     mix_bytes(room, gather(room, &lent.first, &lent.second));
-    told(tcpcore_consume(&side->end, next(next(2) ? 300 : TEXT), &count));
+    reported(tcpcore_consume(&side->end, next(next(2) ? 300 : TEXT), &count));
     mix(count);
 }
 
@@ -345,7 +345,7 @@ static void receive(struct side *side)
         read_lent(side);
         return;
     }
-    told(tcpcore_receive(&side->end, room, next(next(2) ? 300 : TEXT), &count));
+    reported(tcpcore_receive(&side->end, room, next(next(2) ? 300 : TEXT), &count));
     mix(count);
     mix_bytes(room, count);
 }
@@ -353,10 +353,10 @@ static void receive(struct side *side)
 /* Another end in the place of one that is CLOSED, mostly open at once. */
 static void anew(struct side *side, struct side *other)
 {
-    told(tcpcore_free(&side->end));
+    reported(tcpcore_free(&side->end));
     make(side);
     if (next(8))
-        told(next(2) ? tcpcore_listen(&side->end) : tcpcore_connect(&side->end, other->addr, other->port));
+        reported(next(2) ? tcpcore_listen(&side->end) : tcpcore_connect(&side->end, other->addr, other->port));
 }
 
 /* A user's call that comes seldom. */
@@ -364,39 +364,39 @@ static void seldom(struct side *side, struct side *other)
 {
     struct tcpcore_status status;
     uint32_t phase = tcpcore_status(&side->end, &status) == TCPCORE_DONE ? status.phase : 0;
-    if (phase == TCPCORE_PHASE_CLOSED && !side->is_resting && next(4)) {
+    if (phase == TCPCORE_PHASE_CLOSED && !side->is_time_wait && next(4)) {
         anew(side, other);
         return;
     }
     switch (next(12)) {
     case 0: case 1:
         if (next(4) == 0)
-            told(tcpcore_close(&side->end));
+            reported(tcpcore_close(&side->end));
         break;
     case 3:
         if (next(4) == 0)
-            told(tcpcore_abort(&side->end)), told(tcpcore_rest_abort(&side->rest));
+            reported(tcpcore_abort(&side->end)), reported(tcpcore_time_wait_abort(&side->time_wait));
         break;
     case 2: case 4: case 5:
-        told(tcpcore_connect(&side->end, other->addr, next(30) ? other->port : 9));
+        reported(tcpcore_connect(&side->end, other->addr, next(30) ? other->port : 9));
         break;
     case 6: case 7:
-        told(tcpcore_listen(&side->end));
+        reported(tcpcore_listen(&side->end));
         break;
     case 8: case 9:
-        if (side->is_resting || next(40) == 0)
+        if (side->is_time_wait || next(40) == 0)
             anew(side, other);
         else
             make(side);
         break;
     case 10:
-        told(tcpcore_rest_timer(&side->rest, next(4)));
-        tell_rest(&side->rest);
+        reported(tcpcore_time_wait_timer(&side->time_wait, next(4)));
+        report_time_wait(&side->time_wait);
         break;
     default:
-        if (!side->is_resting && told(tcpcore_rest(&side->end, &side->rest)) == TCPCORE_DONE)
-            side->is_resting = (int)next(2);
-        tell_rest(&side->rest);
+        if (!side->is_time_wait && reported(tcpcore_time_wait(&side->end, &side->time_wait)) == TCPCORE_DONE)
+            side->is_time_wait = (int)next(2);
+        report_time_wait(&side->time_wait);
     }
 }
 
@@ -409,15 +409,15 @@ static void step(void)
     else if (kind < 35)
         receive(side);
     else if (kind < 60)
-        emit(side, side->is_resting);
+        emit(side, side->is_time_wait);
     else if (kind < 88)
         arrive(other, side);
     else if (kind < 93)
-        told(next(4) ? tcpcore_timer(&side->end, next(4)) : tcpcore_resend_first(&side->end));
+        reported(next(4) ? tcpcore_timer(&side->end, next(4)) : tcpcore_resend_first(&side->end));
     else if (kind < 94)
-        told(tcpcore_acknowledge(&side->end));
+        reported(tcpcore_acknowledge(&side->end));
     else if (kind < 97)
-        tell(side);
+        report(side);
     else
         seldom(side, other);
 }

@@ -62,7 +62,7 @@ class World:
 
     def keep_times(self, host):
         """A timer that has to run has a deadline; Retransmit's starts anew where the peer has acknowledged more."""
-        runs, una = host.end.timers(), host.end.status().una
+        runs, una = host.end.timers(), host.end.status().snd_una
         for timer, time in TIMES.items():
             if not runs >> timer & 1 or (timer == Timer.RETRANSMIT and una != host.una):
                 host.deadlines.pop(timer, None)

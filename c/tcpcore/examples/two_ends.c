@@ -38,9 +38,9 @@ static void make(struct side *side, uint16_t port, uint32_t isn)
 
 static struct tcpcore_status status(struct side *side)
 {
-    struct tcpcore_status told;
-    need("status", tcpcore_status(&side->end, &told));
-    return told;
+    struct tcpcore_status reported;
+    need("status", tcpcore_status(&side->end, &reported));
+    return reported;
 }
 
 /* Carries all that is due from one end to the other; each third segment of the wire is lost. Answers how many were due. */
@@ -98,11 +98,11 @@ static int run_out(struct side *side)
     return 1;
 }
 
-static void tell(struct side *side)
+static void report(struct side *side)
 {
-    struct tcpcore_status told = status(side);
-    printf("%s: phase %u, ending %u, %llu bytes acknowledged, %llu received\n", side->name, told.phase, told.ending,
-           (unsigned long long)told.released, (unsigned long long)told.ordered);
+    struct tcpcore_status reported = status(side);
+    printf("%s: phase %u, ending %u, %llu bytes acknowledged, %llu received\n", side->name, reported.phase, reported.ending,
+           (unsigned long long)reported.released, (unsigned long long)reported.ordered);
     need("free", tcpcore_free(&side->end));
     free(side->memory);
 }
@@ -124,7 +124,7 @@ int main(void)
         if (due == 0 && run_out(&a) + run_out(&b) == 0)
             need("timer", tcpcore_timer(&a.end, TCPCORE_TIMER_TIME_WAIT));
     }
-    tell(&a);
-    tell(&b);
+    report(&a);
+    report(&b);
     return 0;
 }

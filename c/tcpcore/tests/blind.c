@@ -112,12 +112,12 @@ static void send_into_the_void(void)
 }
 
 /* Guesses until one is taken by this rule, and reports what it did; their count. */
-static uint64_t guesses_until(uint32_t rule, size_t length, struct tcpcore_taken *taken)
+static uint64_t guesses_until(uint32_t rule, size_t length, struct tcpcore_arrive_report *taken)
 {
     static unsigned char segment[HEADER + TEXT];
     for (uint64_t count = 1;; count++) {
         guess(segment, length);
-        tcpcore_taken(&a, B, A, segment, length, taken);
+        tcpcore_arrive_with_report(&a, B, A, segment, length, taken);
         if (taken->rule == rule && (taken->acked > 0 || taken->brought != TCPCORE_BROUGHT_NOTHING))
             return count;
     }
@@ -135,7 +135,7 @@ static void within(const char *what, uint64_t sum, uint64_t mean)
 /* An acknowledgement alone, at a shut window, of LARGE bytes in flight: 2^32 / LARGE. Nothing of what it releases was delivered. */
 static void at_a_shut_window(void)
 {
-    struct tcpcore_taken taken;
+    struct tcpcore_arrive_report taken;
     uint64_t sum = 0, released = 0;
     for (int round = 0; round < ROUNDS; round++) {
         open_connection(SMALL, SMALL);
@@ -152,7 +152,7 @@ static void at_a_shut_window(void)
 /* Text, at an open window of LARGE bytes with nothing in flight: 2^64 / ((LARGE + TEXT - 1) * (2^31 + 1)), to the nearest. */
 static void at_an_open_window(void)
 {
-    struct tcpcore_taken taken;
+    struct tcpcore_arrive_report taken;
     uint64_t sum = 0;
     for (int round = 0; round < ROUNDS; round++) {
         open_connection(LARGE, 0);

@@ -9,7 +9,7 @@ import sys
 
 sys.path.insert(0, os.path.dirname(os.path.dirname(os.path.realpath(__file__))))
 import tcpcore  # noqa: E402
-from tcpcore import Answer, Brought, Config, End, Ending, Kind, Lent, Phase, Refused, Rest, Rule, Taken, Timer, Train, Transmit  # noqa: E402
+from tcpcore import Answer, Brought, Config, End, Ending, Kind, Lent, Phase, Refused, TimeWait, Rule, ArriveReport, Timer, Train, Transmit  # noqa: E402
 
 A, B = "10.0.0.1", bytes([10, 0, 0, 2])
 GOOD = Config(A, 1, 1460, 7, 1000, 1000, None, True)
@@ -81,9 +81,9 @@ def buffers():
         told, segment = a.transmit()
         check(told, Transmit(B, Kind.NEW_TEXT, 25, 1, 5))
         check((a.next(), a.transmit()), (None, None))
-        taken = Taken(False, Rule.TAKEN, 0, Brought.IN_ORDER, False, True)
-        check(b.taken(A, told.to, kind(segment)), (Answer.DONE, taken))
-        check(b.take(A, told.to, kind(segment)), (Answer.DROPPED, True))
+        taken = ArriveReport(False, Rule.TAKEN, 0, Brought.IN_ORDER, False, True)
+        check(b.arrive_with_report(A, told.to, kind(segment)), (Answer.DONE, taken))
+        check(b.arrive_with_at_once(A, told.to, kind(segment)), (Answer.DROPPED, True))
         check(b.receive(), b"hello")
         check(b.receive(), None)
         check(tcpcore.stray_reset(A, B, kind(segment))[13], 4)
@@ -121,7 +121,7 @@ def lending():
     check(b.arrive(A, to, whole), Answer.DONE)
     a.close()
     to, segment = a.emit()
-    check(b.taken_vouched(A, to, segment), (Answer.DONE, Taken(True, Rule.TAKEN, 0, Brought.IN_ORDER, False, True)))
+    check(b.arrive_vouched_with_report(A, to, segment), (Answer.DONE, ArriveReport(True, Rule.TAKEN, 0, Brought.IN_ORDER, False, True)))
     check((a.emit_partial(), b.peek(), b.consume(9), b.peek()), (None, Lent(b"world", True), 5, Lent(b"", True)))
     check(raised(ValueError, b.consume, -1)[:15], "the count is -1")
     check(raised(Refused, End(GOOD).peek), "not open yet")
@@ -168,13 +168,13 @@ def enums():
     b.close()
     fin = b.emit()
     a.arrive(B, *fin)
-    rest = a.rest()
+    rest = a.time_wait()
     check(rest.status(), (Phase.TIME_WAIT, Ending.NOT_ENDED))
-    for other in (copy.copy(rest), pickle.loads(pickle.dumps(rest)), Rest(bytearray(bytes(rest)))):
+    for other in (copy.copy(rest), pickle.loads(pickle.dumps(rest)), TimeWait(bytearray(bytes(rest)))):
         check(bytes(other), bytes(rest))
         check((other.arrive(B, *fin), len(other.emit()[1])), (Answer.DROPPED, 20))
-    check(raised(ValueError, Rest, b"short"), "what rests has 48 bytes, not 5")
-    check(raised(Refused, Rest, bytes(48)), "no rest is in the struct")
+    check(raised(ValueError, TimeWait, b"short"), "what rests has 48 bytes, not 5")
+    check(raised(Refused, TimeWait, bytes(48)), "no rest is in the struct")
 
 
 def freed():
@@ -185,9 +185,9 @@ def freed():
     check(raised(Refused, end.timer, 3), "no timer has this number")
     end.free()
     calls = [end.emit, end.emit_partial, end.emit_acknowledgement, end.resend_first, end.transmit, end.next, end.timers, end.pending]
-    calls += [end.peer, end.status, end.rest, end.listen, end.receive, end.peek, end.acknowledge, end.close, end.abort]
+    calls += [end.peer, end.status, end.time_wait, end.listen, end.receive, end.peek, end.acknowledge, end.close, end.abort]
     calls += [lambda: end.timer(Timer.RETRANSMIT), lambda: end.emit_train(1), lambda: end.send(b"x"), lambda: end.consume(1)]
-    calls += [lambda call=call: call(B, A, b"x") for call in (end.arrive, end.take, end.taken, end.arrive_vouched, end.taken_vouched)]
+    calls += [lambda call=call: call(B, A, b"x") for call in (end.arrive, end.arrive_with_at_once, end.arrive_with_report, end.arrive_vouched, end.arrive_vouched_with_report)]
     for call in calls:
         check(raised(Refused, call), "no end is in the struct")
 

@@ -67,11 +67,11 @@ static void send(tcpcore_end *end, const char *text, size_t length)
     need("send", tcpcore_send(end, text, length, &taken));
 }
 
-static void tell(const char *name, const tcpcore_end *end)
+static void report(const char *name, const tcpcore_end *end)
 {
-    struct tcpcore_status told;
-    need("status", tcpcore_status(end, &told));
-    printf("  %s: phase %u, ending %u, unread %llu\n", name, told.phase, told.ending, (unsigned long long)told.unread);
+    struct tcpcore_status reported;
+    need("status", tcpcore_status(end, &reported));
+    printf("  %s: phase %u, ending %u, unread %llu\n", name, reported.phase, reported.ending, (unsigned long long)reported.unread);
 }
 
 static void free_all(void)
@@ -94,7 +94,7 @@ static void of_another_connection(const char *name, int listens)
     struct segment reset = due(&other);
     printf("  %zu bytes, flags %02x; the client: %s\n", reset.length, reset.bytes[13],
            tcpcore_strerror(hand(&client, SERVER, &reset)));
-    tell("client", &client);
+    report("client", &client);
     free_all();
 }
 
@@ -160,13 +160,13 @@ static void late_reset(void)
     need("arrive", hand(&server, CLIENT, &fin));
     carry(&server, SERVER, &client);
     printf("a late reset\n");
-    tell("client", &client);
-    tell("server", &server);
+    report("client", &client);
+    report("server", &server);
     printf("  FIN again: %s\n", tcpcore_strerror(hand(&server, CLIENT, &fin)));
     struct segment answer = due(&server);
     printf("  to the client in CLOSED: %s\n", tcpcore_strerror(hand(&client, SERVER, &answer)));
     carry(&client, CLIENT, &server);
-    tell("server", &server);
+    report("server", &server);
     printf("  receive: %s\n", tcpcore_strerror(tcpcore_receive(&server, text, sizeof text, &count)));
     free_all();
 }

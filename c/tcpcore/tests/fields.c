@@ -81,14 +81,14 @@ static void layout(void)
     FIELD(struct tcpcore_status, finished);
     FIELD(struct tcpcore_status, reserved);
     printf(" of %zu\ntcpcore_taken:", sizeof(struct tcpcore_status));
-    FIELD(struct tcpcore_taken, at_once);
-    FIELD(struct tcpcore_taken, rule);
-    FIELD(struct tcpcore_taken, acked);
-    FIELD(struct tcpcore_taken, brought);
-    FIELD(struct tcpcore_taken, is_duplicate);
-    FIELD(struct tcpcore_taken, window_taken);
-    FIELD(struct tcpcore_taken, reserved);
-    printf(" of %zu\ntcpcore_transmit:", sizeof(struct tcpcore_taken));
+    FIELD(struct tcpcore_arrive_report, at_once);
+    FIELD(struct tcpcore_arrive_report, rule);
+    FIELD(struct tcpcore_arrive_report, acked);
+    FIELD(struct tcpcore_arrive_report, brought);
+    FIELD(struct tcpcore_arrive_report, is_duplicate);
+    FIELD(struct tcpcore_arrive_report, window_taken);
+    FIELD(struct tcpcore_arrive_report, reserved);
+    printf(" of %zu\ntcpcore_transmit:", sizeof(struct tcpcore_arrive_report));
     FIELD(struct tcpcore_transmit, to);
     FIELD(struct tcpcore_transmit, kind);
     FIELD(struct tcpcore_transmit, length);
@@ -96,23 +96,23 @@ static void layout(void)
     FIELD(struct tcpcore_transmit, count);
     FIELD(struct tcpcore_transmit, reserved);
     printf(" of %zu\ntcpcore_rest:", sizeof(struct tcpcore_transmit));
-    FIELD(struct tcpcore_rest, mark);
-    FIELD(struct tcpcore_rest, addr);
-    FIELD(struct tcpcore_rest, peer_addr);
-    FIELD(struct tcpcore_rest, port);
-    FIELD(struct tcpcore_rest, peer_port);
-    FIELD(struct tcpcore_rest, seq);
-    FIELD(struct tcpcore_rest, next);
-    FIELD(struct tcpcore_rest, window);
-    FIELD(struct tcpcore_rest, reset_addr);
-    FIELD(struct tcpcore_rest, reset_seq);
-    FIELD(struct tcpcore_rest, reset_ack);
-    FIELD(struct tcpcore_rest, reset_port);
-    FIELD(struct tcpcore_rest, shift);
-    FIELD(struct tcpcore_rest, ack);
-    FIELD(struct tcpcore_rest, reset);
-    FIELD(struct tcpcore_rest, ending);
-    printf(" of %zu\n", sizeof(struct tcpcore_rest));
+    FIELD(struct tcpcore_time_wait, mark);
+    FIELD(struct tcpcore_time_wait, addr);
+    FIELD(struct tcpcore_time_wait, peer_addr);
+    FIELD(struct tcpcore_time_wait, port);
+    FIELD(struct tcpcore_time_wait, peer_port);
+    FIELD(struct tcpcore_time_wait, seq);
+    FIELD(struct tcpcore_time_wait, next);
+    FIELD(struct tcpcore_time_wait, window);
+    FIELD(struct tcpcore_time_wait, reset_addr);
+    FIELD(struct tcpcore_time_wait, reset_seq);
+    FIELD(struct tcpcore_time_wait, reset_ack);
+    FIELD(struct tcpcore_time_wait, reset_port);
+    FIELD(struct tcpcore_time_wait, shift);
+    FIELD(struct tcpcore_time_wait, ack);
+    FIELD(struct tcpcore_time_wait, reset);
+    FIELD(struct tcpcore_time_wait, ending);
+    printf(" of %zu\n", sizeof(struct tcpcore_time_wait));
 }
 
 static void make(struct side *side)
@@ -171,37 +171,37 @@ static void carry(struct side *from, struct side *to)
     printf("\n");
 }
 
-static void tell(const struct side *side)
+static void report(const struct side *side)
 {
-    struct tcpcore_status told;
+    struct tcpcore_status reported;
     uint32_t due;
-    need("status", tcpcore_status(&side->end, &told));
+    need("status", tcpcore_status(&side->end, &reported));
     need("timers", tcpcore_timers(&side->end, &due));
     printf("%s: %s, %s, unread %llu, released %llu, ordered %llu, una %llu, next %llu, timers %u\n", side->name,
-           PHASES[told.phase], ENDINGS[told.ending], (unsigned long long)told.unread, (unsigned long long)told.released,
-           (unsigned long long)told.ordered, (unsigned long long)told.una, (unsigned long long)told.next, due);
+           PHASES[reported.phase], ENDINGS[reported.ending], (unsigned long long)reported.unread, (unsigned long long)reported.released,
+           (unsigned long long)reported.ordered, (unsigned long long)reported.snd_una, (unsigned long long)reported.rcv_position, due);
 }
 
 /* Whom it speaks with, what it keeps for the peer, what is due, and what the SYNs agreed on. */
-static void tell_more(const struct side *side)
+static void report_more(const struct side *side)
 {
-    struct tcpcore_status told;
+    struct tcpcore_status reported;
     tcpcore_addr addr;
     uint16_t port;
     uint32_t due;
     uint32_t answer = tcpcore_peer(&side->end, &addr, &port);
-    need("status", tcpcore_status(&side->end, &told));
+    need("status", tcpcore_status(&side->end, &reported));
     need("pending", tcpcore_pending(&side->end, &due));
     if (answer == TCPCORE_DONE)
         printf("%s: peer %d.%d.%d.%d port %u", side->name, addr.byte[0], addr.byte[1], addr.byte[2], addr.byte[3], port);
     else
         printf("%s: %s", side->name, tcpcore_strerror(answer));
-    printf(", room %llu, queued %llu, in flight %llu, due %u", (unsigned long long)told.room,
-           (unsigned long long)told.queued, (unsigned long long)told.in_flight, due);
-    printf(", mss %u, shifts %u and %u, scaling %u, sack %u, SND.WND %u\n", told.mss, told.own_shift, told.peer_shift,
-           told.scaling, told.sack, told.snd_wnd);
-    for (size_t i = 0; i < sizeof told.reserved / sizeof *told.reserved; i++)
-        if (told.reserved[i] != 0)
+    printf(", room %llu, queued %llu, in flight %llu, due %u", (unsigned long long)reported.room,
+           (unsigned long long)reported.queued, (unsigned long long)reported.in_flight, due);
+    printf(", mss %u, shifts %u and %u, scaling %u, sack %u, SND.WND %u\n", reported.mss, reported.own_shift, reported.peer_shift,
+           reported.scaling, reported.sack, reported.snd_wnd);
+    for (size_t i = 0; i < sizeof reported.reserved / sizeof *reported.reserved; i++)
+        if (reported.reserved[i] != 0)
             printf("reserved word %zu isn't 0\n", i);
 }
 
@@ -225,13 +225,13 @@ static void shake_hands(void)
 {
     make(&a);
     make(&b);
-    tell(&a);
+    report(&a);
     need("listen", tcpcore_listen(&b.end));
-    tell(&b);
+    report(&b);
     need("connect", tcpcore_connect(&a.end, b.config.addr, b.config.port));
-    tell(&a);
+    report(&a);
     carry(&a, &b);
-    tell(&b);
+    report(&b);
     carry(&b, &a);
     carry(&a, &b);
 }
@@ -242,8 +242,8 @@ static void transfer(void)
     offer(&a, 4000);
     carry(&a, &b);
     take(&b, 500);
-    tell(&a);
-    tell(&b);
+    report(&a);
+    report(&b);
     carry(&b, &a);
     offer(&a, 1000);
     offer(&a, 1);
@@ -252,8 +252,8 @@ static void transfer(void)
     carry(&b, &a);
     take(&a, 250);
     carry(&a, &b);
-    tell(&a);
-    tell(&b);
+    report(&a);
+    report(&b);
     offer(&b, 200);
     offer(&b, 1);
     carry(&b, &a);
@@ -277,7 +277,7 @@ static struct segment emitted(struct side *from)
 static void hand(const struct side *from, struct side *to, const struct segment *segment)
 {
     uint32_t at_once;
-    uint32_t answer = tcpcore_take(&to->end, from->config.addr, segment->dst, segment->bytes, segment->length, &at_once);
+    uint32_t answer = tcpcore_arrive_with_at_once(&to->end, from->config.addr, segment->dst, segment->bytes, segment->length, &at_once);
     printf("%s takes %zu bytes: %s, %s\n", to->name, segment->length, tcpcore_strerror(answer),
            at_once ? "at once" : "may wait");
 }
@@ -288,30 +288,30 @@ static void agree(void)
     a.config.sack = b.config.scales = 1;
     make(&a);
     make(&b);
-    tell_more(&a);
+    report_more(&a);
     need("listen", tcpcore_listen(&b.end));
-    tell_more(&b);
+    report_more(&b);
     need("connect", tcpcore_connect(&a.end, b.config.addr, b.config.port));
-    tell_more(&a);
+    report_more(&a);
     struct segment syn = emitted(&a);
     hand(&a, &b, &syn);
-    tell_more(&b);
+    report_more(&b);
     struct segment answer = emitted(&b);
     hand(&b, &a, &answer);
-    tell_more(&a);
+    report_more(&a);
     carry(&a, &b);
     offer(&a, 3000);
     struct segment first = emitted(&a), second = emitted(&a), third = emitted(&a);
-    tell_more(&a);
+    report_more(&a);
     hand(&a, &b, &first);
     hand(&a, &b, &third);
     hand(&a, &b, &second);
     hand(&a, &b, &second);
-    tell_more(&b);
+    report_more(&b);
     carry(&b, &a);
-    tell_more(&a);
+    report_more(&a);
     take(&b, 100);
-    tell_more(&b);
+    report_more(&b);
     need("acknowledge", tcpcore_acknowledge(&b.end));
     carry(&b, &a);
     need("close", tcpcore_close(&a.end));
@@ -334,8 +334,8 @@ static void stray(void)
     answer = tcpcore_stray_reset(b.config.addr, a.config.addr, out, written, again, sizeof again, &written);
     printf("stray reset: %s, %zu bytes\n", tcpcore_strerror(answer), written);
     need("arrive", tcpcore_arrive(&a.end, b.config.addr, a.config.addr, out, sizeof out));
-    tell(&a);
-    tell_more(&a);
+    report(&a);
+    report_more(&a);
     need("free", tcpcore_free(&a.end));
 }
 
@@ -357,44 +357,44 @@ static void print_peer(const char *name, tcpcore_addr addr, unsigned int port)
     printf("%s %d.%d.%d.%d port %u, ", name, addr.byte[0], addr.byte[1], addr.byte[2], addr.byte[3], port);
 }
 
-static void tell_rest(const struct tcpcore_rest *rest)
+static void report_time_wait(const struct tcpcore_time_wait *time_wait)
 {
     uint32_t phase, ending, due;
-    need("rest_status", tcpcore_rest_status(rest, &phase, &ending));
-    need("rest_pending", tcpcore_rest_pending(rest, &due));
+    need("rest_status", tcpcore_time_wait_status(time_wait, &phase, &ending));
+    need("rest_pending", tcpcore_time_wait_pending(time_wait, &due));
     printf("rest: %s, %s, due %u: ", PHASES[phase], ENDINGS[ending], due);
-    print_peer("own", rest->addr, rest->port);
-    print_peer("peer", rest->peer_addr, rest->peer_port);
-    printf("seq %u, next %u, window %u, shift %u, ack %u, reset %u", rest->seq, rest->next, rest->window, rest->shift,
-           rest->ack, rest->reset);
-    if (rest->reset > 0) {
-        print_peer(" to", rest->reset_addr, rest->reset_port);
-        printf("seq %u, ack %u", rest->reset_seq, rest->reset_ack);
+    print_peer("own", time_wait->addr, time_wait->port);
+    print_peer("peer", time_wait->peer_addr, time_wait->peer_port);
+    printf("seq %u, next %u, window %u, shift %u, ack %u, reset %u", time_wait->snd_nxt, time_wait->rcv_nxt, time_wait->rcv_wnd, time_wait->shift,
+           time_wait->ack, time_wait->reset);
+    if (time_wait->reset > 0) {
+        print_peer(" to", time_wait->reset_addr, time_wait->reset_port);
+        printf("seq %u, ack %u", time_wait->reset_seq, time_wait->reset_ack);
     }
-    printf(", ending %u\n", rest->ending);
+    printf(", ending %u\n", time_wait->ending);
 }
 
-static void emit_rest(struct tcpcore_rest *rest)
+static void emit_time_wait(struct tcpcore_time_wait *time_wait)
 {
-    unsigned char out[TCPCORE_REST_ROOM];
+    unsigned char out[TCPCORE_TIME_WAIT_ROOM];
     tcpcore_addr to;
     size_t length;
-    need("rest_emit", tcpcore_rest_emit(rest, out, sizeof out, &to, &length));
+    need("rest_emit", tcpcore_time_wait_emit(time_wait, out, sizeof out, &to, &length));
     printf("rest emits %zu bytes: to %d.%d.%d.%d, ports %u and %u, number %u, acknowledges %u, flags %d, window %u\n", length,
            to.byte[0], to.byte[1], to.byte[2], to.byte[3], word(out), word(out + 2), word(out + 4) << 16 | word(out + 6),
            word(out + 8) << 16 | word(out + 10), out[13], word(out + 14));
 }
 
-static void hand_to_rest(struct tcpcore_rest *rest, const struct segment *segment)
+static void arrive_at_time_wait(struct tcpcore_time_wait *time_wait, const struct segment *segment)
 {
-    uint32_t answer = tcpcore_rest_arrive(rest, b.config.addr, segment->dst, segment->bytes, segment->length);
+    uint32_t answer = tcpcore_time_wait_arrive(time_wait, b.config.addr, segment->dst, segment->bytes, segment->length);
     printf("rest takes %zu bytes: %s\n", segment->length, tcpcore_strerror(answer));
 }
 
 /* What rests in the place of A: the peer's FIN comes again, in TIME-WAIT and once that is over, and then a new SYN. */
 static void rested(void)
 {
-    struct tcpcore_rest rest;
+    struct tcpcore_time_wait time_wait;
     static const unsigned char text[10];
     size_t taken;
     make(&a);
@@ -407,47 +407,47 @@ static void rested(void)
     need("close", tcpcore_close(&a.end));
     bring(&a, &b);
     bring(&b, &a);
-    printf("rest of A: %s\n", tcpcore_strerror(tcpcore_rest(&a.end, &rest)));
+    printf("rest of A: %s\n", tcpcore_strerror(tcpcore_time_wait(&a.end, &time_wait)));
     need("close", tcpcore_close(&b.end));
     struct segment fin = emitted(&b);
     hand(&b, &a, &fin);
-    need("rest", tcpcore_rest(&a.end, &rest));
+    need("rest", tcpcore_time_wait(&a.end, &time_wait));
     free_both();
-    tell_rest(&rest);
-    emit_rest(&rest);
-    tell_rest(&rest);
-    hand_to_rest(&rest, &fin);
-    emit_rest(&rest);
-    need("rest_timer", tcpcore_rest_timer(&rest, TCPCORE_TIMER_TIME_WAIT));
-    hand_to_rest(&rest, &fin);
-    tell_rest(&rest);
-    emit_rest(&rest);
+    report_time_wait(&time_wait);
+    emit_time_wait(&time_wait);
+    report_time_wait(&time_wait);
+    arrive_at_time_wait(&time_wait, &fin);
+    emit_time_wait(&time_wait);
+    need("rest_timer", tcpcore_time_wait_timer(&time_wait, TCPCORE_TIMER_TIME_WAIT));
+    arrive_at_time_wait(&time_wait, &fin);
+    report_time_wait(&time_wait);
+    emit_time_wait(&time_wait);
     make(&b);
     need("connect", tcpcore_connect(&b.end, a.config.addr, a.config.port));
     struct segment syn = emitted(&b);
     need("free", tcpcore_free(&b.end));
-    hand_to_rest(&rest, &syn);
-    tell_rest(&rest);
-    emit_rest(&rest);
-    printf("rest gives up: %s\n", tcpcore_strerror(tcpcore_rest_abort(&rest)));
+    arrive_at_time_wait(&time_wait, &syn);
+    report_time_wait(&time_wait);
+    emit_time_wait(&time_wait);
+    printf("rest gives up: %s\n", tcpcore_strerror(tcpcore_time_wait_abort(&time_wait)));
 }
 
 static void close_both(void)
 {
     need("close", tcpcore_close(&a.end));
-    tell(&a);
+    report(&a);
     carry(&a, &b);
-    tell(&b);
+    report(&b);
     carry(&b, &a);
-    tell(&a);
+    report(&a);
     need("close", tcpcore_close(&b.end));
-    tell(&b);
+    report(&b);
     carry(&b, &a);
-    tell(&a);
+    report(&a);
     carry(&a, &b);
-    tell(&b);
+    report(&b);
     need("timer", tcpcore_timer(&a.end, TCPCORE_TIMER_TIME_WAIT));
-    tell(&a);
+    report(&a);
 }
 
 int main(void)
@@ -461,9 +461,9 @@ int main(void)
     free_both();
     shake_hands();
     need("abort", tcpcore_abort(&a.end));
-    tell(&a);
+    report(&a);
     carry(&a, &b);
-    tell(&b);
+    report(&b);
     free_both();
     agree();
     free_both();

@@ -8,14 +8,14 @@ sys.path.insert(0, os.path.dirname(os.path.dirname(os.path.realpath(__file__))))
 import tcpcore  # noqa: E402
 from tcpcore import (  # noqa: E402
     DONE,
-    NOT_AT_REST,
+    NOT_TIME_WAIT,
     NOT_CONNECTED,
     NOT_DUE,
     TIME_WAIT,
     Config,
     End,
     Refused,
-    Rest,
+    TimeWait,
     stray_reset,
     strerror,
 )
@@ -37,7 +37,7 @@ class Side:
         told = self.end.status()
         print(
             f"{self.name}: {told.phase}, {told.ending}, unread {told.unread}, released {told.released}, "
-            f"ordered {told.ordered}, una {told.una}, next {told.next}, timers {self.end.timers()}"
+            f"ordered {told.ordered}, una {told.snd_una}, next {told.rcv_position}, timers {self.end.timers()}"
         )
 
     def tell_more(self):
@@ -64,7 +64,7 @@ class Side:
 
 
 def layout():
-    for name in ("end", "addr", "config", "status", "taken", "transmit", "rest"):
+    for name in ("end", "addr", "config", "status", "arrive_report", "transmit", "time_wait"):
         struct = getattr(tcpcore, f"{name.capitalize()}Struct")
         fields = ((field, getattr(struct, field)) for field, _ in struct._fields_ if not field.startswith("unnamed"))
         told = " ".join(f"{field} {place.offset}+{place.size}" for field, place in fields)
@@ -164,7 +164,7 @@ def close_both(a, b):
 
 
 def hand(source, target, segment):
-    answer, at_once = target.end.take(source.config.addr, *segment)
+    answer, at_once = target.end.arrive_with_at_once(source.config.addr, *segment)
     print(f"{target.name} takes {len(segment[1])} bytes: {strerror(answer)}, {'at once' if at_once else 'may wait'}")
 
 
@@ -232,8 +232,8 @@ def tell_rest(rest):
         reset = f" to {to}, seq {told.reset_seq}, ack {told.reset_ack}"
     print(
         f"rest: {phase}, {ending}, due {rest.pending()}: own {dotted(told.addr.byte)} port {told.port}, "
-        f"peer {dotted(told.peer_addr.byte)} port {told.peer_port}, seq {told.seq}, next {told.next}, "
-        f"window {told.window}, shift {told.shift}, ack {told.ack}, reset {told.reset}{reset}, ending {told.ending}"
+        f"peer {dotted(told.peer_addr.byte)} port {told.peer_port}, seq {told.snd_nxt}, next {told.rcv_nxt}, "
+        f"window {told.rcv_wnd}, shift {told.shift}, ack {told.ack}, reset {told.reset}{reset}, ending {told.ending}"
     )
 
 
@@ -270,15 +270,15 @@ def rested(a, b):
     a.end.close()
     bring(a, b)
     bring(b, a)
-    print(f"rest of A: {strerror(NOT_AT_REST if a.end.rest() is None else DONE)}")
+    print(f"rest of A: {strerror(NOT_TIME_WAIT if a.end.time_wait() is None else DONE)}")
     b.end.close()
     fin = b.end.emit()
     hand(b, a, fin)
-    rest = a.end.rest()
+    rest = a.end.time_wait()
     free_both(a, b)
     tell_rest(rest)
     emit_rest(rest)
-    rest = Rest(bytes(rest))
+    rest = TimeWait(bytes(rest))
     tell_rest(rest)
     hand_to_rest(rest, b, fin)
     emit_rest(rest)

@@ -1,6 +1,6 @@
 /*
  * The test of what is lent, and of the calls for a device that sums: two pairs of ends have the same traffic side by side, one by
- * tcpcore_receive, tcpcore_arrive, tcpcore_taken and tcpcore_emit, the other by the calls that take their place. Every answer, byte
+ * tcpcore_receive, tcpcore_arrive, tcpcore_arrive_with_report and tcpcore_emit, the other by the calls that take their place. Every answer, byte
  * and status has to be the same. The sums of the second pair's device are this file's own (RFC 1071; RFC 9293, 3.1).
  */
 enum { CAPACITY = 3000, WAITING = 8, ROUNDS = 100, STEPS = 600, CANARY = 0x5a };
@@ -119,7 +119,7 @@ static void emit_some(int end)
 static void arrive(int end, struct segment *segment)
 {
     struct segment other;
-    struct tcpcore_taken taken[PAIRS];
+    struct tcpcore_arrive_report taken[PAIRS];
     put_checksum(segment, ADDRS[!end]);
     other = *segment;
     if (other.length >= 18)
@@ -130,8 +130,8 @@ static void arrive(int end, struct segment *segment)
         CHECK(tcpcore_arrive_vouched(&ends[1][end], ADDRS[!end], other.to, other.bytes, other.length), answer);
     } else {
         memset(taken, 7, sizeof taken);
-        answer = tcpcore_taken(&ends[0][end], ADDRS[!end], segment->to, segment->bytes, segment->length, &taken[0]);
-        CHECK(tcpcore_taken_vouched(&ends[1][end], ADDRS[!end], other.to, other.bytes, other.length, &taken[1]), answer);
+        answer = tcpcore_arrive_with_report(&ends[0][end], ADDRS[!end], segment->to, segment->bytes, segment->length, &taken[0]);
+        CHECK(tcpcore_arrive_vouched_with_report(&ends[1][end], ADDRS[!end], other.to, other.bytes, other.length, &taken[1]), answer);
         CHECK(memcmp(&taken[0], &taken[1], sizeof *taken), 0);
     }
     of_no_sum += memcmp(other.bytes, segment->bytes, other.length) != 0;

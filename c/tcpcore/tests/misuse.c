@@ -57,7 +57,7 @@ static void every_call(tcpcore_end *end, uint32_t wanted)
     uint32_t at_once = 7;
     uint16_t port = 7;
     struct tcpcore_status status;
-    struct tcpcore_taken taken;
+    struct tcpcore_arrive_report taken;
     struct tcpcore_transmit transmit;
     memset(&status, 7, sizeof status);
     memset(&taken, 7, sizeof taken);
@@ -74,9 +74,9 @@ static void every_call(tcpcore_end *end, uint32_t wanted)
     CHECK(tcpcore_abort(end), wanted);
     CHECK(tcpcore_timer(end, TCPCORE_TIMER_RETRANSMIT), wanted);
     CHECK(tcpcore_arrive(end, THERE, HERE, "short", 5), wanted);
-    CHECK(tcpcore_take(end, THERE, HERE, "short", 5, &at_once), wanted);
+    CHECK(tcpcore_arrive_with_at_once(end, THERE, HERE, "short", 5, &at_once), wanted);
     CHECK(at_once, 0);
-    CHECK(tcpcore_taken(end, THERE, HERE, "short", 5, &taken), wanted);
+    CHECK(tcpcore_arrive_with_report(end, THERE, HERE, "short", 5, &taken), wanted);
     CHECK(is_zero(&taken, sizeof taken), 1);
     CHECK(tcpcore_transmit(end, buffer, sizeof buffer, &transmit), wanted);
     CHECK(is_zero(&transmit, sizeof transmit), 1);
@@ -98,10 +98,10 @@ static void every_call(tcpcore_end *end, uint32_t wanted)
     CHECK(port, 0);
     CHECK(tcpcore_status(end, &status), wanted);
     CHECK(are_zero(&status, sizeof status), 1);
-    struct tcpcore_rest rest;
-    memset(&rest, 7, sizeof rest);
-    CHECK(tcpcore_rest(end, &rest), wanted);
-    CHECK(are_zero(&rest, sizeof rest), 1);
+    struct tcpcore_time_wait time_wait;
+    memset(&time_wait, 7, sizeof time_wait);
+    CHECK(tcpcore_time_wait(end, &time_wait), wanted);
+    CHECK(are_zero(&time_wait, sizeof time_wait), 1);
     for (size_t i = 0; i < sizeof buffer; i++)
         if (buffer[i] != 0xee)
             CHECK(buffer[i], 0xee);
@@ -150,18 +150,18 @@ static void null_pointers(void)
     CHECK(tcpcore_emit(&end, buffer, sizeof buffer, &to, NULL), TCPCORE_NULL);
     CHECK(tcpcore_timers(&end, NULL), TCPCORE_NULL);
     CHECK(tcpcore_status(&end, NULL), TCPCORE_NULL);
-    CHECK(tcpcore_rest(&end, NULL), TCPCORE_NULL);
+    CHECK(tcpcore_time_wait(&end, NULL), TCPCORE_NULL);
     uint32_t at_once = 7;
-    CHECK(tcpcore_take(&end, THERE, HERE, NULL, 20, &at_once), TCPCORE_NULL);
+    CHECK(tcpcore_arrive_with_at_once(&end, THERE, HERE, NULL, 20, &at_once), TCPCORE_NULL);
     CHECK(at_once, 0);
-    CHECK(tcpcore_take(&end, THERE, HERE, buffer, 20, NULL), TCPCORE_NULL);
-    CHECK(tcpcore_take(&end, THERE, HERE, NULL, 0, &at_once), TCPCORE_TOO_SHORT);
-    struct tcpcore_taken taken;
+    CHECK(tcpcore_arrive_with_at_once(&end, THERE, HERE, buffer, 20, NULL), TCPCORE_NULL);
+    CHECK(tcpcore_arrive_with_at_once(&end, THERE, HERE, NULL, 0, &at_once), TCPCORE_TOO_SHORT);
+    struct tcpcore_arrive_report taken;
     memset(&taken, 7, sizeof taken);
-    CHECK(tcpcore_taken(&end, THERE, HERE, NULL, 20, &taken), TCPCORE_NULL);
+    CHECK(tcpcore_arrive_with_report(&end, THERE, HERE, NULL, 20, &taken), TCPCORE_NULL);
     CHECK(is_zero(&taken, sizeof taken), 1);
-    CHECK(tcpcore_taken(&end, THERE, HERE, buffer, 20, NULL), TCPCORE_NULL);
-    CHECK(tcpcore_taken(&end, THERE, HERE, NULL, 0, &taken), TCPCORE_TOO_SHORT);
+    CHECK(tcpcore_arrive_with_report(&end, THERE, HERE, buffer, 20, NULL), TCPCORE_NULL);
+    CHECK(tcpcore_arrive_with_report(&end, THERE, HERE, NULL, 0, &taken), TCPCORE_TOO_SHORT);
     struct tcpcore_transmit transmit;
     memset(&transmit, 7, sizeof transmit);
     CHECK(tcpcore_transmit(&end, NULL, sizeof buffer, &transmit), TCPCORE_NULL);
@@ -292,14 +292,14 @@ static void numbers(void)
     CHECK(tcpcore_receive(&end, buffer, SIZE_MAX, &count), TCPCORE_LENGTH);
     CHECK(tcpcore_arrive(&end, THERE, HERE, buffer, HUGE_LENGTH), TCPCORE_LENGTH);
     CHECK(tcpcore_emit(&end, buffer, SIZE_MAX, &to, &count), TCPCORE_LENGTH);
-    struct tcpcore_taken taken;
+    struct tcpcore_arrive_report taken;
     struct tcpcore_transmit transmit;
     memset(&taken, 7, sizeof taken);
     memset(&transmit, 7, sizeof transmit);
     uint32_t at_once = 7;
-    CHECK(tcpcore_take(&end, THERE, HERE, buffer, HUGE_LENGTH, &at_once), TCPCORE_LENGTH);
+    CHECK(tcpcore_arrive_with_at_once(&end, THERE, HERE, buffer, HUGE_LENGTH, &at_once), TCPCORE_LENGTH);
     CHECK(at_once, 0);
-    CHECK(tcpcore_taken(&end, THERE, HERE, buffer, HUGE_LENGTH, &taken), TCPCORE_LENGTH);
+    CHECK(tcpcore_arrive_with_report(&end, THERE, HERE, buffer, HUGE_LENGTH, &taken), TCPCORE_LENGTH);
     CHECK(is_zero(&taken, sizeof taken), 1);
     CHECK(tcpcore_transmit(&end, buffer, SIZE_MAX, &transmit), TCPCORE_LENGTH);
     CHECK(tcpcore_transmit(&end, buffer, TCPCORE_EMIT_ROOM - 1, &transmit), TCPCORE_ROOM);
@@ -338,7 +338,7 @@ static void overlaps(void)
     union {
         size_t count;
         uint32_t at_once;
-        struct tcpcore_taken taken;
+        struct tcpcore_arrive_report taken;
         struct tcpcore_transmit transmit;
         uint16_t port;
         tcpcore_addr to;
@@ -357,11 +357,11 @@ static void overlaps(void)
     CHECK(count, 0);
     CHECK(tcpcore_receive(&place.end, first + sizeof place.end - 1, 1, &count), TCPCORE_OVERLAP);
     CHECK(tcpcore_arrive(&place.end, THERE, HERE, place.before, 9), TCPCORE_OVERLAP);
-    struct tcpcore_taken taken;
+    struct tcpcore_arrive_report taken;
     struct tcpcore_transmit transmit;
     uint32_t at_once;
-    CHECK(tcpcore_take(&place.end, THERE, HERE, place.before, 9, &at_once), TCPCORE_OVERLAP);
-    CHECK(tcpcore_taken(&place.end, THERE, HERE, place.before, 9, &taken), TCPCORE_OVERLAP);
+    CHECK(tcpcore_arrive_with_at_once(&place.end, THERE, HERE, place.before, 9, &at_once), TCPCORE_OVERLAP);
+    CHECK(tcpcore_arrive_with_report(&place.end, THERE, HERE, place.before, 9, &taken), TCPCORE_OVERLAP);
     CHECK(tcpcore_transmit(&place.end, place.before, sizeof place, &transmit), TCPCORE_OVERLAP);
     CHECK(tcpcore_emit(&place.end, place.before, sizeof place, &to, &count), TCPCORE_OVERLAP);
     /* Beside it is no overlap. */
@@ -379,9 +379,9 @@ static void overlaps(void)
         CHECK(tcpcore_emit(&place.end, place.behind, sizeof place.behind, &to, over), TCPCORE_OVERLAP);
         CHECK(tcpcore_timers(&place.end, over), TCPCORE_OVERLAP);
         CHECK(tcpcore_status(&place.end, over), TCPCORE_OVERLAP);
-        CHECK(tcpcore_rest(&place.end, over), TCPCORE_OVERLAP);
-        CHECK(tcpcore_take(&place.end, THERE, HERE, place.behind, 20, over), TCPCORE_OVERLAP);
-        CHECK(tcpcore_taken(&place.end, THERE, HERE, place.behind, 20, over), TCPCORE_OVERLAP);
+        CHECK(tcpcore_time_wait(&place.end, over), TCPCORE_OVERLAP);
+        CHECK(tcpcore_arrive_with_at_once(&place.end, THERE, HERE, place.behind, 20, over), TCPCORE_OVERLAP);
+        CHECK(tcpcore_arrive_with_report(&place.end, THERE, HERE, place.behind, 20, over), TCPCORE_OVERLAP);
         CHECK(tcpcore_transmit(&place.end, place.behind, sizeof place.behind, over), TCPCORE_OVERLAP);
         CHECK(tcpcore_next(&place.end, over), TCPCORE_OVERLAP);
         CHECK(tcpcore_pending(&place.end, over), TCPCORE_OVERLAP);
@@ -397,8 +397,8 @@ static void overlaps(void)
     CHECK(tcpcore_emit(&place.end, shared.bytes, sizeof shared.bytes, &shared.to, &count), TCPCORE_OVERLAP);
     CHECK(tcpcore_emit(&place.end, shared.bytes, sizeof shared.bytes, &to, &shared.count), TCPCORE_OVERLAP);
     CHECK(tcpcore_emit(&place.end, place.behind, sizeof place.behind, &shared.to, &shared.count), TCPCORE_OVERLAP);
-    CHECK(tcpcore_take(&place.end, THERE, HERE, shared.bytes, 20, &shared.at_once), TCPCORE_OVERLAP);
-    CHECK(tcpcore_taken(&place.end, THERE, HERE, shared.bytes, 20, &shared.taken), TCPCORE_OVERLAP);
+    CHECK(tcpcore_arrive_with_at_once(&place.end, THERE, HERE, shared.bytes, 20, &shared.at_once), TCPCORE_OVERLAP);
+    CHECK(tcpcore_arrive_with_report(&place.end, THERE, HERE, shared.bytes, 20, &shared.taken), TCPCORE_OVERLAP);
     CHECK(tcpcore_transmit(&place.end, shared.bytes, sizeof shared.bytes, &shared.transmit), TCPCORE_OVERLAP);
     CHECK(tcpcore_peer(&place.end, &shared.to, &shared.port), TCPCORE_OVERLAP);
     for (size_t i = 0; i < sizeof shared.bytes; i++)

@@ -51,7 +51,7 @@ static void every_call(tcpcore_end *end, uint32_t wanted)
     unsigned char buffer[TCPCORE_EMIT_ROOM];
     struct tcpcore_lent lent;
     struct tcpcore_parts parts;
-    struct tcpcore_taken report;
+    struct tcpcore_arrive_report report;
     struct tcpcore_train train;
     tcpcore_addr to = THERE;
     size_t count = 7, taken = 7;
@@ -64,7 +64,7 @@ static void every_call(tcpcore_end *end, uint32_t wanted)
     CHECK(tcpcore_consume(end, 5, &taken), wanted);
     CHECK(taken, 0);
     CHECK(tcpcore_arrive_vouched(end, THERE, HERE, "short", 5), wanted);
-    CHECK(tcpcore_taken_vouched(end, THERE, HERE, "short", 5, &report), wanted);
+    CHECK(tcpcore_arrive_vouched_with_report(end, THERE, HERE, "short", 5, &report), wanted);
     CHECK(is_zero(&report, sizeof report), 1);
     CHECK(tcpcore_emit_partial(end, buffer, sizeof buffer, &to, &count), wanted);
     CHECK(count, 0);
@@ -106,7 +106,7 @@ static void pointers(tcpcore_end *end)
 {
     unsigned char buffer[TCPCORE_EMIT_ROOM] = {0};
     struct tcpcore_parts parts;
-    struct tcpcore_taken report;
+    struct tcpcore_arrive_report report;
     struct tcpcore_train train;
     tcpcore_addr to = THERE;
     size_t count = 7;
@@ -115,9 +115,9 @@ static void pointers(tcpcore_end *end)
     CHECK(tcpcore_arrive_vouched(end, THERE, HERE, NULL, 20), TCPCORE_NULL);
     CHECK(tcpcore_arrive_vouched(end, THERE, HERE, NULL, 0), TCPCORE_TOO_SHORT);
     CHECK(tcpcore_arrive_vouched(end, THERE, HERE, buffer, HUGE_LENGTH), TCPCORE_LENGTH);
-    CHECK(tcpcore_taken_vouched(end, THERE, HERE, NULL, 20, &report), TCPCORE_NULL);
-    CHECK(tcpcore_taken_vouched(end, THERE, HERE, buffer, 20, NULL), TCPCORE_NULL);
-    CHECK(tcpcore_taken_vouched(end, THERE, HERE, buffer, HUGE_LENGTH, &report), TCPCORE_LENGTH);
+    CHECK(tcpcore_arrive_vouched_with_report(end, THERE, HERE, NULL, 20, &report), TCPCORE_NULL);
+    CHECK(tcpcore_arrive_vouched_with_report(end, THERE, HERE, buffer, 20, NULL), TCPCORE_NULL);
+    CHECK(tcpcore_arrive_vouched_with_report(end, THERE, HERE, buffer, HUGE_LENGTH, &report), TCPCORE_LENGTH);
     CHECK(tcpcore_emit_partial(end, NULL, sizeof buffer, &to, &count), TCPCORE_NULL);
     CHECK(tcpcore_emit_partial(end, buffer, sizeof buffer, NULL, &count), TCPCORE_NULL);
     CHECK(tcpcore_emit_partial(end, buffer, sizeof buffer, &to, NULL), TCPCORE_NULL);
@@ -158,14 +158,14 @@ static void overlaps(void)
     union {
         tcpcore_addr to;
         size_t count;
-        struct tcpcore_taken taken;
+        struct tcpcore_arrive_report taken;
         struct tcpcore_parts parts;
         struct tcpcore_train train;
         unsigned char bytes[TCPCORE_EMIT_ROOM];
     } shared = {.bytes = {0}};
     unsigned char *first = (unsigned char *)&place.end;
     struct tcpcore_parts parts;
-    struct tcpcore_taken report;
+    struct tcpcore_arrive_report report;
     struct tcpcore_train train;
     tcpcore_addr to;
     size_t count;
@@ -177,8 +177,8 @@ static void overlaps(void)
         CHECK(tcpcore_peek(&place.end, over), TCPCORE_OVERLAP);
         CHECK(tcpcore_consume(&place.end, 5, over), TCPCORE_OVERLAP);
         CHECK(tcpcore_arrive_vouched(&place.end, THERE, HERE, over, 20), TCPCORE_OVERLAP);
-        CHECK(tcpcore_taken_vouched(&place.end, THERE, HERE, over, 20, &report), TCPCORE_OVERLAP);
-        CHECK(tcpcore_taken_vouched(&place.end, THERE, HERE, place.behind, 20, over), TCPCORE_OVERLAP);
+        CHECK(tcpcore_arrive_vouched_with_report(&place.end, THERE, HERE, over, 20, &report), TCPCORE_OVERLAP);
+        CHECK(tcpcore_arrive_vouched_with_report(&place.end, THERE, HERE, place.behind, 20, over), TCPCORE_OVERLAP);
         CHECK(tcpcore_emit_partial(&place.end, over, TCPCORE_EMIT_ROOM, &to, &count), TCPCORE_OVERLAP);
         CHECK(tcpcore_emit_acknowledgement(&place.end, over, TCPCORE_EMIT_ROOM, &to, &count), TCPCORE_OVERLAP);
         CHECK(tcpcore_emit_partial(&place.end, place.behind, TCPCORE_EMIT_ROOM, over, &count), TCPCORE_OVERLAP);
@@ -190,7 +190,7 @@ static void overlaps(void)
         CHECK(memcmp(&place.end, &before, sizeof before), 0);
         CHECK(is_zero(place.behind, sizeof place.behind), 1);
     }
-    CHECK(tcpcore_taken_vouched(&place.end, THERE, HERE, shared.bytes, 20, &shared.taken), TCPCORE_OVERLAP);
+    CHECK(tcpcore_arrive_vouched_with_report(&place.end, THERE, HERE, shared.bytes, 20, &shared.taken), TCPCORE_OVERLAP);
     CHECK(tcpcore_emit_partial(&place.end, shared.bytes, sizeof shared.bytes, &shared.to, &count), TCPCORE_OVERLAP);
     CHECK(tcpcore_emit_partial(&place.end, shared.bytes, sizeof shared.bytes, &to, &shared.count), TCPCORE_OVERLAP);
     CHECK(tcpcore_emit_partial(&place.end, place.behind, sizeof place.behind, &shared.to, &shared.count), TCPCORE_OVERLAP);

@@ -1,5 +1,5 @@
 /*
- * The test of what tcpcore_taken and tcpcore_transmit report, beside the answers: each value is worked out by hand from RFC 9293,
+ * The test of what tcpcore_arrive_with_report and tcpcore_transmit report, beside the answers: each value is worked out by hand from RFC 9293,
  * 3.10.7, and RFC 5681, 2 and 4.2. A is at 10.0.0.1 port 1 with the initial sequence number 1000, B at 10.0.0.2 port 2 with 5000.
  */
 #include "check.h"
@@ -75,9 +75,9 @@ struct wanted {
 
 static void comes_from(tcpcore_addr src, tcpcore_end *end, const struct segment *segment, uint32_t answer, struct wanted wanted)
 {
-    struct tcpcore_taken taken;
+    struct tcpcore_arrive_report taken;
     memset(&taken, 7, sizeof taken);
-    CHECK(tcpcore_taken(end, src, segment->to, segment->bytes, segment->length, &taken), answer);
+    CHECK(tcpcore_arrive_with_report(end, src, segment->to, segment->bytes, segment->length, &taken), answer);
     CHECK(taken.at_once, wanted.at_once);
     CHECK(taken.rule, wanted.rule);
     CHECK(taken.acked, wanted.acked);
@@ -114,7 +114,7 @@ static void handshake(void)
     comes(&a, &answer, TCPCORE_DONE, (struct wanted){1, TCPCORE_RULE_PEER_ACCEPTS, 0, TCPCORE_BROUGHT_NOTHING, 0, 1});
     struct segment ack = goes(&a, TCPCORE_KIND_ACKNOWLEDGEMENT, 1, 0, 20);
     comes(&b, &ack, TCPCORE_DONE, (struct wanted){0, TCPCORE_RULE_TAKEN, 0, TCPCORE_BROUGHT_NOTHING, 0, 1});
-    CHECK(status_of(&a).nxt, 1);
+    CHECK(status_of(&a).snd_nxt, 1);
     CHECK(status_of(&b).rcv_wnd, 300);
 }
 
@@ -127,8 +127,8 @@ static struct segment transfer(void)
     struct segment first = goes(&a, TCPCORE_KIND_NEW_TEXT, 1, 100, 120);
     goes(&a, TCPCORE_KIND_NEW_TEXT, 101, 100, 120);
     struct segment third = goes(&a, TCPCORE_KIND_NEW_TEXT, 201, 50, 70);
-    CHECK(status_of(&a).nxt, 251);
-    CHECK(status_of(&a).una, 1);
+    CHECK(status_of(&a).snd_nxt, 251);
+    CHECK(status_of(&a).snd_una, 1);
     comes(&b, &first, TCPCORE_DONE, (struct wanted){0, TCPCORE_RULE_TAKEN, 0, TCPCORE_BROUGHT_IN_ORDER, 0, 1});
     struct segment ack = goes(&b, TCPCORE_KIND_ACKNOWLEDGEMENT, 1, 0, 20);
     comes(&b, &third, TCPCORE_DONE, (struct wanted){1, TCPCORE_RULE_TAKEN, 0, TCPCORE_BROUGHT_HELD, 0, 1});
@@ -170,7 +170,7 @@ static void ends(const struct segment *text)
     struct segment fin = goes(&b, TCPCORE_KIND_FIN, 1, 0, 20);
     comes(&a, &fin, TCPCORE_DONE, (struct wanted){1, TCPCORE_RULE_TAKEN, 0, TCPCORE_BROUGHT_IN_ORDER, 0, 1});
     CHECK(status_of(&a).finished, 1);
-    CHECK(status_of(&b).nxt, 2);
+    CHECK(status_of(&b).snd_nxt, 2);
     CHECK(tcpcore_timer(&b, TCPCORE_TIMER_RETRANSMIT), TCPCORE_DONE);
     struct segment again = goes(&b, TCPCORE_KIND_FIN_AGAIN, 1, 0, 20);
     comes(&a, &again, TCPCORE_DROPPED, (struct wanted){1, TCPCORE_RULE_UNACCEPTABLE, 0, TCPCORE_BROUGHT_NOT_KEPT, 0, 0});

@@ -56,7 +56,7 @@ static void carry(tcpcore_end *from, tcpcore_addr src, tcpcore_end *to)
 {
     static unsigned char segment[TCPCORE_EMIT_ROOM];
     struct tcpcore_transmit sent;
-    struct tcpcore_taken taken;
+    struct tcpcore_arrive_report taken;
     struct tcpcore_parts parts;
     struct tcpcore_train train;
     tcpcore_addr dst;
@@ -75,12 +75,12 @@ static void carry(tcpcore_end *from, tcpcore_addr src, tcpcore_end *to)
         if (answer != TCPCORE_DONE)
             return;
         if (++count % 5 != 0)
-            DEPTH(tcpcore_taken(to, src, sent.to, segment, (size_t)sent.length, &taken));
+            DEPTH(tcpcore_arrive_with_report(to, src, sent.to, segment, (size_t)sent.length, &taken));
         DEPTH(tcpcore_parts(from, segment, sizeof segment, &parts));
         DEPTH(answer = tcpcore_emit_partial(from, segment, sizeof segment, &dst, &length));
         if (answer == TCPCORE_DONE && ++count % 5 != 0)
             DEPTH(count % 2 ? tcpcore_arrive_vouched(to, src, dst, segment, length)
-                            : tcpcore_taken_vouched(to, src, dst, segment, length, &taken));
+                            : tcpcore_arrive_vouched_with_report(to, src, dst, segment, length, &taken));
         DEPTH(tcpcore_sent(from));
         DEPTH(answer = tcpcore_emit_train(from, segment, sizeof segment, 4, &train));
         if (answer == TCPCORE_DONE && ++count % 5 != 0)

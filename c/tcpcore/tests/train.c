@@ -44,8 +44,8 @@ static uint64_t wanted(const struct tcpcore_status *status, const struct tcpcore
 {
     if (next->kind != TCPCORE_KIND_NEW_TEXT)
         return 1;
-    uint64_t unsent = status->released + status->queued - (status->nxt - 1);
-    uint64_t edge = status->una + status->snd_wnd, usable = edge > status->nxt ? edge - status->nxt : 0;
+    uint64_t unsent = status->released + status->queued - (status->snd_nxt - 1);
+    uint64_t edge = status->snd_una + status->snd_wnd, usable = edge > status->snd_nxt ? edge - status->snd_nxt : 0;
     uint64_t fitting = (least(room, TCPCORE_TRAIN_ROOM) - (next->length - next->count)) / next->count;
     *allowed = least(unsent, usable);
     uint64_t count = least(least(most, fitting), (*allowed + next->count - 1) / next->count);
@@ -106,7 +106,7 @@ static uint64_t emit_train(int end, size_t room, size_t most, uint32_t chance)
     CHECK(memcmp(&train.whole.to, &next.to, sizeof next.to), 0);
     CHECK(get16(whole + 16), pseudo(ADDRS[end], train.whole.to, (size_t)train.whole.length));
     if (train.segments > 1)
-        tally(&train, room, most, allowed, before.released + before.queued - (before.nxt - 1));
+        tally(&train, room, most, allowed, before.released + before.queued - (before.snd_nxt - 1));
     else
         alone[train.whole.kind]++;
     for (size_t i = 0; i < train.segments; i++) {
@@ -266,7 +266,7 @@ static void try_each(void)
         open_with(&choice, trial->length);
         struct tcpcore_status before = status_of(1, 0);
         CHECK(emit_train(0, trial->room, trial->most, UINT32_MAX), trial->segments);
-        CHECK(status_of(1, 0).nxt - before.nxt, trial->count);
+        CHECK(status_of(1, 0).snd_nxt - before.snd_nxt, trial->count);
         CHECK((whole[13] & PSH) != 0, trial->is_pushed);
         free_all();
     }
@@ -316,7 +316,7 @@ static void with_two_blocks(void)
     struct tcpcore_status before = status_of(1, 1);
     CHECK(emit_train(1, sizeof whole, 4, UINT32_MAX), 4);
     CHECK(whole[12] >> 4, 10);
-    CHECK(status_of(1, 1).nxt - before.nxt, 4 * 980);
+    CHECK(status_of(1, 1).snd_nxt - before.snd_nxt, 4 * 980);
     free_all();
 }
 

@@ -31,8 +31,8 @@ abbrev pub no_timer : ℕ
 no_timer = 34
 
 -- the fields are those of no TIME-WAIT record
-abbrev pub no_rest : ℕ
-no_rest = 39
+abbrev pub no_time_wait : ℕ
+no_time_wait = 39
 
 -- no byte is unread, and more may come
 abbrev pub nothing_unread : ℕ
@@ -63,8 +63,8 @@ abbrev pub segment_not_mine : ℕ
 segment_not_mine = 56
 
 -- the end isn't in TIME-WAIT, or has bytes unread
-abbrev pub not_at_rest : ℕ
-not_at_rest = 57
+abbrev pub not_time_wait : ℕ
+not_time_wait = 57
 
 -- the answer of a call: of the end in the handle, or that there is none
 abbrev pub answer_of : (State → ℕ) → Option State → ℕ

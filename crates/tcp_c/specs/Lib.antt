@@ -5,7 +5,7 @@ pub mod Held
 pub mod Lent
 pub mod Pacing
 pub mod Reports
-pub mod Rests
+pub mod CTimeWaits
 pub mod Segments
 pub mod Status
 pub mod Trains

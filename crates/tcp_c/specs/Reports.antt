@@ -15,7 +15,7 @@ use Rattle.tcp_conn.specs.declared.transmission.Kind.{Kind}
 use Rattle.tcp_conn.specs.declared.transmission.Kind.TheVariants as kinds
 use Rattle.tcp_c.specs.Segments.{nowhere}
 use Rattle.tcp_c.specs.Status.{flag}
-use Rattle.tcp_c.specs.declared.records.CTaken.{CTaken}
+use Rattle.tcp_c.specs.declared.records.CArriveReport.{CArriveReport}
 use Rattle.tcp_c.specs.declared.records.CTransmit.{CTransmit}
 
 -- THE RULE that applied, in the order of the tests; 0 where the bytes are no segment
@@ -52,12 +52,12 @@ brought_number brings.Held = 2
 brought_number brings.NotKept = 3
 
 -- all zero where there is no end
-abbrev pub no_taken : CTaken
-no_taken = record { at_once = 0; rule = 0; acked = 0; brought = 0; is_duplicate = 0; window_taken = 0 }
+abbrev pub no_arrive_report : CArriveReport
+no_arrive_report = record { at_once = 0; rule = 0; acked = 0; brought = 0; is_duplicate = 0; window_taken = 0 }
 
-abbrev pub taken_of : List ℕ → List ℕ → List ℕ → Option State → CTaken
-taken_of src dst bytes None = no_taken
-taken_of src dst bytes (Some s) = record {
+abbrev pub arrive_report_of : List ℕ → List ℕ → List ℕ → Option State → CArriveReport
+arrive_report_of src dst bytes None = no_arrive_report
+arrive_report_of src dst bytes (Some s) = record {
   at_once = flag (answers_at_once s src dst bytes);
   rule = rule_told (rule_of s src dst bytes);
   acked = bytes_acked s (after_arrival s src dst bytes);

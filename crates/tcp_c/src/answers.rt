@@ -20,7 +20,7 @@ pub const LITTLE_ROOM: u32 = 33;
 pub const NO_TIMER: u32 = 34;
 
 /// The fields are those of no TIME-WAIT record.
-pub const NO_REST: u32 = 39;
+pub const NO_TIME_WAIT: u32 = 39;
 
 /// No byte is unread, and more may come.
 pub const NOTHING_UNREAD: u32 = 51;
@@ -41,7 +41,7 @@ pub const SEGMENT_DROPPED: u32 = 55;
 pub const SEGMENT_NOT_MINE: u32 = 56;
 
 /// The end isn't in TIME-WAIT, or has bytes unread.
-pub const NOT_AT_REST: u32 = 57;
+pub const NOT_TIME_WAIT: u32 = 57;
 
 /// The answer of a user call, without the value that it reports.
 pub(crate) fn call_number<T: Drop>(answer: Result<T, CallError>) -> u32

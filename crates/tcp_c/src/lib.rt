@@ -14,12 +14,12 @@
 //! typedef struct {
 //!     uint32_t phase, ending;
 //!     size_t unread;
-//!     uint64_t released, ordered, una, next;
+//!     uint64_t released, ordered, snd_una, rcv_position;
 //!     size_t room, queued, in_flight;
 //!     uint32_t mss;
 //!     uint8_t own_shift, peer_shift, scaling, sack;
 //!     uint32_t snd_wnd, rcv_wnd;
-//!     uint64_t nxt;
+//!     uint64_t snd_nxt;
 //!     uint32_t closing, finished;
 //! } tcp_c_status_record;
 //!
@@ -27,7 +27,7 @@
 //!     uint32_t at_once, rule;
 //!     uint64_t acked;
 //!     uint32_t brought, is_duplicate, window_taken;
-//! } tcp_c_taken_record;
+//! } tcp_c_arrive_report;
 //!
 //! typedef struct {
 //!     tcp_c_addr to;
@@ -49,13 +49,13 @@
 //!     uint32_t mark;
 //!     tcp_c_addr addr, peer_addr;
 //!     uint16_t port, peer_port;
-//!     uint32_t seq, next, window;
+//!     uint32_t snd_nxt, rcv_nxt, rcv_wnd;
 //!     tcp_c_addr reset_addr;
 //!     uint32_t reset_seq, reset_ack;
 //!     uint16_t reset_port;
 //!     uint8_t shift, ack;
 //!     uint16_t reset, ending;
-//! } tcp_c_rest_record;
+//! } tcp_c_time_wait_record;
 //!
 //! typedef struct {
 //!     const uint8_t *first;
@@ -90,10 +90,10 @@
 //! uint32_t tcp_c_abort(tcp_c_handle *handle);
 //! uint32_t tcp_c_timer(tcp_c_handle *handle, uint32_t timer);
 //! uint32_t tcp_c_arrive(tcp_c_handle *handle, const tcp_c_addr *src, const tcp_c_addr *dst, const uint8_t *bytes, size_t bytes_length);
-//! uint32_t tcp_c_take(tcp_c_handle *handle, const tcp_c_addr *src, const tcp_c_addr *dst, const uint8_t *bytes, size_t bytes_length, uint32_t *at_once);
-//! uint32_t tcp_c_taken(tcp_c_handle *handle, const tcp_c_addr *src, const tcp_c_addr *dst, const uint8_t *bytes, size_t bytes_length, tcp_c_taken_record *taken);
+//! uint32_t tcp_c_arrive_with_at_once(tcp_c_handle *handle, const tcp_c_addr *src, const tcp_c_addr *dst, const uint8_t *bytes, size_t bytes_length, uint32_t *at_once);
+//! uint32_t tcp_c_arrive_with_report(tcp_c_handle *handle, const tcp_c_addr *src, const tcp_c_addr *dst, const uint8_t *bytes, size_t bytes_length, tcp_c_arrive_report *report);
 //! uint32_t tcp_c_arrive_vouched(tcp_c_handle *handle, const tcp_c_addr *src, const tcp_c_addr *dst, const uint8_t *bytes, size_t bytes_length);
-//! uint32_t tcp_c_taken_vouched(tcp_c_handle *handle, const tcp_c_addr *src, const tcp_c_addr *dst, const uint8_t *bytes, size_t bytes_length, tcp_c_taken_record *taken);
+//! uint32_t tcp_c_arrive_vouched_with_report(tcp_c_handle *handle, const tcp_c_addr *src, const tcp_c_addr *dst, const uint8_t *bytes, size_t bytes_length, tcp_c_arrive_report *report);
 //! uint32_t tcp_c_emit(tcp_c_handle *handle, uint8_t *out, size_t out_length, tcp_c_addr *to, size_t *count);
 //! uint32_t tcp_c_emit_partial(tcp_c_handle *handle, uint8_t *out, size_t out_length, tcp_c_addr *to, size_t *count);
 //! uint32_t tcp_c_emit_train(tcp_c_handle *handle, uint8_t *out, size_t out_length, size_t most, tcp_c_train_record *train);
@@ -108,13 +108,13 @@
 //! uint32_t tcp_c_status(tcp_c_handle *handle, tcp_c_status_record *status);
 //! uint32_t tcp_c_peer(tcp_c_handle *handle, tcp_c_addr *addr, uint16_t *port);
 //! uint32_t tcp_c_stray_reset(const tcp_c_addr *src, const tcp_c_addr *dst, const uint8_t *bytes, size_t bytes_length, uint8_t *out, size_t out_length, size_t *count);
-//! uint32_t tcp_c_rest(tcp_c_handle *handle, tcp_c_rest_record *rest);
-//! uint32_t tcp_c_rest_arrive(tcp_c_rest_record *rest, const tcp_c_addr *src, const tcp_c_addr *dst, const uint8_t *bytes, size_t bytes_length);
-//! uint32_t tcp_c_rest_timer(tcp_c_rest_record *rest, uint32_t timer);
-//! uint32_t tcp_c_rest_emit(tcp_c_rest_record *rest, uint8_t *out, size_t out_length, tcp_c_addr *to, size_t *count);
-//! uint32_t tcp_c_rest_pending(const tcp_c_rest_record *rest, uint32_t *due);
-//! uint32_t tcp_c_rest_abort(tcp_c_rest_record *rest);
-//! uint32_t tcp_c_rest_status(const tcp_c_rest_record *rest, uint32_t *phase, uint32_t *ending);
+//! uint32_t tcp_c_time_wait(tcp_c_handle *handle, tcp_c_time_wait_record *time_wait);
+//! uint32_t tcp_c_time_wait_arrive(tcp_c_time_wait_record *time_wait, const tcp_c_addr *src, const tcp_c_addr *dst, const uint8_t *bytes, size_t bytes_length);
+//! uint32_t tcp_c_time_wait_timer(tcp_c_time_wait_record *time_wait, uint32_t timer);
+//! uint32_t tcp_c_time_wait_emit(tcp_c_time_wait_record *time_wait, uint8_t *out, size_t out_length, tcp_c_addr *to, size_t *count);
+//! uint32_t tcp_c_time_wait_pending(const tcp_c_time_wait_record *time_wait, uint32_t *due);
+//! uint32_t tcp_c_time_wait_abort(tcp_c_time_wait_record *time_wait);
+//! uint32_t tcp_c_time_wait_status(const tcp_c_time_wait_record *time_wait, uint32_t *phase, uint32_t *ending);
 //! ```
 //!
 //! Each returns a number of the table in `answers`, or that of a refusal: 1 to 6 for bytes that are no segment
@@ -153,8 +153,8 @@ mod pacing;
 mod parts;
 mod records;
 mod reports;
-mod rest_calls;
-mod rests;
+mod time_wait_calls;
+mod c_time_wait;
 mod room;
 mod segments;
 mod status;
@@ -164,7 +164,7 @@ mod user;
 mod vouched;
 
 pub use answers::{
-    DONE, END_OF_STREAM, IN_USE, LITTLE_ROOM, NO_END, NO_REST, NO_RULE, NO_TIMER, NOT_AT_REST,
+    DONE, END_OF_STREAM, IN_USE, LITTLE_ROOM, NO_END, NO_TIME_WAIT, NO_RULE, NO_TIMER, NOT_TIME_WAIT,
     NOTHING_DUE, NOTHING_UNREAD, SEGMENT_DROPPED, SEGMENT_NOT_MINE,
 };
 pub use emission::{tcp_c_emit, tcp_c_emit_acknowledgement, tcp_c_emit_partial};
@@ -174,15 +174,15 @@ pub use lending::{tcp_c_consume, tcp_c_peek};
 pub use making::{tcp_c_free, tcp_c_new};
 pub use pacing::tcp_c_resend_first;
 pub use parts::{tcp_c_parts, tcp_c_sent};
-pub use records::{CAddr, CConfig, CLent, CParts, CRest, CStatus, CTaken, CTrain, CTransmit};
-pub use reports::{tcp_c_next, tcp_c_taken, tcp_c_transmit};
-pub use rest_calls::{
-    tcp_c_rest, tcp_c_rest_abort, tcp_c_rest_arrive, tcp_c_rest_emit, tcp_c_rest_pending,
-    tcp_c_rest_status, tcp_c_rest_timer,
+pub use records::{CAddr, CConfig, CLent, CParts, CTimeWait, CStatus, CArriveReport, CTrain, CTransmit};
+pub use reports::{tcp_c_next, tcp_c_arrive_with_report, tcp_c_transmit};
+pub use time_wait_calls::{
+    tcp_c_time_wait, tcp_c_time_wait_abort, tcp_c_time_wait_arrive, tcp_c_time_wait_emit, tcp_c_time_wait_pending,
+    tcp_c_time_wait_status, tcp_c_time_wait_timer,
 };
-pub use rests::MARK_OF_REST;
+pub use c_time_wait::MARK_OF_TIME_WAIT;
 pub use room::tcp_c_room;
-pub use segments::{tcp_c_arrive, tcp_c_stray_reset, tcp_c_take};
+pub use segments::{tcp_c_arrive, tcp_c_stray_reset, tcp_c_arrive_with_at_once};
 pub use status::{tcp_c_peer, tcp_c_pending, tcp_c_status};
 pub use timing::{tcp_c_timer, tcp_c_timers};
 pub use trains::tcp_c_emit_train;
@@ -190,4 +190,4 @@ pub use user::{
     tcp_c_abort, tcp_c_acknowledge, tcp_c_close, tcp_c_connect, tcp_c_listen, tcp_c_receive,
     tcp_c_send,
 };
-pub use vouched::{tcp_c_arrive_vouched, tcp_c_taken_vouched};
+pub use vouched::{tcp_c_arrive_vouched, tcp_c_arrive_vouched_with_report};

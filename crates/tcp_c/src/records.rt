@@ -54,9 +54,9 @@ pub struct CStatus {
     /// The count of text bytes that came in order up to now, read or not.
     pub ordered: u64,
     /// SND.UNA: the oldest position of this end's direction that isn't acknowledged. The SYN is at 0, byte i at 1 + i.
-    pub una: u64,
+    pub snd_una: u64,
     /// RCV.NXT: the next position of the peer's direction that is expected. The peer's SYN is at 0; this is 1 until it has come.
-    pub next: u64,
+    pub rcv_position: u64,
     /// How many bytes of a long text `tcp_c_send` would accept, by `send_capacity` and `limit`.
     pub room: usize,
     /// The count of bytes that were accepted and not released.
@@ -80,7 +80,7 @@ pub struct CStatus {
     /// RCV.WND in bytes: how much more this end accepts (RFC 9293, 3.3.1).
     pub rcv_wnd: u32,
     /// SND.NXT: the next position of this end's direction to be sent for the first time.
-    pub nxt: u64,
+    pub snd_nxt: u64,
     /// 1 once `tcp_c_close` was accepted.
     pub closing: u32,
     /// 1 once the peer's FIN was taken.
@@ -90,7 +90,7 @@ pub struct CStatus {
 /// What is reported of bytes that arrived (RFC 9293, 3.10.7).
 #[repr(C)]
 #[derive(Clone, Copy)]
-pub struct CTaken {
+pub struct CArriveReport {
     /// 1 where they have to be answered at once (RFC 5681, 4.2).
     pub at_once: u32,
     /// The rule that applied: TCPCORE_RULE_FOREIGN, 1, to TCPCORE_RULE_TAKEN_SHUT, 19; TCPCORE_RULE_NONE, 0, where they are no
@@ -149,7 +149,7 @@ pub struct CTrain {
 /// The TIME-WAIT record in the place of an end: a plain value, which may be copied, stored and moved.
 #[repr(C)]
 #[derive(Clone, Copy)]
-pub struct CRest {
+pub struct CTimeWait {
     /// The library's word for it; with any other there is no record.
     pub mark: u32,
     /// The address of this end.
@@ -161,11 +161,11 @@ pub struct CRest {
     /// The peer's port.
     pub peer_port: u16,
     /// SND.NXT, a sequence number: all before it is acknowledged.
-    pub seq: u32,
+    pub snd_nxt: u32,
     /// RCV.NXT, a sequence number.
-    pub next: u32,
+    pub rcv_nxt: u32,
     /// RCV.WND in bytes, at most 1,048,576.
-    pub window: u32,
+    pub rcv_wnd: u32,
     /// The address that the waiting reset goes to. This and the next three are ignored where `reset` is 0.
     pub reset_addr: CAddr,
     /// The sequence number of the reset.

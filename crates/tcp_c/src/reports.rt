@@ -3,13 +3,13 @@ ghost use Rattle.std.specs.Prelude.{◌≡◌, length, option_map, unwrap_or};
 ghost use Rattle.tcp_conn.specs.Arrival.{after_arrival, arrival_answer};
 ghost use Rattle.tcp_conn.specs.declared.emission.TheConstants.{EMIT_ROOM};
 ghost use Rattle.tcp_c.specs.Answers.{answer_of, arrival_number, due_number};
-ghost use Rattle.tcp_c.specs.Reports.{brought_number, kind_number, kind_told, next_of, no_taken, no_transmit, rule_number, rule_told, taken_of, transmit_of};
+ghost use Rattle.tcp_c.specs.Reports.{brought_number, kind_number, kind_told, next_of, no_arrive_report, no_transmit, rule_number, rule_told, arrive_report_of, transmit_of};
 ghost use Rattle.tcp_c.specs.Segments.{after_emission_within, emission_number, nowhere, written_buffer};
 ghost use Rattle.tcp_c.specs.Status.{flag};
 
 use crate::answers::{DONE, LITTLE_ROOM, NO_END, NOTHING_DUE, arrival_number};
 use crate::handle::Handle;
-use crate::records::{CAddr, CTaken, CTransmit};
+use crate::records::{CAddr, CArriveReport, CTransmit};
 use tcp_conn::{Brought, EMIT_ROOM, Judgement, Kind, Taken, Transmit};
 use tcp_wire::Addr;
 
@@ -78,10 +78,10 @@ pub(crate) fn kind_number(kind: Kind) -> u32
 }
 
 /// A report of no bytes: all zero.
-pub(crate) fn no_taken() -> CTaken
-    ensures { result ≡ no_taken }
+pub(crate) fn no_arrive_report() -> CArriveReport
+    ensures { result ≡ no_arrive_report }
 {
-    CTaken {
+    CArriveReport {
         at_once: 0,
         rule: 0,
         acked: 0,
@@ -139,7 +139,7 @@ fn report_due(due: Option<Transmit>) -> (u32, CTransmit)
 }
 
 /// What is reported of bytes that arrived.
-pub(crate) fn report_taken(found: Taken) -> CTaken
+pub(crate) fn report_arrival(found: Taken) -> CArriveReport
     ensures at_once { result.at_once ≡ flag found.at_once }
     ensures rule { result.rule ≡ rule_told found.rule }
     ensures acked { result.acked ≡ found.acked }
@@ -147,7 +147,7 @@ pub(crate) fn report_taken(found: Taken) -> CTaken
     ensures is_duplicate { result.is_duplicate ≡ flag found.is_duplicate }
     ensures window_taken { result.window_taken ≡ flag found.window_taken }
 {
-    CTaken {
+    CArriveReport {
         at_once: u32::from(found.at_once),
         rule: rule_told(found.rule),
         acked: found.acked,
@@ -161,24 +161,24 @@ pub(crate) fn report_taken(found: Taken) -> CTaken
 /// the rule that applied, and the text that was acknowledged. It also has what the segment brought, whether it is a
 /// duplicate acknowledgement (RFC 5681, 2), and whether its window was taken.
 #[unsafe(no_mangle)]
-pub extern "C" fn tcp_c_taken(
+pub extern "C" fn tcp_c_arrive_with_report(
     handle: &mut Handle,
     src: &CAddr,
     dst: &CAddr,
     bytes: &[u8],
-    taken: &mut CTaken,
+    report: &mut CArriveReport,
 ) -> u32
     ensures answer { result ≡ answer_of (λ s. arrival_number (arrival_answer s src.now.byte dst.now.byte bytes.now)) handle.old.held.end }
-    ensures taken { taken.new ≡ taken_of src.now.byte dst.now.byte bytes.now handle.old.held.end }
+    ensures report { report.new ≡ arrive_report_of src.now.byte dst.now.byte bytes.now handle.old.held.end }
     ensures state { handle.new.held.end ≡ option_map (λ s. after_arrival s src.now.byte dst.now.byte bytes.now) handle.old.held.end }
 {
     let Some(mut end) = handle.take() else {
-        *taken = no_taken();
+        *report = no_arrive_report();
         return NO_END;
     };
     let found = end.take(Addr(src.byte), Addr(dst.byte), bytes);
     handle.put(end);
-    *taken = report_taken(found);
+    *report = report_arrival(found);
     arrival_number(found.arrival)
 }
 

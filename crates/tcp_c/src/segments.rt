@@ -31,7 +31,7 @@ pub extern "C" fn tcp_c_arrive(handle: &mut Handle, src: &CAddr, dst: &CAddr, by
 /// Takes bytes as `tcp_c_arrive` does, and reports whether the segment has to be answered at once, 1, or may wait for
 /// the next, 0 (RFC 5681, 4.2).
 #[unsafe(no_mangle)]
-pub extern "C" fn tcp_c_take(
+pub extern "C" fn tcp_c_arrive_with_at_once(
     handle: &mut Handle,
     src: &CAddr,
     dst: &CAddr,

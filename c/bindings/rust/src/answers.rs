@@ -245,9 +245,9 @@ pub struct Status {
     /// Received bytes, read or not, in order.
     pub ordered: u64,
     /// SND.UNA as a position of the own direction: its SYN is at 0, byte i at 1 + i.
-    pub una: u64,
+    pub snd_una: u64,
     /// RCV.NXT as a position of the peer's direction; 1 until its SYN has come.
-    pub next: u64,
+    pub rcv_position: u64,
     /// Bytes of a long text that `send` would take.
     pub room: u64,
     /// Bytes that were taken and not released.
@@ -255,7 +255,7 @@ pub struct Status {
     /// Those of them that were sent.
     pub in_flight: u64,
     /// SND.NXT as a position of the own direction.
-    pub nxt: u64,
+    pub snd_nxt: u64,
     /// RCV.WND in bytes.
     pub rcv_wnd: u32,
     /// Whether a `close` was accepted.
@@ -289,12 +289,12 @@ impl Status {
             unread: told.unread,
             released: told.released,
             ordered: told.ordered,
-            una: told.una,
-            next: told.next,
+            snd_una: told.snd_una,
+            rcv_position: told.rcv_position,
             room: told.room,
             queued: told.queued,
             in_flight: told.in_flight,
-            nxt: told.nxt,
+            snd_nxt: told.snd_nxt,
             rcv_wnd: told.rcv_wnd,
             is_closing: told.closing == 1,
             is_finished: told.finished == 1,

@@ -44,7 +44,7 @@ mod config;
 mod lending;
 mod placed;
 mod reports;
-mod rest;
+mod time_wait;
 mod sys;
 mod trains;
 
@@ -54,8 +54,8 @@ pub use boxed::Boxed;
 pub use config::Config;
 pub use lending::{Lent, Parts, HEADER_ROOM};
 pub use placed::{memory, Placed};
-pub use reports::{Brought, Kind, Rule, Taken, Transmit};
-pub use rest::Rest;
+pub use reports::{ArriveReport, Brought, Kind, Rule, Transmit};
+pub use time_wait::TimeWait;
 pub use trains::{Train, TRAIN_ROOM};
 
 use answers::done;
@@ -166,7 +166,7 @@ impl End {
     /// answered at once (RFC 5681, 4.2).
     pub fn arrive(&mut self, src: Addr, dst: Addr, segment: &[u8]) -> (Arrival, bool) {
         let (src, dst, mut at_once) = (sys::Addr { byte: src }, sys::Addr { byte: dst }, 0);
-        let answer = unsafe { sys::tcpcore_take(&mut self.raw, src, dst, segment.as_ptr().cast(), segment.len(), &mut at_once) };
+        let answer = unsafe { sys::tcpcore_arrive_with_at_once(&mut self.raw, src, dst, segment.as_ptr().cast(), segment.len(), &mut at_once) };
         (Arrival::of(answer), at_once == 1)
     }
 
@@ -232,9 +232,9 @@ impl End {
 
     /// What can take the end's place in TIME-WAIT, once nothing is unread: a plain value of 48 bytes, which answers and emits as the
     /// end would. None at any other time. Only one of the two may answer: drop the end then.
-    pub fn rest(&self) -> Option<Rest> {
-        let mut rest = sys::Rest::default();
-        let answer = unsafe { sys::tcpcore_rest(&self.raw, &mut rest) };
+    pub fn time_wait(&self) -> Option<TimeWait> {
+        let mut rest = sys::TimeWait::default();
+        let answer = unsafe { sys::tcpcore_time_wait(&self.raw, &mut rest) };
         (answer == 0).then_some(Rest(rest))
     }
 }

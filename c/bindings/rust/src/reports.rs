@@ -103,7 +103,7 @@ impl fmt::Display for Brought {
 
 /// What became of a segment that arrived, and what it is to the end.
 #[derive(Clone, Copy, Debug, PartialEq, Eq, Hash)]
-pub struct Taken {
+pub struct ArriveReport {
     /// What became of it.
     pub arrival: Arrival,
     /// Whether it has to be answered at once (RFC 5681, 4.2), by emitting what is due.
@@ -121,10 +121,10 @@ pub struct Taken {
     pub window_taken: bool,
 }
 
-impl Taken {
-    fn of(answer: u32, told: &sys::Taken) -> Taken {
+impl ArriveReport {
+    fn of(answer: u32, told: &sys::ArriveReport) -> ArriveReport {
         let place = (told.rule as usize).checked_sub(1);
-        Taken {
+        ArriveReport {
             arrival: Arrival::of(answer),
             at_once: told.at_once == 1,
             rule: place.map(|it| RULES[it].0),
@@ -215,27 +215,27 @@ impl End {
     /// a.connect(there, 2)?;
     /// let mut room = [0; EMIT_ROOM];
     /// let (to, syn) = a.emit(&mut room).unwrap();
-    /// let taken = b.taken(here, to, syn);
+    /// let taken = b.arrive_with_report(here, to, syn);
     /// assert_eq!((taken.arrival, taken.at_once, taken.rule), (Arrival::Taken, true, Some(Rule::PeerOpens)));
     /// assert_eq!(taken.rule.unwrap().to_string(), "a SYN opens the connection");
     /// # Ok::<(), tcpcore::Error>(())
     /// ```
-    pub fn taken(&mut self, src: Addr, dst: Addr, segment: &[u8]) -> Taken {
-        let (src, dst, mut told) = (sys::Addr { byte: src }, sys::Addr { byte: dst }, sys::Taken::default());
+    pub fn arrive_with_report(&mut self, src: Addr, dst: Addr, segment: &[u8]) -> ArriveReport {
+        let (src, dst, mut told) = (sys::Addr { byte: src }, sys::Addr { byte: dst }, sys::ArriveReport::default());
         // SAFETY: here and below: as of the calls of lib.rs.
-        let answer = unsafe { sys::tcpcore_taken(&mut self.raw, src, dst, segment.as_ptr().cast(), segment.len(), &mut told) };
-        Taken::of(answer, &told)
+        let answer = unsafe { sys::tcpcore_arrive_with_report(&mut self.raw, src, dst, segment.as_ptr().cast(), segment.len(), &mut told) };
+        ArriveReport::of(answer, &told)
     }
 
-    /// As [`End::taken`], of a segment whose checksum a device has found right: it isn't summed. Report and end are those of the same
+    /// As [`End::arrive_with_report`], of a segment whose checksum a device has found right: it isn't summed. Report and end are those of the same
     /// bytes with the right checksum, whatever the bytes are: drop what the device found wrong.
-    pub fn taken_vouched(&mut self, src: Addr, dst: Addr, segment: &[u8]) -> Taken {
-        let (src, dst, mut told) = (sys::Addr { byte: src }, sys::Addr { byte: dst }, sys::Taken::default());
-        let answer = unsafe { sys::tcpcore_taken_vouched(&mut self.raw, src, dst, segment.as_ptr().cast(), segment.len(), &mut told) };
-        Taken::of(answer, &told)
+    pub fn arrive_vouched_with_report(&mut self, src: Addr, dst: Addr, segment: &[u8]) -> ArriveReport {
+        let (src, dst, mut told) = (sys::Addr { byte: src }, sys::Addr { byte: dst }, sys::ArriveReport::default());
+        let answer = unsafe { sys::tcpcore_arrive_vouched_with_report(&mut self.raw, src, dst, segment.as_ptr().cast(), segment.len(), &mut told) };
+        ArriveReport::of(answer, &told)
     }
 
-    /// As [`End::arrive`], of a segment whose checksum a device has found right, as [`End::taken_vouched`].
+    /// As [`End::arrive`], of a segment whose checksum a device has found right, as [`End::arrive_vouched_with_report`].
     ///
     /// ```
     /// # use tcpcore::{Arrival, Boxed, Config, Malformed, EMIT_ROOM};
@@ -252,7 +252,7 @@ impl End {
     /// # Ok::<(), tcpcore::Error>(())
     /// ```
     pub fn arrive_vouched(&mut self, src: Addr, dst: Addr, segment: &[u8]) -> (Arrival, bool) {
-        let taken = self.taken_vouched(src, dst, segment);
+        let taken = self.arrive_vouched_with_report(src, dst, segment);
         (taken.arrival, taken.at_once)
     }
 

@@ -43,8 +43,8 @@ pub struct Status {
     pub unread: u64,
     pub released: u64,
     pub ordered: u64,
-    pub una: u64,
-    pub next: u64,
+    pub snd_una: u64,
+    pub rcv_position: u64,
     pub room: u64,
     pub queued: u64,
     pub in_flight: u64,
@@ -55,7 +55,7 @@ pub struct Status {
     pub sack: u8,
     pub snd_wnd: u32,
     pub rcv_wnd: u32,
-    pub nxt: u64,
+    pub snd_nxt: u64,
     pub closing: u32,
     pub finished: u32,
     pub reserved: [u32; 6],
@@ -63,7 +63,7 @@ pub struct Status {
 
 #[repr(C)]
 #[derive(Clone, Copy, Default)]
-pub struct Taken {
+pub struct ArriveReport {
     pub at_once: u32,
     pub rule: u32,
     pub acked: u64,
@@ -127,15 +127,15 @@ pub struct Parts {
 
 #[repr(C)]
 #[derive(Clone, Debug, Default, PartialEq, Eq)]
-pub struct Rest {
+pub struct TimeWait {
     pub mark: u32,
     pub addr: Addr,
     pub peer_addr: Addr,
     pub port: u16,
     pub peer_port: u16,
-    pub seq: u32,
-    pub next: u32,
-    pub window: u32,
+    pub snd_nxt: u32,
+    pub rcv_nxt: u32,
+    pub rcv_wnd: u32,
     pub reset_addr: Addr,
     pub reset_seq: u32,
     pub reset_ack: u32,
@@ -160,9 +160,9 @@ extern "C" {
     pub fn tcpcore_close(end: *mut End) -> u32;
     pub fn tcpcore_abort(end: *mut End) -> u32;
     pub fn tcpcore_timer(end: *mut End, timer: u32) -> u32;
-    pub fn tcpcore_take(end: *mut End, src: Addr, dst: Addr, bytes: *const c_void, length: usize, at_once: *mut u32) -> u32;
-    pub fn tcpcore_taken(end: *mut End, src: Addr, dst: Addr, bytes: *const c_void, length: usize, taken: *mut Taken) -> u32;
-    pub fn tcpcore_taken_vouched(end: *mut End, src: Addr, dst: Addr, bytes: *const c_void, length: usize, taken: *mut Taken) -> u32;
+    pub fn tcpcore_arrive_with_at_once(end: *mut End, src: Addr, dst: Addr, bytes: *const c_void, length: usize, at_once: *mut u32) -> u32;
+    pub fn tcpcore_arrive_with_report(end: *mut End, src: Addr, dst: Addr, bytes: *const c_void, length: usize, report: *mut ArriveReport) -> u32;
+    pub fn tcpcore_arrive_vouched_with_report(end: *mut End, src: Addr, dst: Addr, bytes: *const c_void, length: usize, report: *mut ArriveReport) -> u32;
     pub fn tcpcore_emit(end: *mut End, out: *mut c_void, room: usize, to: *mut Addr, length: *mut usize) -> u32;
     pub fn tcpcore_emit_acknowledgement(end: *mut End, out: *mut c_void, room: usize, to: *mut Addr, length: *mut usize) -> u32;
     pub fn tcpcore_resend_first(end: *mut End) -> u32;
@@ -185,13 +185,13 @@ extern "C" {
     pub fn tcpcore_timers(end: *const End, due: *mut u32) -> u32;
     pub fn tcpcore_peer(end: *const End, addr: *mut Addr, port: *mut u16) -> u32;
     pub fn tcpcore_status(end: *const End, status: *mut Status) -> u32;
-    pub fn tcpcore_rest(end: *const End, rest: *mut Rest) -> u32;
-    pub fn tcpcore_rest_arrive(rest: *mut Rest, src: Addr, dst: Addr, bytes: *const c_void, length: usize) -> u32;
-    pub fn tcpcore_rest_timer(rest: *mut Rest, timer: u32) -> u32;
-    pub fn tcpcore_rest_emit(rest: *mut Rest, out: *mut c_void, room: usize, to: *mut Addr, length: *mut usize) -> u32;
-    pub fn tcpcore_rest_pending(rest: *const Rest, due: *mut u32) -> u32;
-    pub fn tcpcore_rest_abort(rest: *mut Rest) -> u32;
-    pub fn tcpcore_rest_status(rest: *const Rest, phase: *mut u32, ending: *mut u32) -> u32;
+    pub fn tcpcore_time_wait(end: *const End, time_wait: *mut TimeWait) -> u32;
+    pub fn tcpcore_time_wait_arrive(time_wait: *mut TimeWait, src: Addr, dst: Addr, bytes: *const c_void, length: usize) -> u32;
+    pub fn tcpcore_time_wait_timer(time_wait: *mut TimeWait, timer: u32) -> u32;
+    pub fn tcpcore_time_wait_emit(time_wait: *mut TimeWait, out: *mut c_void, room: usize, to: *mut Addr, length: *mut usize) -> u32;
+    pub fn tcpcore_time_wait_pending(time_wait: *const TimeWait, due: *mut u32) -> u32;
+    pub fn tcpcore_time_wait_abort(time_wait: *mut TimeWait) -> u32;
+    pub fn tcpcore_time_wait_status(time_wait: *const TimeWait, phase: *mut u32, ending: *mut u32) -> u32;
     pub fn tcpcore_strerror(answer: u32) -> *const u8;
     pub fn tcpcore_version() -> u32;
 }
@@ -256,8 +256,8 @@ mod tests {
                 unread,
                 released,
                 ordered,
-                una,
-                next,
+                snd_una,
+                rcv_position,
                 room,
                 queued,
                 in_flight,
@@ -268,24 +268,24 @@ mod tests {
                 sack,
                 snd_wnd,
                 rcv_wnd,
-                nxt,
+                snd_nxt,
                 closing,
                 finished,
                 reserved
             ),
-            places!(Taken, "struct tcpcore_taken", at_once, rule, acked, brought, is_duplicate, window_taken, reserved),
+            places!(ArriveReport, "struct tcpcore_arrive_report", at_once, rule, acked, brought, is_duplicate, window_taken, reserved),
             places!(Transmit, "struct tcpcore_transmit", to, kind, length, position, count, reserved),
             places!(
-                Rest,
-                "struct tcpcore_rest",
+                TimeWait,
+                "struct tcpcore_time_wait",
                 mark,
                 addr,
                 peer_addr,
                 port,
                 peer_port,
-                seq,
-                next,
-                window,
+                snd_nxt,
+                rcv_nxt,
+                rcv_wnd,
                 reset_addr,
                 reset_seq,
                 reset_ack,
@@ -303,7 +303,7 @@ mod tests {
         ];
         let (expressions, found): (Vec<_>, Vec<_>) = all.into_iter().unzip();
         let (expressions, found) = (expressions.concat(), found.concat());
-        let constants = "TCPCORE_EMIT_ROOM, TCPCORE_TRAIN_ROOM, TCPCORE_HEADER_ROOM, TCPCORE_RESET_ROOM, TCPCORE_REST_ROOM, \
+        let constants = "TCPCORE_EMIT_ROOM, TCPCORE_TRAIN_ROOM, TCPCORE_HEADER_ROOM, TCPCORE_RESET_ROOM, TCPCORE_TIME_WAIT_ROOM, \
                          TCPCORE_MEMORY(17, 1) + TCPCORE_STRUCT_ROOM, TCPCORE_LIMIT, TCPCORE_VERSION";
         let memory = crate::memory(17, 1);
         let rooms = [crate::EMIT_ROOM, crate::TRAIN_ROOM, crate::HEADER_ROOM, crate::RESET_ROOM, crate::RESET_ROOM, memory];

@@ -193,8 +193,8 @@ impl Traffic {
         }
         let (arrival, at_once) = match self.any.below(3) {
             0 => {
-                let old = self.old[i].taken(src, dst, &segment);
-                assert_eq!(self.new[i].taken_vouched(src, dst, &other), old);
+                let old = self.old[i].arrive_with_report(src, dst, &segment);
+                assert_eq!(self.new[i].arrive_vouched_with_report(src, dst, &other), old);
                 self.met.held += u32::from(old.brought == Brought::Held);
                 (old.arrival, old.at_once)
             }
@@ -204,7 +204,7 @@ impl Traffic {
                 old
             }
             _ => {
-                let told = self.new[i].taken(src, dst, &segment);
+                let told = self.new[i].arrive_with_report(src, dst, &segment);
                 assert_eq!(self.old[i].arrive(src, dst, &segment), (told.arrival, told.at_once));
                 assert_eq!(told.rule.is_none(), matches!(told.arrival, Arrival::Malformed(_)));
                 (told.arrival, told.at_once)

@@ -188,7 +188,7 @@ fn rests() {
     let (mut room, mut fin, mut rest) = ([0; EMIT_ROOM], vec![], None);
     b.listen().unwrap();
     a.connect(B, 2).unwrap();
-    assert_eq!(a.rest(), None);
+    assert_eq!(a.time_wait(), None);
     for turn in 0..6 {
         while let Some((to, segment)) = a.emit(&mut room) {
             b.arrive(A, to, segment);
@@ -202,7 +202,7 @@ fn rests() {
             2 => b.close().unwrap(),
             _ => {}
         }
-        rest = rest.or_else(|| a.rest());
+        rest = rest.or_else(|| a.time_wait());
     }
     let mut rest = rest.unwrap();
     drop(a);

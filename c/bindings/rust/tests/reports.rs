@@ -1,4 +1,4 @@
-//! What `taken` and `transmit` report: each value is worked out by hand from RFC 9293, 3.10.7, and RFC 5681, 2 and 4.2. A is at 10.0.0.1
+//! What `arrive_with_report` and `transmit` report: each value is worked out by hand from RFC 9293, 3.10.7, and RFC 5681, 2 and 4.2. A is at 10.0.0.1
 //! port 1 with the initial sequence number 1000, B at 10.0.0.2 port 2 with 5000.
 use tcpcore::*;
 
@@ -22,13 +22,13 @@ fn nothing_goes(end: &mut End) {
 }
 
 /// Of a segment that is taken.
-fn taken(at_once: bool, acked: u64, brought: Brought, is_duplicate: bool, window_taken: bool) -> Taken {
-    Taken { arrival: Arrival::Taken, at_once, rule: Some(Rule::Taken), acked, brought, is_duplicate, window_taken }
+fn taken(at_once: bool, acked: u64, brought: Brought, is_duplicate: bool, window_taken: bool) -> ArriveReport {
+    ArriveReport { arrival: Arrival::Taken, at_once, rule: Some(Rule::Taken), acked, brought, is_duplicate, window_taken }
 }
 
 /// Of a segment of which nothing counts.
-fn other(arrival: Arrival, at_once: bool, rule: Option<Rule>, brought: Brought) -> Taken {
-    Taken { arrival, at_once, rule, acked: 0, brought, is_duplicate: false, window_taken: false }
+fn other(arrival: Arrival, at_once: bool, rule: Option<Rule>, brought: Brought) -> ArriveReport {
+    ArriveReport { arrival, at_once, rule, acked: 0, brought, is_duplicate: false, window_taken: false }
 }
 
 /// A SYN, its answer, and the acknowledgement, from which B takes its first window.
@@ -40,12 +40,12 @@ fn connected() -> (Boxed, Boxed) {
     a.connect(B, 2).unwrap();
     let syn = goes(&mut a, B, Kind::Syn, 0, 0, 24);
     nothing_goes(&mut a);
-    assert_eq!(b.taken(A, B, &syn), other(Arrival::Taken, true, Some(Rule::PeerOpens), Brought::Nothing));
+    assert_eq!(b.arrive_with_report(A, B, &syn), other(Arrival::Taken, true, Some(Rule::PeerOpens), Brought::Nothing));
     let answer = goes(&mut b, A, Kind::Syn, 0, 0, 24);
-    let accepted = Taken { rule: Some(Rule::PeerAccepts), ..taken(true, 0, Brought::Nothing, false, true) };
-    assert_eq!(a.taken(B, A, &answer), accepted);
+    let accepted = ArriveReport { rule: Some(Rule::PeerAccepts), ..arrive_with_report(true, 0, Brought::Nothing, false, true) };
+    assert_eq!(a.arrive_with_report(B, A, &answer), accepted);
     let ack = goes(&mut a, B, Kind::Acknowledgement, 1, 0, 20);
-    assert_eq!(b.taken(A, B, &ack), taken(false, 0, Brought::Nothing, false, true));
+    assert_eq!(b.arrive_with_report(A, B, &ack), taken(false, 0, Brought::Nothing, false, true));
     (a, b)
 }
 
@@ -57,22 +57,22 @@ fn of_text_that_is_lost() {
     let first = goes(&mut a, B, Kind::NewText, 1, 100, 120);
     goes(&mut a, B, Kind::NewText, 101, 100, 120);
     let third = goes(&mut a, B, Kind::NewText, 201, 50, 70);
-    assert_eq!(b.taken(A, B, &first), taken(false, 0, Brought::InOrder, false, true));
+    assert_eq!(b.arrive_with_report(A, B, &first), taken(false, 0, Brought::InOrder, false, true));
     let ack = goes(&mut b, A, Kind::Acknowledgement, 1, 0, 20);
-    assert_eq!(b.taken(A, B, &third), taken(true, 0, Brought::Held, false, true));
+    assert_eq!(b.arrive_with_report(A, B, &third), taken(true, 0, Brought::Held, false, true));
     let duplicate = goes(&mut b, A, Kind::Acknowledgement, 1, 0, 20);
-    assert_eq!(a.taken(B, A, &ack), taken(false, 100, Brought::Nothing, false, true));
-    assert_eq!(a.taken(B, A, &duplicate), taken(false, 0, Brought::Nothing, true, true));
+    assert_eq!(a.arrive_with_report(B, A, &ack), taken(false, 100, Brought::Nothing, false, true));
+    assert_eq!(a.arrive_with_report(B, A, &duplicate), taken(false, 0, Brought::Nothing, true, true));
     // All that is in flight goes out again, and fills the gap; what came before comes outside of the window.
     assert!(a.timer(Timer::Retransmit));
     let second = goes(&mut a, B, Kind::TextAgain, 101, 100, 120);
     goes(&mut a, B, Kind::TextAgain, 201, 50, 70);
     nothing_goes(&mut a);
     // Its window isn't taken: the last one came with the third, which has a higher number.
-    assert_eq!(b.taken(A, B, &second), taken(true, 0, Brought::InOrder, false, false));
-    assert_eq!(b.taken(A, B, &first), other(Arrival::Dropped, true, Some(Rule::Unacceptable), Brought::NotKept));
+    assert_eq!(b.arrive_with_report(A, B, &second), taken(true, 0, Brought::InOrder, false, false));
+    assert_eq!(b.arrive_with_report(A, B, &first), other(Arrival::Dropped, true, Some(Rule::Unacceptable), Brought::NotKept));
     let all = goes(&mut b, A, Kind::Acknowledgement, 1, 0, 20);
-    assert_eq!(a.taken(B, A, &all), taken(false, 150, Brought::Nothing, false, true));
+    assert_eq!(a.arrive_with_report(B, A, &all), taken(false, 150, Brought::Nothing, false, true));
 }
 
 /// B's FIN, and the same again; bytes for nobody, and A's reset.
@@ -81,17 +81,17 @@ fn of_ends() {
     let (mut a, mut b) = connected();
     b.close().unwrap();
     let fin = goes(&mut b, A, Kind::Fin, 1, 0, 20);
-    assert_eq!(a.taken(B, A, &fin), taken(true, 0, Brought::InOrder, false, true));
+    assert_eq!(a.arrive_with_report(B, A, &fin), taken(true, 0, Brought::InOrder, false, true));
     assert!(b.timer(Timer::Retransmit));
     let again = goes(&mut b, A, Kind::FinAgain, 1, 0, 20);
-    assert_eq!(a.taken(B, A, &again), other(Arrival::Dropped, true, Some(Rule::Unacceptable), Brought::NotKept));
+    assert_eq!(a.arrive_with_report(B, A, &again), other(Arrival::Dropped, true, Some(Rule::Unacceptable), Brought::NotKept));
     let answer = goes(&mut a, B, Kind::Acknowledgement, 1, 0, 20);
-    assert_eq!(b.taken(A, B, &answer[..19]), other(Arrival::Malformed(Malformed::TooShort), false, None, Brought::Nothing));
-    assert_eq!(a.taken(A, B, &answer), other(Arrival::NotMine, false, Some(Rule::Foreign), Brought::Nothing));
+    assert_eq!(b.arrive_with_report(A, B, &answer[..19]), other(Arrival::Malformed(Malformed::TooShort), false, None, Brought::Nothing));
+    assert_eq!(a.arrive_with_report(A, B, &answer), other(Arrival::NotMine, false, Some(Rule::Foreign), Brought::Nothing));
     a.abort().unwrap();
     let reset = goes(&mut a, B, Kind::Reset, 0, 0, 20);
-    assert_eq!(b.taken(A, B, &reset), other(Arrival::Taken, false, Some(Rule::PeerResets), Brought::Nothing));
-    assert_eq!(b.taken(A, B, &answer), other(Arrival::Dropped, true, Some(Rule::Stray), Brought::Nothing));
+    assert_eq!(b.arrive_with_report(A, B, &reset), other(Arrival::Taken, false, Some(Rule::PeerResets), Brought::Nothing));
+    assert_eq!(b.arrive_with_report(A, B, &answer), other(Arrival::Dropped, true, Some(Rule::Stray), Brought::Nothing));
     assert_eq!(b.peek().err(), Some(Error::Ended));
     assert_eq!(b.consume(1), Err(Error::Ended));
 }

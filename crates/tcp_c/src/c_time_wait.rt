@@ -1,14 +1,14 @@
 //! The TIME-WAIT record as C's record, and back.
 ghost use Rattle.std.specs.Prelude.{◌≡◌, Some};
-ghost use Rattle.tcp_c.specs.Rests.{ending_of, fields_of, no_record, reset_of, rest_kept, settled_record, with_reset};
+ghost use Rattle.tcp_c.specs.CTimeWaits.{ending_of, fields_of, no_record, reset_of, time_wait_kept, settled_record, with_reset};
 
-use crate::records::{CAddr, CRest};
+use crate::records::{CAddr, CTimeWait};
 use crate::status::ending_number;
 use tcp_conn::{Ending, Peer, Rest, RestFields, WaitingReset};
 use tcp_wire::{Addr, Seq};
 
 /// The first word of a TIME-WAIT record. Any other fields have another.
-pub const MARK_OF_REST: u32 = 0x5265_7374;
+pub const MARK_OF_TIME_WAIT: u32 = 0x5265_7374;
 
 /// The ending of a number.
 fn ending_of(number: u16) -> Option<Ending>
@@ -24,7 +24,7 @@ fn ending_of(number: u16) -> Option<Ending>
 }
 
 /// The waiting reset, if there is one.
-fn reset_of(stored: &CRest) -> Option<WaitingReset>
+fn reset_of(stored: &CTimeWait) -> Option<WaitingReset>
     ensures { result ≡ reset_of stored.now }
 {
     if stored.reset == 0 {
@@ -45,7 +45,7 @@ fn reset_of(stored: &CRest) -> Option<WaitingReset>
 }
 
 /// The fields of C's record, with this ending.
-fn fields_of(stored: &CRest, ending: Ending) -> RestFields
+fn fields_of(stored: &CTimeWait, ending: Ending) -> RestFields
     ensures { result ≡ fields_of stored.now ending }
 {
     RestFields {
@@ -55,9 +55,9 @@ fn fields_of(stored: &CRest, ending: Ending) -> RestFields
             addr: Addr(stored.peer_addr.byte),
             port: stored.peer_port,
         },
-        seq: Seq(stored.seq),
-        next: Seq(stored.next),
-        window: stored.window,
+        seq: Seq(stored.snd_nxt),
+        next: Seq(stored.rcv_nxt),
+        window: stored.rcv_wnd,
         shift: stored.shift,
         ack: stored.ack != 0,
         reset: reset_of(stored),
@@ -66,10 +66,10 @@ fn fields_of(stored: &CRest, ending: Ending) -> RestFields
 }
 
 /// The TIME-WAIT record of C's record, if it is one.
-pub(crate) fn rest_of(stored: &CRest) -> Option<Rest>
-    ensures { result ≡ rest_kept stored.now }
+pub(crate) fn time_wait_of(stored: &CTimeWait) -> Option<Rest>
+    ensures { result ≡ time_wait_kept stored.now }
 {
-    if stored.mark != MARK_OF_REST {
+    if stored.mark != MARK_OF_TIME_WAIT {
         return None;
     }
     let ending = ending_of(stored.ending)?;
@@ -77,19 +77,19 @@ pub(crate) fn rest_of(stored: &CRest) -> Option<Rest>
 }
 
 /// No record: all zero.
-pub(crate) fn no_record() -> CRest
+pub(crate) fn no_record() -> CTimeWait
     ensures { result ≡ no_record }
 {
     let nowhere = CAddr { byte: [0; 4] };
-    CRest {
+    CTimeWait {
         mark: 0,
         addr: nowhere,
         peer_addr: nowhere,
         port: 0,
         peer_port: 0,
-        seq: 0,
-        next: 0,
-        window: 0,
+        snd_nxt: 0,
+        rcv_nxt: 0,
+        rcv_wnd: 0,
         reset_addr: nowhere,
         reset_seq: 0,
         reset_ack: 0,
@@ -102,19 +102,19 @@ pub(crate) fn no_record() -> CRest
 }
 
 /// Fields with no reset, as C's record.
-fn settled_record(fields: &RestFields) -> CRest
+fn settled_record(fields: &RestFields) -> CTimeWait
     ensures { result ≡ settled_record fields.now }
 {
     let (Addr(own), Addr(peer)) = (fields.addr, fields.peer.addr);
-    CRest {
-        mark: MARK_OF_REST,
+    CTimeWait {
+        mark: MARK_OF_TIME_WAIT,
         addr: CAddr { byte: own },
         peer_addr: CAddr { byte: peer },
         port: fields.port,
         peer_port: fields.peer.port,
-        seq: fields.seq.0,
-        next: fields.next.0,
-        window: fields.window,
+        snd_nxt: fields.seq.0,
+        rcv_nxt: fields.next.0,
+        rcv_wnd: fields.window,
         shift: fields.shift,
         ack: u8::from(fields.ack),
         ending: ending_number(fields.ending),
@@ -123,7 +123,7 @@ fn settled_record(fields: &RestFields) -> CRest
 }
 
 /// These fields with a waiting reset.
-fn with_reset(settled: CRest, reset: WaitingReset) -> CRest
+fn with_reset(settled: CTimeWait, reset: WaitingReset) -> CTimeWait
     ensures { result ≡ with_reset settled reset }
 {
     let Addr(byte) = reset.to.addr;
@@ -131,7 +131,7 @@ fn with_reset(settled: CRest, reset: WaitingReset) -> CRest
         Some(ack) => (2, ack.0),
         None => (1, 0),
     };
-    CRest {
+    CTimeWait {
         reset_addr: CAddr { byte },
         reset_port: reset.to.port,
         reset_seq: reset.seq.0,
@@ -142,10 +142,10 @@ fn with_reset(settled: CRest, reset: WaitingReset) -> CRest
 }
 
 /// C's record of this TIME-WAIT record.
-pub(crate) fn record_of(rest: &Rest) -> CRest
-    ensures { rest_kept result ≡ Some rest.now }
+pub(crate) fn record_of(time_wait: &Rest) -> CTimeWait
+    ensures { time_wait_kept result ≡ Some time_wait.now }
 {
-    let fields = rest.fields();
+    let fields = time_wait.fields();
     let record = settled_record(&fields);
     match fields.reset {
         Some(reset) => with_reset(record, reset),

@@ -91,15 +91,15 @@ static uint16_t checksum(tcpcore_addr src, tcpcore_addr dst, const unsigned char
 static uint32_t near(uint32_t number) { return below(8) ? number + below(6) - 3 : below(UINT32_MAX); }
 
 /* The same segment arrives at both: mostly from B to A, mostly near what is wanted, and with any flags. */
-static void arrive(struct tcpcore_rest *rest)
+static void arrive(struct tcpcore_time_wait *time_wait)
 {
     unsigned char bytes[20 + 4] = {0};
     size_t length = 20 + below(5);
     tcpcore_addr src = below(12) ? B : C, dst = below(20) ? A : C;
     store(bytes, below(15) ? B_PORT : below(65536), 2);
     store(bytes + 2, below(20) ? A_PORT : below(65536), 2);
-    store(bytes + 4, near(rest->next), 4);
-    store(bytes + 8, near(rest->seq), 4);
+    store(bytes + 4, near(time_wait->rcv_nxt), 4);
+    store(bytes + 8, near(time_wait->snd_nxt), 4);
     bytes[12] = below(30) ? 5 << 4 : (unsigned char)(below(16) << 4);
     bytes[13] = (unsigned char)(below(3) ? 16 | below(64) : below(64));
     store(bytes + 14, below(65536), 2);
@@ -108,14 +108,14 @@ static void arrive(struct tcpcore_rest *rest)
         bytes[below((uint32_t)length)] ^= (unsigned char)(1 + below(255));
     length = below(40) ? length : below(20);
     uint32_t answer = tcpcore_arrive(&a, src, dst, bytes, length);
-    differences += answer != tcpcore_rest_arrive(rest, src, dst, bytes, length);
+    differences += answer != tcpcore_time_wait_arrive(time_wait, src, dst, bytes, length);
     answers[answer % ANSWERS]++;
 }
 
 /* Both emit until nothing is due: the same bytes, to the same address. */
-static void emit(struct tcpcore_rest *rest)
+static void emit(struct tcpcore_time_wait *time_wait)
 {
-    unsigned char one[TCPCORE_EMIT_ROOM], other[TCPCORE_REST_ROOM];
+    unsigned char one[TCPCORE_EMIT_ROOM], other[TCPCORE_TIME_WAIT_ROOM];
     uint32_t answer;
     do {
         tcpcore_addr to, rests_to;
@@ -123,50 +123,50 @@ static void emit(struct tcpcore_rest *rest)
         memset(one, 0xee, sizeof one);
         memset(other, 0xee, sizeof other);
         answer = tcpcore_emit(&a, one, sizeof one, &to, &length);
-        differences += answer != tcpcore_rest_emit(rest, other, sizeof other, &rests_to, &rests_length);
+        differences += answer != tcpcore_time_wait_emit(time_wait, other, sizeof other, &rests_to, &rests_length);
         differences += length != rests_length || memcmp(&to, &rests_to, sizeof to) || memcmp(one, other, sizeof other);
         emitted += answer == TCPCORE_DONE;
     } while (answer == TCPCORE_DONE);
 }
 
 /* A timer, an abort, an emission, or nothing. */
-static void call(struct tcpcore_rest *rest, uint32_t choice)
+static void call(struct tcpcore_time_wait *time_wait, uint32_t choice)
 {
     if (choice <= 3)
-        differences += tcpcore_timer(&a, choice) != tcpcore_rest_timer(rest, choice);
+        differences += tcpcore_timer(&a, choice) != tcpcore_time_wait_timer(time_wait, choice);
     else if (choice == 4)
-        differences += tcpcore_abort(&a) != tcpcore_rest_abort(rest);
+        differences += tcpcore_abort(&a) != tcpcore_time_wait_abort(time_wait);
     else if (choice < 50)
-        emit(rest);
+        emit(time_wait);
 }
 
 /* What is said of both: phase, ending, and what is due. */
-static void compare(const struct tcpcore_rest *rest)
+static void compare(const struct tcpcore_time_wait *time_wait)
 {
     struct tcpcore_status status;
     uint32_t due, rests_due, phase, ending;
     need("status", tcpcore_status(&a, &status));
-    need("rest_status", tcpcore_rest_status(rest, &phase, &ending));
+    need("rest_status", tcpcore_time_wait_status(time_wait, &phase, &ending));
     need("pending", tcpcore_pending(&a, &due));
-    need("rest_pending", tcpcore_rest_pending(rest, &rests_due));
+    need("rest_pending", tcpcore_time_wait_pending(time_wait, &rests_due));
     differences += phase != status.phase || ending != status.ending || due != rests_due;
 }
 
 static void run(uint32_t later)
 {
-    struct tcpcore_rest rest;
+    struct tcpcore_time_wait time_wait;
     struct tcpcore_status status;
     wait_for_strays();
     if (below(2))
         carry(&a, A, &b);
-    need("rest", tcpcore_rest(&a, &rest));
-    rest.seq += later;
-    compare(&rest);
+    need("rest", tcpcore_time_wait(&a, &time_wait));
+    time_wait.snd_nxt += later;
+    compare(&time_wait);
     for (int round = 0; round < ROUNDS; round++) {
-        arrive(&rest);
-        compare(&rest);
-        call(&rest, below(80));
-        compare(&rest);
+        arrive(&time_wait);
+        compare(&time_wait);
+        call(&time_wait, below(80));
+        compare(&time_wait);
     }
     need("status", tcpcore_status(&a, &status));
     endings[status.ending]++;

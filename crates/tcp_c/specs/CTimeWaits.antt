@@ -6,11 +6,11 @@ use Rattle.tcp_conn.specs.declared.phase.Ending.TheVariants as endings
 use Rattle.tcp_conn.specs.declared.rest_fields.RestFields.{RestFields}
 use Rattle.tcp_conn.specs.Rest.{Resting, as_state, can_be_kept, can_rest, kept_of, resting}
 use Rattle.tcp_conn.specs.State.{State}
-use Rattle.tcp_c.specs.Answers.{done, no_rest, not_at_rest}
+use Rattle.tcp_c.specs.Answers.{done, no_time_wait, not_time_wait}
 use Rattle.tcp_c.specs.Segments.{nowhere}
 use Rattle.tcp_c.specs.Status.{ending_number, flag}
-use Rattle.tcp_c.specs.declared.records.CRest.{CRest}
-use Rattle.tcp_c.specs.declared.rests.TheConstants.{MARK_OF_REST}
+use Rattle.tcp_c.specs.declared.records.CTimeWait.{CTimeWait}
+use Rattle.tcp_c.specs.declared.c_time_wait.TheConstants.{MARK_OF_TIME_WAIT}
 
 -- the ending of a number
 abbrev pub ending_of : ℕ → Option Ending
@@ -20,7 +20,7 @@ ending_of number =
     else (if number == 2 then Some endings.Reset else (if number == 3 then Some endings.Aborted else None)))
 
 -- the waiting reset: 0 none, 1 one that acknowledges nothing, anything else one that acknowledges
-abbrev pub reset_of : CRest → Option WaitingReset
+abbrev pub reset_of : CTimeWait → Option WaitingReset
 reset_of c =
     if c.reset == 0 then None
     else Some (record {
@@ -30,40 +30,40 @@ reset_of c =
     })
 
 -- the fields of C's record, with this ending
-abbrev pub fields_of : CRest → Ending → RestFields
+abbrev pub fields_of : CTimeWait → Ending → RestFields
 fields_of c ending = record {
   addr = record { 0 = c.addr.byte };
   port = c.port;
   peer = record { addr = record { 0 = c.peer_addr.byte }; port = c.peer_port };
-  seq = record { 0 = c.seq };
-  next = record { 0 = c.next };
-  window = c.window;
+  seq = record { 0 = c.snd_nxt };
+  next = record { 0 = c.rcv_nxt };
+  window = c.rcv_wnd;
   shift = c.shift;
   ack = not (c.ack == 0);
   reset = reset_of c;
   ending = ending;
 }
 
-abbrev pub kept_with : CRest → Option Ending → Option Resting
+abbrev pub kept_with : CTimeWait → Option Ending → Option Resting
 kept_with c None = None
 kept_with c (Some ending) = if can_be_kept (fields_of c ending) then Some (kept_of (fields_of c ending)) else None
 
 -- THE TIME-WAIT RECORD of C's record; none without the mark, with no ending's number, or with a window or a shift that no end
 -- has
-abbrev pub rest_kept : CRest → Option Resting
-rest_kept c = if c.mark == MARK_OF_REST then kept_with c (ending_of c.ending) else None
+abbrev pub time_wait_kept : CTimeWait → Option Resting
+time_wait_kept c = if c.mark == MARK_OF_TIME_WAIT then kept_with c (ending_of c.ending) else None
 
 -- all zero where there is no TIME-WAIT record
-abbrev pub no_record : CRest
+abbrev pub no_record : CTimeWait
 no_record = record {
   mark = 0;
   addr = record { byte = nowhere };
   peer_addr = record { byte = nowhere };
   port = 0;
   peer_port = 0;
-  seq = 0;
-  next = 0;
-  window = 0;
+  snd_nxt = 0;
+  rcv_nxt = 0;
+  rcv_wnd = 0;
   reset_addr = record { byte = nowhere };
   reset_seq = 0;
   reset_ack = 0;
@@ -75,23 +75,23 @@ no_record = record {
 }
 
 -- C's record of these fields, where no reset waits
-abbrev pub settled_record : RestFields → CRest
+abbrev pub settled_record : RestFields → CTimeWait
 settled_record f = record no_record {
-  mark = MARK_OF_REST;
+  mark = MARK_OF_TIME_WAIT;
   addr = record { byte = f.addr.0 };
   peer_addr = record { byte = f.peer.addr.0 };
   port = f.port;
   peer_port = f.peer.port;
-  seq = f.seq.0;
-  next = f.next.0;
-  window = f.window;
+  snd_nxt = f.seq.0;
+  rcv_nxt = f.next.0;
+  rcv_wnd = f.window;
   shift = f.shift;
   ack = flag f.ack;
   ending = ending_number f.ending;
 }
 
 -- and with a waiting reset, with what it acknowledges, if anything
-abbrev pub with_reset : CRest → WaitingReset → CRest
+abbrev pub with_reset : CTimeWait → WaitingReset → CTimeWait
 with_reset c reset = record c {
   reset_addr = record { byte = reset.to.addr.0 };
   reset_port = reset.to.port;
@@ -101,22 +101,22 @@ with_reset c reset = record c {
 }
 
 -- FROM AN END: whether a record can take its place, and the record then
-abbrev pub rest_number : State → ℕ
-rest_number s = if can_rest s then done else not_at_rest
+abbrev pub time_wait_number : State → ℕ
+time_wait_number s = if can_rest s then done else not_time_wait
 
-abbrev pub rest_told : Option State → Option Resting
-rest_told None = None
-rest_told (Some s) = if can_rest s then Some (resting s) else None
+abbrev pub time_wait_reported : Option State → Option Resting
+time_wait_reported None = None
+time_wait_reported (Some s) = if can_rest s then Some (resting s) else None
 
 -- the end whose place it takes
-abbrev pub rest_stands_for : CRest → Option State
-rest_stands_for c = option_map as_state (rest_kept c)
+abbrev pub time_wait_stands_for : CTimeWait → Option State
+time_wait_stands_for c = option_map as_state (time_wait_kept c)
 
 -- what a call answers: of that end, or that there is none
-abbrev pub rest_answer : (State → ℕ) → Option State → ℕ
-rest_answer answer None = no_rest
-rest_answer answer (Some s) = answer s
+abbrev pub time_wait_answer : (State → ℕ) → Option State → ℕ
+time_wait_answer answer None = no_time_wait
+time_wait_answer answer (Some s) = answer s
 
 -- the record after a step of that end
-abbrev pub rest_after : (State → State) → CRest → Option Resting
-rest_after step c = option_map (λ r. resting (step (as_state r))) (rest_kept c)
+abbrev pub time_wait_after : (State → State) → CTimeWait → Option Resting
+time_wait_after step c = option_map (λ r. resting (step (as_state r))) (time_wait_kept c)
