@@ -132,7 +132,7 @@ static int set_up(struct server *server, char **words)
        asks nothing keeps it: a server for strangers has a limit for that, as device/main.c has. */
     config.rules.time_wait = 2000;
     config.rules.fin_wait_2 = 60000;
-    config.keep = (struct flow_keep_alive){.idle = 60000, .interval = 10000, .most = 6};
+    config.keep_alive = (struct keep_alive_rules){.idle = 60000, .interval = 10000, .most = 6};
     server->device = open_device(words[1]);
     return server->device >= 0 && getentropy(config.secret, sizeof config.secret) == 0 &&
            demux_init(&server->demux, &config, server->slots, SLOTS);

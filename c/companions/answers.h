@@ -1,5 +1,5 @@
 /*
- * answers.h: a limit on what an end answers (RFC 5961, 7), and no window told that has grown by less than is worth a segment
+ * answers.h: a limit on what an end answers (RFC 5961, 7), and no window advertised that has grown by less than is worth a segment
  * (RFC 9293, 3.8.6.2.2). flow.h uses it.
  *
  * This is C over tcpcore.h, tested and not proved. Two ends that find each other's acknowledgements unacceptable, as where both
@@ -21,9 +21,9 @@ struct answers {
     uint32_t quiet;       /* milliseconds; 0: no limit */
     uint64_t quiet_until; /* before that none goes out that says what was said */
     uint64_t withheld;    /* so many didn't */
-    uint64_t edge;        /* the right edge of the window that was told last, as a position of the peer's direction */
+    uint64_t edge;        /* the right edge of the window that was advertised last, as a position of the peer's direction */
     uint32_t ack;         /* what was acknowledged last, as a number */
-    uint16_t window;      /* the window that was told last, as it was told */
+    uint16_t window;      /* the window that was advertised last, as it was */
     uint8_t is_brought;   /* text or a FIN came since */
     uint8_t is_asked;     /* a segment came since that has to be answered at once */
     uint8_t has_reset;    /* a reset went out behind the end of the connection */
@@ -33,8 +33,8 @@ struct answers {
 void answers_init(struct answers *answers, uint32_t quiet);
 
 /*
- * A segment has come that tcpcore_arrive_with_at_once answered by DONE or DROPPED, with this `at_once`. Returns whether it is answered at once:
- * no, if its answer is rate-limited and went out already.
+ * A segment has come that tcpcore_arrive_with_at_once answered by DONE or DROPPED, with this `at_once`. Returns whether it is answered
+ * at once: no, if its answer is rate-limited and went out already.
  */
 int answers_arrived(struct answers *answers, const uint8_t *segment, size_t length, uint32_t at_once, uint64_t now);
 

@@ -35,14 +35,17 @@ void congestion_clock(struct congestion *congestion, uint64_t now, uint64_t trip
     congestion->trip = trip / 1000;
 }
 
-static uint64_t flight_of(const struct congestion *congestion) { return congestion->given - congestion->released; }
+uint64_t congestion_flight(const struct congestion *congestion)
+{
+    return congestion->given > congestion->released ? congestion->given - congestion->released : 0;
+}
 
 /* For each segment that has left the network another one may go out once a loss was found (RFC 5681, 3.2), and before
    that for each two: then no more is on its way than half a window when it is found (RFC 6937). */
 uint64_t congestion_room(const struct congestion *congestion)
 {
     uint64_t left = congestion->loss == CONGESTION_RECOVERY ? congestion->left : congestion->left / 2;
-    uint64_t window = congestion->cwnd + left + congestion->limited_transmit, flight = flight_of(congestion);
+    uint64_t window = congestion->cwnd + left + congestion->limited_transmit, flight = congestion_flight(congestion);
     return window > flight ? window - flight : 0;
 }
 
@@ -69,7 +72,7 @@ static void grow(struct congestion *congestion, uint64_t acked, uint64_t flight)
 
 void congestion_acknowledged(struct congestion *congestion, uint64_t released, int reports_blocks)
 {
-    uint64_t acked = released - congestion->released, flight = flight_of(congestion);
+    uint64_t acked = released - congestion->released, flight = congestion_flight(congestion);
     congestion->released = released;
     if (acked == 0 && reports_blocks && congestion->loss != CONGESTION_TIMED_OUT)
         congestion->left = smaller(congestion->left + congestion->mss, flight);
@@ -96,7 +99,7 @@ static void shrink(struct congestion *congestion, uint64_t flight)
 
 void congestion_lost(struct congestion *congestion, uint32_t loss, uint32_t count, uint64_t now)
 {
-    uint64_t flight = smaller(flight_of(congestion), congestion->cwnd);
+    uint64_t flight = smaller(congestion_flight(congestion), congestion->cwnd);
     uint32_t timed_out = loss == CONGESTION_TIMED_OUT;
     congestion->again = congestion->limited_transmit = 0;
     congestion->is_ack_clocked = 0;

@@ -32,7 +32,7 @@ struct congestion {
     uint64_t again;     /* sent again, and not yet acknowledged */
     int64_t credit;     /* what may go out again now */
     uint64_t counted;   /* when that was counted */
-    uint64_t limited;   /* what may be given for the first two duplicates (RFC 3042) */
+    uint64_t limited_transmit; /* what may be given for the first two duplicates (RFC 3042) */
     uint64_t allowed;   /* where is_ack_clocked: so many segments may go out again */
     uint64_t now, trip; /* the time and the round trip, in milliseconds, as told last */
     struct cubic cubic; /* what RFC 9438 remembers, where is_cubic */
@@ -57,6 +57,9 @@ void congestion_choose(struct congestion *congestion, int is_cubic);
 /* It is `now`, in milliseconds, and the round trip takes `trip` microseconds: for CUBIC, before what follows. */
 void congestion_clock(struct congestion *congestion, uint64_t now, uint64_t trip);
 
+/* What was given and isn't acknowledged. */
+uint64_t congestion_flight(const struct congestion *congestion);
+
 /* The bytes that may be given now. */
 uint64_t congestion_room(const struct congestion *congestion);
 
@@ -73,14 +76,14 @@ void congestion_acknowledged(struct congestion *congestion, uint64_t released, i
 void congestion_lost(struct congestion *congestion, uint32_t loss, uint32_t count, uint64_t now);
 
 /*
- * One of the first two duplicate acknowledgements without a block has come: a segment more may be given, which makes the peer send
- * the third one (RFC 3042).
+ * Limited transmit: one of the first two duplicate acknowledgements without a block has come, and a segment more may be given, which
+ * makes the peer send the third one (RFC 3042).
  */
 void congestion_limited_transmit(struct congestion *congestion);
 
 /*
- * What was just found lost was told by duplicate acknowledgements (RFC 5681, 3.2) or by silence: behind congestion_lost. One segment may
- * go out again, and further ones as congestion_progress says.
+ * What was just found lost was reported by duplicate acknowledgements (RFC 5681, 3.2) or by silence: behind congestion_lost. What goes out
+ * again is clocked by acknowledgements, not paced by time: one segment may go out again, and further ones as congestion_progress says.
  */
 void congestion_ack_clocked(struct congestion *congestion);
 

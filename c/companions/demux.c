@@ -104,7 +104,7 @@ static void open_end(struct demux *demux, tcpcore_addr src, const uint8_t *bytes
     }
     flow_init(&slot->flow, &config, &demux->config.rules, demux->config.delay);
     flow_choose(&slot->flow, demux->config.choices);
-    flow_keep_alive(&slot->flow, &demux->config.keep);
+    flow_keep_alive(&slot->flow, &demux->config.keep_alive);
     table_add(&demux->table, src, port, now);
     demux->counters.opened++;
     keep_limits(demux, slot);
@@ -120,7 +120,7 @@ static void deal(struct demux *demux, struct table_slot *slot, const uint8_t *by
         return;
     }
     table_wake(&demux->table, slot);
-    if (slot->flow.is_urgent)
+    if (slot->flow.delayed_ack.is_urgent)
         emit(demux, slot, now);
 }
 

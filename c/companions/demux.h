@@ -43,7 +43,7 @@ struct demux_config {
     struct timers_rules rules; /* of each end; a syn_ack_limit of some seconds frees half-open ends (RFC 4987, 3.3) */
     uint32_t delay;            /* how long an acknowledgement may wait, in milliseconds: FLOW_ACK_DELAY, or 0 */
     uint32_t choices;          /* bits of FLOW_CUBIC and FLOW_NAGLE */
-    struct flow_keep_alive keep;     /* when silent peers are asked; all zero: never */
+    struct keep_alive_rules keep_alive; /* when silent peers are asked; all zero: never */
     uint32_t backlog;          /* the most half-open ends, at least 1 (RFC 4987, 3.2) */
     uint32_t strays;           /* the most resets for no end in a second */
     uint8_t secret[16];        /* random: of the initial sequence numbers and of the table (RFC 9293, 3.4.1) */

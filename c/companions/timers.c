@@ -25,6 +25,8 @@ void timers_init(struct timers *timers, const struct timers_rules *rules)
         timers->deadline[timer] = TIMERS_NEVER;
 }
 
+uint64_t timers_trip(const struct timers *timers) { return timers->samples > 0 ? timers->srtt : 1000 * (uint64_t)timers->rto; }
+
 /* Reordering is given one round trip; without progress twice as much from the second run-out on, and after each, and the timeout at
    most: a path that has grown longer isn't filled with what is on its way (as the timeout is backed off: RFC 6298, 5.5). */
 static uint64_t reordering(const struct timers *timers)
@@ -90,7 +92,8 @@ static void begin_anew(struct timers *timers, uint64_t now)
     timers->resent = 0;
 }
 
-void timers_arrived_with_report(struct timers *timers, const tcpcore_end *end, const struct tcpcore_arrive_report *taken, uint64_t now)
+void timers_arrived_with_report(struct timers *timers, const tcpcore_end *end, const struct tcpcore_arrive_report *taken,
+                                uint64_t now)
 {
     struct tcpcore_status status;
     if (taken->window_taken && tcpcore_status(end, &status) == TCPCORE_DONE && status.snd_wnd == 0 && timers->snd_una > 0)

@@ -57,13 +57,13 @@ struct timers {
     uint32_t reordered;     /* how often Reorder ran out without progress */
     uint32_t resent;        /* how often the timeout ran out without progress */
     uint64_t since;         /* when progress was seen last, or sending began */
-    uint64_t una;           /* SND.UNA as tcpcore_status told it last */
-    uint32_t phase;         /* the phase as tcpcore_status told it last */
+    uint64_t snd_una;       /* SND.UNA as tcpcore_status reported it last */
+    uint32_t phase;         /* the phase as tcpcore_status reported it last */
     uint64_t highest;       /* the position after all that was emitted */
     uint64_t timed;         /* the position after the segment that is being timed */
     uint64_t timed_at;      /* when it was emitted, or TIMERS_NEVER: none is */
     uint32_t isn;           /* the initial sequence number, from the SYN that timers_emitted was passed */
-    uint64_t next;          /* RCV.NXT as tcpcore_status told it last */
+    uint64_t rcv_position;  /* RCV.NXT as tcpcore_status reported it last */
     uint64_t left_at;       /* when an end in FIN-WAIT-2 is abandoned, or TIMERS_NEVER */
 };
 
@@ -87,7 +87,8 @@ int timers_emitted(struct timers *timers, const void *segment, size_t length, ui
  * A segment has come to the end, of which tcpcore_arrive_with_report reported this. A peer that answers with a window of 0 is there: it is
  * probed for as long as it answers (RFC 9293, 3.8.6.1).
  */
-void timers_arrived_with_report(struct timers *timers, const tcpcore_end *end, const struct tcpcore_arrive_report *taken, uint64_t now);
+void timers_arrived_with_report(struct timers *timers, const tcpcore_end *end, const struct tcpcore_arrive_report *taken,
+                                uint64_t now);
 
 /* The same of a segment of `length` bytes that tcpcore_arrive answered by TCPCORE_DONE. */
 void timers_arrived(struct timers *timers, const void *segment, size_t length, uint64_t now);
@@ -97,6 +98,9 @@ void timers_arrived(struct timers *timers, const void *segment, size_t length, u
  * applies those that have run out. Answers bits of TIMERS_RAN, TIMERS_SUSPECT and TIMERS_ABORTED, or 0.
  */
 uint32_t timers_run(struct timers *timers, tcpcore_end *end, uint64_t now);
+
+/* The round trip, in microseconds: the timeout where none was measured. */
+uint64_t timers_trip(const struct timers *timers);
 
 /* The next deadline is in so many milliseconds: 0 where one has passed, -1 where there is none, as poll takes it. */
 int timers_wait(const struct timers *timers, uint64_t now);

@@ -60,7 +60,7 @@ void own_arrive(int side, const uint8_t *segment, size_t length)
 {
     struct own *own = &owns[side];
     flow_arrive(&own->flow, &own->end, addr_of(1 - side), addr_of(side), segment, length, now);
-    if (own->flow.is_urgent)
+    if (own->flow.delayed_ack.is_urgent)
         emit(side);
 }
 
@@ -133,7 +133,7 @@ void own_report(int side)
     printf("    phase %u ending %u una %llu in flight %llu queued %llu window %u cwnd %llu, resent %llu, fast %llu, timeouts %u, losses %u, "
            "withheld %llu, probes %llu\n", status.phase, status.ending, (unsigned long long)status.snd_una, (unsigned long long)status.in_flight,
            (unsigned long long)status.queued, status.snd_wnd, (unsigned long long)flow->congestion.cwnd,
-           (unsigned long long)flow->resent, (unsigned long long)flow->fast_retransmits, flow->congestion.timeouts, flow->congestion.losses,
+           (unsigned long long)flow->resent, (unsigned long long)flow->recovery.fast_retransmits, flow->congestion.timeouts, flow->congestion.losses,
            (unsigned long long)flow->answers.withheld,
-           (unsigned long long)flow->tail_loss_probes);
+           (unsigned long long)flow->recovery.tail_loss_probes);
 }

@@ -142,9 +142,9 @@ static tcpcore_config config_of(uint16_t port, const struct wishes *wishes)
     return config;
 }
 
-static struct flow_keep_alive keep_of(const struct wishes *wishes)
+static struct keep_alive_rules keep_of(const struct wishes *wishes)
 {
-    return (struct flow_keep_alive){.idle = wishes->idle, .interval = wishes->interval, .most = wishes->keeps ? 9 : 0};
+    return (struct keep_alive_rules){.idle = wishes->idle, .interval = wishes->interval, .most = wishes->keeps ? 9 : 0};
 }
 
 /* Whether this can be wished: the companions write the header of IPv4 themselves, and have no times of keep-alives of their own. */
@@ -156,7 +156,7 @@ static int can_be(const struct wishes *wishes)
 int stack_listen(uint16_t port, const struct wishes *wishes)
 {
     struct demux_config config = {.end = config_of(port, wishes), .rules = TIMERS_RULES, .delay = FLOW_ACK_DELAY, .backlog = SLOTS / 2,
-                                  .strays = STRAYS, .use = use, .send = send_segment, .keep = keep_of(wishes),
+                                  .strays = STRAYS, .use = use, .send = send_segment, .keep_alive = keep_of(wishes),
                                   .choices = wishes->nagle > 0 ? FLOW_NAGLE : 0};
     if (port_count == LISTENERS || !can_be(wishes))
         return 0;
@@ -181,7 +181,7 @@ int stack_connect(uint16_t port, const uint8_t address[4], uint16_t to, const st
         return -1;
     flow_init(&handle->flow, &config, &TIMERS_RULES, FLOW_ACK_DELAY);
     flow_choose(&handle->flow, wishes->nagle > 0 ? FLOW_NAGLE : 0);
-    struct flow_keep_alive keep = keep_of(wishes);
+    struct keep_alive_rules keep = keep_of(wishes);
     flow_keep_alive(&handle->flow, &keep);
     tcpcore_connect(&handle->end, peer, to);
     return (int)(handle - handles);
@@ -292,7 +292,7 @@ void stack_leave(int number)
 
 int stack_wish(int number, const struct wishes *wishes)
 {
-    struct flow_keep_alive keep = keep_of(wishes);
+    struct keep_alive_rules keep = keep_of(wishes);
     if (!wishes->keeps || !can_be(wishes) || wishes->nagle >= 0 || wishes->capacity > 0 || !end_of(&handles[number]))
         return 0;
     flow_keep_alive(flow_of(&handles[number]), &keep);
@@ -346,7 +346,7 @@ void stack_arrive(const uint8_t *bytes, size_t length)
         return;
     }
     flow_arrive(&handle->flow, &handle->end, packet.src, packet.dst, packet.segment, packet.length, now);
-    if (handle->flow.is_urgent)
+    if (handle->flow.delayed_ack.is_urgent)
         emit(handle);
 }
 

@@ -167,7 +167,7 @@ static void keep_alives(void)
     CHECK(carry(&b, &a), 1);
     for (int at = 0; at < 5; at++, now += 1000) {
         CHECK(hand(next_of_a() - 1, next_of_b(), ACK, 0), TCPCORE_DROPPED);
-        CHECK(b.flow.is_urgent, 1);
+        CHECK(b.flow.delayed_ack.is_urgent, 1);
         CHECK(emit(&b), 1);
     }
     for (int at = 0; at < 5; at++, now++) {
@@ -202,7 +202,7 @@ static void duplicates(void)
     open_both(FLOW_ACK_DELAY);
     for (uint32_t at = 1; at < 10; at++) {
         CHECK(hand(next_of_a() + 10 * at, next_of_b(), ACK, 10), TCPCORE_DONE);
-        CHECK(b.flow.is_urgent, 1);
+        CHECK(b.flow.delayed_ack.is_urgent, 1);
         CHECK(emit(&b), 1);
     }
     free_both();

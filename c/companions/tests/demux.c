@@ -162,7 +162,7 @@ static void limits(void)
     CHECK(demux_wait(&demux, now), -1);
     finish();
     begin();
-    demux.config.keep = (struct flow_keep_alive){.idle = 7200000, .interval = 75000, .most = 9};
+    demux.config.keep_alive = (struct keep_alive_rules){.idle = 7200000, .interval = 75000, .most = 9};
     isn = open_from(50);
     count = 0;
     for (uint64_t began = now; demux_wait(&demux, now) >= 0; demux_turn(&demux, now)) {

@@ -16,7 +16,7 @@ static void delayed(void)
     CHECK(flow_wait(&b.flow, now), 25);
     CHECK(give(&a, 500), 500);
     CHECK(carry(&a, &b), 1);
-    CHECK(b.flow.is_urgent, 0);
+    CHECK(b.flow.delayed_ack.is_urgent, 0);
     CHECK(carry(&b, &a), 1);
     CHECK(flow_wait(&b.flow, now), -1);
     CHECK(give(&a, 500), 500);
@@ -35,7 +35,7 @@ static void delayed(void)
     /* A FIN. */
     CHECK(tcpcore_close(&a.end), TCPCORE_DONE);
     CHECK(carry(&a, &b), 1);
-    CHECK(b.flow.is_urgent, 1);
+    CHECK(b.flow.delayed_ack.is_urgent, 1);
     CHECK(carry(&b, &a), 1);
     free_both();
     /* And with no delay each emission acknowledges. */
@@ -58,23 +58,23 @@ static void broken(void)
     static const int IS_URGENT[] = {0, 1, 1, 1, 1};
     for (int at = 0; at < 5; at++) {
         CHECK(deliver(&a, &b, ORDER[at]), TCPCORE_DONE);
-        CHECK(b.flow.is_urgent, IS_URGENT[at]);
-        if (b.flow.is_urgent) {
+        CHECK(b.flow.delayed_ack.is_urgent, IS_URGENT[at]);
+        if (b.flow.delayed_ack.is_urgent) {
             uint8_t out[TCPCORE_EMIT_ROOM];
             tcpcore_addr to;
             size_t length;
             CHECK(flow_emit(&b.flow, &b.end, out, sizeof out, &to, &length, now), TCPCORE_DONE);
-            CHECK(b.flow.is_urgent, 0);
+            CHECK(b.flow.delayed_ack.is_urgent, 0);
         }
     }
     /* What came before is acknowledged again, at once. */
     CHECK(deliver(&a, &b, 0), TCPCORE_DROPPED);
-    CHECK(b.flow.is_urgent, 1);
+    CHECK(b.flow.delayed_ack.is_urgent, 1);
     CHECK(emit(&b), 1);
     /* Without text, too: the acknowledgement of the handshake. */
-    CHECK(b.flow.is_urgent, 0);
+    CHECK(b.flow.delayed_ack.is_urgent, 0);
     CHECK(flow_arrive(&b.flow, &b.end, a.addr, b.addr, old, sizeof old, now), TCPCORE_DROPPED);
-    CHECK(b.flow.is_urgent, 1);
+    CHECK(b.flow.delayed_ack.is_urgent, 1);
     free_both();
 }
 
@@ -162,7 +162,7 @@ static void shut(void)
         carry(&a, &b);
         carry(&b, &a);
     }
-    CHECK(a.flow.is_shut, 1);
+    CHECK(silly_window_is_shut(&a.flow.silly_window), 1);
     uint64_t cwnd = a.flow.congestion.cwnd;
     CHECK(give(&a, MSS), 1);
     CHECK(emit(&a), 0);
@@ -185,16 +185,16 @@ static void shut_by_an_old_segment(void)
         carry(&a, &b);
         carry(&b, &a);
     }
-    CHECK(a.flow.is_shut, 1);
+    CHECK(silly_window_is_shut(&a.flow.silly_window), 1);
     CHECK(give(&b, 100), 100);
     CHECK(emit(&b), 1);
     size_t length = lengths[0];
     memcpy(old, segments[0], length);
     read(&b, KEEPS);
     CHECK(carry(&b, &a), 1);
-    CHECK(a.flow.is_shut, 0);
+    CHECK(silly_window_is_shut(&a.flow.silly_window), 0);
     CHECK(flow_arrive(&a.flow, &a.end, b.addr, a.addr, old, length, now), TCPCORE_DONE);
-    CHECK(a.flow.is_shut, 0);
+    CHECK(silly_window_is_shut(&a.flow.silly_window), 0);
     CHECK(carry(&a, &b), 1);
     CHECK(give(&a, MSS), MSS);
     CHECK(emit(&a), 1);

@@ -60,9 +60,9 @@ static struct timers_rules some_rules(void)
     return rules;
 }
 
-static struct flow_keep_alive some_keep(void)
+static struct keep_alive_rules some_keep(void)
 {
-    return draw(3) ? (struct flow_keep_alive){0} : (struct flow_keep_alive){.idle = 1 + draw(5000), .interval = 1 + draw(1000), .most = 1 + draw(5)};
+    return draw(3) ? (struct keep_alive_rules){0} : (struct keep_alive_rules){.idle = 1 + draw(5000), .interval = 1 + draw(1000), .most = 1 + draw(5)};
 }
 
 static void make(int at)
@@ -70,7 +70,7 @@ static void make(int at)
     static const uint32_t SIZES[] = {1, 2, 100, 1000, 1461, 5000, 65535, CAPACITY}, MSS[] = {64, 65, 536, 1460};
     struct side *side = &sides[at];
     struct timers_rules rules = some_rules();
-    struct flow_keep_alive keep = some_keep();
+    struct keep_alive_rules keep = some_keep();
     side->config = (tcpcore_config){.addr = addr_of(at), .port = (uint16_t)(1 + at), .mss = (uint16_t)one_of(MSS, 4),
                                     .isn = draw(2) ? UINT32_MAX - draw(3000) : draw(UINT32_MAX), .send_capacity = one_of(SIZES, 8),
                                     .recv_capacity = one_of(SIZES, 8), .limit = draw(8) ? TCPCORE_LIMIT : 1 + draw(50000),
@@ -188,7 +188,7 @@ static void arrive(int to)
     if (is_forged)
         write_checksum(bytes, length, 1 + 2);
     flow_arrive(&side->flow, &side->end, addr_of(1 - to), addr_of(to), bytes, length, now);
-    if (side->flow.is_urgent && draw(2))
+    if (side->flow.delayed_ack.is_urgent && draw(2))
         emit(to);
 }
 
@@ -296,7 +296,7 @@ static uint64_t server(void)
     uint64_t steps = 1 + draw(MOST);
     struct demux_config config = {
         .end = {.addr = addr_of(0), .port = 7, .mss = 536, .send_capacity = 2000, .recv_capacity = 2000, .limit = TCPCORE_LIMIT, .sack = 1},
-        .memory = memory, .length = sizeof memory, .rules = some_rules(), .delay = FLOW_ACK_DELAY, .choices = draw(4), .keep = some_keep(),
+        .memory = memory, .length = sizeof memory, .rules = some_rules(), .delay = FLOW_ACK_DELAY, .choices = draw(4), .keep_alive = some_keep(),
         .backlog = 3, .strays = 5, .use = serve, .send = keep};
     CHECK(demux_init(&demux, &config, slots, SLOTS), 1);
     for (uint64_t step = 0; step < steps; step++) {

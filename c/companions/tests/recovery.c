@@ -47,7 +47,7 @@ static void fast(void)
         if (count > 0)
             CHECK(place_of(segments[0]), 0);
     }
-    CHECK(a.flow.fast_retransmits, 1);
+    CHECK(a.flow.recovery.fast_retransmits, 1);
     CHECK(a.flow.congestion.losses, 1);
     CHECK(a.flow.congestion.cwnd, 5 * MSS);
     land(0);
@@ -69,7 +69,7 @@ static void slow(void)
 {
     begin();
     launch(10);
-    a.flow.duplicate_acks = 3;
+    a.flow.recovery.duplicate_acks = 3;
     no_probes(&a);
     for (int at = 1; at < 10; at++) {
         land(at);
@@ -125,7 +125,7 @@ static void keeps_nothing_again(void)
     int went = 0;
     for (int at = 1; at < 10; at++)
         CHECK(flow_arrive(&a.flow, &a.end, b.addr, a.addr, answer, length, now), TCPCORE_DONE);
-    CHECK(a.flow.fast_retransmits, 1);
+    CHECK(a.flow.recovery.fast_retransmits, 1);
     CHECK(a.flow.congestion.cwnd, 5 * MSS);
     for (uint64_t until = now + 10; now < until; now++)
         for (int count = emit(&a), at = 0; at < count; at++)
@@ -217,7 +217,7 @@ static void limited(void)
     CHECK(emit(&a), 1);
     CHECK(a.flow.congestion.cwnd, 3 * MSS);
     land(3);
-    CHECK(a.flow.fast_retransmits, 1);
+    CHECK(a.flow.recovery.fast_retransmits, 1);
     CHECK(emit(&a), 1);
     CHECK(place_of(segments[0]), 0);
     free_both();
@@ -230,8 +230,8 @@ static void no_duplicates(void)
     launch(10);
     CHECK(give(&b, 4 * MSS), 4 * MSS);
     CHECK(carry(&b, &a), 4);
-    CHECK(a.flow.fast_retransmits, 0);
-    CHECK(a.flow.duplicate_acks, 0);
+    CHECK(a.flow.recovery.fast_retransmits, 0);
+    CHECK(a.flow.recovery.duplicate_acks, 0);
     free_both();
     begin();
     for (int at = 0; at < 5; at++) {
@@ -239,7 +239,7 @@ static void no_duplicates(void)
         carry(&b, &a);
         now += ANSWERS_QUIET;
     }
-    CHECK(a.flow.duplicate_acks, 0);
+    CHECK(a.flow.recovery.duplicate_acks, 0);
     free_both();
 }
 
@@ -255,18 +255,18 @@ static void silence(void)
     now += 31;
     CHECK(emit(&a), 1);
     CHECK(place_of(segments[0]), 0);
-    CHECK(a.flow.tail_loss_probes, 1);
+    CHECK(a.flow.recovery.tail_loss_probes, 1);
     CHECK(emit(&a), 0);
     CHECK(flow_wait(&a.flow, now), 62);
     now += 62;
     CHECK(emit(&a), 1);
     CHECK(place_of(segments[0]), 0);
-    CHECK(a.flow.tail_loss_probes, 2);
+    CHECK(a.flow.recovery.tail_loss_probes, 2);
     now += (uint64_t)flow_wait(&a.flow, now);
     CHECK(now - sent_at, 1000);
     CHECK(emit(&a), 1);
     CHECK(a.flow.congestion.timeouts, 1);
-    CHECK(a.flow.tail_loss_probes, 2);
+    CHECK(a.flow.recovery.tail_loss_probes, 2);
     free_both();
     begin();
     launch(1);
@@ -302,11 +302,11 @@ static void silly(void)
 {
     open_both(0);
     report(300);
-    CHECK(a.flow.snd_wnd, 300);
+    CHECK(a.flow.silly_window.snd_wnd, 300);
     CHECK(give(&a, 5 * MSS), 0);
     CHECK(flow_room(&a.flow, 300), 300);
-    CHECK(flow_wait(&a.flow, now), FLOW_SWS_OVERRIDE);
-    now += FLOW_SWS_OVERRIDE - 1;
+    CHECK(flow_wait(&a.flow, now), SILLY_WINDOW_OVERRIDE);
+    now += SILLY_WINDOW_OVERRIDE - 1;
     CHECK(emit(&a), 0);
     CHECK(give(&a, 5 * MSS), 0);
     now += 1;
@@ -331,7 +331,7 @@ static void silly(void)
     free_both();
     open_both(0);
     report(300);
-    a.flow.max_snd_wnd = 600;
+    a.flow.silly_window.max_snd_wnd = 600;
     CHECK(give(&a, 5 * MSS), 300);
     free_both();
 }
@@ -369,7 +369,7 @@ static void keep_alive(void)
 {
     open_both(0);
     CHECK(flow_wait(&a.flow, now), -1);
-    flow_keep_alive(&a.flow, &(struct flow_keep_alive){.idle = 7200000, .interval = 75000, .most = 9});
+    flow_keep_alive(&a.flow, &(struct keep_alive_rules){.idle = 7200000, .interval = 75000, .most = 9});
     for (int at = 0; at < 3; at++) {
         CHECK(flow_wait(&a.flow, now), 7200000);
         now += 7200000;
@@ -378,7 +378,7 @@ static void keep_alive(void)
         CHECK(read32(segments[0] + AT_SEQ), UINT32_MAX - 3000);
         CHECK(deliver(&a, &b, 0), TCPCORE_DROPPED);
         CHECK(carry(&b, &a), 1);
-        CHECK(a.flow.keep_alives, 0);
+        CHECK(a.flow.keep_alive.unanswered, 0);
     }
     for (int at = 0; at < 9; at++) {
         now += (uint64_t)flow_wait(&a.flow, now);

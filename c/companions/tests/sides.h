@@ -90,8 +90,8 @@ static inline void free_both(void)
 /* Silence isn't probed any more: what comes next is the timeout's. */
 static inline void no_probes(struct side *side)
 {
-    side->flow.probed = 2;
-    side->flow.probe_at = TIMERS_NEVER;
+    side->flow.recovery.probed = 2;
+    side->flow.recovery.probe_at = TIMERS_NEVER;
 }
 
 /* Gives so many bytes to send; how many of them were taken. */
