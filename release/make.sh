@@ -31,6 +31,6 @@ built tcp_c c/portable/build.sh
 built tcp_web apps/web/build.sh
 apps/tcpkit/build.sh
 cp c/portable/out/tcpcore_portable.c release/tcpcore.c
-cp c/tcpcore/tcpcore.h apps/tcpkit/out/tcpkit.c apps/tcpkit/out/tcpjudge.c apps/web/out/tcp.html release
+cp c/tcpcore/tcpcore.h c/tcpcore/tcpcore_old_names.h apps/tcpkit/out/tcpkit.c apps/tcpkit/out/tcpjudge.c apps/web/out/tcp.html release
 made >release/MADE
 ls -l release

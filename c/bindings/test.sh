@@ -16,7 +16,7 @@ library=$(realpath -m "${1:-../../crates/tcp_c/out/libtcp_c.a}")
 mkdir -p cpp/out
 # A folder as the tarball has them: the layer, and this machine's code.
 mkdir -p "out/tarball/prebuilt/$(uname -m | sed 's/^x86_64$/x86-64/')"
-cp ../tcpcore/{tcpcore.c,tcpcore.h,layout.h} out/tarball
+cp ../tcpcore/{tcpcore.c,tcpcore.h,tcpcore_old_names.h,layout.h} out/tarball
 cp "$library" out/tarball/prebuilt/*/
 
 # A program or a library has the machine code in it, and nothing of the portable file, whose functions are named w2c_.

@@ -16,7 +16,7 @@ place=out/$name
 when=$(git -C "$top" log -1 --format=%ct)
 
 library() {
-    cp Makefile README.md "$core/"{tcpcore.c,tcpcore.h,layout.h,tcpcore.map} "$top/release/tcp.html" "$place"
+    cp Makefile README.md "$core/"{tcpcore.c,tcpcore.h,tcpcore_old_names.h,layout.h,tcpcore.map} "$top/release/tcp.html" "$place"
     # Beside the layer of the machine code, which has the name that it has in c/tcpcore.
     cp "$file" "$place/tcpcore_portable.c"
     cp -r "$core/examples" "$core/tests" "$place"
@@ -44,7 +44,7 @@ bindings() {
     (cd "$top/c/bindings/rust" && cp -r Cargo.toml Cargo.lock README.md build.rs rustfmt.toml src tests examples "$top/c/dist/$place/rust")
     for folder in rust python; do
         mkdir "$place/$folder/csrc"
-        cp "$file" "$core/tcpcore.h" "$place/$folder/csrc"
+        cp "$file" "$core/"{tcpcore.h,tcpcore_old_names.h} "$place/$folder/csrc"
     done
     cp "$top/c/bindings/python/"{pyproject.toml,setup.py} "$place/python"
     cp "$core/tcpcore.py" "$place/python/tcpcore/__init__.py"

@@ -228,8 +228,8 @@ static uint32_t tcp_c_arrive(struct handle *handle, const tcpcore_addr *src, con
     ANSWER(handle, w2c_tcp_c_arrive(M, AT_HANDLE, AT_SRC, AT_DST, WINDOW(IN_READ), length_of(length)));
 }
 
-static uint32_t tcp_c_arrive_with_at_once(struct handle *handle, const tcpcore_addr *src, const tcpcore_addr *dst, const uint8_t *bytes,
-                           size_t length, uint32_t *at_once)
+static uint32_t tcp_c_arrive_with_at_once(struct handle *handle, const tcpcore_addr *src, const tcpcore_addr *dst,
+                                          const uint8_t *bytes, size_t length, uint32_t *at_once)
 {
     WITH_END(handle);
     put_segment(&call, src, dst, bytes, length);
@@ -240,8 +240,8 @@ static uint32_t tcp_c_arrive_with_at_once(struct handle *handle, const tcpcore_a
     return answer;
 }
 
-static uint32_t tcp_c_arrive_with_report(struct handle *handle, const tcpcore_addr *src, const tcpcore_addr *dst, const uint8_t *bytes,
-                            size_t length, struct tcpcore_arrive_report *taken)
+static uint32_t tcp_c_arrive_with_report(struct handle *handle, const tcpcore_addr *src, const tcpcore_addr *dst,
+                                         const uint8_t *bytes, size_t length, struct tcpcore_arrive_report *taken)
 {
     WITH_END(handle);
     put_segment(&call, src, dst, bytes, length);
@@ -260,8 +260,8 @@ static uint32_t tcp_c_arrive_vouched(struct handle *handle, const tcpcore_addr *
     ANSWER(handle, w2c_tcp_c_arrive_vouched(M, AT_HANDLE, AT_SRC, AT_DST, WINDOW(IN_READ), length_of(length)));
 }
 
-static uint32_t tcp_c_arrive_vouched_with_report(struct handle *handle, const tcpcore_addr *src, const tcpcore_addr *dst, const uint8_t *bytes,
-                                    size_t length, struct tcpcore_arrive_report *taken)
+static uint32_t tcp_c_arrive_vouched_with_report(struct handle *handle, const tcpcore_addr *src, const tcpcore_addr *dst,
+                                                 const uint8_t *bytes, size_t length, struct tcpcore_arrive_report *taken)
 {
     WITH_END(handle);
     put_segment(&call, src, dst, bytes, length);
@@ -439,7 +439,7 @@ static uint32_t tcp_c_time_wait(struct handle *handle, struct tcpcore_time_wait 
     return answer;
 }
 
-/* A call of the module with what rests in a struct. */
+/* A call of the module with the TIME-WAIT record of a struct. */
 #define WITH_TIME_WAIT(time_wait) \
     struct call call; \
     begin(&call); \
@@ -449,8 +449,8 @@ static uint32_t tcp_c_time_wait(struct handle *handle, struct tcpcore_time_wait 
     carry_record(time_wait, call.frame + AT_RECORD, OF_TIME_WAIT); \
     return answer
 
-static uint32_t tcp_c_time_wait_arrive(struct tcpcore_time_wait *time_wait, const tcpcore_addr *src, const tcpcore_addr *dst, const uint8_t *bytes,
-                                  size_t length)
+static uint32_t tcp_c_time_wait_arrive(struct tcpcore_time_wait *time_wait, const tcpcore_addr *src, const tcpcore_addr *dst,
+                                       const uint8_t *bytes, size_t length)
 {
     WITH_TIME_WAIT(time_wait);
     put_segment(&call, src, dst, bytes, length);
@@ -463,7 +463,8 @@ static uint32_t tcp_c_time_wait_timer(struct tcpcore_time_wait *time_wait, uint3
     ANSWER_OF_TIME_WAIT(time_wait, w2c_tcp_c_time_wait_timer(M, AT_RECORD, timer));
 }
 
-static uint32_t tcp_c_time_wait_emit(struct tcpcore_time_wait *time_wait, uint8_t *out, size_t room, tcpcore_addr *to, size_t *length)
+static uint32_t tcp_c_time_wait_emit(struct tcpcore_time_wait *time_wait, uint8_t *out, size_t room, tcpcore_addr *to,
+                                     size_t *length)
 {
     WITH_TIME_WAIT(time_wait);
     put_written(&call, to, out, room);

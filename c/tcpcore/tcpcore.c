@@ -51,10 +51,11 @@ uint32_t tcp_c_abort(struct handle *);
 uint32_t tcp_c_timer(struct handle *, uint32_t);
 uint32_t tcp_c_arrive(struct handle *, const tcpcore_addr *, const tcpcore_addr *, const uint8_t *, size_t);
 uint32_t tcp_c_arrive_with_at_once(struct handle *, const tcpcore_addr *, const tcpcore_addr *, const uint8_t *, size_t, uint32_t *);
-uint32_t tcp_c_arrive_with_report(struct handle *, const tcpcore_addr *, const tcpcore_addr *, const uint8_t *, size_t, struct tcpcore_arrive_report *);
+uint32_t tcp_c_arrive_with_report(struct handle *, const tcpcore_addr *, const tcpcore_addr *, const uint8_t *, size_t,
+                                  struct tcpcore_arrive_report *);
 uint32_t tcp_c_arrive_vouched(struct handle *, const tcpcore_addr *, const tcpcore_addr *, const uint8_t *, size_t);
 uint32_t tcp_c_arrive_vouched_with_report(struct handle *, const tcpcore_addr *, const tcpcore_addr *, const uint8_t *, size_t,
-                             struct tcpcore_arrive_report *);
+                                          struct tcpcore_arrive_report *);
 uint32_t tcp_c_peek(struct handle *, struct lent *);
 uint32_t tcp_c_consume(struct handle *, size_t, size_t *);
 uint32_t tcp_c_emit(struct handle *, uint8_t *, size_t, tcpcore_addr *, size_t *);
@@ -349,7 +350,8 @@ uint32_t tcpcore_arrive(tcpcore_end *end, tcpcore_addr src, tcpcore_addr dst, co
     return answer != TCPCORE_DONE ? answer : tcp_c_arrive(handle(end), &src, &dst, front(bytes), length);
 }
 
-uint32_t tcpcore_arrive_with_at_once(tcpcore_end *end, tcpcore_addr src, tcpcore_addr dst, const void *bytes, size_t length, uint32_t *at_once)
+uint32_t tcpcore_arrive_with_at_once(tcpcore_end *end, tcpcore_addr src, tcpcore_addr dst, const void *bytes, size_t length,
+                                     uint32_t *at_once)
 {
     uint32_t found = 0;
     struct place place = {at_once, sizeof *at_once};
@@ -361,10 +363,10 @@ uint32_t tcpcore_arrive_with_at_once(tcpcore_end *end, tcpcore_addr src, tcpcore
 }
 
 uint32_t tcpcore_arrive_with_report(tcpcore_end *end, tcpcore_addr src, tcpcore_addr dst, const void *bytes, size_t length,
-                       struct tcpcore_arrive_report *taken)
+                                    struct tcpcore_arrive_report *report)
 {
     struct tcpcore_arrive_report found = {0};
-    struct place place = {taken, sizeof *taken};
+    struct place place = {report, sizeof *report};
     uint32_t refused = refusal_with(end, bytes, length, place), answer = refused;
     if (refused == TCPCORE_DONE)
         answer = tcp_c_arrive_with_report(handle(end), &src, &dst, front(bytes), length, &found);
@@ -378,11 +380,11 @@ uint32_t tcpcore_arrive_vouched(tcpcore_end *end, tcpcore_addr src, tcpcore_addr
     return answer != TCPCORE_DONE ? answer : tcp_c_arrive_vouched(handle(end), &src, &dst, front(bytes), length);
 }
 
-uint32_t tcpcore_arrive_vouched_with_report(tcpcore_end *end, tcpcore_addr src, tcpcore_addr dst, const void *bytes, size_t length,
-                               struct tcpcore_arrive_report *taken)
+uint32_t tcpcore_arrive_vouched_with_report(tcpcore_end *end, tcpcore_addr src, tcpcore_addr dst, const void *bytes,
+                                            size_t length, struct tcpcore_arrive_report *report)
 {
     struct tcpcore_arrive_report found = {0};
-    struct place place = {taken, sizeof *taken};
+    struct place place = {report, sizeof *report};
     uint32_t refused = refusal_with(end, bytes, length, place), answer = refused;
     if (refused == TCPCORE_DONE)
         answer = tcp_c_arrive_vouched_with_report(handle(end), &src, &dst, front(bytes), length, &found);
@@ -596,7 +598,8 @@ uint32_t tcpcore_time_wait(const tcpcore_end *end, struct tcpcore_time_wait *tim
     return answer;
 }
 
-uint32_t tcpcore_time_wait_arrive(struct tcpcore_time_wait *time_wait, tcpcore_addr src, tcpcore_addr dst, const void *bytes, size_t length)
+uint32_t tcpcore_time_wait_arrive(struct tcpcore_time_wait *time_wait, tcpcore_addr src, tcpcore_addr dst, const void *bytes,
+                                  size_t length)
 {
     uint32_t answer = refusal_beside(time_wait_at(time_wait), bytes, length, (struct place){NOWHERE, 0});
     return answer != TCPCORE_DONE ? answer : tcp_c_time_wait_arrive(time_wait, &src, &dst, front(bytes), length);
@@ -631,7 +634,10 @@ uint32_t tcpcore_time_wait_pending(const struct tcpcore_time_wait *time_wait, ui
     return answer;
 }
 
-uint32_t tcpcore_time_wait_abort(struct tcpcore_time_wait *time_wait) { return time_wait ? tcp_c_time_wait_abort(time_wait) : TCPCORE_NULL; }
+uint32_t tcpcore_time_wait_abort(struct tcpcore_time_wait *time_wait)
+{
+    return time_wait ? tcp_c_time_wait_abort(time_wait) : TCPCORE_NULL;
+}
 
 uint32_t tcpcore_time_wait_status(const struct tcpcore_time_wait *time_wait, uint32_t *phase, uint32_t *ending)
 {
@@ -673,7 +679,7 @@ static const char *const TEXTS[] = {
     [TCPCORE_LENGTH] = "a length is above PTRDIFF_MAX",
     [TCPCORE_COPIED] = "the struct was copied, moved or never set",
     [TCPCORE_OVERLAP] = "a buffer or a pointer overlaps the struct or another one",
-    [TCPCORE_NO_TIME_WAIT] = "no rest is in the struct",
+    [TCPCORE_NO_TIME_WAIT] = "no TIME-WAIT record is in the struct",
     [TCPCORE_NOTHING] = "nothing to read yet",
     [TCPCORE_END_OF_STREAM] = "the peer has closed, and all its bytes were read",
     [TCPCORE_NOT_DUE] = "no segment is due",

@@ -18,7 +18,7 @@
  *      TCPCORE_NOT_DUE. Put each segment into an IPv4 packet (protocol 6) from the address of the config to the address
  *      that was told, and send it.
  *   3. Hand each TCP segment that arrives to tcpcore_arrive, without its IPv4 header, with the packet's two addresses; or to
- *      tcpcore_arrive_with_at_once, which says where an answer may not wait for the rest of the batch.
+ *      tcpcore_arrive_with_at_once, which says where an answer may not wait for the rest of the batch, or tcpcore_arrive_with_report.
  *   4. Call tcpcore_receive when you want bytes. What isn't read shuts the window. A window that grows by reading makes a
  *      segment due only where it stood at 0, and a peer that finds it too small waits for a timer of its own: read all that
  *      is there, or call tcpcore_acknowledge where the window has grown by the smaller of a segment and half the
@@ -85,7 +85,7 @@
  *   next end. Leaving an end without tcpcore_free loses nothing but the block.
  *   Buffers belong to the caller; no call keeps a pointer to one.
  *   What tcpcore_peek and tcpcore_parts lend lies in the block: it may be read, never written, until the next call that changes the
- *   end (any but peek, parts, next, pending, timers, peer, status and rest).
+ *   end (any but peek, parts, next, pending, timers, peer, status and time_wait).
  *   The record in the place of an end, struct tcpcore_time_wait, is the caller's as a whole: nothing else belongs to it.
  *
  * ANSWERS
@@ -109,17 +109,22 @@
 #include <stddef.h>
 #include <stdint.h>
 
+/* What has another name since version 9 is taken by its old one, too. */
+#ifndef TCPCORE_NO_OLD_NAMES
+#include "tcpcore_old_names.h"
+#endif
+
 #ifdef __cplusplus
 extern "C" {
 #ifdef __GNUC__
-/* Four structs have the names of calls. */
+/* Some structs have the names of calls. */
 #pragma GCC diagnostic push
 #pragma GCC diagnostic ignored "-Wshadow"
 #endif
 #endif
 
 /* The version of this header: it grows with each change of a struct, a call or an answer. */
-#define TCPCORE_VERSION 8
+#define TCPCORE_VERSION 9
 
 /* The answers; tcpcore_strerror has a text for each. */
 enum {
@@ -154,7 +159,7 @@ enum {
     TCPCORE_LENGTH = 36,    /* a length is above PTRDIFF_MAX */
     TCPCORE_COPIED = 37,    /* the struct was copied or moved, or never set */
     TCPCORE_OVERLAP = 38,   /* a buffer or a pointer that is written through lies over the struct, or over the buffer */
-    TCPCORE_NO_TIME_WAIT = 39,   /* tcpcore_rest_..: the struct has no TIME-WAIT record: never reported, or other bytes */
+    TCPCORE_NO_TIME_WAIT = 39,   /* tcpcore_time_wait_..: the struct has no TIME-WAIT record: never reported, or other bytes */
     /* The call was made and found this. */
     TCPCORE_NOTHING = 51,       /* tcpcore_receive: nothing to read yet */
     TCPCORE_END_OF_STREAM = 52, /* tcpcore_receive: the peer closed, and all its bytes were delivered */
@@ -364,7 +369,7 @@ enum {
     TCPCORE_BROUGHT_NOT_KEPT = 3  /* text or a FIN of which nothing is kept */
 };
 
-/* What tcpcore_arrive_with_report reports of bytes that arrived. All 0 where the answer is a refusal. (The tag alone is a type, as of tcpcore_status.) */
+/* What tcpcore_arrive_with_report reports of bytes that arrived. All 0 where the answer is a refusal. */
 struct tcpcore_arrive_report {
     /* 1 where they have to be answered at once (RFC 5681, 4.2). */
     uint32_t at_once;
@@ -467,7 +472,7 @@ struct tcpcore_parts {
 
 /*
  * What is kept in the place of an end in TIME-WAIT, in 48 bytes, as tcpcore_time_wait reports it: a plain value, which may be copied,
- * moved and stored; a copy is another that rests there. All zero there is none. (The tag alone is a type, as of tcpcore_status.)
+ * moved and stored; a copy is another record. All zero there is none. (The tag alone is a type, as of tcpcore_status.)
  */
 struct tcpcore_time_wait {
     /* The library's word for it; with any other there is no record. */
@@ -620,7 +625,8 @@ uint32_t tcpcore_arrive(tcpcore_end *end, tcpcore_addr src, tcpcore_addr dst, co
  * answer. Where it is 0 an acknowledgement that is due may wait: for a second segment, and at most half a second.
  *   As tcpcore_arrive.
  */
-uint32_t tcpcore_arrive_with_at_once(tcpcore_end *end, tcpcore_addr src, tcpcore_addr dst, const void *bytes, size_t length, uint32_t *at_once);
+uint32_t tcpcore_arrive_with_at_once(tcpcore_end *end, tcpcore_addr src, tcpcore_addr dst, const void *bytes, size_t length,
+                                     uint32_t *at_once);
 
 /*
  * As tcpcore_arrive, and reports more of what the segment is to the end: whether it has to be answered at once, the rule
@@ -629,7 +635,7 @@ uint32_t tcpcore_arrive_with_at_once(tcpcore_end *end, tcpcore_addr src, tcpcore
  *   As tcpcore_arrive.
  */
 uint32_t tcpcore_arrive_with_report(tcpcore_end *end, tcpcore_addr src, tcpcore_addr dst, const void *bytes, size_t length,
-                       struct tcpcore_arrive_report *taken);
+                                    struct tcpcore_arrive_report *report);
 
 /*
  * As tcpcore_arrive, of a segment whose checksum a device has found right: it isn't summed. Answer and end are those of the
@@ -642,8 +648,8 @@ uint32_t tcpcore_arrive_vouched(tcpcore_end *end, tcpcore_addr src, tcpcore_addr
  * As tcpcore_arrive_vouched, with the report of tcpcore_arrive_with_report. Of version 5.
  *   As tcpcore_arrive; never BAD_CHECKSUM.
  */
-uint32_t tcpcore_arrive_vouched_with_report(tcpcore_end *end, tcpcore_addr src, tcpcore_addr dst, const void *bytes, size_t length,
-                               struct tcpcore_arrive_report *taken);
+uint32_t tcpcore_arrive_vouched_with_report(tcpcore_end *end, tcpcore_addr src, tcpcore_addr dst, const void *bytes,
+                                            size_t length, struct tcpcore_arrive_report *report);
 
 /*
  * Writes the segment that is due to `out`, checksum and all (RFC 9293, 3.7, 3.8 and 3.10).
@@ -761,9 +767,9 @@ uint32_t tcpcore_peer(const tcpcore_end *end, tcpcore_addr *addr, uint16_t *port
 uint32_t tcpcore_status(const tcpcore_end *end, struct tcpcore_status *status);
 
 /*
- * Reports what can take the end's place in TIME-WAIT, once nothing is unread: *rest takes no memory, and answers and emits as the
+ * Reports what can take the end's place in TIME-WAIT, once nothing is unread: *time_wait takes no memory, and answers and emits as the
  * end would, whatever comes. The end stays as it is, and only one of the two may answer: the caller frees the end, and hands the
- * segments of the connection to *rest.
+ * segments of the connection to *time_wait.
  *   DONE; NOT_TIME_WAIT: the end is in another phase, or bytes are unread; ask again later. NO_END; NULL; OVERLAP; COPIED.
  */
 uint32_t tcpcore_time_wait(const tcpcore_end *end, struct tcpcore_time_wait *time_wait);
@@ -773,7 +779,8 @@ uint32_t tcpcore_time_wait(const tcpcore_end *end, struct tcpcore_time_wait *tim
  * ended). Then emit; if anything was emitted, restart TCPCORE_TIMER_TIME_WAIT.
  *   As tcpcore_arrive, with NO_TIME_WAIT in place of NO_END; never COPIED.
  */
-uint32_t tcpcore_time_wait_arrive(struct tcpcore_time_wait *time_wait, tcpcore_addr src, tcpcore_addr dst, const void *bytes, size_t length);
+uint32_t tcpcore_time_wait_arrive(struct tcpcore_time_wait *time_wait, tcpcore_addr src, tcpcore_addr dst, const void *bytes,
+                                  size_t length);
 
 /*
  * Timer `timer` has expired (RFC 9293, 3.10.8). TCPCORE_TIMER_TIME_WAIT, which runs on from the end's, closes the

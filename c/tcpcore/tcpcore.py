@@ -15,7 +15,7 @@ import ipaddress
 import os
 from typing import Any, Callable, NamedTuple, NoReturn, Optional, Union
 
-VERSION = 8
+VERSION = 9
 EMIT_ROOM = 1520
 TRAIN_ROOM = 65_515
 RESET_ROOM = 20
@@ -479,13 +479,13 @@ def stray_reset(src: Address, dst: Address, data: Buffer) -> Optional[bytes]:
 
 
 class TimeWait:
-    """What rests in the place of an end in TIME-WAIT: made by `End.time_wait`, or of the bytes of another. A copy is another that rests."""
+    """The record in the place of an end in TIME-WAIT: made by `End.time_wait`, or of the bytes of another. A copy is another record."""
 
     def __init__(self, data: Buffer) -> None:
         if len(octets(data)) != ctypes.sizeof(TimeWaitStruct):
-            raise ValueError(f"what rests has {ctypes.sizeof(TimeWaitStruct)} bytes, not {len(octets(data))}")
+            raise ValueError(f"the record has {ctypes.sizeof(TimeWaitStruct)} bytes, not {len(octets(data))}")
         self.struct, self.calls = TimeWaitStruct.from_buffer_copy(data), library()
-        # Bytes that are no rest's are found here.
+        # Bytes that are no record are found here.
         self.status()
 
     def __bytes__(self) -> bytes:

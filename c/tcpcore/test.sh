@@ -20,7 +20,7 @@ warnings="-std=c11 -g -Wall -Wextra -Wpedantic -Wcast-qual -Wconversion -Wshadow
 sanitizers="-O1 -fsanitize=address,undefined -fno-sanitize-recover=all"
 # The header's calls that are the library's; three are the layer's alone.
 calls=$(grep -o '^[a-z].* \**tcpcore_[a-z_]*(' tcpcore.h | sed -n 's/.*tcpcore_\([a-z_]*\)($/\1/p' | grep -vxE 'strerror|version|new_at' | sort)
-tests="examples/two_ends examples/hello tests/misuse tests/misuse_time_wait tests/room tests/fields tests/answers tests/cautions tests/time_wait tests/reports tests/misuse_lending tests/lending tests/train tests/pacing tests/placed tests/defaults"
+tests="examples/two_ends examples/hello tests/misuse tests/misuse_time_wait tests/room tests/fields tests/answers tests/cautions tests/time_wait tests/old_names tests/reports tests/misuse_lending tests/lending tests/train tests/pacing tests/placed tests/defaults"
 passed=0
 
 pass() { passed=$((passed + 1)); }

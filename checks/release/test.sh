@@ -55,7 +55,7 @@ equal() {
         echo "release: another kit or translator than MADE's: what is built anew may differ in its bytes"
         return
     fi
-    for name in c/portable/out/tcpcore_portable.c:tcpcore.c c/tcpcore/tcpcore.h:tcpcore.h apps/tcpkit/out/tcpkit.c:tcpkit.c \
+    for name in c/portable/out/tcpcore_portable.c:tcpcore.c c/tcpcore/tcpcore.h:tcpcore.h c/tcpcore/tcpcore_old_names.h:tcpcore_old_names.h apps/tcpkit/out/tcpkit.c:tcpkit.c \
         apps/tcpkit/out/tcpjudge.c:tcpjudge.c apps/web/out/tcp.html:tcp.html; do
         [[ -e ${name%:*} ]] || fail "no ${name%:*}: run c/portable/build.sh, apps/web/build.sh and apps/tcpkit/build.sh"
         cmp "${name%:*}" "release/${name#*:}" || fail "release/${name#*:} isn't what ${name%:*} is, of the same sources"

@@ -48,7 +48,7 @@ for machine in x86-64 x86-64-v2 aarch64; do
     mkdir -p "out/tarball/prebuilt/$machine"
     cp "$library" "out/tarball/prebuilt/$machine"
 done
-cp ../../tcpcore/{tcpcore.c,tcpcore.h,layout.h} out/tarball
+cp ../../tcpcore/{tcpcore.c,tcpcore.h,tcpcore_old_names.h,layout.h} out/tarball
 rm -rf out/target/debug/build
 TCPCORE_PREBUILT=$PWD/out/tarball tests 28
 cat out/target/debug/build/tcpcore-*/output | grep -q static=tcp_c || { echo "rust: the machine code isn't linked"; exit 1; }

@@ -173,8 +173,8 @@ def enums():
     for other in (copy.copy(rest), pickle.loads(pickle.dumps(rest)), TimeWait(bytearray(bytes(rest)))):
         check(bytes(other), bytes(rest))
         check((other.arrive(B, *fin), len(other.emit()[1])), (Answer.DROPPED, 20))
-    check(raised(ValueError, TimeWait, b"short"), "what rests has 48 bytes, not 5")
-    check(raised(Refused, TimeWait, bytes(48)), "no rest is in the struct")
+    check(raised(ValueError, TimeWait, b"short"), "the record has 48 bytes, not 5")
+    check(raised(Refused, TimeWait, bytes(48)), "no TIME-WAIT record is in the struct")
 
 
 def freed():

@@ -64,8 +64,8 @@ static void layout(void)
     FIELD(struct tcpcore_status, unread);
     FIELD(struct tcpcore_status, released);
     FIELD(struct tcpcore_status, ordered);
-    FIELD(struct tcpcore_status, una);
-    FIELD(struct tcpcore_status, next);
+    FIELD(struct tcpcore_status, snd_una);
+    FIELD(struct tcpcore_status, rcv_position);
     FIELD(struct tcpcore_status, room);
     FIELD(struct tcpcore_status, queued);
     FIELD(struct tcpcore_status, in_flight);
@@ -76,11 +76,11 @@ static void layout(void)
     FIELD(struct tcpcore_status, sack);
     FIELD(struct tcpcore_status, snd_wnd);
     FIELD(struct tcpcore_status, rcv_wnd);
-    FIELD(struct tcpcore_status, nxt);
+    FIELD(struct tcpcore_status, snd_nxt);
     FIELD(struct tcpcore_status, closing);
     FIELD(struct tcpcore_status, finished);
     FIELD(struct tcpcore_status, reserved);
-    printf(" of %zu\ntcpcore_taken:", sizeof(struct tcpcore_status));
+    printf(" of %zu\ntcpcore_arrive_report:", sizeof(struct tcpcore_status));
     FIELD(struct tcpcore_arrive_report, at_once);
     FIELD(struct tcpcore_arrive_report, rule);
     FIELD(struct tcpcore_arrive_report, acked);
@@ -95,15 +95,15 @@ static void layout(void)
     FIELD(struct tcpcore_transmit, position);
     FIELD(struct tcpcore_transmit, count);
     FIELD(struct tcpcore_transmit, reserved);
-    printf(" of %zu\ntcpcore_rest:", sizeof(struct tcpcore_transmit));
+    printf(" of %zu\ntcpcore_time_wait:", sizeof(struct tcpcore_transmit));
     FIELD(struct tcpcore_time_wait, mark);
     FIELD(struct tcpcore_time_wait, addr);
     FIELD(struct tcpcore_time_wait, peer_addr);
     FIELD(struct tcpcore_time_wait, port);
     FIELD(struct tcpcore_time_wait, peer_port);
-    FIELD(struct tcpcore_time_wait, seq);
-    FIELD(struct tcpcore_time_wait, next);
-    FIELD(struct tcpcore_time_wait, window);
+    FIELD(struct tcpcore_time_wait, snd_nxt);
+    FIELD(struct tcpcore_time_wait, rcv_nxt);
+    FIELD(struct tcpcore_time_wait, rcv_wnd);
     FIELD(struct tcpcore_time_wait, reset_addr);
     FIELD(struct tcpcore_time_wait, reset_seq);
     FIELD(struct tcpcore_time_wait, reset_ack);
@@ -360,9 +360,9 @@ static void print_peer(const char *name, tcpcore_addr addr, unsigned int port)
 static void report_time_wait(const struct tcpcore_time_wait *time_wait)
 {
     uint32_t phase, ending, due;
-    need("rest_status", tcpcore_time_wait_status(time_wait, &phase, &ending));
-    need("rest_pending", tcpcore_time_wait_pending(time_wait, &due));
-    printf("rest: %s, %s, due %u: ", PHASES[phase], ENDINGS[ending], due);
+    need("time_wait_status", tcpcore_time_wait_status(time_wait, &phase, &ending));
+    need("time_wait_pending", tcpcore_time_wait_pending(time_wait, &due));
+    printf("record: %s, %s, due %u: ", PHASES[phase], ENDINGS[ending], due);
     print_peer("own", time_wait->addr, time_wait->port);
     print_peer("peer", time_wait->peer_addr, time_wait->peer_port);
     printf("seq %u, next %u, window %u, shift %u, ack %u, reset %u", time_wait->snd_nxt, time_wait->rcv_nxt, time_wait->rcv_wnd, time_wait->shift,
@@ -379,8 +379,8 @@ static void emit_time_wait(struct tcpcore_time_wait *time_wait)
     unsigned char out[TCPCORE_TIME_WAIT_ROOM];
     tcpcore_addr to;
     size_t length;
-    need("rest_emit", tcpcore_time_wait_emit(time_wait, out, sizeof out, &to, &length));
-    printf("rest emits %zu bytes: to %d.%d.%d.%d, ports %u and %u, number %u, acknowledges %u, flags %d, window %u\n", length,
+    need("time_wait_emit", tcpcore_time_wait_emit(time_wait, out, sizeof out, &to, &length));
+    printf("record emits %zu bytes: to %d.%d.%d.%d, ports %u and %u, number %u, acknowledges %u, flags %d, window %u\n", length,
            to.byte[0], to.byte[1], to.byte[2], to.byte[3], word(out), word(out + 2), word(out + 4) << 16 | word(out + 6),
            word(out + 8) << 16 | word(out + 10), out[13], word(out + 14));
 }
@@ -388,10 +388,10 @@ static void emit_time_wait(struct tcpcore_time_wait *time_wait)
 static void arrive_at_time_wait(struct tcpcore_time_wait *time_wait, const struct segment *segment)
 {
     uint32_t answer = tcpcore_time_wait_arrive(time_wait, b.config.addr, segment->dst, segment->bytes, segment->length);
-    printf("rest takes %zu bytes: %s\n", segment->length, tcpcore_strerror(answer));
+    printf("record takes %zu bytes: %s\n", segment->length, tcpcore_strerror(answer));
 }
 
-/* What rests in the place of A: the peer's FIN comes again, in TIME-WAIT and once that is over, and then a new SYN. */
+/* The record in the place of A: the peer's FIN comes again, in TIME-WAIT and once that is over, and then a new SYN. */
 static void rested(void)
 {
     struct tcpcore_time_wait time_wait;
@@ -407,18 +407,18 @@ static void rested(void)
     need("close", tcpcore_close(&a.end));
     bring(&a, &b);
     bring(&b, &a);
-    printf("rest of A: %s\n", tcpcore_strerror(tcpcore_time_wait(&a.end, &time_wait)));
+    printf("record of A: %s\n", tcpcore_strerror(tcpcore_time_wait(&a.end, &time_wait)));
     need("close", tcpcore_close(&b.end));
     struct segment fin = emitted(&b);
     hand(&b, &a, &fin);
-    need("rest", tcpcore_time_wait(&a.end, &time_wait));
+    need("time_wait", tcpcore_time_wait(&a.end, &time_wait));
     free_both();
     report_time_wait(&time_wait);
     emit_time_wait(&time_wait);
     report_time_wait(&time_wait);
     arrive_at_time_wait(&time_wait, &fin);
     emit_time_wait(&time_wait);
-    need("rest_timer", tcpcore_time_wait_timer(&time_wait, TCPCORE_TIMER_TIME_WAIT));
+    need("time_wait_timer", tcpcore_time_wait_timer(&time_wait, TCPCORE_TIMER_TIME_WAIT));
     arrive_at_time_wait(&time_wait, &fin);
     report_time_wait(&time_wait);
     emit_time_wait(&time_wait);
@@ -429,7 +429,7 @@ static void rested(void)
     arrive_at_time_wait(&time_wait, &syn);
     report_time_wait(&time_wait);
     emit_time_wait(&time_wait);
-    printf("rest gives up: %s\n", tcpcore_strerror(tcpcore_time_wait_abort(&time_wait)));
+    printf("record aborts: %s\n", tcpcore_strerror(tcpcore_time_wait_abort(&time_wait)));
 }
 
 static void close_both(void)

@@ -231,7 +231,7 @@ def tell_rest(rest):
         to = f"{dotted(told.reset_addr.byte)} port {told.reset_port}"
         reset = f" to {to}, seq {told.reset_seq}, ack {told.reset_ack}"
     print(
-        f"rest: {phase}, {ending}, due {rest.pending()}: own {dotted(told.addr.byte)} port {told.port}, "
+        f"record: {phase}, {ending}, due {rest.pending()}: own {dotted(told.addr.byte)} port {told.port}, "
         f"peer {dotted(told.peer_addr.byte)} port {told.peer_port}, seq {told.snd_nxt}, next {told.rcv_nxt}, "
         f"window {told.rcv_wnd}, shift {told.shift}, ack {told.ack}, reset {told.reset}{reset}, ending {told.ending}"
     )
@@ -240,7 +240,7 @@ def tell_rest(rest):
 def emit_rest(rest):
     to, out = rest.emit()
     print(
-        f"rest emits {len(out)} bytes: to {dotted(to)}, ports {word(out, 0)} and {word(out, 2)}, "
+        f"record emits {len(out)} bytes: to {dotted(to)}, ports {word(out, 0)} and {word(out, 2)}, "
         f"number {word(out, 4) << 16 | word(out, 6)}, acknowledges {word(out, 8) << 16 | word(out, 10)}, "
         f"flags {out[13]}, window {word(out, 14)}"
     )
@@ -248,7 +248,7 @@ def emit_rest(rest):
 
 def hand_to_rest(rest, source, segment):
     answer = rest.arrive(source.config.addr, *segment)
-    print(f"rest takes {len(segment[1])} bytes: {strerror(answer)}")
+    print(f"record takes {len(segment[1])} bytes: {strerror(answer)}")
 
 
 def gives_up(rest):
@@ -270,7 +270,7 @@ def rested(a, b):
     a.end.close()
     bring(a, b)
     bring(b, a)
-    print(f"rest of A: {strerror(NOT_TIME_WAIT if a.end.time_wait() is None else DONE)}")
+    print(f"record of A: {strerror(NOT_TIME_WAIT if a.end.time_wait() is None else DONE)}")
     b.end.close()
     fin = b.end.emit()
     hand(b, a, fin)
@@ -293,7 +293,7 @@ def rested(a, b):
     hand_to_rest(rest, b, syn)
     tell_rest(rest)
     emit_rest(rest)
-    print(f"rest gives up: {strerror(gives_up(rest))}")
+    print(f"record aborts: {strerror(gives_up(rest))}")
 
 
 def main():

@@ -26,15 +26,17 @@ prints() {
 make --silent install OUT="$there/out" PREFIX="$there/usr" LIBRARY="$library"
 soname=libtcpcore.so.$(sed -n 's/^TCPCORE_\([0-9]*\) {$/\1/p' tcpcore.map | head -n 1)
 same files "$(cd "$there/usr" && find . -type f -o -type l | sort | tr '\n' ' ')" \
-    "./include/tcpcore.h ./lib/libtcpcore.a ./lib/libtcpcore.so ./lib/$soname ./lib/pkgconfig/tcpcore.pc "
+    "./include/tcpcore.h ./include/tcpcore_old_names.h ./lib/libtcpcore.a ./lib/libtcpcore.so ./lib/$soname ./lib/pkgconfig/tcpcore.pc "
 cp examples/two_ends.c "$there"
 cd "$there"
 export PKG_CONFIG_PATH=$there/usr/lib/pkgconfig
 shared=$(readlink usr/lib/libtcpcore.so)
 same soname "$(objdump -p "usr/lib/$shared" | awk '$1 == "SONAME" { print $2 }')" "$shared"
 calls=$(grep -o '^[a-z].* \**tcpcore_[a-z_]*(' usr/include/tcpcore.h | grep -o 'tcpcore_[a-z_]*' | sort)
-# Each call of the header is in a node of the map, and nothing else is exported.
-same "exported names" "$(nm -D --defined-only "usr/lib/$shared" | sed -n 's/.* \([^ @]*\)@@TCPCORE_[0-9]*$/\1/p' | sort)" "$calls"
+old=$(sed -n 's/^#define \(tcpcore_[a-z_]*\) tcpcore_[a-z_]*$/\1/p' usr/include/tcpcore_old_names.h)
+# Each call of the header is in a node of the map, and by its old name, and nothing else is exported.
+same "exported names" "$(nm -D --defined-only "usr/lib/$shared" | sed -n 's/.* \([^ @]*\)@@TCPCORE_[0-9]*$/\1/p' | sort)" \
+    "$(sort <<<"$calls"$'\n'"$old")"
 same "nodes of the map" "$(nm -D --defined-only "usr/lib/$shared" | awk '$2 == "A" { print $3 }' | sort -V | head -n 1)" \
     "TCPCORE_${soname##*.}"
 same "names of the archive" "$(nm --defined-only --extern-only usr/lib/libtcpcore.a | awk 'NF == 3 { print $3 }' | sort)" "$calls"

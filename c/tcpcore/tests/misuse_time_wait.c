@@ -1,4 +1,4 @@
-/* The test of misuse, of what rests: NULL, structs that are no rest, each field out of its range, pointers over the struct, short
+/* The test of misuse, of a TIME-WAIT record: NULL, structs that are none, each field out of its range, pointers over the struct, short
    room, unknown timers. */
 #include "carry.h"
 #include "check.h"
@@ -9,8 +9,8 @@
 static const tcpcore_addr HERE = {{10, 0, 0, 1}}, THERE = {{10, 0, 0, 2}}, NOWHERE = {{0, 0, 0, 0}};
 static const size_t HUGE_LENGTH = (size_t)PTRDIFF_MAX + 1;
 
-/* What rests in the place of an end whose peer has closed too; it owes an acknowledgement. No end before can rest. */
-static struct tcpcore_time_wait rest_of_an_end(void)
+/* The record of an end whose peer has closed too; an acknowledgement is pending. No end before has one. */
+static struct tcpcore_time_wait record_of_an_end(void)
 {
     static unsigned char blocks[2][TCPCORE_MEMORY(100, 100)];
     tcpcore_end end = TCPCORE_END_INIT, peer = TCPCORE_END_INIT;
@@ -73,7 +73,7 @@ static void every_call(struct tcpcore_time_wait *time_wait, uint32_t wanted)
 }
 
 /* Structs that nobody told, and each field out of its range, by one. */
-static void no_rests(const struct tcpcore_time_wait *time_wait)
+static void no_records(const struct tcpcore_time_wait *time_wait)
 {
     struct tcpcore_time_wait other = {0};
     every_call(NULL, TCPCORE_NULL);
@@ -94,9 +94,9 @@ static void no_rests(const struct tcpcore_time_wait *time_wait)
         every_call(&other, TCPCORE_NO_TIME_WAIT);
     }
     other = *time_wait;
-    other.window = 1048577;
+    other.rcv_wnd = 1048577;
     every_call(&other, TCPCORE_NO_TIME_WAIT);
-    other.window = 1048576;
+    other.rcv_wnd = 1048576;
     CHECK(tcpcore_time_wait_timer(&other, TCPCORE_TIMER_REORDER), TCPCORE_NO_RULE);
     other.shift = 15;
     every_call(&other, TCPCORE_NO_TIME_WAIT);
@@ -211,11 +211,11 @@ static void endings(struct tcpcore_time_wait time_wait)
 
 int main(void)
 {
-    struct tcpcore_time_wait time_wait = rest_of_an_end();
-    no_rests(&time_wait);
+    struct tcpcore_time_wait time_wait = record_of_an_end();
+    no_records(&time_wait);
     numbers(time_wait);
     overlaps(time_wait);
     endings(time_wait);
-    printf("misuse_rest: no call was taken in\n");
+    printf("misuse_time_wait: no call was taken in\n");
     return checks > 10000 ? 0 : 1;
 }

@@ -11,16 +11,36 @@ import sys
 import tempfile
 
 MAY_GROW = {"TCPCORE_VERSION", "TCPCORE_STACK", "TCPCORE_PORTABLE_STACK"}
+# The fields that have another name since version 9.
+FIELDS = {
+    ("struct tcpcore_status", "una"): "snd_una",
+    ("struct tcpcore_status", "next"): "rcv_position",
+    ("struct tcpcore_status", "nxt"): "snd_nxt",
+    ("struct tcpcore_rest", "seq"): "snd_nxt",
+    ("struct tcpcore_rest", "next"): "rcv_nxt",
+    ("struct tcpcore_rest", "window"): "rcv_wnd",
+}
 
 
 def without_comments(text):
     return re.sub(r"/\*.*?\*/", " ", text, flags=re.S)
 
 
-def calls(text):
-    """The prototypes, with one blank between words."""
+def old_names(header):
+    """The names that the macros beside a header give others: (old, new) each. A call and a struct that had one name have two."""
+    beside = pathlib.Path(header).with_name("tcpcore_old_names.h")
+    text = beside.read_text() if beside.exists() else ""
+    calls = re.findall(r"^#define (\w+)\(.*\) (tcpcore_\w+)\(", text, re.M)
+    return calls + re.findall(r"^#define (\w+) (\w+)$", text, re.M)
+
+
+def calls(text, names=()):
+    """The prototypes without their parameters' names, with one blank between words, and with the old names of these."""
+    for old, new in names:
+        text = re.sub(rf"\b{new}\b", old, text)
     found = re.findall(r"^(?:uint32_t|size_t|const char \*)\s*tcpcore_\w+\([^;{]*\);", text, re.M)
-    return {re.search(r"tcpcore_\w+", call)[0]: " ".join(call.split()) for call in found}
+    bare = (re.sub(r"(?<=[ *])\w+(?=[,)])", "", call) for call in found)
+    return {re.search(r"tcpcore_\w+", call)[0]: " ".join(call.split()) for call in bare}
 
 
 def fields(text):
@@ -40,16 +60,19 @@ def numbers(text):
     return [it for it in named + bounds if it not in MAY_GROW] + ["TCPCORE_MEMORY(1, 1)", "TCPCORE_MEMORY(257, 1048576)"]
 
 
-def values(header, older):
-    """What the compiler makes of the older header's names with a header."""
+def values(header, older, fields_now):
+    """What the compiler makes of the older header's names with a header; `fields_now` has those of fields that have another name."""
     lines = [f'    printf("{name} %llu\\n", (unsigned long long)({name}));' for name in numbers(older)]
     for kind, field in fields(older):
-        lines.append(f'    printf("{kind} {field} %zu %zu\\n", offsetof({kind}, {field}), sizeof(({kind} *)0)->{field});')
+        now = fields_now.get((kind, field), field)
+        lines.append(f'    printf("{kind} {field} %zu %zu\\n", offsetof({kind}, {now}), sizeof(({kind} *)0)->{now});')
     for kind in sorted({kind for kind, _ in fields(older)}):
         lines.append(f'    printf("{kind} %zu\\n", sizeof({kind}));')
     with tempfile.TemporaryDirectory() as folder:
         place = pathlib.Path(folder)
         (place / "tcpcore.h").write_text(pathlib.Path(header).read_text())
+        beside = pathlib.Path(header).with_name("tcpcore_old_names.h")
+        (place / beside.name).write_text(beside.read_text() if beside.exists() else "")
         (place / "values.c").write_text("\n".join(['#include "tcpcore.h"', "#include <stdio.h>", "int main(void)", "{", *lines, "    return 0;", "}", ""]))
         subprocess.run([os.environ.get("CC", "cc"), "-std=c11", f"-I{place}", place / "values.c", "-o", place / "values"], check=True)
         return subprocess.run([place / "values"], check=True, capture_output=True, text=True).stdout.splitlines()
@@ -59,8 +82,9 @@ def main():
     older, newer = (without_comments(pathlib.Path(name).read_text()) for name in sys.argv[1:3])
     if not calls(older) or not fields(older) or len(numbers(older)) < 10:
         sys.exit("older.py: no header was read")
-    before, now = values(sys.argv[1], older), values(sys.argv[2], older)
-    wrong = [f"{name} is {found!r}, and was {wanted!r}" for name, wanted in calls(older).items() if (found := calls(newer).get(name)) != wanted]
+    before, now = values(sys.argv[1], older, {}), values(sys.argv[2], older, FIELDS if old_names(sys.argv[2]) else {})
+    newer_calls = calls(newer, old_names(sys.argv[2]))
+    wrong = [f"{name} is {found!r}, and was {wanted!r}" for name, wanted in calls(older).items() if (found := newer_calls.get(name)) != wanted]
     wrong += [f"'{found}', and was '{wanted}'" for wanted, found in zip(before, now) if found != wanted]
     for line in wrong:
         print(f"older.py: {line}")

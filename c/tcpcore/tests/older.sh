@@ -45,6 +45,7 @@ for folder in older/*/; do
     names_alone "$there/wrong.map" "$there/wrong/$soname"
     if runs_with "$there/wrong"; then fail "$folder: its program runs with a library without its names"; fi
     sed 's/TCPCORE_NOTHING = 51/TCPCORE_NOTHING = 50/' ../tcpcore.h >"$there/wrong.h"
+    cp ../tcpcore_old_names.h "$there"
     if python3 older.py "$folder/tcpcore.h" "$there/wrong.h" >/dev/null; then fail "$folder: another answer isn't found"; fi
     pass
 done

@@ -1,5 +1,5 @@
-/* The test of what rests: an end in TIME-WAIT and its rest side by side, over the same arrivals, timers, emissions and aborts.
-   Each answer, address and byte is the same; and a rest with another number is told apart. */
+/* The test of TIME-WAIT records: an end in TIME-WAIT and its record side by side, over the same arrivals, timers, emissions and aborts.
+   Each answer, address and byte is the same; and a record with another number is told apart. */
 #include "carry.h"
 #include "tcpcore.h"
 
@@ -18,7 +18,7 @@ static unsigned long answers[ANSWERS], endings[4], emitted, differences;
 static void need(const char *call, uint32_t answer)
 {
     if (answer != TCPCORE_DONE) {
-        printf("rest: %s: %s\n", call, tcpcore_strerror(answer));
+        printf("time_wait: %s: %s\n", call, tcpcore_strerror(answer));
         exit(1);
     }
 }
@@ -43,7 +43,7 @@ static void make(tcpcore_end *end, tcpcore_addr addr, uint16_t port)
     need("new", tcpcore_new(end, &config, blocks[end == &b], sizeof *blocks));
 }
 
-/* A and B connect, A sends and closes, then B does: A is in TIME-WAIT, and owes the last acknowledgement. */
+/* A and B connect, A sends and closes, then B does: A is in TIME-WAIT, and has to send the last acknowledgement. */
 static void wait_for_strays(void)
 {
     unsigned char text[MOST_TEXT] = {0};
@@ -118,13 +118,13 @@ static void emit(struct tcpcore_time_wait *time_wait)
     unsigned char one[TCPCORE_EMIT_ROOM], other[TCPCORE_TIME_WAIT_ROOM];
     uint32_t answer;
     do {
-        tcpcore_addr to, rests_to;
-        size_t length, rests_length;
+        tcpcore_addr to, its_to;
+        size_t length, its_length;
         memset(one, 0xee, sizeof one);
         memset(other, 0xee, sizeof other);
         answer = tcpcore_emit(&a, one, sizeof one, &to, &length);
-        differences += answer != tcpcore_time_wait_emit(time_wait, other, sizeof other, &rests_to, &rests_length);
-        differences += length != rests_length || memcmp(&to, &rests_to, sizeof to) || memcmp(one, other, sizeof other);
+        differences += answer != tcpcore_time_wait_emit(time_wait, other, sizeof other, &its_to, &its_length);
+        differences += length != its_length || memcmp(&to, &its_to, sizeof to) || memcmp(one, other, sizeof other);
         emitted += answer == TCPCORE_DONE;
     } while (answer == TCPCORE_DONE);
 }
@@ -144,12 +144,12 @@ static void call(struct tcpcore_time_wait *time_wait, uint32_t choice)
 static void compare(const struct tcpcore_time_wait *time_wait)
 {
     struct tcpcore_status status;
-    uint32_t due, rests_due, phase, ending;
+    uint32_t due, its_due, phase, ending;
     need("status", tcpcore_status(&a, &status));
-    need("rest_status", tcpcore_time_wait_status(time_wait, &phase, &ending));
+    need("time_wait_status", tcpcore_time_wait_status(time_wait, &phase, &ending));
     need("pending", tcpcore_pending(&a, &due));
-    need("rest_pending", tcpcore_time_wait_pending(time_wait, &rests_due));
-    differences += phase != status.phase || ending != status.ending || due != rests_due;
+    need("time_wait_pending", tcpcore_time_wait_pending(time_wait, &its_due));
+    differences += phase != status.phase || ending != status.ending || due != its_due;
 }
 
 static void run(uint32_t later)
@@ -159,7 +159,7 @@ static void run(uint32_t later)
     wait_for_strays();
     if (below(2))
         carry(&a, A, &b);
-    need("rest", tcpcore_time_wait(&a, &time_wait));
+    need("time_wait", tcpcore_time_wait(&a, &time_wait));
     time_wait.snd_nxt += later;
     compare(&time_wait);
     for (int round = 0; round < ROUNDS; round++) {
@@ -183,9 +183,9 @@ int main(void)
     for (int i = TCPCORE_ENDING_NOT_ENDED; i <= TCPCORE_ENDING_ABORTED; i++)
         all = all && endings[i];
     const char *seen = all ? "every answer and ending" : "not every answer or ending";
-    printf("rest: %lu differences from the end, %s\n", differences, seen);
+    printf("time_wait: %lu differences from the end, %s\n", differences, seen);
     for (int i = 0; i < RUNS; i++)
         run(1);
-    printf("rest: another's number is %s\n", differences ? "told apart" : "not told apart");
+    printf("time_wait: another's number is %s\n", differences ? "told apart" : "not told apart");
     return 0;
 }

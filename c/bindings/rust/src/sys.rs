@@ -2,7 +2,7 @@
 use core::ffi::c_void;
 use core::ptr;
 
-pub(crate) const VERSION: u32 = 8;
+pub(crate) const VERSION: u32 = 9;
 pub(crate) const END_SIZE: usize = 704;
 pub(crate) const UNIT: usize = 16;
 pub(crate) const STRUCT_ROOM: usize = 32;

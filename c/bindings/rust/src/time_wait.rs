@@ -1,8 +1,8 @@
-//! What rests in the place of an end in TIME-WAIT.
+//! The record in the place of an end in TIME-WAIT.
 use crate::answers::{done, Arrival, Ending, Error, Phase, Timer};
 use crate::{sys, Addr, RESET_ROOM};
 
-/// What rests in the place of an end in TIME-WAIT: a plain value, which may be stored and moved. A clone is another that rests there.
+/// The record in the place of an end in TIME-WAIT: a plain value, which may be stored and moved. A clone is another record.
 #[derive(Clone, Debug, PartialEq, Eq)]
 pub struct TimeWait(pub(crate) sys::TimeWait);
 
@@ -33,7 +33,7 @@ impl TimeWait {
         due as usize
     }
 
-    /// Gives the connection up, as [`End::abort`](crate::End::abort).
+    /// Aborts the connection, as [`End::abort`](crate::End::abort).
     ///
     /// # Errors
     /// [`Error::Ended`].
