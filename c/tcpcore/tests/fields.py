@@ -65,7 +65,7 @@ class Side:
 
 def layout():
     for name in ("end", "addr", "config", "status", "arrive_report", "transmit", "time_wait"):
-        struct = getattr(tcpcore, f"{name.capitalize()}Struct")
+        struct = getattr(tcpcore, name.title().replace("_", "") + "Struct")
         fields = ((field, getattr(struct, field)) for field, _ in struct._fields_ if not field.startswith("unnamed"))
         told = " ".join(f"{field} {place.offset}+{place.size}" for field, place in fields)
         print(f"tcpcore_{name}: {told} of {ctypes.sizeof(struct)}")
@@ -224,21 +224,21 @@ def bring(source, target):
         target.end.arrive(source.config.addr, *due)
 
 
-def tell_rest(rest):
-    (phase, ending), told = rest.status(), rest.struct
+def report_record(record):
+    (phase, ending), told = record.status(), record.struct
     reset = ""
     if told.reset:
         to = f"{dotted(told.reset_addr.byte)} port {told.reset_port}"
         reset = f" to {to}, seq {told.reset_seq}, ack {told.reset_ack}"
     print(
-        f"record: {phase}, {ending}, due {rest.pending()}: own {dotted(told.addr.byte)} port {told.port}, "
+        f"record: {phase}, {ending}, due {record.pending()}: own {dotted(told.addr.byte)} port {told.port}, "
         f"peer {dotted(told.peer_addr.byte)} port {told.peer_port}, seq {told.snd_nxt}, next {told.rcv_nxt}, "
         f"window {told.rcv_wnd}, shift {told.shift}, ack {told.ack}, reset {told.reset}{reset}, ending {told.ending}"
     )
 
 
-def emit_rest(rest):
-    to, out = rest.emit()
+def emit_record(record):
+    to, out = record.emit()
     print(
         f"record emits {len(out)} bytes: to {dotted(to)}, ports {word(out, 0)} and {word(out, 2)}, "
         f"number {word(out, 4) << 16 | word(out, 6)}, acknowledges {word(out, 8) << 16 | word(out, 10)}, "
@@ -246,20 +246,20 @@ def emit_rest(rest):
     )
 
 
-def hand_to_rest(rest, source, segment):
-    answer = rest.arrive(source.config.addr, *segment)
+def arrive_at_record(record, source, segment):
+    answer = record.arrive(source.config.addr, *segment)
     print(f"record takes {len(segment[1])} bytes: {strerror(answer)}")
 
 
-def gives_up(rest):
+def aborted(record):
     try:
-        rest.abort()
+        record.abort()
     except Refused as refused:
         return refused.args[0]
     return DONE
 
 
-def rested(a, b):
+def time_wait(a, b):
     a.make()
     b.make()
     b.end.listen()
@@ -274,26 +274,26 @@ def rested(a, b):
     b.end.close()
     fin = b.end.emit()
     hand(b, a, fin)
-    rest = a.end.time_wait()
+    record = a.end.time_wait()
     free_both(a, b)
-    tell_rest(rest)
-    emit_rest(rest)
-    rest = TimeWait(bytes(rest))
-    tell_rest(rest)
-    hand_to_rest(rest, b, fin)
-    emit_rest(rest)
-    rest.timer(TIME_WAIT)
-    hand_to_rest(rest, b, fin)
-    tell_rest(rest)
-    emit_rest(rest)
+    report_record(record)
+    emit_record(record)
+    record = TimeWait(bytes(record))
+    report_record(record)
+    arrive_at_record(record, b, fin)
+    emit_record(record)
+    record.timer(TIME_WAIT)
+    arrive_at_record(record, b, fin)
+    report_record(record)
+    emit_record(record)
     b.make()
     b.end.connect(a.config.addr, a.config.port)
     syn = b.end.emit()
     b.end.free()
-    hand_to_rest(rest, b, syn)
-    tell_rest(rest)
-    emit_rest(rest)
-    print(f"record aborts: {strerror(gives_up(rest))}")
+    arrive_at_record(record, b, syn)
+    report_record(record)
+    emit_record(record)
+    print(f"record aborts: {strerror(aborted(record))}")
 
 
 def main():
@@ -317,7 +317,7 @@ def main():
     agree(a, b)
     free_both(a, b)
     stray(a, b)
-    rested(a, b)
+    time_wait(a, b)
 
 
 if __name__ == "__main__":
