@@ -18,7 +18,7 @@ if __name__ == "__main__" and len(sys.argv) > 1:
 sys.path.insert(0, f"{TOP}/c/tcpcore")
 
 import tcpcore  # noqa: E402
-from tcpcore import Brought, Kind, Rule, ArriveReport, Transmit  # noqa: E402
+from tcpcore import ArriveReport, Brought, Kind, Rule, Transmit  # noqa: E402
 
 # No answer follows from these.
 SILENT = (Rule.FOREIGN, Rule.RESET_IGNORED, Rule.OPENS_NOTHING, Rule.NO_ACK, Rule.PEER_REFUSES, Rule.PEER_RESETS)
@@ -108,10 +108,10 @@ class Reporting(End):
         self.is_window_taken = self.is_kept = False
         answer = super().arrive(src, dst, data)
         if answer.startswith("malformed"):
-            self.taken = ArriveReport(False, Rule.NONE, 0, Brought.NOTHING, False, False)
+            self.report = ArriveReport(False, Rule.NONE, 0, Brought.NOTHING, False, False)
             return answer
         urgent, brought = self.is_urgent(rule, s, had_gap), self.brought(rule, s, next_before)
-        self.taken = ArriveReport(urgent, rule, self.released - released, brought, is_duplicate, self.is_window_taken)
+        self.report = ArriveReport(urgent, rule, self.released - released, brought, is_duplicate, self.is_window_taken)
         return answer
 
     def emit(self):
@@ -196,7 +196,7 @@ def one(seed, seen):
         words, count = (lines.pop()[0], count) if lines else (line(rng, end)[0], count - 1)
         found = call(library, words)
         if words.startswith("arrive"):
-            differs(seed, words, found, end.arrive_with_report)
+            differs(seed, words, found, end.report)
             seen.update([f"rule {found.rule.name}", f"brought {found.brought.name}"])
             seen.update(name for name in ("at_once", "acked", "is_duplicate", "window_taken") if getattr(found, name))
         elif words == "emit-acknowledgement":
