@@ -14,7 +14,6 @@ use tcp_wire::Addr;
 
 /// The one way out of an emission: reports where the segment goes that was written, and its length. Where none was, what stands there
 /// stays.
-#[inline(always)]
 pub(crate) fn report_sent(sent: Option<(Addr, usize)>, to: &mut CAddr, count: &mut usize) -> u32
     ensures answer { result ≡ due_number (option_map (λ sent. sent.1) sent) }
     ensures destination { to.new.byte ≡ unwrap_or (option_map (λ sent. sent.0.0) sent) to.old.byte }

@@ -143,6 +143,7 @@
 #![tactic(auto)]
 
 mod answers;
+mod c_time_wait;
 mod emission;
 mod handle;
 mod held;
@@ -153,20 +154,20 @@ mod pacing;
 mod parts;
 mod records;
 mod reports;
-mod time_wait_calls;
-mod c_time_wait;
 mod room;
 mod segments;
 mod status;
+mod time_wait_calls;
 mod timing;
 mod trains;
 mod user;
 mod vouched;
 
 pub use answers::{
-    DONE, END_OF_STREAM, IN_USE, LITTLE_ROOM, NO_END, NO_TIME_WAIT, NO_RULE, NO_TIMER, NOT_TIME_WAIT,
-    NOTHING_DUE, NOTHING_UNREAD, SEGMENT_DROPPED, SEGMENT_NOT_MINE,
+    DONE, END_OF_STREAM, IN_USE, LITTLE_ROOM, NO_END, NO_RULE, NO_TIME_WAIT, NO_TIMER,
+    NOT_TIME_WAIT, NOTHING_DUE, NOTHING_UNREAD, SEGMENT_DROPPED, SEGMENT_NOT_MINE,
 };
+pub use c_time_wait::MARK_OF_TIME_WAIT;
 pub use emission::{tcp_c_emit, tcp_c_emit_acknowledgement, tcp_c_emit_partial};
 pub use handle::{Handle, MARK_OF_LIVE};
 pub use held::Held;
@@ -174,16 +175,17 @@ pub use lending::{tcp_c_consume, tcp_c_peek};
 pub use making::{tcp_c_free, tcp_c_new};
 pub use pacing::tcp_c_resend_first;
 pub use parts::{tcp_c_parts, tcp_c_sent};
-pub use records::{CAddr, CConfig, CLent, CParts, CTimeWait, CStatus, CArriveReport, CTrain, CTransmit};
-pub use reports::{tcp_c_next, tcp_c_arrive_with_report, tcp_c_transmit};
-pub use time_wait_calls::{
-    tcp_c_time_wait, tcp_c_time_wait_abort, tcp_c_time_wait_arrive, tcp_c_time_wait_emit, tcp_c_time_wait_pending,
-    tcp_c_time_wait_status, tcp_c_time_wait_timer,
+pub use records::{
+    CAddr, CArriveReport, CConfig, CLent, CParts, CStatus, CTimeWait, CTrain, CTransmit,
 };
-pub use c_time_wait::MARK_OF_TIME_WAIT;
+pub use reports::{tcp_c_arrive_with_report, tcp_c_next, tcp_c_transmit};
 pub use room::tcp_c_room;
-pub use segments::{tcp_c_arrive, tcp_c_stray_reset, tcp_c_arrive_with_at_once};
+pub use segments::{tcp_c_arrive, tcp_c_arrive_with_at_once, tcp_c_stray_reset};
 pub use status::{tcp_c_peer, tcp_c_pending, tcp_c_status};
+pub use time_wait_calls::{
+    tcp_c_time_wait, tcp_c_time_wait_abort, tcp_c_time_wait_arrive, tcp_c_time_wait_emit,
+    tcp_c_time_wait_pending, tcp_c_time_wait_status, tcp_c_time_wait_timer,
+};
 pub use timing::{tcp_c_timer, tcp_c_timers};
 pub use trains::tcp_c_emit_train;
 pub use user::{

@@ -123,7 +123,6 @@ fn record_of(sent: Transmit) -> CTransmit
 }
 
 /// The one way out of a call that reports the segment that is due: what it is, and nothing where none is.
-#[inline(always)]
 fn report_due(due: Option<Transmit>) -> (u32, CTransmit)
     ensures answer { result.0 ≡ due_number (option_map (λ sent. sent.len) due) }
     ensures to { result.1.to.byte ≡ unwrap_or (option_map (λ sent. sent.to.0) due) nowhere }

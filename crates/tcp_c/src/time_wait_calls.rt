@@ -10,12 +10,13 @@ ghost use Rattle.tcp_c.specs.Segments.{after_emission_within, emission_number, w
 ghost use Rattle.tcp_c.specs.Status.{ending_number, length_due, phase_number};
 
 use crate::answers::{
-    DONE, LITTLE_ROOM, NO_END, NO_TIME_WAIT, NO_RULE, NO_TIMER, NOT_TIME_WAIT, arrival_number, call_number,
+    DONE, LITTLE_ROOM, NO_END, NO_RULE, NO_TIME_WAIT, NO_TIMER, NOT_TIME_WAIT, arrival_number,
+    call_number,
 };
+use crate::c_time_wait::{no_record, record_of, time_wait_of};
 use crate::emission::report_sent;
 use crate::handle::Handle;
 use crate::records::{CAddr, CTimeWait};
-use crate::c_time_wait::{no_record, record_of, time_wait_of};
 use crate::status::{ending_number, phase_number};
 use crate::timing::timer_of;
 use tcp_conn::REST_LEN;
@@ -46,7 +47,12 @@ pub extern "C" fn tcp_c_time_wait(handle: &mut Handle, time_wait: &mut CTimeWait
 /// Takes bytes that came from `src` to `dst`, whatever they are, as the end would (RFC 9293, 3.10.7). Answers as
 /// `tcp_c_arrive` does, or 39 where the fields are those of no record.
 #[unsafe(no_mangle)]
-pub extern "C" fn tcp_c_time_wait_arrive(time_wait: &mut CTimeWait, src: &CAddr, dst: &CAddr, bytes: &[u8]) -> u32
+pub extern "C" fn tcp_c_time_wait_arrive(
+    time_wait: &mut CTimeWait,
+    src: &CAddr,
+    dst: &CAddr,
+    bytes: &[u8],
+) -> u32
     ensures answer { result ≡ time_wait_answer (λ s. arrival_number (arrival_answer s src.now.byte dst.now.byte bytes.now)) (time_wait_stands_for time_wait.old) }
     ensures state { time_wait_kept time_wait.new ≡ time_wait_after (λ s. after_arrival s src.now.byte dst.now.byte bytes.now) time_wait.old }
     ensures refused { time_wait_kept time_wait.old ≡ None → time_wait.new ≡ time_wait.old }
@@ -145,7 +151,11 @@ pub extern "C" fn tcp_c_time_wait_abort(time_wait: &mut CTimeWait) -> u32
 /// Reports the phase, 10 in TIME-WAIT and 0 once the connection has ended, and the ending by the numbers of
 /// [`crate::CStatus`]. 39, and zeros, where the fields are those of no record.
 #[unsafe(no_mangle)]
-pub extern "C" fn tcp_c_time_wait_status(time_wait: &CTimeWait, phase: &mut u32, ending: &mut u32) -> u32
+pub extern "C" fn tcp_c_time_wait_status(
+    time_wait: &CTimeWait,
+    phase: &mut u32,
+    ending: &mut u32,
+) -> u32
     ensures answer { result ≡ time_wait_answer (λ _. done) (time_wait_stands_for time_wait.now) }
     ensures phase { phase.new ≡ number_written (λ s. phase_number s.phase) (time_wait_stands_for time_wait.now) }
     ensures ending { ending.new ≡ number_written (λ s. ending_number s.ending) (time_wait_stands_for time_wait.now) }
