@@ -1,15 +1,14 @@
 -- WHAT AN END REPORTS came: each byte that it keeps out of order did.
-use Rattle.std.proofs.Common.{◌≡◌, ℕ, zero, suc, ◌+◌, ◌-◌, ◌^◌, ◌<◌, ◌≤◌, length, ◌∙◌, List, [], ◌∷◌, ◌++◌, refl, ap, subst, arith, Option, Some, None, Bool}
-use Rattle.std.proofs.Common.{true, false, not, map, take}
-use Rattle.std.specs.Prelude.{◌&&◌, ◌||◌, nat_lt, if◌then◌else◌, is_some}
+use Rattle.std.proofs.Common.{◌≡◌, ℕ, zero, suc, ◌+◌, ◌-◌, ◌^◌, ◌<◌, ◌≤◌, length, List, [], ◌∷◌, ◌++◌, refl, ap, subst, arith, Option, Some, None, Bool}
+use Rattle.std.proofs.Common.{true, false, not, map}
+use Rattle.std.specs.Prelude.{◌&&◌, ◌||◌, if◌then◌else◌, is_some}
 use Rattle.std.specs.List.{AllByRecursion}
-use Rattle.std.proofs.lemmas.Bool.{cond_both, false≢true, lt-ltb, or_right}
+use Rattle.std.proofs.lemmas.Bool.{and_from, cond_both, false≢true, lt-ltb, or_right}
 use Rattle.tcp_numbers.specs.declared.seq.Seq.{Seq}
 use Rattle.tcp_wire.specs.Options.{Mss}
 use Rattle.tcp_wire.specs.Position.{number, distance}
-use Rattle.tcp_reasm.specs.Reassembly.{Cell, Run, runs, insertion_by_stamp, runs_newest_first, max_blocks, max_capacity, blocks}
+use Rattle.tcp_reasm.specs.Reassembly.{Cell, Run, max_capacity, blocks}
 use Rattle.tcp_reasm.specs.Laws.{IsHeld, IsMaximal}
-use Rattle.tcp_reasm.proofs.Maximal.{runs_are_maximal_lem}
 use Rattle.tcp_conn.specs.declared.due.Due.{Due}
 use Rattle.tcp_conn.specs.declared.due.Due.TheVariants.{Reset, Syn}
 use Rattle.tcp_conn.specs.State.{State}
@@ -22,6 +21,7 @@ use Rattle.tcp_conn.specs.Phase.{gives_up}
 use Rattle.tcp_replay.specs.Alone.{IsAlone}
 use Rattle.tcp_replay.proofs.AloneEmissions.{GoesOutAlone}
 use Rattle.tcp_replay.proofs.Feeds.{AllHeld, ByNumber}
+use Rattle.tcp_replay.proofs.Hints.{blocks-all}
 use Rattle.tcp_judge.proofs.Going.{not-gone}
 use Rattle.tcp_judge.specs.Heard.{Heard, has_come, goes_on, is_from, told_after}
 use Rattle.tcp_judge.specs.Reports.{is_ahead, any_report, lacks_permission, block_finding, options_finding}
@@ -64,52 +64,17 @@ run-came spans next held run small came is =
     )
 
 -- AND THE RUNS that are reported
-all-map : {X Y : Type 0} (f : X → Y) (P : Y → Type 0) (xs : List X) → AllByRecursion (λ x. P (f x)) xs → AllByRecursion P (map f xs)
-all-map f P [] h = tt
-all-map f P (x ∷ xs) h = (h.0, all-map f P xs h.1)
-
-all-further : {X : Type 0} (P P' : X → Type 0) (xs : List X) → ((x : X) → P x → P' x) → AllByRecursion P xs → AllByRecursion P' xs
-all-further P P' [] further h = tt
-all-further P P' (x ∷ xs) further h = (further x h.0, all-further P P' xs further h.1)
-
-all-take : {X : Type 0} (P : X → Type 0) (n : ℕ) (xs : List X) → AllByRecursion P xs → AllByRecursion P (take n xs)
-all-take P zero xs h = tt
-all-take P (suc n) [] h = tt
-all-take P (suc n) (x ∷ xs) h = (h.0, all-take P n xs h.1)
-
-all-insertion : (P : Run → Type 0) (run : Run) (others : List Run) → P run → AllByRecursion P others → AllByRecursion P (insertion_by_stamp run others)
-all-insertion P run [] here h = (here, tt)
-all-insertion P run (other ∷ others) here h =
-    cond_both (nat_lt other.stamp run.stamp) (run ∷ other ∷ others) (other ∷ insertion_by_stamp run others) (AllByRecursion P) (λ _. (here, h))
-    (λ _. (h.0, all-insertion P run others here h.1))
-
-all-newest_first : (P : Run → Type 0) (all : List Run) → AllByRecursion P all → AllByRecursion P (runs_newest_first all)
-unfolding runs_newest_first
-all-newest_first P [] h = tt
-all-newest_first P (run ∷ others) h = all-insertion P run (runs_newest_first others) h.0 (all-newest_first P others h.1)
-
 blocks-came : (s : State) (spans : List (Seq × ℕ)) → length s.receiving.inbox.held ≤ max_capacity → KeptCame spans s.receiving.next s.receiving.inbox.held
     → AllByRecursion (BlockCame spans) (map (block_numbers s.receiving.next) (blocks s.receiving.inbox))
-unfolding blocks
 blocks-came s spans small came =
-    let r = s.receiving in
-    let P : ℕ × ℕ → Type 0 = BlockCame spans in
-    let Q : Run → Type 0 = λ run. P (block_numbers r.next (run.from, run.to)) in
-    let all = runs_newest_first (runs r.inbox.held) in
-    let newest = all-newest_first (IsMaximal r.inbox.held) (runs r.inbox.held) (runs_are_maximal_lem r.inbox.held) in
-    let each : AllByRecursion Q all = all-further (IsMaximal r.inbox.held) Q all (λ run is. run-came spans r.next r.inbox.held run small came is) newest in
-    all-map (block_numbers r.next) P (blocks r.inbox)
-    (all-map (λ (run : Run). (run.from, run.to)) (λ block. P (block_numbers r.next block)) (take max_blocks all) (all-take Q max_blocks all each))
-
-both : (a b : Bool) → a ≡ true → b ≡ true → a && b ≡ true
-both a b e f = ap (λ x. x && b) e ∙ f
+    blocks-all (BlockCame spans) s.receiving (λ run is. run-came spans s.receiving.next s.receiving.inbox.held run small came is)
 
 none-beyond : (told : Option Seq) (spans : List (Seq × ℕ)) (list : List (ℕ × ℕ)) → AllByRecursion (BlockCame spans) list
     → block_finding told spans list ≡ None
 none-beyond told spans [] h = refl
 none-beyond told spans (block ∷ list) h =
     let told_or_came = or_right (not (is_ahead told block)) (goes_on spans block.0 block.1) h.0.1 in
-    rw (both (is_from block.0 block.1) (not (is_ahead told block) || goes_on spans block.0 block.1) h.0.0 told_or_came) (none-beyond told spans list h.1)
+    rw (and_from (is_from block.0 block.1) (not (is_ahead told block) || goes_on spans block.0 block.1) h.0.0 told_or_came) (none-beyond told spans list h.1)
 
 none-in_options : (told : Option Seq) (spans : List (Seq × ℕ)) (list : List (ℕ × ℕ)) → block_finding told spans list ≡ None
     → options_finding told spans (sack_options list) ≡ None

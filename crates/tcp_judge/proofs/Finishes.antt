@@ -1,28 +1,30 @@
 -- THE PEER'S FIN, at one end by itself: it is taken from a segment that came, and nothing comes in order behind it.
 use Rattle.std.proofs.Common.{◌≡◌, ℕ, ◌^◌, ◌<◌, ◌≤◌, List, length, refl, sym, ◌∙◌, ap, subst, inl, inr, arith, length-drop, ⊎_elim}
-use Rattle.std.specs.Prelude.{◌⊎◌, Bool, true, false, not, ◌==◌, if◌then◌else◌}
-use Rattle.std.proofs.lemmas.Bool.{cond_both, and_parts, false≢true, eqb-true}
+use Rattle.std.specs.Prelude.{◌⊎◌, Bool, true, false, not, ◌==◌, if◌then◌else◌, None}
+use Rattle.std.proofs.lemmas.Bool.{and_parts, false≢true, eqb-true}
 use Rattle.tcp_wire.specs.Flags.{fin, has}
 use Rattle.tcp_wire.specs.Position.{number}
 use Rattle.tcp_wire.specs.Wire.{Content}
 use Rattle.tcp_conn.specs.declared.judgement.Judgement.{Judgement}
-use Rattle.tcp_conn.specs.declared.judgement.Judgement.TheVariants.{Foreign}
+use Rattle.tcp_conn.specs.declared.judgement.Judgement.TheVariants.{Foreign, PeerResets, PeerOpens, PeerAccepts, Taken, TakenShut}
 use Rattle.tcp_halves.specs.declared.link.Peer.{Peer}
 use Rattle.tcp_conn.specs.Phase.{takes_text}
+use Rattle.tcp_conn.specs.Calls.{receive_refusal}
 use Rattle.tcp_reasm.specs.Reassembly.{after_read}
 use Rattle.tcp_conn.specs.State.{State, Receiving}
-use Rattle.tcp_halves.specs.Receiver.{with_syn, after_text, is_fin_due, with_fin}
-use Rattle.tcp_conn.specs.Judgement.{is_foreign, phase_judgement, judgement}
-use Rattle.tcp_conn.specs.Arrival.{after_peer_opens, after_peer_accepts, after_its_ack}
+use Rattle.tcp_halves.specs.Receiver.{with_syn, after_text, is_fin_due, with_fin, after_handing, without_bytes}
+use Rattle.tcp_conn.specs.Judgement.{judgement}
+use Rattle.tcp_conn.specs.Arrival.{after_its_ack}
 use Rattle.tcp_conn.specs.Arrival.{takes_text_of, after_its_text, has_fin, takes_fin, after_fin, after_taking, after_taking_shut, after_judgement}
 use Rattle.tcp_replay.specs.Alone.{IsAlone}
 use Rattle.tcp_replay.specs.World.{PartyState}
 use Rattle.tcp_replay.proofs.Lists.{by_test}
 use Rattle.tcp_replay.proofs.Phases.{end-takes_text}
-use Rattle.tcp_replay.proofs.Judgements.{IsPresent, IsTaken, in-phase}
+use Rattle.tcp_replay.proofs.Judgements.{IsPresent, IsTaken, judged}
 use Rattle.tcp_replay.proofs.Alone.{alone-its_ack, alone-its_text}
 use Rattle.tcp_replay.proofs.Calls.{KeptByCalls}
 use Rattle.tcp_replay.proofs.Stages.{its_ack-receiving}
+use Rattle.tcp_replay.proofs.AloneFeeds.{opened-by_peer, accepted-by_peer}
 
 -- FROM ONE HALF THAT RECEIVES TO ANOTHER, where Q holds of the number of a FIN that is taken
 pub record Finishes (Q : ℕ → Type 0) (r r' : Receiving) : Type 0 where
@@ -50,23 +52,10 @@ unfolding after_read
 finishes-calls Q peer p =
     let r = p.endpoint.receiving in
     let same : Finishes Q r r = nothing-new Q r r refl in
-    record {
-      same = same;
-      connects = λ _. same;
-      listens = λ _. same;
-      sends = λ _ _ _. same;
-      reads = λ room _. no-fin Q r _ refl (omega (arith, length-drop room r.inbox.unread));
-      withdraws = no-fin Q r _ refl (omega arith);
-      closes = λ _ _. same;
-      aborts = no-fin Q r _ refl (omega arith);
-      acknowledges = same;
-      resends = λ _. same;
-      probes = same;
-      fills = λ _ _ _. same;
-      ends = λ _. same;
-      resends-first = λ _. same;
-      emits = λ _ _ _. same;
-    }
+    let reads : (room : ℕ) → receive_refusal p.endpoint ≡ None → Finishes Q r (after_handing r room) =
+    λ room _. no-fin Q r _ refl (omega (arith, length-drop room r.inbox.unread)) in
+    let gone : Finishes Q r (without_bytes r) = no-fin Q r _ refl (omega arith) in
+    assumption
 
 -- AN ACKNOWLEDGEMENT leaves what was received as it was
 -- TEXT AND FIN
@@ -120,14 +109,6 @@ shut-receiving : (s : State) (v : Content) → (after_taking_shut s v).receiving
 unfolding after_taking_shut
 shut-receiving s v = its_ack-receiving s v
 
-opens-finished : (s : State) (src : List ℕ) (v : Content) → (after_peer_opens s src v).receiving ≡ with_syn s.receiving v.seq
-unfolding after_peer_opens
-opens-finished s src v = refl
-
-accepts-finished : (s : State) (v : Content) → (after_peer_accepts s v).receiving ≡ with_syn s.receiving v.seq
-unfolding after_peer_accepts
-accepts-finished s v = refl
-
 syn-finishes : (Q : ℕ → Type 0) (r r' : Receiving) (seq : ℕ) → r' ≡ with_syn r seq → Finishes Q r r'
 syn-finishes Q r r' seq e = subst (Finishes Q r) (sym e) (no-fin Q r (with_syn r seq) refl (omega arith))
 
@@ -135,31 +116,13 @@ syn-finishes Q r r' seq e = subst (Finishes Q r) (sym e) (no-fin Q r (with_syn r
 pub finishes-judgement : (Q : ℕ → Type 0) (s : State) (src dst : List ℕ) (v : Content) (accepted : List ℕ) (closed : Bool) → IsAlone s accepted closed
     → (IsTaken s v → has fin v.flags ≡ true → Q (number v.seq (length v.text)))
     → Finishes Q s.receiving (after_judgement (judgement s src dst v) s src v).receiving
-unfolding judgement
 finishes-judgement Q s src dst v accepted closed a came =
     let r = s.receiving in
     let J : Judgement → Type 0 = λ j. Finishes Q r (after_judgement j s src v).receiving in
-    let same : Finishes Q r r = nothing-new Q r r refl in
-    let kept = λ (r' : Receiving). nothing-new Q r r' in
-    cond_both (is_foreign s src dst v) Foreign (phase_judgement s v) J (λ _. same)
-    (λ mine. in-phase s v J (record {
-      foreign = same;
-      reset_ignored = same;
-      stray = kept _ refl;
-      ack_of_listen = kept _ refl;
-      no_syn = same;
-      peer_opens = λ listening is. syn-finishes Q r _ v.seq (opens-finished s src v);
-      ack_of_no_syn = kept _ refl;
-      peer_refuses = no-fin Q r _ refl (omega arith);
-      peer_accepts = λ sent is. syn-finishes Q r _ v.seq (accepts-finished s v);
-      unacceptable = λ present. kept _ refl;
-      peer_resets = no-fin Q r _ refl (omega arith);
-      reset_elsewhere = λ present. kept _ refl;
-      syn_in_window = λ present. kept _ refl;
-      no_ack = same;
-      acks_unsent = λ present. kept _ refl;
-      handshake_refused = kept _ refl;
-      handshake_refused_shut = λ present. kept _ refl;
-      taken = λ present is. taking-finishes Q s v accepted closed present a (came is);
-      taken_shut = λ present told. kept _ (shut-receiving s v);
-    }))
+    let same : J Foreign = nothing-new Q r r refl in
+    let gone : J PeerResets = no-fin Q r _ refl (omega arith) in
+    let opens : J PeerOpens = syn-finishes Q r _ v.seq (opened-by_peer s src v).0 in
+    let accepts : J PeerAccepts = syn-finishes Q r _ v.seq (accepted-by_peer s v).0 in
+    let taken : IsPresent s → IsTaken s v → J Taken = λ present is. taking-finishes Q s v accepted closed present a (came is) in
+    let shut : J TakenShut = nothing-new Q r _ (shut-receiving s v) in
+    judged s v J (assumption) src dst

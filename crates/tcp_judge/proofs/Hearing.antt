@@ -1,6 +1,6 @@
 -- WHAT A JUDGE HEARD at each event of one end by itself: a number that came is known to have come.
 use Rattle.std.proofs.Common.{◌≡◌, ℕ, zero, suc, ◌^◌, ◌<◌, ◌≤◌, List, [], ◌∷◌, ◌++◌, length, refl, sym, ◌∙◌, ap, subst, arith, slice_get, inl}
-use Rattle.std.specs.Prelude.{Bool, true, false, ◌&&◌, ◌||◌, ◌==◌, nat_lt, Option, Some, None, Result, Ok, Err, if◌then◌else◌}
+use Rattle.std.specs.Prelude.{Bool, true, false, ◌&&◌, ◌||◌, ◌==◌, Option, Some, None, Result, Ok, Err, if◌then◌else◌}
 use Rattle.std.proofs.lemmas.Bool.{lt-ltb, eqb-true, or_right}
 use Rattle.tcp_numbers.specs.declared.seq.Seq.{Seq}
 use Rattle.tcp_wire.specs.Checksum.{AreBytes}
@@ -31,9 +31,6 @@ use Rattle.tcp_judge.proofs.Finishes.{Finishes, nothing-new, finishes-calls, fin
 use Rattle.tcp_judge.proofs.Links.{Links, links-calls, links-judgement, Offered, offered-link}
 use Rattle.tcp_judge.proofs.Numbers.{come-more, come-last, HasSyn, syn-more, syn-last}
 use Rattle.tcp_judge.proofs.Rooms.{HasRoom, room-calls, room-judgement}
-
-is-below : (a b : ℕ) → a < b → nat_lt a b ≡ true
-is-below a b h = lt-ltb a b h
 
 short-text : (v : Content) → IsValid v → length v.text < 2 ^ 32
 short-text v valid = omega (arith, valid.most)
@@ -76,7 +73,7 @@ within (b ∷ text) (suc i) byte e = omega (arith, within text i byte e)
 covered : (seq i count : ℕ) → seq < 2 ^ 32 → i < count → i < 2 ^ 32 → covers (number seq i) (record { 0 = seq }, count) ≡ true
 covered seq i count small inside short =
     let far : distance seq (number seq i) ≡ i = omega arith in
-    is-below (distance seq (number seq i)) count (omega (arith, far, inside))
+    lt-ltb (distance seq (number seq i)) count (omega (arith, far, inside))
 
 come-here : (h : Heard) (v : Content) (i : ℕ) → v.seq < 2 ^ 32 → i < count_numbers v → i < 2 ^ 32 → has_come (after_came h v).spans (number v.seq i) ≡ true
 come-here h v i small inside short =

@@ -2,6 +2,7 @@
 use Rattle.std.proofs.Common.{◌≡◌, ℕ, ◌+◌, ◌-◌, ◌^◌, ◌<◌, ◌≤◌, [], ◌++◌, length, refl, sym, ◌∙◌, ap, subst, ⊎_elim, arith, length-append}
 use Rattle.std.specs.Prelude.{Bool, true, false, Option, None}
 use Rattle.std.proofs.lemmas.Bool.{false≢true, cases_lt}
+use Rattle.std.proofs.lemmas.List.{nil_from_length}
 use Rattle.tcp_numbers.specs.declared.seq.Seq.{Seq}
 use Rattle.tcp_wire.specs.Position.{number, distance}
 use Rattle.tcp_reasm.specs.Reassembly.{max_capacity}
@@ -19,7 +20,7 @@ use Rattle.tcp_judge.specs.Heard.{Heard, has_come}
 use Rattle.tcp_judge.proofs.Hearing.{heard_past, spans-more, syns-more, told-same, within, byte-read, feeds-by, finishes-by, room-by, offers-more, links-by}
 use Rattle.tcp_judge.proofs.Hearing.{syn-new}
 use Rattle.tcp_judge.proofs.Hears.{IsSince, since-least, since-most, since-opened, since-kept, one_if-more, Comes, Hears, takes, stays-going}
-use Rattle.tcp_judge.proofs.Hears.{FromOn, none-of}
+use Rattle.tcp_judge.proofs.Hears.{FromOn}
 use Rattle.tcp_judge.proofs.Hears.{irs-further, get-within, held-inside, back-one, has-opened}
 use Rattle.tcp_judge.proofs.Links.{Offered}
 use Rattle.tcp_judge.proofs.Numbers.{number-on, HasSyn}
@@ -68,7 +69,7 @@ module _ (x : SoloState) (e : SoloContent) (h : Heard) (irs k : ℕ) (fits : Has
         unopened = λ shut.
             let none = hears.fed.unopened shut in
             let nothing : u ≡ 0 = omega (arith, none.0, was.whole) in
-            (nothing, none-of unread nothing, none.2);
+            (nothing, nil_from_length unread nothing, none.2);
         bare = hears.fed.bare;
         held = held-same (ByNumber (λ n byte. has_come h.spans n ≡ true) r.next) (ByNumber P r.next) 0 r.inbox.held
             (λ n byte came from. spans-more h e (number r.next n) came) was.comes.held;

@@ -143,10 +143,6 @@ stays-going x e irs k fits alone fed opened going =
 abbrev pub FromOn : List (Seq × ℕ) → ℕ → ℕ → ℕ → ℕ → Type 0
 FromOn spans first m n byte = m ≤ distance first n → has_come spans n ≡ true
 
-pub none-of : (xs : List ℕ) → length xs ≡ 0 → xs ≡ []
-none-of [] e = refl
-none-of (x ∷ xs) e = absurd (omega (arith, e))
-
 pub irs-further : (s : State) (irs b j : ℕ) (e : SoloContent) → (s.receiving.opened ≡ false → b ≡ 0)
     → number (next_irs s (number irs b) e) j ≡ number (next_irs s irs e) (b + j)
 irs-further s irs b j (Arrive src dst bytes) none =

@@ -1,14 +1,12 @@
 -- WHAT A USER SENT stays within the limit of its Config, after every list of events.
-use Rattle.std.proofs.Common.{◌≡◌, ℕ, ◌+◌, ◌-◌, ◌^◌, ◌<◌, ◌≤◌, List, [], ◌∷◌, ◌++◌, length, take, refl, sym, ◌∙◌}
-use Rattle.std.proofs.Common.{ap, subst, arith, length-append, length-take, length-drop}
-use Rattle.std.specs.Prelude.{Bool, false, None}
+use Rattle.std.proofs.Common.{◌≡◌, ℕ, ◌+◌, ◌^◌, ◌<◌, ◌≤◌, List, [], ◌∷◌, ◌++◌, length, take, sym}
+use Rattle.std.proofs.Common.{subst, arith}
+use Rattle.std.specs.Prelude.{None}
 use Rattle.std.specs.List.{AllByRecursion}
 use Rattle.tcp_halves.specs.declared.config.Config.{Config}
 use Rattle.tcp_halves.specs.declared.link.Peer.{Peer}
 use Rattle.tcp_halves.specs.Config.{IsConfig, default_limit}
-use Rattle.tcp_conn.specs.State.{Sending}
 use Rattle.tcp_halves.specs.Sender.{count_sendable}
-use Rattle.tcp_replay.specs.Alone.{Sends}
 use Rattle.tcp_replay.specs.Solo.{SoloState, solo_start, solo_run, run_alone, after_solo, end_after}
 use Rattle.tcp_replay.specs.SoloEvents.{SoloContent, HasRanges}
 use Rattle.tcp_replay.specs.World.{PartyState}
@@ -23,14 +21,7 @@ use Rattle.tcp_judge.proofs.Hears.{Hears, hears-new}
 use Rattle.tcp_judge.proofs.Hearings.{hears-step, address-step}
 use Rattle.tcp_wire.specs.Checksum.{AreBytes}
 use Rattle.tcp_conn.specs.Calls.{send_refusal}
-
--- a `send` takes no more than the limit leaves
-sent-within : (d : Sending) (accepted text : List ℕ) (closed : Bool) (limit : ℕ) → Sends d accepted closed false → length accepted ≤ limit
-    → length (accepted ++ take (count_sendable d limit text) text) ≤ limit
-sent-within d accepted text closed limit h inside =
-    let n = count_sendable d limit text in
-    let queued : length d.queue.bytes ≡ length accepted - d.released = ap length (h.queue refl) ∙ length-drop d.released accepted in
-    omega (arith, length-append accepted (take n text), length-take n text, queued, h.released)
+use Rattle.tcp_replay.proofs.Halves.{accepted-limit}
 
 limit-calls : (peer : Peer) (p : PartyState) → IsAloneIn p → length p.accepted ≤ p.endpoint.config.limit
     → KeptByCalls peer p (λ p'. length p'.accepted ≤ p.endpoint.config.limit)
@@ -38,7 +29,7 @@ limit-calls peer p a h =
     let s = p.endpoint in
     let sends : (text : List ℕ) → AreBytes text → send_refusal s text ≡ None
     → length (p.accepted ++ take (count_sendable s.sending s.config.limit text) text) ≤ s.config.limit =
-    λ text bytes e. sent-within s.sending p.accepted text p.closed s.config.limit (rw (gives_up-not_ended s.ending (send-open s text e).0) at a.sends) h in
+    λ text bytes e. accepted-limit s.sending s.config.limit p.accepted text p.closed h (rw (gives_up-not_ended s.ending (send-open s text e).0) at a.sends) in
     assumption
 
 limit-step : (x : SoloState) (e : SoloContent) → HasRanges e → IsAloneIn (party_in x) → length x.accepted ≤ x.endpoint.config.limit

@@ -3,15 +3,11 @@ use Rattle.std.proofs.Common.{◌≡◌, ℕ, zero, suc, ◌+◌, ◌<◌, ◌�
 use Rattle.std.specs.Prelude.{◌⊎◌, Bool, true, false, ◌&&◌, ◌||◌}
 use Rattle.std.proofs.Common.{◌^◌, length, take, drop, get_or}
 use Rattle.std.specs.Prelude.{nat_le, not, if◌then◌else◌}
-use Rattle.std.proofs.lemmas.Bool.{cases_lt, false≢true, and_parts, ltb-true, leb-true, le-ltb, lt-ltb}
+use Rattle.std.proofs.lemmas.Bool.{and_from, cases_lt, false≢true, and_parts, not-false, or_right, ltb-true, leb-true, le-ltb, lt-ltb}
 use Rattle.tcp_numbers.specs.declared.seq.Seq.{Seq}
 use Rattle.tcp_wire.specs.Position.{number, distance}
 use Rattle.tcp_replay.proofs.Lists.{by_test}
 use Rattle.tcp_judge.specs.Heard.{covers, has_come, all_came, goes_on, begins, is_from, is_passed, without_passed}
-
-both : (a b : Bool) → a ≡ true → b ≡ true → a && b ≡ true
-both true b e f = f
-both false b e f = e
 
 not-both : (a b : Bool) → (a ≡ false) ⊎ (b ≡ false) → a && b ≡ false
 not-both true b (inl e) = absurd (false≢true (sym e))
@@ -28,7 +24,7 @@ pub all-came : (spans : List (Seq × ℕ)) (from count : ℕ) → ((j : ℕ) →
 unfolding all_came
 all-came spans from zero h = refl
 all-came spans from (suc n) h =
-    both (has_come spans (number from n)) (all_came spans from n) (h n (omega arith)) (all-came spans from n (λ j less. h j (omega arith)))
+    and_from (has_come spans (number from n)) (all_came spans from n) (h n (omega arith)) (all-came spans from n (λ j less. h j (omega arith)))
 
 pub one-missing : (spans : List (Seq × ℕ)) (from count j : ℕ) → j < count → has_come spans (number from j) ≡ false → all_came spans from count ≡ false
 unfolding all_came
@@ -50,23 +46,19 @@ or-neither : (a b b' : Bool) → a || b ≡ false → (b ≡ false → b' ≡ fa
 or-neither true b b' e f = absurd (false≢true (sym e))
 or-neither false b b' e f = f e
 
-or-second : (a b : Bool) → b ≡ true → a || b ≡ true
-or-second true b e = refl
-or-second false b e = e
-
 pub come-more : (spans more : List (Seq × ℕ)) (n : ℕ) → has_come spans n ≡ true → has_come (spans ++ more) n ≡ true
 come-more [] more n e = absurd (false≢true e)
 come-more (span ∷ spans) more n e = or-more (covers n span) (has_come spans n) (has_come (spans ++ more) n) (come-more spans more n) e
 
 pub come-last : (spans : List (Seq × ℕ)) (span : Seq × ℕ) (n : ℕ) → covers n span ≡ true → has_come (spans ++ span ∷ []) n ≡ true
 come-last [] span n e = ap (λ b. b || false) e
-come-last (first ∷ spans) span n e = or-second (covers n first) (has_come (spans ++ span ∷ []) n) (come-last spans span n e)
+come-last (first ∷ spans) span n e = or_right (covers n first) (has_come (spans ++ span ∷ []) n) (come-last spans span n e)
 
 -- what has the number is behind an index or before it
 pub come-behind : (spans : List (Seq × ℕ)) (k n : ℕ) → has_come (drop k spans) n ≡ true → has_come spans n ≡ true
 come-behind spans zero n e = e
 come-behind [] (suc k) n e = e
-come-behind (span ∷ spans) (suc k) n e = or-second (covers n span) (has_come spans n) (come-behind spans k n e)
+come-behind (span ∷ spans) (suc k) n e = or_right (covers n span) (has_come spans n) (come-behind spans k n e)
 
 pub come-before : (spans : List (Seq × ℕ)) (k n : ℕ) → has_come (take k spans) n ≡ true → has_come spans n ≡ true
 come-before spans zero n e = absurd (false≢true e)
@@ -88,7 +80,7 @@ covers-on span n j size first small inside =
 pub come-at : (spans : List (Seq × ℕ)) (i n : ℕ) (d : Seq × ℕ) → i < length spans → covers n (get_or spans i d) ≡ true → has_come spans n ≡ true
 come-at [] i n d inside e = absurd (omega arith)
 come-at (span ∷ spans) zero n d inside e = ap (λ b. b || has_come spans n) e
-come-at (span ∷ spans) (suc i) n d inside e = or-second (covers n span) (has_come spans n) (come-at spans i n d (omega arith) e)
+come-at (span ∷ spans) (suc i) n d inside e = or_right (covers n span) (has_come spans n) (come-at spans i n d (omega arith) e)
 
 -- WHAT IS PASSED covers no number that is less than 2^31 ahead of the acknowledgement,
 ahead-not_covered : (span : Seq × ℕ) (told n : ℕ) → told < 2 ^ 32 → distance told n < 2 ^ 31 → is_passed told span ≡ true → covers n span ≡ false
@@ -103,10 +95,6 @@ or-uncovered : (a b : Bool) → a ≡ false → a || b ≡ true → b ≡ true
 or-uncovered true b e f = absurd (false≢true (sym e))
 or-uncovered false b e f = f
 
-not-true : (b : Bool) → not b ≡ false → b ≡ true
-not-true true e = refl
-not-true false e = absurd (false≢true (sym e))
-
 -- so each such number that came is still known to have come
 pub still-come : (spans : List (Seq × ℕ)) (told n : ℕ) → told < 2 ^ 32 → distance told n < 2 ^ 31 → has_come spans n ≡ true
     → has_come (without_passed told spans) n ≡ true
@@ -116,7 +104,7 @@ still-come (span ∷ spans) told n small near e =
     by_test (not (is_passed told span)) (λ b. has_come (if b then span ∷ rest else rest) n ≡ true)
     (λ _. or-more (covers n span) (has_come spans n) (has_come rest n) (still-come spans told n small near) e)
     (λ passed. still-come spans told n small near
-    (or-uncovered (covers n span) (has_come spans n) (ahead-not_covered span told n small near (not-true (is_passed told span) passed)) e))
+    (or-uncovered (covers n span) (has_come spans n) (ahead-not_covered span told n small near (not-false (is_passed told span) passed)) e))
 
 -- a SYN with this number came
 abbrev pub HasSyn : List Seq → ℕ → Type 0
@@ -138,7 +126,7 @@ begins-at spans [] irs told h e = absurd h
 begins-at spans (first ∷ syns) irs told (inl same) e =
     ap (λ b. b || begins spans syns told) (ap (λ n. goes_on spans (number n 1) told) same ∙ e)
 begins-at spans (first ∷ syns) irs told (inr h) e =
-    or-second (goes_on spans (number first.0 1) told) (begins spans syns told) (begins-at spans syns irs told h e)
+    or_right (goes_on spans (number first.0 1) told) (begins spans syns told) (begins-at spans syns irs told h e)
 
 -- the numbers of the positions from one up to another
 pub positions-came : (spans : List (Seq × ℕ)) (irs from to : ℕ) → from ≤ to

@@ -3,7 +3,7 @@
 use Rattle.std.proofs.Common.{◌≡◌, ℕ, ◌+◌, List, [], ◌∷◌, ◌++◌, refl, sym, ◌∙◌, ap, subst, ⊎_elim, arith, ◌<◌, ◌≤◌, ◌^◌, length, Bool, true, false}
 use Rattle.std.proofs.Common.{if◌then◌else◌, Option, Some, None, IfSome, option_map, Result, Ok, is_some, not, ◌&&◌, ◌||◌}
 use Rattle.std.specs.List.{AllByRecursion}
-use Rattle.std.proofs.lemmas.Bool.{false≢true, cond_both, and_parts, cases_lt}
+use Rattle.std.proofs.lemmas.Bool.{false≢true, cond_both, and_parts, cases_lt, not-true}
 use Rattle.tcp_wire.specs.Decoded.{decode_answer}
 use Rattle.tcp_wire.specs.Flags.{rst, ack, has, syn}
 use Rattle.tcp_wire.specs.Position.{number, distance}
@@ -48,10 +48,6 @@ use Rattle.tcp_judge.proofs.Going.{not-gone}
 use Rattle.tcp_judge.proofs.Hearing.{heard_past}
 use Rattle.tcp_judge.proofs.Hears.{IsSince, since-most, Hears, hears-new, held-inside}
 use Rattle.tcp_judge.proofs.Hearings.{hears-step, address-step}
-
-not-true-is : (b : Bool) → not b ≡ true → b ≡ false
-not-true-is true e = absurd (false≢true e)
-not-true-is false e = refl
 
 -- ACKNOWLEDGEMENTS
 record Tells (s : State) (v : Content) : Type 0 where
@@ -142,7 +138,7 @@ tells-right : (h : Heard) (x : SoloState) (irs k : ℕ) (v : Content) → Hears 
     → (has rst v.flags ≡ false → has ack v.flags ≡ true → Tells x.endpoint v) → Told h x irs k v
 tells-right h x irs k v hears tell =
     let r = x.endpoint.receiving in
-    let plain : tells v ≡ true → Tells x.endpoint v = λ e. tell (not-true-is (has rst v.flags) (and_parts (has ack v.flags) (not (has rst v.flags)) e).1)
+    let plain : tells v ≡ true → Tells x.endpoint v = λ e. tell (not-true (has rst v.flags) (and_parts (has ack v.flags) (not (has rst v.flags)) e).1)
     (and_parts (has ack v.flags) (not (has rst v.flags)) e).0 in
     record {
       right = none-found (tells_beyond h v) _

@@ -11,7 +11,7 @@ use Rattle.tcp_wire.specs.Position.{number, position_of}
 use Rattle.tcp_wire.specs.Wire.{Content}
 use Rattle.tcp_wire.proofs.Lemmas.{position_of_number}
 use Rattle.tcp_replay.specs.Truthful.{IsOfUser}
-use Rattle.tcp_replay.proofs.Lists.{by_test}
+use Rattle.tcp_replay.proofs.Lists.{by_test, drop-take_sub}
 use Rattle.tcp_judge.specs.Heard.{tells}
 use Rattle.tcp_judge.specs.Stream.{Stream, nothing_sent, count_sent, with_text, count_both, agrees, changes_bytes, count_covered, without_front}
 use Rattle.tcp_judge.specs.Known.{Known, is_syn, initial_after, place_by, place_of, fin_after, known_after, is_keep_alive, acked_by, count_acked, leads_back, known_with}
@@ -19,10 +19,6 @@ use Rattle.tcp_judge.specs.Rules.{finding_if, initial_by, fin_by, fin_finding, t
 use Rattle.tcp_judge.specs.declared.finding.Finding.{Finding}
 
 -- TESTS
-and-false : (b : Bool) → b && false ≡ false
-and-false true = refl
-and-false false = refl
-
 pub unless : (a b : Bool) → (a ≡ true → b ≡ false) → a && b ≡ false
 unless true b h = h refl
 unless false b h = refl
@@ -54,18 +50,6 @@ fronts-agree m n xs =
     subst (λ (ys : List ℕ). bytes_eq (take count (take m xs)) ys ≡ true) same (same-found (take count (take m xs)))
 
 -- what a beginning has from a place on
-no-front : (n : ℕ) → [] ≡ take {A = ℕ} n []
-no-front zero = refl
-no-front (suc n) = refl
-
-front-drop : (k m : ℕ) (xs : List ℕ) → drop k (take m xs) ≡ take (m - k) (drop k xs)
-front-drop zero m xs = let whole : m ≡ m - 0 = omega arith in ap (λ (n : ℕ). take n xs) whole
-front-drop (suc k) zero xs = let none : 0 ≡ 0 - suc k = omega arith in ap (λ (n : ℕ). take n (drop (suc k) xs)) none
-front-drop (suc k) (suc m) [] = no-front (suc m - suc k)
-front-drop (suc k) (suc m) (x ∷ xs) =
-    let same : m - k ≡ suc m - suc k = omega arith in
-    front-drop k m xs ∙ ap (λ (n : ℕ). take n (drop k xs)) same
-
 own-length : (k : ℕ) (one xs : List ℕ) → one ≡ take k xs → one ≡ take (length one) xs
 own-length k one xs e =
     let own : take (length (take k xs)) (take k xs) ≡ take (length (take k xs)) xs = front-front (length (take k xs)) k xs (omega arith) in
@@ -78,7 +62,7 @@ front-goes_on r s place m sent text xs least most e f =
     let d = 1 + (r + s) - place in
     let place_is : place - 1 + d ≡ r + s = omega arith in
     let more : drop d text ≡ take (m - d) (drop s (drop r xs)) =
-    ap (drop d) f ∙ front-drop d m (drop (place - 1) xs)
+    ap (drop d) f ∙ drop-take_sub d m (drop (place - 1) xs)
     ∙ ap (take (m - d)) (drop-drop d (place - 1) xs ∙ ap (λ n. drop n xs) place_is ∙ sym (drop-drop s r xs)) in
     ap (λ (ys : List ℕ). ys ++ drop d text) e ∙ ap (λ (ys : List ℕ). take s (drop r xs) ++ ys) more ∙ sym (take-add s (m - d) (drop r xs))
 
@@ -89,9 +73,9 @@ texts-agree r s place m sent text xs least e f =
     let a = place - (1 + r) in
     let b = 1 + r - place in
     let from : r + a ≡ place - 1 + b = omega arith in
-    let one : drop a sent ≡ take (s - a) (drop (r + a) xs) = ap (drop a) e ∙ front-drop a s (drop r xs) ∙ ap (take (s - a)) (drop-drop a r xs) in
+    let one : drop a sent ≡ take (s - a) (drop (r + a) xs) = ap (drop a) e ∙ drop-take_sub a s (drop r xs) ∙ ap (take (s - a)) (drop-drop a r xs) in
     let other : drop b text ≡ take (m - b) (drop (r + a) xs) =
-    ap (drop b) f ∙ front-drop b m (drop (place - 1) xs) ∙ ap (take (m - b)) (drop-drop b (place - 1) xs ∙ ap (λ n. drop n xs) (sym from)) in
+    ap (drop b) f ∙ drop-take_sub b m (drop (place - 1) xs) ∙ ap (take (m - b)) (drop-drop b (place - 1) xs ∙ ap (λ n. drop n xs) (sym from)) in
     ap (λ (ys : List ℕ). agrees ys (drop b text)) one ∙ ap (λ (ys : List ℕ). agrees (take (s - a) (drop (r + a) xs)) ys) other
     ∙ fronts-agree (s - a) (m - b) (drop (r + a) xs)
 
@@ -107,7 +91,7 @@ part-without : (accepted : List ℕ) (d : Stream) (n : ℕ) → n ≤ length d.s
 part-without accepted d n fits h = record {
   inside = omega (arith, part-most accepted d h, fits);
   part = own-length (length d.sent - n) (drop n d.sent) (drop (d.released + n) accepted)
-      (ap (drop n) h.part ∙ front-drop n (length d.sent) (drop d.released accepted)
+      (ap (drop n) h.part ∙ drop-take_sub n (length d.sent) (drop d.released accepted)
       ∙ ap (take (length d.sent - n)) (drop-drop n d.released accepted));
 }
 

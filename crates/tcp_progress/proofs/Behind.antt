@@ -3,7 +3,7 @@ use Rattle.tcp_replay.proofs.Words.{◌++◌, ◌<◌, AllByRecursion, ap, arith
 use Rattle.tcp_replay.proofs.Words.{Retransmit, suc, sym, Timer, world_after, world_after_all, WorldState, zero, ℕ, ◌∙◌, ◌≡◌}
 use Rattle.tcp_progress.proofs.Words.{A, AllCome, B, emissions, IsCalm, IsIdle, IsUntimed, left_in, NoneGaveUp, served, Side}
 use Rattle.tcp_progress.proofs.Lemmas.{after-append, all-untimed, calm-append, calm-served, emit-other, IsGoing, IsStillFrom, KeepsOwed, Lowers, lowers-only}
-use Rattle.tcp_progress.proofs.Lemmas.{over-all, owed-same, Steps, steps-all, steps-both, steps-left, timer-other, twice}
+use Rattle.tcp_progress.proofs.Lemmas.{over, owed-same, Steps, steps-all, steps-both, steps-left, timer-other, twice}
 use Rattle.tcp_progress.proofs.{Asking.asks, Asking.IsPending, Asking.past-served, Replying.replies, Speaking.old-still, Speaking.spoken-lowers, Speaking.Waits}
 use Rattle.tcp_progress.proofs.{Speaking.waits-later}
 
@@ -101,11 +101,11 @@ module _ (first : Side) (n m : ℕ) (w : WorldState) (there back : List EventCon
   pub over-first : (IsGoing u → IsStillFrom w u → Lowers u end ⊥) → left_in end < left_in w
   over-first next =
       lowers-only w end
-      (over-all w (served first n) end ⊥ (calm-served first n) h (steps-both u second (there ++ back) (calm-served (other first) m) later-calm) up next)
+      (over w u end ⊥ h (steps-all w (served first n) (calm-served first n) h.kept) (steps-both u second (there ++ back) (calm-served (other first) m) later-calm) up next)
 
   over-second : IsGoing u → (IsGoing v → IsStillFrom u v → left_in end < left_in v) → Lowers u end ⊥
   over-second hu next =
-      over-all u second end ⊥ (calm-served (other first) m) hu (steps-all v (there ++ back) later-calm) up (λ hv still. inl (next hv still))
+      over u v end ⊥ hu (steps-all u second (calm-served (other first) m) hu.kept) (steps-all v (there ++ back) later-calm) up (λ hv still. inl (next hv still))
 
   -- who asks is served first
   pub asked-first : IsBehind (party_of w first) (party_of w (other first)) → left_in end < left_in w

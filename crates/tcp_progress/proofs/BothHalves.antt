@@ -9,9 +9,10 @@ use Rattle.tcp_progress.proofs.Words.{left_in, NoneGaveUp}
 use Rattle.tcp_progress.proofs.Lemmas.{AreStill, both-live, GoOn, in-every-world, IsGoing, IsKept}
 use Rattle.tcp_progress.proofs.Lemmas.{side-pair, Steps, steps-left, steps-then}
 use Rattle.tcp_progress.proofs.{Edges.KeepsEdges, Going.side-still}
-use Rattle.tcp_progress.proofs.{Happened.calm-joined, Happened.done-happenings, Happened.happenings-append, Happened.on-happenings, Happened.steps-happenings}
+use Rattle.tcp_progress.proofs.{Happened.calm-joined, Happened.happenings-append, Happened.steps-happenings}
 use Rattle.tcp_progress.proofs.{OneHalf.half-lowers, OneHalf.IsFull, OneHalf.IsHalved, OneHalf.IsNarrow, Turning.done-through, Turning.IsDone}
 use Rattle.tcp_replay.proofs.Lemmas.{one_if, one_if-most}
+use Rattle.tcp_progress.proofs.Turning.{done-steps}
 
 -- ---- WHAT ISN'T SENT YET, both ways; and one for it, where there is something
 abbrev pub unsent_in : WorldState → ℕ
@@ -125,7 +126,7 @@ pair-lowers w events h on wide pair up some =
     let v = after_happenings w events in
     let going : IsGoing w = record { kept = h; on = on; some = some; read = λ side. (pair.read side).all } in
     let steps = steps-happenings w events pair.calm h in
-    let on' = on-happenings w events pair.calm h on up in
+    let on' = steps.on on up in
     let left = steps-left w v steps in
     let rest = steps-rest w v steps in
     let rests : Rests w v = elim (cases_lt (left_in v) (left_in w)) [
@@ -174,17 +175,17 @@ first-pair n w events h on wide halves up next =
     let steps = steps-happenings w before halves.4 h in
     let steps' = steps-happenings v pair is.calm steps.kept in
     let up'' = (steps-happenings u after calm' steps'.kept).stays up' in
-    let on' = on-happenings w before halves.4 h on (steps'.stays up'') in
+    let on' = steps.on on (steps'.stays up'') in
     elim (cases_lt 0 (left_in v)) [
       | inr none ↦
           let done : IsDone v = record { kept = steps.kept; on = on'; none = omega (arith, none); read = is.read } in
-          subst IsDone (sym (same ∙ sym joined)) (done-happenings v (pair ++ after) (calm-joined v pair after is.calm calm') done
-          (subst NoneGaveUp (sym joined) up'))
+          subst IsDone (sym (same ∙ sym joined)) (done-steps v (after_happenings v (pair ++ after))
+          (steps-happenings v (pair ++ after) (calm-joined v pair after is.calm calm') steps.kept) (subst NoneGaveUp (sym joined) up') done)
       | inl some ↦
           let less = pair-lowers v pair steps.kept on' (wide-later w v steps wide) is up'' some in
           let more : rest_in v ≤ rest_in w = omega (arith, steps-left w v steps, steps-rest w v steps) in
           let wide' = wide-later w u (steps-then w v u steps steps') wide in
-          subst IsDone (sym same) (next u after (omega (arith, less, more)) steps'.kept (on-happenings v pair is.calm steps.kept on' up'') wide' halves.6 up')
+          subst IsDone (sym same) (next u after (omega (arith, less, more)) steps'.kept (steps'.on on' up'') wide' halves.6 up')
     ]
 
 -- as many pairs as that is, and one

@@ -2,9 +2,10 @@
 use Rattle.tcp_replay.proofs.Words.{◌%◌, ◌++◌, ◌+ℤ◌, ◌+◌, ◌-◌, ◌<◌, ◌==◌, [], ◌^◌, advance_of, advance_of-answer_for, after_place, after_text, and_from}
 use Rattle.tcp_replay.proofs.Words.{answer_for, ap, append-nil, arith, Bool, bytes_in_order, cases_Bool, cases_lt, Cell, distance, drop, false, greatest_stamp}
 use Rattle.tcp_replay.proofs.Words.{if◌then◌else◌, Inbox, inl, inr, ints, is_fin_due, is_refused, length, length-append, length-drop, List, max_ordered, min}
-use Rattle.tcp_replay.proofs.Words.{nat_lt, nat_tests, near_ahead, near_behind, negsuc, None, not, NotKept, number, offset, Option, or_right, overlay}
-use Rattle.tcp_replay.proofs.Words.{overlay_of, Piece, place_answer, pos, Receiving, refl, Some, suc, sym, true, true≢false, window, with_fin, with_overlay}
+use Rattle.tcp_replay.proofs.Words.{nat_lt, nat_tests, near_ahead, near_behind, negsuc, not, NotKept, number, offset, Option, or_right, overlay}
+use Rattle.tcp_replay.proofs.Words.{overlay_of, Piece, place_answer, pos, Receiving, refl, suc, sym, true, true≢false, window, with_fin, with_overlay}
 use Rattle.tcp_replay.proofs.Words.{zero, ◌||◌, ℕ, ℤ, ◌∙◌, ◌∷◌, ◌≡◌, ◌≤ℤ◌, ◌≤◌, ◌⊎◌}
+use Rattle.tcp_replay.proofs.Room.{in_order-most, overlay-length}
 use Rattle.tcp_progress.proofs.Words.{BringsOn}
 
 -- what is laid over the first places is in order
@@ -13,17 +14,6 @@ overlay-in_order : (text : List ℕ) (stamp : ℕ) (held : List (Option Cell)) �
 overlay-in_order [] stamp held fits = omega arith
 overlay-in_order (byte ∷ text) stamp [] fits = absurd (omega arith)
 overlay-in_order (byte ∷ text) stamp (place ∷ places) fits = omega (arith, overlay-in_order text stamp places (omega (arith, fits)))
-
-pub overlay-length : (start : ℕ) (text : List ℕ) (stamp : ℕ) (held : List (Option Cell)) → length (overlay start text stamp held) ≡ length held
-overlay-length start text stamp [] = refl
-overlay-length zero [] stamp (place ∷ places) = refl
-overlay-length zero (byte ∷ text) stamp (place ∷ places) = omega (arith, overlay-length zero text stamp places)
-overlay-length (suc start) text stamp (place ∷ places) = omega (arith, overlay-length start text stamp places)
-
-pub in_order-most : (held : List (Option Cell)) → length (bytes_in_order held) ≤ length held
-in_order-most [] = omega arith
-in_order-most (None ∷ places) = omega arith
-in_order-most (Some cell ∷ places) = omega (arith, in_order-most places)
 
 -- n bytes come in order: up to `end` at least, and no more than the window has places
 pub record Brings (q q' : Inbox) (end : ℤ) (n : ℕ) : Type 0 where

@@ -1,13 +1,14 @@
 -- CALM EVENTS only bring both ends on: SND.UNA, SND.NXT and RCV.NXT don't go back, nothing more is accepted, and no end that lives comes to
 -- an end but by a reset, or in order and with nothing left.
-use Rattle.tcp_replay.proofs.Words.{◌++◌, [], after_acked_text, after_its_ack, after_judgement, after_news, after_own_syn, after_peer_accepts, after_peer_opens}
+use Rattle.tcp_replay.proofs.Words.{after_acked_text, after_its_ack, after_judgement, after_news, after_own_syn, after_peer_accepts, after_peer_opens}
 use Rattle.tcp_replay.proofs.Words.{after_taking, after_taking_shut, arith, Bool, cases_Bool, closed_judgement, cond_both, Content, delivery_refusal, Ending}
 use Rattle.tcp_replay.proofs.Words.{false, false≢true, Foreign, gave_up, gives_up, has, if◌then◌else◌, inl, inr, is_closed, is_foreign, is_listening, IsAlone}
 use Rattle.tcp_replay.proofs.Words.{IsSoundPair, Judgement, judgement, LastAck, length, List, max_life, next_position, None, NotEnded, Orderly}
 use Rattle.tcp_replay.proofs.Words.{party_after_ack_alone, party_after_resend_first, party_after_arrival, party_after_emission, party_after_timer}
 use Rattle.tcp_replay.proofs.Words.{PartyState, PeerRefuses, PeerResets, Phase, phase_judgement}
-use Rattle.tcp_replay.proofs.Words.{refl, ResetIgnored, rst, segment_at, SentSegment, slice_get, Some, State, Stray, subst, suc, sym, Taken, TakenShut, Timer}
-use Rattle.tcp_replay.proofs.Words.{true, zero, ℕ, ◌∙◌, ◌∷◌, ◌≡◌, ◌≤◌, ◌⊎◌}
+use Rattle.tcp_replay.proofs.Words.{refl, ResetIgnored, rst, segment_at, SentSegment, slice_get, Some, State, Stray, subst, sym, Taken, TakenShut, Timer}
+use Rattle.tcp_replay.proofs.Words.{true, ℕ, ◌∙◌, ◌≡◌, ◌≤◌, ◌⊎◌}
+use Rattle.tcp_replay.proofs.Lemmas.{slice_get-before}
 use Rattle.tcp_replay.proofs.Lemmas.{after_segment, at-listen, Both, fair-judgement, judged, kept-same, not-closed-ended}
 use Rattle.tcp_progress.proofs.Delivered.{last-before, own_fin-ends, same-ending, same-phase, shut-as, taken-as}
 use Rattle.tcp_conn.specs.declared.phase.Timer.{Timer as Which}
@@ -91,21 +92,15 @@ moves-timer p side timers.Retransmit calm =
 moves-timer p side timers.Reorder calm = moves-still p (party_after_timer p timers.Reorder) (still-reorder p) (λ k g e. e) (omega arith) (λ e. e)
 moves-timer p side timers.TimeWait calm = absurd calm
 
--- a segment of a list is in a longer one
-sent-still : (xs ys : List SentSegment) (k : ℕ) (g : SentSegment) → slice_get xs k ≡ Some g → slice_get (xs ++ ys) k ≡ Some g
-sent-still [] ys k g e = absurd (cc)
-sent-still (x ∷ xs) ys zero g e = e
-sent-still (x ∷ xs) ys (suc k) g e = sent-still xs ys k g e
-
 -- it emits
 pub moves-emission : (p : PartyState) → IsMoved p (party_after_emission p)
 unfolding party_after_emission
-moves-emission p = moves-still p (party_after_emission p) (still-emission p) (sent-still p.sent _) (omega arith) (λ e. e)
+moves-emission p = moves-still p (party_after_emission p) (still-emission p) (slice_get-before p.sent _) (omega arith) (λ e. e)
 
 -- an acknowledgement alone
 pub moves-ack_alone : (p : PartyState) → IsMoved p (party_after_ack_alone p)
 unfolding party_after_ack_alone
-moves-ack_alone p = moves-still p (party_after_ack_alone p) (still-ack_alone p) (sent-still p.sent _) (omega arith) (λ e. e)
+moves-ack_alone p = moves-still p (party_after_ack_alone p) (still-ack_alone p) (slice_get-before p.sent _) (omega arith) (λ e. e)
 
 -- the first segment is to go out again
 pub moves-resend_first : (p : PartyState) → IsMoved p (party_after_resend_first p)

@@ -12,7 +12,7 @@ use Rattle.tcp_progress.proofs.AlwaysSteady.{in-every-world, IsKept, kept-after,
 use Rattle.tcp_progress.proofs.Calm.{ends-plainly, Grows, grows-then, IsMoved, moves-ack_alone, moves-resend_first, moves-arrival, moves-emission}
 use Rattle.tcp_progress.proofs.Calm.{moves-same, moves-still, moves-timer, not-both}
 use Rattle.tcp_progress.proofs.{OnlySent.KeepsSent, Delivered.nothing-left, Live.GoOn, Live.steady-back, Live.still-acknowledging}
-use Rattle.tcp_progress.proofs.{Live.still-reading, Live.swapped, Sides.after-either, Sides.at-event, Table.own_fin-acked}
+use Rattle.tcp_progress.proofs.{Live.still-reading, Live.swapped, Sides.after-either, Sides.at-event, Sides.on-both, Table.own_fin-acked}
 
 -- ---- ONE OF TWO PARTIES MOVES
 abbrev pub OneMoves : PartyState → PartyState → PartyState → PartyState → Type 0
@@ -47,54 +47,20 @@ calm-event w event side calm h =
     calm-effect w.life (party_of w s) (party_of w (other s)) event calm h.sound.life e (side-pair w s h).pair (side-sent w s h) in
     at-event OneMoves w event side (inl (moves-same (party_of w side), refl)) (λ e _. moves e) (λ e. one-swapped _ _ _ _ (moves e))
 
+-- the first of two parties of which one moves
+moved-first : (p q p' q' : PartyState) → OneMoves p q p' q' → IsMoved p p'
+moved-first p q p' q' (inl here) = here.0
+moved-first p q p' q' (inr there) = subst (IsMoved p) (sym there.0) (moves-same p)
+
 -- each is brought on
 pub moves-event : (w : WorldState) (event : EventContent) (side : Side) → IsCalm event → IsKept w
     → IsMoved (party_of w side) (party_of (world_after w event) side)
-moves-event w event side calm h =
-    elim (calm-event w event side calm h) [
-      | inl here ↦ here.0
-      | inr there ↦ subst (IsMoved (party_of w side)) (sym there.0) (moves-same (party_of w side))
-    ]
+moves-event w event side calm h = moved-first _ _ _ _ (calm-event w event side calm h)
 
 -- ---- WHO WAS RESET OR ABORTED STAYS SO
 pub moves-stays : (p p' : PartyState) → IsMoved p p' → gave_up p' ≡ false → gave_up p ≡ false
 moves-stays p p' h e =
     elim h.ending [ inl same ↦ ap gives_up (sym same) ∙ e | inr goes ↦ gives_up-not_ended p.endpoint.ending goes.0 ]
-
--- BOTH PARTIES over events
-pub record Steps (w v : WorldState) : Type 0 where
-  pub kept : IsKept v
-  pub grows : (side : Side) → Grows (party_of w side) (party_of v side)
-  pub stays : NoneGaveUp v → NoneGaveUp w
-
--- events after events
-pub steps-then : (u v w : WorldState) → Steps u v → Steps v w → Steps u w
-steps-then u v w one two =
-    record { kept = two.kept; grows = λ side. grows-then _ _ _ (one.grows side) (two.grows side); stays = λ up. one.stays (two.stays up) }
-
--- a calm event has bytes alone
-pub calm-bytes : (event : EventContent) → IsCalm event → HasBytes event
-calm-bytes (Damage from k place value) calm = calm
-calm-bytes (Send side text) calm = absurd calm
-calm-bytes other calm = tt
-
--- a calm event, refused or not
-pub steps-event : (w : WorldState) (event : EventContent) → IsCalm event → IsKept w → Steps w (world_after w event)
-steps-event w event calm h =
-    let moved = λ (side : Side). moves-event w event side calm h in
-    record {
-      kept = after-either IsKept (refusal_of w event) w (world_with_effect w event) h (λ e. kept-after w event (calm-bytes event calm) e h);
-      grows = λ side. (moved side).grows;
-      stays = λ up. (moves-stays w.a _ (moved A) up.0, moves-stays w.b _ (moved B) up.1);
-    }
-
--- any calm events
-pub steps-all : (w : WorldState) (events : List EventContent) → AllByRecursion IsCalm events → IsKept w → Steps w (world_after_all w events)
-unfolding world_after_all
-steps-all w [] calm h = record { kept = h; grows = λ side. (moves-same (party_of w side)).grows; stays = λ up. up }
-steps-all w (event ∷ events) calm h =
-    let one = steps-event w event calm.0 h in
-    steps-then w (world_after w event) (world_after_all (world_after w event) events) one (steps-all (world_after w event) events calm.1 one.kept)
 
 -- ---- BOTH GO ON, while no end is reset
 pub says-over : (s : State) (phase : Phase) → s.ending ≡ Orderly → FitsPhase phase s.ending s.sending.una s.sending.nxt s.receiving.opened s.receiving.finished
@@ -138,7 +104,7 @@ on-moved p p' q h before after on stays =
           (record { opened = h.grows.opened live.0.opened; goes_on = goes_on }, live.1);
     }
 
-pub on-one : (p q p' q' : PartyState) → OneMoves p q p' q' → IsSteadyPair p q → IsSteadyPair p' q' → GoOn p q → gave_up p' ≡ false → gave_up q' ≡ false
+on-one : (p q p' q' : PartyState) → OneMoves p q p' q' → IsSteadyPair p q → IsSteadyPair p' q' → GoOn p q → gave_up p' ≡ false → gave_up q' ≡ false
     → GoOn p' q'
 on-one p q p' q' (inl here) before after on one two =
     subst (λ (x : PartyState). GoOn p' x) (sym here.1) (on-moved p p' q here.0 before (subst (λ (x : PartyState). IsSteadyPair p' x) here.1 after) on one)
@@ -147,21 +113,58 @@ on-one p q p' q' (inr there) before after on one two =
     subst (λ (x : PartyState). GoOn x q') (sym there.0)
     (swapped p q' (on-moved q q' p there.1 (steady-back q p before) (steady-back q' p after') (swapped q p on) two))
 
--- they go on over an event
-pub on-event : (w : WorldState) (event : EventContent) → IsCalm event → IsKept w → GoOn w.a w.b → NoneGaveUp (world_after w event)
-    → GoOn (world_after w event).a (world_after w event).b
-on-event w event calm h on up =
-    on-one w.a w.b _ _ (calm-event w event A calm h) (kept-steady w h).ends (kept-steady _ (steps-event w event calm h).kept).ends on up.0 up.1
+-- BOTH PARTIES over events
+pub record Steps (w v : WorldState) : Type 0 where
+  pub kept : IsKept v
+  pub grows : (side : Side) → Grows (party_of w side) (party_of v side)
+  pub stays : NoneGaveUp v → NoneGaveUp w
+  -- they go on
+  pub on : GoOn w.a w.b → NoneGaveUp v → GoOn v.a v.b
 
--- and over events
-pub on-all : (w : WorldState) (events : List EventContent) → AllByRecursion IsCalm events → IsKept w → GoOn w.a w.b → NoneGaveUp (world_after_all w events)
-    → GoOn (world_after_all w events).a (world_after_all w events).b
+-- nothing happens
+pub steps-none : (w : WorldState) → IsKept w → Steps w w
+steps-none w h = record { kept = h; grows = λ side. (moves-same (party_of w side)).grows; stays = λ up. up; on = λ on _. on }
+
+-- events after events
+pub steps-then : (u v w : WorldState) → Steps u v → Steps v w → Steps u w
+steps-then u v w one two = record {
+  kept = two.kept;
+  grows = λ side. grows-then _ _ _ (one.grows side) (two.grows side);
+  stays = λ up. one.stays (two.stays up);
+  on = λ on up. two.on (one.on on (two.stays up)) up;
+}
+
+-- one of both parties moves
+pub steps-one : (w v : WorldState) → OneMoves w.a w.b v.a v.b → IsKept w → IsKept v → Steps w v
+steps-one w v one h h' =
+    let there = moved-first w.a w.b v.a v.b one in
+    let back = moved-first w.b w.a v.b v.a (one-swapped w.a w.b v.a v.b one) in
+    record {
+      kept = h';
+      grows = on-both (λ side. Grows (party_of w side) (party_of v side)) there.grows back.grows;
+      stays = λ up. (moves-stays w.a v.a there up.0, moves-stays w.b v.b back up.1);
+      on = λ on up. on-one w.a w.b v.a v.b one (kept-steady w h).ends (kept-steady v h').ends on up.0 up.1;
+    }
+
+-- a calm event has bytes alone
+pub calm-bytes : (event : EventContent) → IsCalm event → HasBytes event
+calm-bytes (Damage from k place value) calm = calm
+calm-bytes (Send side text) calm = absurd calm
+calm-bytes other calm = tt
+
+-- a calm event, refused or not
+pub steps-event : (w : WorldState) (event : EventContent) → IsCalm event → IsKept w → Steps w (world_after w event)
+steps-event w event calm h =
+    steps-one w (world_after w event) (calm-event w event A calm h) h
+    (after-either IsKept (refusal_of w event) w (world_with_effect w event) h (λ e. kept-after w event (calm-bytes event calm) e h))
+
+-- any calm events
+pub steps-all : (w : WorldState) (events : List EventContent) → AllByRecursion IsCalm events → IsKept w → Steps w (world_after_all w events)
 unfolding world_after_all
-on-all w [] calm h on up = on
-on-all w (event ∷ events) calm h on up =
-    let v = world_after w event in
-    let step = steps-event w event calm.0 h in
-    on-all v events calm.1 step.kept (on-event w event calm.0 h on ((steps-all v events calm.1 step.kept).stays up)) up
+steps-all w [] calm h = steps-none w h
+steps-all w (event ∷ events) calm h =
+    let one = steps-event w event calm.0 h in
+    steps-then w (world_after w event) (world_after_all (world_after w event) events) one (steps-all (world_after w event) events calm.1 one.kept)
 
 -- less is left, or as much
 pub steps-left : (w v : WorldState) → Steps w v → left_in v ≤ left_in w

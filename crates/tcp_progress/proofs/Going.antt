@@ -3,10 +3,11 @@ use Rattle.tcp_replay.proofs.Words.{◌++◌, ◌+◌, ◌-◌, ◌<◌, [], All
 use Rattle.tcp_replay.proofs.Words.{next_position, other, party_of, PartyState, refl, Retransmit, suc, Timer, true, unread_of, world_after, world_after_all}
 use Rattle.tcp_replay.proofs.Words.{WorldState, zero, ℕ, ◌≡◌, ◌≤◌, ◌⊎◌}
 use Rattle.tcp_progress.proofs.Words.{A, all_of, AllCome, B, Comes, emissions, IsCalm, IsLive, IsSteadyPair, left_in, left_of_both, NoneGaveUp, served, Side}
-use Rattle.tcp_progress.proofs.CalmWorlds.{on-all, on-event, Steps, steps-all, steps-event, steps-left, steps-then}
+use Rattle.tcp_progress.proofs.CalmWorlds.{Steps, steps-all, steps-event, steps-left, steps-then}
 use Rattle.tcp_replay.proofs.Lemmas.{one_if}
 use Rattle.tcp_progress.proofs.{AlwaysSteady.IsKept, AlwaysSteady.side-pair, Calm.Grows, Live.GoOn, Live.IsUp, Live.steady-back, Live.swapped}
-use Rattle.tcp_progress.proofs.{Turning.calm-emissions, Turning.empty-length, Turning.in-order}
+use Rattle.tcp_progress.proofs.{Turning.calm-emissions, Turning.in-order}
+use Rattle.tcp_replay.proofs.Words.{nil_from_length}
 
 -- ---- NOTHING IS BROUGHT ON: then both are where they were
 pub record AreThere (n u m v n' u' m' v' : ℕ) : Type 0 where
@@ -63,7 +64,7 @@ read-still x y x' y' h h' up up' still none =
     let r' = x'.endpoint.receiving in
     let most : r'.ordered ≤ length y.accepted = omega (arith, h'.pair.there.takes.order, ap length still.back.accepted) in
     let ordered = not-more r.ordered r'.ordered (length y.accepted) r.finished r'.finished most (λ e. (h.pair.there.takes.fin e).1) still.next_of_x in
-    empty-length (unread_of x') (omega (arith, in-order x y h up, in-order x' y' h' up', ap length none, still.there.handed, ordered))
+    nil_from_length (unread_of x') (omega (arith, in-order x y h up, in-order x' y' h' up', ap length none, still.there.handed, ordered))
 
 -- ---- THE WORLD FROM ONE SIDE
 -- both go on
@@ -118,8 +119,12 @@ pub lowers-only : (w u : WorldState) → Lowers w u ⊥ → left_in u < left_in 
 lowers-only w u (inl less) = less
 lowers-only w u (inr none) = absurd none
 
-pub over : (w v u : WorldState) (Q : Type 0) → IsGoing w → Steps w v → GoOn v.a v.b → Steps v u → (IsGoing v → IsStillFrom w v → Lowers v u Q) → Lowers w u Q
-over w v u Q h steps on' rest next =
+-- over steps to a world and from it to the end
+pub over : (w v u : WorldState) (Q : Type 0) → IsGoing w → Steps w v → (IsKept v → Steps v u) → NoneGaveUp u
+    → (IsGoing v → IsStillFrom w v → Lowers v u Q) → Lowers w u Q
+over w v u Q h steps later up next =
+    let rest = later steps.kept in
+    let on' = steps.on h.on (rest.stays up) in
     elim (cases_lt (left_in v) (left_in w)) [
       | inl less ↦ inl (omega (arith, less, steps-left v u rest))
       | inr as_much ↦
@@ -133,33 +138,10 @@ over w v u Q h steps on' rest next =
           ]
     ]
 
--- over an event
-pub over-event : (w : WorldState) (event : EventContent) (u : WorldState) (Q : Type 0) → IsCalm event → IsGoing w
-    → (IsKept (world_after w event) → Steps (world_after w event) u) → NoneGaveUp u
-    → (IsGoing (world_after w event) → IsStillFrom w (world_after w event) → Lowers (world_after w event) u Q) → Lowers w u Q
-over-event w event u Q calm h rest up next =
-    let v = world_after w event in
-    let steps = steps-event w event calm h.kept in
-    let more = rest steps.kept in
-    over w v u Q h steps (on-event w event calm h.kept h.on (more.stays up)) more next
-
--- over events
-pub over-all : (w : WorldState) (events : List EventContent) (u : WorldState) (Q : Type 0) → AllByRecursion IsCalm events → IsGoing w
-    → (IsKept (world_after_all w events) → Steps (world_after_all w events) u) → NoneGaveUp u
-    → (IsGoing (world_after_all w events) → IsStillFrom w (world_after_all w events) → Lowers (world_after_all w events) u Q) → Lowers w u Q
-over-all w events u Q calm h rest up next =
-    let v = world_after_all w events in
-    let steps = steps-all w events calm h.kept in
-    let more = rest steps.kept in
-    over w v u Q h steps (on-all w events calm h.kept h.on (more.stays up)) more next
-
--- over an event, where less is left in the end
-pub lower-event : (w : WorldState) (event : EventContent) (later : List EventContent) → IsCalm event → AllByRecursion IsCalm later → IsGoing w
-    → let v = world_after w event in let end = world_after_all v later in NoneGaveUp end
-    → (IsGoing v → IsStillFrom w v → left_in end < left_in v) → left_in end < left_in w
-lower-event w event later calm calm' h up next =
-    let end = world_after_all (world_after w event) later in
-    lowers-only w end (over-event w event end ⊥ calm h (steps-all (world_after w event) later calm') up (λ hv still. inl (next hv still)))
+-- where less is left in the end
+pub lowers : (w v u : WorldState) → IsGoing w → Steps w v → (IsKept v → Steps v u) → NoneGaveUp u
+    → (IsGoing v → IsStillFrom w v → left_in u < left_in v) → left_in u < left_in w
+lowers w v u h steps later up next = lowers-only w u (over w v u ⊥ h steps later up (λ hv still. inl (next hv still)))
 
 -- OVER THE EMISSIONS of a side, and what comes later: what is known at each of them goes on to be known, or something is brought on
 module _ (side : Side) (later : List EventContent) (calm : AllByRecursion IsCalm later) (Ready : WorldState → Type 0) where
@@ -184,7 +166,7 @@ module _ (side : Side) (later : List EventContent) (calm : AllByRecursion IsCalm
       elim (step w n h ready come.0 up) [
         | inl less ↦ inl less
         | inr on ↦
-            over-event w (Emit side) (BurstEnd n v) (Ready (world_after_all v (emissions side n))) tt h
+            over w v (BurstEnd n v) (Ready (world_after_all v (emissions side n))) h (steps-event w (Emit side) tt h.kept)
             (steps-both v (emissions side n) later (calm-emissions side n) calm) up (λ hv still. over-burst step n v hv (on hv still) come.1 up)
       ]
 
@@ -196,5 +178,5 @@ module _ (side : Side) (later : List EventContent) (calm : AllByRecursion IsCalm
   unfolding world_after_all
   over-served step n w h first come up =
       let v = world_after w (Timer side Retransmit) in
-      over-event w (Timer side Retransmit) (BurstEnd n v) (Ready (world_after_all v (emissions side n))) tt h
+      over w v (BurstEnd n v) (Ready (world_after_all v (emissions side n))) h (steps-event w (Timer side Retransmit) tt h.kept)
       (steps-both v (emissions side n) later (calm-emissions side n) calm) up (λ hv still. over-burst step n v hv (first hv still) come.1 up)

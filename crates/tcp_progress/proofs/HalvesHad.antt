@@ -18,7 +18,7 @@ use Rattle.tcp_replay.proofs.{AloneEmissions.ack-alone-goes, AloneEmissions.Goes
 use Rattle.tcp_progress.proofs.{Emitted.party_after_due, Had.due-plain, Had.goes-safely, Had.IsFine, Had.IsNoReset, Had.IsSafe, Had.no_reset-emitted}
 use Rattle.tcp_progress.proofs.{OneHalf.alone-at}
 use Rattle.tcp_progress.proofs.{OneHalf.alone-as, Serving.cleared, Serving.reset-first, Speaking.owed-event}
-use Rattle.tcp_progress.proofs.{Happened.calm-joined, Happened.happenings-append, Happened.on-happenings, Sides.on-both, Turning.HaveRead}
+use Rattle.tcp_progress.proofs.{Happened.calm-joined, Happened.happenings-append, Happened.steps-happenings, Sides.on-both, Turning.HaveRead}
 use Rattle.tcp_conn.specs.declared.due.Due.TheVariants as dues
 
 -- ---- WHAT AN EMISSION LEAVES PENDING: no reset; and no SYN, where no reset was
@@ -214,7 +214,7 @@ timeout-by u side (Some due) e h on reset syn =
     let x = world_after v (Emit side) in
     let fv = fine-after u (Timer side Retransmit) tt h in
     let fx = fine-after v (Emit side) tt fv in
-    let on' = on-happenings u (Happens (Timer side Retransmit) ∷ (Happens (Emit side) ∷ [])) (tt, (tt, tt)) h.kept on fx.up in
+    let on' = (steps-happenings u (Happens (Timer side Retransmit) ∷ (Happens (Emit side) ∷ [])) (tt, (tt, tt)) h.kept).on on fx.up in
     let is : due_of (party_of v side).endpoint ≡ Some due = ap due_of (timer-endpoint u side) ∙ e in
     let none : (party_of v side).endpoint.owed.reset ≡ None = ap (λ (t : State). t.owed.reset) (timer-endpoint u side) ∙ retransmit-reset s reset in
     let same : (party_of v side).sent ≡ (party_of u side).sent = timer-sent u side in
@@ -264,7 +264,7 @@ half-had w side h on =
     let u = world_after w'' (Emit there) in
     let first = Happens (Emit side) ∷ (Happens (Emit there) ∷ (Happens (Emit there) ∷ [])) in
     let fine = fine-after w'' (Emit there) tt (fine-after w' (Emit there) tt (fine-after w (Emit side) tt h)) in
-    let on' = on-happenings w first (tt, (tt, (tt, tt))) h.kept on fine.up in
+    let on' = (steps-happenings w first (tt, (tt, (tt, tt))) h.kept).on on fine.up in
     let stays : party_of u side ≡ party_of w' side =
     subst (λ (s : Side). party_of u s ≡ party_of w' s) (twice side) (emit-other w'' there ∙ emit-other w' there) in
     let reset = ap (λ (p : PartyState). p.endpoint.owed.reset) stays ∙ ap (λ (t : State). t.owed.reset) (emit-endpoint w side)
@@ -289,7 +289,7 @@ pair-had : (w : WorldState) → IsFine w → GoOn w.a w.b → HaveRead w → Pai
 pair-had w h on read =
     let one = half-had w A h on in
     let v = after_happenings w one.events in
-    let two = half-had v B one.fine (on-happenings w one.events one.calm h.kept on one.fine.up) in
+    let two = half-had v B one.fine ((steps-happenings w one.events one.calm h.kept).on on one.fine.up) in
     let calm = calm-joined w one.events two.events one.calm two.calm in
     let second = half-behind B w one.events two.events (subst (λ (list : List Happening). HasHalfTurn B v list) (append-nil two.events) (two.half [])) in
     record {
@@ -312,10 +312,10 @@ halves-had zero w h on = record { list = []; halves = tt; stays = h.up }
 halves-had (suc n) w h on =
     let v = after_happenings w both-read in
     let fine : IsFine v = (goes-safely w reads (tt, (tt, (tt, (tt, tt)))) h).fine in
-    let on' = on-happenings w both-read reads-calm h.kept on fine.up in
+    let on' = (steps-happenings w both-read reads-calm h.kept).on on fine.up in
     let pair = pair-had v fine on' (have-read w h.kept on) in
     let u = after_happenings v pair.events in
-    let rest = halves-had n u pair.fine (on-happenings v pair.events pair.is.calm fine.kept on' pair.fine.up) in
+    let rest = halves-had n u pair.fine ((steps-happenings v pair.events pair.is.calm fine.kept).on on' pair.fine.up) in
     let end = happenings-append w both-read (pair.events ++ rest.list) ∙ happenings-append v pair.events rest.list in
     record {
       list = both-read ++ (pair.events ++ rest.list);

@@ -6,11 +6,11 @@ use Rattle.tcp_replay.specs.Among.{after_happening, Happening, Happens, Injectio
 unfoldable use Rattle.tcp_replay.specs.Among.{after_happenings}
 use Rattle.tcp_replay.proofs.Injections.{kept-out-owes}
 use Rattle.tcp_progress.proofs.Words.{A, AreCalm, Arrives, B, CoversNext, IsCalmNow, left_in, NoneGaveUp, Side}
-use Rattle.tcp_progress.proofs.Lemmas.{emit-at, fresh-emitted, going-live, GoOn, IsGoing, IsKept, IsStill, IsStillFrom, kept-steady, Lowers, side-pair}
+use Rattle.tcp_progress.proofs.Lemmas.{emit-at, fresh-emitted, going-live, IsGoing, IsKept, IsStill, side-pair}
 use Rattle.tcp_progress.proofs.Lemmas.{Steps, steps-event, steps-left, steps-then}
-use Rattle.tcp_progress.proofs.{Calm.IsMoved, Calm.moves-same, Calm.moves-still, CalmWorlds.calm-event, CalmWorlds.moves-stays, CalmWorlds.on-one}
-use Rattle.tcp_progress.proofs.{CalmWorlds.OneMoves, Going.lowers-only, Going.over, Injected.kept-injected, Serving.IsUseful, Serving.useful-now}
-use Rattle.tcp_progress.proofs.{Serving.useful-still, Turning.done-steps, Turning.IsDone}
+use Rattle.tcp_progress.proofs.{Calm.IsMoved, Calm.moves-still, CalmWorlds.calm-event, CalmWorlds.steps-none, CalmWorlds.steps-one}
+use Rattle.tcp_progress.proofs.{CalmWorlds.OneMoves, Going.lowers, Injected.kept-injected, Serving.IsUseful, Serving.useful-now}
+use Rattle.tcp_progress.proofs.{Serving.useful-still}
 
 -- ---- AN INJECTION changes nothing but what is pending
 owing-still : (p : PartyState) (ack : Bool) (reset : Option WaitingReset) → IsStill p (record p { endpoint = with_owed p.endpoint ack reset })
@@ -22,22 +22,12 @@ blind-moves p q i blind =
     subst (λ (s : State). IsMoved p (record p { endpoint = s })) (sym owes.same)
     (moves-still p (record p { endpoint = with_owed p.endpoint owes.ack owes.reset }) (owing-still p owes.ack owes.reset) (λ k g e. e) (omega arith) (λ e. e))
 
--- ---- WHAT HAPPENS moves one party, seen from either side
-calm-happening : (w : WorldState) (happening : Happening) (side : Side) → IsCalmNow w happening → IsKept w
-    → let v = after_happening w happening in OneMoves (party_of w side) (party_of w (other side)) (party_of v side) (party_of v (other side))
-calm-happening w (Happens event) side calm h = calm-event w event side calm h
-calm-happening w (Injects A i) A blind h = inl (blind-moves w.a w.b i blind, refl)
-calm-happening w (Injects A i) B blind h = inr (refl, blind-moves w.a w.b i blind)
-calm-happening w (Injects B i) A blind h = inr (refl, blind-moves w.b w.a i blind)
-calm-happening w (Injects B i) B blind h = inl (blind-moves w.b w.a i blind, refl)
-
-moves-happening : (w : WorldState) (happening : Happening) (side : Side) → IsCalmNow w happening → IsKept w
-    → IsMoved (party_of w side) (party_of (after_happening w happening) side)
-moves-happening w happening side calm h =
-    elim (calm-happening w happening side calm h) [
-      | inl here ↦ here.0
-      | inr there ↦ subst (IsMoved (party_of w side)) (sym there.0) (moves-same (party_of w side))
-    ]
+-- ---- WHAT HAPPENS moves one party
+calm-happening : (w : WorldState) (happening : Happening) → IsCalmNow w happening → IsKept w
+    → OneMoves w.a w.b (after_happening w happening).a (after_happening w happening).b
+calm-happening w (Happens event) calm h = calm-event w event A calm h
+calm-happening w (Injects A i) blind h = inl (blind-moves w.a w.b i blind, refl)
+calm-happening w (Injects B i) blind h = inr (refl, blind-moves w.b w.a i blind)
 
 kept-happening : (w : WorldState) (happening : Happening) → IsCalmNow w happening → IsKept w → IsKept (after_happening w happening)
 kept-happening w (Happens event) calm h = (steps-event w event calm h).kept
@@ -46,34 +36,14 @@ kept-happening w (Injects side i) blind h = kept-injected w side i blind h
 -- it brings both on
 pub steps-happening : (w : WorldState) (happening : Happening) → IsCalmNow w happening → IsKept w → Steps w (after_happening w happening)
 steps-happening w happening calm h =
-    let moved = λ (side : Side). moves-happening w happening side calm h in
-    record {
-      kept = kept-happening w happening calm h;
-      grows = λ side. (moved side).grows;
-      stays = λ up. (moves-stays w.a _ (moved A) up.0, moves-stays w.b _ (moved B) up.1);
-    }
+    steps-one w (after_happening w happening) (calm-happening w happening calm h) h (kept-happening w happening calm h)
 
 pub steps-happenings : (w : WorldState) (list : List Happening) → AreCalm w list → IsKept w → Steps w (after_happenings w list)
 unfolding after_happenings
-steps-happenings w [] calm h = record { kept = h; grows = λ side. (moves-same (party_of w side)).grows; stays = λ up. up }
+steps-happenings w [] calm h = steps-none w h
 steps-happenings w (x ∷ list) calm h =
     let one = steps-happening w x calm.0 h in
     steps-then w (after_happening w x) (after_happenings (after_happening w x) list) one (steps-happenings (after_happening w x) list calm.1 one.kept)
-
--- ---- BOTH GO ON, while no end is reset
-on-happening : (w : WorldState) (happening : Happening) → IsCalmNow w happening → IsKept w → GoOn w.a w.b → NoneGaveUp (after_happening w happening)
-    → GoOn (after_happening w happening).a (after_happening w happening).b
-on-happening w happening calm h on up =
-    on-one w.a w.b _ _ (calm-happening w happening A calm h) (kept-steady w h).ends (kept-steady _ (steps-happening w happening calm h).kept).ends on up.0 up.1
-
-pub on-happenings : (w : WorldState) (list : List Happening) → AreCalm w list → IsKept w → GoOn w.a w.b → NoneGaveUp (after_happenings w list)
-    → GoOn (after_happenings w list).a (after_happenings w list).b
-unfolding after_happenings
-on-happenings w [] calm h on up = on
-on-happenings w (x ∷ list) calm h on up =
-    let v = after_happening w x in
-    let step = steps-happening w x calm.0 h in
-    on-happenings v list calm.1 step.kept (on-happening w x calm.0 h on ((steps-happenings v list calm.1 step.kept).stays up)) up
 
 -- ---- HAPPENINGS AFTER HAPPENINGS
 pub happenings-append : (w : WorldState) (xs ys : List Happening) → after_happenings w (xs ++ ys) ≡ after_happenings (after_happenings w xs) ys
@@ -91,35 +61,6 @@ unfolding after_happenings
 calm-joined w [] ys h k = k
 calm-joined w (x ∷ xs) ys h k = (h.0, calm-joined (after_happening w x) xs ys h.1 k)
 
--- ---- A WORLD THAT GOES ON, over what happens: less is left in the end, or both are where they were
-pub over-happening : (w : WorldState) (happening : Happening) (u : WorldState) (Q : Type 0) → IsCalmNow w happening → IsGoing w
-    → (IsKept (after_happening w happening) → Steps (after_happening w happening) u) → NoneGaveUp u
-    → (IsGoing (after_happening w happening) → IsStillFrom w (after_happening w happening) → Lowers (after_happening w happening) u Q) → Lowers w u Q
-over-happening w happening u Q calm h rest up next =
-    let v = after_happening w happening in
-    let steps = steps-happening w happening calm h.kept in
-    let more = rest steps.kept in
-    over w v u Q h steps (on-happening w happening calm h.kept h.on (more.stays up)) more next
-
-pub over-happenings : (w : WorldState) (list : List Happening) (u : WorldState) (Q : Type 0) → AreCalm w list → IsGoing w
-    → (IsKept (after_happenings w list) → Steps (after_happenings w list) u) → NoneGaveUp u
-    → (IsGoing (after_happenings w list) → IsStillFrom w (after_happenings w list) → Lowers (after_happenings w list) u Q) → Lowers w u Q
-over-happenings w list u Q calm h rest up next =
-    let v = after_happenings w list in
-    let steps = steps-happenings w list calm h.kept in
-    let more = rest steps.kept in
-    over w v u Q h steps (on-happenings w list calm h.kept h.on (more.stays up)) more next
-
--- where less is left in the end
-pub lower-happening : (w : WorldState) (happening : Happening) (later : List Happening) → IsCalmNow w happening
-    → AreCalm (after_happening w happening) later → IsGoing w
-    → let v = after_happening w happening in let end = after_happenings v later in NoneGaveUp end
-    → (IsGoing v → IsStillFrom w v → left_in end < left_in v) → left_in end < left_in w
-lower-happening w happening later calm calm' h up next =
-    let end = after_happenings (after_happening w happening) later in
-    lowers-only w end (over-happening w happening end ⊥ calm h (steps-happenings (after_happening w happening) later calm') up
-    (λ hv still. inl (next hv still)))
-
 -- ---- WHAT IS USEFUL AND ARRIVES BRINGS ON, whatever happens before it
 pub useful-arrives : (w : WorldState) (side : Side) (k : ℕ) (list : List Happening) → AreCalm w list → IsGoing w
     → IsUseful (party_of w side) (party_of w (other side)) k → Arrives side k list → NoneGaveUp (after_happenings w list)
@@ -134,7 +75,7 @@ useful-arrives w side k (x ∷ list) calm h u comes up =
           let less : left_in v < left_in w = subst (λ (e : Happening). left_in (after_happening w e) < left_in w) (sym now) (useful-now w side k h u) in
           omega (arith, less, steps-left v end (steps-happenings v list calm.1 (steps-happening w x calm.0 h.kept).kept))
       | inr later ↦
-          lower-happening w x list calm.0 calm.1 h up (λ hv still.
+          lowers w v end h (steps-happening w x calm.0 h.kept) (steps-happenings v list calm.1) up (λ hv still.
           let u' = useful-still (party_of w side) (party_of w (other side)) (party_of v side) (party_of v (other side)) k (side-pair w side h.kept)
           (side-pair v side hv.kept) (going-live w side h).0.opened (still side) u in
           useful-arrives v side k list calm.1 hv u' later up)
@@ -147,8 +88,9 @@ pub useful-sent : (w : WorldState) (side : Side) (later : List Happening) → Ar
     → left_in (after_happenings (world_after w (Emit side)) later) < left_in w
 useful-sent w side later calm h u arrives up =
     let k = length (party_of w side).sent in
-    lower-happening w (Happens (Emit side)) later tt calm h up
-    (λ hv still. useful-arrives (world_after w (Emit side)) side k later calm hv (emit-at (λ x y. IsUseful x y k) w side u) arrives up)
+    let v = world_after w (Emit side) in
+    lowers w v _ h (steps-event w (Emit side) tt h.kept) (steps-happenings v later calm) up
+    (λ hv still. useful-arrives v side k later calm hv (emit-at (λ x y. IsUseful x y k) w side u) arrives up)
 
 -- what covers goes out, and arrives
 pub covering-sent : (w : WorldState) (side : Side) (later : List Happening) → AreCalm (world_after w (Emit side)) later → IsGoing w
@@ -162,9 +104,3 @@ covering-sent w side later calm h covers arrives up =
           covers.no_rst covers.no_syn;
       use_of = inl (omega (arith, covers.starts, covers.begins), omega (arith, covers.starts, covers.ends));
     }) arrives up
-
--- ---- WHERE NOTHING IS LEFT it stays so
-pub done-happenings : (w : WorldState) (list : List Happening) → AreCalm w list → IsDone w → NoneGaveUp (after_happenings w list)
-    → IsDone (after_happenings w list)
-done-happenings w list calm done up =
-    done-steps w (after_happenings w list) (steps-happenings w list calm done.kept) (on-happenings w list calm done.kept done.on up) done

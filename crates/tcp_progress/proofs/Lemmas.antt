@@ -16,11 +16,11 @@ pub use Rattle.tcp_progress.proofs.Waking.{emissions-last, IsOld, old-wakes, syn
 pub use Rattle.tcp_progress.proofs.Answering.{KeepsOwed, owed-judgement, owed-same, range-same, RangeDone}
 pub use Rattle.tcp_progress.proofs.Bursting.{bursting-emits, IsBounded, IsBursting, timeout-bursts}
 pub use Rattle.tcp_progress.proofs.Calm.{closed-ending, ends-plainly, Grows, how-ends, IsMoved, Resets, way-later}
-pub use Rattle.tcp_progress.proofs.CalmWorlds.{moves-event, on-all, says-over, Steps, steps-all, steps-event, steps-left, steps-streams, steps-then}
+pub use Rattle.tcp_progress.proofs.CalmWorlds.{moves-event, says-over, Steps, steps-all, steps-event, steps-left, steps-streams, steps-then}
 pub use Rattle.tcp_progress.proofs.Turning.{after-append, all-append, all-emissions, all-more, all-untimed, among-behind, among-left, among-right, AreAmong}
 pub use Rattle.tcp_progress.proofs.Turning.{calm-append, calm-emissions, calm-served, come-after, come-among, come-both, come-first, got-through, have-read}
 pub use Rattle.tcp_progress.proofs.Turning.{reads-calm, tail-calm, turn-calm, turn-same, turn-tail, TurnLowers, turns-calm, untimed-calm}
 pub use Rattle.tcp_progress.proofs.Sides.{at-event, deliver-at, deliver-to, either-side, emit-at, emit-endpoint, emit-other, emit-party, timer-at}
 pub use Rattle.tcp_progress.proofs.Sides.{timer-endpoint, timer-other, twice}
-pub use Rattle.tcp_progress.proofs.Going.{AreStill, going-live, IsGoing, IsStillFrom, KeepsReady, lower-event, Lowers, lowers-only, over-all, over-served}
+pub use Rattle.tcp_progress.proofs.Going.{AreStill, going-live, IsGoing, IsStillFrom, KeepsReady, lowers, Lowers, lowers-only, over, over-served}
 pub use Rattle.tcp_progress.proofs.Going.{side-left, side-on, steps-both, still-back}

@@ -3,7 +3,7 @@ use Rattle.tcp_replay.proofs.Words.{◌++◌, ◌<◌, ap, arith, cases_lt, Even
 use Rattle.tcp_replay.proofs.Words.{WorldState, ℕ, ◌∙◌, ◌≡◌, ◌⊎◌}
 use Rattle.tcp_progress.proofs.Words.{AllCome, both_served, IsIdle, IsLive, IsSteadyPair, IsTurn, left_in, left_of_both, NoneGaveUp, reads, served, Side}
 use Rattle.tcp_progress.proofs.Lemmas.{after-append, among-behind, among-left, AreStill, calm-append, calm-served, come-after, come-among, come-first}
-use Rattle.tcp_progress.proofs.Lemmas.{going-live, have-read, IsGoing, on-all, reads-calm, side-left, side-pair, steps-all, steps-left, tail-calm, turn-same}
+use Rattle.tcp_progress.proofs.Lemmas.{going-live, have-read, IsGoing, reads-calm, side-left, side-pair, steps-all, steps-left, tail-calm, turn-same}
 use Rattle.tcp_progress.proofs.Lemmas.{turn-tail, TurnLowers, twice}
 use Rattle.tcp_progress.proofs.Behind.{after_both, after_first, AreIdle, asked-first, asked-then, IsBehind, IsServed, later-calm, over-first}
 use Rattle.tcp_replay.proofs.Lemmas.{one_if}
@@ -88,7 +88,7 @@ lowers_lem w turn h on t up some =
     let up' = subst NoneGaveUp same up in
     let steps = steps-all w reads reads-calm h in
     let rest = steps-all v tail (tail-calm w turn t) steps.kept in
-    let on' = on-all w reads reads-calm h on (rest.stays up') in
+    let on' = steps.on on (rest.stays up') in
     let read = have-read w h on in
     elim (cases_lt (left_in v) (left_in w)) [
       | inl less ↦ omega (arith, less, steps-left v (world_after_all v tail) rest, ap left_in same)

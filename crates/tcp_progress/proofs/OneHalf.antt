@@ -3,7 +3,7 @@
 use Rattle.tcp_replay.proofs.Words.{◌++◌, ◌+◌, ◌<◌, [], ack_alone, after_retransmit, ap, arith, cases_lt, Config, Content, count_numbers}
 use Rattle.tcp_replay.proofs.Words.{Deliver, Due, due_of, effect_of, Emit, EmitAcknowledgement, EventContent, false, has, has_peer, IfSome, inl, inr}
 use Rattle.tcp_replay.proofs.Words.{is_handshake}
-use Rattle.tcp_replay.proofs.Words.{length, List, next_position, None, number, Option, other, party_after_ack_alone, party_after_emission, party_after_timer}
+use Rattle.tcp_replay.proofs.Words.{length, List, next_position, None, Option, other, party_after_ack_alone, party_after_emission, party_after_timer}
 use Rattle.tcp_replay.proofs.Words.{party_of, PartyState, refl, Retransmit, rst, segment_of, sends_text, Some, start_of, State, subst, sym, Syn}
 use Rattle.tcp_replay.proofs.Words.{syn, syn_segment, text_limit, Timer, true, world_after, WorldState, ℕ, ◌∙◌, ◌∷◌}
 use Rattle.tcp_replay.proofs.Words.{report_options_short, ◌≡◌, ◌≤◌, ◌⊎◌}
@@ -11,19 +11,22 @@ use Rattle.tcp_progress.proofs.Words.{A, all_of, AnswerArrives, AreCalm, Arrives
 use Rattle.tcp_progress.proofs.Words.{IsInFlight, KeepsFlight, MaySend, NoneGaveUp, SegmentIsAnswered, SendsAt, Side, timeout}
 use Rattle.tcp_replay.specs.Among.{Happening, Happens}
 unfoldable use Rattle.tcp_replay.specs.Among.{after_happenings}
-use Rattle.tcp_progress.proofs.Happened.{calm-parts, covering-sent, happenings-append, lower-happening, over-happening, over-happenings}
+use Rattle.tcp_progress.proofs.Happened.{calm-parts, covering-sent, happenings-append}
 use Rattle.tcp_progress.proofs.Happened.{steps-happenings, useful-arrives, useful-sent}
 use Rattle.tcp_progress.proofs.Lemmas.{acked-all, AreStill, deliver-at, emit-at, emit-other, emit-party, emitted-as, fresh-emitted, going-live, has-room}
 use Rattle.tcp_progress.proofs.Lemmas.{in-flight}
-use Rattle.tcp_progress.proofs.Lemmas.{IsFresh, IsGoing, IsOld, IsStill, IsStillFrom, kept-steady, live-in, live-sends, Lowers, new_lem, no-handshake}
-use Rattle.tcp_progress.proofs.Lemmas.{no-syn-owed, old-wakes, past-syn, sends-synchronized, side-pair, Steps, still-emission, still-next}
+use Rattle.tcp_progress.proofs.Lemmas.{IsFresh, IsGoing, IsOld, IsStillFrom, kept-steady, live-in, live-sends, Lowers, new_lem, no-handshake}
+use Rattle.tcp_progress.proofs.Lemmas.{no-syn-owed, old-wakes, past-syn, side-pair, Steps, still-emission, still-next}
 use Rattle.tcp_progress.proofs.Lemmas.{syn-due, syn-old, timer-at, timer-endpoint, twice, unsent-sends, waits, steps-event}
-use Rattle.tcp_replay.proofs.Lemmas.{due-alone, due-bits, end-is, one_if, one_if-most}
+use Rattle.tcp_progress.proofs.Lemmas.{sends-synchronized}
+use Rattle.tcp_replay.proofs.Lemmas.{due-alone, due-bits, end-is, one_if}
 use Rattle.tcp_replay.proofs.{AloneEmissions.ack-alone-goes, AloneEmissions.GoesOutAlone, Emissions.goes-out}
 use Rattle.tcp_progress.proofs.{Again.flight-kept, Again.resent, Again.timeout-keeps, Again.timeout-resends, Asking.syn-alone}
 use Rattle.tcp_progress.proofs.{Emitted.fresh-due, Emitted.party_after_due, Live.due-still, Serving.IsUseful}
 use Rattle.tcp_progress.proofs.{Speaking.old-still}
 use Rattle.tcp_conn.specs.declared.due.Due.TheVariants as dues
+use Rattle.tcp_progress.proofs.Lemmas.{lowers, over}
+use Rattle.tcp_progress.proofs.Waking.{brought-old}
 
 -- ---- WHAT AN EVENT SENDS at SND.NXT is fresh
 pub alone-at : (P : PartyState → PartyState → Type 0) (w : WorldState) (side : Side) → P (party_after_ack_alone (party_of w side)) (party_of w (other side))
@@ -97,7 +100,7 @@ answer-out w side event due later now calm h sends at inside behind comes up =
       fresh = sent-fresh p q due pair out (omega (arith, at, taken));
       use_of = inr (omega (arith, at, taken), omega (arith, at, inside), omega (arith, behind, still));
     } in
-    lower-happening w (Happens event) later now calm h up (λ hv _. useful-arrives (world_after w event) side k later calm hv
+    lowers w (world_after w event) _ h (steps-event w event now h.kept) (steps-happenings (world_after w event) later calm) up (λ hv _. useful-arrives (world_after w event) side k later calm hv
     (sends-at (λ x y. IsUseful x y k) w side event due sends useful) comes up)
 
 -- ---- OVER THE PARTS of a list that leads to `end`
@@ -109,7 +112,7 @@ split-lowers w xs ys list end Q form reach calm h up next =
     let v = after_happenings w xs in
     let parts = calm-parts w xs ys (subst (AreCalm w) form calm) in
     let on : after_happenings v ys ≡ end = sym (happenings-append w xs ys) ∙ ap (after_happenings w) (sym form) ∙ reach in
-    over-happenings w xs end Q parts.0 h (λ kept. subst (Steps v) on (steps-happenings v ys parts.1 kept)) up (λ hv still. next on parts.1 hv still)
+    over w v end Q h (steps-happenings w xs parts.0 h.kept) (λ kept. subst (Steps v) on (steps-happenings v ys parts.1 kept)) up (λ hv still. next on parts.1 hv still)
 
 -- at one event
 step-lowers : (w : WorldState) (event : EventContent) (ys : List Happening) (end : WorldState) (Q : Type 0)
@@ -117,7 +120,7 @@ step-lowers : (w : WorldState) (event : EventContent) (ys : List Happening) (end
     → IsCalm event → AreCalm (world_after w event) ys → IsGoing w → NoneGaveUp end
     → (IsGoing (world_after w event) → IsStillFrom w (world_after w event) → Lowers (world_after w event) end Q) → Lowers w end Q
 step-lowers w event ys end Q reach now calm h up next =
-    over-happening w (Happens event) end Q now h (λ kept. subst (Steps (world_after w event)) reach (steps-happenings (world_after w event) ys calm kept)) up
+    over w (world_after w event) end Q h (steps-event w event now h.kept) (λ kept. subst (Steps (world_after w event)) reach (steps-happenings (world_after w event) ys calm kept)) up
     next
 
 -- more is claimed
@@ -252,24 +255,6 @@ after-parts side k (x ∷ xs) ys = inr (after-parts side k xs ys)
 
 answered-comes : (side : Side) (k : ℕ) (w : WorldState) (list : List Happening) → SegmentIsAnswered side k w list → Arrives side k list
 answered-comes side k w list answered = subst (Arrives side k) (sym answered.form) (after-parts side k answered.before answered.after)
-
--- it goes out of p, and is old to q where it ends there
-pub brought-old : (p p' q : PartyState) (k start : ℕ) (v : Content) → IsSteadyPair p q → IsSteadyPair p' q → IsStill p p' → IsFresh p' q k start v
-    → start ≤ p.endpoint.sending.una → p.endpoint.sending.una < start + count_numbers v → start + count_numbers v ≤ next_position q
-    → next_position q ≤ p.endpoint.sending.nxt → 1 ≤ p.endpoint.sending.una → IsOld p' q k v
-brought-old p p' q k start v before after still goes begins some ends all least =
-    let sends = before.pair.there.alone.sends in
-    record {
-      g = goes.g;
-      way = goes.way;
-      src = goes.src;
-      dst = goes.dst;
-      seq = goes.seq ∙ ap (number p'.endpoint.config.isn.0) (sym goes.starts);
-      some = omega (arith, begins, some);
-      ends = omega (arith, goes.starts, ends);
-      near = omega (arith, goes.starts, goes.near, still.una, all, sends.most, one_if-most p.closed, sends.ahead, sends.released, least);
-      wanted = omega (arith, goes.wanted, after.pair.back.between);
-    }
 
 -- ---- IT EMITS what is old to the other, and is answered
 old-lowers : (v : WorldState) (side : Side) (c : Content) (later : List Happening) (end : WorldState) → after_happenings (world_after v (Emit side)) later ≡ end

@@ -4,7 +4,7 @@ use Rattle.tcp_replay.proofs.Words.{sym, true, world_after, world_after_all, Wor
 use Rattle.tcp_progress.proofs.Words.{A, AllCome, B, GotThrough, HasTurns, HaveSyns, IsCalm, IsIdle, IsTurn, left_in, NoneGaveUp, OpensAndGetsThrough, reads}
 use Rattle.tcp_progress.proofs.Words.{served, Side, WhoIsServedOpens}
 use Rattle.tcp_progress.proofs.Lemmas.{after-append, all-untimed, among-behind, among-left, both-live, calm-append, calm-served, come-among, either-side, GoOn}
-use Rattle.tcp_progress.proofs.Lemmas.{got-through, in-every-world, IsKept, on-all, reads-calm, steps-all, steps-event, steps-left, steps-streams, steps-then}
+use Rattle.tcp_progress.proofs.Lemmas.{got-through, in-every-world, IsKept, reads-calm, steps-all, steps-event, steps-left, steps-streams, steps-then}
 use Rattle.tcp_progress.proofs.Lemmas.{turn-calm, turns-calm}
 use Rattle.tcp_progress.proofs.Called.{After, Before, before-shakes, before-stays, IsTaken, serve-stage, speaker}
 use Rattle.tcp_progress.proofs.Lowering.{lowers_lem, turn-served}
@@ -83,7 +83,7 @@ opened-on : (w : WorldState) (xs : List EventContent) → AllByRecursion IsCalm 
     → IsOn (world_after_all w xs)
 unfolding world_after_all
 opened-on w [] calm h both up = both-live w.a w.b both.a both.b
-opened-on w (x ∷ xs) calm h (inl both) up = on-all w (x ∷ xs) calm h (both-live w.a w.b both.a both.b) up
+opened-on w (x ∷ xs) calm h (inl both) up = (steps-all w (x ∷ xs) calm h).on (both-live w.a w.b both.a both.b) up
 opened-on w (x ∷ xs) calm h (inr more) up = opened-on (world_after w x) xs calm.1 (steps-event w x calm.0 h).kept more up
 
 -- of two outcomes of the first turn each leads on

@@ -5,7 +5,7 @@ use Rattle.tcp_replay.proofs.Words.{sends_again, sends_text, Some, State, subst,
 use Rattle.tcp_replay.proofs.Words.{WorldState, ℕ, ◌∙◌, ◌≡◌, ◌⊎◌}
 use Rattle.tcp_progress.proofs.Words.{AllCome, Comes, emissions, IsCalm, IsIdle, IsLive, IsSteadyPair, left_in, NoneGaveUp, served, Side}
 use Rattle.tcp_progress.proofs.Lemmas.{acked-all, after-append, bursting-emits, calm-append, calm-emissions, calm-served, emit-endpoint, fin-last, going-live}
-use Rattle.tcp_progress.proofs.Lemmas.{IsBounded, IsBursting, IsGoing, IsStillFrom, live-in, live-sends, Lowers, over-all, over-served, past-syn, side-pair}
+use Rattle.tcp_progress.proofs.Lemmas.{IsBounded, IsBursting, IsGoing, IsStillFrom, live-in, live-sends, Lowers, over, over-served, past-syn, side-pair}
 use Rattle.tcp_progress.proofs.Lemmas.{steps-all, still-done, timeout-bursts, timer-endpoint}
 use Rattle.tcp_replay.proofs.Lemmas.{end-is, none-some, one_if, one_if-most}
 use Rattle.tcp_progress.proofs.{Serving.cleared, Serving.cleared-same, Serving.may-send-cleared, Serving.reset-first, Speaking.idle-no_syn}
@@ -143,6 +143,6 @@ replies n w side later calm h at behind idle come up =
             | inr ready ↦ inr (waits-idle u side ready idle)
           ]
       | inr quiet ↦
-          over-all w (served side n) (world_after_all u later) (Waits u side) (calm-served side n) h (steps-all u later calm) up
+          over w u (world_after_all u later) (Waits u side) h (steps-all w (served side n) (calm-served side n) h.kept) (steps-all u later calm) up
           (λ h' still. inr (quiet-waits w u side h h' still quiet at behind idle))
     ]

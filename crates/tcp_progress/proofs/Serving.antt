@@ -7,11 +7,12 @@ use Rattle.tcp_replay.proofs.Words.{world_after, world_after_all, WorldState, ze
 use Rattle.tcp_progress.proofs.Words.{after_emissions, all_of, AllCome, Comes, CoversNext, Delivers, emissions, is_reset, IsCalm, IsIdle, IsLive, IsSteadyPair}
 use Rattle.tcp_progress.proofs.Words.{least_life, left_in, left_of_both, MaySend, NoneGaveUp, served, Side}
 use Rattle.tcp_progress.proofs.Lemmas.{after-append, again_lem, AreStill, calm-append, calm-emissions, deliver-at, delivered-in, delivered-next, emit-at}
-use Rattle.tcp_progress.proofs.Lemmas.{flight-sends, fresh-emitted, going-live, has-room, in-flight, IsFresh, IsGoing, IsOpenTo, kept-steady, lower-event}
-use Rattle.tcp_progress.proofs.Lemmas.{new_lem, no-handshake, no-syn-owed, over-served, past-syn, sends-synchronized, side-left, side-pair, steps-all}
+use Rattle.tcp_progress.proofs.Lemmas.{flight-sends, fresh-emitted, going-live, has-room, in-flight, IsFresh, IsGoing, IsOpenTo, kept-steady, lowers}
+use Rattle.tcp_progress.proofs.Lemmas.{new_lem, no-handshake, no-syn-owed, over-served, past-syn, side-left, side-pair, steps-all}
 use Rattle.tcp_progress.proofs.Lemmas.{steps-event, steps-left, timer-at, unsent-sends, waits, way-later}
 use Rattle.tcp_replay.proofs.Lemmas.{none-some}
 use Rattle.tcp_conn.specs.declared.due.Due.TheVariants as dues
+use Rattle.tcp_progress.proofs.Lemmas.{sends-synchronized}
 use Rattle.tcp_replay.proofs.Lemmas.{waiting-bit, reset-waits}
 
 -- ---- WHAT WAS FRESH STILL IS
@@ -109,7 +110,7 @@ useful-comes w side k (event ∷ events) calm h u comes up =
           let less : left_in v < left_in w = subst (λ (e : EventContent). left_in (world_after w e) < left_in w) (sym now) (useful-now w side k h u) in
           omega (arith, less, steps-left v end (steps-all v events calm.1 (steps-event w event calm.0 h.kept).kept))
       | inr later ↦
-          lower-event w event events calm.0 calm.1 h up (λ hv still.
+          lowers w v end h (steps-event w event calm.0 h.kept) (steps-all v events calm.1) up (λ hv still.
           let u' = useful-still (party_of w side) (party_of w (other side)) (party_of v side) (party_of v (other side)) k (side-pair w side h.kept)
           (side-pair v side hv.kept) (going-live w side h).0.opened (still side) u in
           useful-comes v side k events calm.1 hv u' later up)
@@ -205,7 +206,7 @@ useful-out w side later due calm h is plain u comes up =
     let k = length (party_of w side).sent in
     let v = world_after w (Emit side) in
     let come = comes-due w side later due is plain comes in
-    lower-event w (Emit side) later tt calm h up (λ hv still. useful-comes v side k later calm hv (emit-at (λ x y. IsUseful x y k) w side u) come up)
+    lowers w v _ h (steps-event w (Emit side) tt h.kept) (steps-all v later calm) up (λ hv still. useful-comes v side k later calm hv (emit-at (λ x y. IsUseful x y k) w side u) come up)
 
 -- what covers goes out at once
 covering-out : (w : WorldState) (side : Side) (later : List EventContent) → AllByRecursion IsCalm later → IsGoing w

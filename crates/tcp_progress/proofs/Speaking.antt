@@ -7,11 +7,12 @@ use Rattle.tcp_replay.proofs.Words.{Syn, syn_due, text_limit, true, WaitingReset
 use Rattle.tcp_replay.proofs.Words.{◌≡◌, ◌≤◌, ◌⊎◌}
 use Rattle.tcp_progress.proofs.Words.{AllCome, Comes, Delivers, IsCalm, IsIdle, IsUntimed, left_in, NoneGaveUp, Side, StandsAtNext}
 use Rattle.tcp_progress.proofs.Lemmas.{all-untimed, AreStill, at-event, calm-append, deliver-to, delivered, emit-endpoint, fresh-emitted, going-live, GoOn}
-use Rattle.tcp_progress.proofs.Lemmas.{IsGoing, IsKept, IsOld, KeepsOwed, kept-steady, lower-event, Lowers, old-wakes, owed-judgement, owed-same, owing-due}
+use Rattle.tcp_progress.proofs.Lemmas.{IsGoing, IsKept, IsOld, KeepsOwed, kept-steady, lowers, Lowers, old-wakes, owed-judgement, owed-same, owing-due}
 use Rattle.tcp_progress.proofs.Lemmas.{past-syn, range-same, RangeDone, side-on, side-pair, stands-or-none, steady-back, still-back, still-emission, still-next}
 use Rattle.tcp_progress.proofs.Lemmas.{untimed-calm, way-later}
 use Rattle.tcp_replay.proofs.Lemmas.{done-none, finds-damage, none-some, or-none, pair-swapped}
 use Rattle.tcp_progress.proofs.Serving.{not-reset, useful-out}
+use Rattle.tcp_progress.proofs.Lemmas.{steps-event, steps-all}
 
 -- ---- WHAT AN EVENT LEAVES of what is pending at an end, unless the end emits
 receive-owed : (s : State) (room : ℕ) (refusal : Option CallError) → KeepsOwed s (state_unless refusal s (with_bytes_received s room))
@@ -156,7 +157,7 @@ owing-lowers w side (event ∷ events) back untimed after h waits owes come idle
     elim (goes-on w side event later untimed.0 calm h waits come.0 up) [
       | inl less ↦ less
       | inr keeps ↦
-          lower-event w event later (untimed-calm event untimed.0) calm h up (λ hv still.
+          lowers w v _ h (steps-event w event (untimed-calm event untimed.0) h.kept) (steps-all v later calm) up (λ hv still.
           let waits' = waits-later w v side (still side) keeps waits in
           owing-lowers v side events back untimed.1 after hv waits' (keeps.ack (going-live v side hv).0.goes_on owes) come.1 idle up)
     ]
@@ -199,7 +200,7 @@ spoken-lowers w side k v (event ∷ events) back untimed after h waits old comes
     let u = world_after w event in
     let later = events ++ back in
     let calm = calm-append events back (all-untimed events untimed.1) after in
-    let over = lower-event w event later (untimed-calm event untimed.0) calm h up in
+    let over = lowers w u _ h (steps-event w event (untimed-calm event untimed.0) h.kept) (steps-all u later calm) up in
     elim comes [
       | inl now ↦
           let Said : PartyState → Type 0 = λ x. KeepsOwed (party_of w side).endpoint x.endpoint × (x.endpoint.owed.ack ≡ true) in

@@ -9,7 +9,7 @@ use Rattle.tcp_replay.proofs.Words.{segment_of, Sends, SentSegment, State, sym, 
 use Rattle.tcp_replay.proofs.Words.{with_closing, with_fin, ℕ, ◌∙◌, ◌≡◌, ◌≤◌}
 use Rattle.tcp_replay.proofs.Lemmas.{after_segment, AllSaid, Arrives, at-closed, Both, both-swapped, end-listen, end-syn_received, end-syn_sent}
 use Rattle.tcp_replay.proofs.Lemmas.{end-synchronized, gives_up-not_ended, IsPresent, kept-same, KeptByCalls, knows-closing, knows-fin, knows-own_fin, Moved}
-use Rattle.tcp_replay.proofs.Lemmas.{next_of, on-arrival, one_if-false, option_or-none, own-decodes, PairKept, present-knows, refusal_if-none, said-after}
+use Rattle.tcp_replay.proofs.Lemmas.{next_of, on-arrival, one_if-false, or-none, own-decodes, PairKept, present-knows, refusal_if-none, said-after}
 use Rattle.tcp_replay.proofs.Lemmas.{said-back, same-content, send-open, Speaks, syn_sent-knows, Synced, wanted-is}
 use Rattle.tcp_progress.proofs.Table.{Between, last_ack-fin, last_ack-own_fin, last_ack-own_syn, own_fin-acked, own_fin-is_acked, own_fin-is_unacked}
 use Rattle.tcp_progress.proofs.Table.{own_fin-unacked, Table, table-acked, table-close, table-fin, table-last_ack, table-more, table-no_own_fin, table-own_fin}
@@ -52,8 +52,8 @@ closing : (p q : PartyState) → IsSoundPair p q → close_refusal p.endpoint �
 closing p q pair e unanswered h =
     let s = p.endpoint in
     let sends = pair.there.alone.sends in
-    let parts = option_or-none (open_refusal s) (refusal_if s.closing errors.Closing) e in
-    let opens = option_or-none (refusal_if (is_ended s.ending) (Ended s.ending)) (refusal_if (is_closed s.phase) NotOpen) parts.0 in
+    let parts = or-none (open_refusal s) (refusal_if s.closing errors.Closing) e in
+    let opens = or-none (refusal_if (is_ended s.ending) (Ended s.ending)) (refusal_if (is_closed s.phase) NotOpen) parts.0 in
     let unclosed : p.closed ≡ false = sym pair.there.alone.closing ∙ refusal_if-none s.closing errors.Closing parts.1 in
     let below : s.sending.una < 2 + length p.accepted = omega (arith, sends.order, sends.most, one_if-false p.closed unclosed) in
     let shut = refusal_if-none (is_closed s.phase) NotOpen opens.1 in

@@ -1,16 +1,17 @@
 -- WINDOW SCALING is what both Configs say (RFC 7323, 2.2), whoever opened: each SYN offers its own shift, and an answer offers it where the peer's did.
-use Rattle.tcp_replay.proofs.Words.{◌&&◌, ◌*◌, ◌++◌, ◌+◌, ◌/◌, [], ◌^◌, Aborted, address_of, after_acked_text, after_giving_up, after_news, after_own_syn}
-use Rattle.tcp_replay.proofs.Words.{after_peer_accepts, after_peer_opens, after_place, after_text, ap, arith, Bool, bytes_in_order, capacity_placed}
-use Rattle.tcp_replay.proofs.Words.{capacity_read, Cell, cond_both, Config, Content, div-mul-le_self, drop, Due, false, false≢true, greatest_stamp, has}
-use Rattle.tcp_replay.proofs.Words.{HasGoodShift, HoldsWithin, if◌then◌else◌, Inbox, is_refused, is_sack_offered, is_some, IsSoundPair, length}
-use Rattle.tcp_replay.proofs.Words.{length-append, length-drop, Link, link_of, List, max_shift, max_window, min, min_mss, mul-le, new_party, None, not, Option}
-use Rattle.tcp_replay.proofs.Words.{overlay_of, own_shift, PartyState, permission_options, piece, plain_segment, receive_refusal, Receiving, refl}
-use Rattle.tcp_replay.proofs.Words.{Reset, rst, Run, runs, scale_options, segment_of, SentSegment, shift_offered, shift_option, Some, State, subst, suc, sym}
-use Rattle.tcp_replay.proofs.Words.{Syn, syn, syn_options, syn_segment, true, unwrap_or, whole_empty, whole_read, whole_without_held, window, window_field}
-use Rattle.tcp_replay.proofs.Words.{with_bytes_received, with_fin, with_overlay, with_ranks, with_ranks_from, without_bytes, ℕ, ℤ, ◌∙◌, ◌∷◌, ◌≡◌, ◌≤◌}
+use Rattle.tcp_replay.proofs.Words.{◌&&◌, ◌*◌, ◌++◌, ◌/◌, ◌^◌, Aborted, address_of, after_acked_text, after_giving_up, after_news, after_own_syn}
+use Rattle.tcp_replay.proofs.Words.{after_peer_accepts, after_peer_opens, after_text, ap, arith, Bool}
+use Rattle.tcp_replay.proofs.Words.{Config, Content, div-mul-le_self, Due, false, false≢true, has}
+use Rattle.tcp_replay.proofs.Words.{HasGoodShift, HoldsWithin, if◌then◌else◌, Inbox, is_sack_offered, is_some, IsSoundPair}
+use Rattle.tcp_replay.proofs.Words.{Link, link_of, max_shift, max_window, min, min_mss, mul-le, new_party, None, not, Option}
+use Rattle.tcp_replay.proofs.Words.{own_shift, PartyState, permission_options, plain_segment, receive_refusal, refl}
+use Rattle.tcp_replay.proofs.Words.{Reset, rst, scale_options, segment_of, SentSegment, shift_offered, shift_option, State, subst, sym}
+use Rattle.tcp_replay.proofs.Words.{Syn, syn, syn_options, syn_segment, true, unwrap_or, whole_empty, window, window_field}
+use Rattle.tcp_replay.proofs.Words.{with_bytes_received, ℕ, ◌∙◌, ◌≡◌, ◌≤◌}
 use Rattle.tcp_replay.proofs.Lemmas.{after_segment, AllSaid, Arrives, Both, both-swapped, GoesOutAlone, kept-same, KeptByCalls, Moved, on-arrival, PairKept}
 use Rattle.tcp_replay.proofs.Lemmas.{due-bits, said-after, said-back, Speaks, syn-bits}
-use Rattle.tcp_progress.proofs.{Words.TellsWithin, Brought.in_order-most, Brought.overlay-length}
+use Rattle.tcp_replay.proofs.Room.{within-fin, within-given_up, within-read, within-text}
+use Rattle.tcp_progress.proofs.{Words.TellsWithin}
 use Rattle.tcp_replay.proofs.Lemmas.{waiting-bit}
 
 -- the shift of an end that may scale by `mine`, towards one that may by `yours`
@@ -65,45 +66,6 @@ field-within shift window = omega (
 )
 
 -- ---- ADVERTISED WINDOWS, on the definitions: every event keeps the window that each end advertises within its room.
--- ---- THE INBOX: what is unread and the window make up the capacity
-ranks_from-length : (all : List Run) (place : ℕ) (held : List (Option Cell)) → length (with_ranks_from all place held) ≡ length held
-ranks_from-length all place [] = refl
-ranks_from-length all place (None ∷ places) = omega (arith, ranks_from-length all (suc place) places)
-ranks_from-length all place (Some cell ∷ places) = omega (arith, ranks_from-length all (suc place) places)
-
-ranks-length : (held : List (Option Cell)) → length (with_ranks held) ≡ length held
-unfolding with_ranks
-ranks-length held = ranks_from-length (runs held) 0 held
-
-laid-whole : (q : Inbox) (over : List (Option Cell)) → length over ≡ length q.held → length q.unread + length q.held ≡ q.capacity
-    → length (with_overlay q over).unread + length (with_overlay q over).held ≡ q.capacity
-laid-whole q over same whole =
-    let n = length (bytes_in_order over) in
-    let unread : length (q.unread ++ bytes_in_order over) ≡ length q.unread + n = length-append q.unread (bytes_in_order over) in
-    let held : length (with_ranks (drop n over)) ≡ length (drop n over) = ranks-length (drop n over) in
-    omega (arith, unread, held, length-drop n over, in_order-most over, same, whole)
-
-placed-whole : (q : Inbox) (offset : ℤ) (text : List ℕ) → length q.unread + length q.held ≡ q.capacity
-    → length (after_place q offset text).unread + length (after_place q offset text).held ≡ q.capacity
-unfolding after_place
-placed-whole q offset text whole =
-    let part = piece offset text in
-    cond_both (is_refused q part) q (with_overlay q (overlay_of q part)) (λ (x : Inbox). length x.unread + length x.held ≡ q.capacity)
-    (λ _. whole) (λ _. laid-whole q (overlay_of q part) (overlay-length part.start part.text (suc (greatest_stamp q.held)) q.held) whole)
-
-within-given_up : (capacity : ℕ) (r : Receiving) → HoldsWithin capacity r.inbox → HoldsWithin capacity (without_bytes r).inbox
-within-given_up capacity r h = record { size = h.size; received = whole_empty r.inbox.capacity ∙ h.size }
-
-within-fin : (capacity : ℕ) (r : Receiving) → HoldsWithin capacity r.inbox → HoldsWithin capacity (with_fin r).inbox
-within-fin capacity r h = record { size = h.size; received = whole_without_held r.inbox (h.received ∙ sym h.size) ∙ h.size }
-
-within-text : (capacity : ℕ) (r : Receiving) (seq : ℕ) (text : List ℕ) → HoldsWithin capacity r.inbox → HoldsWithin capacity (after_text r seq text).inbox
-unfolding after_text
-within-text capacity r seq text h = record {
-  size = capacity_placed r.inbox _ text ∙ h.size;
-  received = placed-whole r.inbox _ text (h.received ∙ sym h.size) ∙ h.size;
-}
-
 pub window-within : (capacity : ℕ) (q : Inbox) → HoldsWithin capacity q → window q ≤ capacity
 window-within capacity q h = omega (arith, h.size)
 
@@ -126,10 +88,7 @@ room-calls p q h =
     let capacity = p.endpoint.config.recv_capacity in
     let gone : InRoom p q (after_giving_up p.endpoint Aborted) = record { within = within-given_up capacity r h.within; mss = h.mss; agreed = h.agreed } in
     let reads : (room : ℕ) → receive_refusal p.endpoint ≡ None → InRoom p q (with_bytes_received p.endpoint room) =
-    λ room _.
-    let size = capacity_read r.inbox room ∙ h.within.size in
-    let received = whole_read r.inbox room (h.within.received ∙ sym h.within.size) ∙ h.within.size in
-    record { within = record { size = size; received = received }; mss = h.mss; agreed = h.agreed } in
+    λ room _. record { within = within-read capacity r room h.within; mss = h.mss; agreed = h.agreed } in
     assumption
 
 -- a SYN makes the link

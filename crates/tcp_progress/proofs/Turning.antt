@@ -9,10 +9,11 @@ use Rattle.tcp_progress.proofs.Words.{is_reset, IsCalm}
 use Rattle.tcp_progress.proofs.Words.{IsSteadyPair, IsTurn, IsUntimed, left_in, NoneGaveUp, reads, served, Side, WhoIsServedGetsThrough}
 use Rattle.tcp_progress.proofs.Ended.{all-come, complete, hands-still, IsAllTaken, IsComplete, read-end, through, up-stays, waited}
 use Rattle.tcp_replay.proofs.Lemmas.{both-swapped}
-use Rattle.tcp_progress.proofs.{AlwaysSteady.in-every-world, AlwaysSteady.IsKept, AlwaysSteady.kept-steady, Calm.Grows, CalmWorlds.on-all, CalmWorlds.steps-all}
+use Rattle.tcp_progress.proofs.{AlwaysSteady.in-every-world, AlwaysSteady.IsKept, AlwaysSteady.kept-steady, Calm.Grows, CalmWorlds.steps-all}
 use Rattle.tcp_progress.proofs.{CalmWorlds.Steps, CalmWorlds.steps-left, CalmWorlds.steps-streams, Live.both-live, Live.GoOn, Live.IsUp, Live.steady-back}
 use Rattle.tcp_progress.proofs.{Live.still-reading}
 use Rattle.tcp_progress.proofs.{Sides.on-both}
+use Rattle.tcp_replay.proofs.Words.{nil_from_length}
 
 -- AMONG: whatever is delivered among some events is delivered among others
 abbrev pub AreAmong : List EventContent → List EventContent → Type 0
@@ -170,14 +171,9 @@ pub reads-are : (w : WorldState)
 unfolding effect_of world_after_all
 reads-are w = refl
 
--- a list of no length
-pub empty-length : (xs : List ℕ) → length xs ≤ 0 → xs ≡ []
-empty-length [] h = refl
-empty-length (x ∷ xs) h = absurd (omega (arith, h))
-
 read-most : (p : PartyState) → receive_refusal p.endpoint ≡ None → length (unread_of p) ≤ all_room → unread_of (party_after_receive p all_room) ≡ []
 unfolding party_after_receive after_receive after_read
-read-most p hands most = rw hands (empty-length (drop all_room (unread_of p)) (omega (arith, length-drop all_room (unread_of p), most)))
+read-most p hands most = rw hands (nil_from_length (drop all_room (unread_of p)) (omega (arith, length-drop all_room (unread_of p), most)))
 
 has-read : (p q : PartyState) → IsSteadyPair p q → IsUp p → HasReadAll (party_after_receive (party_after_receive p all_room) 0)
 has-read p q h up =
@@ -224,13 +220,14 @@ read-stays x y x' y' h h' whole up' gx gy read =
     let was = in-order x y h whole.there.up in
     let is = in-order x' y' h' up' in
     record {
-      all = empty-length (unread_of x') (omega (arith, was, is, ap length read.all, come.ordered, gx.handed, h'.pair.there.takes.order, ap length gy.accepted));
+      all = nil_from_length (unread_of x') (omega (arith, was, is, ap length read.all, come.ordered, gx.handed, h'.pair.there.takes.order, ap length gy.accepted));
       ended = λ finished. gx.ended (read.ended (come.finished (sym gy.closed ∙ (h'.pair.there.takes.fin finished).0)));
     }
 
 -- and stays so, over whatever only brings both on
-pub done-steps : (w v : WorldState) → Steps w v → GoOn v.a v.b → IsDone w → IsDone v
-done-steps w v steps on done =
+pub done-steps : (w v : WorldState) → Steps w v → NoneGaveUp v → IsDone w → IsDone v
+done-steps w v steps up done =
+    let on = steps.on done.on up in
     let pair = (kept-steady w done.kept).ends in
     let pair' = (kept-steady v steps.kept).ends in
     let whole = complete w.a w.b done.on done.none in
@@ -242,11 +239,6 @@ done-steps w v steps on done =
           (read-stays w.b w.a v.b v.a (steady-back w.b w.a pair) (steady-back v.b v.a pair') (both-swapped IsAllTaken w.a w.b whole) on.back (steps.grows B)
           (steps.grows A) (done.read B));
     }
-
-pub done-all : (w : WorldState) (events : List EventContent) → AllByRecursion IsCalm events → IsDone w → NoneGaveUp (world_after_all w events)
-    → IsDone (world_after_all w events)
-done-all w events calm done up =
-    done-steps w (world_after_all w events) (steps-all w events calm done.kept) (on-all w events calm done.kept done.on up) done
 
 -- then all got through
 pub done-through : (w v : WorldState) → Steps w v → IsDone v → GotThrough w v
@@ -269,9 +261,10 @@ turn-done w turn h on none t up =
     let calm = tail-calm w turn t in
     let steps = steps-all w reads reads-calm h in
     let up' : NoneGaveUp (world_after_all v tail) = subst NoneGaveUp same up in
-    let on' = on-all w reads reads-calm h on ((steps-all v tail calm steps.kept).stays up') in
+    let rest = steps-all v tail calm steps.kept in
+    let on' = steps.on on (rest.stays up') in
     let done : IsDone v = record { kept = steps.kept; on = on'; none = omega (arith, none, steps-left w v steps); read = have-read w h on } in
-    subst IsDone (sym same) (done-all v tail calm done up')
+    subst IsDone (sym same) (done-steps v (world_after_all v tail) rest up' done)
 
 -- ---- EACH TURN LEAVES LESS, while something is left
 abbrev pub TurnLowers : Type 0
@@ -304,13 +297,14 @@ module _ (lowers : TurnLowers) where
       let calm' = turns-calm n u after turns.6 in
       let steps = steps-all w before turns.4 h in
       let steps' = steps-all v turn calm steps.kept in
-      let up'' = (steps-all u after calm' steps'.kept).stays up' in
-      let on' = on-all w before turns.4 h on (steps'.stays up'') in
+      let rest = steps-all u after calm' steps'.kept in
+      let up'' = rest.stays up' in
+      let on' = steps.on on (steps'.stays up'') in
       subst IsDone (sym same) (elim (cases_lt 0 (left_in v)) [
-        | inr none ↦ done-all u after calm' (turn-done v turn steps.kept on' (omega (arith, none)) t up'') up'
+        | inr none ↦ done-steps u (world_after_all u after) rest up' (turn-done v turn steps.kept on' (omega (arith, none)) t up'')
         | inl some ↦
             let less = lowers v turn steps.kept on' t up'' some in
-            next u after (omega (arith, less, steps-left w v steps)) steps'.kept (on-all v turn calm steps.kept on' up'') turns.6 up'
+            next u after (omega (arith, less, steps-left w v steps)) steps'.kept (steps'.on on' up'') turns.6 up'
       ])
 
   -- as many turns as something is left, and one

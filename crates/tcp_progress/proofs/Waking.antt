@@ -65,11 +65,11 @@ pub emissions-last : (n : ℕ) (s : State) → after_emissions (suc n) s ≡ aft
 emissions-last zero s = refl
 emissions-last (suc n) s = emissions-last n (after_emission s)
 
--- a fresh segment that covers SND.UNA is old to q, which has all that was sent
-pub text-old : (p p' q : PartyState) (k start : ℕ) (v : Content) → IsSteadyPair p q → IsSteadyPair p' q → IsStill p p'
-    → p'.endpoint.sending.nxt ≡ p.endpoint.sending.nxt → IsFresh p' q k start v → start ≤ p.endpoint.sending.una
-    → p.endpoint.sending.una < start + count_numbers v → next_position q ≡ p.endpoint.sending.nxt → 1 ≤ p.endpoint.sending.una → IsOld p' q k v
-text-old p p' q k start v before after still nxt goes begins ends all least =
+-- a fresh segment that covers SND.UNA is old to q where it ends there
+pub brought-old : (p p' q : PartyState) (k start : ℕ) (v : Content) → IsSteadyPair p q → IsSteadyPair p' q → IsStill p p' → IsFresh p' q k start v
+    → start ≤ p.endpoint.sending.una → p.endpoint.sending.una < start + count_numbers v → start + count_numbers v ≤ next_position q
+    → next_position q ≤ p.endpoint.sending.nxt → 1 ≤ p.endpoint.sending.una → IsOld p' q k v
+brought-old p p' q k start v before after still goes begins some ends all least =
     let sends = before.pair.there.alone.sends in
     record {
       g = goes.g;
@@ -77,11 +77,18 @@ text-old p p' q k start v before after still nxt goes begins ends all least =
       src = goes.src;
       dst = goes.dst;
       seq = goes.seq ∙ ap (number p'.endpoint.config.isn.0) (sym goes.starts);
-      some = omega (arith, begins, ends);
-      ends = omega (arith, goes.starts, goes.most, nxt, all);
+      some = omega (arith, begins, some);
+      ends = omega (arith, goes.starts, ends);
       near = omega (arith, goes.starts, goes.near, still.una, all, sends.most, one_if-most p.closed, sends.ahead, sends.released, least);
       wanted = omega (arith, goes.wanted, after.pair.back.between);
     }
+
+-- so it is where q has all that was sent
+pub text-old : (p p' q : PartyState) (k start : ℕ) (v : Content) → IsSteadyPair p q → IsSteadyPair p' q → IsStill p p'
+    → p'.endpoint.sending.nxt ≡ p.endpoint.sending.nxt → IsFresh p' q k start v → start ≤ p.endpoint.sending.una
+    → p.endpoint.sending.una < start + count_numbers v → next_position q ≡ p.endpoint.sending.nxt → 1 ≤ p.endpoint.sending.una → IsOld p' q k v
+text-old p p' q k start v before after still nxt goes begins ends all least =
+    brought-old p p' q k start v before after still goes begins ends (omega (arith, goes.most, nxt, all)) (omega (arith, all)) least
 
 -- ---- in SYN-RECEIVED: the SYN goes out again
 -- it is old to q, which has it

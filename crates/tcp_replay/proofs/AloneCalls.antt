@@ -17,7 +17,10 @@ use Rattle.tcp_replay.proofs.Alone.{alone-ack_owed, alone-given_up, alone-orderl
 use Rattle.tcp_replay.proofs.Alone.{owes-taking}
 use Rattle.tcp_conn.specs.declared.outcome.CallError.TheVariants.{Closing}
 use Rattle.tcp_replay.proofs.{Halves.sends-closed, Halves.sends-more, Halves.sends-syn, Halves.sends-syn_acked, Judgements.IsPresent, Judgements.judged}
-use Rattle.tcp_replay.proofs.{Calls.CanOpen, Calls.KeptByCalls, Calls.option_or-none, Calls.owed_on_timeout, Calls.refusal_if-none}
+use Rattle.tcp_replay.proofs.{Dues.or-none, Calls.CanOpen, Calls.KeptByCalls, Calls.owed_on_timeout, Calls.refusal_if-none}
+use Rattle.tcp_replay.proofs.Words.{Stray, HandshakeRefused, HandshakeRefusedShut, Unacceptable, PeerResets, PeerOpens, PeerAccepts, Taken, TakenShut}
+use Rattle.tcp_replay.proofs.Judgements.{IsSyn}
+use Rattle.tcp_replay.proofs.Judgements.{IsTaken, IsAckOnly}
 
 -- RESETS can be written
 pub writable-at_ack : (src : List ℕ) (v : Content) → IsValid v → IsWritable (reset_at_ack src v)
@@ -95,30 +98,17 @@ refused_shut s accepted closed src v valid h present =
 pub alone-judgement : (s : State) (accepted : List ℕ) (closed : Bool) (src dst : List ℕ) (v : Content) → IsValid v → IsAlone s accepted closed
     → IsAlone (after_judgement (judgement s src dst v) s src v) accepted closed
 alone-judgement s accepted closed src dst v valid h =
-    let owing = owing-present s accepted closed h in
-    let resets = alone-reset s accepted closed (reset_at_ack src v) (writable-at_ack src v valid) h in
     let P : Judgement → Type 0 = λ j. IsAlone (after_judgement j s src v) accepted closed in
-    judged s v P (record {
-      foreign = h;
-      reset_ignored = h;
-      stray = alone-reset s accepted closed (reset_of_stray src v) (writable-stray src v valid) h;
-      ack_of_listen = resets;
-      no_syn = h;
-      peer_opens = λ listening is. alone-opening s accepted closed src v valid listening h;
-      ack_of_no_syn = resets;
-      peer_refuses = alone-given_up s accepted closed Reset refl h;
-      peer_accepts = λ sent is. alone-acceptance s accepted closed v sent h;
-      unacceptable = owing;
-      peer_resets = alone-given_up s accepted closed Reset refl h;
-      reset_elsewhere = owing;
-      syn_in_window = owing;
-      no_ack = h;
-      acks_unsent = owing;
-      handshake_refused = resets;
-      handshake_refused_shut = refused_shut s accepted closed src v valid h;
-      taken = λ present told. alone-taking s accepted closed v present h;
-      taken_shut = λ present told. alone-taking_shut s accepted closed v present h;
-    }) src dst
+    let stray : P Stray = alone-reset s accepted closed (reset_of_stray src v) (writable-stray src v valid) h in
+    let refused : P HandshakeRefused = alone-reset s accepted closed (reset_at_ack src v) (writable-at_ack src v valid) h in
+    let refused_shut : IsPresent s → P HandshakeRefusedShut = refused_shut s accepted closed src v valid h in
+    let owing : IsPresent s → P Unacceptable = owing-present s accepted closed h in
+    let gone : P PeerResets = alone-given_up s accepted closed Reset refl h in
+    let opens : is_listening s.phase ≡ true → IsSyn v → P PeerOpens = λ listening _. alone-opening s accepted closed src v valid listening h in
+    let accepts : is_syn_sent s.phase ≡ true → IsSyn v → P PeerAccepts = λ sent _. alone-acceptance s accepted closed v sent h in
+    let taken : IsPresent s → IsTaken s v → P Taken = λ present _. alone-taking s accepted closed v present h in
+    let shut : IsPresent s → IsAckOnly v → P TakenShut = λ present _. alone-taking_shut s accepted closed v present h in
+    judged s v P (assumption) src dst
 
 -- OPEN
 pub alone-connection : (s : State) (accepted : List ℕ) (closed : Bool) (peer : Peer) → peer.port < 2 ^ 16 → CanOpen s → IsAlone s accepted closed
@@ -162,10 +152,10 @@ pub send-open : (s : State) (text : List ℕ) → send_refusal s text ≡ None �
 send-open s text e =
     let full = refusal_if (is_full s text) StreamFull in
     let closes = refusal_if s.closing Closing in
-    let first = option_or-none (open_refusal s) (option_or (refusal_if (is_listening s.phase) NotConnected) (option_or closes full)) e in
-    let second = option_or-none (refusal_if (is_listening s.phase) NotConnected) (option_or closes full) first.1 in
-    let third = option_or-none closes full second.1 in
-    let parts = option_or-none (refusal_if (is_ended s.ending) (Ended s.ending)) (refusal_if (is_closed s.phase) NotOpen) first.0 in
+    let first = or-none (open_refusal s) (option_or (refusal_if (is_listening s.phase) NotConnected) (option_or closes full)) e in
+    let second = or-none (refusal_if (is_listening s.phase) NotConnected) (option_or closes full) first.1 in
+    let third = or-none closes full second.1 in
+    let parts = or-none (refusal_if (is_ended s.ending) (Ended s.ending)) (refusal_if (is_closed s.phase) NotOpen) first.0 in
     (not_ended s.ending (refusal_if-none (is_ended s.ending) (Ended s.ending) parts.0), refusal_if-none s.closing Closing third.0)
 
 -- nothing is accepted after a close
@@ -187,7 +177,7 @@ alone-with_text s accepted text closed bytes e h =
 pub receive-open : (s : State) → receive_refusal s ≡ None → gives_up s.ending ≡ false
 receive-open s e =
     refusal_if-none (gives_up s.ending) (Ended s.ending)
-    (option_or-none (refusal_if (gives_up s.ending) (Ended s.ending)) (refusal_if (is_closed s.phase && not (is_ended s.ending)) NotOpen) e).0
+    (or-none (refusal_if (gives_up s.ending) (Ended s.ending)) (refusal_if (is_closed s.phase && not (is_ended s.ending)) NotOpen) e).0
 
 -- a read may open the window, which owes an acknowledgement
 pub alone-bytes_received : (s : State) (accepted : List ℕ) (closed : Bool) (room : ℕ) → IsAlone s accepted closed

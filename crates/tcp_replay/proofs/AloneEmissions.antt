@@ -8,8 +8,9 @@ use Rattle.tcp_replay.proofs.Words.{start_of, State, state_after, subst, sym, Sy
 use Rattle.tcp_replay.proofs.Words.{◌≡◌, ◌≤◌}
 use Rattle.tcp_replay.proofs.Phases.{end-synchronized, fits-sent, fits-sent_text, gives_up-not_ended, handshake-knows, knows-nxt, sends_text-synchronized}
 use Rattle.tcp_replay.proofs.Phases.{synchronized-knows}
-use Rattle.tcp_replay.proofs.{Dues.ack_alone-kept, Dues.again-kept, Dues.due-kept, Dues.IsAgain, Dues.KeptAgain, Dues.KeptByDue, Lists.AreBytes-drop}
-use Rattle.tcp_replay.proofs.{Lists.AreBytes-take, Lists.one_if, Lists.one_if-most, Halves.range-more, Halves.sends-sent}
+use Rattle.tcp_replay.proofs.{Dues.ack_alone-kept, Dues.again-kept, Dues.due-kept, Dues.IsAgain, Dues.KeptAgain, Dues.KeptByDue}
+use Rattle.tcp_wire.proofs.Bytes.{bytes_drop, bytes_take}
+use Rattle.tcp_replay.proofs.{Lists.one_if, Lists.one_if-most, Halves.range-more, Halves.sends-sent}
 use Rattle.tcp_replay.proofs.Words.{Text, is_some}
 
 -- text from a position on that was not released, or the FIN after a close
@@ -128,7 +129,7 @@ module _ (s : State) (accepted : List ℕ) (closed : Bool) (h : IsAlone s accept
   plain-valid due knows plain =
       let before = start_of s.sending due - 1 in
       plain_segment_valid s due (fits-fields knows)
-      (subst AreBytes (sym plain.text) (AreBytes-take (count_of due) (drop before accepted) (AreBytes-drop before accepted h.sends.bytes)))
+      (subst AreBytes (sym plain.text) (bytes_take (count_of due) (drop before accepted) (bytes_drop before accepted h.sends.bytes)))
       (omega (arith, ap length plain.text, length-take (count_of due) (drop before accepted), plain.short))
 
   -- a reset

@@ -11,6 +11,10 @@ use Rattle.tcp_replay.proofs.Phases.{end-listen, end-syn_sent, end-synchronized,
 use Rattle.tcp_replay.proofs.{Lists.by_test, Judgements.in-phase, Judgements.IsPresent, Judgements.IsTaken, Alone.alone-its_ack, Alone.alone-its_text}
 use Rattle.tcp_replay.proofs.{Feeds.AllText, Feeds.ByNumber, Feeds.fed-fin, Feeds.fed-given_up, Feeds.fed-read, Feeds.fed-syn, Feeds.fed-text, Feeds.IsFed}
 use Rattle.tcp_replay.proofs.{Calls.KeptByCalls, Cases.own_fin-cases}
+use Rattle.tcp_replay.proofs.Words.{Aborted, receive_refusal, None, is_time_wait, after_orderly_end, PeerResets, PeerOpens, PeerAccepts, Taken, TakenShut}
+use Rattle.tcp_replay.proofs.Judgements.{IsSyn}
+use Rattle.tcp_replay.proofs.Judgements.{IsAckOnly}
+use Rattle.tcp_replay.proofs.Words.{is_listening, is_syn_sent}
 
 -- FROM ONE STATE TO ANOTHER: as many bytes more are in order as make what is unread longer
 pub record Feeds (P : ℕ → ℕ → Type 0) (Q : Type 0) (s s' : State) (irs k : ℕ) (delivered : List ℕ) : Type 0 where
@@ -79,28 +83,14 @@ pub feeds-calls : (P : ℕ → ℕ → Type 0) (Q : Type 0) (peer : Peer) (p : P
     → KeptByCalls peer p (λ p'. Feeds P Q p.endpoint p'.endpoint irs k p'.delivered)
 feeds-calls P Q peer p irs k a h =
     let s = p.endpoint in
-    let kept = feeds-kept P Q s irs k p.delivered h in
-    let gone = feeds-given_up P Q s irs k p.delivered h in
-    record {
-      same = feeds-same P Q s irs k p.delivered h;
-      connects = λ _. kept _ refl refl refl;
-      listens = λ _. kept _ refl refl refl;
-      sends = λ _ _ _. kept _ refl refl refl;
-      reads = λ room _. feeds-read P Q s irs k p.delivered room h;
-      withdraws = gone _ refl refl refl;
-      closes = λ _ _. kept _ refl refl refl;
-      aborts = gone _ refl refl refl;
-      acknowledges = kept _ refl refl refl;
-      resends = λ _. kept _ refl refl refl;
-      probes = kept _ refl refl refl;
-      fills = λ _ _ _. kept _ refl refl refl;
-      ends = λ e.
-          let synced = time_wait-synchronized s.phase e in
-          let at = end-synchronized s synced a.progress in
-          kept _ refl (sym (gives_up-not_ended s.ending at.0)) refl;
-      resends-first = λ _. kept _ refl refl refl;
-      emits = λ _ _ _. kept _ refl refl refl;
-    }
+    let same : Feeds P Q s s irs k p.delivered = feeds-same P Q s irs k p.delivered h in
+    let gone : Feeds P Q s (after_giving_up s Aborted) irs k p.delivered = feeds-given_up P Q s irs k p.delivered h _ refl refl refl in
+    let reads : (room : ℕ) → receive_refusal s ≡ None → Feeds P Q s (with_bytes_received s room) irs k
+    (p.delivered ++ take (min room (length s.receiving.inbox.unread)) s.receiving.inbox.unread) = λ room _. feeds-read P Q s irs k p.delivered room h in
+    let ends : is_time_wait s.phase ≡ true → Feeds P Q s (after_orderly_end s) irs k p.delivered = λ e.
+    let at = end-synchronized s (time_wait-synchronized s.phase e) a.progress in
+    feeds-kept P Q s irs k p.delivered h _ refl (sym (gives_up-not_ended s.ending at.0)) refl in
+    assumption
 
 -- AN ACKNOWLEDGEMENT leaves what was received as it was
 pub record Acked (s x : State) : Type 0 where
@@ -219,13 +209,13 @@ feeds-syn P Q s s' irs k delivered seq is e shut receiving ending config h =
       opens = λ _. inr is;
     }
 
-opened-by_peer : (s : State) (src : List ℕ) (v : Content)
+pub opened-by_peer : (s : State) (src : List ℕ) (v : Content)
     → ((after_peer_opens s src v).receiving ≡ with_syn s.receiving v.seq) × ((after_peer_opens s src v).ending ≡ s.ending)
     × ((after_peer_opens s src v).config ≡ s.config)
 unfolding after_peer_opens
 opened-by_peer s src v = (refl, refl, refl)
 
-accepted-by_peer : (s : State) (v : Content)
+pub accepted-by_peer : (s : State) (v : Content)
     → ((after_peer_accepts s v).receiving ≡ with_syn s.receiving v.seq) × ((after_peer_accepts s v).ending ≡ s.ending)
     × ((after_peer_accepts s v).config ≡ s.config)
 unfolding after_peer_accepts
@@ -241,34 +231,17 @@ unfolding judgement
 feeds-judgement P s irs k delivered accepted closed src dst v small a first came h =
     let Q : Type 0 = has syn v.flags ≡ true in
     let J : Judgement → Type 0 = λ j. Feeds P Q s (after_judgement j s src v) irs k delivered in
-    let same : Feeds P Q s s irs k delivered = feeds-same P Q s irs k delivered h in
-    let kept = feeds-kept P Q s irs k delivered h in
-    let reset = feeds-given_up P Q s irs k delivered h in
-    cond_both (is_foreign s src dst v) Foreign (phase_judgement s v) J (λ _. same)
-    (λ mine. in-phase s v J (record {
-      foreign = same;
-      reset_ignored = same;
-      stray = kept _ refl refl refl;
-      ack_of_listen = kept _ refl refl refl;
-      no_syn = same;
-      peer_opens = λ listening is.
-          let shut = (end-listen s listening a.progress).1.not_opened in
-          let by = opened-by_peer s src v in
-          feeds-syn P Q s (after_peer_opens s src v) irs k delivered v.seq is.is_syn (first shut) shut by.0 by.1 by.2 h;
-      ack_of_no_syn = kept _ refl refl refl;
-      peer_refuses = reset _ refl refl refl;
-      peer_accepts = λ sent is.
-          let shut = (end-syn_sent s sent a.progress).1.not_opened in
-          let by = accepted-by_peer s v in
-          feeds-syn P Q s (after_peer_accepts s v) irs k delivered v.seq is.is_syn (first shut) shut by.0 by.1 by.2 h;
-      unacceptable = λ present. kept _ refl refl refl;
-      peer_resets = reset _ refl refl refl;
-      reset_elsewhere = λ present. kept _ refl refl refl;
-      syn_in_window = λ present. kept _ refl refl refl;
-      no_ack = same;
-      acks_unsent = λ present. kept _ refl refl refl;
-      handshake_refused = kept _ refl refl refl;
-      handshake_refused_shut = λ present. kept _ refl refl refl;
-      taken = λ present is. feeds-taking P Q s irs k delivered v accepted closed present a small (came mine is) h;
-      taken_shut = λ present told. feeds-taking_shut P Q s irs k delivered v accepted closed present a h;
-    }))
+    let same : J Foreign = feeds-same P Q s irs k delivered h in
+    let gone : J PeerResets = feeds-given_up P Q s irs k delivered h _ refl refl refl in
+    let opens : is_listening s.phase ≡ true → IsSyn v → J PeerOpens = λ listening is.
+    let shut = (end-listen s listening a.progress).1.not_opened in
+    let by = opened-by_peer s src v in
+    feeds-syn P Q s (after_peer_opens s src v) irs k delivered v.seq is.is_syn (first shut) shut by.0 by.1 by.2 h in
+    let accepts : is_syn_sent s.phase ≡ true → IsSyn v → J PeerAccepts = λ sent is.
+    let shut = (end-syn_sent s sent a.progress).1.not_opened in
+    let by = accepted-by_peer s v in
+    feeds-syn P Q s (after_peer_accepts s v) irs k delivered v.seq is.is_syn (first shut) shut by.0 by.1 by.2 h in
+    let taken_shut : IsPresent s → IsAckOnly v → J TakenShut = λ present _. feeds-taking_shut P Q s irs k delivered v accepted closed present a h in
+    cond_both (is_foreign s src dst v) Foreign (phase_judgement s v) J (λ _. same) (λ mine.
+    let taken : IsPresent s → IsTaken s v → J Taken = λ present is. feeds-taking P Q s irs k delivered v accepted closed present a small (came mine is) h in
+    in-phase s v J (assumption))

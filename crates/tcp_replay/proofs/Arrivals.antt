@@ -14,6 +14,8 @@ use Rattle.tcp_replay.proofs.Stages.{kept-taking, kept-taking_shut, own_syn-near
 use Rattle.tcp_replay.proofs.{Halves.takes-syn, Steps.Kept, Steps.kept-changed, Steps.kept-given_up, Steps.kept-owing, Steps.kept-reset, Phases.end-listen}
 use Rattle.tcp_replay.proofs.{Phases.end-syn_sent, Phases.syn_sent-knows, Judgements.IsAckOnly, Judgements.IsPresent, Judgements.IsSyn, Judgements.judged}
 use Rattle.tcp_replay.proofs.{Lists.by_test, Alone.same-news, Cases.own_fin-cases}
+use Rattle.tcp_replay.proofs.Words.{Stray, HandshakeRefused, Unacceptable, PeerResets, PeerOpens, PeerAccepts}
+use Rattle.tcp_replay.proofs.Judgements.{IsTaken}
 
 -- SYN: its position is 0
 syn-number : (p q : PartyState) (v : Content) → IsTruthful (witness_of q p) v → has syn v.flags ≡ true → v.seq ≡ number q.endpoint.config.isn.0 0
@@ -106,29 +108,18 @@ pub fair-judgement : (p q : PartyState) (s : State) (dst : List ℕ) (v : Conten
     → Fair p q s v (judgement s q.endpoint.config.addr.0 dst v)
 fair-judgement p q s dst v position wanted c h =
     let src = q.endpoint.config.addr.0 in
-    let owing = fair-owing p q s h in
-    let resets : Kept p q s → Kept p q (with_reset s (reset_at_ack src v)) = kept-reset p q s (reset_at_ack src v) (writable-at_ack src v c.valid) refl in
-    judged s v (Fair p q s v) (record {
-      foreign = h;
-      reset_ignored = h;
-      stray = kept-reset p q s (reset_of_stray src v) (writable-stray src v c.valid) refl h;
-      ack_of_listen = resets h;
-      no_syn = h;
-      peer_opens = λ listening is. kept-opening p q s v c.valid (c.truthful is.plain).truth listening is.is_syn h;
-      ack_of_no_syn = resets h;
-      peer_refuses = kept-given_up p q s Reset refl h;
-      peer_accepts = λ sent is. kept-acceptance p q s v (c.truthful is.plain).truth sent is.is_syn h;
-      unacceptable = owing;
-      peer_resets = kept-given_up p q s Reset refl h;
-      reset_elsewhere = owing;
-      syn_in_window = owing;
-      no_ack = h;
-      acks_unsent = owing;
-      handshake_refused = resets h;
-      handshake_refused_shut = fair-refused_shut p q s v c.valid h;
-      taken = λ present is. fair-taken p q s v position wanted c is.ack_only h present;
-      taken_shut = λ present told. fair-taken_shut p q s v position wanted c told h present;
-    }) src dst
+    let J : Judgement → Type 0 = Fair p q s v in
+    let stray : J Stray = kept-reset p q s (reset_of_stray src v) (writable-stray src v c.valid) refl h in
+    let refused : J HandshakeRefused = kept-reset p q s (reset_at_ack src v) (writable-at_ack src v c.valid) refl h in
+    let refused_shut : IsPresent s → J HandshakeRefusedShut = fair-refused_shut p q s v c.valid h in
+    let owing : IsPresent s → J Unacceptable = fair-owing p q s h in
+    let gone : J PeerResets = kept-given_up p q s Reset refl h in
+    let opens : is_listening s.phase ≡ true → IsSyn v → J PeerOpens =
+    λ listening is. kept-opening p q s v c.valid (c.truthful is.plain).truth listening is.is_syn h in
+    let accepts : is_syn_sent s.phase ≡ true → IsSyn v → J PeerAccepts = λ sent is. kept-acceptance p q s v (c.truthful is.plain).truth sent is.is_syn h in
+    let taken : IsPresent s → IsTaken s v → J Taken = λ present is. fair-taken p q s v position wanted c is.ack_only h present in
+    let shut : IsPresent s → IsAckOnly v → J TakenShut = λ present told. fair-taken_shut p q s v position wanted c told h present in
+    judged s v J (assumption) src dst
 
 -- WHAT EACH RULE HAS TO KEEP of party p's end where segment v comes, at these positions: P of the end before and after, B of the states between
 -- the acknowledgement of its SYN and what that of its FIN does
@@ -264,26 +255,11 @@ module _ (p q : PartyState) (v : Content) (position wanted : ℕ) (P B : State �
     on-arrival dst =
         let s = p.endpoint in
         let src = q.endpoint.config.addr.0 in
-        let owing = h.owes true s.owed.reset in
-        let resets : WaitingReset → Option WaitingReset = first_reset s.owed.reset in
-        judged s v (λ j. P (after_judgement j s src v)) (record {
-          foreign = h.same;
-          reset_ignored = h.same;
-          stray = h.owes s.owed.ack (resets (reset_of_stray src v));
-          ack_of_listen = h.owes s.owed.ack (resets (reset_at_ack src v));
-          no_syn = h.same;
-          peer_opens = h.opens;
-          ack_of_no_syn = h.owes s.owed.ack (resets (reset_at_ack src v));
-          peer_refuses = h.gone;
-          peer_accepts = h.accepts;
-          unacceptable = λ _. owing;
-          peer_resets = h.gone;
-          reset_elsewhere = λ _. owing;
-          syn_in_window = λ _. owing;
-          no_ack = h.same;
-          acks_unsent = λ _. owing;
-          handshake_refused = h.owes s.owed.ack (resets (reset_at_ack src v));
-          handshake_refused_shut = λ _. h.owes true (resets (reset_at_ack src v));
-          taken = λ present is. taking-kept is.ack_only present;
-          taken_shut = λ present told. taking_shut-kept told present;
-        }) src dst
+        let J : Judgement → Type 0 = λ j. P (after_judgement j s src v) in
+        let stray : J Stray = h.owes s.owed.ack (first_reset s.owed.reset (reset_of_stray src v)) in
+        let refused : J HandshakeRefused = h.owes s.owed.ack (first_reset s.owed.reset (reset_at_ack src v)) in
+        let refused_shut : J HandshakeRefusedShut = h.owes true (first_reset s.owed.reset (reset_at_ack src v)) in
+        let owing : J Unacceptable = h.owes true s.owed.reset in
+        let taken : IsPresent s → IsTaken s v → J Taken = λ present is. taking-kept is.ack_only present in
+        let shut : IsPresent s → IsAckOnly v → J TakenShut = λ present told. taking_shut-kept told present in
+        judged s v J (assumption) src dst

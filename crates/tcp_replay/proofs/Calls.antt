@@ -4,7 +4,7 @@ use Rattle.tcp_replay.proofs.Words.{after_due, after_emission, after_gaps, after
 use Rattle.tcp_replay.proofs.Words.{after_resend_first, after_retransmit, after_send, after_time_wait, AlreadyOpen, answer_unless, append-nil, AreBytes, Bool}
 use Rattle.tcp_replay.proofs.Words.{bytes_unless, CallError, close_refusal, cond_both, count_sendable, Due, due_of, Ended, false, front_taken, IfSome, inl, inr}
 use Rattle.tcp_replay.proofs.Words.{is_closed, is_end_of_stream, is_ended, is_handshake, is_ok, is_time_wait, is_unanswered, IsAlone, last_mark_end, length}
-use Rattle.tcp_replay.proofs.Words.{List, Listen, min, needs_probe, None, not, not-false, NotEnded, Ok, open_refusal, opening_refusal, Option, option_or}
+use Rattle.tcp_replay.proofs.Words.{List, Listen, min, needs_probe, None, not, not-false, NotEnded, Ok, open_refusal, opening_refusal, Option}
 use Rattle.tcp_replay.proofs.Words.{or_right, Owed, party_after_abort, party_after_acknowledge, party_after_close, party_after_connect, party_after_listen}
 use Rattle.tcp_replay.proofs.Words.{party_after_receive, party_after_resend_first, party_after_send, party_after_timer, PartyState, Peer, receive_refusal}
 use Rattle.tcp_replay.proofs.Words.{Received, received_value, refl, refusal_if, Reorder, Retransmit, send_refusal, Sending, sends_again, sends_text, Some}
@@ -12,17 +12,12 @@ use Rattle.tcp_replay.proofs.Words.{State, state_after, state_unless, take, take
 use Rattle.tcp_replay.proofs.Words.{with_closing, with_connection, with_first_resent, with_gaps_resent, with_text, ◌||◌, ℕ, ◌≡◌, ◌⊎◌}
 use Rattle.tcp_conn.specs.declared.phase.Timer.{Timer}
 use Rattle.tcp_conn.specs.declared.phase.Timer.TheVariants.{TimeWait}
-use Rattle.tcp_replay.proofs.{AloneEmissions.ack-alone-goes, AloneEmissions.due-alone, AloneEmissions.GoesOutAlone, Phases.not_ended}
+use Rattle.tcp_replay.proofs.{Dues.or-none, AloneEmissions.ack-alone-goes, AloneEmissions.due-alone, AloneEmissions.GoesOutAlone, Phases.not_ended}
 
 -- REFUSALS: a call that is refused changes nothing
 pub unless-kept : (P : State → Type 0) (o : Option CallError) (s s' : State) → P s → (o ≡ None → P s') → P (state_unless o s s')
 unless-kept P None s s' same next = next refl
 unless-kept P (Some error) s s' same next = same
-
--- of two refusals neither applies
-pub option_or-none : (o o' : Option CallError) → option_or o o' ≡ None → (o ≡ None) × (o' ≡ None)
-option_or-none None o' e = (refl, e)
-option_or-none (Some error) o' e = absurd (cc)
 
 -- the reason of a refusal isn't there
 pub refusal_if-none : (b : Bool) (error : CallError) → refusal_if b error ≡ None → b ≡ false
@@ -37,7 +32,7 @@ pub record CanOpen (s : State) : Type 0 where
 -- an end at which CONNECT and LISTEN are not refused can be opened
 pub can-open : (s : State) → opening_refusal s ≡ None → CanOpen s
 can-open s e =
-    let parts = option_or-none (refusal_if (is_ended s.ending) (Ended s.ending)) (refusal_if (not (is_closed s.phase)) AlreadyOpen) e in
+    let parts = or-none (refusal_if (is_ended s.ending) (Ended s.ending)) (refusal_if (not (is_closed s.phase)) AlreadyOpen) e in
     record {
       ending = not_ended s.ending (refusal_if-none (is_ended s.ending) (Ended s.ending) parts.0);
       shut = not-false (is_closed s.phase) (refusal_if-none (not (is_closed s.phase)) AlreadyOpen parts.1);

@@ -17,7 +17,8 @@ use Rattle.tcp_replay.proofs.Calls.{KeptByCalls, MayGoOut, on-abort, on-acknowle
 use Rattle.tcp_replay.proofs.Calls.{on-send, on-timer, with_end}
 use Rattle.tcp_replay.specs.Events.{Listen}
 use Rattle.tcp_replay.specs.Among.{with_owed}
-use Rattle.tcp_replay.proofs.{Lists.and-fails, Lists.one_if-most, Lists.or-fails, Arrivals.Comes, Arrivals.fair-judgement, Emissions.due-decodes}
+use Rattle.std.proofs.lemmas.Bool.{or_parts}
+use Rattle.tcp_replay.proofs.{Lists.and-fails, Lists.one_if-most, Arrivals.Comes, Arrivals.fair-judgement, Emissions.due-decodes}
 use Rattle.tcp_replay.proofs.{Emissions.goes-out, Emissions.GoesOut, Emissions.seq-in, Emissions.wanted-is, AloneEmissions.ack-alone-goes}
 use Rattle.tcp_replay.proofs.{AloneEmissions.due-alone, AloneEmissions.GoesOutAlone, AloneEmissions.if-some-map, Steps.Kept, Steps.kept-same, Steps.Moved}
 use Rattle.tcp_replay.proofs.{Steps.pair-swapped, Steps.slice_get-more, Users.sound-calls}
@@ -56,7 +57,7 @@ record IsYoungBoth (life : ℕ) (s : State) (g : SentSegment) : Type 0 where
 
 young-both : (life : ℕ) (s : State) (g : SentSegment) → is_expired life s g ≡ false → has rst (flags_in g.bytes) ≡ false → IsYoungBoth life s g
 young-both life s g e plain =
-    let both = or-fails (is_late life s g) (acks_late life s g)
+    let both = or_parts (is_late life s g) (acks_late life s g)
     (and-fails (not (has rst (flags_in g.bytes))) (is_late life s g || acks_late life s g) e (ap not plain)) in
     record {
       young = leb-false (g.position + life) (next_wanted s.receiving) both.0;

@@ -6,8 +6,10 @@ use Rattle.tcp_replay.proofs.Words.{if◌then◌else◌, Inbox, length, length-a
 use Rattle.tcp_replay.proofs.Words.{max_ordered, min, None, number, Option, or_cases, Range, Receiving, refl, replicate, Sending, Sends, Some, stream_limit}
 use Rattle.tcp_replay.proofs.Words.{sym, take, take-append-drop, take-append-le, take_all, take_min, Takes, true, with_acked, with_fin, with_inbox, with_syn}
 use Rattle.tcp_replay.proofs.Words.{with_syn_sent, with_text, without_bytes, without_held-agrees, without_text, ◌||◌, ℕ, ◌∙◌, ◌≡◌, ◌≤◌, ⊎_elim}
-use Rattle.tcp_replay.proofs.Lists.{Agrees-more, AreBytes-append, AreBytes-take, front-is, nothing-follows, number-further, one_if, one_if-false, take-further}
+use Rattle.tcp_replay.proofs.Lists.{Agrees-more, front-is, nothing-follows, number-further, one_if, one_if-false}
 use Rattle.tcp_replay.proofs.Lists.{take-none}
+use Rattle.tcp_wire.proofs.Bytes.{bytes_append, bytes_take}
+use Rattle.tcp_reasm.proofs.Rings.{take_further}
 use Rattle.tcp_sendq.specs.SendQueue as queues
 
 -- THE HALF THAT SENDS. A range ends no later where the bound is higher.
@@ -30,9 +32,9 @@ with_text-flags s limit text h =
     omega (arith, h, length-append s.queue.marks (replicate n false), length-replicate n false, length-append s.queue.bytes (take n taken), length-take n taken)
 
 -- more text is accepted, up to the limit
-pub accepted-limit : (s : Sending) (limit : ℕ) (accepted text : List ℕ) → length accepted ≤ limit → Sends s accepted false false
+pub accepted-limit : (s : Sending) (limit : ℕ) (accepted text : List ℕ) (closed : Bool) → length accepted ≤ limit → Sends s accepted closed false
     → length (accepted ++ take (count_sendable s limit text) text) ≤ limit
-accepted-limit s limit accepted text within h =
+accepted-limit s limit accepted text closed within h =
     let inside : s.released ≤ length accepted = omega (arith, h.released) in
     let count : length s.queue.bytes ≡ length accepted - s.released = ap length (h.queue refl) ∙ length-drop s.released accepted in
     omega (arith, within, inside, count, length-append accepted (take (count_sendable s limit text) text), length-take (count_sendable s limit text) text)
@@ -51,7 +53,7 @@ sends-more s limit accepted text most bytes h =
       limit = omega (arith, h.limit, inside, longer, count, length-take (count_sendable s limit text) text, most);
       capacity = h.capacity;
       ahead = omega (arith, h.ahead, h.capacity, inside, longer, count, length-take (count_sendable s limit text) text);
-      bytes = AreBytes-append accepted more h.bytes (AreBytes-take (count_sendable s limit text) text bytes);
+      bytes = bytes_append accepted more h.bytes (bytes_take (count_sendable s limit text) text bytes);
       released = omega (arith, h.released, h.order, h.most, longer);
       queue = λ _. with_text-queue s limit text ∙ ap (λ kept. kept ++ more) (h.queue refl) ∙ sym (drop-append-le s.released accepted more inside);
       flags = with_text-flags s limit text h.flags;
@@ -229,7 +231,7 @@ hands-advance r irs accepted closed delivered ended gone inbox n limit stays tak
     record {
       count = r.ordered + n;
       handed = ap (λ xs. delivered ++ xs) steps.unread ∙ sym (append_assoc delivered r.inbox.unread (take n (drop r.ordered accepted)))
-          ∙ ap (λ xs. xs ++ take n (drop r.ordered accepted)) (h.handed ∙ ap (λ k. take k accepted) (h.whole stays)) ∙ take-further r.ordered n accepted;
+          ∙ ap (λ xs. xs ++ take n (drop r.ordered accepted)) (h.handed ∙ ap (λ k. take k accepted) (h.whole stays)) ∙ take_further r.ordered n accepted;
       least = omega (arith, further);
       whole = λ _. sym further;
       all_handed = h.all_handed;

@@ -20,6 +20,7 @@ use Rattle.tcp_replay.proofs.{Stages.text_advance, Events.after_segment, Events.
 use Rattle.tcp_replay.proofs.{Events.Speaks, Calls.KeptByCalls, Arrivals.on-arrival, Lists.number-further, Emissions.GoesOut, Emissions.due-bits}
 use Rattle.tcp_replay.proofs.{Emissions.wanted-is}
 use Rattle.tcp_replay.proofs.Words.{waiting_segment, WaitingReset, Acknowledgement}
+use Rattle.tcp_replay.proofs.Words.{send_refusal, receive_refusal, AreBytes, with_text, with_bytes_received, is_time_wait, after_orderly_end}
 
 -- Party p's end may be in this state, its peer q being where it is: what it had it has, unless it gave up, and what it
 -- marks q has, unless that gave up.
@@ -49,26 +50,15 @@ hints-calls p q pair k =
     let r = q.endpoint.receiving in
     let h = keeps-same p q k in
     let gone : Keeps p q (after_giving_up s Aborted) = keeps-given_up p q s Aborted refl pair.there.alone.sends.flags in
-    record {
-      same = h;
-      connects = λ _. h;
-      listens = λ _. h;
-      sends = λ text _ _. (h.0, λ stays. marks-text d r s.config.limit text (h.1 stays));
-      reads = λ room _. (has-further p q s (after_handing s.receiving room) (has-read s.receiving room) h, h.1);
-      withdraws = gone;
-      closes = λ _ _. h;
-      aborts = gone;
-      acknowledges = h;
-      resends = λ _. (h.0, λ _. marks-none d (with_all_resent d) r refl);
-      probes = h;
-      fills = λ _ _ _. h;
-      ends = λ e.
-          let synced = time_wait-synchronized s.phase e in
-          let at = end-synchronized s synced pair.there.alone.progress in
-          (λ _. h.0 (gives_up-not_ended s.ending at.0), h.1);
-      resends-first = λ _. h;
-      emits = λ _ _ _. h;
-    }
+    let sends : (text : List ℕ) → AreBytes text → send_refusal s text ≡ None → Keeps p q (record s { sending = with_text d s.config.limit text }) =
+    λ text _ _. (h.0, λ stays. marks-text d r s.config.limit text (h.1 stays)) in
+    let reads : (room : ℕ) → receive_refusal s ≡ None → Keeps p q (with_bytes_received s room) =
+    λ room _. (has-further p q s (after_handing s.receiving room) (has-read s.receiving room) h, h.1) in
+    let resends : Keeps p q (record s { sending = with_all_resent d }) = (h.0, λ _. marks-none d (with_all_resent d) r refl) in
+    let ends : is_time_wait s.phase ≡ true → Keeps p q (after_orderly_end s) = λ e.
+    let at = end-synchronized s (time_wait-synchronized s.phase e) pair.there.alone.progress in
+    (λ _. h.0 (gives_up-not_ended s.ending at.0), h.1) in
+    assumption
 
 -- ---- A SEGMENT IS TAKEN. A position that the peer has lies within the stream
 has-small : (p q : PartyState) → IsSoundPair p q → (n : ℕ) → Has q.endpoint.receiving n → n ≤ 1 + length p.accepted
@@ -206,19 +196,25 @@ block-true p q run next is =
     ) in
     (block, omega arith)
 
-reported-true : (p q : PartyState) → p.endpoint.receiving.opened ≡ true → IsSoundPair p q
-    → AreBlocksBehind (witness_of p q) (next_position p) (blocks_to_report p.endpoint)
+-- what holds of each maximal run of held places, by its numbers, holds of each block that is reported
+pub blocks-all : (P : ℕ × ℕ → Type 0) (r : Receiving) → ((run : Run) → IsMaximal r.inbox.held run → P (block_numbers r.next (run.from, run.to)))
+    → AllByRecursion P (map (block_numbers r.next) (blocks r.inbox))
 unfolding blocks
-reported-true p q opened h =
-    let r = p.endpoint.receiving in
-    let P : ℕ × ℕ → Type 0 = IsBlockBehind (witness_of p q) (next_position p) in
+blocks-all P r each =
     let Q : Run → Type 0 = λ run. P (block_numbers r.next (run.from, run.to)) in
     let all = runs_newest_first (runs r.inbox.held) in
     let newest = all-newest_first (IsMaximal r.inbox.held) (runs r.inbox.held) (runs_are_maximal_lem r.inbox.held) in
-    let true_ones : AllByRecursion Q all = all-further (IsMaximal r.inbox.held) Q all (λ run is. block-true p q run (h.there.takes.next opened) is) newest in
-    let told : AllByRecursion P (map (block_numbers r.next) (blocks r.inbox)) =
     all-map (block_numbers r.next) P (blocks r.inbox)
-    (all-map (λ (run : Run). (run.from, run.to)) (λ block. P (block_numbers r.next block)) (take max_blocks all) (all-take Q max_blocks all true_ones)) in
+    (all-map (λ (run : Run). (run.from, run.to)) (λ block. P (block_numbers r.next block)) (take max_blocks all)
+    (all-take Q max_blocks all (all-further (IsMaximal r.inbox.held) Q all each newest)))
+
+reported-true : (p q : PartyState) → p.endpoint.receiving.opened ≡ true → IsSoundPair p q
+    → AreBlocksBehind (witness_of p q) (next_position p) (blocks_to_report p.endpoint)
+reported-true p q opened h =
+    let r = p.endpoint.receiving in
+    let P : ℕ × ℕ → Type 0 = IsBlockBehind (witness_of p q) (next_position p) in
+    let told : AllByRecursion P (map (block_numbers r.next) (blocks r.inbox)) = blocks-all P r
+    (λ run is. block-true p q run (h.there.takes.next opened) is) in
     cond_both p.endpoint.link.sack (map (block_numbers r.next) (blocks r.inbox)) []
     (λ (list : List (ℕ × ℕ)). AreBlocksBehind (witness_of p q) (next_position p) list)
     (λ _ k block e. all-at P (map (block_numbers r.next) (blocks r.inbox)) k block told e)

@@ -46,7 +46,7 @@ has-inside r accepted n order held (inr is) =
     omega (arith, inside, length-drop r.ordered accepted, is.1, one_if-most r.finished, order)
 
 -- reading brings places into the window
-slice_get-before : {X : Type 0} (xs ys : List X) (k : ℕ) (x : X) → slice_get xs k ≡ Some x → slice_get (xs ++ ys) k ≡ Some x
+pub slice_get-before : {X : Type 0} (xs ys : List X) (k : ℕ) (x : X) → slice_get xs k ≡ Some x → slice_get (xs ++ ys) k ≡ Some x
 slice_get-before [] ys k x e = absurd (cc)
 slice_get-before (first ∷ xs) ys zero x e = e
 slice_get-before (first ∷ xs) ys (suc k) x e = slice_get-before xs ys k x e

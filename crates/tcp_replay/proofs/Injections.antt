@@ -78,32 +78,21 @@ module _ (p q : PartyState) (s : State) (src dst : List ℕ) (v : Content) (vali
   kept-injected =
       let P : Judgement → Type 0 = λ j. lets_in j ≡ false → IfSome (after_judgement j s src v).owed.reset (GoesTo q.endpoint.config.addr.0)
       → Kept p q (after_judgement j s src v) in
-      judged s v P (record {
-        foreign = λ _ _. h;
-        reset_ignored = λ _ _. h;
-        stray = λ _ to. waits (reset_of_stray src v) (writable-stray src v valid) to;
-        ack_of_listen = λ _ to. waits (reset_at_ack src v) (writable-at_ack src v valid) to;
-        no_syn = λ _ _. h;
-        peer_opens = λ _ _ e. absurd (cc);
-        ack_of_no_syn = λ _ to. waits (reset_at_ack src v) (writable-at_ack src v valid) to;
-        peer_refuses = λ e. absurd (cc);
-        peer_accepts = λ _ _ e. absurd (cc);
-        unacceptable = λ present _ _. owing present;
-        peer_resets = λ e. absurd (cc);
-        reset_elsewhere = λ present _ _. owing present;
-        syn_in_window = λ present _ _. owing present;
-        no_ack = λ _ _. h;
-        acks_unsent = λ present _ _. owing present;
-        handshake_refused = λ _ to. waits (reset_at_ack src v) (writable-at_ack src v valid) to;
-        handshake_refused_shut = λ present _ to.
-            let reset = reset_at_ack src v in
-            let waiting = waits reset (writable-at_ack src v valid) to in
-            let there : IsPresent (with_reset s reset) = record { shut = present.shut; listening = present.listening; syn_sent = present.syn_sent } in
-            let owes = present-owes (with_reset s reset) p.accepted p.closed there waiting.here.alone in
-            kept-owing p q (with_reset s reset) owes.0 owes.1 waiting;
-        taken = λ _ _ e. absurd (cc);
-        taken_shut = λ _ _ e. absurd (cc);
-      }) src dst
+      let stray : P Stray = λ _. waits (reset_of_stray src v) (writable-stray src v valid) in
+      let refused : P HandshakeRefused = λ _. waits (reset_at_ack src v) (writable-at_ack src v valid) in
+      let refused_shut : IsPresent s → P HandshakeRefusedShut = λ present _ to.
+      let reset = reset_at_ack src v in
+      let waiting = waits reset (writable-at_ack src v valid) to in
+      let there : IsPresent (with_reset s reset) = record { shut = present.shut; listening = present.listening; syn_sent = present.syn_sent } in
+      let owes = present-owes (with_reset s reset) p.accepted p.closed there waiting.here.alone in
+      kept-owing p q (with_reset s reset) owes.0 owes.1 waiting in
+      let owes : IsPresent s → P Unacceptable = λ present _ _. owing present in
+      let opens : P PeerOpens = λ e. absurd (cc) in
+      let refuses : P PeerRefuses = λ e. absurd (cc) in
+      let accepts : P PeerAccepts = λ e. absurd (cc) in
+      let taken : P Taken = λ e. absurd (cc) in
+      let shut : P TakenShut = λ e. absurd (cc) in
+      judged s v P (assumption) src dst
 
 module _ (G K : PartyState → PartyState → Type 0) (Stays : PartyState → PartyState → State → List ℕ → Type 0) (h : PairKept G K Stays) where
   on-reading : (p q : PartyState) (src dst bytes : List ℕ) (r : Result Content DecodeError) → decode_answer src dst bytes ≡ r → AreBytes bytes

@@ -4,6 +4,7 @@ pub mod Cases
 pub mod Halves
 pub mod Phases
 pub mod Feeds
+pub mod Room
 pub mod Steps
 pub mod Judgements
 pub mod Alone

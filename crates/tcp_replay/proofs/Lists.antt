@@ -1,8 +1,8 @@
 -- Cases by a test, prefixes of lists, bytes, and the numbers of positions.
-use Rattle.tcp_replay.proofs.Words.{◌%◌, ◌&&◌, ◌++◌, ◌+◌, ◌-◌, ◌<◌, [], ◌^◌, Agrees, ap, AreBytes, arith, Bool, cases_lt, Cell, drop, false}
-use Rattle.tcp_replay.proofs.Words.{get_or-append_right, get_or-drop, get_or-take, get_or_append_left, get_or_past, if◌then◌else◌, length, length-append}
-use Rattle.tcp_replay.proofs.Words.{length-take, List, nil_from_length, None, number, Option, refl, Some, suc, sym, take, true, zero, ◌||◌, ℕ, ◌∙◌, ◌∷◌, ◌≡◌}
-use Rattle.tcp_replay.proofs.Words.{◌≤◌, ⊎_elim}
+use Rattle.tcp_replay.proofs.Words.{◌%◌, ◌&&◌, ◌++◌, ◌+◌, ◌-◌, ◌<◌, [], ◌^◌, Agrees, ap, arith, Bool, Cell, drop, false}
+use Rattle.tcp_replay.proofs.Words.{if◌then◌else◌, length, length-append}
+use Rattle.tcp_replay.proofs.Words.{length-take, List, nil_from_length, None, number, Option, refl, Some, suc, sym, take, true, zero, ℕ, ◌∙◌, ◌∷◌, ◌≡◌}
+use Rattle.tcp_replay.proofs.Words.{◌≤◌}
 
 -- what holds by a test, either way
 pub by_test : (b : Bool) (P : Bool → Type 0) → (b ≡ true → P true) → (b ≡ false → P false) → P b
@@ -27,27 +27,6 @@ pub and-fails : (a b : Bool) → (a && b) ≡ false → a ≡ true → b ≡ fal
 and-fails true b e holds = e
 and-fails false b e holds = absurd (cc)
 
--- neither of two tests holds
-pub or-fails : (a b : Bool) → (a || b) ≡ false → (a ≡ false) × (b ≡ false)
-or-fails true b e = absurd (cc)
-or-fails false b e = (refl, e)
-
--- bytes in front of bytes
-pub AreBytes-append : (xs ys : List ℕ) → AreBytes xs → AreBytes ys → AreBytes (xs ++ ys)
-AreBytes-append xs ys left right i =
-    ⊎_elim (λ less. rw (get_or_append_left xs ys 0 i less) (left i))
-    (λ more. rw (get_or-append_right xs ys (length xs) i 0 refl more) (right (i - length xs))) (cases_lt i (length xs))
-
--- a front of bytes is bytes
-pub AreBytes-take : (n : ℕ) (xs : List ℕ) → AreBytes xs → AreBytes (take n xs)
-AreBytes-take n xs h i =
-    ⊎_elim (λ less. rw (get_or-take n xs i 0 less) (h i))
-    (λ more. rw (get_or_past (take n xs) i 0 (omega (arith, length-take n xs, more))) (omega arith)) (cases_lt i n)
-
--- and what is behind it
-pub AreBytes-drop : (n : ℕ) (xs : List ℕ) → AreBytes xs → AreBytes (drop n xs)
-AreBytes-drop n xs h i = rw (get_or-drop n xs i 0) (h (n + i))
-
 -- a stream that grows still agrees with what is held
 pub Agrees-more : (held : List (Option Cell)) (rest more : List ℕ) → Agrees held rest → Agrees held (rest ++ more)
 Agrees-more [] rest more h = tt
@@ -61,13 +40,6 @@ Agrees-more (Some cell ∷ places) (byte ∷ rest) more h = (h.0, Agrees-more pl
 pub take-none : (n : ℕ) → take {A = ℕ} n [] ≡ []
 take-none zero = refl
 take-none (suc n) = refl
-
--- a prefix, and what follows it
-pub take-further : (m n : ℕ) (xs : List ℕ) → take m xs ++ take n (drop m xs) ≡ take (m + n) xs
-take-further zero n xs = let e : n ≡ zero + n = omega arith in ap (λ k. take k xs) e
-take-further (suc m) zero [] = sym (take-none (suc m + 0))
-take-further (suc m) (suc n) [] = sym (take-none (suc m + suc n))
-take-further (suc m) n (x ∷ xs) = ap (λ ys. x ∷ ys) (take-further m n xs) ∙ (let e : suc (m + n) ≡ suc m + n = omega arith in ap (λ k. take k (x ∷ xs)) e)
 
 -- what is behind a front of a front
 pub drop-take_sub : (k n : ℕ) (xs : List ℕ) → drop k (take n xs) ≡ take (n - k) (drop k xs)

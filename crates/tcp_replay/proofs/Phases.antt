@@ -1,9 +1,9 @@
 -- What the phase of an end says of how far it has come.
-use Rattle.tcp_replay.proofs.Words.{ap, arith, Bool, Closed, CloseWait, Closing, Ending, Established, false, FinWait1, FinWait2, FitsPhase, gives_up, has_peer}
+use Rattle.tcp_replay.proofs.Words.{ap, arith, Bool, Closed, Ending, Established, false, FinWait1, FinWait2, FitsPhase, gives_up, has_peer}
 use Rattle.tcp_replay.proofs.Words.{if◌then◌else◌, is_closed, is_ended, is_handshake, is_listening, is_syn_received, is_syn_sent, is_time_wait, IsAnswering}
-use Rattle.tcp_replay.proofs.Words.{IsDone, IsOpening, IsReceiving, IsUnused, LastAck, Listen, NotEnded, Phase, phase_after_close, phase_after_fin}
+use Rattle.tcp_replay.proofs.Words.{IsDone, IsOpening, IsReceiving, IsUnused, Listen, NotEnded, Phase, phase_after_close, phase_after_fin}
 use Rattle.tcp_replay.proofs.Words.{phase_after_own_fin, phase_after_own_syn, refl, resets_on_abort, sends_text, State, SynReceived, SynSent, takes_text}
-use Rattle.tcp_replay.proofs.Words.{TimeWait, true, ℕ, ◌≡◌, ◌≤◌}
+use Rattle.tcp_replay.proofs.Words.{true, ℕ, ◌≡◌, ◌≤◌}
 
 -- both SYNs were taken, and the connection goes on
 abbrev pub is_synchronized : Phase → Bool
@@ -101,52 +101,35 @@ not-closed-ended other ending una nxt opened finished e h = h.0
 
 -- from ESTABLISHED on the peer is known
 pub synchronized-knows : (phase : Phase) → is_synchronized phase ≡ true → has_peer phase ≡ true
-synchronized-knows Closed e = absurd (cc)
-synchronized-knows Listen e = absurd (cc)
-synchronized-knows other e = refl
+synchronized-knows phase e = grind (arith, e)
 
 -- who takes text has both SYNs taken
 pub takes_text-synchronized : (phase : Phase) → takes_text phase ≡ true → is_synchronized phase ≡ true
-takes_text-synchronized Established e = refl
-takes_text-synchronized FinWait1 e = refl
-takes_text-synchronized FinWait2 e = refl
-takes_text-synchronized other e = absurd (cc)
+takes_text-synchronized phase e = grind (arith, e)
 
 -- who sends text has, too
 pub sends_text-synchronized : (phase : Phase) → sends_text phase ≡ true → is_synchronized phase ≡ true
-sends_text-synchronized Established e = refl
-sends_text-synchronized FinWait1 e = refl
-sends_text-synchronized CloseWait e = refl
-sends_text-synchronized Closing e = refl
-sends_text-synchronized LastAck e = refl
-sends_text-synchronized other e = absurd (cc)
+sends_text-synchronized phase e = grind (arith, e)
 
 -- in TIME-WAIT both SYNs were taken
 pub time_wait-synchronized : (phase : Phase) → is_time_wait phase ≡ true → is_synchronized phase ≡ true
-time_wait-synchronized TimeWait e = refl
-time_wait-synchronized other e = absurd (cc)
+time_wait-synchronized phase e = grind (arith, e)
 
 -- in SYN-SENT the peer is known
 pub syn_sent-knows : (phase : Phase) → is_syn_sent phase ≡ true → has_peer phase ≡ true
-syn_sent-knows SynSent e = refl
-syn_sent-knows other e = absurd (cc)
+syn_sent-knows phase e = grind (arith, e)
 
 -- in SYN-SENT and SYN-RECEIVED the peer is known
 pub handshake-knows : (phase : Phase) → is_handshake phase ≡ true → has_peer phase ≡ true
-handshake-knows SynSent e = refl
-handshake-knows SynReceived e = refl
-handshake-knows other e = absurd (cc)
+handshake-knows phase e = grind (arith, e)
 
 -- in CLOSED no peer is known
 pub closed-unknown : (phase : Phase) → is_closed phase ≡ true → has_peer phase ≡ true → ⊥
-closed-unknown Closed e known = absurd (cc)
-closed-unknown other e known = absurd (cc)
+closed-unknown phase e known = grind (arith, e, known)
 
 -- a phase in which an abort sends a reset knows the peer
 pub resets_on_abort-knows : (phase : Phase) → resets_on_abort phase ≡ true → has_peer phase ≡ true
-resets_on_abort-knows Closed e = absurd (cc)
-resets_on_abort-knows Listen e = absurd (cc)
-resets_on_abort-knows other e = refl
+resets_on_abort-knows phase e = grind (arith, e)
 
 -- where the peer is known, the own SYN has a number; where an acknowledgement may go out, it was sent
 pub knows-nxt : (phase : Phase) (ending : Ending) (una nxt : ℕ) (opened finished : Bool) → has_peer phase ≡ true → una ≤ nxt
@@ -171,12 +154,7 @@ present-opened other ending una nxt opened finished e f g h = h.1.is_opened
 -- the own SYN is acknowledged
 pub own_syn-synchronized : (phase : Phase) (closing : Bool) → is_closed phase ≡ false → is_listening phase ≡ false → is_syn_sent phase ≡ false
     → is_synchronized (phase_after_own_syn phase closing) ≡ true
-own_syn-synchronized Closed closing e f g = absurd (cc)
-own_syn-synchronized Listen closing e f g = absurd (cc)
-own_syn-synchronized SynSent closing e f g = absurd (cc)
-own_syn-synchronized SynReceived true e f g = refl
-own_syn-synchronized SynReceived false e f g = refl
-own_syn-synchronized other closing e f g = refl
+own_syn-synchronized phase closing e f g = grind (arith, e, f, g)
 
 -- the phase after the acknowledgement of the own SYN: ESTABLISHED, or FIN-WAIT-1 after a close
 pub fits-own_syn : (closing : Bool) (ending : Ending) (una nxt : ℕ) (opened finished : Bool) → (ending ≡ NotEnded) × IsAnswering nxt opened finished
@@ -186,8 +164,7 @@ fits-own_syn false ending una nxt opened finished h = (h.0, record { least = ome
 
 -- in it the peer is known
 pub knows-own_syn : (closing : Bool) → has_peer (if closing then FinWait1 else Established) ≡ true
-knows-own_syn true = refl
-knows-own_syn false = refl
+knows-own_syn closing = grind arith
 
 -- SND.UNA moves on
 pub fits-acked : (phase : Phase) (ending : Ending) (una a nxt : ℕ) (opened finished : Bool) → is_synchronized phase ≡ true → una ≤ a
@@ -225,18 +202,15 @@ fits-own_fin other ending una nxt opened finished h = h
 
 -- the acknowledgement of the own FIN leaves the peer known or unknown
 pub knows-own_fin : (phase : Phase) → has_peer (phase_after_own_fin phase) ≡ has_peer phase
-knows-own_fin FinWait1 = refl
-knows-own_fin other = refl
+knows-own_fin phase = grind arith
 
 -- it leaves the handshake done or not
 pub handshake-own_fin : (phase : Phase) → is_handshake (phase_after_own_fin phase) ≡ is_handshake phase
-handshake-own_fin FinWait1 = refl
-handshake-own_fin other = refl
+handshake-own_fin phase = grind arith
 
 -- and both SYNs taken or not
 pub synchronized-own_fin : (phase : Phase) → is_synchronized (phase_after_own_fin phase) ≡ is_synchronized phase
-synchronized-own_fin FinWait1 = refl
-synchronized-own_fin other = refl
+synchronized-own_fin phase = grind arith
 
 -- the peer's FIN is taken
 pub fits-fin : (phase : Phase) (ending : Ending) (una nxt : ℕ) (opened finished : Bool) → takes_text phase ≡ true
@@ -248,13 +222,11 @@ fits-fin other ending una nxt opened finished e h = absurd (cc)
 
 -- the peer's FIN leaves the peer known or unknown
 pub knows-fin : (phase : Phase) → has_peer (phase_after_fin phase) ≡ has_peer phase
-knows-fin Established = refl
-knows-fin other = refl
+knows-fin phase = grind arith
 
 -- and the handshake done or not
 pub handshake-fin : (phase : Phase) → is_handshake (phase_after_fin phase) ≡ is_handshake phase
-handshake-fin Established = refl
-handshake-fin other = refl
+handshake-fin phase = grind arith
 
 -- the user closes
 pub fits-closing : (phase : Phase) (ending : Ending) (una nxt : ℕ) (opened finished : Bool) → FitsPhase phase ending una nxt opened finished
@@ -264,13 +236,11 @@ fits-closing other ending una nxt opened finished h = h
 
 -- a close leaves the peer known or unknown
 pub knows-closing : (phase : Phase) → has_peer (phase_after_close phase) ≡ has_peer phase
-knows-closing Established = refl
-knows-closing other = refl
+knows-closing phase = grind arith
 
 -- and the handshake done or not
 pub handshake-closing : (phase : Phase) → is_handshake (phase_after_close phase) ≡ is_handshake phase
-handshake-closing Established = refl
-handshake-closing other = refl
+handshake-closing phase = grind arith
 
 -- in the handshake nothing but the SYN is acknowledged
 pub handshake-una : (phase : Phase) (ending : Ending) (una nxt : ℕ) (opened finished : Bool) → is_handshake phase ≡ true → una ≤ nxt

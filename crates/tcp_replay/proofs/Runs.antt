@@ -1,6 +1,6 @@
 -- A run, taken event by event.
-use Rattle.tcp_replay.proofs.Words.{◌++◌, ◌+◌, ◌<◌, ◌==◌, [], add-one, age_refusal, AllByRecursion, ap, arith, cond_both, Damage, damage_refusal, Deliver}
-use Rattle.tcp_replay.proofs.Words.{delivery_refusal, drop, drop_more, effect_of, Err, EventContent, Expired, get_or, get_or-map, grows_for, IfNone, IfSome}
+use Rattle.tcp_replay.proofs.Words.{◌++◌, ◌+◌, ◌<◌, ◌==◌, [], add-one, age_refusal, AllByRecursion, ap, arith, cond_both, Damage, Deliver}
+use Rattle.tcp_replay.proofs.Words.{drop, drop_more, effect_of, Err, EventContent, Expired, get_or, get_or-map, grows_for, IfNone, IfSome}
 use Rattle.tcp_replay.proofs.Words.{if◌then◌else◌, is_expired, is_missing, later, length, length-map, length-take-le, List, map, nat_le, NoChange, NoMemory}
 use Rattle.tcp_replay.proofs.Words.{None, NoSuchSegment, Ok, Option, other, Outcome, party_of, PartyState, PlaceOutside, refl, refusal_of, Result, run_of}
 use Rattle.tcp_replay.proofs.Words.{segment_at, sent_at, SentSegment, side_of, slice_get-get_or, Some, State, stay_or, StepError, stop_of, stop_or}
@@ -61,33 +61,28 @@ run-stop w (first ∷ list) rest event error e f =
       stays = ap (λ r. stay_or r w (run_of (world_with_effect w first) (list ++ event ∷ rest))) both.first ∙ more.stays ∙ sym here;
     }
 
+-- THE REFUSAL OF AN EVENT: none, one of a delivery, or that of a segment's age
+pub refusal-cases : (P : Option StepError → Type 0) → P None → P (Some NoSuchSegment) → P (Some NoChange) → P (Some PlaceOutside) → (life : ℕ)
+    (p q : PartyState) (event : EventContent) → ((g : SentSegment) → P (age_refusal life q.endpoint g)) → P (effect_of life p q event).refusal
+unfolding effect_of
+refusal-cases P none missing same outside life p q (Deliver from k) age =
+    cond_both (is_missing p k) (Some NoSuchSegment) (age_refusal life q.endpoint (sent_at p k)) P (λ _. missing) (λ _. age (sent_at p k))
+refusal-cases P none missing same outside life p q (Damage from k place value) age =
+    let old = age_refusal life q.endpoint (sent_at p k) in
+    let inside = if nat_le (length (segment_at p k)) place then Some PlaceOutside else old in
+    cond_both (is_missing p k) (Some NoSuchSegment) (if value == 0 then Some NoChange else inside) P (λ _. missing)
+    (λ _. cond_both (value == 0) (Some NoChange) inside P (λ _. same)
+    (λ _. cond_both (nat_le (length (segment_at p k)) place) (Some PlaceOutside) old P (λ _. outside) (λ _. age (sent_at p k))))
+refusal-cases P none missing same outside life p q another age = none
+
 -- want of memory is no reason of the definitions
 age-not_memory : (life : ℕ) (s : State) (g : SentSegment) → age_refusal life s g ≡ Some NoMemory → ⊥
 age-not_memory life s g = cond_both (is_expired life s g) (Some Expired) None (λ r. r ≡ Some NoMemory → ⊥) (λ _ e. absurd (cc)) (λ _ e. absurd (cc))
 
-damage-not_memory : (life : ℕ) (p q : PartyState) (k place value : ℕ) → damage_refusal life p q k place value ≡ Some NoMemory → ⊥
-damage-not_memory life p q k place value =
-    let P : Option StepError → Type 0 = λ r. r ≡ Some NoMemory → ⊥ in
-    let age = age_refusal life q.endpoint (sent_at p k) in
-    let outside = if nat_le (length (segment_at p k)) place then Some PlaceOutside else age in
-    cond_both (is_missing p k) (Some NoSuchSegment) (if value == 0 then Some NoChange else outside) P (λ _ e. absurd (cc))
-    (λ _. cond_both (value == 0) (Some NoChange) outside P (λ _ e. absurd (cc))
-    (λ _. cond_both (nat_le (length (segment_at p k)) place) (Some PlaceOutside) age P (λ _ e. absurd (cc))
-    (λ _. age-not_memory life q.endpoint (sent_at p k))))
-
-delivery-not_memory : (life : ℕ) (p q : PartyState) (k : ℕ) → delivery_refusal life p q k ≡ Some NoMemory → ⊥
-delivery-not_memory life p q k =
-    cond_both (is_missing p k) (Some NoSuchSegment) (age_refusal life q.endpoint (sent_at p k)) (λ r. r ≡ Some NoMemory → ⊥) (λ _ e. absurd (cc))
-    (λ _. age-not_memory life q.endpoint (sent_at p k))
-
-effect-not_memory : (life : ℕ) (p q : PartyState) (event : EventContent) → (effect_of life p q event).refusal ≡ Some NoMemory → ⊥
-unfolding effect_of
-effect-not_memory life p q (Deliver from k) e = delivery-not_memory life p q k e
-effect-not_memory life p q (Damage from k place value) e = damage-not_memory life p q k place value e
-effect-not_memory life p q another e = absurd (cc)
-
 refusal-not_memory : (w : WorldState) (event : EventContent) → refusal_of w event ≡ Some NoMemory → ⊥
-refusal-not_memory w event e = effect-not_memory w.life (party_of w (side_of event)) (party_of w (other (side_of event))) event e
+refusal-not_memory w event =
+    refusal-cases (λ r. r ≡ Some NoMemory → ⊥) (λ e. absurd (cc)) (λ e. absurd (cc)) (λ e. absurd (cc)) (λ e. absurd (cc)) w.life (party_of w (side_of event))
+    (party_of w (other (side_of event))) event (age-not_memory w.life (party_of w (other (side_of event))).endpoint)
 
 -- what a step answers, with its type
 abbrev pub answered : Outcome → Result Outcome StepError

@@ -24,7 +24,7 @@ moved-sent p q text bytes h e =
     let takes = h.there.takes in
     let hands = h.there.hands in
     let alone = alone-with_text s p.accepted text p.closed bytes e h.there.alone in
-    let limit = accepted-limit s.sending s.config.limit p.accepted text h.there.limit (rw (unclosed, none) at h.there.alone.sends) in
+    let limit = accepted-limit s.sending s.config.limit p.accepted text p.closed h.there.limit (rw none at h.there.alone.sends) in
     record {
       here = assumption;
       config = refl;

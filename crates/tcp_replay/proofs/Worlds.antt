@@ -1,18 +1,19 @@
 -- THE HEADLINE on the definitions: every event keeps both ends sound, sound ends are safe, and no segment expires where the lifetime is the longest.
-use Rattle.tcp_replay.proofs.Words.{◌++◌, ◌+◌, ◌-◌, ◌<◌, ◌==◌, [], A, ack, acks_late, address_of, age_refusal, AllByRecursion, and_parts, ap, AreOwn}
-use Rattle.tcp_replay.proofs.Words.{AreSoundEnds, arith, Arrived, B, BadChecksum, Bool, both, bytes_of, cond_both, Config, Damage, damage_refusal}
-use Rattle.tcp_replay.proofs.Words.{default_limit, Deliver, delivery_refusal, drop, Due, Effect, effect_of, EmitsTruth, empty_inbox-agrees, Err, EventContent}
+use Rattle.tcp_replay.proofs.Words.{◌++◌, ◌+◌, ◌-◌, ◌<◌, [], A, ack, acks_late, address_of, age_refusal, AllByRecursion, and_parts, ap, AreOwn}
+use Rattle.tcp_replay.proofs.Words.{AreSoundEnds, arith, Arrived, B, BadChecksum, Bool, both, bytes_of, cond_both, Config, Damage}
+use Rattle.tcp_replay.proofs.Words.{default_limit, drop, Due, Effect, effect_of, EmitsTruth, empty_inbox-agrees, Err, EventContent}
 use Rattle.tcp_replay.proofs.Words.{EveryRunIsSafe, Expired, false, FindsDamage, flags_in, grows_for, has, HasBytes, HintsAreTrue, IfErr, IfNone, IfOk, IfSome}
-use Rattle.tcp_replay.proofs.Words.{if◌then◌else◌, is_expired, is_late, is_missing, IsConfig, IsDamage, IsOwn, IsSafe, IsSafeDirection, IsSound, IsSoundEnd}
+use Rattle.tcp_replay.proofs.Words.{is_expired, is_late, IsConfig, IsDamage, IsOwn, IsSafe, IsSafeDirection, IsSound, IsSoundEnd}
 use Rattle.tcp_replay.proofs.Words.{IsSoundPair, KeepsAllSegments, leb-true, length, length-take, List, Malformed, max_life, min, nat_le, new_party}
-use Rattle.tcp_replay.proofs.Words.{new_world_with, next_wanted, NoChange, NoMemory, None, NoSuchSegment, not, Ok, OnErr, OnOk, Option, option_map, or_cases}
-use Rattle.tcp_replay.proofs.Words.{other, Outcome, outcome_of, party_of, PartyState, Peer, PlaceOutside, refl, refusal_of, Result, rst, run_of, segment_at}
-use Rattle.tcp_replay.proofs.Words.{sent_at, sent_by, SentSegment, Side, side_of, Some, State, stay_or, StepError, subst, sym, take, take-append-drop, true}
+use Rattle.tcp_replay.proofs.Words.{new_world_with, next_wanted, NoMemory, None, not, Ok, OnErr, OnOk, Option, option_map, or_cases}
+use Rattle.tcp_replay.proofs.Words.{other, Outcome, outcome_of, party_of, PartyState, Peer, refl, refusal_of, Result, rst, run_of}
+use Rattle.tcp_replay.proofs.Words.{sent_by, SentSegment, Side, side_of, Some, State, stay_or, StepError, subst, sym, take, take-append-drop, true}
 use Rattle.tcp_replay.proofs.Words.{world_after, world_after_all, world_from, world_with_effect, WorldState, ◌||◌, ℕ, ◌∙◌, ◌∷◌, ◌≡◌, ◌≤◌, ⊎_elim}
 use Rattle.tcp_replay.proofs.{Lists.one_if, Lists.one_if-most, Alone.alone-new, Steps.pair-from-move, Steps.pair-swapped, Events.finds-damage, Events.in-world}
 use Rattle.tcp_replay.proofs.{Events.own-decodes, Events.PairKept, Events.some-is, Emissions.GoesOut, Emissions.own-due, Emissions.wanted-is, Calls.KeptByCalls}
 use Rattle.tcp_replay.proofs.{Hints.hints-after, Hints.hints-new, Hints.hints-true, Runs.not-refused}
 use Rattle.tcp_replay.specs.declared.outcome.Outcome.TheVariants as outcomes
+use Rattle.tcp_replay.proofs.Runs.{refusal-cases}
 
 -- SOUNDNESS rests on nothing else
 nothing-kept : (peer : Peer) (p : PartyState) → KeptByCalls peer p (λ _. Unit {0})
@@ -230,23 +231,6 @@ age-not_expired : (life : ℕ) (s : State) (g : SentSegment) → next_wanted s.r
 age-not_expired life s g next una =
     cond_both (is_expired life s g) (Some Expired) None (λ r. r ≡ Some Expired → ⊥) (λ old _. age-none life s g next una old) (λ _ e. absurd (cc))
 
-delivery-not_expired : (life : ℕ) (p q : PartyState) (k : ℕ) → next_wanted q.endpoint.receiving < life → q.endpoint.sending.una < life
-    → delivery_refusal life p q k ≡ Some Expired → ⊥
-delivery-not_expired life p q k next una =
-    cond_both (is_missing p k) (Some NoSuchSegment) (age_refusal life q.endpoint (sent_at p k)) (λ r. r ≡ Some Expired → ⊥) (λ _ e. absurd (cc))
-    (λ _. age-not_expired life q.endpoint (sent_at p k) next una)
-
-damage-not_expired : (life : ℕ) (p q : PartyState) (k place value : ℕ) → next_wanted q.endpoint.receiving < life → q.endpoint.sending.una < life
-    → damage_refusal life p q k place value ≡ Some Expired → ⊥
-damage-not_expired life p q k place value next una =
-    let P : Option StepError → Type 0 = λ r. r ≡ Some Expired → ⊥ in
-    let age = age_refusal life q.endpoint (sent_at p k) in
-    let outside = if nat_le (length (segment_at p k)) place then Some PlaceOutside else age in
-    cond_both (is_missing p k) (Some NoSuchSegment) (if value == 0 then Some NoChange else outside) P (λ _ e. absurd (cc))
-    (λ _. cond_both (value == 0) (Some NoChange) outside P (λ _ e. absurd (cc))
-    (λ _. cond_both (nat_le (length (segment_at p k)) place) (Some PlaceOutside) age P (λ _ e. absurd (cc))
-    (λ _. age-not_expired life q.endpoint (sent_at p k) next una)))
-
 -- the positions of an end lie within what both ends accepted
 record StaysBelow (life : ℕ) (s : State) : Type 0 where
   next : next_wanted s.receiving < life
@@ -258,12 +242,6 @@ stays-below life p q short short' h = record {
   una = omega (arith, h.back.between, h.there.takes.order, one_if-most p.endpoint.receiving.finished, short');
 }
 
-effect-not_expired : (life : ℕ) (p q : PartyState) (event : EventContent) → StaysBelow life q.endpoint → (effect_of life p q event).refusal ≡ Some Expired → ⊥
-unfolding effect_of
-effect-not_expired life p q (Deliver from k) h e = delivery-not_expired life p q k h.next h.una e
-effect-not_expired life p q (Damage from k place value) h e = damage-not_expired life p q k place value h.next h.una e
-effect-not_expired life p q another h e = absurd (cc)
-
 below-from_side : (w : WorldState) (side : Side) → IsSound w → KeepsAllSegments w → StaysBelow w.life (party_of w (other side)).endpoint
 below-from_side w A h keeps =
     stays-below w.life w.a w.b (omega (arith, h.ends.there.limit, keeps.limit_of_a, keeps.life))
@@ -273,8 +251,11 @@ below-from_side w B h keeps =
     (omega (arith, h.ends.there.limit, keeps.limit_of_a, keeps.life)) (pair-swapped w.a w.b h.ends)
 
 not-expired : (w : WorldState) (event : EventContent) → IsSound w → KeepsAllSegments w → refusal_of w event ≡ Some Expired → ⊥
-not-expired w event h keeps e =
-    effect-not_expired w.life (party_of w (side_of event)) (party_of w (other (side_of event))) event (below-from_side w (side_of event) h keeps) e
+not-expired w event h keeps =
+    let q = party_of w (other (side_of event)) in
+    let below = below-from_side w (side_of event) h keeps in
+    refusal-cases (λ r. r ≡ Some Expired → ⊥) (λ e. absurd (cc)) (λ e. absurd (cc)) (λ e. absurd (cc)) (λ e. absurd (cc)) w.life (party_of w (side_of event)) q
+    event (λ g. age-not_expired w.life q.endpoint g below.next below.una)
 
 -- WHAT THE ENDS WERE MADE FROM stays, and its limits
 abbrev HaveLimits : PartyState → PartyState → Type 0
