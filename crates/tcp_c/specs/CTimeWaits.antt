@@ -3,7 +3,7 @@ use Rattle.std.specs.Prelude.{ℕ, is_some, not, ◌==◌, if◌then◌else◌, 
 use Rattle.tcp_halves.specs.declared.link.WaitingReset.{WaitingReset}
 use Rattle.tcp_conn.specs.declared.phase.Ending.{Ending}
 use Rattle.tcp_conn.specs.declared.phase.Ending.TheVariants as endings
-use Rattle.tcp_conn.specs.declared.rest_fields.RestFields.{RestFields}
+use Rattle.tcp_conn.specs.declared.time_wait.fields.RestFields.{RestFields}
 use Rattle.tcp_conn.specs.Rest.{Resting, as_state, can_be_kept, can_rest, kept_of, resting}
 use Rattle.tcp_conn.specs.State.{State}
 use Rattle.tcp_c.specs.Answers.{done, no_time_wait, not_time_wait}

@@ -7,12 +7,12 @@ use Rattle.tcp_conn.specs.Emission.{destination, pending_length}
 use Rattle.tcp_conn.specs.State.{State}
 use Rattle.tcp_conn.specs.Taking.{brought, bytes_acked, is_duplicate, is_window_taken, rule_of}
 use Rattle.tcp_conn.specs.Transmission.{count_due, kind_due, position_due}
-use Rattle.tcp_conn.specs.declared.judgement.Judgement.{Judgement}
-use Rattle.tcp_conn.specs.declared.judgement.Judgement.TheVariants.{Foreign, ResetIgnored, Stray, AckOfListen, OpensNothing, PeerOpens, AckOfNoSyn, PeerRefuses, PeerAccepts, Unacceptable, PeerResets, ResetElsewhere, SynInWindow, NoAck, AcksUnsent, HandshakeRefused, HandshakeRefusedShut, Taken, TakenShut}
-use Rattle.tcp_conn.specs.declared.taking.Brought.{Brought}
-use Rattle.tcp_conn.specs.declared.taking.Brought.TheVariants as brings
-use Rattle.tcp_conn.specs.declared.transmission.Kind.{Kind}
-use Rattle.tcp_conn.specs.declared.transmission.Kind.TheVariants as kinds
+use Rattle.tcp_conn.specs.declared.arrive.judgement.Judgement.{Judgement}
+use Rattle.tcp_conn.specs.declared.arrive.judgement.Judgement.TheVariants.{Foreign, ResetIgnored, Stray, AckOfListen, OpensNothing, PeerOpens, AckOfNoSyn, PeerRefuses, PeerAccepts, Unacceptable, PeerResets, ResetElsewhere, SynInWindow, NoAck, AcksUnsent, HandshakeRefused, HandshakeRefusedShut, Taken, TakenShut}
+use Rattle.tcp_conn.specs.declared.arrive.brought.Brought.{Brought}
+use Rattle.tcp_conn.specs.declared.arrive.brought.Brought.TheVariants as brings
+use Rattle.tcp_conn.specs.declared.emit.transmit.Kind.{Kind}
+use Rattle.tcp_conn.specs.declared.emit.transmit.Kind.TheVariants as kinds
 use Rattle.tcp_c.specs.Segments.{nowhere}
 use Rattle.tcp_c.specs.Status.{flag}
 use Rattle.tcp_c.specs.declared.records.CArriveReport.{CArriveReport}

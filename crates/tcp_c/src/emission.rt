@@ -1,6 +1,6 @@
 //! Segments that go out, each with where it goes and its length.
 ghost use Rattle.std.specs.Prelude.{◌≡◌, length, option_map, unwrap_or};
-ghost use Rattle.tcp_conn.specs.declared.emission.TheConstants.{EMIT_ROOM};
+ghost use Rattle.tcp_conn.specs.declared.emit.transmit.TheConstants.{EMIT_ROOM};
 ghost use Rattle.tcp_c.specs.Answers.{answer_of, due_number, number_written};
 ghost use Rattle.tcp_c.specs.Lent.{partial_buffer};
 ghost use Rattle.tcp_c.specs.Pacing.{ack_buffer, ack_destination, ack_length, ack_number, after_ack_within};

@@ -1,7 +1,7 @@
 //! What is reported to C of bytes that arrived, and of a segment that was written.
 ghost use Rattle.std.specs.Prelude.{◌≡◌, length, option_map, unwrap_or};
 ghost use Rattle.tcp_conn.specs.Arrival.{after_arrival, arrival_answer};
-ghost use Rattle.tcp_conn.specs.declared.emission.TheConstants.{EMIT_ROOM};
+ghost use Rattle.tcp_conn.specs.declared.emit.transmit.TheConstants.{EMIT_ROOM};
 ghost use Rattle.tcp_c.specs.Answers.{answer_of, arrival_number, due_number};
 ghost use Rattle.tcp_c.specs.Reports.{brought_number, kind_number, kind_told, next_of, no_arrive_report, no_transmit, rule_number, rule_told, arrive_report_of, transmit_of};
 ghost use Rattle.tcp_c.specs.Segments.{after_emission_within, emission_number, nowhere, written_buffer};

@@ -2,7 +2,7 @@
 ghost use Rattle.std.specs.Prelude.{◌≡◌, ◌≢◌, None, length};
 ghost use Rattle.tcp_conn.specs.Arrival.{arrival_answer, after_arrival};
 ghost use Rattle.tcp_conn.specs.Calls.{abort_answer, after_abort};
-ghost use Rattle.tcp_conn.specs.declared.rest.TheConstants.{REST_LEN};
+ghost use Rattle.tcp_conn.specs.declared.time_wait.record.TheConstants.{REST_LEN};
 ghost use Rattle.tcp_c.specs.Answers.{done, answer_of, arrival_number, call_number, number_written};
 ghost use Rattle.tcp_c.specs.Calls.{timer_of, timer_number, after_any_timer};
 ghost use Rattle.tcp_c.specs.CTimeWaits.{no_record, time_wait_after, time_wait_answer, time_wait_kept, time_wait_number, time_wait_stands_for, time_wait_reported};

@@ -1,6 +1,6 @@
 //! Segments of new text as one, for a device that cuts them and computes their checksums.
 ghost use Rattle.std.specs.Prelude.{◌≡◌, length, option_map};
-ghost use Rattle.tcp_conn.specs.declared.emission.TheConstants.{EMIT_ROOM};
+ghost use Rattle.tcp_conn.specs.declared.emit.transmit.TheConstants.{EMIT_ROOM};
 ghost use Rattle.tcp_c.specs.Answers.{answer_of};
 ghost use Rattle.tcp_c.specs.Reports.{kind_number};
 ghost use Rattle.tcp_c.specs.Segments.{emission_number};

@@ -5,8 +5,8 @@ use Rattle.tcp_wire.specs.Flags.{ack, has, rst, syn}
 use Rattle.tcp_wire.specs.Position.{is_before}
 use Rattle.tcp_wire.specs.Wire.{Content}
 use Rattle.tcp_wire.specs.declared.fault.DecodeError.{DecodeError}
-use Rattle.tcp_conn.specs.declared.judgement.Judgement.{Judgement}
-use Rattle.tcp_conn.specs.declared.judgement.Judgement.TheVariants as judgements
+use Rattle.tcp_conn.specs.declared.arrive.judgement.Judgement.{Judgement}
+use Rattle.tcp_conn.specs.declared.arrive.judgement.Judgement.TheVariants as judgements
 use Rattle.tcp_conn.specs.declared.outcome.Arrival.{Arrival}
 use Rattle.tcp_conn.specs.declared.outcome.Arrival.TheVariants.{Malformed}
 use Rattle.tcp_conn.specs.declared.phase.Ending.{Ending}

@@ -8,8 +8,8 @@ use Rattle.tcp_wire.specs.Flags.{ack}
 use Rattle.tcp_wire.specs.Position.{number}
 use Rattle.tcp_wire.specs.Wire.{Content, encoded_bytes, wire_length}
 use Rattle.tcp_reasm.specs.Reassembly.{blocks, runs_newest_first}
-use Rattle.tcp_conn.specs.declared.due.Due.{Due}
-use Rattle.tcp_conn.specs.declared.due.Due.TheVariants.{Reset, Acknowledgement}
+use Rattle.tcp_conn.specs.declared.emit.due.Due.{Due}
+use Rattle.tcp_conn.specs.declared.emit.due.Due.TheVariants.{Reset, Acknowledgement}
 use Rattle.tcp_halves.specs.declared.link.Peer.{Peer}
 use Rattle.tcp_halves.specs.declared.link.WaitingReset.{WaitingReset}
 use Rattle.tcp_conn.specs.declared.outcome.CallError.{CallError}

@@ -7,22 +7,23 @@ use Rattle.std.proofs.lemmas.Bool.{cond_both, cases_lt}
 use Rattle.tcp_wire.specs.Flags.{fin, syn, rst, psh, ack}
 use Rattle.tcp_wire.specs.Checksum.{AreBytes}
 use Rattle.tcp_wire.specs.Options.{Mss, spellings, block_bytes, IsBlock, AreSpellable}
-use Rattle.tcp_wire.specs.Wire.{Content, IsValid, header_len, max_len, option_bytes, wire_length}
+use Rattle.tcp_wire.specs.Wire.{Content, IsValid, header_len, max_len, max_text_len, option_bytes, wire_length}
 use Rattle.tcp_wire.specs.View.{text_offset}
 use Rattle.tcp_wire.proofs.Lemmas.{blocks_bytes_length}
 use Rattle.tcp_reasm.specs.Reassembly.{Inbox, blocks}
-use Rattle.tcp_conn.specs.declared.due.Due.{Due}
-use Rattle.tcp_conn.specs.declared.due.Due.TheVariants.{Reset, Syn, Text, Acknowledgement}
-use Rattle.tcp_halves.specs.declared.sent.Sent.TheVariants.{NewText}
+use Rattle.tcp_conn.specs.declared.emit.due.Due.{Due}
+use Rattle.tcp_conn.specs.declared.emit.due.Due.TheVariants.{Reset, Syn, Text, Acknowledgement}
 use Rattle.tcp_halves.specs.Sent as half
 use Rattle.tcp_halves.specs.declared.link.WaitingReset.{WaitingReset}
-use Rattle.tcp_conn.specs.declared.emission.TheConstants.{EMIT_ROOM}
+use Rattle.tcp_conn.specs.declared.emit.parts.TheConstants.{HEADER_ROOM}
+use Rattle.tcp_conn.specs.declared.emit.transmit.TheConstants.{EMIT_ROOM}
 use Rattle.tcp_halves.specs.Config.{max_mss, max_shift}
 use Rattle.tcp_conn.specs.State.{State, Sending, place_of}
+use Rattle.tcp_conn.specs.Writing.{IsWritable}
 use Rattle.tcp_conn.specs.Endpoint.{FitsFields}
 use Rattle.tcp_conn.specs.Due.{IsSendable, count_of, flags_of}
 use Rattle.tcp_conn.specs.Blocks.{block_numbers, blocks_to_report, sack_options, sack_length}
-use Rattle.tcp_conn.specs.Forms.{reset_ack, reset_segment, shift_offered, is_sack_offered, scale_options, permission_options, syn_segment, text_of, plain_segment}
+use Rattle.tcp_conn.specs.Forms.{reset_ack, reset_segment, shift_offered, is_sack_offered, scale_options, permission_options, syn_segment, text_of, plain_segment, segment_of, waiting_segment}
 
 -- BLOCKS: at most four, each a pair of numbers
 few-blocks : (q : Inbox) → length (blocks q) ≤ 4
@@ -113,16 +114,12 @@ text-as_long queue place count inside = ⊎_elim
     (λ some. length-take-le count (drop place queue) (omega (arith, inside some, length-drop place queue)))
     (cases_lt count 1)
 
--- the text from SND.NXT on is, if the queue has so much
-pub length_new_text : (s : Sending) (count : ℕ) → place_of s s.nxt + count ≤ length s.queue.bytes → length (text_of s (Text (NewText s.nxt count))) ≡ count
-length_new_text s count inside = text-as_long s.queue.bytes (place_of s s.nxt) count (λ _. inside)
-
 -- the text of what is due is as long as its count
-pub text_as_long : (s : Sending) (due : Due) → IsSendable s max_mss due → length (text_of s due) ≡ count_of due
-text_as_long s Reset sendable = refl
-text_as_long s Syn sendable = refl
-text_as_long s (Text sent) sendable = text-as_long s.queue.bytes (place_of s (half.start_of sent)) (half.count_of sent) sendable.inside
-text_as_long s Acknowledgement sendable = refl
+pub text_as_long : (s : Sending) (limit : ℕ) (due : Due) → IsSendable s limit due → length (text_of s due) ≡ count_of due
+text_as_long s limit Reset sendable = refl
+text_as_long s limit Syn sendable = refl
+text_as_long s limit (Text sent) sendable = text-as_long s.queue.bytes (place_of s (half.start_of sent)) (half.count_of sent) sendable.inside
+text_as_long s limit Acknowledgement sendable = refl
 
 -- and no longer than the greatest maximum segment size
 pub count_short : (s : Sending) (due : Due) → IsSendable s max_mss due → count_of due ≤ max_mss
@@ -131,12 +128,27 @@ count_short s Syn sendable = omega arith
 count_short s (Text sent) sendable = sendable.short
 count_short s Acknowledgement sendable = omega arith
 
+-- so that it can be the text of a segment
+pub sendable_as_text : (s : Sending) (due : Due) → IsSendable s max_mss due → IsSendable s max_text_len due
+sendable_as_text s Reset sendable = tt
+sendable_as_text s Syn sendable = tt
+sendable_as_text s (Text sent) sendable = record { inside = sendable.inside; short = omega (arith, sendable.short); most = sendable.most }
+sendable_as_text s Acknowledgement sendable = tt
+
 pub plain_segment_due : (s : State) (due : Due) → IsSendable s.sending max_mss due → wire_length (plain_segment s due) ≡ header_len + sack_length (blocks_to_report s) + count_of due
-plain_segment_due s due sendable = omega (arith, length_plain_segment s due, text_as_long s.sending due sendable)
+plain_segment_due s due sendable = omega (arith, length_plain_segment s due, text_as_long s.sending max_mss due sendable)
 
 pub plain_segment_short : (s : State) (due : Due) → IsSendable s.sending max_mss due → wire_length (plain_segment s due) ≤ EMIT_ROOM
 plain_segment_short s due sendable =
     omega (arith, plain_segment_due s due sendable, report_options_short s, count_short s.sending due sendable)
+
+-- what is due alone can be written where there is room for the longest segment
+pub alone_writable : (s : State) (due : Due) (room : ℕ) → IsSendable s.sending max_mss due → EMIT_ROOM ≤ room → IsWritable s due room
+alone_writable s due room sendable large = record {
+  least = omega (arith, large);
+  sendable = sendable_as_text s.sending due sendable;
+  fits = omega (arith, large, report_options_short s, count_short s.sending due sendable);
+}
 
 -- of any length that a segment may have
 pub text_segment_valid : (s : State) (due : Due) → FitsFields s → AreBytes (text_of s.sending due)
@@ -160,8 +172,14 @@ text_segment_valid s due fits_fields bytes short =
       most = omega (arith, area, fits, short);
     }
 
-pub plain_segment_valid : (s : State) (due : Due) → FitsFields s → AreBytes (text_of s.sending due) → length (text_of s.sending due) ≤ max_mss → IsValid (plain_segment s due)
-plain_segment_valid s due fits_fields bytes short = text_segment_valid s due fits_fields bytes (omega (arith, short, report_options_short s))
+-- an acknowledgement, where a reset can be
+pub as_acknowledgement : (s : State) (room : ℕ) → IsWritable s Reset room → IsWritable s Acknowledgement room
+as_acknowledgement s room writable = record { least = writable.least; sendable = tt; fits = writable.fits }
+
+-- so is what has room in a buffer
+pub written_segment_valid : (s : State) (due : Due) (room : ℕ) → FitsFields s → IsWritable s due room → AreBytes (text_of s.sending due) → IsValid (plain_segment s due)
+written_segment_valid s due room fits_fields writable bytes =
+    text_segment_valid s due fits_fields bytes (omega (arith, writable.fits, text_as_long s.sending max_text_len due writable.sendable))
 
 -- A RESET
 pub reset_segment_valid : (s : State) (r : WaitingReset) → s.config.port < 2 ^ 16 → r.to.port < 2 ^ 16 → r.seq.0 < 2 ^ 32 → reset_ack r.ack < 2 ^ 32 → IsValid (reset_segment s r)
@@ -235,6 +253,21 @@ syn_segment_valid s fits_fields =
       text = λ i. omega arith;
       most = omega (arith, area, fits);
     }
+
+-- THE LONGEST SEGMENT
+waiting-short : (s : State) (waiting : Option WaitingReset) → wire_length (waiting_segment s waiting) ≤ EMIT_ROOM
+waiting-short s None = plain_segment_short s Acknowledgement tt
+waiting-short s (Some reset) = omega arith
+
+pub syn_header_short : (s : State) → wire_length (syn_segment s) ≤ HEADER_ROOM
+syn_header_short s = omega (arith, length_syn_segment s, syn_area-fits (is_some (shift_offered s)) (is_sack_offered s))
+
+pub segment_short : (s : State) (due : Due) → IsSendable s.sending max_mss due → wire_length (segment_of s due) ≤ EMIT_ROOM
+unfolding segment_of
+segment_short s Reset sendable = waiting-short s s.owed.reset
+segment_short s Syn sendable = omega (arith, syn_header_short s)
+segment_short s (Text sent) sendable = plain_segment_short s (Text sent) sendable
+segment_short s Acknowledgement sendable = plain_segment_short s Acknowledgement sendable
 
 -- a segment that takes no number leaves SND.NXT as it is
 pub nxt_of_reset : (n : ℕ) → max n 0 ≡ n

@@ -5,15 +5,17 @@ use Rattle.std.specs.Prelude.{Option, Some, None}
 use Rattle.tcp_wire.specs.Wire.{header_len, max_len}
 use Rattle.tcp_halves.specs.declared.sent.Sent.TheVariants.{NewText}
 use Rattle.tcp_halves.specs.Config.{max_mss}
-use Rattle.tcp_conn.specs.declared.due.Due.{Due}
-use Rattle.tcp_conn.specs.declared.due.Due.TheVariants.{Text}
-use Rattle.tcp_conn.specs.declared.emission.TheConstants.{EMIT_ROOM}
+use Rattle.tcp_conn.specs.declared.emit.due.Due.{Due}
+use Rattle.tcp_conn.specs.declared.emit.due.Due.TheVariants.{Text}
+use Rattle.tcp_conn.specs.declared.emit.transmit.TheConstants.{EMIT_ROOM}
+use Rattle.tcp_halves.specs.Sender.{IsSender}
 use Rattle.tcp_conn.specs.State.{State, Sending}
+use Rattle.tcp_conn.specs.Writing.{IsWritable}
 use Rattle.tcp_conn.specs.Blocks.{blocks_to_report, sack_length}
 use Rattle.tcp_conn.specs.Due.{due_of}
-use Rattle.tcp_conn.specs.Train.{IsTogether, after_emissions, count_for, count_of_due, count_together, text_allowed, train_count}
+use Rattle.tcp_conn.specs.Train.{IsTogether, after_emissions, count_for, count_of_due, count_together, text_allowed, text_as_one, train_count}
 use Rattle.tcp_conn.proofs.Segments.{report_options_short}
-use Rattle.tcp_conn.proofs.Trains.{is_new_text}
+use Rattle.tcp_conn.proofs.Trains.{allowed-parts, is_new_text}
 
 -- text that is allowed follows on what was sent
 allowed-behind : (s : Sending) → 0 < text_allowed s → s.released < s.nxt
@@ -48,6 +50,37 @@ together s most room start each due short large several =
       short = short;
       allowed = allowed;
       fits = omega (arith, large, report_options_short s, fit count (min room max_len - (header_len + sack_length (blocks_to_report s))) each (omega (arith, several)));
+    }
+
+-- their text can be written as that of one segment
+whole-first : (count each : ℕ) → 1 < count → each ≤ count * each
+whole-first zero each several = absurd (omega (arith, several))
+whole-first (suc more) each several =
+    let step : suc more * each ≡ more * each + each = omega arith in
+    omega (arith, step)
+
+all-but-one : (count each : ℕ) → 1 < count → each ≤ (count - 1) * each
+all-but-one zero each several = absurd (omega (arith, several))
+all-but-one (suc zero) each several = absurd (omega (arith, several))
+all-but-one (suc (suc more)) each several =
+    let same : suc more ≡ suc (suc more) - 1 = omega arith in
+    let step : suc more * each ≡ more * each + each = omega arith in
+    subst (λ k. each ≤ k * each) same (omega (arith, step))
+
+pub run_writable : (s : State) (start each count room : ℕ) → IsTogether s start each count room → IsSender s.sending → EMIT_ROOM ≤ room
+    → IsWritable s (Text (NewText start (text_as_one s.sending count each))) room
+run_writable s start each count room run sound large =
+    let allowed = allowed-parts s.sending (omega (arith, run.allowed)) in
+    let first : each ≤ count * each = whole-first count each run.several in
+    let second : each ≤ (count - 1) * each = all-but-one count each run.several in
+    record {
+      least = omega (arith, large);
+      sendable = record {
+        inside = λ _. omega (arith, run.follows, allowed.1, second, run.allowed);
+        short = omega (arith, run.fits, first);
+        most = omega (arith, run.follows, allowed.0, allowed.1, second, run.allowed, sound.limit);
+      };
+      fits = omega (arith, run.fits, first);
     }
 
 -- where nothing is due, nothing is emitted

@@ -18,11 +18,12 @@ use Rattle.tcp_halves.specs.declared.sent.Sent.{Sent}
 use Rattle.tcp_halves.specs.declared.sent.Sent.TheVariants.{NewText, Resend, Fin, ResentFin}
 use Rattle.tcp_halves.specs.Sender.{Sending, count_unsent, place_of}
 use Rattle.tcp_halves.specs.Sent.{count_allowed, fin_of, new_count, new_text_of, pushes, resend_of, resent_run, usable_window}
-use Rattle.tcp_conn.specs.declared.due.Due.{Due}
-use Rattle.tcp_conn.specs.declared.due.Due.TheVariants.{Reset, Syn, Text, Acknowledgement}
+use Rattle.tcp_conn.specs.declared.emit.due.Due.{Due}
+use Rattle.tcp_conn.specs.declared.emit.due.Due.TheVariants.{Reset, Syn, Text, Acknowledgement}
 use Rattle.tcp_conn.specs.State.{State}
 use Rattle.tcp_conn.specs.Phase.{sends_text}
-use Rattle.tcp_conn.specs.Due.{ack_due, count_of, due_of, reset_due, sent_due, syn_due, text_due, text_limit}
+use Rattle.tcp_conn.specs.Due.{ack_due, count_of, due_of, reset_due, sent_due, start_of, syn_due, text_due, text_limit}
+use Rattle.tcp_conn.specs.Transmission.{kind_of}
 use Rattle.tcp_conn.specs.Emission.{after_emission, emitted_bytes, state_after}
 use Rattle.tcp_conn.specs.Forms.{plain_segment, segment_of, waiting_segment}
 use Rattle.tcp_conn.specs.Writing.{bytes_of, destination_of}
@@ -306,7 +307,7 @@ record Begins (s : State) (each more : ℕ) : Type 0 where
   least : more * each < run-length s each (suc more)
   most : run-length s each (suc more) ≤ suc more * each
 
-allowed-parts : (s : Sending) → 0 < text_allowed s → (s.released < s.nxt) × (text_allowed s ≡ min (count_unsent s) (usable_window s))
+pub allowed-parts : (s : Sending) → 0 < text_allowed s → (s.released < s.nxt) × (text_allowed s ≡ min (count_unsent s) (usable_window s))
 allowed-parts s h = grind (arith, nat_tests, h)
 
 usable-first : (s : Sending) (probe : Bool) → 0 < usable_window s → count_allowed s probe ≡ usable_window s
@@ -439,3 +440,31 @@ train_is_cut s most room = of-due (due_of s) refl where
 pub after_train : (s : State) (most room : ℕ) (due : Due) → due_of s ≡ Some due
     → state_after s (as_one s (count_together s most room due) due) ≡ after_emissions (count_together s most room due) s
 after_train s most room due e = (is-cut s most room due e).1
+
+-- as one segment it is of the same kind, begins at the same position, and goes to the same peer
+pub kind_as_one : (s : State) (count : ℕ) (due : Due) → kind_of (as_one s count due) ≡ kind_of due
+kind_as_one s count Reset = refl
+kind_as_one s count Syn = refl
+kind_as_one s count (Text (NewText start each)) = refl
+kind_as_one s count (Text (Resend start each)) = refl
+kind_as_one s count (Text (Fin start)) = refl
+kind_as_one s count (Text (ResentFin start)) = refl
+kind_as_one s count Acknowledgement = refl
+
+pub start_as_one : (s : State) (count : ℕ) (due : Due) → start_of s.sending (as_one s count due) ≡ start_of s.sending due
+start_as_one s count Reset = refl
+start_as_one s count Syn = refl
+start_as_one s count (Text (NewText start each)) = refl
+start_as_one s count (Text (Resend start each)) = refl
+start_as_one s count (Text (Fin start)) = refl
+start_as_one s count (Text (ResentFin start)) = refl
+start_as_one s count Acknowledgement = refl
+
+pub destination_as_one : (s : State) (count : ℕ) (due : Due) → destination_of s (as_one s count due) ≡ destination_of s due
+destination_as_one s count Reset = refl
+destination_as_one s count Syn = refl
+destination_as_one s count (Text (NewText start each)) = refl
+destination_as_one s count (Text (Resend start each)) = refl
+destination_as_one s count (Text (Fin start)) = refl
+destination_as_one s count (Text (ResentFin start)) = refl
+destination_as_one s count Acknowledgement = refl

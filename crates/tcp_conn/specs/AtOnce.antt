@@ -6,8 +6,8 @@ use Rattle.tcp_wire.specs.Flags.{fin, has}
 use Rattle.tcp_wire.specs.Wire.{Content}
 use Rattle.tcp_wire.specs.declared.fault.DecodeError.{DecodeError}
 use Rattle.tcp_reasm.specs.Reassembly.{runs}
-use Rattle.tcp_conn.specs.declared.judgement.Judgement.{Judgement}
-use Rattle.tcp_conn.specs.declared.judgement.Judgement.TheVariants.{Foreign, ResetIgnored, OpensNothing, PeerRefuses, PeerResets, NoAck, Taken, TakenShut}
+use Rattle.tcp_conn.specs.declared.arrive.judgement.Judgement.{Judgement}
+use Rattle.tcp_conn.specs.declared.arrive.judgement.Judgement.TheVariants.{Foreign, ResetIgnored, OpensNothing, PeerRefuses, PeerResets, NoAck, Taken, TakenShut}
 use Rattle.tcp_conn.specs.Arrival.{after_arrival, after_judgement}
 use Rattle.tcp_conn.specs.Due.{due_of}
 use Rattle.tcp_conn.specs.Judgement.{judgement}

@@ -6,8 +6,8 @@ use Rattle.tcp_wire.specs.Flags.{ack}
 use Rattle.tcp_halves.specs.declared.link.WaitingReset.{WaitingReset}
 use Rattle.tcp_halves.specs.declared.sent.Sent.{Sent}
 use Rattle.tcp_halves.specs.Sent as half
-use Rattle.tcp_conn.specs.declared.due.Due.{Due}
-use Rattle.tcp_conn.specs.declared.due.Due.TheVariants.{Reset, Syn, Text, Acknowledgement}
+use Rattle.tcp_conn.specs.declared.emit.due.Due.{Due}
+use Rattle.tcp_conn.specs.declared.emit.due.Due.TheVariants.{Reset, Syn, Text, Acknowledgement}
 use Rattle.tcp_conn.specs.declared.owed.Owed.{Owed}
 use Rattle.tcp_conn.specs.Phase.{sends_text}
 use Rattle.tcp_conn.specs.State.{State, Sending}

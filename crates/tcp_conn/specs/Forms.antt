@@ -6,8 +6,8 @@ use Rattle.tcp_wire.specs.Position.{number}
 use Rattle.tcp_wire.specs.Wire.{Content}
 use Rattle.tcp_numbers.specs.declared.seq.Seq.{Seq}
 use Rattle.tcp_reasm.specs.Reassembly.{window}
-use Rattle.tcp_conn.specs.declared.due.Due.{Due}
-use Rattle.tcp_conn.specs.declared.due.Due.TheVariants.{Reset, Syn, Text, Acknowledgement}
+use Rattle.tcp_conn.specs.declared.emit.due.Due.{Due}
+use Rattle.tcp_conn.specs.declared.emit.due.Due.TheVariants.{Reset, Syn, Text, Acknowledgement}
 use Rattle.tcp_halves.specs.declared.link.WaitingReset.{WaitingReset}
 use Rattle.tcp_conn.specs.State.{State}
 use Rattle.tcp_conn.specs.Windows.{max_window, advertised_window}

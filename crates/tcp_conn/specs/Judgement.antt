@@ -5,10 +5,10 @@ use Rattle.tcp_wire.specs.Flags.{fin, ack, has, syn, rst}
 use Rattle.tcp_wire.specs.Position.{position_of}
 use Rattle.tcp_wire.specs.Wire.{Content}
 use Rattle.tcp_reasm.specs.Reassembly.{window}
-use Rattle.tcp_conn.specs.declared.judgement.Judgement.{Judgement}
-use Rattle.tcp_conn.specs.declared.judgement.Judgement.TheVariants.{Foreign, ResetIgnored, Stray, AckOfListen, OpensNothing, PeerOpens, AckOfNoSyn, PeerRefuses, PeerAccepts, Unacceptable, PeerResets, ResetElsewhere, SynInWindow, NoAck, AcksUnsent, HandshakeRefused, HandshakeRefusedShut, Taken, TakenShut}
+use Rattle.tcp_conn.specs.declared.arrive.judgement.Judgement.{Judgement}
+use Rattle.tcp_conn.specs.declared.arrive.judgement.Judgement.TheVariants.{Foreign, ResetIgnored, Stray, AckOfListen, OpensNothing, PeerOpens, AckOfNoSyn, PeerRefuses, PeerAccepts, Unacceptable, PeerResets, ResetElsewhere, SynInWindow, NoAck, AcksUnsent, HandshakeRefused, HandshakeRefusedShut, Taken, TakenShut}
 use Rattle.tcp_conn.specs.declared.outcome.Arrival.{Arrival}
-use Rattle.tcp_conn.specs.declared.present.Present.{Present}
+use Rattle.tcp_conn.specs.declared.arrive.judged_fields.JudgedFields.{JudgedFields}
 use Rattle.tcp_conn.specs.declared.outcome.Arrival.TheVariants.{NotMine, Dropped, Processed}
 use Rattle.tcp_halves.specs.Acceptable.{is_acceptable}
 use Rattle.tcp_conn.specs.Phase.{is_listening, is_syn_received, is_closed, is_syn_sent, has_peer}
@@ -90,7 +90,7 @@ unfoldable pub present_judgement : State → Content → Judgement
 present_judgement s v = if is_acceptable_segment s v then acceptable_judgement s v else unacceptable_judgement s v
 
 -- WHAT IS READ of an end for it
-pub record IsReadOf (read : Present) (s : State) : Type 0 where
+pub record IsReadOf (read : JudgedFields) (s : State) : Type 0 where
   pub rcv_nxt : s.receiving.next ≡ read.rcv_nxt.0
   pub rcv_wnd : window s.receiving.inbox ≡ read.rcv_wnd
   pub syn_received : is_syn_received s.phase ≡ read.is_syn_received

@@ -2,7 +2,7 @@
 use Rattle.std.specs.Prelude.{List, ℕ, ◌++◌, drop, Option, Some, None}
 use Rattle.tcp_wire.specs.Partial.{with_partial_sum}
 use Rattle.tcp_wire.specs.Wire.{wire_length}
-use Rattle.tcp_conn.specs.declared.due.Due.{Due}
+use Rattle.tcp_conn.specs.declared.emit.due.Due.{Due}
 use Rattle.tcp_conn.specs.Due.{due_of}
 use Rattle.tcp_conn.specs.Forms.{segment_of}
 use Rattle.tcp_conn.specs.State.{State}

@@ -7,8 +7,8 @@ use Rattle.tcp_reasm.specs.Reassembly.{max_capacity, window}
 use Rattle.tcp_halves.specs.declared.link.Peer.{Peer}
 use Rattle.tcp_halves.specs.declared.link.WaitingReset.{WaitingReset}
 use Rattle.tcp_wire.specs.Wire.{Content}
-use Rattle.tcp_conn.specs.declared.judgement.Judgement.{Judgement}
-use Rattle.tcp_conn.specs.declared.judgement.Judgement.TheVariants as judgements
+use Rattle.tcp_conn.specs.declared.arrive.judgement.Judgement.{Judgement}
+use Rattle.tcp_conn.specs.declared.arrive.judgement.Judgement.TheVariants as judgements
 use Rattle.tcp_conn.specs.declared.outcome.Arrival.{Arrival}
 use Rattle.tcp_conn.specs.declared.outcome.CallError.{CallError}
 use Rattle.tcp_conn.specs.declared.phase.Ending.{Ending}
@@ -29,7 +29,7 @@ use Rattle.tcp_halves.specs.Sender.{new_sending}
 use Rattle.tcp_conn.specs.State.{State}
 use Rattle.tcp_conn.specs.Timers.{timer_answer, after_timer}
 use Rattle.tcp_conn.specs.Windows.{own_shift}
-use Rattle.tcp_conn.specs.declared.rest_fields.RestFields.{RestFields}
+use Rattle.tcp_conn.specs.declared.time_wait.fields.RestFields.{RestFields}
 
 -- the record
 pub record Resting : Type 0 where

@@ -10,10 +10,10 @@ use Rattle.tcp_reasm.specs.declared.placed.Placed.{Placed}
 use Rattle.tcp_reasm.specs.declared.placed.Placed.TheVariants as placed
 use Rattle.tcp_reasm.specs.Reassembly.{place_answer}
 use Rattle.tcp_halves.specs.Sender.{is_newer}
-use Rattle.tcp_conn.specs.declared.judgement.Judgement.{Judgement}
-use Rattle.tcp_conn.specs.declared.judgement.Judgement.TheVariants.{PeerAccepts, Taken, TakenShut}
-use Rattle.tcp_conn.specs.declared.taking.Brought.{Brought}
-use Rattle.tcp_conn.specs.declared.taking.Brought.TheVariants.{Nothing, InOrder, Held, NotKept}
+use Rattle.tcp_conn.specs.declared.arrive.judgement.Judgement.{Judgement}
+use Rattle.tcp_conn.specs.declared.arrive.judgement.Judgement.TheVariants.{PeerAccepts, Taken, TakenShut}
+use Rattle.tcp_conn.specs.declared.arrive.brought.Brought.{Brought}
+use Rattle.tcp_conn.specs.declared.arrive.brought.Brought.TheVariants.{Nothing, InOrder, Held, NotKept}
 use Rattle.tcp_conn.specs.Arrival.{after_acked_text, after_its_ack, after_its_text, after_own_syn, is_current, takes_fin, takes_text_of}
 use Rattle.tcp_conn.specs.Judgement.{judgement, position_near}
 use Rattle.tcp_conn.specs.State.{State}

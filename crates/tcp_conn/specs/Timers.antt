@@ -2,6 +2,7 @@
 use Rattle.std.specs.Prelude.{ℕ, Bool, ◌||◌, if◌then◌else◌, ◌&&◌, Option, Some, None, is_some}
 use Rattle.tcp_sendq.specs.SendQueue.{last_mark_end}
 use Rattle.tcp_conn.specs.declared.phase.Timer.{Timer}
+use Rattle.tcp_conn.specs.declared.timers.Timers.{Timers}
 use Rattle.tcp_conn.specs.declared.phase.Timer.TheVariants as timers
 use Rattle.tcp_conn.specs.Phase.{is_time_wait, is_handshake, sends_text}
 use Rattle.tcp_conn.specs.State.{Sending, State}
@@ -51,3 +52,11 @@ abbrev pub after_timer : State → Timer → State
 after_timer s timers.Retransmit = after_retransmit s
 after_timer s timers.Reorder = after_reorder s
 after_timer s timers.TimeWait = after_time_wait s
+
+-- WHICH TIMERS HAVE TO RUN: those whose rule would apply
+abbrev pub timers_wanted : State → Timers
+timers_wanted s = record {
+  retransmit = timer_answer s timers.Retransmit;
+  reorder = timer_answer s timers.Reorder;
+  time_wait = timer_answer s timers.TimeWait;
+}

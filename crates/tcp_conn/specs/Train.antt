@@ -7,11 +7,11 @@ use Rattle.tcp_wire.specs.Wire.{Content, encoded_bytes, header_len, max_len, wir
 use Rattle.tcp_halves.specs.declared.sent.Sent.TheVariants.{NewText}
 use Rattle.tcp_halves.specs.Config.{max_mss}
 use Rattle.tcp_halves.specs.Sender.{count_unsent}
-use Rattle.tcp_conn.specs.declared.due.Due.{Due}
-use Rattle.tcp_conn.specs.declared.due.Due.TheVariants.{Text}
+use Rattle.tcp_conn.specs.declared.emit.due.Due.{Due}
+use Rattle.tcp_conn.specs.declared.emit.due.Due.TheVariants.{Text}
 use Rattle.tcp_conn.specs.State.{State, Sending}
 use Rattle.tcp_conn.specs.Blocks.{blocks_to_report, sack_length}
-use Rattle.tcp_conn.specs.Due.{count_of, due_of, usable_window}
+use Rattle.tcp_conn.specs.Due.{count_of, due_of, end_of, usable_window}
 use Rattle.tcp_conn.specs.Emission.{after_emission, emitted_bytes}
 use Rattle.tcp_conn.specs.Forms.{segment_of}
 use Rattle.tcp_conn.specs.Writing.{destination_of}
@@ -86,6 +86,10 @@ train_length s count = option_map (λ due. wire_length (segment_of s (as_one s c
 
 unfoldable pub train_text : State → ℕ → Option ℕ
 train_text s count = option_map (λ due. count_of (as_one s count due)) (due_of s)
+
+-- and the position after it
+unfoldable pub train_end : State → ℕ → Option ℕ
+train_end s count = option_map (λ due. end_of s.sending (as_one s count due)) (due_of s)
 
 -- the bytes that are written: the checksum field has the sum of the pseudo-header
 abbrev pub train_bytes : State → ℕ → Due → List ℕ

@@ -1,13 +1,17 @@
--- What is reported of a segment that an end emits (RFC 9293, 3.3.1, 3.4 and 3.8): what it is, the position where it begins, and
--- how many bytes of text it has.
+-- What is reported of a segment that an end emits (RFC 9293, 3.3.1, 3.4 and 3.8): what it is, the positions where it begins and
+-- ends, and how many bytes of text it has.
 use Rattle.std.specs.Prelude.{ℕ, Option, option_map}
-use Rattle.tcp_conn.specs.declared.due.Due.{Due}
-use Rattle.tcp_conn.specs.declared.due.Due.TheVariants as dues
+use Rattle.tcp_conn.specs.declared.emit.due.Due.{Due}
+use Rattle.tcp_conn.specs.declared.emit.due.Due.TheVariants as dues
 use Rattle.tcp_halves.specs.declared.sent.Sent.TheVariants as sents
-use Rattle.tcp_conn.specs.declared.transmission.Kind.{Kind}
-use Rattle.tcp_conn.specs.declared.transmission.Kind.TheVariants.{Reset, Syn, NewText, TextAgain, Fin, FinAgain, Acknowledgement}
-use Rattle.tcp_conn.specs.Due.{count_of, due_of, start_of}
+use Rattle.tcp_conn.specs.declared.emit.transmit.Kind.{Kind}
+use Rattle.tcp_conn.specs.declared.emit.transmit.Kind.TheVariants.{Reset, Syn, NewText, TextAgain, Fin, FinAgain, Acknowledgement}
+use Rattle.tcp_conn.specs.declared.emit.transmit.Transmit.{Transmit}
+use Rattle.tcp_conn.specs.Due.{ack_alone, count_of, due_of, end_of, start_of}
+use Rattle.tcp_conn.specs.Forms.{segment_of}
 use Rattle.tcp_conn.specs.State.{State}
+use Rattle.tcp_conn.specs.Writing.{destination_of}
+use Rattle.tcp_wire.specs.Wire.{wire_length}
 
 -- WHAT IT IS
 abbrev pub kind_of : Due → Kind
@@ -31,3 +35,21 @@ position_due s = option_map (start_of s.sending) (due_of s)
 -- HOW MUCH TEXT IT HAS
 unfoldable pub count_due : State → Option ℕ
 count_due s = option_map count_of (due_of s)
+
+-- THE REPORT: where it goes, how long it is, what it is, and the positions where it begins and ends
+abbrev pub transmit_of : State → Due → Transmit
+transmit_of s due = record {
+  to = (destination_of s due).addr;
+  len = wire_length (segment_of s due);
+  kind = kind_of due;
+  position = start_of s.sending due;
+  end = end_of s.sending due;
+  count = count_of due;
+}
+
+unfoldable pub transmit_due : State → Option Transmit
+transmit_due s = option_map (transmit_of s) (due_of s)
+
+-- of an acknowledgement alone
+unfoldable pub transmit_ack_alone : State → Option Transmit
+transmit_ack_alone s = option_map (transmit_of s) (ack_alone s)

@@ -21,56 +21,43 @@
 //! Left out: any clock, congestion control, urgent data, timestamps, simultaneous open and reopening.
 #![tactic(auto)]
 
-mod acknowledgement;
-mod arrival;
-mod blocks;
+mod arrive;
 mod buffers;
 mod calls;
-mod due;
-mod emission;
+mod emit;
 mod endings;
 mod endpoint;
 mod fault;
-mod forms;
-mod judgement;
 pub mod laws;
 mod lending;
 mod names;
 mod new_end;
 mod outcome;
 mod owed;
-mod partial;
-mod parts;
 mod phase;
 mod phases;
-mod present;
-mod rest;
-mod rest_fields;
 mod status;
 mod stray;
-mod taking;
+mod time_wait;
 mod timers;
-mod train;
-mod transmission;
-mod vouched;
 mod windows;
-mod writing;
 
-pub use emission::EMIT_ROOM;
+pub use arrive::brought::Brought;
+pub use arrive::judgement::Judgement;
+pub use arrive::report::Taken;
+pub use emit::parts::{HEADER_ROOM, Parts};
+pub use emit::train::{TRAIN_ROOM, Train};
+pub use emit::transmit::{EMIT_ROOM, Kind, Transmit};
 pub use endpoint::Endpoint;
-pub use judgement::Judgement;
 pub use lending::Lent;
 pub use outcome::{Arrival, CallError, Received};
-pub use parts::{HEADER_ROOM, Parts};
 pub use phase::{Ending, Phase, Timer};
-pub use rest::{REST_LEN, Rest};
-pub use rest_fields::RestFields;
 pub use status::Negotiated;
 pub use stray::{RESET_LEN, stray_reset};
-pub use taking::{Brought, Taken};
 pub use tcp_halves::{
     Config, ConfigError, DEFAULT_LIMIT, MAX_LIMIT, MAX_MSS, MAX_SHIFT, MIN_MSS, Peer, WaitingReset,
 };
 pub use tcp_sendq::MAX_CAPACITY;
-pub use train::{TRAIN_ROOM, Train};
-pub use transmission::{Kind, Transmit};
+pub use time_wait::fields::RestFields;
+pub use time_wait::record::{REST_LEN, Rest};
+pub use timers::Timers;

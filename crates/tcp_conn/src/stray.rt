@@ -2,8 +2,8 @@
 ghost use Rattle.std.specs.Prelude.{◌≡◌, ◌≤◌, length, option_map};
 ghost use Rattle.tcp_conn.specs.Stray.{stray_reset, with_front};
 
-use crate::arrival::reset_of_stray;
-use crate::forms::reset_from;
+use crate::arrive::effect::reset_of_stray;
+use crate::emit::segment::reset_from;
 use tcp_wire::{Addr, RawSegment, write_around};
 
 /// The length of a reset in bytes.

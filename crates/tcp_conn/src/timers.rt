@@ -1,12 +1,24 @@
 ghost use Rattle.std.specs.Prelude.{◌≡◌};
 ghost use Rattle.tcp_conn.specs.State.{IsWithin};
-ghost use Rattle.tcp_conn.specs.Timers.{after_reorder, after_resend_first, after_retransmit, after_time_wait, after_timer, needs_probe, sends_again, timer_answer};
+ghost use Rattle.tcp_conn.specs.Timers.{after_reorder, after_resend_first, after_retransmit, after_time_wait, after_timer, needs_probe, sends_again, timer_answer, timers_wanted};
 ghost use Rattle.tcp_conn.specs.declared.phase.Timer.TheVariants.{Reorder, Retransmit, TimeWait};
 
 use crate::endpoint::Endpoint;
 use crate::phase::Timer;
 use crate::phases::{is_handshake, is_time_wait, sends_text};
 use std::alloc::Allocator;
+
+/// The timers of an end (RFC 9293, 3.10.8), and whether each has to run.
+#[derive(Clone, Copy, Debug, PartialEq, Eq)]
+pub struct Timers {
+    /// The retransmission timer (RFC 9293, 3.8.1), which is the timer of zero-window probes, too (3.8.6.1).
+    pub retransmit: bool,
+    /// The reordering timer: when it expires, what lies before the last byte that was selectively acknowledged is taken
+    /// for lost (RFC 2018, 5).
+    pub reorder: bool,
+    /// The TIME-WAIT timer.
+    pub time_wait: bool,
+}
 
 impl<A: Allocator> Endpoint<A> {
     /// A timer has expired (RFC 9293, 3.10.8): whether its rule applies. Where it doesn't, nothing changes.
@@ -25,15 +37,25 @@ impl<A: Allocator> Endpoint<A> {
         applies
     }
 
-    /// Whether `timer` would return true now, for Retransmit, Reorder and TimeWait: which timers have to run (RFC 9293,
-    /// 3.10.8).
+    /// Which timers have to run (RFC 9293, 3.10.8): those for which `timer` would return true now.
+    #[must_use]
+    pub fn timers_wanted(&self) -> Timers
+        ensures { result ≡ timers_wanted self.now }
+    {
+        Timers {
+            retransmit: is_handshake(self.phase) || self.sends_again() || self.needs_probe(),
+            reorder: sends_text(self.phase) && self.sender.queue.last_mark_end().is_some(),
+            time_wait: is_time_wait(self.phase),
+        }
+    }
+
+    /// What `timers_wanted` returns, for Retransmit, Reorder and TimeWait.
     #[must_use]
     pub fn timers(&self) -> (bool, bool, bool)
         ensures { result ≡ (timer_answer self.now Retransmit, timer_answer self.now Reorder, timer_answer self.now TimeWait) }
     {
-        let retransmit = is_handshake(self.phase) || self.sends_again() || self.needs_probe();
-        let reorder = sends_text(self.phase) && self.sender.queue.last_mark_end().is_some();
-        (retransmit, reorder, is_time_wait(self.phase))
+        let wanted = self.timers_wanted();
+        (wanted.retransmit, wanted.reorder, wanted.time_wait)
     }
 
     /// Whether something in flight has to be sent again at the retransmission timeout.
@@ -67,9 +89,9 @@ impl<A: Allocator> Endpoint<A> {
         handshake || again || probe
     }
 
-    /// Of what is in flight, the first segment alone is to go out again, and then new data, as after three duplicate
-    /// acknowledgements or an acknowledgement of a part of it (RFC 5681, 3.2; RFC 6582, 3.2): whether anything is in flight.
-    /// Where nothing is, nothing changes.
+    /// Fast retransmit: of what is in flight, the first segment's data goes out again before new data, as after three
+    /// duplicate acknowledgements or an acknowledgement of a part of what is in flight (RFC 5681, 3.2; RFC 6582, 3.2).
+    /// Returns whether anything is in flight; where nothing is, nothing changes.
     #[tactic(auto, unfolding(crate::specs::Timers::after_resend_first))]
     pub fn resend_first(&mut self) -> bool
         ensures answer { result ≡ sends_again self.old }

@@ -1,10 +1,8 @@
 ghost use Rattle.std.specs.Prelude.{◌≡◌, ◌≤◌, ◌+◌};
-ghost use Rattle.tcp_reasm.specs.Reassembly.{max_capacity, window};
+ghost use Rattle.tcp_reasm.specs.Reassembly.{max_capacity};
 ghost use Rattle.tcp_wire.specs.Wire.{max_text_len};
 ghost use Rattle.tcp_halves.specs.Acceptable.{is_acceptable};
 
-use crate::receiver::Receiver;
-use std::alloc::Allocator;
 use tcp_wire::Seq;
 
 /// Whether a segment that takes `count` sequence numbers (SEG.LEN) is acceptable, where `next` is RCV.NXT and `window`
@@ -22,14 +20,4 @@ pub fn is_acceptable(next: Seq, window: u32, seq: Seq, count: u32) -> bool
         return seq.in_window(next, window);
     }
     window > 0 && (seq.in_window(next, window) || seq.plus(count - 1).in_window(next, window))
-}
-
-impl<A: Allocator> Receiver<A> {
-    /// Whether a segment that takes `count` sequence numbers (SEG.LEN) is acceptable (RFC 9293, 3.10.7.4).
-    pub fn is_acceptable(&self, seq: Seq, count: u32) -> bool
-        requires { count ≤ max_text_len + 2 }
-        ensures { result ≡ is_acceptable self.now.next (window self.now.inbox) seq.0 count }
-    {
-        is_acceptable(self.next, self.window(), seq, count)
-    }
 }

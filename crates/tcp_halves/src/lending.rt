@@ -1,7 +1,7 @@
 //! What both halves lend of their buffers, and how bytes are consumed without a copy.
 ghost use Rattle.std.specs.Prelude.{◌≡◌, ◌+◌, ◌<◌, ◌++◌, length, min};
 ghost use Rattle.tcp_wire.specs.Checksum.{AreBytes};
-ghost use Rattle.tcp_halves.specs.Config.{max_mss};
+ghost use Rattle.tcp_wire.specs.Wire.{max_text_len};
 ghost use Rattle.tcp_halves.specs.Sent.{IsSendable, count_of, text_of};
 ghost use Rattle.tcp_halves.specs.Receiver.{after_handing};
 
@@ -35,7 +35,7 @@ impl<A: Allocator> Sender<A> {
     /// The text of what is due, where it lies in the queue, in two parts. The first is empty only where there is no
     /// text.
     pub fn text(&self, sent: Sent) -> (&[u8], &[u8])
-        requires sendable { IsSendable self.now max_mss sent }
+        requires sendable { IsSendable self.now max_text_len sent }
         ensures text { result.0.now ++ result.1.now ≡ text_of self.now sent }
         ensures bytes { AreBytes (result.0.now ++ result.1.now) }
         ensures first { 0 < count_of sent → 0 < length result.0.now }

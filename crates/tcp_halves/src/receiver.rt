@@ -101,9 +101,11 @@ impl<A: Allocator> Receiver<A> {
         ensures whole { length self.new.inbox.unread + length self.new.inbox.held ≡ self.new.inbox.capacity }
     {
         let offset = self.offset_of(seq);
-        let before = self.inbox.window();
         let placed = self.inbox.place(offset, text);
-        let count = before - self.inbox.window();
+        let count = match placed {
+            Placed::Advanced(count) => count as u32,
+            Placed::Held | Placed::NotKept => 0,
+        };
         self.next = self.next.plus(count);
         self.ordered = self.ordered.saturating_add(u64::from(count));
         placed

@@ -2,7 +2,7 @@ ghost use Rattle.std.specs.Prelude.{◌≡◌, ◌<◌, ◌≤◌, ◌+◌, ◌-
 ghost use Rattle.tcp_sendq.specs.SendQueue.{max_capacity, room};
 ghost use Rattle.tcp_halves.specs.Sender.{Sending, accepted_count, place_of, end_of_text};
 ghost use Rattle.tcp_halves.specs.Config.{stream_limit};
-ghost use Rattle.tcp_halves.specs.Sender.{new_sending, with_syn_sent, with_syn_counted, with_syn_acked, acks_unsent, count_below, after_ack, with_window, is_newer, after_window_update, with_all_resent, with_first_resent, with_gaps_resent, count_sendable, with_text, count_unsent, is_probe_needed, is_fin_acked, without_text, IsSender};
+ghost use Rattle.tcp_halves.specs.Sender.{new_sending, with_syn_sent, with_syn_counted, with_syn_acked, count_below, after_ack, with_window, is_newer, after_window_update, with_all_resent, with_first_resent, with_gaps_resent, count_sendable, with_text, count_unsent, is_probe_needed, is_fin_acked, without_text, IsSender};
 
 use crate::config::Config;
 use std::alloc::{Allocator, Global};
@@ -124,13 +124,6 @@ impl<A: Allocator> Sender<A> {
         self.wnd = window;
         self.wl1 = seq;
         self.wl2 = ack;
-    }
-
-    /// Whether an acknowledgement is of what wasn't sent (RFC 9293, 3.10.7.4, fifth).
-    pub fn acks_unsent(&self, ack: u64) -> bool
-        ensures { result ≡ acks_unsent self.now ack }
-    {
-        self.nxt < ack
     }
 
     /// Releases the text below an acknowledgement that is after SND.UNA and up to SND.NXT; else nothing changes (RFC

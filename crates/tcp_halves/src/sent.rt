@@ -2,7 +2,8 @@
 ghost use Rattle.std.specs.Prelude.{◌≡◌, ◌<◌, ◌≤◌, ◌+◌, ◌^◌, IfSome, length, max, ℕ};
 ghost use Rattle.std.specs.declared.ops.Range.{Range};
 ghost use Rattle.tcp_wire.specs.Checksum.{AreBytes};
-ghost use Rattle.tcp_halves.specs.Config.{max_mss, stream_limit};
+ghost use Rattle.tcp_wire.specs.Wire.{max_text_len};
+ghost use Rattle.tcp_halves.specs.Config.{stream_limit};
 ghost use Rattle.tcp_halves.specs.Sent.{IsSendable, count_of, end_of, fin_of, flags_of, is_fin, new_text_of, pushes, resend_of, resent_fin, resent_text, sending_after, sending_due, start_of, text_of};
 
 use crate::sender::Sender;
@@ -44,7 +45,7 @@ impl Sent {
     }
 
     /// The position after it.
-    fn end(self) -> u64
+    pub fn end(self) -> u64
         requires { end_of self ≤ 2 + stream_limit }
         ensures { result ≡ end_of self }
     {
@@ -157,7 +158,7 @@ impl<A: Allocator> Sender<A> {
 
     /// Whether its text ends with the last byte of the queue.
     fn pushes(&self, sent: Sent) -> bool
-        requires { IsSendable self.now max_mss sent }
+        requires { IsSendable self.now max_text_len sent }
         ensures { result ≡ pushes self.now sent }
     {
         let count = sent.count();
@@ -169,7 +170,7 @@ impl<A: Allocator> Sender<A> {
 
     /// The control bits of its segment: ACK, PSH where the text ends with the last byte of the queue, FIN.
     pub fn flags(&self, sent: Sent) -> Flags
-        requires { IsSendable self.now max_mss sent }
+        requires { IsSendable self.now max_text_len sent }
         ensures value { result.0 ≡ flags_of self.now sent }
         ensures fits { result.0 < 2 ^ 8 }
     {
@@ -187,7 +188,7 @@ impl<A: Allocator> Sender<A> {
 
     /// Copies the text of what is due into `out`, which has exactly its length.
     pub fn copy(&self, sent: Sent, out: &mut [u8])
-        requires sendable { IsSendable self.now max_mss sent }
+        requires sendable { IsSendable self.now max_text_len sent }
         requires len { length out.old ≡ count_of sent }
         ensures text { out.new ≡ text_of self.now sent }
         ensures bytes { AreBytes out.new }
@@ -201,7 +202,7 @@ impl<A: Allocator> Sender<A> {
     /// What was due was emitted: SND.NXT is at least the position after it, and what was sent again is taken off the
     /// range.
     pub fn mark_sent(&mut self, sent: Sent)
-        requires { IsSendable self.old max_mss sent }
+        requires { IsSendable self.old max_text_len sent }
         ensures state { self.new ≡ sending_after self.old sent }
         ensures capacity { self.new.queue.capacity ≡ self.old.queue.capacity }
         ensures queued { length self.new.queue.bytes ≤ self.new.queue.capacity }

@@ -9,8 +9,8 @@ use Rattle.tcp_wire.specs.Options.{Mss}
 use Rattle.tcp_wire.specs.Position.{number, distance}
 use Rattle.tcp_reasm.specs.Reassembly.{Cell, Run, max_capacity, blocks}
 use Rattle.tcp_reasm.specs.Laws.{IsHeld, IsMaximal}
-use Rattle.tcp_conn.specs.declared.due.Due.{Due}
-use Rattle.tcp_conn.specs.declared.due.Due.TheVariants.{Reset, Syn}
+use Rattle.tcp_conn.specs.declared.emit.due.Due.{Due}
+use Rattle.tcp_conn.specs.declared.emit.due.Due.TheVariants.{Reset, Syn}
 use Rattle.tcp_conn.specs.State.{State}
 use Rattle.tcp_conn.specs.Blocks.{block_numbers, blocks_to_report, sack_options}
 use Rattle.tcp_halves.specs.declared.link.WaitingReset.{WaitingReset}

@@ -5,8 +5,8 @@ use Rattle.std.proofs.lemmas.Bool.{and_parts, false≢true, eqb-true}
 use Rattle.tcp_wire.specs.Flags.{fin, has}
 use Rattle.tcp_wire.specs.Position.{number}
 use Rattle.tcp_wire.specs.Wire.{Content}
-use Rattle.tcp_conn.specs.declared.judgement.Judgement.{Judgement}
-use Rattle.tcp_conn.specs.declared.judgement.Judgement.TheVariants.{Foreign, PeerResets, PeerOpens, PeerAccepts, Taken, TakenShut}
+use Rattle.tcp_conn.specs.declared.arrive.judgement.Judgement.{Judgement}
+use Rattle.tcp_conn.specs.declared.arrive.judgement.Judgement.TheVariants.{Foreign, PeerResets, PeerOpens, PeerAccepts, Taken, TakenShut}
 use Rattle.tcp_halves.specs.declared.link.Peer.{Peer}
 use Rattle.tcp_conn.specs.Phase.{takes_text}
 use Rattle.tcp_conn.specs.Calls.{receive_refusal}

@@ -5,8 +5,8 @@ use Rattle.std.proofs.lemmas.Bool.{and_parts, false≢true}
 use Rattle.tcp_wire.specs.Flags.{syn, has}
 use Rattle.tcp_wire.specs.Options.{OptionContent, Nop, Mss, WindowScale, SackPermitted, Sack, Unknown}
 use Rattle.tcp_wire.specs.Wire.{Content}
-use Rattle.tcp_conn.specs.declared.judgement.Judgement.{Judgement}
-use Rattle.tcp_conn.specs.declared.judgement.Judgement.TheVariants.{Foreign, PeerOpens, PeerAccepts, Taken, TakenShut}
+use Rattle.tcp_conn.specs.declared.arrive.judgement.Judgement.{Judgement}
+use Rattle.tcp_conn.specs.declared.arrive.judgement.Judgement.TheVariants.{Foreign, PeerOpens, PeerAccepts, Taken, TakenShut}
 use Rattle.tcp_halves.specs.Options.{shift_option, permits_sack, link_of}
 use Rattle.tcp_halves.specs.declared.config.Config.{Config}
 use Rattle.tcp_halves.specs.declared.link.Link.{Link}

@@ -5,8 +5,8 @@ use Rattle.std.proofs.lemmas.Bool.{cond_both}
 use Rattle.tcp_wire.specs.Wire.{Content}
 use Rattle.tcp_halves.specs.declared.link.Peer.{Peer}
 use Rattle.tcp_halves.specs.Receiver.{Receiving, HoldsWithin, after_handing, after_text, with_fin, without_bytes}
-use Rattle.tcp_conn.specs.declared.judgement.Judgement.{Judgement}
-use Rattle.tcp_conn.specs.declared.judgement.Judgement.TheVariants.{PeerResets, PeerOpens, PeerAccepts, Taken, TakenShut}
+use Rattle.tcp_conn.specs.declared.arrive.judgement.Judgement.{Judgement}
+use Rattle.tcp_conn.specs.declared.arrive.judgement.Judgement.TheVariants.{PeerResets, PeerOpens, PeerAccepts, Taken, TakenShut}
 use Rattle.tcp_conn.specs.State.{State}
 use Rattle.tcp_conn.specs.Calls.{receive_refusal}
 use Rattle.tcp_conn.specs.Judgement.{judgement}

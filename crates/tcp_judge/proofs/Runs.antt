@@ -12,8 +12,8 @@ use Rattle.tcp_wire.specs.declared.fault.DecodeError.{DecodeError}
 use Rattle.tcp_wire.proofs.RoundTrip.{decoded_encoded}
 use Rattle.tcp_reasm.specs.Reassembly.{max_capacity}
 use Rattle.tcp_halves.specs.declared.config.Config.{Config}
-use Rattle.tcp_conn.specs.declared.due.Due.{Due}
-use Rattle.tcp_conn.specs.declared.due.Due.TheVariants.{Reset, Syn, Acknowledgement}
+use Rattle.tcp_conn.specs.declared.emit.due.Due.{Due}
+use Rattle.tcp_conn.specs.declared.emit.due.Due.TheVariants.{Reset, Syn, Acknowledgement}
 use Rattle.tcp_halves.specs.declared.link.WaitingReset.{WaitingReset}
 use Rattle.tcp_halves.specs.Config.{IsConfig}
 use Rattle.tcp_conn.specs.Phase.{gives_up}

@@ -4,8 +4,8 @@ use Rattle.tcp_replay.proofs.Words.{DecodeError, effect_of, Err, false, has, if�
 use Rattle.tcp_replay.proofs.Words.{is_syn_sent, Judgement, judgement, List, not, Ok, or_right}
 use Rattle.tcp_replay.proofs.Words.{party_of, phase_judgement, refl, Result, rst, State, sym, syn, takes_text, true, with_ack_owed, world_after, WorldState}
 use Rattle.tcp_replay.proofs.Words.{ℕ, ◌==◌, ◌∙◌, ◌≡◌, ◌⊎◌}
-use Rattle.tcp_conn.specs.declared.judgement.Judgement.TheVariants.{AcksUnsent, Foreign, HandshakeRefused, HandshakeRefusedShut, NoAck, PeerResets}
-use Rattle.tcp_conn.specs.declared.judgement.Judgement.TheVariants.{ResetElsewhere, ResetIgnored, SynInWindow, Taken, TakenShut, Unacceptable}
+use Rattle.tcp_conn.specs.declared.arrive.judgement.Judgement.TheVariants.{AcksUnsent, Foreign, HandshakeRefused, HandshakeRefusedShut, NoAck, PeerResets}
+use Rattle.tcp_conn.specs.declared.arrive.judgement.Judgement.TheVariants.{ResetElsewhere, ResetIgnored, SynInWindow, Taken, TakenShut, Unacceptable}
 use Rattle.tcp_conn.specs.Judgement.{is_acceptable_segment, is_allowed_shut, is_foreign, position_near}
 unfoldable use Rattle.tcp_conn.specs.Judgement.{acceptable_judgement, ack_judgement, judgement, phase_judgement, present_judgement, unacceptable_judgement}
 unfoldable use Rattle.tcp_conn.specs.Arrival.{after_arrival}

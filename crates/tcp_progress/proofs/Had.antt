@@ -15,7 +15,7 @@ use Rattle.tcp_progress.proofs.Lemmas.{still-reading, still-retransmit}
 use Rattle.tcp_progress.proofs.Lemmas.{way-later}
 use Rattle.tcp_replay.proofs.Lemmas.{not-closed-ended, due-bits}
 use Rattle.tcp_progress.proofs.{Behind.emissions-other, Draining.burst-ends}
-use Rattle.tcp_conn.specs.declared.due.Due.TheVariants as dues
+use Rattle.tcp_conn.specs.declared.emit.due.Due.TheVariants as dues
 use Rattle.tcp_conn.specs.declared.phase.Timer.TheVariants as timers
 
 -- ---- WITHOUT RST no judgement is passed that a reset alone brings (RFC 9293, 3.10.7)

@@ -19,7 +19,7 @@ use Rattle.tcp_progress.proofs.{Emitted.party_after_due, Had.due-plain, Had.goes
 use Rattle.tcp_progress.proofs.{OneHalf.alone-at}
 use Rattle.tcp_progress.proofs.{OneHalf.alone-as, Serving.cleared, Serving.reset-first, Speaking.owed-event}
 use Rattle.tcp_progress.proofs.{Happened.calm-joined, Happened.happenings-append, Happened.steps-happenings, Sides.on-both, Turning.HaveRead}
-use Rattle.tcp_conn.specs.declared.due.Due.TheVariants as dues
+use Rattle.tcp_conn.specs.declared.emit.due.Due.TheVariants as dues
 
 -- ---- WHAT AN EMISSION LEAVES PENDING: no reset; and no SYN, where no reset was
 due-no_reset : (s : State) (due : Option Due) → s.owed.reset ≡ None → (after_due s due).owed.reset ≡ None

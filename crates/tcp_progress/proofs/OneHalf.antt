@@ -24,7 +24,7 @@ use Rattle.tcp_replay.proofs.{AloneEmissions.ack-alone-goes, AloneEmissions.Goes
 use Rattle.tcp_progress.proofs.{Again.flight-kept, Again.resent, Again.timeout-keeps, Again.timeout-resends, Asking.syn-alone}
 use Rattle.tcp_progress.proofs.{Emitted.fresh-due, Emitted.party_after_due, Live.due-still, Serving.IsUseful}
 use Rattle.tcp_progress.proofs.{Speaking.old-still}
-use Rattle.tcp_conn.specs.declared.due.Due.TheVariants as dues
+use Rattle.tcp_conn.specs.declared.emit.due.Due.TheVariants as dues
 use Rattle.tcp_progress.proofs.Lemmas.{lowers, over}
 use Rattle.tcp_progress.proofs.Waking.{brought-old}
 

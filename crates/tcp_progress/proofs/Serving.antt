@@ -11,7 +11,7 @@ use Rattle.tcp_progress.proofs.Lemmas.{flight-sends, fresh-emitted, going-live, 
 use Rattle.tcp_progress.proofs.Lemmas.{new_lem, no-handshake, no-syn-owed, over-served, past-syn, side-left, side-pair, steps-all}
 use Rattle.tcp_progress.proofs.Lemmas.{steps-event, steps-left, timer-at, unsent-sends, waits, way-later}
 use Rattle.tcp_replay.proofs.Lemmas.{none-some}
-use Rattle.tcp_conn.specs.declared.due.Due.TheVariants as dues
+use Rattle.tcp_conn.specs.declared.emit.due.Due.TheVariants as dues
 use Rattle.tcp_progress.proofs.Lemmas.{sends-synchronized}
 use Rattle.tcp_replay.proofs.Lemmas.{waiting-bit, reset-waits}
 

@@ -9,7 +9,7 @@ use Rattle.tcp_conn.specs.declared.outcome.Arrival.TheVariants.{Dropped}
 use Rattle.tcp_conn.specs.declared.phase.Timer.TheVariants.{Retransmit}
 use Rattle.tcp_conn.specs.State.{State}
 use Rattle.tcp_conn.specs.Arrival.{after_arrival, arrival_answer}
-use Rattle.tcp_conn.specs.declared.due.Due.{Due}
+use Rattle.tcp_conn.specs.declared.emit.due.Due.{Due}
 use Rattle.tcp_conn.specs.Due.{due_of, start_of, text_limit}
 use Rattle.tcp_conn.specs.Forms.{segment_of}
 use Rattle.tcp_conn.specs.Emission.{emitted_bytes}

@@ -2,7 +2,7 @@
 -- after a retransmission timeout (RFC 5681, 3.1). Each does half of a turn (`IsTurn`), when its own timer expires. Who isn't on
 -- the path between them sends what it likes meanwhile (RFC 5961, 1).
 use Rattle.std.specs.Prelude.{◌≡◌, ◌&&◌, false, ℕ, zero, suc, ◌≤◌, true, List, [], ◌∷◌, ◌++◌, length, Some, None, IfSome, ◌⊎◌}
-use Rattle.tcp_conn.specs.declared.due.Due.{Due}
+use Rattle.tcp_conn.specs.declared.emit.due.Due.{Due}
 use Rattle.tcp_conn.specs.declared.phase.Timer.TheVariants.{Retransmit}
 use Rattle.tcp_conn.specs.Due.{ack_alone, due_of, start_of}
 use Rattle.tcp_conn.specs.State.{State}

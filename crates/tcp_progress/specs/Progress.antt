@@ -6,7 +6,7 @@ use Rattle.tcp_numbers.specs.Flags.{ack, has, rst, syn}
 use Rattle.tcp_wire.specs.Decoded.{decode_answer}
 use Rattle.tcp_wire.specs.Wire.{Content}
 use Rattle.tcp_reasm.specs.Reassembly.{window}
-use Rattle.tcp_conn.specs.declared.due.Due.{Due}
+use Rattle.tcp_conn.specs.declared.emit.due.Due.{Due}
 use Rattle.tcp_conn.specs.declared.outcome.Arrival.TheVariants.{Processed}
 use Rattle.tcp_conn.specs.declared.phase.Phase.{Phase}
 use Rattle.tcp_conn.specs.Phase.{has_peer, is_handshake, is_syn_received, takes_text}

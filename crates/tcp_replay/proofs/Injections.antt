@@ -4,9 +4,9 @@ use Rattle.tcp_replay.proofs.Words.{HandshakeRefusedShut, IfSome}
 use Rattle.tcp_replay.proofs.Words.{IsSoundPair, IsValid, Judgement, judgement, List, max_life, Ok, other, party_of, PartyState, refl, reset_at_ack}
 use Rattle.tcp_replay.proofs.Words.{reset_of_stray, Result, Side, State, subst, sym, true, WaitingReset}
 use Rattle.tcp_replay.proofs.Words.{with_ack_owed, with_reset, WorldState, ℕ, ◌≡◌, ◌∷◌, [], ◌≤◌, new_world_with, IsSound}
-use Rattle.tcp_conn.specs.declared.judgement.Judgement.TheVariants.{Foreign, ResetIgnored, Stray, AckOfListen, OpensNothing, PeerOpens, AckOfNoSyn}
-use Rattle.tcp_conn.specs.declared.judgement.Judgement.TheVariants.{PeerRefuses, PeerAccepts, Unacceptable, PeerResets, ResetElsewhere, SynInWindow, NoAck}
-use Rattle.tcp_conn.specs.declared.judgement.Judgement.TheVariants.{AcksUnsent, HandshakeRefused, Taken, TakenShut}
+use Rattle.tcp_conn.specs.declared.arrive.judgement.Judgement.TheVariants.{Foreign, ResetIgnored, Stray, AckOfListen, OpensNothing, PeerOpens, AckOfNoSyn}
+use Rattle.tcp_conn.specs.declared.arrive.judgement.Judgement.TheVariants.{PeerRefuses, PeerAccepts, Unacceptable, PeerResets, ResetElsewhere, SynInWindow, NoAck}
+use Rattle.tcp_conn.specs.declared.arrive.judgement.Judgement.TheVariants.{AcksUnsent, HandshakeRefused, Taken, TakenShut}
 unfoldable use Rattle.tcp_conn.specs.Arrival.{after_arrival}
 use Rattle.tcp_wire.proofs.RoundTrip.{decoded_valid}
 use Rattle.tcp_wire.specs.Checksum.{AreBytes}

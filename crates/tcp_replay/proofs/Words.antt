@@ -50,10 +50,10 @@ unfoldable pub use Rattle.tcp_conn.specs.Timers.{after_reorder, after_resend_fir
 pub use Rattle.tcp_conn.specs.Windows.{advertised_window, max_window, own_shift, window_field, window_from}
 pub use Rattle.tcp_conn.specs.Writing.{destination_of, waiting_destination}
 unfoldable pub use Rattle.tcp_conn.specs.Writing.{bytes_of}
-pub use Rattle.tcp_conn.specs.declared.judgement.Judgement.{Judgement}
-pub use Rattle.tcp_conn.specs.declared.judgement.Judgement.TheVariants.{AckOfListen, AckOfNoSyn, AcksUnsent, Foreign, HandshakeRefused, HandshakeRefusedShut}
-pub use Rattle.tcp_conn.specs.declared.judgement.Judgement.TheVariants.{NoAck, OpensNothing, PeerAccepts, PeerOpens, PeerRefuses, PeerResets, ResetElsewhere}
-pub use Rattle.tcp_conn.specs.declared.judgement.Judgement.TheVariants.{ResetIgnored, Stray, SynInWindow, Taken, TakenShut, Unacceptable}
+pub use Rattle.tcp_conn.specs.declared.arrive.judgement.Judgement.{Judgement}
+pub use Rattle.tcp_conn.specs.declared.arrive.judgement.Judgement.TheVariants.{AckOfListen, AckOfNoSyn, AcksUnsent, Foreign, HandshakeRefused, HandshakeRefusedShut}
+pub use Rattle.tcp_conn.specs.declared.arrive.judgement.Judgement.TheVariants.{NoAck, OpensNothing, PeerAccepts, PeerOpens, PeerRefuses, PeerResets, ResetElsewhere}
+pub use Rattle.tcp_conn.specs.declared.arrive.judgement.Judgement.TheVariants.{ResetIgnored, Stray, SynInWindow, Taken, TakenShut, Unacceptable}
 pub use Rattle.tcp_halves.proofs.Placing.{capacity_placed, capacity_read, whole_empty, whole_read, whole_without_held}
 unfoldable pub use Rattle.tcp_halves.specs.Acceptable.{is_acceptable}
 pub use Rattle.tcp_halves.specs.Config.{HasBadCapacity, HasBadLimit, HasBadMss, HasBadShift, HasGoodShift, IsConfig, IsGoodConfig, default_limit, max_shift}
@@ -77,8 +77,8 @@ pub use Rattle.tcp_halves.specs.declared.config.Config.{Config}
 pub use Rattle.tcp_halves.specs.declared.config.ConfigError.{ConfigError}
 pub use Rattle.tcp_halves.specs.declared.sent.Sent.{Sent}
 pub use Rattle.tcp_halves.specs.declared.sent.Sent.TheVariants.{Fin, NewText, Resend, ResentFin}
-pub use Rattle.tcp_conn.specs.declared.due.Due.{Due}
-pub use Rattle.tcp_conn.specs.declared.due.Due.TheVariants.{Acknowledgement, Reset, Syn, Text}
+pub use Rattle.tcp_conn.specs.declared.emit.due.Due.{Due}
+pub use Rattle.tcp_conn.specs.declared.emit.due.Due.TheVariants.{Acknowledgement, Reset, Syn, Text}
 pub use Rattle.tcp_halves.specs.declared.link.Link.{Link}
 pub use Rattle.tcp_conn.specs.declared.owed.Owed.{Owed}
 pub use Rattle.tcp_halves.specs.declared.link.Peer.{Peer}

@@ -8,8 +8,8 @@ use Rattle.tcp_wire.specs.declared.fault.DecodeError.{DecodeError}
 use Rattle.tcp_halves.specs.Config.{IsConfig}
 use Rattle.tcp_halves.specs.declared.config.Config.{Config}
 use Rattle.tcp_halves.specs.declared.link.WaitingReset.{WaitingReset}
-use Rattle.tcp_conn.specs.declared.judgement.Judgement.{Judgement}
-use Rattle.tcp_conn.specs.declared.judgement.Judgement.TheVariants.{PeerOpens, PeerRefuses, PeerAccepts, PeerResets, Taken, TakenShut}
+use Rattle.tcp_conn.specs.declared.arrive.judgement.Judgement.{Judgement}
+use Rattle.tcp_conn.specs.declared.arrive.judgement.Judgement.TheVariants.{PeerOpens, PeerRefuses, PeerAccepts, PeerResets, Taken, TakenShut}
 use Rattle.tcp_conn.specs.Arrival.{after_arrival}
 use Rattle.tcp_conn.specs.Judgement.{judgement}
 use Rattle.tcp_conn.specs.State.{State}

@@ -1,6 +1,6 @@
 -- What goes out of an end at an emission, as the segment that is due or as the acknowledgement alone (RFC 9293, 3.8).
 use Rattle.std.specs.Prelude.{ℕ, Bool, true, false, List, Option, option_map}
-use Rattle.tcp_conn.specs.declared.due.Due.{Due}
+use Rattle.tcp_conn.specs.declared.emit.due.Due.{Due}
 use Rattle.tcp_conn.specs.Due.{due_of, ack_alone}
 use Rattle.tcp_conn.specs.State.{State}
 use Rattle.tcp_conn.specs.Writing.{bytes_of, destination_of}

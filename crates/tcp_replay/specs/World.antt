@@ -17,7 +17,7 @@ use Rattle.tcp_conn.specs.NewEnd.{new_end}
 use Rattle.tcp_halves.specs.Receiver.{next_wanted}
 use Rattle.tcp_conn.specs.Calls.{opening_answer, after_connect, after_listen, send_answer, after_send, receive_answer, after_receive, received_bytes, close_answer, after_close, abort_answer, after_abort, after_acknowledge}
 use Rattle.tcp_conn.specs.Timers.{timer_answer, after_timer, sends_again, after_resend_first}
-use Rattle.tcp_conn.specs.declared.due.Due.{Due}
+use Rattle.tcp_conn.specs.declared.emit.due.Due.{Due}
 use Rattle.tcp_conn.specs.Due.{ack_alone}
 use Rattle.tcp_conn.specs.Writing.{bytes_of}
 use Rattle.tcp_conn.specs.Emission.{emitted_bytes, after_due, after_emission}

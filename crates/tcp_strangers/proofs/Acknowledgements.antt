@@ -9,8 +9,8 @@ use Rattle.tcp_numbers.proofs.Positions.{position_of_beyond, position_of_later}
 use Rattle.tcp_reasm.specs.Reassembly.{window}
 use Rattle.tcp_halves.specs.Sender.{acks_more, acks_unsent}
 unfoldable use Rattle.tcp_halves.specs.Sender.{after_ack}
-use Rattle.tcp_conn.specs.declared.judgement.Judgement.{Judgement}
-use Rattle.tcp_conn.specs.declared.judgement.Judgement.TheVariants.{AcksUnsent, Taken, TakenShut}
+use Rattle.tcp_conn.specs.declared.arrive.judgement.Judgement.{Judgement}
+use Rattle.tcp_conn.specs.declared.arrive.judgement.Judgement.TheVariants.{AcksUnsent, Taken, TakenShut}
 use Rattle.tcp_conn.specs.Arrival.{after_judgement, after_news}
 unfoldable use Rattle.tcp_conn.specs.Arrival.{after_acked_text, after_fin, after_its_ack, after_its_text, after_own_syn, after_taking, after_taking_shut}
 use Rattle.tcp_conn.specs.Judgement.{is_acceptable_segment, position_near}

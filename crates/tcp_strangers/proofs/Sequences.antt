@@ -9,10 +9,10 @@ use Rattle.tcp_wire.specs.Position.{number, distance, position_of, near, is_insi
 use Rattle.tcp_wire.proofs.Lemmas.{first_inside, last_inside, position_of_ahead, position_of_behind}
 use Rattle.tcp_reasm.specs.Reassembly.{window}
 unfoldable use Rattle.tcp_halves.specs.Acceptable.{is_acceptable}
-use Rattle.tcp_conn.specs.declared.judgement.Judgement.{Judgement}
-use Rattle.tcp_conn.specs.declared.judgement.Judgement.TheVariants.{Foreign, ResetIgnored, OpensNothing, AckOfNoSyn, PeerRefuses, PeerAccepts}
-use Rattle.tcp_conn.specs.declared.judgement.Judgement.TheVariants.{Unacceptable, PeerResets, ResetElsewhere, SynInWindow, NoAck, HandshakeRefused}
-use Rattle.tcp_conn.specs.declared.judgement.Judgement.TheVariants.{HandshakeRefusedShut, Taken, TakenShut}
+use Rattle.tcp_conn.specs.declared.arrive.judgement.Judgement.{Judgement}
+use Rattle.tcp_conn.specs.declared.arrive.judgement.Judgement.TheVariants.{Foreign, ResetIgnored, OpensNothing, AckOfNoSyn, PeerRefuses, PeerAccepts}
+use Rattle.tcp_conn.specs.declared.arrive.judgement.Judgement.TheVariants.{Unacceptable, PeerResets, ResetElsewhere, SynInWindow, NoAck, HandshakeRefused}
+use Rattle.tcp_conn.specs.declared.arrive.judgement.Judgement.TheVariants.{HandshakeRefusedShut, Taken, TakenShut}
 use Rattle.tcp_conn.specs.Judgement.{count_numbers, is_acceptable_segment, is_allowed_shut, acks_syn, position_near}
 unfoldable use Rattle.tcp_conn.specs.Judgement.{judgement, phase_judgement, present_judgement, acceptable_judgement, unacceptable_judgement, ack_judgement}
 unfoldable use Rattle.tcp_conn.specs.Judgement.{is_foreign, closed_judgement, listen_judgement, syn_sent_judgement}
