@@ -14,7 +14,7 @@ rule_number NoAck = 3
 rule_number (OtherInitial first other) = 4
 rule_number (OtherByte seq) = 5
 rule_number (BeyondFin place end) = 6
-rule_number (AckBeyond told) = 7
+rule_number (AckBeyond acked_number) = 7
 rule_number Unoffered = 8
 rule_number Unpermitted = 9
 rule_number (BlockBeyond left right) = 10
@@ -43,7 +43,7 @@ fin_text place end = codes "text or FIN up to position " ++ (decimal end ++ (cod
 
 -- and against what came
 abbrev pub ack_text : ℕ → List ℕ
-ack_text told = codes "an acknowledgement of " ++ (decimal told ++ codes ", up to which not all came (RFC 9293, 3.4)")
+ack_text acked_number = codes "an acknowledgement of " ++ (decimal acked_number ++ codes ", up to which not all came (RFC 9293, 3.4)")
 
 abbrev pub block_text : ℕ → ℕ → List ℕ
 block_text left right = codes "a block from " ++ (decimal left ++ (codes " to " ++ (decimal right ++ codes ", of which not all came (RFC 2018, 3)")))
@@ -56,7 +56,7 @@ finding_text NoAck = codes "no ACK (RFC 9293, 3.1)"
 finding_text (OtherInitial first other) = initial_text first.0 other.0
 finding_text (OtherByte seq) = byte_text seq.0
 finding_text (BeyondFin place end) = fin_text place end
-finding_text (AckBeyond told) = ack_text told.0
+finding_text (AckBeyond acked_number) = ack_text acked_number.0
 finding_text Unoffered = codes "a SYN answers with a window scale that no SYN offered (RFC 7323, 2.2)"
 finding_text Unpermitted = codes "blocks, which no SYN that came permitted (RFC 2018, 4)"
 finding_text (BlockBeyond left right) = block_text left.0 right.0

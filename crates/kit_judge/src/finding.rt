@@ -86,10 +86,10 @@ fn push_fin<A: Allocator>(text: &mut String<A>, place: u64, end: u64) -> Result<
     )
 }
 
-fn push_ack<A: Allocator>(text: &mut String<A>, told: Seq) -> Result<(), AllocError>
-    ensures { OnOk result (string_bytes text.new ≡ string_bytes text.old ++ ack_text told.0) }
+fn push_ack<A: Allocator>(text: &mut String<A>, acked_number: Seq) -> Result<(), AllocError>
+    ensures { OnOk result (string_bytes text.new ≡ string_bytes text.old ++ ack_text acked_number.0) }
 {
-    let told = told.0;
+    let acked_number = acked_number.0;
     write!(
         text,
         "an acknowledgement of {told}, up to which not all came (RFC 9293, 3.4)"
@@ -119,7 +119,7 @@ fn push_rule<A: Allocator>(text: &mut String<A>, finding: Finding) -> Result<(),
         Finding::OtherInitial(first, other) => push_initial(text, first, other),
         Finding::OtherByte(seq) => push_byte(text, seq),
         Finding::BeyondFin(place, end) => push_fin(text, place, end),
-        Finding::AckBeyond(told) => push_ack(text, told),
+        Finding::AckBeyond(acked_number) => push_ack(text, acked_number),
         Finding::Unoffered => text.push_str(
             "a SYN answers with a window scale that no SYN offered (RFC 7323, 2.2)",
         ),

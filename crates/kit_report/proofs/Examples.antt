@@ -12,15 +12,15 @@ use Rattle.tcp_conn.specs.Blocks.{after_block}
 use Rattle.tcp_halves.specs.Receiver.{after_text}
 use Rattle.tcp_conn.specs.Calls.{after_connect, after_listen, after_send, after_receive, after_close}
 use Rattle.tcp_conn.specs.Timers.{after_time_wait}
-use Rattle.tcp_conn.specs.Judgement.{is_foreign, closed_judgement, listen_judgement, syn_sent_judgement, ack_judgement, unacceptable_judgement, acceptable_judgement, present_judgement, phase_judgement, judgement}
-use Rattle.tcp_conn.specs.Arrival.{after_peer_opens, after_peer_accepts, after_own_syn, after_acked_text, after_news, after_own_fin, after_its_ack, after_its_text, after_fin, after_taking, arrival_answer, after_arrival}
+use Rattle.tcp_conn.specs.Judgement.{is_foreign, closed_judgement, listen_judgement, syn_sent_judgement, ack_judgement, unacceptable_judgement, acceptable_judgement, judgement_after_syn, phase_judgement, judgement}
+use Rattle.tcp_conn.specs.Arrival.{after_peer_opens, after_peer_accepts, after_own_syn, after_acked_text, after_window_and_blocks, after_own_fin, after_its_ack, after_its_text, after_fin, after_taking, arrival_answer, after_arrival}
 use Rattle.tcp_conn.specs.Due.{resend_of, new_text_of, due_of}
 use Rattle.tcp_conn.specs.Forms.{segment_of}
 use Rattle.tcp_conn.specs.Writing.{bytes_of}
 use Rattle.tcp_conn.specs.Emission.{emitted_bytes, after_emission}
 use Rattle.tcp_replay.specs.declared.event.Side.TheVariants.{A, B}
 use Rattle.tcp_replay.specs.Events.{Connect, Listen, Emit, Deliver}
-use Rattle.tcp_replay.proofs.Examples.{a, b}
+use Rattle.tcp_replay.proofs.run.Examples.{a, b}
 use Rattle.tcp_replay.specs.World.{party_after_connect, party_after_listen, party_after_send, party_after_receive, party_after_close, party_after_timer, party_after_emission, party_after_arrival, effect_of, max_life, world_after_all}
 use Rattle.kit_text.specs.Texts.{blocks_text}
 use Rattle.tcp_wire.specs.Texts.{flags_text}
@@ -56,5 +56,5 @@ record IsWritten : Type 0 where
   well : report_is_well script ≡ true
 
 written : IsWritten
-unfolding a b script events_written counts_written ends_written report_text report_is_well event_lines event_line refusals world_after_turns event_text outcome_text is_well counts_text end_line summary_text flags_text blocks_text world_after_all effect_of party_after_connect party_after_listen party_after_send party_after_receive party_after_close party_after_timer party_after_emission party_after_arrival after_connect after_listen after_send after_receive after_close after_time_wait encoded_bytes decode_answer layout_of options_in option_at padding_at position_of offset is_acceptable link_of after_ack after_window_update after_block after_text is_foreign closed_judgement listen_judgement syn_sent_judgement ack_judgement unacceptable_judgement acceptable_judgement present_judgement phase_judgement judgement after_peer_opens after_peer_accepts after_own_syn after_acked_text after_news after_own_fin after_its_ack after_its_text after_fin after_taking arrival_answer after_arrival resend_of new_text_of due_of segment_of bytes_of emitted_bytes after_emission
+unfolding a b script events_written counts_written ends_written report_text report_is_well event_lines event_line refusals world_after_turns event_text outcome_text is_well counts_text end_line summary_text flags_text blocks_text world_after_all effect_of party_after_connect party_after_listen party_after_send party_after_receive party_after_close party_after_timer party_after_emission party_after_arrival after_connect after_listen after_send after_receive after_close after_time_wait encoded_bytes decode_answer layout_of options_in option_at padding_at position_of offset is_acceptable link_of after_ack after_window_update after_block after_text is_foreign closed_judgement listen_judgement syn_sent_judgement ack_judgement unacceptable_judgement acceptable_judgement judgement_after_syn phase_judgement judgement after_peer_opens after_peer_accepts after_own_syn after_acked_text after_window_and_blocks after_own_fin after_its_ack after_its_text after_fin after_taking arrival_answer after_arrival resend_of new_text_of due_of segment_of bytes_of emitted_bytes after_emission
 written = record { text = refl; well = refl }

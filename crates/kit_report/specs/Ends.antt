@@ -3,7 +3,7 @@ use Rattle.std.specs.Prelude.{ℕ, List, [], ◌∷◌, ◌++◌, take, codes, d
 use Rattle.tcp_wire.specs.Position.{number}
 use Rattle.tcp_wire.specs.Texts.{addr_text}
 use Rattle.tcp_reasm.specs.Reassembly.{window}
-use Rattle.tcp_halves.specs.Receiver.{next_wanted}
+use Rattle.tcp_halves.specs.Receiver.{rcv_position}
 use Rattle.tcp_conn.specs.State.{State}
 use Rattle.tcp_conn.specs.Timers.{timer_answer}
 use Rattle.tcp_conn.specs.declared.phase.Timer.TheVariants.{Retransmit, Reorder, TimeWait}
@@ -20,18 +20,18 @@ use Rattle.kit_report.specs.Report.{first_world, world_after_turns}
 -- THE SEND SPACE (RFC 9293, 3.3.1): SND.UNA, SND.NXT and SND.UNA + SND.WND, as sequence numbers; none before the SYN is sent
 abbrev pub send_space : State → List ℕ
 send_space s =
-    codes " una " ++ (decimal (number s.config.isn.0 s.sending.una) ++ (codes " nxt " ++ (decimal (number s.config.isn.0 s.sending.nxt)
-    ++ (codes " edge " ++ decimal (number (number s.config.isn.0 s.sending.una) s.sending.wnd)))))
+    codes " una " ++ (decimal (number s.config.isn.0 s.sending.snd_una) ++ (codes " nxt " ++ (decimal (number s.config.isn.0 s.sending.snd_nxt)
+    ++ (codes " edge " ++ decimal (number (number s.config.isn.0 s.sending.snd_una) s.sending.snd_wnd)))))
 
 unfoldable pub send_text : State → List ℕ
-send_text s = if nat_lt 0 s.sending.nxt then send_space s else codes " una - nxt - edge -"
+send_text s = if nat_lt 0 s.sending.snd_nxt then send_space s else codes " una - nxt - edge -"
 
 -- THE RECEIVE SPACE (RFC 9293, 3.3.1) under the peer's initial number: RCV.NXT and RCV.NXT + RCV.WND; none before the peer's
 -- SYN is taken
 abbrev pub receive_space : ℕ → State → List ℕ
 receive_space initial s =
-    codes " next " ++ (decimal (number initial (next_wanted s.receiving))
-    ++ (codes " limit " ++ decimal (number (number initial (next_wanted s.receiving)) (window s.receiving.inbox))))
+    codes " next " ++ (decimal (number initial (rcv_position s.receiving))
+    ++ (codes " limit " ++ decimal (number (number initial (rcv_position s.receiving)) (window s.receiving.inbox))))
 
 unfoldable pub receive_text : ℕ → State → List ℕ
 receive_text initial s = if s.receiving.opened then receive_space initial s else codes " next - limit -"

@@ -37,7 +37,7 @@ queue_text s =
 unfoldable pub inbox_text : State → List ℕ
 inbox_text s =
     codes " unread " ++ (decimal (length s.receiving.inbox.unread) ++ (codes " window " ++ (decimal (window s.receiving.inbox)
-    ++ (codes " held " ++ (blocks_text (blocks s.receiving.inbox) ++ (codes " peer " ++ decimal s.sending.wnd))))))
+    ++ (codes " held " ++ (blocks_text (blocks s.receiving.inbox) ++ (codes " peer " ++ decimal s.sending.snd_wnd))))))
 
 -- A STATE LINE: what the last line of the side would report now, and the content of its buffers
 unfoldable pub state_line : Side → PartyState → List ℕ

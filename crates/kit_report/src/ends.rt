@@ -30,12 +30,12 @@ fn number_of(initial: Seq, position: u64) -> Seq
 fn push_send_space<A: Allocator>(text: &mut String<A>, end: &Endpoint<A>) -> Result<(), AllocError>
     ensures { OnOk result (string_bytes text.new ≡ string_bytes text.old ++ send_text end.now) }
 {
-    if end.nxt() == 0 {
+    if end.snd_nxt() == 0 {
         return text.push_str(" una - nxt - edge -");
     }
     let initial = end.config().isn;
-    let una = number_of(initial, end.una());
-    let nxt = number_of(initial, end.nxt());
+    let una = number_of(initial, end.snd_una());
+    let nxt = number_of(initial, end.snd_nxt());
     let (_, peer) = end.windows();
     let edge = una.plus(peer);
     write!(text, " una {} nxt {} edge {}", una.0, nxt.0, edge.0)
@@ -53,7 +53,7 @@ fn push_receive_space<A: Allocator>(
     if end.negotiated().is_none() {
         return text.push_str(" next - limit -");
     }
-    let next = number_of(initial, end.next());
+    let next = number_of(initial, end.rcv_position());
     let (window, _) = end.windows();
     let limit = next.plus(window);
     write!(text, " next {} limit {}", next.0, limit.0)

@@ -3,8 +3,8 @@ use Rattle.std.specs.Prelude.{ℕ, is_some, not, ◌==◌, if◌then◌else◌, 
 use Rattle.tcp_halves.specs.declared.link.WaitingReset.{WaitingReset}
 use Rattle.tcp_conn.specs.declared.phase.Ending.{Ending}
 use Rattle.tcp_conn.specs.declared.phase.Ending.TheVariants as endings
-use Rattle.tcp_conn.specs.declared.time_wait.fields.RestFields.{RestFields}
-use Rattle.tcp_conn.specs.Rest.{Resting, as_state, can_be_kept, can_rest, kept_of, resting}
+use Rattle.tcp_conn.specs.declared.time_wait.fields.TimeWaitFields.{TimeWaitFields}
+use Rattle.tcp_conn.specs.TimeWait.{TimeWaitRecord, as_state, can_be_kept, has_time_wait, kept_of, time_wait_of}
 use Rattle.tcp_conn.specs.State.{State}
 use Rattle.tcp_c.specs.Answers.{done, no_time_wait, not_time_wait}
 use Rattle.tcp_c.specs.Segments.{nowhere}
@@ -30,13 +30,13 @@ reset_of c =
     })
 
 -- the fields of C's record, with this ending
-abbrev pub fields_of : CTimeWait → Ending → RestFields
+abbrev pub fields_of : CTimeWait → Ending → TimeWaitFields
 fields_of c ending = record {
   addr = record { 0 = c.addr.byte };
   port = c.port;
   peer = record { addr = record { 0 = c.peer_addr.byte }; port = c.peer_port };
-  seq = record { 0 = c.snd_nxt };
-  next = record { 0 = c.rcv_nxt };
+  snd_nxt = record { 0 = c.snd_nxt };
+  rcv_nxt = record { 0 = c.rcv_nxt };
   window = c.rcv_wnd;
   shift = c.shift;
   ack = not (c.ack == 0);
@@ -44,13 +44,13 @@ fields_of c ending = record {
   ending = ending;
 }
 
-abbrev pub kept_with : CTimeWait → Option Ending → Option Resting
+abbrev pub kept_with : CTimeWait → Option Ending → Option TimeWaitRecord
 kept_with c None = None
 kept_with c (Some ending) = if can_be_kept (fields_of c ending) then Some (kept_of (fields_of c ending)) else None
 
 -- THE TIME-WAIT RECORD of C's record; none without the mark, with no ending's number, or with a window or a shift that no end
 -- has
-abbrev pub time_wait_kept : CTimeWait → Option Resting
+abbrev pub time_wait_kept : CTimeWait → Option TimeWaitRecord
 time_wait_kept c = if c.mark == MARK_OF_TIME_WAIT then kept_with c (ending_of c.ending) else None
 
 -- all zero where there is no TIME-WAIT record
@@ -75,15 +75,15 @@ no_record = record {
 }
 
 -- C's record of these fields, where no reset waits
-abbrev pub settled_record : RestFields → CTimeWait
+abbrev pub settled_record : TimeWaitFields → CTimeWait
 settled_record f = record no_record {
   mark = MARK_OF_TIME_WAIT;
   addr = record { byte = f.addr.0 };
   peer_addr = record { byte = f.peer.addr.0 };
   port = f.port;
   peer_port = f.peer.port;
-  snd_nxt = f.seq.0;
-  rcv_nxt = f.next.0;
+  snd_nxt = f.snd_nxt.0;
+  rcv_nxt = f.rcv_nxt.0;
   rcv_wnd = f.window;
   shift = f.shift;
   ack = flag f.ack;
@@ -102,11 +102,11 @@ with_reset c reset = record c {
 
 -- FROM AN END: whether a record can take its place, and the record then
 abbrev pub time_wait_number : State → ℕ
-time_wait_number s = if can_rest s then done else not_time_wait
+time_wait_number s = if has_time_wait s then done else not_time_wait
 
-abbrev pub time_wait_reported : Option State → Option Resting
+abbrev pub time_wait_reported : Option State → Option TimeWaitRecord
 time_wait_reported None = None
-time_wait_reported (Some s) = if can_rest s then Some (resting s) else None
+time_wait_reported (Some s) = if has_time_wait s then Some (time_wait_of s) else None
 
 -- the end whose place it takes
 abbrev pub time_wait_stands_for : CTimeWait → Option State
@@ -118,5 +118,5 @@ time_wait_answer answer None = no_time_wait
 time_wait_answer answer (Some s) = answer s
 
 -- the record after a step of that end
-abbrev pub time_wait_after : (State → State) → CTimeWait → Option Resting
-time_wait_after step c = option_map (λ r. resting (step (as_state r))) (time_wait_kept c)
+abbrev pub time_wait_after : (State → State) → CTimeWait → Option TimeWaitRecord
+time_wait_after step c = option_map (λ r. time_wait_of (step (as_state r))) (time_wait_kept c)

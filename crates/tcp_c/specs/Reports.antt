@@ -84,9 +84,9 @@ kind_told (Some kind) = kind_number kind
 abbrev pub no_transmit : CTransmit
 no_transmit = record { to = record { byte = nowhere }; kind = 0; length = 0; position = 0; count = 0 }
 
-abbrev pub next_of : Option State → CTransmit
-next_of None = no_transmit
-next_of (Some s) = record {
+abbrev pub next_transmit_of : Option State → CTransmit
+next_transmit_of None = no_transmit
+next_transmit_of (Some s) = record {
   to = record { byte = unwrap_or (destination s) nowhere };
   kind = kind_told (kind_due s);
   length = unwrap_or (pending_length s) 0;
@@ -96,4 +96,4 @@ next_of (Some s) = record {
 
 -- and nothing is written where there is less room than this
 abbrev pub transmit_of : ℕ → ℕ → Option State → CTransmit
-transmit_of least room end = if nat_lt room least then no_transmit else next_of end
+transmit_of least room end = if nat_lt room least then no_transmit else next_transmit_of end

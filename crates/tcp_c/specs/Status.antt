@@ -10,7 +10,7 @@ use Rattle.tcp_halves.specs.declared.link.Peer.{Peer}
 use Rattle.tcp_conn.specs.declared.outcome.CallError.TheVariants.{NotConnected}
 use Rattle.tcp_conn.specs.Emission.{pending_length}
 use Rattle.tcp_conn.specs.Outcome.{call_error_number}
-use Rattle.tcp_halves.specs.Receiver.{next_wanted}
+use Rattle.tcp_halves.specs.Receiver.{rcv_position}
 use Rattle.tcp_conn.specs.State.{State}
 use Rattle.tcp_conn.specs.Status.{negotiated_of, peer_of, room_of, queued_of, in_flight_of}
 use Rattle.tcp_conn.specs.Windows.{receive_window}
@@ -81,8 +81,8 @@ status_of (Some s) = record {
   unread = length s.receiving.inbox.unread;
   released = s.sending.released;
   ordered = s.receiving.ordered;
-  snd_una = s.sending.una;
-  rcv_position = next_wanted s.receiving;
+  snd_una = s.sending.snd_una;
+  rcv_position = rcv_position s.receiving;
   room = room_of s;
   queued = queued_of s;
   in_flight = in_flight_of s;
@@ -91,9 +91,9 @@ status_of (Some s) = record {
   peer_shift = (agreed s).peer_shift;
   scaling = flag (agreed s).scaling;
   sack = flag (agreed s).sack;
-  snd_wnd = s.sending.wnd;
+  snd_wnd = s.sending.snd_wnd;
   rcv_wnd = receive_window s;
-  snd_nxt = s.sending.nxt;
+  snd_nxt = s.sending.snd_nxt;
   closing = flag s.closing;
   finished = flag s.receiving.finished;
 }

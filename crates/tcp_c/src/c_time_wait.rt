@@ -4,7 +4,7 @@ ghost use Rattle.tcp_c.specs.CTimeWaits.{ending_of, fields_of, no_record, reset_
 
 use crate::records::{CAddr, CTimeWait};
 use crate::status::ending_number;
-use tcp_conn::{Ending, Peer, Rest, RestFields, WaitingReset};
+use tcp_conn::{Ending, Peer, TimeWait, TimeWaitFields, WaitingReset};
 use tcp_wire::{Addr, Seq};
 
 /// The first word of a TIME-WAIT record. Any other fields have another.
@@ -45,18 +45,18 @@ fn reset_of(stored: &CTimeWait) -> Option<WaitingReset>
 }
 
 /// The fields of C's record, with this ending.
-fn fields_of(stored: &CTimeWait, ending: Ending) -> RestFields
+fn fields_of(stored: &CTimeWait, ending: Ending) -> TimeWaitFields
     ensures { result ≡ fields_of stored.now ending }
 {
-    RestFields {
+    TimeWaitFields {
         addr: Addr(stored.addr.byte),
         port: stored.port,
         peer: Peer {
             addr: Addr(stored.peer_addr.byte),
             port: stored.peer_port,
         },
-        seq: Seq(stored.snd_nxt),
-        next: Seq(stored.rcv_nxt),
+        snd_nxt: Seq(stored.snd_nxt),
+        rcv_nxt: Seq(stored.rcv_nxt),
         window: stored.rcv_wnd,
         shift: stored.shift,
         ack: stored.ack != 0,
@@ -66,14 +66,14 @@ fn fields_of(stored: &CTimeWait, ending: Ending) -> RestFields
 }
 
 /// The TIME-WAIT record of C's record, if it is one.
-pub(crate) fn time_wait_of(stored: &CTimeWait) -> Option<Rest>
+pub(crate) fn time_wait_of(stored: &CTimeWait) -> Option<TimeWait>
     ensures { result ≡ time_wait_kept stored.now }
 {
     if stored.mark != MARK_OF_TIME_WAIT {
         return None;
     }
     let ending = ending_of(stored.ending)?;
-    Rest::of(fields_of(stored, ending))
+    TimeWait::of(fields_of(stored, ending))
 }
 
 /// No record: all zero.
@@ -102,7 +102,7 @@ pub(crate) fn no_record() -> CTimeWait
 }
 
 /// Fields with no reset, as C's record.
-fn settled_record(fields: &RestFields) -> CTimeWait
+fn settled_record(fields: &TimeWaitFields) -> CTimeWait
     ensures { result ≡ settled_record fields.now }
 {
     let (Addr(own), Addr(peer)) = (fields.addr, fields.peer.addr);
@@ -112,8 +112,8 @@ fn settled_record(fields: &RestFields) -> CTimeWait
         peer_addr: CAddr { byte: peer },
         port: fields.port,
         peer_port: fields.peer.port,
-        snd_nxt: fields.seq.0,
-        rcv_nxt: fields.next.0,
+        snd_nxt: fields.snd_nxt.0,
+        rcv_nxt: fields.rcv_nxt.0,
         rcv_wnd: fields.window,
         shift: fields.shift,
         ack: u8::from(fields.ack),
@@ -142,7 +142,7 @@ fn with_reset(settled: CTimeWait, reset: WaitingReset) -> CTimeWait
 }
 
 /// C's record of this TIME-WAIT record.
-pub(crate) fn record_of(time_wait: &Rest) -> CTimeWait
+pub(crate) fn record_of(time_wait: &TimeWait) -> CTimeWait
     ensures { time_wait_kept result ≡ Some time_wait.now }
 {
     let fields = time_wait.fields();

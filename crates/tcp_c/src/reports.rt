@@ -3,7 +3,7 @@ ghost use Rattle.std.specs.Prelude.{◌≡◌, length, option_map, unwrap_or};
 ghost use Rattle.tcp_conn.specs.Arrival.{after_arrival, arrival_answer};
 ghost use Rattle.tcp_conn.specs.declared.emit.transmit.TheConstants.{EMIT_ROOM};
 ghost use Rattle.tcp_c.specs.Answers.{answer_of, arrival_number, due_number};
-ghost use Rattle.tcp_c.specs.Reports.{brought_number, kind_number, kind_told, next_of, no_arrive_report, no_transmit, rule_number, rule_told, arrive_report_of, transmit_of};
+ghost use Rattle.tcp_c.specs.Reports.{arrive_report_of, brought_number, kind_number, kind_told, next_transmit_of, no_arrive_report, no_transmit, rule_number, rule_told, transmit_of};
 ghost use Rattle.tcp_c.specs.Segments.{after_emission_within, emission_number, nowhere, written_buffer};
 ghost use Rattle.tcp_c.specs.Status.{flag};
 
@@ -213,7 +213,7 @@ pub extern "C" fn tcp_c_transmit(
 #[unsafe(no_mangle)]
 pub extern "C" fn tcp_c_next(handle: &mut Handle, transmit: &mut CTransmit) -> u32
     ensures answer { result ≡ answer_of (emission_number 0 0) handle.old.held.end }
-    ensures transmit { transmit.new ≡ next_of handle.old.held.end }
+    ensures transmit { transmit.new ≡ next_transmit_of handle.old.held.end }
     ensures state { handle.new.held.end ≡ handle.old.held.end }
 {
     *transmit = no_transmit();

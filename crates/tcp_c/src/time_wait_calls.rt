@@ -2,7 +2,7 @@
 ghost use Rattle.std.specs.Prelude.{◌≡◌, ◌≢◌, None, length};
 ghost use Rattle.tcp_conn.specs.Arrival.{arrival_answer, after_arrival};
 ghost use Rattle.tcp_conn.specs.Calls.{abort_answer, after_abort};
-ghost use Rattle.tcp_conn.specs.declared.time_wait.record.TheConstants.{REST_LEN};
+ghost use Rattle.tcp_conn.specs.declared.time_wait.record.TheConstants.{TIME_WAIT_LEN};
 ghost use Rattle.tcp_c.specs.Answers.{done, answer_of, arrival_number, call_number, number_written};
 ghost use Rattle.tcp_c.specs.Calls.{timer_of, timer_number, after_any_timer};
 ghost use Rattle.tcp_c.specs.CTimeWaits.{no_record, time_wait_after, time_wait_answer, time_wait_kept, time_wait_number, time_wait_stands_for, time_wait_reported};
@@ -19,7 +19,7 @@ use crate::handle::Handle;
 use crate::records::{CAddr, CTimeWait};
 use crate::status::{ending_number, phase_number};
 use crate::timing::timer_of;
-use tcp_conn::REST_LEN;
+use tcp_conn::TIME_WAIT_LEN;
 use tcp_wire::Addr;
 
 /// Reports the TIME-WAIT record that can take the end's place: it answers and emits as the end would (RFC 9293,
@@ -35,7 +35,7 @@ pub extern "C" fn tcp_c_time_wait(handle: &mut Handle, time_wait: &mut CTimeWait
     let Some(end) = handle.take() else {
         return NO_END;
     };
-    let found = end.rest();
+    let found = end.time_wait();
     handle.put(end);
     let Some(found) = found else {
         return NOT_TIME_WAIT;
@@ -86,8 +86,8 @@ pub extern "C" fn tcp_c_time_wait_timer(time_wait: &mut CTimeWait, timer: u32) -
 }
 
 /// Writes the segment that is due into the front of `out`, and reports where it goes and its length (RFC 9293,
-/// 3.10.7.4). 33 where `out` has less than [`REST_LEN`] bytes, 53 where none is due, 39 where the fields are those of
-/// no record: then nothing changes.
+/// 3.10.7.4). 33 where `out` has less than [`TIME_WAIT_LEN`] bytes, 53 where none is due, 39 where the fields are those
+/// of no record: then nothing changes.
 #[unsafe(no_mangle)]
 pub extern "C" fn tcp_c_time_wait_emit(
     time_wait: &mut CTimeWait,
@@ -95,11 +95,11 @@ pub extern "C" fn tcp_c_time_wait_emit(
     to: &mut CAddr,
     count: &mut usize,
 ) -> u32
-    ensures answer { result ≡ time_wait_answer (emission_number REST_LEN (length out.old)) (time_wait_stands_for time_wait.old) }
-    ensures bytes { out.new ≡ written_buffer REST_LEN out.old (time_wait_stands_for time_wait.old) }
-    ensures destination { to.new.byte ≡ written_destination REST_LEN (length out.old) (time_wait_stands_for time_wait.old) }
-    ensures count { count.new ≡ number_written (written_length REST_LEN (length out.old)) (time_wait_stands_for time_wait.old) }
-    ensures state { time_wait_kept time_wait.new ≡ time_wait_after (after_emission_within REST_LEN (length out.old)) time_wait.old }
+    ensures answer { result ≡ time_wait_answer (emission_number TIME_WAIT_LEN (length out.old)) (time_wait_stands_for time_wait.old) }
+    ensures bytes { out.new ≡ written_buffer TIME_WAIT_LEN out.old (time_wait_stands_for time_wait.old) }
+    ensures destination { to.new.byte ≡ written_destination TIME_WAIT_LEN (length out.old) (time_wait_stands_for time_wait.old) }
+    ensures count { count.new ≡ number_written (written_length TIME_WAIT_LEN (length out.old)) (time_wait_stands_for time_wait.old) }
+    ensures state { time_wait_kept time_wait.new ≡ time_wait_after (after_emission_within TIME_WAIT_LEN (length out.old)) time_wait.old }
     ensures refused { time_wait_kept time_wait.old ≡ None → time_wait.new ≡ time_wait.old }
 {
     to.byte = [0; 4];
@@ -107,7 +107,7 @@ pub extern "C" fn tcp_c_time_wait_emit(
     let Some(mut kept) = time_wait_of(time_wait) else {
         return NO_TIME_WAIT;
     };
-    if out.len() < REST_LEN {
+    if out.len() < TIME_WAIT_LEN {
         return LITTLE_ROOM;
     }
     let sent = kept.emit(out);
@@ -115,8 +115,8 @@ pub extern "C" fn tcp_c_time_wait_emit(
     report_sent(sent, to, count)
 }
 
-/// Reports the length of the segment that `tcp_c_time_wait_emit` would write now, [`REST_LEN`], or 0 where none is due. 39
-/// where the fields are those of no record.
+/// Reports the length of the segment that `tcp_c_time_wait_emit` would write now, [`TIME_WAIT_LEN`], or 0 where none is
+/// due. 39 where the fields are those of no record.
 #[unsafe(no_mangle)]
 pub extern "C" fn tcp_c_time_wait_pending(time_wait: &CTimeWait, due: &mut u32) -> u32
     ensures answer { result ≡ time_wait_answer (λ _. done) (time_wait_stands_for time_wait.now) }

@@ -4,9 +4,9 @@ pub mod Parting
 pub mod PhaseRows
 mod Strays
 mod Urgent
-pub mod Rests
-mod AtRest
-mod RestArrival
-mod RestLaw
+pub mod TimeWaits
+mod InTimeWait
+mod TimeWaitArrival
+mod TimeWaitLaw
 mod Trains
 mod Together

@@ -66,7 +66,7 @@ bare-waiting s (Some reset) = omega arith
 
 pub bare_short : (s : State) (due : Due) → IsSendable s.sending max_mss due → count_of due ≡ 0 → wire_length (segment_of s due) ≤ HEADER_ROOM
 unfolding segment_of
-bare_short s Reset sendable none = bare-waiting s s.owed.reset
+bare_short s Reset sendable none = bare-waiting s s.pending.reset
 bare_short s Syn sendable none = syn_header_short s
 bare_short s (Text sent) sendable none = bare-plain s (Text sent) sendable none
 bare_short s Acknowledgement sendable none = bare-plain s Acknowledgement sendable none

@@ -38,12 +38,12 @@ numbers-are_blocks next [] = tt
 numbers-are_blocks next (b ∷ bs) = ((omega arith, omega arith), numbers-are_blocks next bs)
 
 pub blocks_to_report-few : (s : State) → length (blocks_to_report s) ≤ 4
-blocks_to_report-few s = cond_both s.link.sack (map (block_numbers s.receiving.next) (blocks s.receiving.inbox)) [] (λ bs. length bs ≤ 4)
-    (λ _. numbers-few s.receiving.next (blocks s.receiving.inbox) (few-blocks s.receiving.inbox)) (λ _. omega arith)
+blocks_to_report-few s = cond_both s.link.sack (map (block_numbers s.receiving.rcv_nxt) (blocks s.receiving.inbox)) [] (λ bs. length bs ≤ 4)
+    (λ _. numbers-few s.receiving.rcv_nxt (blocks s.receiving.inbox) (few-blocks s.receiving.inbox)) (λ _. omega arith)
 
 pub blocks_to_report-are_blocks : (s : State) → AllByRecursion IsBlock (blocks_to_report s)
-blocks_to_report-are_blocks s = cond_both s.link.sack (map (block_numbers s.receiving.next) (blocks s.receiving.inbox)) [] (λ bs. AllByRecursion IsBlock bs)
-    (λ _. numbers-are_blocks s.receiving.next (blocks s.receiving.inbox)) (λ _. tt)
+blocks_to_report-are_blocks s = cond_both s.link.sack (map (block_numbers s.receiving.rcv_nxt) (blocks s.receiving.inbox)) [] (λ bs. AllByRecursion IsBlock bs)
+    (λ _. numbers-are_blocks s.receiving.rcv_nxt (blocks s.receiving.inbox)) (λ _. tt)
 
 -- OPTIONS that report them
 sack-spellable : (bs : List (ℕ × ℕ)) → length bs ≤ 4 → AllByRecursion IsBlock bs → AreSpellable (sack_options bs)
@@ -242,7 +242,7 @@ syn_segment_valid s fits_fields =
       src_port = fits_fields.port;
       dst_port = fits_fields.peer_port;
       seq = omega arith;
-      ack = cond_both s.receiving.opened s.receiving.next 0 (λ n. n < 2 ^ 32) (λ _. fits_fields.next) (λ _. omega arith);
+      ack = cond_both s.receiving.opened s.receiving.rcv_nxt 0 (λ n. n < 2 ^ 32) (λ _. fits_fields.next) (λ _. omega arith);
       reserved = omega arith;
       flags = cond_both s.receiving.opened ack 0 (λ n. syn + n < 2 ^ 8) (λ _. omega arith) (λ _. omega arith);
       window = omega arith;
@@ -264,7 +264,7 @@ syn_header_short s = omega (arith, length_syn_segment s, syn_area-fits (is_some 
 
 pub segment_short : (s : State) (due : Due) → IsSendable s.sending max_mss due → wire_length (segment_of s due) ≤ EMIT_ROOM
 unfolding segment_of
-segment_short s Reset sendable = waiting-short s s.owed.reset
+segment_short s Reset sendable = waiting-short s s.pending.reset
 segment_short s Syn sendable = omega (arith, syn_header_short s)
 segment_short s (Text sent) sendable = plain_segment_short s (Text sent) sendable
 segment_short s Acknowledgement sendable = plain_segment_short s Acknowledgement sendable

@@ -18,7 +18,7 @@ use Rattle.tcp_conn.proofs.Segments.{report_options_short}
 use Rattle.tcp_conn.proofs.Trains.{allowed-parts, is_new_text}
 
 -- text that is allowed follows on what was sent
-allowed-behind : (s : Sending) → 0 < text_allowed s → s.released < s.nxt
+allowed-behind : (s : Sending) → 0 < text_allowed s → s.released < s.snd_nxt
 allowed-behind s some = grind (arith, nat_tests)
 
 -- all segments before the last are full

@@ -32,15 +32,15 @@ use Rattle.tcp_conn.specs.Train.{segments_of_due, text_allowed, train_count, tra
 
 -- WHERE NEW TEXT IS DUE: nothing that comes before it, and so much is allowed
 pub record MaySendNew (s : State) : Type 0 where
-  pub reset : s.owed.reset ≡ None
-  pub syn : s.owed.syn ≡ false
+  pub reset : s.pending.reset ≡ None
+  pub syn : s.pending.syn ≡ false
   pub phase : sends_text s.phase ≡ true
   pub none : resend_of s.sending (text_limit s) s.sending.resend ≡ None
 
 pub record IsNewText (s : State) (start each : ℕ) : Type 0 where
   pub may : MaySendNew s
-  pub at : start ≡ s.sending.nxt
-  pub count : each ≡ new_count s.sending (text_limit s) s.owed.probe
+  pub at : start ≡ s.sending.snd_nxt
+  pub count : each ≡ new_count s.sending (text_limit s) s.pending.probe
   pub some : 0 < each
 
 -- the first of two that may be due, where the other isn't it
@@ -87,7 +87,7 @@ if-sent false x y e = absurd (cc)
 none-again : (s : Sending) (limit start each : ℕ) (range : Option (Range ℕ)) → resend_of s limit range ≡ Some (NewText start each) → ⊥
 unfolding resend_of
 none-again s limit start each None e = cc
-none-again s limit start each (Some range) e = in-run (next_unmarked s.queue (place_of s (max range.start s.una))) e where
+none-again s limit start each (Some range) e = in-run (next_unmarked s.queue (place_of s (max range.start s.snd_una))) e where
   in-run : (run : Option (ℕ × ℕ)) → resent_run s limit range run ≡ Some (NewText start each) → ⊥
   in-run None e = let same = if-sent _ _ _ e in cc
   in-run (Some run) e = let same = if-sent _ _ _ e in cc
@@ -96,15 +96,15 @@ no-fin : (s : Sending) (closing : Bool) (start each : ℕ) → fin_of s closing 
 no-fin s closing start each e = let same = if-sent _ _ _ e in cc
 
 new-text : (s : Sending) (limit start each : ℕ) (probe : Bool) → new_text_of s limit probe ≡ Some (NewText start each)
-    → (start ≡ s.nxt) × (each ≡ new_count s limit probe) × (0 < each)
+    → (start ≡ s.snd_nxt) × (each ≡ new_count s limit probe) × (0 < each)
 unfolding new_text_of
 new-text s limit start each probe e = new-if (new_count s limit probe) e where
-  new-if : (k : ℕ) → (if k == 0 then None else Some (NewText s.nxt k)) ≡ Some (NewText start each) → (start ≡ s.nxt) × (each ≡ k) × (0 < each)
+  new-if : (k : ℕ) → (if k == 0 then None else Some (NewText s.snd_nxt k)) ≡ Some (NewText start each) → (start ≡ s.snd_nxt) × (each ≡ k) × (0 < each)
   new-if zero e = absurd (cc)
   new-if (suc k) e =
       let test : (suc k == 0) ≡ false = grind (arith, nat_tests) in
-      let is : Some (NewText s.nxt (suc k)) ≡ Some (NewText start each) = rw test at e in
-      let at : start ≡ s.nxt = cc is in
+      let is : Some (NewText s.snd_nxt (suc k)) ≡ Some (NewText start each) = rw test at e in
+      let at : start ≡ s.snd_nxt = cc is in
       let count : each ≡ suc k = cc is in
       (at, count, omega arith)
 
@@ -113,19 +113,19 @@ unfolding due_of
 is_new_text s start each due =
     let d = s.sending in
     let limit = text_limit s in
-    let probe = s.owed.probe in
+    let probe = s.pending.probe in
     let new = NewText start each in
     let later = option_or (new_text_of d limit probe) (fin_of d s.closing) in
-    let last = option_or (text_due s) (ack_due s.owed) in
-    let one = next-of (reset_due s.owed.reset) (option_or (syn_due s.owed) last) (Text new) (not-text s.owed.reset new) due in
-    let two = next-of (syn_due s.owed) last (Text new) (no-syn s.owed.syn new) one.1 in
-    let text = first-of (text_due s) (ack_due s.owed) (Text new) (no-ack s.owed.ack new) two.1 in
+    let last = option_or (text_due s) (ack_due s.pending) in
+    let one = next-of (reset_due s.pending.reset) (option_or (syn_due s.pending) last) (Text new) (not-text s.pending.reset new) due in
+    let two = next-of (syn_due s.pending) last (Text new) (no-syn s.pending.syn new) one.1 in
+    let text = first-of (text_due s) (ack_due s.pending) (Text new) (no-ack s.pending.ack new) two.1 in
     let sends = if-some (sends_text s.phase) (option_or (resend_of d limit d.resend) later) new (sent-in (sent_due s) new text) in
     let three = next-of (resend_of d limit d.resend) later new (none-again d limit start each d.resend) sends.1 in
     let is = first-of (new_text_of d limit probe) (fin_of d s.closing) new (no-fin d s.closing start each) three.1 in
     let parts = new-text d limit start each probe is in
     record {
-      may = record { reset = no-reset s.owed.reset one.0; syn = if-none s.owed.syn Syn two.0; phase = sends.0; none = three.0 };
+      may = record { reset = no-reset s.pending.reset one.0; syn = if-none s.pending.syn Syn two.0; phase = sends.0; none = three.0 };
       at = parts.0;
       count = parts.1;
       some = parts.2;
@@ -135,7 +135,7 @@ is_new_text s start each due =
 pub new_text_due : (s : State) (start each : ℕ) → IsNewText s start each → due_of s ≡ Some (Text (NewText start each))
 unfolding due_of new_text_of
 new_text_due s start each new =
-    let test : (new_count s.sending (text_limit s) s.owed.probe == 0) ≡ false = grind (arith, nat_tests, new.count, new.some) in
+    let test : (new_count s.sending (text_limit s) s.pending.probe == 0) ≡ false = grind (arith, nat_tests, new.count, new.some) in
     rw (new.at, new.count, new.may.reset, new.may.syn, new.may.phase, new.may.none, test) refl
 
 pub new_text_not_empty : (s : State) (start each : ℕ) → due_of s ≡ Some (Text (NewText start each)) → 0 < each
@@ -149,11 +149,11 @@ new_text_short s start each due = omega (arith, (is_new_text s start each due).c
 record IsRun (s : State) (more n : ℕ) : Type 0 where
   may : MaySendNew s
   least : more * text_limit s < n
-  text : n ≡ min (suc more * text_limit s) (min (count_unsent s.sending) (count_allowed s.sending s.owed.probe))
-  behind : 0 < more → s.sending.released < s.sending.nxt
+  text : n ≡ min (suc more * text_limit s) (min (count_unsent s.sending) (count_allowed s.sending s.pending.probe))
+  behind : 0 < more → s.sending.released < s.sending.snd_nxt
 
 abbrev new-of : State → ℕ → Due
-new-of s n = Text (NewText s.sending.nxt n)
+new-of s n = Text (NewText s.sending.snd_nxt n)
 
 -- the state after its first segment
 abbrev after-first : State → State
@@ -165,25 +165,25 @@ usable-alone s probe h = grind (arith, nat_tests, h)
 usable-only : (s : Sending) → count_allowed s false ≡ usable_window s
 usable-only s = grind (arith, nat_tests)
 
-resend-same : (s : Sending) (limit n : ℕ) (range : Option (Range ℕ)) → resend_of (record s { nxt = n }) limit range ≡ resend_of s limit range
+resend-same : (s : Sending) (limit n : ℕ) (range : Option (Range ℕ)) → resend_of (record s { snd_nxt = n }) limit range ≡ resend_of s limit range
 unfolding resend_of
 resend-same s limit n None = refl
 resend-same s limit n (Some range) = refl
 
 -- what is due of it
 first-due : (s : State) (n : ℕ) → IsRun s 0 n → due_of s ≡ Some (new-of s n)
-first-due s n h = new_text_due s s.sending.nxt n (record { may = h.may; at = refl; count = omega (arith, h.text); some = omega (arith, h.least) })
+first-due s n h = new_text_due s s.sending.snd_nxt n (record { may = h.may; at = refl; count = omega (arith, h.text); some = omega (arith, h.least) })
 
 more-due : (s : State) (more n : ℕ) → IsRun s (suc more) n → due_of s ≡ Some (new-of s (text_limit s))
 more-due s more n h =
-    new_text_due s s.sending.nxt (text_limit s)
+    new_text_due s s.sending.snd_nxt (text_limit s)
     (record { may = h.may; at = refl; count = omega (arith, h.text, h.least); some = omega (arith, h.text, h.least) })
 
 -- and the rest of it is a run
 goes-on : (s : State) (more n : ℕ) → IsRun s (suc more) n → IsRun (after-first s) more (n - text_limit s)
 goes-on s more n h =
     let d = s.sending in
-    let usable = usable-alone d s.owed.probe (omega (arith, h.text, h.least)) in
+    let usable = usable-alone d s.pending.probe (omega (arith, h.text, h.least)) in
     let usable' = usable-only (after-first s).sending in
     let ahead = h.behind (omega arith) in
     record {
@@ -191,7 +191,7 @@ goes-on s more n h =
         reset = h.may.reset;
         syn = h.may.syn;
         phase = h.may.phase;
-        none = resend-same d (text_limit s) (max d.nxt (d.nxt + text_limit s)) d.resend ∙ h.may.none;
+        none = resend-same d (text_limit s) (max d.snd_nxt (d.snd_nxt + text_limit s)) d.resend ∙ h.may.none;
       };
       least = omega (arith, h.least);
       text = omega (arith, h.text, h.least, usable, usable', ahead);
@@ -207,7 +207,7 @@ formed-same : (s : State) (seq seq' flags flags' : ℕ) (text text' : List ℕ) 
 formed-same s seq seq' flags flags' text text' a b c = cc
 
 -- the text of a run lies in the queue
-inside : (s : State) (more n : ℕ) → IsRun s more n → place_of s.sending s.sending.nxt + n ≤ length s.sending.queue.bytes
+inside : (s : State) (more n : ℕ) → IsRun s more n → place_of s.sending s.sending.snd_nxt + n ≤ length s.sending.queue.bytes
 inside s more n h = omega (arith, h.text, h.least)
 
 cleared : (b : Bool) → without_bit psh (without_bit fin (ack + (if b then psh else 0) + 0)) ≡ ack
@@ -236,11 +236,11 @@ first-piece : (s : State) (more n : ℕ) → IsRun s (suc more) n → piece (tex
 unfolding formed
 first-piece s more n h =
     let d = s.sending in
-    let place = place_of d d.nxt in
+    let place = place_of d d.snd_nxt in
     let isn = s.config.isn.0 in
     let within = inside s (suc more) n h in
-    formed-same s (number isn d.nxt) (number isn d.nxt) _ _ _ _ refl
-    (cleared (pushes d (NewText d.nxt n)) ∙ sym (not-last place (text_limit s) (length d.queue.bytes) (omega (arith, within, h.least))))
+    formed-same s (number isn d.snd_nxt) (number isn d.snd_nxt) _ _ _ _ refl
+    (cleared (pushes d (NewText d.snd_nxt n)) ∙ sym (not-last place (text_limit s) (length d.queue.bytes) (omega (arith, within, h.least))))
     (first-text (text_limit s) n (drop place d.queue.bytes) (omega (arith, h.least)))
 
 -- and what lies behind it is the rest of the run
@@ -250,14 +250,14 @@ unfolding formed
 rest-piece s more n h =
     let d = s.sending in
     let limit = text_limit s in
-    let place = place_of d d.nxt in
+    let place = place_of d d.snd_nxt in
     let ahead = h.behind (omega arith) in
-    let at : place_of d (max d.nxt (d.nxt + limit)) ≡ place + limit = omega (arith, ahead) in
+    let at : place_of d (max d.snd_nxt (d.snd_nxt + limit)) ≡ place + limit = omega (arith, ahead) in
     let more_left : limit < n = omega (arith, h.least) in
     formed-same s _ _ _ _ _ _ (omega arith)
     (ap (λ (b : Bool). ack + (if b then psh else 0) + 0)
-    (still-last place (place_of d (max d.nxt (d.nxt + limit))) limit n (length d.queue.bytes) more_left at))
-    (rest-text limit n place (place_of d (max d.nxt (d.nxt + limit))) d.queue.bytes more_left at)
+    (still-last place (place_of d (max d.snd_nxt (d.snd_nxt + limit))) limit n (length d.queue.bytes) more_left at))
+    (rest-text limit n place (place_of d (max d.snd_nxt (d.snd_nxt + limit))) d.queue.bytes more_left at)
 
 -- ALL OF A RUN
 abbrev enc : State → Content → List ℕ
@@ -291,9 +291,9 @@ unfolding after_emissions
 run-after zero s n h = sym (after-is s 0 (new-of s n) (first-due s n h))
 run-after (suc more) s n h =
     let limit = text_limit s in
-    let nxt = s.sending.nxt in
-    let end : max nxt (nxt + n) ≡ max (max nxt (nxt + limit)) (max nxt (nxt + limit) + (n - limit)) = omega (arith, h.least) in
-    ap (λ k. record s { sending = record s.sending { nxt = k }; owed = record s.owed { ack = false; probe = false } }) end
+    let snd_nxt = s.sending.snd_nxt in
+    let end : max snd_nxt (snd_nxt + n) ≡ max (max snd_nxt (snd_nxt + limit)) (max snd_nxt (snd_nxt + limit) + (n - limit)) = omega (arith, h.least) in
+    ap (λ k. record s { sending = record s.sending { snd_nxt = k }; pending = record s.pending { ack = false; probe = false } }) end
     ∙ run-after more (after-first s) (n - limit) (goes-on s more n h)
     ∙ sym (after-is s (suc more) (new-of s limit) (more-due s more n h))
 
@@ -307,7 +307,7 @@ record Begins (s : State) (each more : ℕ) : Type 0 where
   least : more * each < run-length s each (suc more)
   most : run-length s each (suc more) ≤ suc more * each
 
-pub allowed-parts : (s : Sending) → 0 < text_allowed s → (s.released < s.nxt) × (text_allowed s ≡ min (count_unsent s) (usable_window s))
+pub allowed-parts : (s : Sending) → 0 < text_allowed s → (s.released < s.snd_nxt) × (text_allowed s ≡ min (count_unsent s) (usable_window s))
 allowed-parts s h = grind (arith, nat_tests, h)
 
 usable-first : (s : Sending) (probe : Bool) → 0 < usable_window s → count_allowed s probe ≡ usable_window s
@@ -329,7 +329,7 @@ begins s start each (suc more) new (inr h) =
     let d = s.sending in
     let less = fewer (suc more) (text_allowed d) each new.some h in
     let parts = allowed-parts d (omega (arith, less)) in
-    let usable = usable-first d s.owed.probe (omega (arith, less, parts.1)) in
+    let usable = usable-first d s.pending.probe (omega (arith, less, parts.1)) in
     let same : each ≡ text_limit s = omega (arith, new.count, new.some, less, parts.1, usable) in
     let products : more * each ≡ more * text_limit s = ap (λ n. more * n) same in
     record {
@@ -362,8 +362,8 @@ new-cut s start each more new h =
     let n = run-length s each (suc more) in
     let v = plain_segment s (new-of s n) in
     let size : length v.text ≡ n =
-    length-take-le n (drop (place_of s.sending s.sending.nxt) s.sending.queue.bytes)
-    (omega (arith, inside s more n b.run, length-drop (place_of s.sending s.sending.nxt) s.sending.queue.bytes)) in
+    length-take-le n (drop (place_of s.sending s.sending.snd_nxt) s.sending.queue.bytes)
+    (omega (arith, inside s more n b.run, length-drop (place_of s.sending s.sending.snd_nxt) s.sending.queue.bytes)) in
     ap (λ at. map (enc s) (cut each (plain_segment s (Text (NewText at n))))) new.at
     ∙ ap (λ k. map (enc s) (cut_off ((k - 1) / each) each v)) size
     ∙ ap (λ k. map (enc s) (cut_off k each v)) (pieces-counted more each n new.some b.least b.most)
@@ -389,7 +389,7 @@ waiting-short s (Some reset) = omega arith
 
 text-short : (s : State) (due : Due) → length (segment_of s due).text ≤ count_of due
 unfolding segment_of
-text-short s Reset = waiting-short s s.owed.reset
+text-short s Reset = waiting-short s s.pending.reset
 text-short s Syn = omega arith
 text-short s (Text sent) = simp length-take (omega arith)
 text-short s Acknowledgement = omega arith

@@ -17,12 +17,12 @@ use Rattle.tcp_conn.specs.declared.phase.Phase.TheVariants as phases
 use Rattle.tcp_conn.specs.declared.phase.Phase.TheVariants.{SynReceived, Established, FinWait1}
 use Rattle.tcp_conn.specs.Phase.{is_closed, phase_after_fin, is_syn_received, is_last_ack, takes_text, phase_after_own_fin}
 use Rattle.tcp_halves.specs.Options.{link_of}
-use Rattle.tcp_conn.specs.State.{with_ack_owed, State, Sending}
+use Rattle.tcp_conn.specs.State.{with_ack_pending, State, Sending}
 use Rattle.tcp_conn.specs.Windows.{window_from}
 use Rattle.tcp_halves.specs.Sender.{with_window, after_ack, is_fin_acked, after_window_update, with_syn_sent, with_syn_acked}
 use Rattle.tcp_halves.specs.Receiver.{after_text, is_fin_due, with_fin, with_syn}
 use Rattle.tcp_conn.specs.Blocks.{after_blocks, reported_blocks}
-use Rattle.tcp_conn.specs.Endings.{after_giving_up, after_orderly_end}
+use Rattle.tcp_conn.specs.Endings.{after_discarding, after_orderly_end}
 use Rattle.tcp_conn.specs.Judgement.{count_numbers, answer_of, judgement, position_near}
 
 -- RESETS (RFC 9293, 3.10.7.1): at most one waits, the first that was recorded
@@ -31,7 +31,7 @@ first_reset None reset = Some reset
 first_reset (Some waiting) reset = Some waiting
 
 abbrev pub with_reset : State → WaitingReset → State
-with_reset s reset = record s { owed = record s.owed { reset = first_reset s.owed.reset reset } }
+with_reset s reset = record s { pending = record s.pending { reset = first_reset s.pending.reset reset } }
 
 abbrev pub source_of : List ℕ → Content → Peer
 source_of src v = record { addr = record { 0 = src }; port = v.src_port }
@@ -56,7 +56,7 @@ after_peer_opens s src v = record s {
   link = link_of s.config v.options;
   sending = with_syn_sent s.sending;
   receiving = with_syn s.receiving v.seq;
-  owed = record s.owed { syn = true };
+  pending = record s.pending { syn = true };
 }
 
 -- PEER ACCEPTS: a SYN with ACK in SYN-SENT (3.10.7.3, fourth). The window of a SYN is never scaled.
@@ -66,7 +66,7 @@ after_peer_accepts s v = record s {
   link = link_of s.config v.options;
   sending = with_window (with_syn_acked s.sending) v.seq v.ack v.window;
   receiving = with_syn s.receiving v.seq;
-  owed = record s.owed { syn = false; ack = true };
+  pending = record s.pending { syn = false; ack = true };
 }
 
 -- THIS END'S SYN ACKNOWLEDGED in SYN-RECEIVED (3.10.7.4, fifth): the window is taken, and a waiting close takes effect
@@ -78,7 +78,7 @@ unfoldable pub after_own_syn : State → Content → State
 after_own_syn s v = record s {
   phase = phase_after_own_syn s.phase s.closing;
   sending = if is_syn_received s.phase then with_window (with_syn_acked s.sending) v.seq v.ack (window_from s.link v.window) else s.sending;
-  owed = record s.owed { syn = s.owed.syn && not (is_syn_received s.phase) };
+  pending = record s.pending { syn = s.pending.syn && not (is_syn_received s.phase) };
 }
 
 -- ACKNOWLEDGEMENT of text (3.10.7.4, fifth)
@@ -94,17 +94,17 @@ abbrev pub blocks_used : State → Content → List (ℕ × ℕ)
 blocks_used s v = if s.link.sack then reported_blocks v.options else []
 
 -- WINDOW UPDATE (3.10.7.4, fifth), then the blocks
-abbrev pub with_news : State → Content → Sending
-with_news s v =
+abbrev pub with_window_and_blocks : State → Content → Sending
+with_window_and_blocks s v =
     after_blocks s.config.isn.0 (after_window_update s.sending v.seq v.ack (window_from s.link v.window)) (blocks_used s v)
 
 -- the acknowledgement isn't older than SND.UNA: SND.UNA =< SEG.ACK
 abbrev pub is_current : State → Content → Bool
-is_current s v = nat_le s.sending.una (position_near s v.ack)
+is_current s v = nat_le s.sending.snd_una (position_near s v.ack)
 
 -- from an older acknowledgement neither window nor blocks are taken
-unfoldable pub after_news : State → Content → State
-after_news s v = record s { sending = if is_current s v then with_news s v else s.sending }
+unfoldable pub after_window_and_blocks : State → Content → State
+after_window_and_blocks s v = record s { sending = if is_current s v then with_window_and_blocks s v else s.sending }
 
 -- THIS END'S FIN ACKNOWLEDGED (3.10.7.4, fifth)
 unfoldable pub after_own_fin : State → State
@@ -114,7 +114,7 @@ after_own_fin s =
     else s
 
 unfoldable pub after_its_ack : State → Content → State
-after_its_ack s v = after_own_fin (after_news (after_acked_text (after_own_syn s v) v) v)
+after_its_ack s v = after_own_fin (after_window_and_blocks (after_acked_text (after_own_syn s v) v) v)
 
 -- TEXT (3.10.7.4, seventh) is placed, and an acknowledgement is pending for it
 abbrev pub takes_text_of : State → Content → Bool
@@ -123,7 +123,7 @@ takes_text_of s v = takes_text s.phase && not (length v.text == 0)
 unfoldable pub after_its_text : State → Content → State
 after_its_text s v = record s {
   receiving = if takes_text_of s v then after_text s.receiving v.seq v.text else s.receiving;
-  owed = record s.owed { ack = s.owed.ack || takes_text_of s v };
+  pending = record s.pending { ack = s.pending.ack || takes_text_of s v };
 }
 
 -- THE PEER'S FIN (3.10.7.4, eighth) is acknowledged, and taken where its number is RCV.NXT
@@ -137,7 +137,7 @@ unfoldable pub after_fin : State → Content → State
 after_fin s v = record s {
   phase = if takes_fin s v then phase_after_fin s.phase else s.phase;
   receiving = if takes_fin s v then with_fin s.receiving else s.receiving;
-  owed = record s.owed { ack = s.owed.ack || has_fin s v };
+  pending = record s.pending { ack = s.pending.ack || has_fin s v };
 }
 
 -- TAKEN (3.10.7.4, fifth to eighth)
@@ -145,11 +145,11 @@ unfoldable pub after_taking : State → Content → State
 after_taking s v = after_fin (after_its_text (after_its_ack s v) v) v
 
 -- TAKEN AT A ZERO WINDOW: an acknowledgement shows where the window lies
-abbrev pub with_ack_owed_unless_closed : State → State
-with_ack_owed_unless_closed s = record s { owed = record s.owed { ack = s.owed.ack || not (is_closed s.phase) } }
+abbrev pub with_ack_pending_unless_closed : State → State
+with_ack_pending_unless_closed s = record s { pending = record s.pending { ack = s.pending.ack || not (is_closed s.phase) } }
 
 unfoldable pub after_taking_shut : State → Content → State
-after_taking_shut s v = with_ack_owed_unless_closed (after_its_ack s v)
+after_taking_shut s v = with_ack_pending_unless_closed (after_its_ack s v)
 
 -- THE EFFECT OF EACH JUDGEMENT
 abbrev pub after_judgement : Judgement → State → List ℕ → Content → State
@@ -160,16 +160,16 @@ after_judgement AckOfListen s src v = with_reset s (reset_at_ack src v)
 after_judgement OpensNothing s src v = s
 after_judgement PeerOpens s src v = after_peer_opens s src v
 after_judgement AckOfNoSyn s src v = with_reset s (reset_at_ack src v)
-after_judgement PeerRefuses s src v = after_giving_up s endings.Reset
+after_judgement PeerRefuses s src v = after_discarding s endings.Reset
 after_judgement PeerAccepts s src v = after_peer_accepts s v
-after_judgement Unacceptable s src v = with_ack_owed s
-after_judgement PeerResets s src v = after_giving_up s endings.Reset
-after_judgement ResetElsewhere s src v = with_ack_owed s
-after_judgement SynInWindow s src v = with_ack_owed s
+after_judgement Unacceptable s src v = with_ack_pending s
+after_judgement PeerResets s src v = after_discarding s endings.Reset
+after_judgement ResetElsewhere s src v = with_ack_pending s
+after_judgement SynInWindow s src v = with_ack_pending s
 after_judgement NoAck s src v = s
-after_judgement AcksUnsent s src v = with_ack_owed s
+after_judgement AcksUnsent s src v = with_ack_pending s
 after_judgement HandshakeRefused s src v = with_reset s (reset_at_ack src v)
-after_judgement HandshakeRefusedShut s src v = with_ack_owed (with_reset s (reset_at_ack src v))
+after_judgement HandshakeRefusedShut s src v = with_ack_pending (with_reset s (reset_at_ack src v))
 after_judgement Taken s src v = after_taking s v
 after_judgement TakenShut s src v = after_taking_shut s v
 

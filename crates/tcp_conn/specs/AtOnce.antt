@@ -25,8 +25,8 @@ breaks_order had_gap s v = has fin v.flags || (not (length v.text == 0) && (had_
 -- BY THE RULE that applied to it, in the end `s` after it. Where a segment that wasn't taken is answered by a SYN, a reset or
 -- an acknowledgement, that goes out at once. Text in order alone may wait
 abbrev pub is_urgent : Judgement → Bool → State → Content → Bool
-is_urgent Taken had_gap s v = s.owed.ack && breaks_order had_gap s v
-is_urgent TakenShut had_gap s v = s.owed.ack
+is_urgent Taken had_gap s v = s.pending.ack && breaks_order had_gap s v
+is_urgent TakenShut had_gap s v = s.pending.ack
 is_urgent Foreign had_gap s v = false
 is_urgent ResetIgnored had_gap s v = false
 is_urgent OpensNothing had_gap s v = false

@@ -13,7 +13,7 @@ abbrev pub block_numbers : ℕ → ℕ × ℕ → ℕ × ℕ
 block_numbers next block = (number next block.0, number next block.1)
 
 abbrev pub blocks_to_report : State → List (ℕ × ℕ)
-blocks_to_report s = if s.link.sack then map (block_numbers s.receiving.next) (blocks s.receiving.inbox) else []
+blocks_to_report s = if s.link.sack then map (block_numbers s.receiving.rcv_nxt) (blocks s.receiving.inbox) else []
 
 abbrev pub sack_options : List (ℕ × ℕ) → List OptionContent
 sack_options [] = []

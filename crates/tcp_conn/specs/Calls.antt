@@ -13,12 +13,12 @@ use Rattle.tcp_conn.specs.declared.phase.Ending.TheVariants.{Aborted}
 use Rattle.tcp_conn.specs.declared.phase.Phase.{Phase}
 use Rattle.tcp_conn.specs.declared.phase.Phase.TheVariants as phases
 use Rattle.tcp_conn.specs.declared.phase.Phase.TheVariants.{Listen, SynSent, Established, FinWait1, CloseWait, LastAck}
-use Rattle.tcp_conn.specs.Phase.{is_listening, is_ended, is_closed, resets_on_abort, takes_text, gives_up}
+use Rattle.tcp_conn.specs.Phase.{is_listening, is_ended, is_closed, resets_on_abort, takes_text, discards}
 use Rattle.tcp_conn.specs.State.{State, accepted_count}
 use Rattle.tcp_conn.specs.Windows.{advertised_window}
 use Rattle.tcp_halves.specs.Sender.{with_syn_sent, count_sendable, with_text}
-use Rattle.tcp_halves.specs.Receiver.{after_handing}
-use Rattle.tcp_conn.specs.Endings.{after_giving_up}
+use Rattle.tcp_halves.specs.Receiver.{after_delivering}
+use Rattle.tcp_conn.specs.Endings.{after_discarding}
 
 -- REFUSALS: a refused call answers an error, and the end is as it was
 abbrev pub answer_unless : {A : Type 0} → Option CallError → A → Result A CallError
@@ -48,7 +48,7 @@ with_connection s peer = record s {
   phase = phases.SynSent;
   peer = peer;
   sending = with_syn_sent s.sending;
-  owed = record s.owed { syn = true };
+  pending = record s.pending { syn = true };
 }
 
 unfoldable pub after_connect : State → Peer → State
@@ -76,7 +76,7 @@ after_send s text = state_unless (send_refusal s text) s (record s { sending = w
 -- then the end of the stream.
 abbrev pub receive_refusal : State → Option CallError
 receive_refusal s =
-    option_or (refusal_if (gives_up s.ending) (Ended s.ending)) (refusal_if (is_closed s.phase && not (is_ended s.ending)) NotOpen)
+    option_or (refusal_if (discards s.ending) (Ended s.ending)) (refusal_if (is_closed s.phase && not (is_ended s.ending)) NotOpen)
 
 abbrev pub received_value : State → ℕ → Received
 received_value s room =
@@ -101,8 +101,8 @@ opens_window s room =
 
 abbrev pub with_bytes_received : State → ℕ → State
 with_bytes_received s room = record s {
-  receiving = after_handing s.receiving room;
-  owed = record s.owed { ack = s.owed.ack || opens_window s room };
+  receiving = after_delivering s.receiving room;
+  pending = record s.pending { ack = s.pending.ack || opens_window s room };
 }
 
 unfoldable pub after_receive : State → ℕ → State
@@ -111,7 +111,7 @@ after_receive s room = state_unless (receive_refusal s) s (with_bytes_received s
 -- ACKNOWLEDGE: an acknowledgement is pending, which advertises the window, where the peer's text is taken (RFC 9293,
 -- 3.8.6.2.2). In any other phase the peer has nothing to send, and nothing changes
 unfoldable pub after_acknowledge : State → State
-after_acknowledge s = record s { owed = record s.owed { ack = s.owed.ack || takes_text s.phase } }
+after_acknowledge s = record s { pending = record s.pending { ack = s.pending.ack || takes_text s.phase } }
 
 -- CLOSE (RFC 9293, 3.10.4)
 abbrev pub close_refusal : State → Option CallError
@@ -136,7 +136,7 @@ abbrev pub with_closing : State → State
 with_closing s = record s { closing = true; phase = phase_after_close s.phase }
 
 abbrev pub after_closing : State → State
-after_closing s = if is_unanswered s.phase then record (after_giving_up s Aborted) { closing = true } else with_closing s
+after_closing s = if is_unanswered s.phase then record (after_discarding s Aborted) { closing = true } else with_closing s
 
 unfoldable pub after_close : State → State
 after_close s = state_unless (close_refusal s) s (after_closing s)
@@ -146,13 +146,13 @@ abbrev pub abort_answer : State → Result (Unit {0}) CallError
 abort_answer s = answer_unless (open_refusal s) tt
 
 abbrev pub own_reset : State → WaitingReset
-own_reset s = record { to = s.peer; seq = record { 0 = number s.config.isn.0 s.sending.nxt }; ack = None }
+own_reset s = record { to = s.peer; seq = record { 0 = number s.config.isn.0 s.sending.snd_nxt }; ack = None }
 
 abbrev pub reset_after_abort : State → Option WaitingReset
-reset_after_abort s = if resets_on_abort s.phase then Some (own_reset s) else s.owed.reset
+reset_after_abort s = if resets_on_abort s.phase then Some (own_reset s) else s.pending.reset
 
 abbrev pub with_abort : State → State
-with_abort s = after_giving_up (record s { owed = record s.owed { reset = reset_after_abort s } }) Aborted
+with_abort s = after_discarding (record s { pending = record s.pending { reset = reset_after_abort s } }) Aborted
 
 unfoldable pub after_abort : State → State
 after_abort s = state_unless (open_refusal s) s (with_abort s)

@@ -8,7 +8,7 @@ use Rattle.tcp_halves.specs.declared.sent.Sent.{Sent}
 use Rattle.tcp_halves.specs.Sent as half
 use Rattle.tcp_conn.specs.declared.emit.due.Due.{Due}
 use Rattle.tcp_conn.specs.declared.emit.due.Due.TheVariants.{Reset, Syn, Text, Acknowledgement}
-use Rattle.tcp_conn.specs.declared.owed.Owed.{Owed}
+use Rattle.tcp_conn.specs.declared.pending.Pending.{Pending}
 use Rattle.tcp_conn.specs.Phase.{sends_text}
 use Rattle.tcp_conn.specs.State.{State, Sending}
 use Rattle.tcp_conn.specs.Blocks.{sack_length, blocks_to_report}
@@ -24,7 +24,7 @@ abbrev pub start_of : Sending → Due → ℕ
 start_of s Reset = 0
 start_of s Syn = 0
 start_of s (Text sent) = half.start_of sent
-start_of s Acknowledgement = s.nxt
+start_of s Acknowledgement = s.snd_nxt
 
 -- the length of its text
 abbrev pub count_of : Due → ℕ
@@ -36,7 +36,7 @@ abbrev pub end_of : Sending → Due → ℕ
 end_of s Reset = 0
 end_of s Syn = 1
 end_of s (Text sent) = half.end_of sent
-end_of s Acknowledgement = s.nxt
+end_of s Acknowledgement = s.snd_nxt
 
 -- the text that it carries
 abbrev pub text_of : Sending → Due → List ℕ
@@ -63,7 +63,7 @@ text_limit s = mss_in_use s - sack_length (blocks_to_report s)
 
 -- what is due of the half that sends, in the phases that send text
 abbrev pub sent_due : State → Option Sent
-sent_due s = if sends_text s.phase then sending_due s.sending (text_limit s) s.owed.probe s.closing else None
+sent_due s = if sends_text s.phase then sending_due s.sending (text_limit s) s.pending.probe s.closing else None
 
 abbrev pub text_due : State → Option Due
 text_due s = option_map Text (sent_due s)
@@ -72,17 +72,17 @@ abbrev pub reset_due : Option WaitingReset → Option Due
 reset_due None = None
 reset_due (Some reset) = Some Reset
 
-abbrev pub syn_due : Owed → Option Due
+abbrev pub syn_due : Pending → Option Due
 syn_due o = if o.syn then Some Syn else None
 
-abbrev pub ack_due : Owed → Option Due
+abbrev pub ack_due : Pending → Option Due
 ack_due o = if o.ack then Some Acknowledgement else None
 
 -- AN ACKNOWLEDGEMENT ALONE, where one is pending and no reset or SYN comes before it, whatever text or FIN is due
 -- (RFC 9293, 3.8.6.3)
 unfoldable pub ack_alone : State → Option Due
-ack_alone s = if is_some s.owed.reset || s.owed.syn then None else ack_due s.owed
+ack_alone s = if is_some s.pending.reset || s.pending.syn then None else ack_due s.pending
 
 -- THE ORDER
 unfoldable pub due_of : State → Option Due
-due_of s = option_or (reset_due s.owed.reset) (option_or (syn_due s.owed) (option_or (text_due s) (ack_due s.owed)))
+due_of s = option_or (reset_due s.pending.reset) (option_or (syn_due s.pending) (option_or (text_due s) (ack_due s.pending)))

@@ -6,7 +6,7 @@ use Rattle.tcp_halves.specs.declared.sent.Sent.TheVariants.{NewText}
 use Rattle.tcp_halves.specs.Sent as half
 use Rattle.tcp_conn.specs.declared.emit.due.Due.{Due}
 use Rattle.tcp_conn.specs.declared.emit.due.Due.TheVariants.{Reset, Syn, Text}
-use Rattle.tcp_conn.specs.declared.owed.Owed.{Owed}
+use Rattle.tcp_conn.specs.declared.pending.Pending.{Pending}
 use Rattle.tcp_conn.specs.State.{State, Sending}
 use Rattle.tcp_conn.specs.Due.{due_of, ack_alone, end_of}
 pub use Rattle.tcp_halves.specs.Sent.{range_after}
@@ -23,16 +23,16 @@ resend_after s (Text sent) = half.resend_after s sent
 resend_after s other = s.resend
 
 abbrev pub sending_after : Sending → Due → Sending
-sending_after s due = record s { nxt = max s.nxt (end_of s due); resend = resend_after s due }
+sending_after s due = record s { snd_nxt = max s.snd_nxt (end_of s due); resend = resend_after s due }
 
-abbrev pub owed_after : Bool → Owed → Due → Owed
-owed_after opened o Reset = record o { reset = None }
-owed_after opened o Syn = record o { syn = false; ack = o.ack && not opened }
-owed_after opened o (Text (NewText start count)) = record o { ack = false; probe = false }
-owed_after opened o other = record o { ack = false }
+abbrev pub pending_after : Bool → Pending → Due → Pending
+pending_after opened o Reset = record o { reset = None }
+pending_after opened o Syn = record o { syn = false; ack = o.ack && not opened }
+pending_after opened o (Text (NewText start count)) = record o { ack = false; probe = false }
+pending_after opened o other = record o { ack = false }
 
 abbrev pub state_after : State → Due → State
-state_after s due = record s { sending = sending_after s.sending due; owed = owed_after s.receiving.opened s.owed due }
+state_after s due = record s { sending = sending_after s.sending due; pending = pending_after s.receiving.opened s.pending due }
 
 abbrev pub after_due : State → Option Due → State
 after_due s None = s

@@ -3,7 +3,7 @@ use Rattle.tcp_conn.specs.declared.phase.Ending.{Ending}
 use Rattle.tcp_conn.specs.declared.phase.Ending.TheVariants.{Orderly}
 use Rattle.tcp_conn.specs.declared.phase.Phase.TheVariants as phases
 use Rattle.tcp_conn.specs.declared.phase.Phase.TheVariants.{Closed}
-use Rattle.tcp_conn.specs.Owed.{only_reset_owed}
+use Rattle.tcp_conn.specs.Pending.{only_reset_pending}
 use Rattle.tcp_conn.specs.State.{State}
 use Rattle.tcp_halves.specs.Sender.{without_resend, without_text}
 use Rattle.tcp_halves.specs.Receiver.{without_bytes}
@@ -14,15 +14,15 @@ after_orderly_end s = record s {
   phase = phases.Closed;
   ending = Orderly;
   sending = without_resend s.sending;
-  owed = only_reset_owed s.owed;
+  pending = only_reset_pending s.pending;
 }
 
 -- A RESET OR AN ABORT: what is queued, unread or kept out of order is discarded
-abbrev pub after_giving_up : State → Ending → State
-after_giving_up s ending = record s {
+abbrev pub after_discarding : State → Ending → State
+after_discarding s ending = record s {
   phase = phases.Closed;
   ending = ending;
   sending = without_text s.sending;
   receiving = without_bytes s.receiving;
-  owed = only_reset_owed s.owed;
+  pending = only_reset_pending s.pending;
 }

@@ -24,7 +24,7 @@ pub record IsEndpoint (c : Config) (link : Link) (queue : Queue) (inbox : Inbox)
 pub record FitsFields (s : State) : Type 0 where
   pub port : s.config.port < 2 ^ 16
   pub peer_port : s.peer.port < 2 ^ 16
-  pub next : s.receiving.next < 2 ^ 32
+  pub next : s.receiving.rcv_nxt < 2 ^ 32
   pub mss : s.config.mss ≤ max_mss
   pub shift : unwrap_or s.config.window_shift 0 ≤ max_shift
 
@@ -34,5 +34,5 @@ pub record AlwaysHolds (s : State) : Type 0 where
   pub within : IsWithin s
   pub sends : IsSender s.sending
   pub inbox : IsInbox s.receiving.inbox
-  pub next : s.receiving.next < 2 ^ 32
+  pub next : s.receiving.rcv_nxt < 2 ^ 32
   pub ordered : s.receiving.ordered ≤ max_ordered

@@ -63,7 +63,7 @@ syn_segment s = record {
   src_port = s.config.port;
   dst_port = s.peer.port;
   seq = number s.config.isn.0 0;
-  ack = if s.receiving.opened then s.receiving.next else 0;
+  ack = if s.receiving.opened then s.receiving.rcv_nxt else 0;
   reserved = 0;
   flags = syn + (if s.receiving.opened then ack else 0);
   window = min max_window (window s.receiving.inbox);
@@ -79,7 +79,7 @@ plain_segment s due = record {
   src_port = s.config.port;
   dst_port = s.peer.port;
   seq = number s.config.isn.0 (start_of s.sending due);
-  ack = s.receiving.next;
+  ack = s.receiving.rcv_nxt;
   reserved = 0;
   flags = flags_of s.sending due;
   window = advertised_window s s.receiving.inbox;
@@ -95,7 +95,7 @@ waiting_segment s (Some reset) = reset_segment s reset
 waiting_segment s None = plain_segment s Acknowledgement
 
 unfoldable pub segment_of : State → Due → Content
-segment_of s Reset = waiting_segment s s.owed.reset
+segment_of s Reset = waiting_segment s s.pending.reset
 segment_of s Syn = syn_segment s
 segment_of s (Text sent) = plain_segment s (Text sent)
 segment_of s Acknowledgement = plain_segment s Acknowledgement

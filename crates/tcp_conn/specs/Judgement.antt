@@ -17,7 +17,7 @@ use Rattle.tcp_halves.specs.Sender.{acks_unsent}
 
 -- the position that an acknowledgement number is read as: the nearest to SND.UNA
 abbrev pub position_near : State → ℕ → ℕ
-position_near s w = position_of s.config.isn.0 s.sending.una w
+position_near s w = position_of s.config.isn.0 s.sending.snd_una w
 
 -- SEG.LEN: SYN and FIN take a number each (RFC 9293, 3.4)
 abbrev pub count_numbers : Content → ℕ
@@ -47,7 +47,7 @@ listen_judgement v =
 
 -- it acknowledges this end's SYN, and nothing else was sent
 abbrev pub acks_syn : State → Content → Bool
-acks_syn s v = position_near s v.ack == s.sending.nxt
+acks_syn s v = position_near s v.ack == s.sending.snd_nxt
 
 -- ARRIVAL IN SYN-SENT (3.10.7.3)
 unfoldable pub syn_sent_judgement : State → Content → Judgement
@@ -59,7 +59,7 @@ syn_sent_judgement s v =
 
 -- ACCEPTABILITY in the other states (3.10.7.4, first)
 abbrev pub is_acceptable_segment : State → Content → Bool
-is_acceptable_segment s v = is_acceptable s.receiving.next (window s.receiving.inbox) v.seq (count_numbers v)
+is_acceptable_segment s v = is_acceptable s.receiving.rcv_nxt (window s.receiving.inbox) v.seq (count_numbers v)
 
 -- ACKNOWLEDGEMENT (3.10.7.4, fifth): of this end's SYN in SYN-RECEIVED, else of nothing that wasn't sent
 unfoldable pub ack_judgement : State → Content → Judgement → Judgement → Judgement
@@ -81,22 +81,22 @@ unacceptable_judgement s v =
 -- RESET CHECK, SYN CHECK (3.10.7.4, second and fourth), then the acknowledgement
 unfoldable pub acceptable_judgement : State → Content → Judgement
 acceptable_judgement s v =
-    if has rst v.flags then (if v.seq == s.receiving.next then PeerResets else ResetElsewhere)
+    if has rst v.flags then (if v.seq == s.receiving.rcv_nxt then PeerResets else ResetElsewhere)
     else (if has syn v.flags then SynInWindow
     else (if not (has ack v.flags) then NoAck
     else ack_judgement s v Taken HandshakeRefused))
 
-unfoldable pub present_judgement : State → Content → Judgement
-present_judgement s v = if is_acceptable_segment s v then acceptable_judgement s v else unacceptable_judgement s v
+unfoldable pub judgement_after_syn : State → Content → Judgement
+judgement_after_syn s v = if is_acceptable_segment s v then acceptable_judgement s v else unacceptable_judgement s v
 
 -- WHAT IS READ of an end for it
 pub record IsReadOf (read : JudgedFields) (s : State) : Type 0 where
-  pub rcv_nxt : s.receiving.next ≡ read.rcv_nxt.0
+  pub rcv_nxt : s.receiving.rcv_nxt ≡ read.rcv_nxt.0
   pub rcv_wnd : window s.receiving.inbox ≡ read.rcv_wnd
   pub syn_received : is_syn_received s.phase ≡ read.is_syn_received
   pub isn : s.config.isn.0 ≡ read.isn.0
-  pub snd_una : s.sending.una ≡ read.snd_una
-  pub snd_nxt : s.sending.nxt ≡ read.snd_nxt
+  pub snd_una : s.sending.snd_una ≡ read.snd_una
+  pub snd_nxt : s.sending.snd_nxt ≡ read.snd_nxt
 
 -- THE ORDER
 unfoldable pub phase_judgement : State → Content → Judgement
@@ -104,7 +104,7 @@ phase_judgement s v =
     if is_closed s.phase then closed_judgement v
     else (if is_listening s.phase then listen_judgement v
     else (if is_syn_sent s.phase then syn_sent_judgement s v
-    else present_judgement s v))
+    else judgement_after_syn s v))
 
 unfoldable pub judgement : State → List ℕ → List ℕ → Content → Judgement
 judgement s src dst v = if is_foreign s src dst v then Foreign else phase_judgement s v

@@ -1,7 +1,7 @@
 pub mod Phase
 pub mod Outcome
 pub mod Names
-pub mod Owed
+pub mod Pending
 pub mod State
 pub mod Endpoint
 pub mod Windows
@@ -25,4 +25,4 @@ pub mod AtOnce
 pub mod Taking
 pub mod Stray
 pub mod PhaseTable
-pub mod Rest
+pub mod TimeWait

@@ -8,7 +8,7 @@ use Rattle.tcp_conn.specs.declared.phase.Ending.TheVariants.{NotEnded}
 use Rattle.tcp_conn.specs.declared.phase.Phase.TheVariants as phases
 use Rattle.tcp_conn.specs.declared.phase.Phase.TheVariants.{Closed}
 use Rattle.tcp_halves.specs.Link.{new_link}
-use Rattle.tcp_conn.specs.Owed.{nothing_owed, no_peer}
+use Rattle.tcp_conn.specs.Pending.{nothing_pending, no_peer}
 use Rattle.tcp_conn.specs.State.{IsWithin, State}
 use Rattle.tcp_halves.specs.Sender.{new_sending}
 use Rattle.tcp_halves.specs.Receiver.{new_receiving}
@@ -24,7 +24,7 @@ new_end c = record {
   link = new_link;
   sending = new_sending c.send_capacity;
   receiving = new_receiving c.recv_capacity;
-  owed = nothing_owed;
+  pending = nothing_pending;
 }
 
 -- MAKING AN END answers a new end, the first fault of the Config, or, for a good Config alone, that there is no memory

@@ -70,10 +70,10 @@ is_ended NotEnded = false
 is_ended other = true
 
 -- a reset or an abort discards what is queued, unread or kept out of order
-abbrev pub gives_up : Ending → Bool
-gives_up Reset = true
-gives_up Aborted = true
-gives_up other = false
+abbrev pub discards : Ending → Bool
+discards Reset = true
+discards Aborted = true
+discards other = false
 
 -- the phase after the acknowledgement of this end's FIN (RFC 9293, 3.10.7.4, fifth)
 abbrev pub phase_after_own_fin : Phase → Phase

@@ -24,8 +24,8 @@ pub data Cell : Type 0 where
 abbrev pub Does : Cell → State → Result (Unit {0}) CallError → State → Type 0
 Does (Refused error) s answer after = (answer ≡ Err error) × (after ≡ s)
 Does (LeadsTo phase) s answer after = (answer ≡ Ok tt) × (after.phase ≡ phase) × (after.ending ≡ NotEnded)
-Does Aborts s answer after = (answer ≡ Ok tt) × (after.phase ≡ phases.Closed) × (after.ending ≡ Aborted) × (after.owed.reset ≡ s.owed.reset)
-Does AbortsByReset s answer after = (answer ≡ Ok tt) × (after.phase ≡ phases.Closed) × (after.ending ≡ Aborted) × (after.owed.reset ≡ Some (own_reset s))
+Does Aborts s answer after = (answer ≡ Ok tt) × (after.phase ≡ phases.Closed) × (after.ending ≡ Aborted) × (after.pending.reset ≡ s.pending.reset)
+Does AbortsByReset s answer after = (answer ≡ Ok tt) × (after.phase ≡ phases.Closed) × (after.ending ≡ Aborted) × (after.pending.reset ≡ Some (own_reset s))
 
 -- the timers whose rules can apply in a state
 abbrev pub no_timer : Timer → Bool

@@ -3,7 +3,7 @@
 use Rattle.std.specs.Prelude.{Bool, true}
 use Rattle.tcp_halves.specs.declared.config.Config.{Config}
 use Rattle.tcp_halves.specs.declared.link.Link.{Link}
-use Rattle.tcp_conn.specs.declared.owed.Owed.{Owed}
+use Rattle.tcp_conn.specs.declared.pending.Pending.{Pending}
 use Rattle.tcp_halves.specs.declared.link.Peer.{Peer}
 use Rattle.tcp_conn.specs.declared.phase.Ending.{Ending}
 use Rattle.tcp_conn.specs.declared.phase.Phase.{Phase}
@@ -23,11 +23,11 @@ pub record State : Type 0 where
   pub sending : Sending
   pub receiving : Receiving
   -- what is pending
-  pub owed : Owed
+  pub pending : Pending
 
 -- an end keeps no more than its Config allows
 abbrev pub IsWithin : State → Type 0
 IsWithin s = KeepsWithin s.config.send_capacity s.sending.queue × HoldsWithin s.config.recv_capacity s.receiving.inbox
 
-abbrev pub with_ack_owed : State → State
-with_ack_owed s = record s { owed = record s.owed { ack = true } }
+abbrev pub with_ack_pending : State → State
+with_ack_pending s = record s { pending = record s.pending { ack = true } }

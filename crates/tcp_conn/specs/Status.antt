@@ -12,7 +12,7 @@ use Rattle.tcp_conn.specs.Windows.{own_shift}
 -- THE PEER is known from `connect` on, or from the SYN that came in LISTEN on: once this end's SYN is sent, SND.NXT is after
 -- it. It stays known after the connection has ended
 abbrev pub peer_of : State → Option Peer
-peer_of s = if nat_lt 0 s.sending.nxt then Some s.peer else None
+peer_of s = if nat_lt 0 s.sending.snd_nxt then Some s.peer else None
 
 -- WHAT THE SYNS AGREED ON, once the peer's was taken
 abbrev pub agreed_of : State → Negotiated
@@ -37,4 +37,4 @@ queued_of s = length s.sending.queue.bytes
 
 -- IN FLIGHT: those of them that were sent, the text between SND.UNA and SND.NXT; SYN and FIN aren't counted
 abbrev pub in_flight_of : State → ℕ
-in_flight_of s = count_below s.sending s.sending.nxt
+in_flight_of s = count_below s.sending s.sending.snd_nxt

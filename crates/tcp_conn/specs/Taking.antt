@@ -39,8 +39,8 @@ is_duplicate_ack s v =
     nat_lt 0 (in_flight_of s)
     && ((length v.text == 0)
     && ((not (has syn v.flags) && not (has fin v.flags))
-    && ((position_near s v.ack == s.sending.una)
-    && (window_from s.link v.window == s.sending.wnd))))
+    && ((position_near s v.ack == s.sending.snd_una)
+    && (window_from s.link v.window == s.sending.snd_wnd))))
 
 -- of a segment whose acknowledgement is taken
 abbrev pub is_duplicate_by : Judgement → State → Content → Bool
@@ -57,12 +57,12 @@ is_duplicate s src dst bytes = is_duplicate_reading s src dst (decode_answer src
 
 -- ITS WINDOW IS TAKEN (RFC 9293, 3.10.7.4, fifth): its acknowledgement isn't older than SND.UNA, and by SND.WL1 and SND.WL2
 -- the last window wasn't taken from a newer segment
-abbrev pub is_window_news : State → Content → Bool
-is_window_news s v = is_current s v && is_newer s.sending v.seq v.ack
+abbrev pub takes_window_of : State → Content → Bool
+takes_window_of s v = is_current s v && is_newer s.sending v.seq v.ack
 
 -- once its acknowledgement was taken
 abbrev pub takes_window : State → Content → Bool
-takes_window s v = is_window_news (after_acked_text (after_own_syn s v) v) v
+takes_window s v = takes_window_of (after_acked_text (after_own_syn s v) v) v
 
 -- the SYN that answers this end's has the first window (RFC 9293, 3.10.7.3, fourth)
 abbrev pub takes_window_by : Judgement → State → Content → Bool
@@ -87,7 +87,7 @@ brought_as placed.NotKept = NotKept
 
 abbrev pub brought_text : State → Content → Brought
 brought_text s v =
-    if takes_text_of s v then brought_as (place_answer s.receiving.inbox (offset s.receiving.next v.seq) v.text) else NotKept
+    if takes_text_of s v then brought_as (place_answer s.receiving.inbox (offset s.receiving.rcv_nxt v.seq) v.text) else NotKept
 
 abbrev pub brings : Content → Bool
 brings v = not (length v.text == 0) || has fin v.flags

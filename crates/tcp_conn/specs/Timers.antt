@@ -21,7 +21,7 @@ needs_probe s = sends_text s.phase && is_probe_needed s.sending
 unfoldable pub after_retransmit : State → State
 after_retransmit s = record s {
   sending = if sends_again s then with_all_resent s.sending else s.sending;
-  owed = record s.owed { syn = s.owed.syn || is_handshake s.phase; probe = s.owed.probe || needs_probe s };
+  pending = record s.pending { syn = s.pending.syn || is_handshake s.phase; probe = s.pending.probe || needs_probe s };
 }
 
 -- FIRST SEGMENT AGAIN (RFC 5681, 3.2; RFC 6582, 3.2): of what is in flight, one segment's part goes out again

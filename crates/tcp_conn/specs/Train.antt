@@ -52,7 +52,7 @@ cut each v = cut_off ((length v.text - 1) / each) each v
 -- the last, which may be shorter; no more than `most` of them, and than a buffer of `room` bytes and one segment's greatest
 -- length have room for. Anything else goes alone. (SND.NXT lies behind all that was released once the SYN is acknowledged)
 abbrev pub text_allowed : Sending → ℕ
-text_allowed s = if nat_lt s.released s.nxt then min (count_unsent s) (usable_window s) else 0
+text_allowed s = if nat_lt s.released s.snd_nxt then min (count_unsent s) (usable_window s) else 0
 
 abbrev pub count_for : ℕ → ℕ → ℕ
 count_for text each = (text + (each - 1)) / each
@@ -116,8 +116,8 @@ train_segments s count = segments_of_due s count (due_of s)
 -- where more than one goes: its text follows on what was sent, all but the last are full, and the buffer has room
 pub record IsTogether (s : State) (start each count room : ℕ) : Type 0 where
   pub several : 1 < count
-  pub follows : start ≡ s.sending.nxt
-  pub behind : s.sending.released < s.sending.nxt
+  pub follows : start ≡ s.sending.snd_nxt
+  pub behind : s.sending.released < s.sending.snd_nxt
   pub some : 0 < each
   pub short : each ≤ max_mss
   pub allowed : (count - 1) * each < text_allowed s.sending

@@ -20,7 +20,7 @@ waiting_destination s (Some reset) = reset.to
 waiting_destination s None = s.peer
 
 abbrev pub destination_of : State → Due → Peer
-destination_of s Reset = waiting_destination s s.owed.reset
+destination_of s Reset = waiting_destination s s.pending.reset
 destination_of s other = s.peer
 
 unfoldable pub bytes_of : State → Due → List ℕ

@@ -13,9 +13,9 @@ impl<A: Allocator> Endpoint<A> {
     #[must_use]
     pub fn windows(&self) -> (u32, u32)
         ensures own { result.0 ≡ window self.now.receiving.inbox }
-        ensures peers { result.1 ≡ self.now.sending.wnd }
+        ensures peers { result.1 ≡ self.now.sending.snd_wnd }
     {
-        (self.receiver.inbox.window(), self.sender.wnd)
+        (self.receiver.inbox.window(), self.sender.snd_wnd)
     }
 
     /// The runs that are kept out of order, each by its start and end in bytes from RCV.NXT on. The most recent is

@@ -5,7 +5,7 @@ ghost use Rattle.tcp_conn.specs.State.{IsWithin};
 use crate::endpoint::Endpoint;
 use crate::outcome::{CallError, Received};
 use crate::phase::{Ending, Phase};
-use crate::phases::{gives_up, is_closed, is_ended, is_listening, resets_on_abort, takes_text};
+use crate::phases::{discards, is_closed, is_ended, is_listening, resets_on_abort, takes_text};
 use std::alloc::Allocator;
 use tcp_halves::{Peer, WaitingReset};
 use tcp_wire::Addr;
@@ -27,7 +27,7 @@ impl<A: Allocator> Endpoint<A> {
         self.phase = Phase::SynSent;
         self.peer = Peer { addr, port };
         self.sender.send_syn();
-        self.owed.syn = true;
+        self.pending.syn = true;
         Ok(())
     }
 
@@ -129,7 +129,7 @@ impl<A: Allocator> Endpoint<A> {
         let was_shut = self.advertised_window() == 0;
         let count = self.receiver.read(out);
         let opens = takes_text(self.phase) && was_shut && self.advertised_window() > 0;
-        self.owed.ack = self.owed.ack || opens;
+        self.pending.ack = self.pending.ack || opens;
         if !nothing {
             return Ok(Received::Bytes(count));
         }
@@ -144,7 +144,7 @@ impl<A: Allocator> Endpoint<A> {
     pub(crate) fn receive_refusal(&self) -> Option<CallError>
         ensures { result ≡ receive_refusal self.now }
     {
-        if gives_up(self.ending) {
+        if discards(self.ending) {
             return Some(CallError::Ended(self.ending));
         }
         if is_closed(self.phase) && !is_ended(self.ending) {
@@ -163,7 +163,7 @@ impl<A: Allocator> Endpoint<A> {
     {
         // So that the proof knows the invariant of an end.
         let _ = &self.config;
-        self.owed.ack = self.owed.ack || takes_text(self.phase);
+        self.pending.ack = self.pending.ack || takes_text(self.phase);
     }
 
     /// The user has no more to send (RFC 9293, 3.10.4). In LISTEN and SYN-SENT the connection ends as aborted; in
@@ -232,9 +232,9 @@ impl<A: Allocator> Endpoint<A> {
         ensures { self.new ≡ with_abort self.old }
     {
         if resets_on_abort(self.phase) {
-            self.owed.reset = Some(WaitingReset {
+            self.pending.reset = Some(WaitingReset {
                 to: self.peer,
-                seq: self.number_of(self.sender.nxt),
+                seq: self.number_of(self.sender.snd_nxt),
                 ack: None,
             });
         }

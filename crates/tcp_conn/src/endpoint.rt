@@ -1,8 +1,8 @@
 ghost use Rattle.std.specs.Prelude.{◌≡◌, ◌≤◌, ◌+◌, length};
 ghost use Rattle.tcp_halves.specs.Config.{stream_limit};
-ghost use Rattle.tcp_halves.specs.Receiver.{next_wanted};
+ghost use Rattle.tcp_halves.specs.Receiver.{rcv_position};
 
-use crate::owed::Owed;
+use crate::pending::Pending;
 use crate::phase::{Ending, Phase};
 use std::alloc::{Allocator, Global};
 use std::marker::Model;
@@ -24,7 +24,7 @@ pub struct Endpoint<A: Allocator = Global> {
     pub(crate) sender: Sender<A>,
     pub(crate) receiver: Receiver<A>,
     /// What is pending.
-    pub(crate) owed: Owed,
+    pub(crate) pending: Pending,
 }
 
 impl<A: Allocator> Model for Endpoint<A> {
@@ -34,7 +34,7 @@ impl<A: Allocator> Model for Endpoint<A> {
 
     ghost use Rattle.tcp_conn.specs.Endpoint.{IsEndpoint};
 
-    ghost view = { λ e. record { config = e.config; phase = e.phase; ending = e.ending; closing = e.closing; peer = e.peer; link = e.link; sending = e.sender; receiving = e.receiver; owed = e.owed } };
+    ghost view = { λ e. record { config = e.config; phase = e.phase; ending = e.ending; closing = e.closing; peer = e.peer; link = e.link; sending = e.sender; receiving = e.receiver; pending = e.pending } };
 
     ghost invariant = { λ e. IsEndpoint e.config e.link e.sender.queue e.receiver.inbox };
 }
@@ -75,28 +75,28 @@ impl<A: Allocator> Endpoint<A> {
     /// SND.UNA (RFC 9293, 3.3.1) as a position of this end's direction: the oldest that isn't acknowledged. The SYN is
     /// at 0, byte i of the stream at 1 + i, the FIN after the last byte. 0 where no SYN was sent.
     #[must_use]
-    pub fn una(&self) -> u64
-        ensures value { result ≡ self.now.sending.una }
+    pub fn snd_una(&self) -> u64
+        ensures value { result ≡ self.now.sending.snd_una }
         ensures most { result ≤ 2 + stream_limit }
     {
-        self.sender.una
+        self.sender.snd_una
     }
 
     /// SND.NXT (RFC 9293, 3.3.1) as a position of this end's direction: the next to be sent for the first time. 0 where
     /// no SYN was sent.
     #[must_use]
-    pub fn nxt(&self) -> u64
-        ensures value { result ≡ self.now.sending.nxt }
+    pub fn snd_nxt(&self) -> u64
+        ensures value { result ≡ self.now.sending.snd_nxt }
         ensures most { result ≤ 2 + stream_limit }
     {
-        self.sender.nxt
+        self.sender.snd_nxt
     }
 
     /// RCV.NXT (RFC 9293, 3.3.1) as a position of the peer's direction: 1 and the bytes that came in order, and 1 more
     /// once the peer's FIN was taken. It stays at 2^64 - 1 once it has reached that.
     #[must_use]
-    pub fn next(&self) -> u64
-        ensures { result ≡ next_wanted self.now.receiving }
+    pub fn rcv_position(&self) -> u64
+        ensures { result ≡ rcv_position self.now.receiving }
     {
         self.receiver
             .ordered

@@ -3,7 +3,7 @@
 ghost use Rattle.tcp_conn.specs.AtOnce.{UrgentIsDue};
 ghost use Rattle.tcp_conn.specs.Endpoint.{AlwaysHolds};
 ghost use Rattle.tcp_conn.specs.PhaseTable.{PhaseTable};
-ghost use Rattle.tcp_conn.specs.Rest.{RestIsTheEnd};
+ghost use Rattle.tcp_conn.specs.TimeWait.{TimeWaitIsTheEnd};
 ghost use Rattle.tcp_conn.specs.Stray.{AnswersAsClosed};
 
 use crate::endpoint::Endpoint;
@@ -25,10 +25,10 @@ pub fn what_is_urgent_is_due()
     ensures { UrgentIsDue }
 {}
 
-/// An end in TIME-WAIT and the TIME-WAIT record in its place ([`crate::Rest`]) can't be distinguished: the same
+/// An end in TIME-WAIT and the TIME-WAIT record in its place ([`crate::TimeWait`]) can't be distinguished: the same
 /// answers, bytes and phases, whatever arrives, expires, is emitted or aborted, and however often (RFC 9293, 3.10.7.4).
-pub fn rest_is_the_end()
-    ensures { RestIsTheEnd }
+pub fn time_wait_is_the_end()
+    ensures { TimeWaitIsTheEnd }
 {}
 
 /// The invariant of every end, whatever was done to it (RFC 9293, 3.3.1). What it has queued, unread and out of order
@@ -39,7 +39,7 @@ pub fn what_always_holds<A: Allocator>(endpoint: &Endpoint<A>)
 {
     // So that the proof knows the invariants of an end and of its halves.
     let _ = &endpoint.config;
-    let _ = &endpoint.sender.una;
-    let _ = &endpoint.receiver.next;
+    let _ = &endpoint.sender.snd_una;
+    let _ = &endpoint.receiver.rcv_nxt;
     let _ = endpoint.receiver.inbox.unread();
 }

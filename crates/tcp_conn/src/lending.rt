@@ -60,7 +60,7 @@ impl<A: Allocator> Endpoint<A> {
         let was_shut = self.advertised_window() == 0;
         let taken = self.receiver.consume(count);
         let opens = takes_text(self.phase) && was_shut && self.advertised_window() > 0;
-        self.owed.ack = self.owed.ack || opens;
+        self.pending.ack = self.pending.ack || opens;
         Ok(taken)
     }
 }

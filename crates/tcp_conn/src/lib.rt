@@ -13,7 +13,7 @@
 //!   the segment that is due ([`Parts`]) and `sent` reports its emission. `arrive_vouched` takes what a device has
 //!   checked, and `emit_partial` leaves the checksum to it. `emit_train` writes many segments as one ([`Train`]), for a
 //!   device that cuts them.
-//! - [`Rest`] is the TIME-WAIT record: it takes the place of an end in TIME-WAIT, without buffers.
+//! - [`TimeWait`] is the TIME-WAIT record: it takes the place of an end in TIME-WAIT, without buffers.
 //! - [`stray_reset`] answers a segment for which there is no end (RFC 9293, 3.10.7.1).
 //! - [`laws`]: the invariant of an end, what close, abort and timers do in each phase, and that a TIME-WAIT record acts
 //!   as its end.
@@ -33,7 +33,7 @@ mod lending;
 mod names;
 mod new_end;
 mod outcome;
-mod owed;
+mod pending;
 mod phase;
 mod phases;
 mod status;
@@ -58,6 +58,6 @@ pub use tcp_halves::{
     Config, ConfigError, DEFAULT_LIMIT, MAX_LIMIT, MAX_MSS, MAX_SHIFT, MIN_MSS, Peer, WaitingReset,
 };
 pub use tcp_sendq::MAX_CAPACITY;
-pub use time_wait::fields::RestFields;
-pub use time_wait::record::{REST_LEN, Rest};
+pub use time_wait::fields::TimeWaitFields;
+pub use time_wait::record::{TIME_WAIT_LEN, TimeWait};
 pub use timers::Timers;

@@ -7,7 +7,7 @@ ghost use Rattle.tcp_conn.specs.NewEnd.{MakesEnd, new_end};
 
 use crate::endpoint::Endpoint;
 use crate::fault::fault_of;
-use crate::owed::Owed;
+use crate::pending::Pending;
 use crate::phase::{Ending, Phase};
 use std::alloc::{Allocator, Global};
 use tcp_halves::{Config, ConfigError, DEFAULT_MSS, Link, Peer, Receiver, Sender};
@@ -77,7 +77,7 @@ impl<A: Allocator> Endpoint<A> {
             },
             sender,
             receiver,
-            owed: Owed {
+            pending: Pending {
                 syn: false,
                 ack: false,
                 probe: false,

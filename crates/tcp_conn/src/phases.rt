@@ -1,6 +1,6 @@
 //! What the states of a connection have in common (RFC 9293, 3.3.2), and how it ended.
 ghost use Rattle.std.specs.Prelude.{◌≡◌};
-ghost use Rattle.tcp_conn.specs.Phase.{gives_up, has_peer, is_closed, is_ended, is_handshake, is_listening, is_syn_received, is_time_wait, phase_after_fin, resets_on_abort, sends_text, takes_text};
+ghost use Rattle.tcp_conn.specs.Phase.{discards, has_peer, is_closed, is_ended, is_handshake, is_listening, is_syn_received, is_time_wait, phase_after_fin, resets_on_abort, sends_text, takes_text};
 
 use crate::phase::{Ending, Phase};
 
@@ -100,8 +100,8 @@ pub(crate) fn is_ended(ending: Ending) -> bool
 }
 
 /// Whether what was queued, unread or kept out of order was discarded.
-pub(crate) fn gives_up(ending: Ending) -> bool
-    ensures { result ≡ gives_up ending }
+pub(crate) fn discards(ending: Ending) -> bool
+    ensures { result ≡ discards ending }
 {
     matches!(ending, Ending::Reset | Ending::Aborted)
 }

@@ -32,7 +32,7 @@ impl<A: Allocator> Endpoint<A> {
     pub fn peer(&self) -> Option<Peer>
         ensures { result ≡ peer_of self.now }
     {
-        if self.sender.nxt == 0 {
+        if self.sender.snd_nxt == 0 {
             return None;
         }
         Some(self.peer)
@@ -86,6 +86,6 @@ impl<A: Allocator> Endpoint<A> {
     pub fn in_flight(&self) -> usize
         ensures { result ≡ in_flight_of self.now }
     {
-        self.sender.count_below(self.sender.nxt)
+        self.sender.count_below(self.sender.snd_nxt)
     }
 }

@@ -62,7 +62,7 @@ impl<A: Allocator> Endpoint<A> {
     fn sends_again(&self) -> bool
         ensures { result ≡ sends_again self.now }
     {
-        sends_text(self.phase) && self.sender.una < self.sender.nxt
+        sends_text(self.phase) && self.sender.snd_una < self.sender.snd_nxt
     }
 
     /// Whether a probe has to be granted at the retransmission timeout.
@@ -84,8 +84,8 @@ impl<A: Allocator> Endpoint<A> {
         if again {
             self.sender.resend_all();
         }
-        self.owed.syn = self.owed.syn || handshake;
-        self.owed.probe = self.owed.probe || probe;
+        self.pending.syn = self.pending.syn || handshake;
+        self.pending.probe = self.pending.probe || probe;
         handshake || again || probe
     }
 

@@ -7,7 +7,7 @@ use Rattle.tcp_halves.specs.Marks.{reported_blocks, after_block, after_blocks}
 
 pub after_blocks_append : (iss : ℕ) (s : Sending) (xs ys : List (ℕ × ℕ)) → after_blocks iss s (xs ++ ys) ≡ after_blocks iss (after_blocks iss s xs) ys
 after_blocks_append iss s [] ys = refl
-after_blocks_append iss s (block ∷ xs) ys = after_blocks_append iss (after_block s (position_of iss s.una block.0) (position_of iss s.una block.1)) xs ys
+after_blocks_append iss s (block ∷ xs) ys = after_blocks_append iss (after_block s (position_of iss s.snd_una block.0) (position_of iss s.snd_una block.1)) xs ys
 
 -- the blocks of a first option, and then those of the rest
 pub blocks-after_first : (iss : ℕ) (s s1 : Sending) (options rest : List OptionContent) (first : OptionContent) (blocks : List (ℕ × ℕ)) → options ≡ first ∷ rest

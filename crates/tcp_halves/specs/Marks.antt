@@ -17,7 +17,7 @@ reported_blocks (Unknown kind body ∷ options) = reported_blocks options
 
 -- a block of what was sent and isn't acknowledged. It marks its text, never the FIN
 abbrev pub is_of_flight : Sending → ℕ → ℕ → Bool
-is_of_flight s left right = nat_lt s.una left && (nat_lt left right && nat_le right s.nxt)
+is_of_flight s left right = nat_lt s.snd_una left && (nat_lt left right && nat_le right s.snd_nxt)
 
 abbrev pub marks_text : Sending → ℕ → ℕ → Bool
 marks_text s left right = is_of_flight s left right && nat_lt (place_of s left) (count_below s right)
@@ -32,4 +32,4 @@ after_block s left right = if marks_text s left right then with_marks s left rig
 abbrev pub after_blocks : ℕ → Sending → List (ℕ × ℕ) → Sending
 after_blocks iss s [] = s
 after_blocks iss s (block ∷ blocks) =
-    after_blocks iss (after_block s (position_of iss s.una block.0) (position_of iss s.una block.1)) blocks
+    after_blocks iss (after_block s (position_of iss s.snd_una block.0) (position_of iss s.snd_una block.1)) blocks

@@ -38,7 +38,7 @@ end_of (ResentFin start) = start + 1
 -- RESEND: the first run of unmarked text in the range, as far as the range and the text limit allow. After all text it is the
 -- FIN alone, where the range reaches past it
 abbrev pub resend_start : Sending → Range ℕ → ℕ
-resend_start s range = max range.start s.una
+resend_start s range = max range.start s.snd_una
 
 abbrev pub resent_text : Sending → ℕ → ℕ → ℕ × ℕ → Option Sent
 resent_text s limit end run =
@@ -61,7 +61,7 @@ resend_of s limit (Some range) = resent_run s limit range (next_unmarked s.queue
 -- NEW TEXT: as much as the text limit, the queue and the peer's window allow (RFC 9293, 3.8.6). Where the window allows none,
 -- it is one byte if a probe was granted (RFC 9293, 3.8.6.1)
 abbrev pub usable_window : Sending → ℕ
-usable_window s = (s.una + s.wnd) - s.nxt
+usable_window s = (s.snd_una + s.snd_wnd) - s.snd_nxt
 
 abbrev pub count_allowed : Sending → Bool → ℕ
 count_allowed s probe = if usable_window s == 0 then (if probe then 1 else 0) else usable_window s
@@ -70,11 +70,11 @@ abbrev pub new_count : Sending → ℕ → Bool → ℕ
 new_count s limit probe = min limit (min (count_unsent s) (count_allowed s probe))
 
 unfoldable pub new_text_of : Sending → ℕ → Bool → Option Sent
-new_text_of s limit probe = if new_count s limit probe == 0 then None else Some (NewText s.nxt (new_count s limit probe))
+new_text_of s limit probe = if new_count s limit probe == 0 then None else Some (NewText s.snd_nxt (new_count s limit probe))
 
 -- FIN: after a close, once all text was sent, whatever the window (RFC 9293, 3.10.4)
 abbrev pub fin_of : Sending → Bool → Option Sent
-fin_of s closing = if closing && (s.nxt == end_of_text s) then Some (Fin s.nxt) else None
+fin_of s closing = if closing && (s.snd_nxt == end_of_text s) then Some (Fin s.snd_nxt) else None
 
 -- the first of these that is due
 abbrev pub sending_due : Sending → ℕ → Bool → Bool → Option Sent
@@ -108,4 +108,4 @@ resend_after s (ResentFin start) = range_after (start + 1) s.resend
 resend_after s other = s.resend
 
 abbrev pub sending_after : Sending → Sent → Sending
-sending_after s sent = record s { nxt = max s.nxt (end_of sent); resend = resend_after s sent }
+sending_after s sent = record s { snd_nxt = max s.snd_nxt (end_of sent); resend = resend_after s sent }

@@ -3,7 +3,7 @@ ghost use Rattle.std.specs.Prelude.{◌≡◌, ◌+◌, ◌<◌, ◌++◌, lengt
 ghost use Rattle.tcp_wire.specs.Checksum.{AreBytes};
 ghost use Rattle.tcp_wire.specs.Wire.{max_text_len};
 ghost use Rattle.tcp_halves.specs.Sent.{IsSendable, count_of, text_of};
-ghost use Rattle.tcp_halves.specs.Receiver.{after_handing};
+ghost use Rattle.tcp_halves.specs.Receiver.{after_delivering};
 
 use crate::receiver::Receiver;
 use crate::sender::Sender;
@@ -15,7 +15,7 @@ impl<A: Allocator> Receiver<A> {
     #[tactic(auto, using(crate::proofs::Placing::whole_read, crate::proofs::Placing::capacity_read))]
     pub fn consume(&mut self, most: usize) -> usize
         ensures count { result ≡ min most (length self.old.inbox.unread) }
-        ensures state { self.new ≡ after_handing self.old most }
+        ensures state { self.new ≡ after_delivering self.old most }
         ensures capacity { self.new.inbox.capacity ≡ self.old.inbox.capacity }
         ensures whole { length self.new.inbox.unread + length self.new.inbox.held ≡ self.new.inbox.capacity }
     {

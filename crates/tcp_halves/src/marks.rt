@@ -11,22 +11,22 @@ use tcp_wire::{OptionsLeft, Seq, TcpOption};
 impl<A: Allocator> Sender<A> {
     /// The position that a number is read as: the nearest to SND.UNA (RFC 9293, 3.4).
     fn position_of(&self, iss: Seq, number: Seq) -> u64
-        ensures { result ≡ position_of iss.0 self.now.una number.0 }
+        ensures { result ≡ position_of iss.0 self.now.snd_una number.0 }
     {
-        number.position(iss, self.una)
+        number.position(iss, self.snd_una)
     }
 
     /// Marks the text of a block of what is in flight (RFC 2018, 5), never the FIN.
     #[tactic(auto, unfolding(crate::specs::Marks::after_block, tcp_sendq::specs::SendQueue::after_mark))]
     fn mark(&mut self, left: u64, right: u64)
         ensures state { self.new ≡ after_block self.old left right }
-        ensures una { self.new.una ≡ self.old.una }
+        ensures snd_una { self.new.snd_una ≡ self.old.snd_una }
         ensures capacity { self.new.queue.capacity ≡ self.old.queue.capacity }
         ensures queued { length self.new.queue.bytes ≤ self.new.queue.capacity }
     {
         let from = self.place_of(left);
         let to = self.count_below(right);
-        let of_flight = self.una < left && left < right && right <= self.nxt;
+        let of_flight = self.snd_una < left && left < right && right <= self.snd_nxt;
         if of_flight && from < to as u64 {
             self.queue.mark(from as usize, to);
         }
@@ -41,7 +41,7 @@ impl<A: Allocator> Sender<A> {
         match blocks {
             [] => {
                 // So that the proof knows the invariant of a sender.
-                let _ = &self.una;
+                let _ = &self.snd_una;
             }
             [first, rest @ ..] => {
                 let left = self.position_of(iss, first.0);
@@ -59,7 +59,7 @@ impl<A: Allocator> Sender<A> {
         ensures queued { length self.new.queue.bytes ≤ self.new.queue.capacity }
     {
         // So that the proof knows the invariant of a sender.
-        let _ = &self.una;
+        let _ = &self.snd_una;
         let mut left = options;
         while let Some(option) = left.next() {
             if let TcpOption::Sack(blocks) = option {

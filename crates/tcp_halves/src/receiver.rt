@@ -3,7 +3,7 @@ ghost use Rattle.tcp_reasm.specs.Reassembly.{max_capacity, place_answer, window}
 ghost use Rattle.tcp_halves.specs.Receiver.{Receiving};
 ghost use Rattle.tcp_wire.specs.Position.{offset};
 ghost use Rattle.tcp_wire.specs.Wire.{max_text_len};
-ghost use Rattle.tcp_halves.specs.Receiver.{new_receiving, with_syn, after_text, is_fin_due, with_fin, after_handing, without_bytes};
+ghost use Rattle.tcp_halves.specs.Receiver.{new_receiving, with_syn, after_text, is_fin_due, with_fin, after_delivering, without_bytes};
 
 use crate::config::Config;
 use arrayvec::ArrayVec;
@@ -18,7 +18,7 @@ pub struct Receiver<A: Allocator = Global> {
     /// Whether the peer's SYN was taken.
     pub opened: bool,
     /// RCV.NXT, once the peer's SYN was taken.
-    pub next: Seq,
+    pub rcv_nxt: Seq,
     /// The text bytes that came in order; the count stays at its maximum once it has reached it.
     pub ordered: u64,
     /// Whether the peer's FIN was taken.
@@ -33,9 +33,9 @@ impl<A: Allocator> Model for Receiver<A> {
 
     ghost Value = { Receiving };
 
-    ghost view = { λ r. record { opened = r.opened; next = r.next.0; ordered = r.ordered; finished = r.finished; inbox = r.inbox } };
+    ghost view = { λ r. record { opened = r.opened; rcv_nxt = r.rcv_nxt.0; ordered = r.ordered; finished = r.finished; inbox = r.inbox } };
 
-    ghost invariant = { λ r. (r.next.0 < 2 ^ 32) × (r.ordered < 2 ^ 64) × (length r.inbox.unread + length r.inbox.held ≡ r.inbox.capacity) };
+    ghost invariant = { λ r. (r.rcv_nxt.0 < 2 ^ 32) × (r.ordered < 2 ^ 64) × (length r.inbox.unread + length r.inbox.held ≡ r.inbox.capacity) };
 }
 
 impl<A: Allocator> Receiver<A> {
@@ -49,7 +49,7 @@ impl<A: Allocator> Receiver<A> {
         let inbox = Reassembly::new_in(alloc, config.recv_capacity)?;
         Ok(Receiver {
             opened: false,
-            next: Seq(0),
+            rcv_nxt: Seq(0),
             ordered: 0,
             finished: false,
             inbox,
@@ -73,17 +73,17 @@ impl<A: Allocator> Receiver<A> {
         ensures whole { length self.new.inbox.unread + length self.new.inbox.held ≡ self.new.inbox.capacity }
     {
         self.opened = true;
-        self.next = seq.plus(1);
+        self.rcv_nxt = seq.plus(1);
     }
 
     /// How far ahead of RCV.NXT a number is; negative where it is before it.
     #[tactic(auto, using(tcp_wire::proofs::Lemmas::offset_ahead, tcp_wire::proofs::Lemmas::offset_behind))]
     fn offset_of(&self, seq: Seq) -> i64
-        ensures value { result ≡ offset self.now.next seq.0 }
+        ensures value { result ≡ offset self.now.rcv_nxt seq.0 }
         ensures least { negsuc 2147483647 ≤ℤ result }
         ensures most { result <ℤ pos 2147483648 }
     {
-        let ahead = i64::from(seq.minus(self.next));
+        let ahead = i64::from(seq.minus(self.rcv_nxt));
         if ahead < 1 << 31 {
             ahead
         } else {
@@ -95,7 +95,7 @@ impl<A: Allocator> Receiver<A> {
     #[tactic(auto, using(crate::proofs::Placing::length_placed, crate::proofs::Placing::capacity_placed), unfolding(crate::specs::Receiver::after_text))]
     pub fn place(&mut self, seq: Seq, text: &[u8]) -> Placed
         requires { length text.now ≤ max_text_len }
-        ensures answer { result ≡ place_answer self.old.inbox (offset self.old.next seq.0) text.now }
+        ensures answer { result ≡ place_answer self.old.inbox (offset self.old.rcv_nxt seq.0) text.now }
         ensures state { self.new ≡ after_text self.old seq.0 text.now }
         ensures capacity { self.new.inbox.capacity ≡ self.old.inbox.capacity }
         ensures whole { length self.new.inbox.unread + length self.new.inbox.held ≡ self.new.inbox.capacity }
@@ -106,7 +106,7 @@ impl<A: Allocator> Receiver<A> {
             Placed::Advanced(count) => count as u32,
             Placed::Held | Placed::NotKept => 0,
         };
-        self.next = self.next.plus(count);
+        self.rcv_nxt = self.rcv_nxt.plus(count);
         self.ordered = self.ordered.saturating_add(u64::from(count));
         placed
     }
@@ -115,7 +115,7 @@ impl<A: Allocator> Receiver<A> {
     pub fn is_fin_due(&self, number: Seq) -> bool
         ensures { result ≡ is_fin_due self.now number.0 }
     {
-        number == self.next && self.window() > 0
+        number == self.rcv_nxt && self.window() > 0
     }
 
     /// Takes the peer's FIN, and discards what is kept out of order (RFC 9293, 3.10.7.4, eighth).
@@ -125,7 +125,7 @@ impl<A: Allocator> Receiver<A> {
         ensures capacity { self.new.inbox.capacity ≡ self.old.inbox.capacity }
         ensures whole { length self.new.inbox.unread + length self.new.inbox.held ≡ self.new.inbox.capacity }
     {
-        self.next = self.next.plus(1);
+        self.rcv_nxt = self.rcv_nxt.plus(1);
         self.finished = true;
         self.inbox.clear_held();
     }
@@ -136,7 +136,7 @@ impl<A: Allocator> Receiver<A> {
     pub fn read(&mut self, out: &mut [u8]) -> usize
         ensures count { result ≡ min (length out.old) (length self.old.inbox.unread) }
         ensures bytes { out.new ≡ take result self.old.inbox.unread ++ drop result out.old }
-        ensures state { self.new ≡ after_handing self.old (length out.old) }
+        ensures state { self.new ≡ after_delivering self.old (length out.old) }
         ensures capacity { self.new.inbox.capacity ≡ self.old.inbox.capacity }
         ensures whole { length self.new.inbox.unread + length self.new.inbox.held ≡ self.new.inbox.capacity }
     {
@@ -145,7 +145,7 @@ impl<A: Allocator> Receiver<A> {
 
     /// Discards what is unread or kept out of order: the connection has ended by a reset or an abort.
     #[tactic(auto, using(crate::proofs::Placing::whole_empty))]
-    pub fn give_up(&mut self)
+    pub fn discard(&mut self)
         ensures state { self.new ≡ without_bytes self.old }
         ensures capacity { self.new.inbox.capacity ≡ self.old.inbox.capacity }
         ensures whole { length self.new.inbox.unread + length self.new.inbox.held ≡ self.new.inbox.capacity }

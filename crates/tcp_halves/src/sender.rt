@@ -15,10 +15,10 @@ use tcp_wire::Seq;
 /// at `1 + released + i`, the FIN after the last byte. Its fields are public to read; its methods keep its invariant.
 #[derive(Debug, Drop)]
 pub struct Sender<A: Allocator = Global> {
-    /// SND.UNA, the oldest position that isn't acknowledged; at most `nxt`.
-    pub una: u64,
+    /// SND.UNA, the oldest position that isn't acknowledged; at most `snd_nxt`.
+    pub snd_una: u64,
     /// SND.NXT, the next position to be sent; at most the one after the FIN of a full direction.
-    pub nxt: u64,
+    pub snd_nxt: u64,
     /// The text bytes that acknowledgements have released.
     pub released: u64,
     /// The text after those: accepted, and not released.
@@ -26,10 +26,10 @@ pub struct Sender<A: Allocator = Global> {
     /// What a retransmission still has to send again, as positions.
     pub resend: Option<Range<u64>>,
     /// SND.WND, in bytes.
-    pub wnd: u32,
+    pub snd_wnd: u32,
     /// SND.WL1 and SND.WL2, SEG.SEQ and SEG.ACK of the segment that the window was taken from.
-    pub wl1: Seq,
-    pub wl2: Seq,
+    pub snd_wl1: Seq,
+    pub snd_wl2: Seq,
 }
 
 impl<A: Allocator> Model for Sender<A> {
@@ -39,9 +39,9 @@ impl<A: Allocator> Model for Sender<A> {
 
     ghost use Rattle.tcp_halves.specs.Sender.{IsSender};
 
-    ghost view = { λ s. record { una = s.una; nxt = s.nxt; released = s.released; queue = s.queue; resend = s.resend; wnd = s.wnd; wl1 = s.wl1.0; wl2 = s.wl2.0 } };
+    ghost view = { λ s. record { snd_una = s.snd_una; snd_nxt = s.snd_nxt; released = s.released; queue = s.queue; resend = s.resend; snd_wnd = s.snd_wnd; snd_wl1 = s.snd_wl1.0; snd_wl2 = s.snd_wl2.0 } };
 
-    ghost invariant = { λ s. IsSender (record { una = s.una; nxt = s.nxt; released = s.released; queue = s.queue; resend = s.resend; wnd = s.wnd; wl1 = s.wl1.0; wl2 = s.wl2.0 }) };
+    ghost invariant = { λ s. IsSender (record { snd_una = s.snd_una; snd_nxt = s.snd_nxt; released = s.released; queue = s.queue; resend = s.resend; snd_wnd = s.snd_wnd; snd_wl1 = s.snd_wl1.0; snd_wl2 = s.snd_wl2.0 }) };
 }
 
 impl<A: Allocator> Sender<A> {
@@ -53,14 +53,14 @@ impl<A: Allocator> Sender<A> {
     {
         let queue = SendQueue::new_in(alloc, config.send_capacity)?;
         Ok(Sender {
-            una: 0,
-            nxt: 0,
+            snd_una: 0,
+            snd_nxt: 0,
             released: 0,
             queue,
             resend: None,
-            wnd: 0,
-            wl1: Seq(0),
-            wl2: Seq(0),
+            snd_wnd: 0,
+            snd_wl1: Seq(0),
+            snd_wl2: Seq(0),
         })
     }
 }
@@ -101,8 +101,8 @@ impl<A: Allocator> Sender<A> {
         ensures capacity { self.new.queue.capacity ≡ self.old.queue.capacity }
         ensures queued { length self.new.queue.bytes ≤ self.new.queue.capacity }
     {
-        self.una = 0;
-        self.nxt = 1;
+        self.snd_una = 0;
+        self.snd_nxt = 1;
     }
 
     /// This end's SYN was emitted: SND.NXT is at least the position after it (RFC 9293, 3.4).
@@ -111,7 +111,7 @@ impl<A: Allocator> Sender<A> {
         ensures capacity { self.new.queue.capacity ≡ self.old.queue.capacity }
         ensures queued { length self.new.queue.bytes ≤ self.new.queue.capacity }
     {
-        self.nxt = self.nxt.max(1);
+        self.snd_nxt = self.snd_nxt.max(1);
     }
 
     /// This end's SYN is acknowledged, by a segment that advertises a window (RFC 9293, 3.10.7.3 and 3.10.7.4).
@@ -120,10 +120,10 @@ impl<A: Allocator> Sender<A> {
         ensures capacity { self.new.queue.capacity ≡ self.old.queue.capacity }
         ensures queued { length self.new.queue.bytes ≤ self.new.queue.capacity }
     {
-        self.una = self.nxt;
-        self.wnd = window;
-        self.wl1 = seq;
-        self.wl2 = ack;
+        self.snd_una = self.snd_nxt;
+        self.snd_wnd = window;
+        self.snd_wl1 = seq;
+        self.snd_wl2 = ack;
     }
 
     /// Releases the text below an acknowledgement that is after SND.UNA and up to SND.NXT; else nothing changes (RFC
@@ -134,9 +134,9 @@ impl<A: Allocator> Sender<A> {
         ensures capacity { self.new.queue.capacity ≡ self.old.queue.capacity }
         ensures queued { length self.new.queue.bytes ≤ self.new.queue.capacity }
     {
-        if self.una < ack && ack <= self.nxt {
+        if self.snd_una < ack && ack <= self.snd_nxt {
             let count = self.count_below(ack);
-            self.una = ack;
+            self.snd_una = ack;
             self.released += count as u64;
             self.queue.release(count);
         }
@@ -151,12 +151,12 @@ impl<A: Allocator> Sender<A> {
         ensures capacity { self.new.queue.capacity ≡ self.old.queue.capacity }
         ensures queued { length self.new.queue.bytes ≤ self.new.queue.capacity }
     {
-        let follows = self.wl1 == seq && (self.wl2.before(ack) || self.wl2 == ack);
-        let is_newer = self.wl1.before(seq) || follows;
+        let follows = self.snd_wl1 == seq && (self.snd_wl2.before(ack) || self.snd_wl2 == ack);
+        let is_newer = self.snd_wl1.before(seq) || follows;
         if is_newer {
-            self.wnd = window;
-            self.wl1 = seq;
-            self.wl2 = ack;
+            self.snd_wnd = window;
+            self.snd_wl1 = seq;
+            self.snd_wl2 = ack;
         }
         is_newer
     }
@@ -170,7 +170,7 @@ impl<A: Allocator> Sender<A> {
         ensures queued { length self.new.queue.bytes ≤ self.new.queue.capacity }
     {
         self.queue.forget_marks();
-        self.resend = Some(self.una..self.nxt);
+        self.resend = Some(self.snd_una..self.snd_nxt);
     }
 
     /// Sends the first segment of what is in flight again, with at most `limit` bytes of data, and nothing else of it
@@ -180,7 +180,7 @@ impl<A: Allocator> Sender<A> {
         ensures capacity { self.new.queue.capacity ≡ self.old.queue.capacity }
         ensures queued { length self.new.queue.bytes ≤ self.new.queue.capacity }
     {
-        self.resend = Some(self.una..self.nxt.min(self.una + u64::from(limit)));
+        self.resend = Some(self.snd_una..self.snd_nxt.min(self.snd_una + u64::from(limit)));
     }
 
     /// What lies before the offset `end` in the queue has to be sent again (RFC 2018, 5).
@@ -190,7 +190,7 @@ impl<A: Allocator> Sender<A> {
         ensures capacity { self.new.queue.capacity ≡ self.old.queue.capacity }
         ensures queued { length self.new.queue.bytes ≤ self.new.queue.capacity }
     {
-        self.resend = Some(self.una..1 + self.released + end as u64);
+        self.resend = Some(self.snd_una..1 + self.released + end as u64);
     }
 
     /// Whether a probe is needed: nothing is in flight, text is unsent, and the peer's window is zero (RFC 9293,
@@ -198,7 +198,7 @@ impl<A: Allocator> Sender<A> {
     pub fn is_probe_needed(&self) -> bool
         ensures { result ≡ is_probe_needed self.now }
     {
-        self.una == self.nxt && self.count_unsent() > 0 && self.wnd == 0
+        self.snd_una == self.snd_nxt && self.count_unsent() > 0 && self.snd_wnd == 0
     }
 
     /// How many bytes of a long text fit the queue and the limit of the direction.
@@ -227,18 +227,18 @@ impl<A: Allocator> Sender<A> {
     pub(crate) fn count_unsent(&self) -> u64
         ensures { result ≡ count_unsent self.now }
     {
-        (self.queue.len() as u64).saturating_sub(self.place_of(self.nxt))
+        (self.queue.len() as u64).saturating_sub(self.place_of(self.snd_nxt))
     }
 
     /// Whether this end's FIN was sent, and all that was sent is acknowledged (RFC 9293, 3.10.7.4, fifth).
     pub fn is_fin_acked(&self) -> bool
         ensures { result ≡ is_fin_acked self.now }
     {
-        self.end_of_text() < self.nxt && self.una == self.nxt
+        self.end_of_text() < self.snd_nxt && self.snd_una == self.snd_nxt
     }
 
     /// Discards what is queued: the connection has ended by a reset or an abort.
-    pub fn give_up(&mut self)
+    pub fn discard(&mut self)
         ensures state { self.new ≡ without_text self.old }
         ensures capacity { self.new.queue.capacity ≡ self.old.queue.capacity }
         ensures queued { length self.new.queue.bytes ≤ self.new.queue.capacity }

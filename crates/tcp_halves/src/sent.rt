@@ -87,7 +87,7 @@ impl<A: Allocator> Sender<A> {
         ensures sendable { IfSome result (IsSendable self.now limit) }
     {
         let range = self.resend.as_ref()?;
-        let start = range.start.max(self.una);
+        let start = range.start.max(self.snd_una);
         match self.queue.next_unmarked(self.place_of(start) as usize) {
             Some((from, to)) => self.resent_text(limit, range.end, from, to),
             None => self.resent_fin(start, range.end),
@@ -111,11 +111,11 @@ impl<A: Allocator> Sender<A> {
 
     /// This end's FIN, where its position is from `start` on and before `end`.
     fn resent_fin(&self, start: u64, end: u64) -> Option<Sent>
-        ensures value { (range : Range ℕ) → max range.start self.now.una ≡ start → range.end ≡ end → result ≡ resent_fin self.now range }
+        ensures value { (range : Range ℕ) → max range.start self.now.snd_una ≡ start → range.end ≡ end → result ≡ resent_fin self.now range }
         ensures sendable { (limit : ℕ) → IfSome result (IsSendable self.now limit) }
     {
         // So that the proof knows the invariant of a sender.
-        let _ = &self.una;
+        let _ = &self.snd_una;
         let fin = self.end_of_text();
         if fin < end && start <= fin {
             Some(Sent::ResentFin(fin))
@@ -131,7 +131,7 @@ impl<A: Allocator> Sender<A> {
         ensures value { result ≡ new_text_of self.now limit probe }
         ensures sendable { IfSome result (IsSendable self.now limit) }
     {
-        let usable = (self.una + u64::from(self.wnd)).saturating_sub(self.nxt);
+        let usable = (self.snd_una + u64::from(self.snd_wnd)).saturating_sub(self.snd_nxt);
         let allowed = if usable == 0 {
             u64::from(probe)
         } else {
@@ -141,7 +141,7 @@ impl<A: Allocator> Sender<A> {
         if count == 0 {
             return None;
         }
-        Some(Sent::NewText(self.nxt, count as usize))
+        Some(Sent::NewText(self.snd_nxt, count as usize))
     }
 
     /// This end's FIN, once all text was sent (RFC 9293, 3.10.4).
@@ -149,8 +149,8 @@ impl<A: Allocator> Sender<A> {
         ensures value { result ≡ fin_of self.now closing }
         ensures sendable { (limit : ℕ) → IfSome result (IsSendable self.now limit) }
     {
-        if closing && self.nxt == self.end_of_text() {
-            Some(Sent::Fin(self.nxt))
+        if closing && self.snd_nxt == self.end_of_text() {
+            Some(Sent::Fin(self.snd_nxt))
         } else {
             None
         }
@@ -208,7 +208,7 @@ impl<A: Allocator> Sender<A> {
         ensures queued { length self.new.queue.bytes ≤ self.new.queue.capacity }
     {
         let end = sent.end();
-        self.nxt = self.nxt.max(end);
+        self.snd_nxt = self.snd_nxt.max(end);
         if matches!(sent, Sent::Resend(..) | Sent::ResentFin(_)) {
             if let Some(range) = &mut self.resend {
                 range.start = end;

@@ -11,7 +11,7 @@ use Rattle.tcp_halves.specs.Config.{IsConfig}
 use Rattle.tcp_replay.specs.Solo.{SoloState, solo_start, solo_run, run_alone, after_solo, segment_alone, segment_due}
 use Rattle.tcp_replay.specs.SoloEvents.{SoloContent, HasRanges, Emit, EmitAcknowledgement, Arrive}
 use Rattle.tcp_replay.specs.Truthful.{IsOfUser}
-use Rattle.tcp_replay.proofs.SoloRuns.{one_end_is_true_lem, content-is}
+use Rattle.tcp_replay.proofs.one_end.SoloRuns.{one_end_is_true_lem, content-is}
 use Rattle.tcp_judge.specs.Known.{Known, nothing_known}
 use Rattle.tcp_judge.specs.Log.{PassageContent, Came, Went, went_from, log_of, log_alone}
 use Rattle.tcp_judge.specs.Judgement.{finding_read, known_read, known_came, first_finding, placed_or, IsClean}

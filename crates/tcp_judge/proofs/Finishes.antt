@@ -12,24 +12,24 @@ use Rattle.tcp_conn.specs.Phase.{takes_text}
 use Rattle.tcp_conn.specs.Calls.{receive_refusal}
 use Rattle.tcp_reasm.specs.Reassembly.{after_read}
 use Rattle.tcp_conn.specs.State.{State, Receiving}
-use Rattle.tcp_halves.specs.Receiver.{with_syn, after_text, is_fin_due, with_fin, after_handing, without_bytes}
+use Rattle.tcp_halves.specs.Receiver.{with_syn, after_text, is_fin_due, with_fin, after_delivering, without_bytes}
 use Rattle.tcp_conn.specs.Judgement.{judgement}
 use Rattle.tcp_conn.specs.Arrival.{after_its_ack}
 use Rattle.tcp_conn.specs.Arrival.{takes_text_of, after_its_text, has_fin, takes_fin, after_fin, after_taking, after_taking_shut, after_judgement}
 use Rattle.tcp_replay.specs.Alone.{IsAlone}
 use Rattle.tcp_replay.specs.World.{PartyState}
 use Rattle.tcp_replay.proofs.Lists.{by_test}
-use Rattle.tcp_replay.proofs.Phases.{end-takes_text}
-use Rattle.tcp_replay.proofs.Judgements.{IsPresent, IsTaken, judged}
-use Rattle.tcp_replay.proofs.Alone.{alone-its_ack, alone-its_text}
-use Rattle.tcp_replay.proofs.Calls.{KeptByCalls}
-use Rattle.tcp_replay.proofs.Stages.{its_ack-receiving}
-use Rattle.tcp_replay.proofs.AloneFeeds.{opened-by_peer, accepted-by_peer}
+use Rattle.tcp_replay.proofs.one_end.Phases.{end-takes_text}
+use Rattle.tcp_replay.proofs.one_end.Judgements.{IsAfterSyn, IsTaken, judged}
+use Rattle.tcp_replay.proofs.one_end.Alone.{alone-its_ack, alone-its_text}
+use Rattle.tcp_replay.proofs.pair.Calls.{KeptByCalls}
+use Rattle.tcp_replay.proofs.pair.TakingSegments.{its_ack-receiving}
+use Rattle.tcp_replay.proofs.one_end.AloneFeeds.{opened-by_peer, accepted-by_peer}
 
 -- FROM ONE HALF THAT RECEIVES TO ANOTHER, where Q holds of the number of a FIN that is taken
 pub record Finishes (Q : ℕ → Type 0) (r r' : Receiving) : Type 0 where
   pub stays : r.finished ≡ true → (r'.finished ≡ true) × (length r'.inbox.unread ≤ length r.inbox.unread)
-  pub comes : r'.finished ≡ true → (r.finished ≡ true) ⊎ ((f : ℕ) × Q f × (f < 2 ^ 32) × (r'.next ≡ number f 1))
+  pub comes : r'.finished ≡ true → (r.finished ≡ true) ⊎ ((f : ℕ) × Q f × (f < 2 ^ 32) × (r'.rcv_nxt ≡ number f 1))
 
 module _ (Q : ℕ → Type 0) (r : Receiving) where
   -- no FIN is taken, and no text
@@ -43,7 +43,7 @@ module _ (Q : ℕ → Type 0) (r : Receiving) where
   before-fin : (r' : Receiving) → r.finished ≡ false → r'.finished ≡ r.finished → Finishes Q r r'
   before-fin r' goes_on same = record { stays = λ e. absurd (false≢true (sym goes_on ∙ e)); comes = λ e. inl (sym same ∙ e) }
 
-  takes-fin : (r' : Receiving) (f : ℕ) → r.finished ≡ false → Q f → f < 2 ^ 32 → r'.next ≡ number f 1 → Finishes Q r r'
+  takes-fin : (r' : Receiving) (f : ℕ) → r.finished ≡ false → Q f → f < 2 ^ 32 → r'.rcv_nxt ≡ number f 1 → Finishes Q r r'
   takes-fin r' f goes_on is small next = record { stays = λ e. absurd (false≢true (sym goes_on ∙ e)); comes = λ e. inr (f, is, small, next) }
 
 -- ALL CALLS, timers and emissions
@@ -52,7 +52,7 @@ unfolding after_read
 finishes-calls Q peer p =
     let r = p.endpoint.receiving in
     let same : Finishes Q r r = nothing-new Q r r refl in
-    let reads : (room : ℕ) → receive_refusal p.endpoint ≡ None → Finishes Q r (after_handing r room) =
+    let reads : (room : ℕ) → receive_refusal p.endpoint ≡ None → Finishes Q r (after_delivering r room) =
     λ room _. no-fin Q r _ refl (omega (arith, length-drop room r.inbox.unread)) in
     let gone : Finishes Q r (without_bytes r) = no-fin Q r _ refl (omega arith) in
     assumption
@@ -79,7 +79,7 @@ fin-finishes Q y v accepted closed a came =
     (λ e.
     let parts = and_parts (has_fin y v) (is_fin_due r f) e in
     let has = and_parts (takes_text y.phase) (has fin v.flags) parts.0 in
-    let due : f ≡ r.next = eqb-true f r.next (and_parts (f == r.next) _ parts.1).0 in
+    let due : f ≡ r.rcv_nxt = eqb-true f r.rcv_nxt (and_parts (f == r.rcv_nxt) _ parts.1).0 in
     takes-fin Q r (with_fin r) f (end-takes_text y has.0 a.progress).1.goes_on (came has.1) (omega arith) (ap (λ n. number n 1) (sym due)))
     (λ _. nothing-new Q r r refl)
 
@@ -89,16 +89,16 @@ in-turn Q a b c f g = record {
   stays = λ e. let first = f.stays e in let next = g.stays first.0 in (next.0, omega (arith, first.1, next.1));
   comes = λ e. ⊎_elim
       (λ (had : b.finished ≡ true). ⊎_elim (λ (before : a.finished ≡ true). inl before)
-      (λ (never : (n : ℕ) × ⊥ × (n < 2 ^ 32) × (b.next ≡ number n 1)). absurd never.1) (f.comes had))
-      (λ (new : (n : ℕ) × Q n × (n < 2 ^ 32) × (c.next ≡ number n 1)). inr new) (g.comes e);
+      (λ (never : (n : ℕ) × ⊥ × (n < 2 ^ 32) × (b.rcv_nxt ≡ number n 1)). absurd never.1) (f.comes had))
+      (λ (new : (n : ℕ) × Q n × (n < 2 ^ 32) × (c.rcv_nxt ≡ number n 1)). inr new) (g.comes e);
 }
 
-taking-finishes : (Q : ℕ → Type 0) (s : State) (v : Content) (accepted : List ℕ) (closed : Bool) → IsPresent s → IsAlone s accepted closed
+taking-finishes : (Q : ℕ → Type 0) (s : State) (v : Content) (accepted : List ℕ) (closed : Bool) → IsAfterSyn s → IsAlone s accepted closed
     → (has fin v.flags ≡ true → Q (number v.seq (length v.text))) → Finishes Q s.receiving (after_taking s v).receiving
 unfolding after_taking
-taking-finishes Q s v accepted closed present a came =
+taking-finishes Q s v accepted closed after_syn a came =
     let x = after_its_ack s v in
-    let ax = alone-its_ack s accepted closed v present a in
+    let ax = alone-its_ack s accepted closed v after_syn a in
     let y = after_its_text x v in
     let first : Finishes (λ _. ⊥) s.receiving x.receiving = nothing-new (λ _. ⊥) s.receiving x.receiving (its_ack-receiving s v) in
     let next = text-finishes (λ _. ⊥) x v accepted closed ax in
@@ -123,6 +123,6 @@ finishes-judgement Q s src dst v accepted closed a came =
     let gone : J PeerResets = no-fin Q r _ refl (omega arith) in
     let opens : J PeerOpens = syn-finishes Q r _ v.seq (opened-by_peer s src v).0 in
     let accepts : J PeerAccepts = syn-finishes Q r _ v.seq (accepted-by_peer s v).0 in
-    let taken : IsPresent s → IsTaken s v → J Taken = λ present is. taking-finishes Q s v accepted closed present a (came is) in
+    let taken : IsAfterSyn s → IsTaken s v → J Taken = λ after_syn is. taking-finishes Q s v accepted closed after_syn a (came is) in
     let shut : J TakenShut = nothing-new Q r _ (shut-receiving s v) in
     judged s v J (assumption) src dst

@@ -9,25 +9,25 @@ use Rattle.tcp_conn.specs.declared.emit.due.Due.TheVariants.{Reset, Syn, Acknowl
 use Rattle.tcp_conn.specs.State.{State}
 use Rattle.tcp_conn.specs.Forms.{segment_of}
 use Rattle.tcp_replay.specs.Alone.{IsAlone}
-use Rattle.tcp_replay.proofs.AloneEmissions.{GoesOutAlone}
+use Rattle.tcp_replay.proofs.one_end.AloneEmissions.{GoesOutAlone}
 use Rattle.std.specs.Prelude.{not, ◌&&◌, unwrap_or}
 use Rattle.std.proofs.lemmas.Bool.{cond_both, le-ltb}
 use Rattle.tcp_conn.specs.Blocks.{blocks_to_report, sack_options}
 use Rattle.tcp_halves.specs.declared.link.WaitingReset.{WaitingReset}
 use Rattle.tcp_conn.specs.Forms.{shift_offered, is_sack_offered, scale_options, permission_options, syn_segment, plain_segment, reset_segment, waiting_segment}
-use Rattle.tcp_replay.proofs.Emissions.{syn-bits, due-bits}
+use Rattle.tcp_replay.proofs.pair.Emissions.{syn-bits, due-bits}
 use Rattle.tcp_judge.specs.Rules.{any_syn_option, any_great_shift, has_stray_option, lacks_ack, form_finding}
 use Rattle.tcp_judge.proofs.Streams.{unless}
 
 form-none : (v : Content) → has_stray_option v ≡ false → any_great_shift v.options ≡ false → lacks_ack v ≡ false → form_finding v ≡ None
 form-none v a b c = rw (a, b, c) refl
 
-reset-lacks : (told : Bool) → (not (has ack (rst + (if told then ack else 0))) && not (has syn (rst + (if told then ack else 0)))
-    && not (has rst (rst + (if told then ack else 0)))) ≡ false
+reset-lacks : (acked_number : Bool) → (not (has ack (rst + (if acked_number then ack else 0))) && not (has syn (rst + (if acked_number then ack else 0)))
+    && not (has rst (rst + (if acked_number then ack else 0)))) ≡ false
 reset-lacks true = refl
 reset-lacks false = refl
 
-reset-stray : (told : Bool) → (not (has syn (rst + (if told then ack else 0))) && false) ≡ false
+reset-stray : (acked_number : Bool) → (not (has syn (rst + (if acked_number then ack else 0))) && false) ≡ false
 reset-stray true = refl
 reset-stray false = refl
 
@@ -75,6 +75,6 @@ waiting-form s (Some reset) = form-none (reset_segment s reset) (reset-stray (is
 pub due-form : (s : State) (accepted : List ℕ) (closed : Bool) (due : Due) → GoesOutAlone s accepted closed due → IsAlone s accepted closed
     → form_finding (segment_of s due) ≡ None
 unfolding segment_of
-due-form s accepted closed Reset out a = waiting-form s s.owed.reset
+due-form s accepted closed Reset out a = waiting-form s s.pending.reset
 due-form s accepted closed Syn out a = syn-form s (config-shift s.config.window_shift a.config.good.2)
 due-form s accepted closed other out a = plain-form s other

@@ -14,16 +14,16 @@ use Rattle.tcp_halves.specs.Options.{link_of}
 use Rattle.tcp_halves.specs.declared.link.Link.{Link}
 use Rattle.tcp_conn.specs.Arrival.{after_reading, after_arrival}
 use Rattle.tcp_conn.specs.Judgement.{count_numbers}
-use Rattle.tcp_conn.specs.Phase.{gives_up}
+use Rattle.tcp_conn.specs.Phase.{discards}
 use Rattle.tcp_conn.specs.State.{State}
 use Rattle.tcp_replay.specs.Alone.{IsAlone}
 use Rattle.tcp_replay.specs.Solo.{SoloState, end_after, bytes_put_out}
 use Rattle.tcp_replay.specs.SoloEvents.{SoloContent, HasRanges, Arrive}
 use Rattle.tcp_replay.proofs.Lists.{by_test, one_if}
-use Rattle.tcp_replay.proofs.AloneCalls.{IsAloneIn}
-use Rattle.tcp_replay.proofs.Feeds.{AllText, ByNumber, IsFed}
-use Rattle.tcp_replay.proofs.AloneFeeds.{Feeds, feeds-calls}
-use Rattle.tcp_replay.proofs.SoloRuns.{party_in, next_irs, seq_read, IsSynRead, BringsSyn, read-arrival, solo-step, feeds-arrived, fed-next}
+use Rattle.tcp_replay.proofs.one_end.AloneCalls.{IsAloneIn}
+use Rattle.tcp_replay.proofs.one_end.Feeds.{AllText, ByNumber, IsFed}
+use Rattle.tcp_replay.proofs.one_end.AloneFeeds.{Feeds, feeds-calls}
+use Rattle.tcp_replay.proofs.one_end.SoloRuns.{party_in, next_irs, seq_read, IsSynRead, BringsSyn, read-arrival, solo-step, feeds-arrived, fed-next}
 use Rattle.tcp_judge.specs.Heard.{Heard, covers, has_come, spans_of, syns_of, after_came, any_scale, any_permission}
 use Rattle.tcp_judge.specs.Law.{heard_read}
 use Rattle.tcp_judge.specs.Taken.{taken_as, taken_of}
@@ -49,20 +49,20 @@ spans-more h (Arrive src dst bytes) n e = read-more h (taken_of src dst bytes) n
 spans-more h other n e = e
 
 read-syns : (h : Heard) (taken : Option Content) (n : ℕ) → HasSyn h.syns n → HasSyn (heard_read h taken).syns n
-read-syns h (Some v) n e = syn-more h.syns (syns_of h.told h.reset v) n e
+read-syns h (Some v) n e = syn-more h.syns (syns_of h.acked_number h.reset v) n e
 read-syns h None n e = e
 
 pub syns-more : (h : Heard) (e : SoloContent) (n : ℕ) → HasSyn h.syns n → HasSyn (heard_past h e).syns n
 syns-more h (Arrive src dst bytes) n e = read-syns h (taken_of src dst bytes) n e
 syns-more h other n e = e
 
-read-told : (h : Heard) (taken : Option Content) → (heard_read h taken).told ≡ h.told
-read-told h (Some v) = refl
-read-told h None = refl
+read-acked_number : (h : Heard) (taken : Option Content) → (heard_read h taken).acked_number ≡ h.acked_number
+read-acked_number h (Some v) = refl
+read-acked_number h None = refl
 
-pub told-same : (h : Heard) (e : SoloContent) → (heard_past h e).told ≡ h.told
-told-same h (Arrive src dst bytes) = read-told h (taken_of src dst bytes)
-told-same h other = refl
+pub acked_number-same : (h : Heard) (e : SoloContent) → (heard_past h e).acked_number ≡ h.acked_number
+acked_number-same h (Arrive src dst bytes) = read-acked_number h (taken_of src dst bytes)
+acked_number-same h other = refl
 
 -- THE NUMBERS of a segment's text, and of the FIN behind it
 pub within : (text : List ℕ) (i byte : ℕ) → slice_get text i ≡ Some byte → i < length text
@@ -84,8 +84,8 @@ come-here h v i small inside short =
 
 fin-heard : (h : Heard) (v : Content) → v.seq < 2 ^ 32 → length v.text < 2 ^ 32 → has fin v.flags ≡ true
     → has_come (after_came h v).spans (number v.seq (length v.text)) ≡ true
-fin-heard h v small short told =
-    let one : one_if (has fin v.flags) ≡ 1 = ap one_if told in
+fin-heard h v small short acked_number =
+    let one : one_if (has fin v.flags) ≡ 1 = ap one_if acked_number in
     come-here h v (length v.text) small (omega (arith, one)) short
 
 pub byte-read : (h : Heard) (v : Content) (src dst bytes : List ℕ) → AreBytes bytes → decode_answer src dst bytes ≡ Ok v → (i byte : ℕ)
@@ -103,7 +103,7 @@ module _ (P : SoloContent → ℕ → ℕ → Type 0)
     → AllText (ByNumber (P (Arrive src dst bytes)) v.seq) 0 v.text)
   where
     pub feeds-by : (x : SoloState) (e : SoloContent) (irs k : ℕ) → HasRanges e → IsAloneIn (party_in x)
-        → IsFed (P e) x.endpoint.receiving irs k x.delivered (gives_up x.endpoint.ending)
+        → IsFed (P e) x.endpoint.receiving irs k x.delivered (discards x.endpoint.ending)
         → Feeds (P e) (BringsSyn e) x.endpoint (end_after x.endpoint e) (next_irs x.endpoint irs e) k (x.delivered ++ bytes_put_out x.endpoint e)
     feeds-by x e irs k fits alone fed =
         let F = λ (e : SoloContent) (s : State) (delivered : List ℕ). Feeds (P e) (BringsSyn e) x.endpoint s (next_irs x.endpoint irs e) k delivered in
@@ -112,7 +112,7 @@ module _ (P : SoloContent → ℕ → ℕ → Type 0)
         (λ src dst bytes is. subst (λ e. F e (after_arrival x.endpoint src dst bytes) x.delivered) (sym is)
         (feeds-arrived _ x.endpoint irs k x.delivered x.accepted x.closed src dst bytes (subst HasRanges is fits) alone
         (λ v read mine ok. brings src dst bytes v (subst HasRanges is fits) read)
-        (subst (λ e. IsFed (P e) x.endpoint.receiving irs k x.delivered (gives_up x.endpoint.ending)) is fed)))
+        (subst (λ e. IsFed (P e) x.endpoint.receiving irs k x.delivered (discards x.endpoint.ending)) is fed)))
 
 finishes-reading : (h : Heard) (s : State) (accepted : List ℕ) (closed : Bool) (src dst bytes : List ℕ) (r : Result Content DecodeError) → AreBytes bytes
     → decode_answer src dst bytes ≡ r → IsAlone s accepted closed
@@ -120,7 +120,7 @@ finishes-reading : (h : Heard) (s : State) (accepted : List ℕ) (closed : Bool)
 finishes-reading h s accepted closed src dst bytes (Ok v) fits e a =
     let valid = decoded_valid src dst v bytes fits e in
     finishes-judgement (λ f. has_come (after_came h v).spans f ≡ true) s src dst v accepted closed a
-    (λ _ told. fin-heard h v valid.seq (short-text v valid) told)
+    (λ _ acked_number. fin-heard h v valid.seq (short-text v valid) acked_number)
 finishes-reading h s accepted closed src dst bytes (Err fault) fits e a = nothing-new _ s.receiving s.receiving refl
 
 pub finishes-by : (x : SoloState) (e : SoloContent) (h : Heard) → HasRanges e → IsAloneIn (party_in x)
@@ -188,15 +188,15 @@ links-by x e h fits alone =
     (links-reading h x.endpoint src dst bytes (decode_answer src dst bytes))))
 
 -- the SYN that is taken came
-syn-heard : (h : Heard) (bytes : List ℕ) (r : Result Content DecodeError) → h.told ≡ None → IsSynRead r
+syn-heard : (h : Heard) (bytes : List ℕ) (r : Result Content DecodeError) → h.acked_number ≡ None → IsSynRead r
     → HasSyn (heard_read h (taken_as bytes r)).syns (seq_read r)
 syn-heard h bytes (Err fault) silent is = absurd is
 syn-heard h bytes (Ok v) silent is =
-    subst (λ (told : Option Seq). HasSyn (h.syns ++ syns_of told h.reset v) v.seq) (sym silent)
+    subst (λ (acked_number : Option Seq). HasSyn (h.syns ++ syns_of acked_number h.reset v) v.seq) (sym silent)
     (subst (λ (b : Bool). HasSyn (h.syns ++ (if b && true then record { 0 = v.seq } ∷ [] else [])) v.seq) (sym is)
     (syn-last h.syns (record { 0 = v.seq })))
 
-pub syn-new : (h : Heard) (s : State) (irs : ℕ) (e : SoloContent) → h.told ≡ None → BringsSyn e → s.receiving.opened ≡ false
+pub syn-new : (h : Heard) (s : State) (irs : ℕ) (e : SoloContent) → h.acked_number ≡ None → BringsSyn e → s.receiving.opened ≡ false
     → HasSyn (heard_past h e).syns (next_irs s irs e)
 syn-new h s irs (Arrive src dst bytes) silent is shut =
     subst (HasSyn (heard_read h (taken_of src dst bytes)).syns) (ap (λ (b : Bool). if b then irs else seq_read (decode_answer src dst bytes)) (sym shut))

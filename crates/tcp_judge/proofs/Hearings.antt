@@ -7,17 +7,17 @@ use Rattle.tcp_numbers.specs.declared.seq.Seq.{Seq}
 use Rattle.tcp_wire.specs.Position.{number, distance}
 use Rattle.tcp_reasm.specs.Reassembly.{max_capacity}
 use Rattle.tcp_halves.specs.Receiver.{HoldsWithin}
-use Rattle.tcp_conn.specs.Phase.{gives_up}
+use Rattle.tcp_conn.specs.Phase.{discards}
 use Rattle.tcp_replay.specs.OneEnd.{count_come}
 use Rattle.tcp_replay.specs.Solo.{SoloState, end_after, bytes_put_out, after_solo}
 use Rattle.tcp_replay.specs.SoloEvents.{SoloContent, HasRanges, Arrive}
 use Rattle.tcp_replay.proofs.Lists.{by_test, one_if, one_if-most}
-use Rattle.tcp_replay.proofs.AloneCalls.{IsAloneIn}
-use Rattle.tcp_replay.proofs.AloneFeeds.{Feeds}
-use Rattle.tcp_replay.proofs.Feeds.{AllHeld, ByNumber, text-of, text-at, held-same, IsFed}
-use Rattle.tcp_replay.proofs.SoloRuns.{party_in, next_irs, BringsSyn, alone-step, irs-same}
+use Rattle.tcp_replay.proofs.one_end.AloneCalls.{IsAloneIn}
+use Rattle.tcp_replay.proofs.one_end.AloneFeeds.{Feeds}
+use Rattle.tcp_replay.proofs.one_end.Feeds.{AllHeld, ByNumber, text-of, text-at, held-same, IsFed}
+use Rattle.tcp_replay.proofs.one_end.SoloRuns.{party_in, next_irs, BringsSyn, alone-step, irs-same}
 use Rattle.tcp_judge.specs.Heard.{Heard, has_come}
-use Rattle.tcp_judge.proofs.Hearing.{heard_past, spans-more, syns-more, told-same, within, byte-read, feeds-by, finishes-by, room-by, offers-more, links-by}
+use Rattle.tcp_judge.proofs.Hearing.{heard_past, spans-more, syns-more, acked_number-same, within, byte-read, feeds-by, finishes-by, room-by, offers-more, links-by}
 use Rattle.tcp_judge.proofs.Hearing.{syn-new}
 use Rattle.tcp_judge.proofs.Hears.{IsSince, since-least, since-most, since-opened, since-kept, one_if-more, Comes, Hears, takes, stays-going}
 use Rattle.tcp_judge.proofs.Hears.{FromOn}
@@ -31,10 +31,10 @@ record Before (x : SoloState) (h : Heard) (irs k since : ℕ) : Type 0 where
   whole : k ≡ length x.delivered + length x.endpoint.receiving.inbox.unread
 
 module _ (x : SoloState) (e : SoloContent) (h : Heard) (irs k : ℕ) (fits : HasRanges e) (alone : IsAloneIn (party_in x)) (hears : Hears h x irs k) where
-  before : gives_up (end_after x.endpoint e).ending ≡ false → Before x h irs k hears.since
+  before : discards (end_after x.endpoint e).ending ≡ false → Before x h irs k hears.since
   before going =
       let r = x.endpoint.receiving in
-      let least = since-least h.told r irs k hears.since hears.told in
+      let least = since-least h.acked_number r irs k hears.since hears.acked_number in
       by_test r.opened (λ _. Before x h irs k hears.since)
       (λ opened.
       let here = stays-going x e irs k fits alone hears.fed opened going in
@@ -44,7 +44,7 @@ module _ (x : SoloState) (e : SoloContent) (h : Heard) (irs k : ℕ) (fits : Has
       record {
         comes = record {
           text = λ p from below. absurd (omega (arith, least, none.0));
-          held = held-same (λ _ _. ⊥) (ByNumber (λ n byte. has_come h.spans n ≡ true) r.next) 0 r.inbox.held (λ n byte never. absurd never)
+          held = held-same (λ _ _. ⊥) (ByNumber (λ n byte. has_come h.spans n ≡ true) r.rcv_nxt) 0 r.inbox.held (λ n byte never. absurd never)
               (hears.fed.bare shut);
         };
         whole = none.0 ∙ sym (ap length none.1) ∙ length-append x.delivered r.inbox.unread;
@@ -53,7 +53,7 @@ module _ (x : SoloState) (e : SoloContent) (h : Heard) (irs k : ℕ) (fits : Has
   -- the buffer, counted from the first byte that isn't handed over
   rebased : Before x h irs k hears.since → IsFed
       (FromOn (heard_past h e).spans (number irs (1 + length x.delivered)) (hears.since - (1 + length x.delivered)))
-      x.endpoint.receiving (number irs (length x.delivered)) (length x.endpoint.receiving.inbox.unread) [] (gives_up x.endpoint.ending)
+      x.endpoint.receiving (number irs (length x.delivered)) (length x.endpoint.receiving.inbox.unread) [] (discards x.endpoint.ending)
   rebased was =
       let r = x.endpoint.receiving in
       let b = length x.delivered in
@@ -71,8 +71,8 @@ module _ (x : SoloState) (e : SoloContent) (h : Heard) (irs k : ℕ) (fits : Has
             let nothing : u ≡ 0 = omega (arith, none.0, was.whole) in
             (nothing, nil_from_length unread nothing, none.2);
         bare = hears.fed.bare;
-        held = held-same (ByNumber (λ n byte. has_come h.spans n ≡ true) r.next) (ByNumber P r.next) 0 r.inbox.held
-            (λ n byte came from. spans-more h e (number r.next n) came) was.comes.held;
+        held = held-same (ByNumber (λ n byte. has_come h.spans n ≡ true) r.rcv_nxt) (ByNumber P r.rcv_nxt) 0 r.inbox.held
+            (λ n byte came from. spans-more h e (number r.rcv_nxt n) came) was.comes.held;
         text = text-of (ByNumber P (number irs b)) 1 1 unread refl
             (λ i byte is from.
             let inside = within unread i byte is in
@@ -108,37 +108,37 @@ module _ (x : SoloState) (e : SoloContent) (h : Heard) (irs k : ℕ) (fits : Has
       ⊎_elim
       (λ (ahead : 1 + b < hears.since).
       let same : next_irs x.endpoint irs e ≡ irs =
-      irs-same x.endpoint irs e (since-opened h.told x.endpoint.receiving irs k hears.since hears.told (omega (arith, ahead))) in
+      irs-same x.endpoint irs e (since-opened h.acked_number x.endpoint.receiving irs k hears.since hears.acked_number (omega (arith, ahead))) in
       subst (λ (n : ℕ). hears.since - (1 + b) ≤ distance first (number n (b + (1 + i)))) (sym same)
       (let far : distance first (number irs (b + (1 + i))) ≡ i = omega (arith, small) in omega (arith, far, from)))
       (λ (behind : hears.since ≤ 1 + b). omega (arith, behind))
       (cases_lt (1 + b) hears.since)
 
   -- before the peer's SYN nothing is handed over
-  none-handed : x.endpoint.receiving.opened ≡ false → length x.delivered ≡ 0
-  none-handed shut = omega (arith, ap length (hears.fed.unopened shut).1, length-append x.delivered x.endpoint.receiving.inbox.unread)
+  none-delivered : x.endpoint.receiving.opened ≡ false → length x.delivered ≡ 0
+  none-delivered shut = omega (arith, ap length (hears.fed.unopened shut).1, length-append x.delivered x.endpoint.receiving.inbox.unread)
 
   -- the position of a byte that is counted so
   further-on : (j : ℕ) → number (next_irs x.endpoint (number irs (length x.delivered)) e) j ≡ number (next_irs x.endpoint irs e) (length x.delivered + j)
-  further-on j = irs-further x.endpoint irs (length x.delivered) j e none-handed
+  further-on j = irs-further x.endpoint irs (length x.delivered) j e none-delivered
 
   room' : HoldsWithin hears.capacity (end_after x.endpoint e).receiving.inbox
   room' = room-by hears.capacity x e fits alone hears.room
 
-  text-comes : (was : Before x h irs k hears.since) → gives_up (end_after x.endpoint e).ending ≡ false → (p : ℕ) → hears.since ≤ p
+  text-comes : (was : Before x h irs k hears.since) → discards (end_after x.endpoint e).ending ≡ false → (p : ℕ) → hears.since ≤ p
       → p < 1 + (k + count_come x.endpoint e) → has_come (heard_past h e).spans (number (next_irs x.endpoint irs e) p) ≡ true
   text-comes was going p from below =
       let r = x.endpoint.receiving in
       let b = length x.delivered in
       let spans' = (heard_past h e).spans in
       let irs' = next_irs x.endpoint irs e in
-      let least = since-least h.told r irs k hears.since hears.told in
+      let least = since-least h.acked_number r irs k hears.since hears.acked_number in
       let fed = (fed-from was).fed in
       let text' = bytes_put_out x.endpoint e ++ (end_after x.endpoint e).receiving.inbox.unread in
       let whole : length text' ≡ length r.inbox.unread + count_come x.endpoint e = fed.whole going in
       ⊎_elim
       (λ (old : p < 1 + b).
-      let opened : r.opened ≡ true = by_test r.opened (λ o. o ≡ true) (λ _. refl) (λ shut. absurd (omega (arith, none-handed shut, old, from, least))) in
+      let opened : r.opened ≡ true = by_test r.opened (λ o. o ≡ true) (λ _. refl) (λ shut. absurd (omega (arith, none-delivered shut, old, from, least))) in
       subst (λ (n : ℕ). has_come spans' (number n p) ≡ true) (sym (irs-same x.endpoint irs e opened))
       (spans-more h e (number irs p) (was.comes.text p from (omega (arith, was.whole, old)))))
       (λ (new : 1 + b ≤ p).
@@ -155,9 +155,9 @@ module _ (x : SoloState) (e : SoloContent) (h : Heard) (irs k : ℕ) (fits : Has
       subst (λ (n : ℕ). has_come spans' (number irs' n) ≡ true) place there)
       (cases_lt p (1 + b))
 
-  held-comes : (was : Before x h irs k hears.since) → gives_up (end_after x.endpoint e).ending ≡ false
+  held-comes : (was : Before x h irs k hears.since) → discards (end_after x.endpoint e).ending ≡ false
       → one_if x.endpoint.receiving.finished ≤ one_if (end_after x.endpoint e).receiving.finished
-      → AllHeld (ByNumber (λ n byte. has_come (heard_past h e).spans n ≡ true) (end_after x.endpoint e).receiving.next) 0
+      → AllHeld (ByNumber (λ n byte. has_come (heard_past h e).spans n ≡ true) (end_after x.endpoint e).receiving.rcv_nxt) 0
       (end_after x.endpoint e).receiving.inbox.held
   held-comes was going more =
       let r = x.endpoint.receiving in
@@ -168,22 +168,22 @@ module _ (x : SoloState) (e : SoloContent) (h : Heard) (irs k : ℕ) (fits : Has
       let spans' = (heard_past h e).spans in
       let P : ℕ → ℕ → Type 0 = λ n byte. has_come spans' n ≡ true in
       let fed = (fed-from was).fed in
-      let most = since-most h.told r irs k hears.since hears.told in
-      by_test r'.opened (λ _. AllHeld (ByNumber P r'.next) 0 r'.inbox.held)
+      let most = since-most h.acked_number r irs k hears.since hears.acked_number in
+      by_test r'.opened (λ _. AllHeld (ByNumber P r'.rcv_nxt) 0 r'.inbox.held)
       (λ opened.
       let n = length r.inbox.unread + (length r'.inbox.unread - length r.inbox.unread) + one_if r'.finished in
-      held-inside (ByNumber (FromOn spans' first m) r'.next) (ByNumber P r'.next) 0 r'.inbox.held
+      held-inside (ByNumber (FromOn spans' first m) r'.rcv_nxt) (ByNumber P r'.rcv_nxt) 0 r'.inbox.held
       (λ i byte from below had.
       let small : n + i < 2 ^ 32 = omega (arith, below, hears.room.received, hears.small, room'.received, one_if-most r'.finished) in
       let start = next_irs x.endpoint (number irs b) e in
       let to = 1 + (length r.inbox.unread + (length r'.inbox.unread - length r.inbox.unread)) + one_if r'.finished in
       let whole : 1 + (n + i) ≡ to + i = omega arith in
-      let there : number start (1 + (n + i)) ≡ number r'.next i =
+      let there : number start (1 + (n + i)) ≡ number r'.rcv_nxt i =
       ap (number start) whole ∙ sym (number-on start to i) ∙ ap (λ k. number k i) (sym (fed.next opened)) in
       had (subst (λ (w : ℕ). m ≤ distance first w) (sym (further-on (1 + (n + i))) ∙ there)
       (reaches was (n + i) (omega (arith, most, was.whole, more)) small)))
       fed.held)
-      (λ shut. held-same (λ _ _. ⊥) (ByNumber P r'.next) 0 r'.inbox.held (λ n byte never. absurd never) (fed.bare shut))
+      (λ shut. held-same (λ _ _. ⊥) (ByNumber P r'.rcv_nxt) 0 r'.inbox.held (λ n byte never. absurd never) (fed.bare shut))
 
   -- the peer's FIN
   fin-comes : (end_after x.endpoint e).receiving.finished ≡ true → hears.since ≤ 1 + (k + count_come x.endpoint e)
@@ -202,9 +202,9 @@ module _ (x : SoloState) (e : SoloContent) (h : Heard) (irs k : ℕ) (fits : Has
       let still : 1 + k ≡ 1 + k' = omega (arith, (finishes.stays had).1) in
       subst (λ (n : ℕ). has_come spans' n ≡ true) (ap (number irs) still ∙ ap (λ i. number i (1 + k')) (sym same))
       (spans-more h e (number irs (1 + k)) (hears.fin had (omega (arith, still, from)))))
-      (λ (new : (f : ℕ) × (has_come spans' f ≡ true) × (f < 2 ^ 32) × (s'.receiving.next ≡ number f 1)).
+      (λ (new : (f : ℕ) × (has_come spans' f ≡ true) × (f < 2 ^ 32) × (s'.receiving.rcv_nxt ≡ number f 1)).
       let opened : s'.receiving.opened ≡ true = has-opened s' _ _ (alone-step x e fits alone) done in
-      let next : s'.receiving.next ≡ number irs' (1 + k' + 1) = fed.next opened ∙ ap (λ (b : Bool). number irs' (1 + k' + one_if b)) done in
+      let next : s'.receiving.rcv_nxt ≡ number irs' (1 + k' + 1) = fed.next opened ∙ ap (λ (b : Bool). number irs' (1 + k' + one_if b)) done in
       subst (λ (n : ℕ). has_come spans' n ≡ true) (back-one new.0 irs' (1 + k') new.2 (sym new.3 ∙ next)) new.1)
       (finishes.comes done)
 
@@ -219,13 +219,13 @@ module _ (x : SoloState) (e : SoloContent) (h : Heard) (irs k : ℕ) (fits : Has
       let more = one_if-more s.receiving.finished s'.receiving.finished (λ had. (finishes.stays had).0) in
       record {
         since = hears.since;
-        told = subst (λ (told : Option Seq). IsSince told s'.receiving irs' (k + count_come s e) hears.since) (sym (told-same h e))
-            (since-kept h.told s.receiving s'.receiving irs irs' k (k + count_come s e) hears.since (λ opened. (took.stays opened, irs-same s irs e opened))
-            (omega arith) more hears.told);
+        acked_number = subst (λ (acked_number : Option Seq). IsSince acked_number s'.receiving irs' (k + count_come s e) hears.since) (sym (acked_number-same h e))
+            (since-kept h.acked_number s.receiving s'.receiving irs irs' k (k + count_come s e) hears.since (λ opened. (took.stays opened, irs-same s irs e opened))
+            (omega arith) more hears.acked_number);
         fed = took.fed;
         comes = λ going. let was = before going in record { text = text-comes was going; held = held-comes was going more };
         syn = λ silent opened.
-            let quiet : h.told ≡ None = sym (told-same h e) ∙ silent in
+            let quiet : h.acked_number ≡ None = sym (acked_number-same h e) ∙ silent in
             by_test s.receiving.opened (λ _. HasSyn h'.syns irs')
             (λ had. subst (HasSyn h'.syns) (sym (irs-same s irs e had)) (syns-more h e irs (hears.syn quiet had)))
             (λ shut. ⊎_elim (λ (had : s.receiving.opened ≡ true). absurd (false≢true (sym shut ∙ had))) (λ is. syn-new h s irs e quiet is shut)

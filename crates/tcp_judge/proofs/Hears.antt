@@ -10,16 +10,16 @@ use Rattle.tcp_reasm.specs.Reassembly.{Cell, max_capacity}
 use Rattle.tcp_halves.specs.declared.config.Config.{Config}
 use Rattle.tcp_halves.specs.Config.{IsConfig}
 use Rattle.tcp_halves.proofs.Placing.{whole_empty}
-use Rattle.tcp_conn.specs.Phase.{gives_up}
+use Rattle.tcp_conn.specs.Phase.{discards}
 use Rattle.tcp_conn.specs.State.{State, Receiving}
 use Rattle.tcp_replay.specs.Alone.{IsAlone}
 use Rattle.tcp_replay.specs.Solo.{SoloState, solo_start, end_after, bytes_put_out}
 use Rattle.tcp_replay.specs.SoloEvents.{SoloContent, HasRanges, Arrive}
 use Rattle.tcp_replay.proofs.Lists.{by_test, one_if}
-use Rattle.tcp_replay.proofs.AloneCalls.{IsAloneIn}
-use Rattle.tcp_replay.proofs.AloneFeeds.{Feeds}
-use Rattle.tcp_replay.proofs.Feeds.{AllText, AllHeld, ByNumber, IsFed, fed-new}
-use Rattle.tcp_replay.proofs.SoloRuns.{party_in, next_irs, seq_read, BringsSyn}
+use Rattle.tcp_replay.proofs.one_end.AloneCalls.{IsAloneIn}
+use Rattle.tcp_replay.proofs.one_end.AloneFeeds.{Feeds}
+use Rattle.tcp_replay.proofs.one_end.Feeds.{AllText, AllHeld, ByNumber, IsFed, fed-new}
+use Rattle.tcp_replay.proofs.one_end.SoloRuns.{party_in, next_irs, seq_read, BringsSyn}
 use Rattle.tcp_judge.specs.Heard.{Heard, nothing_heard, has_come}
 use Rattle.tcp_judge.proofs.Blocks.{KeptCame}
 use Rattle.tcp_judge.proofs.Hearing.{feeds-by}
@@ -28,7 +28,7 @@ use Rattle.tcp_judge.proofs.Numbers.{HasSyn}
 use Rattle.tcp_judge.proofs.Rooms.{HasRoom}
 
 -- WHAT WAS TOLD is the number of a position up to the next one that is wanted; before anything is, the first position
-pub record IsTold (r : Receiving) (irs k position a : ℕ) : Type 0 where
+pub record IsAckedPosition (r : Receiving) (irs k position a : ℕ) : Type 0 where
   pub opened : r.opened ≡ true
   pub least : 1 ≤ position
   pub most : position ≤ 1 + k + one_if r.finished
@@ -36,17 +36,17 @@ pub record IsTold (r : Receiving) (irs k position a : ℕ) : Type 0 where
 
 abbrev pub IsSince : Option Seq → Receiving → ℕ → ℕ → ℕ → Type 0
 IsSince None r irs k since = since ≡ 1
-IsSince (Some a) r irs k since = IsTold r irs k since a.0
+IsSince (Some a) r irs k since = IsAckedPosition r irs k since a.0
 
-pub since-least : (told : Option Seq) (r : Receiving) (irs k since : ℕ) → IsSince told r irs k since → 1 ≤ since
+pub since-least : (acked_number : Option Seq) (r : Receiving) (irs k since : ℕ) → IsSince acked_number r irs k since → 1 ≤ since
 since-least None r irs k since h = omega (arith, h)
 since-least (Some a) r irs k since h = h.least
 
-pub since-most : (told : Option Seq) (r : Receiving) (irs k since : ℕ) → IsSince told r irs k since → since ≤ 1 + k + one_if r.finished
+pub since-most : (acked_number : Option Seq) (r : Receiving) (irs k since : ℕ) → IsSince acked_number r irs k since → since ≤ 1 + k + one_if r.finished
 since-most None r irs k since h = omega (arith, h)
 since-most (Some a) r irs k since h = h.most
 
-pub since-opened : (told : Option Seq) (r : Receiving) (irs k since : ℕ) → IsSince told r irs k since → 1 < since → r.opened ≡ true
+pub since-opened : (acked_number : Option Seq) (r : Receiving) (irs k since : ℕ) → IsSince acked_number r irs k since → 1 < since → r.opened ≡ true
 since-opened None r irs k since h more = absurd (omega (arith, h))
 since-opened (Some a) r irs k since h more = h.opened
 
@@ -54,8 +54,8 @@ pub one_if-more : (a b : Bool) → (a ≡ true → b ≡ true) → one_if a ≤ 
 one_if-more true b h = let same : one_if b ≡ 1 = ap one_if (h refl) in omega (arith, same)
 one_if-more false b h = omega arith
 
-pub since-kept : (told : Option Seq) (r r' : Receiving) (irs irs' k k' since : ℕ) → (r.opened ≡ true → (r'.opened ≡ true) × (irs' ≡ irs)) → k ≤ k'
-    → one_if r.finished ≤ one_if r'.finished → IsSince told r irs k since → IsSince told r' irs' k' since
+pub since-kept : (acked_number : Option Seq) (r r' : Receiving) (irs irs' k k' since : ℕ) → (r.opened ≡ true → (r'.opened ≡ true) × (irs' ≡ irs)) → k ≤ k'
+    → one_if r.finished ≤ one_if r'.finished → IsSince acked_number r irs k since → IsSince acked_number r' irs' k' since
 since-kept None r r' irs irs' k k' since stays grows more h = h
 since-kept (Some a) r r' irs irs' k k' since stays grows more h =
     let open_ = stays h.opened in
@@ -69,17 +69,17 @@ since-kept (Some a) r r' irs irs' k k' since stays grows more h =
 -- WHAT CAME FROM A POSITION ON, in order and out of order
 pub record Comes (spans : List (Seq × ℕ)) (r : Receiving) (irs k since : ℕ) : Type 0 where
   pub text : (p : ℕ) → since ≤ p → p < 1 + k → has_come spans (number irs p) ≡ true
-  pub held : KeptCame spans r.next r.inbox.held
+  pub held : KeptCame spans r.rcv_nxt r.inbox.held
 
 abbrev pub Anything : ℕ → ℕ → Type 0
 Anything n byte = Unit {0}
 
 pub record Hears (h : Heard) (x : SoloState) (irs k : ℕ) : Type 0 where
   pub since : ℕ
-  pub told : IsSince h.told x.endpoint.receiving irs k since
-  pub fed : IsFed Anything x.endpoint.receiving irs k x.delivered (gives_up x.endpoint.ending)
-  pub comes : gives_up x.endpoint.ending ≡ false → Comes h.spans x.endpoint.receiving irs k since
-  pub syn : h.told ≡ None → x.endpoint.receiving.opened ≡ true → HasSyn h.syns irs
+  pub acked_number : IsSince h.acked_number x.endpoint.receiving irs k since
+  pub fed : IsFed Anything x.endpoint.receiving irs k x.delivered (discards x.endpoint.ending)
+  pub comes : discards x.endpoint.ending ≡ false → Comes h.spans x.endpoint.receiving irs k since
+  pub syn : h.acked_number ≡ None → x.endpoint.receiving.opened ≡ true → HasSyn h.syns irs
   pub fin : x.endpoint.receiving.finished ≡ true → since ≤ 1 + k → has_come h.spans (number irs (1 + k)) ≡ true
   pub capacity : ℕ
   pub small : capacity ≤ max_capacity
@@ -91,7 +91,7 @@ hears-new c is =
     let came = fed-new (λ n byte. has_come [] n ≡ true) c.recv_capacity 0 in
     record {
       since = 1;
-      told = refl;
+      acked_number = refl;
       fed = fed-new Anything c.recv_capacity 0;
       comes = λ _. record { text = λ p from below. absurd (omega arith); held = came.held };
       syn = λ _ never. absurd (cc);
@@ -108,7 +108,7 @@ anything-comes seq place [] = tt
 anything-comes seq place (byte ∷ text) = (tt, anything-comes seq (suc place) text)
 
 pub takes : (x : SoloState) (e : SoloContent) (irs k : ℕ) → HasRanges e → IsAloneIn (party_in x)
-    → IsFed Anything x.endpoint.receiving irs k x.delivered (gives_up x.endpoint.ending)
+    → IsFed Anything x.endpoint.receiving irs k x.delivered (discards x.endpoint.ending)
     → Feeds Anything (BringsSyn e) x.endpoint (end_after x.endpoint e) (next_irs x.endpoint irs e) k (x.delivered ++ bytes_put_out x.endpoint e)
 takes x e irs k fits alone fed = feeds-by (λ _. Anything) (λ src dst bytes v _ _. anything-comes v.seq 0 v.text) x e irs k fits alone fed
 
@@ -125,14 +125,14 @@ further r irs k delivered opened fed = record {
 }
 
 pub stays-going : (x : SoloState) (e : SoloContent) (irs k : ℕ) → HasRanges e → IsAloneIn (party_in x)
-    → IsFed Anything x.endpoint.receiving irs k x.delivered (gives_up x.endpoint.ending) → x.endpoint.receiving.opened ≡ true
-    → gives_up (end_after x.endpoint e).ending ≡ false → gives_up x.endpoint.ending ≡ false
+    → IsFed Anything x.endpoint.receiving irs k x.delivered (discards x.endpoint.ending) → x.endpoint.receiving.opened ≡ true
+    → discards (end_after x.endpoint e).ending ≡ false → discards x.endpoint.ending ≡ false
 stays-going x e irs k fits alone fed opened going =
     let r = x.endpoint.receiving in
-    by_test (gives_up x.endpoint.ending) (λ b. b ≡ false)
+    by_test (discards x.endpoint.ending) (λ b. b ≡ false)
     (λ gone.
     let same : IsFed Anything r irs k x.delivered true = subst (IsFed Anything r irs k x.delivered) gone fed in
-    let other : IsFed Anything r irs (k + 4294967296) x.delivered (gives_up x.endpoint.ending) =
+    let other : IsFed Anything r irs (k + 4294967296) x.delivered (discards x.endpoint.ending) =
     subst (IsFed Anything r irs (k + 4294967296) x.delivered) (sym gone) (further r irs k x.delivered opened same) in
     let one = (takes x e irs k fits alone fed).fed.whole going in
     let two = (takes x e irs (k + 4294967296) fits alone other).fed.whole going in

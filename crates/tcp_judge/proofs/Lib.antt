@@ -3,7 +3,7 @@ pub mod Numbers
 pub mod Finishes
 pub mod Rooms
 pub mod Links
-pub mod Going
+pub mod PeerNotDiscarded
 pub mod Blocks
 pub mod Streams
 pub mod Forms

@@ -10,18 +10,18 @@ use Rattle.tcp_halves.specs.Sender.{count_sendable}
 use Rattle.tcp_replay.specs.Solo.{SoloState, solo_start, solo_run, run_alone, after_solo, end_after}
 use Rattle.tcp_replay.specs.SoloEvents.{SoloContent, HasRanges}
 use Rattle.tcp_replay.specs.World.{PartyState}
-use Rattle.tcp_replay.proofs.Alone.{alone-new}
-use Rattle.tcp_replay.proofs.AloneCalls.{IsAloneIn, send-open}
-use Rattle.tcp_replay.proofs.Calls.{KeptByCalls}
-use Rattle.tcp_replay.proofs.Phases.{gives_up-not_ended}
-use Rattle.tcp_replay.proofs.SoloRuns.{party_in, solo-step, alone-step}
+use Rattle.tcp_replay.proofs.one_end.Alone.{alone-new}
+use Rattle.tcp_replay.proofs.one_end.AloneCalls.{IsAloneIn, send-open}
+use Rattle.tcp_replay.proofs.pair.Calls.{KeptByCalls}
+use Rattle.tcp_replay.proofs.one_end.Phases.{discards-not_ended}
+use Rattle.tcp_replay.proofs.one_end.SoloRuns.{party_in, solo-step, alone-step}
 use Rattle.tcp_judge.specs.Heard.{Heard, nothing_heard}
 use Rattle.tcp_judge.proofs.Hearing.{heard_past}
 use Rattle.tcp_judge.proofs.Hears.{Hears, hears-new}
 use Rattle.tcp_judge.proofs.Hearings.{hears-step, address-step}
 use Rattle.tcp_wire.specs.Checksum.{AreBytes}
 use Rattle.tcp_conn.specs.Calls.{send_refusal}
-use Rattle.tcp_replay.proofs.Halves.{accepted-limit}
+use Rattle.tcp_replay.proofs.pair.Halves.{accepted-limit}
 
 limit-calls : (peer : Peer) (p : PartyState) → IsAloneIn p → length p.accepted ≤ p.endpoint.config.limit
     → KeptByCalls peer p (λ p'. length p'.accepted ≤ p.endpoint.config.limit)
@@ -29,7 +29,7 @@ limit-calls peer p a h =
     let s = p.endpoint in
     let sends : (text : List ℕ) → AreBytes text → send_refusal s text ≡ None
     → length (p.accepted ++ take (count_sendable s.sending s.config.limit text) text) ≤ s.config.limit =
-    λ text bytes e. accepted-limit s.sending s.config.limit p.accepted text p.closed h (rw (gives_up-not_ended s.ending (send-open s text e).0) at a.sends) in
+    λ text bytes e. accepted-limit s.sending s.config.limit p.accepted text p.closed h (rw (discards-not_ended s.ending (send-open s text e).0) at a.sends) in
     assumption
 
 limit-step : (x : SoloState) (e : SoloContent) → HasRanges e → IsAloneIn (party_in x) → length x.accepted ≤ x.endpoint.config.limit

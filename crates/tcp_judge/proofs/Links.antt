@@ -13,11 +13,11 @@ use Rattle.tcp_halves.specs.declared.link.Link.{Link}
 use Rattle.tcp_halves.specs.declared.link.Peer.{Peer}
 use Rattle.tcp_conn.specs.State.{State}
 use Rattle.tcp_conn.specs.Judgement.{judgement}
-use Rattle.tcp_conn.specs.Arrival.{after_peer_opens, after_peer_accepts, after_own_syn, after_acked_text, after_news, after_own_fin, after_its_ack}
+use Rattle.tcp_conn.specs.Arrival.{after_peer_opens, after_peer_accepts, after_own_syn, after_acked_text, after_window_and_blocks, after_own_fin, after_its_ack}
 use Rattle.tcp_conn.specs.Arrival.{after_its_text, after_fin, after_taking, after_taking_shut, after_judgement}
 use Rattle.tcp_replay.specs.World.{PartyState}
-use Rattle.tcp_replay.proofs.Judgements.{IsSyn, judged}
-use Rattle.tcp_replay.proofs.Calls.{KeptByCalls}
+use Rattle.tcp_replay.proofs.one_end.Judgements.{IsSyn, judged}
+use Rattle.tcp_replay.proofs.pair.Calls.{KeptByCalls}
 use Rattle.tcp_judge.specs.Heard.{any_scale, any_permission}
 use Rattle.tcp_replay.proofs.Cases.{own_fin-cases}
 
@@ -32,8 +32,8 @@ own_fin-link : (s : State) → (after_own_fin s).link ≡ s.link
 own_fin-link s = own_fin-cases s (λ (x : State). x.link ≡ s.link) (λ _ _. refl) (λ _ _. refl) (λ _. refl)
 
 its_ack-link : (s : State) (v : Content) → (after_its_ack s v).link ≡ s.link
-unfolding after_its_ack after_news after_acked_text after_own_syn
-its_ack-link s v = own_fin-link (after_news (after_acked_text (after_own_syn s v) v) v)
+unfolding after_its_ack after_window_and_blocks after_acked_text after_own_syn
+its_ack-link s v = own_fin-link (after_window_and_blocks (after_acked_text (after_own_syn s v) v) v)
 
 taking-link : (s : State) (v : Content) → (after_taking s v).link ≡ s.link
 unfolding after_taking after_its_text after_fin

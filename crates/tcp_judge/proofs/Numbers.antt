@@ -83,12 +83,12 @@ come-at (span ∷ spans) zero n d inside e = ap (λ b. b || has_come spans n) e
 come-at (span ∷ spans) (suc i) n d inside e = or_right (covers n span) (has_come spans n) (come-at spans i n d (omega arith) e)
 
 -- WHAT IS PASSED covers no number that is less than 2^31 ahead of the acknowledgement,
-ahead-not_covered : (span : Seq × ℕ) (told n : ℕ) → told < 2 ^ 32 → distance told n < 2 ^ 31 → is_passed told span ≡ true → covers n span ≡ false
-ahead-not_covered span told n small near passed =
-    let parts = and_parts (nat_le span.1 (distance span.0.0 told)) (is_from span.0.0 told) passed in
-    let beyond : span.1 ≤ distance span.0.0 told = leb-true span.1 (distance span.0.0 told) parts.0 in
-    let close : distance span.0.0 told < 2 ^ 31 = ltb-true (distance span.0.0 told) (2 ^ 31) parts.1 in
-    let sum : distance span.0.0 n ≡ distance span.0.0 told + distance told n = omega (arith, small, near, close) in
+ahead-not_covered : (span : Seq × ℕ) (acked_number n : ℕ) → acked_number < 2 ^ 32 → distance acked_number n < 2 ^ 31 → is_passed acked_number span ≡ true → covers n span ≡ false
+ahead-not_covered span acked_number n small near passed =
+    let parts = and_parts (nat_le span.1 (distance span.0.0 acked_number)) (is_from span.0.0 acked_number) passed in
+    let beyond : span.1 ≤ distance span.0.0 acked_number = leb-true span.1 (distance span.0.0 acked_number) parts.0 in
+    let close : distance span.0.0 acked_number < 2 ^ 31 = ltb-true (distance span.0.0 acked_number) (2 ^ 31) parts.1 in
+    let sum : distance span.0.0 n ≡ distance span.0.0 acked_number + distance acked_number n = omega (arith, small, near, close) in
     le-ltb (distance span.0.0 n) span.1 (omega (arith, sum, beyond))
 
 or-uncovered : (a b : Bool) → a ≡ false → a || b ≡ true → b ≡ true
@@ -96,15 +96,15 @@ or-uncovered true b e f = absurd (false≢true (sym e))
 or-uncovered false b e f = f
 
 -- so each such number that came is still known to have come
-pub still-come : (spans : List (Seq × ℕ)) (told n : ℕ) → told < 2 ^ 32 → distance told n < 2 ^ 31 → has_come spans n ≡ true
-    → has_come (without_passed told spans) n ≡ true
-still-come [] told n small near e = e
-still-come (span ∷ spans) told n small near e =
-    let rest = without_passed told spans in
-    by_test (not (is_passed told span)) (λ b. has_come (if b then span ∷ rest else rest) n ≡ true)
-    (λ _. or-more (covers n span) (has_come spans n) (has_come rest n) (still-come spans told n small near) e)
-    (λ passed. still-come spans told n small near
-    (or-uncovered (covers n span) (has_come spans n) (ahead-not_covered span told n small near (not-false (is_passed told span) passed)) e))
+pub still-come : (spans : List (Seq × ℕ)) (acked_number n : ℕ) → acked_number < 2 ^ 32 → distance acked_number n < 2 ^ 31 → has_come spans n ≡ true
+    → has_come (without_passed acked_number spans) n ≡ true
+still-come [] acked_number n small near e = e
+still-come (span ∷ spans) acked_number n small near e =
+    let rest = without_passed acked_number spans in
+    by_test (not (is_passed acked_number span)) (λ b. has_come (if b then span ∷ rest else rest) n ≡ true)
+    (λ _. or-more (covers n span) (has_come spans n) (has_come rest n) (still-come spans acked_number n small near) e)
+    (λ passed. still-come spans acked_number n small near
+    (or-uncovered (covers n span) (has_come spans n) (ahead-not_covered span acked_number n small near (not-false (is_passed acked_number span) passed)) e))
 
 -- a SYN with this number came
 abbrev pub HasSyn : List Seq → ℕ → Type 0
@@ -120,13 +120,13 @@ pub syn-last : (syns : List Seq) (seq : Seq) → HasSyn (syns ++ seq ∷ []) seq
 syn-last [] seq = inl refl
 syn-last (first ∷ syns) seq = inr (syn-last syns seq)
 
-pub begins-at : (spans : List (Seq × ℕ)) (syns : List Seq) (irs told : ℕ) → HasSyn syns irs → goes_on spans (number irs 1) told ≡ true
-    → begins spans syns told ≡ true
-begins-at spans [] irs told h e = absurd h
-begins-at spans (first ∷ syns) irs told (inl same) e =
-    ap (λ b. b || begins spans syns told) (ap (λ n. goes_on spans (number n 1) told) same ∙ e)
-begins-at spans (first ∷ syns) irs told (inr h) e =
-    or_right (goes_on spans (number first.0 1) told) (begins spans syns told) (begins-at spans syns irs told h e)
+pub begins-at : (spans : List (Seq × ℕ)) (syns : List Seq) (irs acked_number : ℕ) → HasSyn syns irs → goes_on spans (number irs 1) acked_number ≡ true
+    → begins spans syns acked_number ≡ true
+begins-at spans [] irs acked_number h e = absurd h
+begins-at spans (first ∷ syns) irs acked_number (inl same) e =
+    ap (λ b. b || begins spans syns acked_number) (ap (λ n. goes_on spans (number n 1) acked_number) same ∙ e)
+begins-at spans (first ∷ syns) irs acked_number (inr h) e =
+    or_right (goes_on spans (number first.0 1) acked_number) (begins spans syns acked_number) (begins-at spans syns irs acked_number h e)
 
 -- the numbers of the positions from one up to another
 pub positions-came : (spans : List (Seq × ℕ)) (irs from to : ℕ) → from ≤ to

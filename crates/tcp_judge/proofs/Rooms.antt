@@ -4,7 +4,7 @@ use Rattle.std.specs.Prelude.{None}
 use Rattle.std.proofs.lemmas.Bool.{cond_both}
 use Rattle.tcp_wire.specs.Wire.{Content}
 use Rattle.tcp_halves.specs.declared.link.Peer.{Peer}
-use Rattle.tcp_halves.specs.Receiver.{Receiving, HoldsWithin, after_handing, after_text, with_fin, without_bytes}
+use Rattle.tcp_halves.specs.Receiver.{Receiving, HoldsWithin, after_delivering, after_text, with_fin, without_bytes}
 use Rattle.tcp_conn.specs.declared.arrive.judgement.Judgement.{Judgement}
 use Rattle.tcp_conn.specs.declared.arrive.judgement.Judgement.TheVariants.{PeerResets, PeerOpens, PeerAccepts, Taken, TakenShut}
 use Rattle.tcp_conn.specs.State.{State}
@@ -13,10 +13,10 @@ use Rattle.tcp_conn.specs.Judgement.{judgement}
 use Rattle.tcp_conn.specs.Arrival.{after_peer_opens, after_peer_accepts, after_its_ack, takes_text_of, after_its_text, takes_fin, after_fin, after_taking}
 use Rattle.tcp_conn.specs.Arrival.{after_taking_shut, after_judgement}
 use Rattle.tcp_replay.specs.World.{PartyState}
-use Rattle.tcp_replay.proofs.Judgements.{judged}
-use Rattle.tcp_replay.proofs.Calls.{KeptByCalls}
-use Rattle.tcp_replay.proofs.Room.{within-fin, within-given_up, within-read, within-text}
-use Rattle.tcp_replay.proofs.Stages.{its_ack-receiving}
+use Rattle.tcp_replay.proofs.one_end.Judgements.{judged}
+use Rattle.tcp_replay.proofs.pair.Calls.{KeptByCalls}
+use Rattle.tcp_replay.proofs.Room.{within-discarded, within-fin, within-read, within-text}
+use Rattle.tcp_replay.proofs.pair.TakingSegments.{its_ack-receiving}
 
 module _ (capacity : ℕ) where
   -- its room is the capacity
@@ -30,8 +30,8 @@ module _ (capacity : ℕ) where
   pub room-calls : (peer : Peer) (p : PartyState) → HasRoom p.endpoint.receiving → KeptByCalls peer p (λ p'. HasRoom p'.endpoint.receiving)
   room-calls peer p h =
       let r = p.endpoint.receiving in
-      let reads : (room : ℕ) → receive_refusal p.endpoint ≡ None → HasRoom (after_handing r room) = λ room _. within-read capacity r room h in
-      let gone : HasRoom (without_bytes r) = within-given_up capacity r h in
+      let reads : (room : ℕ) → receive_refusal p.endpoint ≡ None → HasRoom (after_delivering r room) = λ room _. within-read capacity r room h in
+      let gone : HasRoom (without_bytes r) = within-discarded capacity r h in
       assumption
 
   -- A SEGMENT ARRIVES
@@ -66,7 +66,7 @@ module _ (capacity : ℕ) where
       → HasRoom (after_judgement (judgement s src dst v) s src v).receiving
   room-judgement s src dst v h =
       let J : Judgement → Type 0 = λ j. HasRoom (after_judgement j s src v).receiving in
-      let gone : J PeerResets = within-given_up capacity s.receiving h in
+      let gone : J PeerResets = within-discarded capacity s.receiving h in
       let opens : J PeerOpens = room-opens s src v h in
       let accepts : J PeerAccepts = room-accepts s v h in
       let taken : J Taken = room-taking s v h in

@@ -16,7 +16,7 @@ use Rattle.tcp_conn.specs.declared.emit.due.Due.{Due}
 use Rattle.tcp_conn.specs.declared.emit.due.Due.TheVariants.{Reset, Syn, Acknowledgement}
 use Rattle.tcp_halves.specs.declared.link.WaitingReset.{WaitingReset}
 use Rattle.tcp_halves.specs.Config.{IsConfig}
-use Rattle.tcp_conn.specs.Phase.{gives_up}
+use Rattle.tcp_conn.specs.Phase.{discards}
 use Rattle.tcp_conn.specs.State.{State}
 use Rattle.tcp_conn.specs.Due.{ack_alone, due_of}
 use Rattle.tcp_conn.specs.Forms.{segment_of, shift_offered, is_sack_offered, scale_options, permission_options, syn_segment, plain_segment, waiting_segment}
@@ -25,16 +25,16 @@ use Rattle.tcp_replay.specs.Alone.{IsAlone}
 use Rattle.tcp_replay.specs.Solo.{SoloState, solo_start, end_after, segment_alone, segment_due, after_solo}
 use Rattle.tcp_replay.specs.SoloEvents.{SoloContent, HasRanges, Emit, EmitAcknowledgement}
 use Rattle.tcp_replay.proofs.Lists.{by_test, one_if}
-use Rattle.tcp_replay.proofs.Alone.{alone-new}
-use Rattle.tcp_replay.proofs.AloneCalls.{IsAloneIn}
-use Rattle.tcp_replay.proofs.AloneEmissions.{GoesOutAlone, ack-alone-goes, due-alone}
-use Rattle.tcp_replay.proofs.Emissions.{syn-opened, due-bits, waiting-bit}
-use Rattle.tcp_replay.proofs.Feeds.{ByNumber}
+use Rattle.tcp_replay.proofs.one_end.Alone.{alone-new}
+use Rattle.tcp_replay.proofs.one_end.AloneCalls.{IsAloneIn}
+use Rattle.tcp_replay.proofs.one_end.AloneEmissions.{GoesOutAlone, ack-alone-goes, due-alone}
+use Rattle.tcp_replay.proofs.pair.Emissions.{syn-opened, due-bits, waiting-bit}
+use Rattle.tcp_replay.proofs.one_end.Feeds.{ByNumber}
 use Rattle.tcp_numbers.specs.declared.seq.Seq.{Seq}
-use Rattle.tcp_replay.proofs.SoloRuns.{party_in, alone-step}
-use Rattle.tcp_replay.proofs.Phases.{handshake-knows}
-use Rattle.tcp_judge.specs.Heard.{Heard, nothing_heard, has_come, goes_on, begins, is_of_came, is_further, tells, tells_beyond, goes_further, without_passed}
-use Rattle.tcp_judge.specs.Heard.{after_telling, after_went}
+use Rattle.tcp_replay.proofs.one_end.SoloRuns.{party_in, alone-step}
+use Rattle.tcp_replay.proofs.one_end.Phases.{handshake-knows}
+use Rattle.tcp_judge.specs.Heard.{Heard, nothing_heard, has_come, goes_on, begins, is_of_came, is_further, carries_ack, acks_beyond, goes_further, without_passed}
+use Rattle.tcp_judge.specs.Heard.{after_acknowledging, after_went}
 use Rattle.tcp_judge.specs.Heard.{any_scale, answers_more, oversteps}
 use Rattle.tcp_judge.specs.Log.{PassageContent, went_from, log_of, log_alone}
 use Rattle.tcp_judge.specs.Rules.{ack_finding}
@@ -44,33 +44,33 @@ use Rattle.tcp_judge.proofs.Streams.{none-found, unless}
 use Rattle.tcp_judge.proofs.Links.{Offered}
 use Rattle.tcp_judge.proofs.Blocks.{due-report}
 use Rattle.tcp_judge.proofs.Forms.{due-form}
-use Rattle.tcp_judge.proofs.Going.{not-gone}
+use Rattle.tcp_judge.proofs.PeerNotDiscarded.{not-gone}
 use Rattle.tcp_judge.proofs.Hearing.{heard_past}
 use Rattle.tcp_judge.proofs.Hears.{IsSince, since-most, Hears, hears-new, held-inside}
 use Rattle.tcp_judge.proofs.Hearings.{hears-step, address-step}
 
 -- ACKNOWLEDGEMENTS
-record Tells (s : State) (v : Content) : Type 0 where
+record CarriesAck (s : State) (v : Content) : Type 0 where
   opened : s.receiving.opened ≡ true
-  next : v.ack ≡ s.receiving.next
-  gone : gives_up s.ending ≡ false
+  next : v.ack ≡ s.receiving.rcv_nxt
+  gone : discards s.ending ≡ false
 
-due-tells : (s : State) (accepted : List ℕ) (closed : Bool) (due : Due) → GoesOutAlone s accepted closed due → IsAlone s accepted closed
-    → has rst (segment_of s due).flags ≡ false → has ack (segment_of s due).flags ≡ true → Tells s (segment_of s due)
+due-carries_ack : (s : State) (accepted : List ℕ) (closed : Bool) (due : Due) → GoesOutAlone s accepted closed due → IsAlone s accepted closed
+    → has rst (segment_of s due).flags ≡ false → has ack (segment_of s due).flags ≡ true → CarriesAck s (segment_of s due)
 unfolding segment_of
-due-tells s accepted closed Reset out a plain told = absurd (false≢true (sym plain ∙ waiting-bit s s.owed.reset out.kind))
-due-tells s accepted closed Syn out a plain told =
-    let opened = syn-opened s told in
+due-carries_ack s accepted closed Reset out a plain acked_number = absurd (false≢true (sym plain ∙ waiting-bit s s.pending.reset out.kind))
+due-carries_ack s accepted closed Syn out a plain acked_number =
+    let opened = syn-opened s acked_number in
     record {
       opened = opened;
-      next = ap (λ (b : Bool). if b then s.receiving.next else 0) opened;
+      next = ap (λ (b : Bool). if b then s.receiving.rcv_nxt else 0) opened;
       gone = not-gone s accepted closed (handshake-knows s.phase out.kind) a;
     }
-due-tells s accepted closed other out a plain told =
+due-carries_ack s accepted closed other out a plain acked_number =
     record { opened = out.kind.opened; next = refl; gone = not-gone s accepted closed out.kind.knows a }
 
 -- every position from the last one that was told up to the next one that is wanted came
-wanted-came : (x : SoloState) (h : Heard) (irs k p : ℕ) (hears : Hears h x irs k) → gives_up x.endpoint.ending ≡ false → hears.since ≤ p
+wanted-came : (x : SoloState) (h : Heard) (irs k p : ℕ) (hears : Hears h x irs k) → discards x.endpoint.ending ≡ false → hears.since ≤ p
     → p < 1 + k + one_if x.endpoint.receiving.finished → has_come h.spans (number irs p) ≡ true
 wanted-came x h irs k p hears here from below =
     ⊎_elim (λ (inside : p < 1 + k). (hears.comes here).text p from inside)
@@ -83,43 +83,43 @@ wanted-came x h irs k p hears here from below =
     (cases_lt p (1 + k))
 
 -- so what is told next continues from it
-reach : (x : SoloState) (h : Heard) (irs k : ℕ) (v : Content) (hears : Hears h x irs k) → Tells x.endpoint v
+reach : (x : SoloState) (h : Heard) (irs k : ℕ) (v : Content) (hears : Hears h x irs k) → CarriesAck x.endpoint v
     → goes_on h.spans (number irs hears.since) v.ack ≡ true
 reach x h irs k v hears t =
     let r = x.endpoint.receiving in
     let to = 1 + k + one_if r.finished in
-    let most = since-most h.told r irs k hears.since hears.told in
+    let most = since-most h.acked_number r irs k hears.since hears.acked_number in
     subst (λ (n : ℕ). goes_on h.spans (number irs hears.since) n ≡ true) (sym (t.next ∙ hears.fed.next t.opened))
     (positions-came h.spans irs hears.since to most (λ p from below. wanted-came x h irs k p hears t.gone from below))
 
-told-right : (x : SoloState) (h : Heard) (irs k since : ℕ) (v : Content) (told : Option Seq) → IsSince told x.endpoint.receiving irs k since
-    → (told ≡ None → HasSyn h.syns irs) → goes_on h.spans (number irs since) v.ack ≡ true → is_of_came told h.spans h.syns v.ack ≡ true
-told-right x h irs k since v None first has_syn goes =
+acked_number-right : (x : SoloState) (h : Heard) (irs k since : ℕ) (v : Content) (acked_number : Option Seq) → IsSince acked_number x.endpoint.receiving irs k since
+    → (acked_number ≡ None → HasSyn h.syns irs) → goes_on h.spans (number irs since) v.ack ≡ true → is_of_came acked_number h.spans h.syns v.ack ≡ true
+acked_number-right x h irs k since v None first has_syn goes =
     begins-at h.spans h.syns irs v.ack (has_syn refl) (subst (λ (n : ℕ). goes_on h.spans (number irs n) v.ack ≡ true) first goes)
-told-right x h irs k since v (Some a) before has_syn goes =
+acked_number-right x h irs k since v (Some a) before has_syn goes =
     ap (λ (b : Bool). b || begins h.spans h.syns v.ack) (subst (λ (n : ℕ). goes_on h.spans n v.ack ≡ true) (sym before.number_is) goes)
 
 -- AFTER IT each number from it on is known to have come
-goes-told : (h : Heard) (v : Content) → goes_further h v ≡ true → tells v ≡ true
-goes-told h v e = (and_parts (tells v) (is_further h.told h.spans h.syns v.ack) e).0
+goes-acked_number : (h : Heard) (v : Content) → goes_further h v ≡ true → carries_ack v ≡ true
+goes-acked_number h v e = (and_parts (carries_ack v) (is_further h.acked_number h.spans h.syns v.ack) e).0
 
-after-telling : (h : Heard) (x : SoloState) (irs k : ℕ) (v : Content) → Hears h x irs k → Tells x.endpoint v → Hears (after_telling h v.ack) x irs k
-after-telling h x irs k v hears t =
+after-acknowledging : (h : Heard) (x : SoloState) (irs k : ℕ) (v : Content) → Hears h x irs k → CarriesAck x.endpoint v → Hears (after_acknowledging h v.ack) x irs k
+after-acknowledging h x irs k v hears t =
     let r = x.endpoint.receiving in
     let next : v.ack ≡ number irs (1 + k + one_if r.finished) = t.next ∙ hears.fed.next t.opened in
     let P : ℕ → ℕ → Type 0 = λ n byte. has_come h.spans n ≡ true in
     let P' : ℕ → ℕ → Type 0 = λ n byte. has_come (without_passed v.ack h.spans) n ≡ true in
     record {
       since = 1 + k + one_if r.finished;
-      told = record { opened = t.opened; least = omega arith; most = omega arith; number_is = next };
+      acked_number = record { opened = t.opened; least = omega arith; most = omega arith; number_is = next };
       fed = hears.fed;
       comes = λ going. record {
         text = λ p from below. absurd (omega (arith, from, below));
-        held = held-inside (ByNumber P r.next) (ByNumber P' r.next) 0 r.inbox.held
+        held = held-inside (ByNumber P r.rcv_nxt) (ByNumber P' r.rcv_nxt) 0 r.inbox.held
             (λ i byte _ below came.
             let small : v.ack < 2 ^ 32 = omega (arith, next) in
-            let near : distance v.ack (number r.next i) ≡ i = omega (arith, next, t.next, below, hears.room.received, hears.small) in
-            still-come h.spans v.ack (number r.next i) small (omega (arith, near, below, hears.room.received, hears.small)) came)
+            let near : distance v.ack (number r.rcv_nxt i) ≡ i = omega (arith, next, t.next, below, hears.room.received, hears.small) in
+            still-come h.spans v.ack (number r.rcv_nxt i) small (omega (arith, near, below, hears.room.received, hears.small)) came)
             (hears.comes going).held;
       };
       syn = λ never. absurd (cc);
@@ -130,23 +130,23 @@ after-telling h x irs k v hears t =
       offered = hears.offered;
     }
 
-record Told (h : Heard) (x : SoloState) (irs k : ℕ) (v : Content) : Type 0 where
+record HasAcked (h : Heard) (x : SoloState) (irs k : ℕ) (v : Content) : Type 0 where
   right : ack_finding h v ≡ None
   after : Hears (after_went h v) x irs k
 
-tells-right : (h : Heard) (x : SoloState) (irs k : ℕ) (v : Content) → Hears h x irs k
-    → (has rst v.flags ≡ false → has ack v.flags ≡ true → Tells x.endpoint v) → Told h x irs k v
-tells-right h x irs k v hears tell =
+carries_ack-right : (h : Heard) (x : SoloState) (irs k : ℕ) (v : Content) → Hears h x irs k
+    → (has rst v.flags ≡ false → has ack v.flags ≡ true → CarriesAck x.endpoint v) → HasAcked h x irs k v
+carries_ack-right h x irs k v hears tell =
     let r = x.endpoint.receiving in
-    let plain : tells v ≡ true → Tells x.endpoint v = λ e. tell (not-true (has rst v.flags) (and_parts (has ack v.flags) (not (has rst v.flags)) e).1)
+    let plain : carries_ack v ≡ true → CarriesAck x.endpoint v = λ e. tell (not-true (has rst v.flags) (and_parts (has ack v.flags) (not (has rst v.flags)) e).1)
     (and_parts (has ack v.flags) (not (has rst v.flags)) e).0 in
     record {
-      right = none-found (tells_beyond h v) _
-          (unless (tells v) (not (is_of_came h.told h.spans h.syns v.ack))
+      right = none-found (acks_beyond h v) _
+          (unless (carries_ack v) (not (is_of_came h.acked_number h.spans h.syns v.ack))
           (λ e. let t = plain e in
-          ap not (told-right x h irs k hears.since v h.told hears.told (λ silent. hears.syn silent t.opened) (reach x h irs k v hears t))));
-      after = cond_both (goes_further h v) (after_telling h v.ack) h (λ (g : Heard). Hears g x irs k)
-          (λ e. after-telling h x irs k v hears (plain (goes-told h v e))) (λ _. hears);
+          ap not (acked_number-right x h irs k hears.since v h.acked_number hears.acked_number (λ silent. hears.syn silent t.opened) (reach x h irs k v hears t))));
+      after = cond_both (goes_further h v) (after_acknowledging h v.ack) h (λ (g : Heard). Hears g x irs k)
+          (λ e. after-acknowledging h x irs k v hears (plain (goes-acked_number h v e))) (λ _. hears);
     }
 
 -- A SYN that answers has what was offered
@@ -175,8 +175,8 @@ plain-answers s h due =
     let bits = due-bits s.sending due in
     ap (λ (b : Bool). (b && has ack (plain_segment s due).flags) && answers_more h (plain_segment s due).options) bits.0
 
-reset-answers : (told : Bool) (more : Bool)
-    → ((has syn (rst + (if told then ack else 0)) && has ack (rst + (if told then ack else 0))) && more) ≡ false
+reset-answers : (acked_number : Bool) (more : Bool)
+    → ((has syn (rst + (if acked_number then ack else 0)) && has ack (rst + (if acked_number then ack else 0))) && more) ≡ false
 reset-answers true more = refl
 reset-answers false more = refl
 
@@ -186,7 +186,7 @@ waiting-answers s h (Some reset) = reset-answers (is_some reset.ack) (answers_mo
 
 due-answers : (s : State) (h : Heard) (due : Due) → Offered h.scaling h.sack s.link → oversteps h (segment_of s due) ≡ false
 unfolding segment_of
-due-answers s h Reset offered = waiting-answers s h s.owed.reset
+due-answers s h Reset offered = waiting-answers s h s.pending.reset
 due-answers s h Syn offered = syn-answers s h offered
 due-answers s h other offered = plain-answers s h other
 
@@ -204,16 +204,16 @@ said-due src x h irs k log (Some due) at out a hears further =
     let bytes = encoded_bytes s.config.addr.0 to v in
     let read : decode_answer src to bytes ≡ Ok v =
     subst (λ (src : List ℕ). decode_answer src to bytes ≡ Ok v) at (decoded_encoded s.config.addr.0 to v out.valid) in
-    let told = tells-right h x irs k v hears (due-tells s x.accepted x.closed due out a) in
+    let acked_number = carries_ack-right h x irs k v hears (due-carries_ack s x.accepted x.closed due out a) in
     let small : length s.receiving.inbox.held ≤ max_capacity = omega (arith, hears.room.received, hears.small) in (
       (
         v,
         read,
         due-form s x.accepted x.closed due out a,
-        rw (told.right, none-found (oversteps h v) _ (due-answers s h due hears.offered))
+        rw (acked_number.right, none-found (oversteps h v) _ (due-answers s h due hears.offered))
             (due-report s x.accepted x.closed h due out a hears.offered small (λ going. (hears.comes going).held)),
       ),
-      subst (λ (r : Result Content DecodeError). AllSaidRight (heard_went h r) log) (sym read) (further (after_went h v) told.after),
+      subst (λ (r : Result Content DecodeError). AllSaidRight (heard_went h r) log) (sym read) (further (after_went h v) acked_number.after),
     )
 
 runs : (src : List ℕ) (x : SoloState) (list : List SoloContent) (h : Heard) (irs k : ℕ) → x.endpoint.config.addr.0 ≡ src → AllByRecursion HasRanges list

@@ -12,7 +12,7 @@ use Rattle.tcp_wire.specs.Wire.{Content}
 use Rattle.tcp_wire.proofs.Lemmas.{position_of_number}
 use Rattle.tcp_replay.specs.Truthful.{IsOfUser}
 use Rattle.tcp_replay.proofs.Lists.{by_test, drop-take_sub}
-use Rattle.tcp_judge.specs.Heard.{tells}
+use Rattle.tcp_judge.specs.Heard.{carries_ack}
 use Rattle.tcp_judge.specs.Stream.{Stream, nothing_sent, count_sent, with_text, count_both, agrees, changes_bytes, count_covered, without_front}
 use Rattle.tcp_judge.specs.Known.{Known, is_syn, initial_after, place_by, place_of, fin_after, known_after, is_keep_alive, acked_by, count_acked, leads_back, known_with}
 use Rattle.tcp_judge.specs.Rules.{finding_if, initial_by, fin_by, fin_finding, text_finding, position_finding}
@@ -118,7 +118,7 @@ at-user isn accepted closed v h =
       least = omega arith;
       text = text-own v.text (drop (p + 1 - 1) accepted) (λ some. absurd (omega (arith, ap length bare.0)));
       ends = λ some. absurd (omega (arith, ap length bare.0));
-      has_fin = λ told. absurd (false≢true (sym bare.1 ∙ told));
+      has_fin = λ acked_number. absurd (false≢true (sym bare.1 ∙ acked_number));
     })
     (λ e.
     let later : p ≡ 0 → ⊥ = eqb-false p 0 (sym h.has_syn ∙ e) in
@@ -128,7 +128,7 @@ at-user isn accepted closed v h =
       least = omega arith;
       text = text-own v.text (drop (p + 0 - 1) accepted) (λ some. h.text some ∙ ap (λ n. take (length v.text) (drop n accepted)) (sym same));
       ends = λ some. omega (arith, h.fits some);
-      has_fin = λ told. omega (arith, (h.has_fin told).1);
+      has_fin = λ acked_number. omega (arith, (h.has_fin acked_number).1);
     })
 
 -- WHAT IS KNOWN is of the user's stream
@@ -195,13 +195,13 @@ module _ (isn : ℕ) (accepted : List ℕ) (closed : Bool) (small : isn < 2 ^ 32
   keeps-fin_by None behind place v h inside at =
       let end = place + length v.text in
       none-found (has fin v.flags && nat_lt end behind) _ (unless (has fin v.flags) (nat_lt end behind)
-      (λ told. le-ltb end behind (omega (arith, at.has_fin told))))
+      (λ acked_number. le-ltb end behind (omega (arith, at.has_fin acked_number))))
   keeps-fin_by (Some f) behind place v h inside at =
       let end = place + length v.text in
       let text : not (length v.text == 0) && nat_lt f end ≡ false =
       unless (not (length v.text == 0)) (nat_lt f end) (λ some. le-ltb f end (omega (arith, at.ends (not-none (length v.text) some), h))) in
       let last : has fin v.flags && not (end == f) ≡ false =
-      unless (has fin v.flags) (not (end == f)) (λ told. ap not (eq-eqb end f (at.has_fin told ∙ sym h))) in
+      unless (has fin v.flags) (not (end == f)) (λ acked_number. ap not (eq-eqb end f (at.has_fin acked_number ∙ sym h))) in
       none-found _ _ (ap (λ (b : Bool). b || (has fin v.flags && not (end == f))) text ∙ last)
 
   keeps-fin : (k : Known) (place : ℕ) (v : Content) → IsKnown isn accepted k → (place ≡ 0) ⊎ IsAt accepted place v → fin_finding k place v ≡ None
@@ -273,7 +273,7 @@ module _ (isn : ℕ) (accepted : List ℕ) (closed : Bool) (small : isn < 2 ^ 32
   acked-most : (known : Option Seq) (d : Stream) (has_fin : Bool) (v : Content) → acked_by known d has_fin v ≤ length d.sent
   acked-most None d has_fin v = omega arith
   acked-most (Some n) d has_fin v =
-      cond_both (tells v) (count_covered d has_fin (position_of n.0 (count_sent d) v.ack)) 0 (λ (n : ℕ). n ≤ length d.sent)
+      cond_both (carries_ack v) (count_covered d has_fin (position_of n.0 (count_sent d) v.ack)) 0 (λ (n : ℕ). n ≤ length d.sent)
       (λ _. covered-most d has_fin (position_of n.0 (count_sent d) v.ack)) (λ _. omega arith)
 
   pub came-kept : (k : Known) (v : Content) → IsKnown isn accepted k → IsKnown isn accepted (known_with k v)

@@ -14,7 +14,7 @@ pub record Heard : Type 0 where
   -- the number of each SYN that came before anything was acknowledged, or behind a reset, since the last acknowledgement
   pub syns : List Seq
   -- the acknowledgement that was sent, the furthest one
-  pub told : Option Seq
+  pub acked_number : Option Seq
   -- whether a reset came
   pub reset : Bool
   -- whether a SYN that came offered a window scale, and one permitted selective acknowledgement
@@ -22,7 +22,7 @@ pub record Heard : Type 0 where
   pub sack : Bool
 
 abbrev pub nothing_heard : Heard
-nothing_heard = record { spans = []; syns = []; told = None; reset = false; scaling = false; sack = false }
+nothing_heard = record { spans = []; syns = []; acked_number = None; reset = false; scaling = false; sack = false }
 
 -- OFFERS of a SYN
 abbrev pub is_scale : OptionContent → Bool
@@ -67,19 +67,19 @@ abbrev pub goes_on : List (Seq × ℕ) → ℕ → ℕ → Bool
 goes_on spans from number = all_came spans from (distance from number)
 
 abbrev pub begins : List (Seq × ℕ) → List Seq → ℕ → Bool
-begins spans [] told = false
-begins spans (first ∷ syns) told = goes_on spans (number first.0 1) told || begins spans syns told
+begins spans [] acked_number = false
+begins spans (first ∷ syns) acked_number = goes_on spans (number first.0 1) acked_number || begins spans syns acked_number
 
 abbrev pub is_of_came : Option Seq → List (Seq × ℕ) → List Seq → ℕ → Bool
-is_of_came None spans syns told = begins spans syns told
-is_of_came (Some last) spans syns told = goes_on spans last.0 told || begins spans syns told
+is_of_came None spans syns acked_number = begins spans syns acked_number
+is_of_came (Some last) spans syns acked_number = goes_on spans last.0 acked_number || begins spans syns acked_number
 
 -- it has an acknowledgement, and is no reset
-abbrev pub tells : Content → Bool
-tells v = has ack v.flags && not (has rst v.flags)
+abbrev pub carries_ack : Content → Bool
+carries_ack v = has ack v.flags && not (has rst v.flags)
 
-abbrev pub tells_beyond : Heard → Content → Bool
-tells_beyond h v = tells v && not (is_of_came h.told h.spans h.syns v.ack)
+abbrev pub acks_beyond : Heard → Content → Bool
+acks_beyond h v = carries_ack v && not (is_of_came h.acked_number h.spans h.syns v.ack)
 
 -- A NUMBER FROM ANOTHER ON is less than 2^31 ahead of it (RFC 9293, 3.4)
 abbrev pub is_from : ℕ → ℕ → Bool
@@ -87,29 +87,29 @@ is_from first n = nat_lt (distance first n) (2 ^ 31)
 
 -- an acknowledgement that is less than an earlier one leaves that, unless it begins after a SYN
 abbrev pub is_further : Option Seq → List (Seq × ℕ) → List Seq → ℕ → Bool
-is_further None spans syns told = true
-is_further (Some last) spans syns told = is_from last.0 told || begins spans syns told
+is_further None spans syns acked_number = true
+is_further (Some last) spans syns acked_number = is_from last.0 acked_number || begins spans syns acked_number
 
 abbrev pub goes_further : Heard → Content → Bool
-goes_further h v = tells v && is_further h.told h.spans h.syns v.ack
+goes_further h v = carries_ack v && is_further h.acked_number h.spans h.syns v.ack
 
-abbrev pub told_after : Heard → Content → Option Seq
-told_after h v = if goes_further h v then Some (record { 0 = v.ack }) else h.told
+abbrev pub acked_number_after : Heard → Content → Option Seq
+acked_number_after h v = if goes_further h v then Some (record { 0 = v.ack }) else h.acked_number
 
 -- WHAT IS ACKNOWLEDGED is forgotten: the spans that end at this number or before it,
 abbrev pub is_passed : ℕ → Seq × ℕ → Bool
-is_passed told span = nat_le span.1 (distance span.0.0 told) && is_from span.0.0 told
+is_passed acked_number span = nat_le span.1 (distance span.0.0 acked_number) && is_from span.0.0 acked_number
 
 abbrev pub without_passed : ℕ → List (Seq × ℕ) → List (Seq × ℕ)
-without_passed told spans = filter (λ span. not (is_passed told span)) spans
+without_passed acked_number spans = filter (λ span. not (is_passed acked_number span)) spans
 
 -- and the SYNs
-abbrev pub after_telling : Heard → ℕ → Heard
-after_telling h told = record h { spans = without_passed told h.spans; syns = []; told = Some (record { 0 = told }) }
+abbrev pub after_acknowledging : Heard → ℕ → Heard
+after_acknowledging h acked_number = record h { spans = without_passed acked_number h.spans; syns = []; acked_number = Some (record { 0 = acked_number }) }
 
 -- after a segment that was sent,
 abbrev pub after_went : Heard → Content → Heard
-after_went h v = if goes_further h v then after_telling h v.ack else h
+after_went h v = if goes_further h v then after_acknowledging h v.ack else h
 
 -- and one that came: it is kept where it takes a number; a SYN, where the end may take it: before anything is acknowledged, and
 -- behind a reset, which leads an end that listens back to where it was (RFC 9293, 3.10.7.4)
@@ -118,16 +118,16 @@ spans_of v = if count_numbers v == 0 then [] else (record { 0 = v.seq }, count_n
 
 abbrev pub may_open : Option Seq → Bool → Bool
 may_open None reset = true
-may_open (Some told) reset = reset
+may_open (Some acked_number) reset = reset
 
 abbrev pub syns_of : Option Seq → Bool → Content → List Seq
-syns_of told reset v = if has syn v.flags && may_open told reset then record { 0 = v.seq } ∷ [] else []
+syns_of acked_number reset v = if has syn v.flags && may_open acked_number reset then record { 0 = v.seq } ∷ [] else []
 
 abbrev pub after_came : Heard → Content → Heard
 after_came h v = record {
   spans = h.spans ++ spans_of v;
-  syns = h.syns ++ syns_of h.told h.reset v;
-  told = h.told;
+  syns = h.syns ++ syns_of h.acked_number h.reset v;
+  acked_number = h.acked_number;
   reset = h.reset || has rst v.flags;
   scaling = h.scaling || (has syn v.flags && any_scale v.options);
   sack = h.sack || (has syn v.flags && any_permission v.options);

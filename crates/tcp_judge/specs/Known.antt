@@ -6,7 +6,7 @@ use Rattle.tcp_wire.specs.Flags.{fin, syn, rst, has}
 use Rattle.tcp_wire.specs.Position.{position_of}
 use Rattle.tcp_wire.specs.Wire.{Content}
 use Rattle.tcp_judge.specs.Stream.{Stream, nothing_sent, count_sent, count_taken, with_text, count_covered, without_front}
-use Rattle.tcp_judge.specs.Heard.{Heard, nothing_heard, tells, after_went, after_came}
+use Rattle.tcp_judge.specs.Heard.{Heard, nothing_heard, carries_ack, after_went, after_came}
 
 pub record Known : Type 0 where
   -- the number of the first SYN that was sent
@@ -65,7 +65,7 @@ known_after k v = record {
 -- last byte that was sent
 abbrev pub acked_by : Option Seq → Stream → Bool → Content → ℕ
 acked_by None d has_fin v = 0
-acked_by (Some number) d has_fin v = if tells v then count_covered d has_fin (position_of number.0 (count_sent d) v.ack) else 0
+acked_by (Some number) d has_fin v = if carries_ack v then count_covered d has_fin (position_of number.0 (count_sent d) v.ack) else 0
 
 abbrev pub count_acked : Known → Content → ℕ
 count_acked k v = acked_by k.initial k.stream (is_some k.fin) v
@@ -76,7 +76,7 @@ covers_syn d has_fin position = nat_lt 0 position && nat_le position (count_take
 
 abbrev pub acks_syn_by : Option Seq → Stream → Bool → Content → Bool
 acks_syn_by None d has_fin v = false
-acks_syn_by (Some number) d has_fin v = tells v && covers_syn d has_fin (position_of number.0 (count_sent d) v.ack)
+acks_syn_by (Some number) d has_fin v = carries_ack v && covers_syn d has_fin (position_of number.0 (count_sent d) v.ack)
 
 abbrev pub acks_syn : Known → Content → Bool
 acks_syn k v = acks_syn_by k.initial k.stream (is_some k.fin) v

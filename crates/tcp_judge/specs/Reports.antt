@@ -25,23 +25,23 @@ lacks_permission h v = any_report v.options && not h.sack
 -- or of an earlier time, and what came there is forgotten
 abbrev pub is_ahead : Option Seq → ℕ × ℕ → Bool
 is_ahead None block = true
-is_ahead (Some told) block = is_from told.0 block.0
+is_ahead (Some acked_number) block = is_from acked_number.0 block.0
 
 abbrev pub is_block : Option Seq → List (Seq × ℕ) → ℕ × ℕ → Bool
-is_block told spans block = is_from block.0 block.1 && (not (is_ahead told block) || goes_on spans block.0 block.1)
+is_block acked_number spans block = is_from block.0 block.1 && (not (is_ahead acked_number block) || goes_on spans block.0 block.1)
 
 -- the first that isn't
 abbrev pub block_finding : Option Seq → List (Seq × ℕ) → List (ℕ × ℕ) → Option Finding
-block_finding told spans [] = None
-block_finding told spans (block ∷ blocks) =
-    if is_block told spans block
-    then block_finding told spans blocks
+block_finding acked_number spans [] = None
+block_finding acked_number spans (block ∷ blocks) =
+    if is_block acked_number spans block
+    then block_finding acked_number spans blocks
     else Some (BlockBeyond (record { 0 = block.0 }) (record { 0 = block.1 }))
 
 abbrev pub option_finding : Option Seq → List (Seq × ℕ) → OptionContent → Option Finding
-option_finding told spans (Sack blocks) = block_finding told spans blocks
-option_finding told spans other = None
+option_finding acked_number spans (Sack blocks) = block_finding acked_number spans blocks
+option_finding acked_number spans other = None
 
 abbrev pub options_finding : Option Seq → List (Seq × ℕ) → List OptionContent → Option Finding
-options_finding told spans [] = None
-options_finding told spans (option ∷ options) = option_or (option_finding told spans option) (options_finding told spans options)
+options_finding acked_number spans [] = None
+options_finding acked_number spans (option ∷ options) = option_or (option_finding acked_number spans option) (options_finding acked_number spans options)

@@ -7,7 +7,7 @@ use Rattle.tcp_numbers.specs.declared.seq.Seq.{Seq}
 use Rattle.tcp_wire.specs.Flags.{fin, syn, rst, ack, has}
 use Rattle.tcp_wire.specs.Options.{OptionContent, Mss, WindowScale, SackPermitted}
 use Rattle.tcp_wire.specs.Wire.{Content}
-use Rattle.tcp_judge.specs.Heard.{Heard, tells_beyond, told_after, oversteps}
+use Rattle.tcp_judge.specs.Heard.{Heard, acks_beyond, acked_number_after, oversteps}
 use Rattle.tcp_judge.specs.Reports.{lacks_permission, options_finding}
 use Rattle.tcp_judge.specs.Stream.{count_sent, changes_bytes}
 use Rattle.tcp_judge.specs.Known.{Known, is_syn, place_of, is_keep_alive}
@@ -75,7 +75,7 @@ position_finding k place v = option_or (initial_by k.initial v) (if is_keep_aliv
 
 -- ACKNOWLEDGEMENTS cover only what came (RFC 9293, 3.4 and 3.10.7.4)
 abbrev pub ack_finding : Heard → Content → Option Finding
-ack_finding h v = finding_if (tells_beyond h v) (AckBeyond (record { 0 = v.ack }))
+ack_finding h v = finding_if (acks_beyond h v) (AckBeyond (record { 0 = v.ack }))
 
 -- the options of a SYN that answers another (RFC 7323, 1.3 and 2.2)
 abbrev pub answer_finding : Heard → Content → Option Finding
@@ -83,7 +83,7 @@ answer_finding h v = finding_if (oversteps h v) Unoffered
 
 -- BLOCKS are permitted, and of what came (RFC 2018, 3 and 4)
 abbrev pub report_finding : Heard → Content → Option Finding
-report_finding h v = option_or (finding_if (lacks_permission h v) Unpermitted) (options_finding (told_after h v) h.spans v.options)
+report_finding h v = option_or (finding_if (lacks_permission h v) Unpermitted) (options_finding (acked_number_after h v) h.spans v.options)
 
 -- against what came
 abbrev pub heard_finding : Heard → Content → Option Finding

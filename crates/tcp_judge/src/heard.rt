@@ -6,7 +6,7 @@ ghost use Rattle.tcp_wire.specs.Position.{number};
 ghost use Rattle.tcp_wire.specs.View.{content, option_content};
 ghost use Rattle.tcp_wire.specs.Wire.{max_text_len};
 ghost use Rattle.tcp_conn.specs.Judgement.{count_numbers};
-ghost use Rattle.tcp_judge.specs.Heard.{is_scale, any_scale, is_permission, any_permission, covers, has_come, all_came, goes_on, begins, is_of_came, tells, is_from, is_further, is_passed, without_passed, spans_of, may_open, syns_of};
+ghost use Rattle.tcp_judge.specs.Heard.{is_scale, any_scale, is_permission, any_permission, covers, has_come, all_came, goes_on, begins, is_of_came, carries_ack, is_from, is_further, is_passed, without_passed, spans_of, may_open, syns_of};
 
 use std::alloc::Allocator;
 use tcp_wire::{Segment, Seq, TcpOption};
@@ -27,8 +27,8 @@ fn count_numbers(segment: &Segment<'_>) -> u32
     count
 }
 
-pub(crate) fn tells(segment: &Segment<'_>) -> bool
-    ensures { result ≡ tells (content segment.now) }
+pub(crate) fn carries_ack(segment: &Segment<'_>) -> bool
+    ensures { result ≡ carries_ack (content segment.now) }
 {
     segment.header.flags.is_ack() && !segment.header.flags.is_rst()
 }
@@ -153,18 +153,18 @@ fn all_came(spans: &[(Seq, u32)], from: Seq, count: u32) -> bool
     true
 }
 
-/// Whether each number from this one up to `told` came.
-pub(crate) fn goes_on(spans: &[(Seq, u32)], from: Seq, told: Seq) -> bool
-    ensures { result ≡ goes_on spans.now from.0 told.0 }
+/// Whether each number from this one up to `acked_number` came.
+pub(crate) fn goes_on(spans: &[(Seq, u32)], from: Seq, acked_number: Seq) -> bool
+    ensures { result ≡ goes_on spans.now from.0 acked_number.0 }
 {
-    all_came(spans, from, told.minus(from))
+    all_came(spans, from, acked_number.minus(from))
 }
 
-fn begins(spans: &[(Seq, u32)], syns: &[Seq], told: Seq) -> bool
-    ensures { result ≡ begins spans.now syns.now told.0 }
+fn begins(spans: &[(Seq, u32)], syns: &[Seq], acked_number: Seq) -> bool
+    ensures { result ≡ begins spans.now syns.now acked_number.0 }
 {
     for first in syns {
-        if goes_on(spans, first.plus(1), told) {
+        if goes_on(spans, first.plus(1), acked_number) {
             return true;
         }
     }
@@ -172,12 +172,17 @@ fn begins(spans: &[(Seq, u32)], syns: &[Seq], told: Seq) -> bool
 }
 
 /// Whether an acknowledgement continues over what came from the last one that was sent, or begins after a SYN that came.
-pub(crate) fn is_of_came(last: Option<Seq>, spans: &[(Seq, u32)], syns: &[Seq], told: Seq) -> bool
-    ensures { result ≡ is_of_came last spans.now syns.now told.0 }
+pub(crate) fn is_of_came(
+    last: Option<Seq>,
+    spans: &[(Seq, u32)],
+    syns: &[Seq],
+    acked_number: Seq,
+) -> bool
+    ensures { result ≡ is_of_came last spans.now syns.now acked_number.0 }
 {
     match last {
-        Some(last) => goes_on(spans, last, told) || begins(spans, syns, told),
-        None => begins(spans, syns, told),
+        Some(last) => goes_on(spans, last, acked_number) || begins(spans, syns, acked_number),
+        None => begins(spans, syns, acked_number),
     }
 }
 
@@ -189,11 +194,11 @@ pub(crate) fn is_from(first: Seq, number: Seq) -> bool
 }
 
 /// Whether an acknowledgement is not less than the furthest one before it, or begins after a SYN that came.
-fn is_further(last: Option<Seq>, spans: &[(Seq, u32)], syns: &[Seq], told: Seq) -> bool
-    ensures { result ≡ is_further last spans.now syns.now told.0 }
+fn is_further(last: Option<Seq>, spans: &[(Seq, u32)], syns: &[Seq], acked_number: Seq) -> bool
+    ensures { result ≡ is_further last spans.now syns.now acked_number.0 }
 {
     match last {
-        Some(last) => is_from(last, told) || begins(spans, syns, told),
+        Some(last) => is_from(last, acked_number) || begins(spans, syns, acked_number),
         None => true,
     }
 }
@@ -205,16 +210,16 @@ pub(crate) fn goes_further(
     syns: &[Seq],
     segment: &Segment<'_>,
 ) -> bool
-    ensures { result ≡ (tells (content segment.now) && is_further last spans.now syns.now (content segment.now).ack) }
+    ensures { result ≡ (carries_ack (content segment.now) && is_further last spans.now syns.now (content segment.now).ack) }
 {
-    tells(segment) && is_further(last, spans, syns, segment.header.ack)
+    carries_ack(segment) && is_further(last, spans, syns, segment.header.ack)
 }
 
 /// Whether each number of the span is before this one.
-fn is_passed(told: Seq, span: (Seq, u32)) -> bool
-    ensures { result ≡ is_passed told.0 span }
+fn is_passed(acked_number: Seq, span: (Seq, u32)) -> bool
+    ensures { result ≡ is_passed acked_number.0 span }
 {
-    span.1 <= told.minus(span.0) && is_from(span.0, told)
+    span.1 <= acked_number.minus(span.0) && is_from(span.0, acked_number)
 }
 
 /// Adds a segment that came, where it takes a number.
@@ -231,10 +236,10 @@ pub(crate) fn keep_span<A: Allocator>(spans: &mut Vec<(Seq, u32), A>, segment: &
 }
 
 /// Whether the end may take a SYN: before anything is acknowledged, and behind a reset.
-fn may_open(told: Option<Seq>, reset: bool) -> bool
-    ensures { result ≡ may_open told reset }
+fn may_open(acked_number: Option<Seq>, reset: bool) -> bool
+    ensures { result ≡ may_open acked_number reset }
 {
-    match told {
+    match acked_number {
         Some(_) => reset,
         None => true,
     }
@@ -242,22 +247,22 @@ fn may_open(told: Option<Seq>, reset: bool) -> bool
 
 /// Adds a SYN that came, where the end may take it.
 pub(crate) fn keep_syn<A: Allocator>(
-    told: Option<Seq>,
+    acked_number: Option<Seq>,
     reset: bool,
     syns: &mut Vec<Seq, A>,
     segment: &Segment<'_>,
 )
     requires room { vec_len syns.old < vec_capacity syns.old }
-    ensures { syns.new.items ≡ syns.old.items ++ syns_of told reset (content segment.now) }
+    ensures { syns.new.items ≡ syns.old.items ++ syns_of acked_number reset (content segment.now) }
 {
-    if segment.header.flags.is_syn() && may_open(told, reset) {
+    if segment.header.flags.is_syn() && may_open(acked_number, reset) {
         syns.push_reserved(segment.header.seq);
     }
 }
 
 /// Forgets the spans before an acknowledgement.
-pub(crate) fn forget_passed<A: Allocator>(spans: &mut Vec<(Seq, u32), A>, told: Seq)
-    ensures { spans.new.items ≡ without_passed told.0 spans.old.items }
+pub(crate) fn forget_passed<A: Allocator>(spans: &mut Vec<(Seq, u32), A>, acked_number: Seq)
+    ensures { spans.new.items ≡ without_passed acked_number.0 spans.old.items }
 {
-    spans.retain(|span| !is_passed(told, *span));
+    spans.retain(|span| !is_passed(acked_number, *span));
 }

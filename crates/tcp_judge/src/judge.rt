@@ -4,7 +4,7 @@ ghost use Rattle.tcp_wire.specs.Decoded.{decode_answer};
 ghost use Rattle.tcp_wire.specs.View.{content};
 ghost use Rattle.tcp_wire.specs.Wire.{max_text_len};
 ghost use Rattle.tcp_judge.specs.Known.{nothing_known, is_syn, initial_after, place_of, is_keep_alive, known_after, count_acked, acks_syn, known_with};
-ghost use Rattle.tcp_judge.specs.Heard.{tells_beyond, goes_further, told_after, after_went};
+ghost use Rattle.tcp_judge.specs.Heard.{acks_beyond, goes_further, acked_number_after, after_went};
 ghost use Rattle.tcp_judge.specs.Rules.{initial_by, fin_by, fin_finding, text_finding, position_finding, report_finding, finding_of};
 ghost use Rattle.tcp_judge.specs.Judgement.{finding_read, known_read, known_came, finding_at, known_past};
 ghost use Rattle.tcp_judge.specs.Log.{passage_content};
@@ -13,8 +13,8 @@ ghost use Rattle.tcp_judge.specs.Taken.{taken_of};
 use crate::finding::Finding;
 use crate::form::form_finding;
 use crate::heard::{
-    forget_passed, goes_further, is_of_came, keep_span, keep_syn, offers_sack, offers_scale,
-    oversteps, tells,
+    carries_ack, forget_passed, goes_further, is_of_came, keep_span, keep_syn, offers_sack,
+    offers_scale, oversteps,
 };
 use crate::passage::Passage;
 use crate::reports::{any_report, options_finding};
@@ -42,7 +42,7 @@ pub struct Judge<A: Allocator = Global> {
     /// acknowledgement.
     syns: Vec<Seq, A>,
     /// The acknowledgement that was sent, the furthest one.
-    told: Option<Seq>,
+    acked_number: Option<Seq>,
     /// Whether a reset came.
     reset: bool,
     /// Whether a SYN that came offered a window scale.
@@ -56,7 +56,7 @@ impl<A: Allocator> Model for Judge<A> {
 
     ghost Value = { Known };
 
-    ghost view = { λ j. record { initial = j.initial; stream = j.stream; fin = j.fin; acked = j.acked; heard = record { spans = j.spans.items; syns = j.syns.items; told = j.told; reset = j.reset; scaling = j.scaling; sack = j.sack } } };
+    ghost view = { λ j. record { initial = j.initial; stream = j.stream; fin = j.fin; acked = j.acked; heard = record { spans = j.spans.items; syns = j.syns.items; acked_number = j.acked_number; reset = j.reset; scaling = j.scaling; sack = j.sack } } };
 }
 
 fn is_syn(segment: &Segment<'_>) -> bool
@@ -135,7 +135,7 @@ impl<A: Allocator + Copy> Judge<A> {
             acked: false,
             spans: Vec::new(alloc),
             syns: Vec::new(alloc),
-            told: None,
+            acked_number: None,
             reset: false,
             scaling: false,
             sack: false,
@@ -224,7 +224,7 @@ impl<A: Allocator + Copy> Judge<A> {
         if let Some(finding) = self.position_finding(place, segment) {
             return Some(finding);
         }
-        if self.tells_beyond(segment) {
+        if self.acks_beyond(segment) {
             return Some(Finding::AckBeyond(segment.header.ack));
         }
         if oversteps(self.scaling, segment) {
@@ -238,7 +238,7 @@ impl<A: Allocator + Copy> Judge<A> {
         ensures { result ≡ goes_further self.now.heard (content segment.now) }
     {
         goes_further(
-            self.told,
+            self.acked_number,
             self.spans.as_slice(),
             self.syns.as_slice(),
             segment,
@@ -246,13 +246,13 @@ impl<A: Allocator + Copy> Judge<A> {
     }
 
     /// The furthest acknowledgement, that of this segment included.
-    fn told_after(&self, segment: &Segment<'_>) -> Option<Seq>
-        ensures { result ≡ told_after self.now.heard (content segment.now) }
+    fn acked_number_after(&self, segment: &Segment<'_>) -> Option<Seq>
+        ensures { result ≡ acked_number_after self.now.heard (content segment.now) }
     {
         if self.goes_further(segment) {
             Some(segment.header.ack)
         } else {
-            self.told
+            self.acked_number
         }
     }
 
@@ -264,16 +264,20 @@ impl<A: Allocator + Copy> Judge<A> {
         if any_report(options) && !self.sack {
             return Some(Finding::Unpermitted);
         }
-        options_finding(self.told_after(segment), self.spans.as_slice(), options)
+        options_finding(
+            self.acked_number_after(segment),
+            self.spans.as_slice(),
+            options,
+        )
     }
 
     /// Whether the acknowledgement covers what didn't come, or is less than an earlier one.
-    fn tells_beyond(&self, segment: &Segment<'_>) -> bool
-        ensures { result ≡ tells_beyond self.now.heard (content segment.now) }
+    fn acks_beyond(&self, segment: &Segment<'_>) -> bool
+        ensures { result ≡ acks_beyond self.now.heard (content segment.now) }
     {
-        tells(segment)
+        carries_ack(segment)
             && !is_of_came(
-                self.told,
+                self.acked_number,
                 self.spans.as_slice(),
                 self.syns.as_slice(),
                 segment.header.ack,
@@ -289,7 +293,7 @@ impl<A: Allocator + Copy> Judge<A> {
         }
         forget_passed(&mut self.spans, segment.header.ack);
         self.syns.clear();
-        self.told = Some(segment.header.ack);
+        self.acked_number = Some(segment.header.ack);
     }
 
     /// Adds a segment that was sent to what is known.
@@ -319,7 +323,7 @@ impl<A: Allocator + Copy> Judge<A> {
         let Some(number) = self.initial else {
             return 0;
         };
-        if !tells(segment) {
+        if !carries_ack(segment) {
             return 0;
         }
         let position = segment.header.ack.position(number, self.stream.count());
@@ -333,7 +337,7 @@ impl<A: Allocator + Copy> Judge<A> {
         let Some(number) = self.initial else {
             return false;
         };
-        if !tells(segment) {
+        if !carries_ack(segment) {
             return false;
         }
         let position = segment.header.ack.position(number, self.stream.count());
@@ -369,7 +373,7 @@ impl<A: Allocator + Copy> Judge<A> {
         self.spans.reserve(1)?;
         self.syns.reserve(1)?;
         keep_span(&mut self.spans, &segment);
-        keep_syn(self.told, self.reset, &mut self.syns, &segment);
+        keep_syn(self.acked_number, self.reset, &mut self.syns, &segment);
         self.follow(&segment);
         self.reset = self.reset || segment.header.flags.is_rst();
         self.scaling = self.scaling || offers_scale(&segment);

@@ -29,28 +29,33 @@ pub(crate) fn any_report(options: &[TcpOption<'_>]) -> bool
 }
 
 /// Whether a block begins at the furthest acknowledgement or after it.
-fn is_ahead(told: Option<Seq>, edges: (Seq, Seq)) -> bool
-    ensures { result ≡ is_ahead told (block edges) }
+fn is_ahead(acked_number: Option<Seq>, edges: (Seq, Seq)) -> bool
+    ensures { result ≡ is_ahead acked_number (block edges) }
 {
-    match told {
-        Some(told) => is_from(told, edges.0),
+    match acked_number {
+        Some(acked_number) => is_from(acked_number, edges.0),
         None => true,
     }
 }
 
 /// Whether a block is of what came, as far as that isn't forgotten.
-fn is_block(told: Option<Seq>, spans: &[(Seq, u32)], edges: (Seq, Seq)) -> bool
-    ensures { result ≡ is_block told spans.now (block edges) }
+fn is_block(acked_number: Option<Seq>, spans: &[(Seq, u32)], edges: (Seq, Seq)) -> bool
+    ensures { result ≡ is_block acked_number spans.now (block edges) }
 {
-    is_from(edges.0, edges.1) && (!is_ahead(told, edges) || goes_on(spans, edges.0, edges.1))
+    is_from(edges.0, edges.1)
+        && (!is_ahead(acked_number, edges) || goes_on(spans, edges.0, edges.1))
 }
 
 /// The first block of what didn't come.
-fn block_finding(told: Option<Seq>, spans: &[(Seq, u32)], blocks: &[(Seq, Seq)]) -> Option<Finding>
-    ensures { result ≡ block_finding told spans.now (map block blocks.now) }
+fn block_finding(
+    acked_number: Option<Seq>,
+    spans: &[(Seq, u32)],
+    blocks: &[(Seq, Seq)],
+) -> Option<Finding>
+    ensures { result ≡ block_finding acked_number spans.now (map block blocks.now) }
 {
     for edges in blocks {
-        if !is_block(told, spans, *edges) {
+        if !is_block(acked_number, spans, *edges) {
             return Some(Finding::BlockBeyond(edges.0, edges.1));
         }
     }
@@ -58,28 +63,28 @@ fn block_finding(told: Option<Seq>, spans: &[(Seq, u32)], blocks: &[(Seq, Seq)])
 }
 
 fn option_finding(
-    told: Option<Seq>,
+    acked_number: Option<Seq>,
     spans: &[(Seq, u32)],
     option: &TcpOption<'_>,
 ) -> Option<Finding>
-    ensures { result ≡ option_finding told spans.now (option_content option.now) }
+    ensures { result ≡ option_finding acked_number spans.now (option_content option.now) }
 {
     match option {
-        TcpOption::Sack(blocks) => block_finding(told, spans, blocks.as_slice()),
+        TcpOption::Sack(blocks) => block_finding(acked_number, spans, blocks.as_slice()),
         _ => None,
     }
 }
 
-/// The first block of all options that is of what didn't come. Blocks before `told` are passed over.
+/// The first block of all options that is of what didn't come. Blocks before `acked_number` are passed over.
 pub(crate) fn options_finding(
-    told: Option<Seq>,
+    acked_number: Option<Seq>,
     spans: &[(Seq, u32)],
     options: &[TcpOption<'_>],
 ) -> Option<Finding>
-    ensures { result ≡ options_finding told spans.now (map option_content options.now) }
+    ensures { result ≡ options_finding acked_number spans.now (map option_content options.now) }
 {
     for option in options {
-        if let Some(finding) = option_finding(told, spans, option) {
+        if let Some(finding) = option_finding(acked_number, spans, option) {
             return Some(finding);
         }
     }

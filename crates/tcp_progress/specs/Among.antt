@@ -12,7 +12,7 @@ use Rattle.tcp_progress.specs.Settled.{IsLive, IsNotStuck, least_life}
 use Rattle.tcp_progress.specs.Steady.{IsSteady}
 use Rattle.tcp_progress.specs.Sent.{TakeOnlySent}
 use Rattle.tcp_progress.specs.Handshake.{CanOpen, OpensAndGetsThrough}
-use Rattle.tcp_progress.specs.Fair.{BurstEnds, CanHaveTurns, GetsThrough, NeverGrows, NoneGaveUp}
+use Rattle.tcp_progress.specs.Fair.{BurstEnds, CanHaveTurns, GetsThrough, NeverGrows, NoneDiscarded}
 use Rattle.tcp_progress.specs.Half.{CanHaveHalves, GetsThroughByHalves}
 
 -- over every list of what happens, where each injection is blind when it comes, whatever the Configs of the two ends, and
@@ -44,7 +44,7 @@ abbrev pub HalvesAmongStrangers : Type 0
 HalvesAmongStrangers = InEveryWorldAmongStrangers GetsThroughByHalves
 
 abbrev pub TurnsCanBeHadAmongStrangers : Type 0
-TurnsCanBeHadAmongStrangers = InEveryWorldAmongStrangers (λ w. NoneGaveUp w → (n : ℕ) → CanHaveTurns n w)
+TurnsCanBeHadAmongStrangers = InEveryWorldAmongStrangers (λ w. NoneDiscarded w → (n : ℕ) → CanHaveTurns n w)
 
 abbrev pub HalvesCanBeHadAmongStrangers : Type 0
 HalvesCanBeHadAmongStrangers = InEveryWorldAmongStrangers (λ w. IsLive w.a → IsLive w.b → (n : ℕ) → CanHaveHalves n w)

@@ -22,10 +22,10 @@ use Rattle.tcp_progress.specs.Resent.{KeepsFlight, after_emissions}
 -- has to be sent again ends at most at SND.NXT
 pub record MayAnswer (s : State) : Type 0 where
   pub phase : is_synchronized s.phase ≡ true
-  pub reset : s.owed.reset ≡ None
-  pub syn : s.owed.syn ≡ false
+  pub reset : s.pending.reset ≡ None
+  pub syn : s.pending.syn ≡ false
   pub limit : 1 ≤ text_limit s
-  pub range : IfSome s.sending.resend (λ range. range.end ≤ s.sending.nxt)
+  pub range : IfSome s.sending.resend (λ range. range.end ≤ s.sending.snd_nxt)
 
 -- A SEGMENT OF THE PEER THAT ISN'T ACCEPTABLE, as an old SYN: no reset, and nothing that is taken at a zero window
 pub record IsUnacceptable (s : State) (src dst : List ℕ) (v : Content) : Type 0 where
@@ -41,12 +41,12 @@ pub record StandsAtNext (s : State) : Type 0 where
   pub segment : Content
   pub form : segment ≡ segment_of s due
   pub emitted : emitted_bytes s ≡ Some (encoded_bytes s.config.addr.0 s.peer.addr.0 segment)
-  pub starts : start_of s.sending due ≡ s.sending.nxt
-  pub seq : segment.seq ≡ number s.config.isn.0 s.sending.nxt
+  pub starts : start_of s.sending due ≡ s.sending.snd_nxt
+  pub seq : segment.seq ≡ number s.config.isn.0 s.sending.snd_nxt
   pub no_rst : has rst segment.flags ≡ false
   pub no_syn : has syn segment.flags ≡ false
   pub has_ack : has ack segment.flags ≡ true
-  pub acknowledged : segment.ack ≡ s.receiving.next
+  pub acknowledged : segment.ack ≡ s.receiving.rcv_nxt
 
 -- CERTAINLY ANSWERS: after this many emissions, each of which keeps the flight, whatever isn't acceptable is answered so
 pub record Answers (s : State) : Type 0 where

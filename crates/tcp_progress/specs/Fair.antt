@@ -10,7 +10,7 @@ use Rattle.tcp_replay.specs.declared.event.Side.{Side}
 use Rattle.tcp_replay.specs.declared.event.Side.TheVariants.{A, B}
 use Rattle.tcp_replay.specs.Events.{EventContent, Receive, Acknowledge, Timer, Emit, EmitAcknowledgement, ResendFirst, Deliver, Damage}
 use Rattle.tcp_replay.specs.World.{WorldState, party_of, other, world_after, world_after_all}
-use Rattle.tcp_replay.specs.Safe.{gave_up}
+use Rattle.tcp_replay.specs.Safe.{has_discarded}
 use Rattle.tcp_progress.specs.Measure.{left_in}
 use Rattle.tcp_progress.specs.Everywhere.{InEveryWorld}
 use Rattle.tcp_progress.specs.Settled.{IsLive, IsThrough, IsSettled, HasStreamsOf}
@@ -127,20 +127,20 @@ pub record GotThrough (w v : WorldState) : Type 0 where
   pub settles : IsSettled (world_after_all v time_waits)
 
 -- no end was reset or aborted
-abbrev pub NoneGaveUp : WorldState → Type 0
-NoneGaveUp w = (gave_up w.a ≡ false) × (gave_up w.b ≡ false)
+abbrev pub NoneDiscarded : WorldState → Type 0
+NoneDiscarded w = (has_discarded w.a ≡ false) × (has_discarded w.b ≡ false)
 
 -- with one turn more than what is left, unless an end is reset
 abbrev pub GetsThrough : WorldState → Type 0
 GetsThrough w =
-    IsLive w.a → IsLive w.b → (events : List EventContent) → HasTurns (suc (left_in w)) w events → NoneGaveUp (world_after_all w events)
+    IsLive w.a → IsLive w.b → (events : List EventContent) → HasTurns (suc (left_in w)) w events → NoneDiscarded (world_after_all w events)
     → GotThrough w (world_after_all w events)
 
 -- THERE ARE TURNS, any number of them, in which no end is reset or aborted
 pub record CanHaveTurns (n : ℕ) (w : WorldState) : Type 0 where
   pub events : List EventContent
   pub turns : HasTurns n w events
-  pub stays : NoneGaveUp (world_after_all w events)
+  pub stays : NoneDiscarded (world_after_all w events)
 
 -- A BURST ENDS: a side that emits and emits, while nothing arrives, has nothing due after this many times
 abbrev pub BurstEnds : WorldState → Side → Type 0
@@ -157,7 +157,7 @@ abbrev pub WhoIsServedGetsThrough : Type 0
 WhoIsServedGetsThrough = InEveryWorld GetsThrough
 
 abbrev pub TurnsCanBeHad : Type 0
-TurnsCanBeHad = InEveryWorld (λ w. NoneGaveUp w → (n : ℕ) → CanHaveTurns n w)
+TurnsCanBeHad = InEveryWorld (λ w. NoneDiscarded w → (n : ℕ) → CanHaveTurns n w)
 
 abbrev pub EachBurstEnds : Type 0
 EachBurstEnds = InEveryWorld (λ w. (side : Side) → BurstEnds w side)

@@ -12,7 +12,7 @@ use Rattle.tcp_replay.specs.Among.{Happening, Happens, Injects, IsBlind, after_h
 use Rattle.tcp_replay.specs.Events.{EventContent, Timer, Emit, EmitAcknowledgement, Deliver}
 use Rattle.tcp_replay.specs.World.{WorldState, PartyState, party_of, other}
 use Rattle.tcp_progress.specs.Everywhere.{InEveryWorld}
-use Rattle.tcp_progress.specs.Fair.{IsCalm, GotThrough, NoneGaveUp}
+use Rattle.tcp_progress.specs.Fair.{IsCalm, GotThrough, NoneDiscarded}
 use Rattle.tcp_progress.specs.Measure.{left_in}
 use Rattle.tcp_progress.specs.Settled.{IsLive}
 
@@ -51,7 +51,7 @@ pub record AnswerArrives (side : Side) (w : WorldState) (list : List Happening) 
   pub form : list ≡ before ++ (Happens answer ∷ after)
   pub due : Due
   pub sends : SendsAt (after_happenings w before) side answer due
-  pub at : start_of (endpoint_at (after_happenings w before) side).sending due ≡ (endpoint_at (after_happenings w before) side).sending.nxt
+  pub at : start_of (endpoint_at (after_happenings w before) side).sending due ≡ (endpoint_at (after_happenings w before) side).sending.snd_nxt
   pub arrives : Arrives side (count_sent (after_happenings w before) side) after
 
 -- A SEGMENT IS ANSWERED: the side's k-th segment arrives among them; and where an acknowledgement is then pending at the
@@ -60,7 +60,7 @@ pub record SegmentIsAnswered (side : Side) (k : ℕ) (w : WorldState) (list : Li
   pub before : List Happening
   pub after : List Happening
   pub form : list ≡ before ++ (Happens (Deliver side k) ∷ after)
-  pub answered : (endpoint_at (after_happenings w (before ++ (Happens (Deliver side k) ∷ []))) (other side)).owed.ack ≡ true
+  pub answered : (endpoint_at (after_happenings w (before ++ (Happens (Deliver side k) ∷ []))) (other side)).pending.ack ≡ true
       → AnswerArrives (other side) (after_happenings w (before ++ (Happens (Deliver side k) ∷ []))) after
 
 -- ---- A HALF TURN of a side is among them: its retransmission timeout expires (RFC 9293, 3.8.1 and 3.10.8), while no reset
@@ -73,7 +73,7 @@ pub record HasHalfTurn (side : Side) (w : WorldState) (list : List Happening) : 
   pub before : List Happening
   pub after : List Happening
   pub form : list ≡ before ++ (timeout side ++ after)
-  pub no_reset : (endpoint_at (after_happenings w before) side).owed.reset ≡ None
+  pub no_reset : (endpoint_at (after_happenings w before) side).pending.reset ≡ None
   pub answered : IfSome (due_of (after_timer (endpoint_at (after_happenings w before) side) Retransmit))
       (λ due. SegmentIsAnswered side (count_sent (after_happenings w before) side) (after_happenings w (before ++ timeout side)) after)
 
@@ -106,13 +106,13 @@ HaveRoom w = ((w.a.closed && w.b.closed) ≡ false) ⊎ ((2 ≤ w.a.endpoint.con
 abbrev pub GetsThroughByHalves : WorldState → Type 0
 GetsThroughByHalves w =
     IsLive w.a → IsLive w.b → HaveRoom w → (list : List Happening) → HasHalves (suc (suc (left_in w))) w list
-    → NoneGaveUp (after_happenings w list) → GotThrough w (after_happenings w list)
+    → NoneDiscarded (after_happenings w list) → GotThrough w (after_happenings w list)
 
 -- THERE ARE PAIRS, any number of them, in which no end is reset or aborted
 pub record CanHaveHalves (n : ℕ) (w : WorldState) : Type 0 where
   pub list : List Happening
   pub halves : HasHalves n w list
-  pub stays : NoneGaveUp (after_happenings w list)
+  pub stays : NoneDiscarded (after_happenings w list)
 
 -- ---- THE LAWS, in every world that any list of events leads to
 abbrev pub HalfTurnsGetThrough : Type 0

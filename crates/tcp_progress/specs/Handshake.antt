@@ -6,7 +6,7 @@ use Rattle.tcp_replay.specs.Events.{EventContent, Timer, Emit, Deliver}
 use Rattle.tcp_replay.specs.World.{WorldState, world_after_all}
 use Rattle.tcp_progress.specs.Settled.{AreOpening, CanReach, HasStreamsOf, IsLive}
 use Rattle.tcp_progress.specs.Everywhere.{InEveryWorld}
-use Rattle.tcp_progress.specs.Fair.{GotThrough, HasTurns, NoneGaveUp}
+use Rattle.tcp_progress.specs.Fair.{GotThrough, HasTurns, NoneDiscarded}
 use Rattle.tcp_progress.specs.Measure.{left_in}
 
 -- OPEN: each end has the other's SYN, and neither has ended
@@ -45,7 +45,7 @@ HandshakesCanBeFinished = InEveryWorld CanOpen
 abbrev pub OpensAndGetsThrough : WorldState → Type 0
 OpensAndGetsThrough w =
     AreOpening w.a w.b ⊎ AreOpening w.b w.a → (events : List EventContent) → HasTurns (suc (suc (suc (left_in w)))) w events
-    → NoneGaveUp (world_after_all w events) → HaveSyns (world_after_all w events) × GotThrough w (world_after_all w events)
+    → NoneDiscarded (world_after_all w events) → HaveSyns (world_after_all w events) × GotThrough w (world_after_all w events)
 
 abbrev pub WhoIsServedOpens : Type 0
 WhoIsServedOpens = InEveryWorld OpensAndGetsThrough

@@ -20,7 +20,7 @@ use Rattle.tcp_conn.specs.Judgement.{count_numbers, is_acceptable_segment, is_fo
 
 -- how far from RCV.NXT a segment begins and ends; negative before it (RFC 9293, 3.4)
 abbrev pub begins_at : State → Content → ℤ
-begins_at s v = offset s.receiving.next v.seq
+begins_at s v = offset s.receiving.rcv_nxt v.seq
 
 abbrev pub ends_at : State → Content → ℤ
 ends_at s v = begins_at s v +ℤ pos (count_numbers v)
@@ -30,8 +30,8 @@ pub record IsPlainAck (s : State) (v : Content) : Type 0 where
   pub no_rst : has rst v.flags ≡ false
   pub no_syn : has syn v.flags ≡ false
   pub has_ack : has ack v.flags ≡ true
-  pub of_sent : position_near s v.ack ≤ s.sending.nxt
-  pub of_syn : is_syn_received s.phase ≡ true → position_near s v.ack ≡ s.sending.nxt
+  pub of_sent : position_near s v.ack ≤ s.sending.snd_nxt
+  pub of_syn : is_syn_received s.phase ≡ true → position_near s v.ack ≡ s.sending.snd_nxt
 
 -- IS NEXT: the peer's segment begins at or before RCV.NXT, and ends after it within the receive window. The end is in a phase
 -- in which text is taken (RFC 9293, 3.10.7.4, seventh), or comes to one by the acknowledgement of its SYN
@@ -47,7 +47,7 @@ pub record IsNext (s : State) (src dst : List ℕ) (v : Content) : Type 0 where
 -- order, which follows what was unread, and by one where the FIN was taken
 pub record BringsOn (before after : Receiving) (end : ℤ) : Type 0 where
   pub count : ℕ
-  pub next : after.next ≡ number before.next count
+  pub next : after.rcv_nxt ≡ number before.rcv_nxt count
   pub least : end ≤ℤ pos count
   pub most : count ≤ window before.inbox
   pub text : List ℕ
@@ -63,7 +63,7 @@ TakesWhatIsNext s =
     (src dst bytes : List ℕ) (v : Content) → decode_answer src dst bytes ≡ Ok v → IsNext s src dst v
     → (arrival_answer s src dst bytes ≡ Processed)
     × BringsOn s.receiving (after_arrival s src dst bytes).receiving (ends_at s v)
-    × ((after_arrival s src dst bytes).owed.ack ≡ true)
+    × ((after_arrival s src dst bytes).pending.ack ≡ true)
 
 -- ESTABLISHED and the states that follow it (RFC 9293, 3.5.2), up to TIME-WAIT
 abbrev pub is_synchronized : Phase → Bool
@@ -76,11 +76,11 @@ pub record AcksNew (s : State) (src dst : List ℕ) (v : Content) : Type 0 where
   pub mine : is_foreign s src dst v ≡ false
   pub plain : IsPlainAck s v
   pub heard : (is_acceptable_segment s v || (window s.receiving.inbox == 0)) ≡ true
-  pub new : s.sending.una < position_near s v.ack
+  pub new : s.sending.snd_una < position_near s v.ack
 
 -- SND.UNA is this position, and the text before it has left the queue
 pub record IsReleased (before after : Sending) (position : ℕ) : Type 0 where
-  pub una : after.una ≡ position
+  pub snd_una : after.snd_una ≡ position
   pub released : after.released ≡ before.released + count_below before position
   pub queued : after.queue.bytes ≡ drop (count_below before position) before.queue.bytes
 
@@ -92,12 +92,12 @@ AckedIsReleased =
     × IsReleased s.sending (after_arrival s src dst bytes).sending (position_near s v.ack)
 
 -- REPORTS RCV.NXT: what is due is a segment that acknowledges it
-pub record TellsNext (s : State) : Type 0 where
+pub record AcknowledgesRcvNxt (s : State) : Type 0 where
   pub due : Due
   pub is_due : due_of s ≡ Some due
   pub has_ack : has ack (segment_of s due).flags ≡ true
-  pub number : (segment_of s due).ack ≡ s.receiving.next
+  pub number : (segment_of s due).ack ≡ s.receiving.rcv_nxt
 
 -- WHAT IS PENDING IS REPORTED by every end that doesn't have to send a reset or a SYN first (RFC 9293, 3.10.7.4, seventh)
-abbrev pub OwedIsTold : Type 0
-OwedIsTold = (s : State) → s.owed.ack ≡ true → s.owed.reset ≡ None → s.owed.syn ≡ false → TellsNext s
+abbrev pub PendingIsSent : Type 0
+PendingIsSent = (s : State) → s.pending.ack ≡ true → s.pending.reset ≡ None → s.pending.syn ≡ false → AcknowledgesRcvNxt s

@@ -24,14 +24,14 @@ after_emissions (suc n) s = after_emissions n (after_emission s)
 -- (RFC 9293, 3.7.1)
 pub record MaySend (s : State) : Type 0 where
   pub phase : sends_text s.phase ≡ true
-  pub reset : s.owed.reset ≡ None
-  pub syn : s.owed.syn ≡ false
+  pub reset : s.pending.reset ≡ None
+  pub syn : s.pending.syn ≡ false
   pub limit : 1 ≤ text_limit s
 
 -- IN FLIGHT: SND.UNA =< position < SND.NXT, and a byte of the queue or the FIN is there
 pub record IsInFlight (s : Sending) (position : ℕ) : Type 0 where
-  pub unacknowledged : s.una ≤ position
-  pub sent : position < s.nxt
+  pub unacknowledged : s.snd_una ≤ position
+  pub sent : position < s.snd_nxt
   pub queued : s.released < position
   pub most : position ≤ end_of_text s
 
@@ -52,12 +52,12 @@ pub record CoversNext (s : State) (position : ℕ) : Type 0 where
   pub no_rst : has rst segment.flags ≡ false
   pub no_syn : has syn segment.flags ≡ false
   pub has_ack : has ack segment.flags ≡ true
-  pub acknowledged : segment.ack ≡ s.receiving.next
+  pub acknowledged : segment.ack ≡ s.receiving.rcv_nxt
 
 -- SND.UNA, SND.NXT and the queued bytes are what they were
 pub record KeepsFlight (before after : Sending) : Type 0 where
-  pub una : after.una ≡ before.una
-  pub nxt : after.nxt ≡ before.nxt
+  pub snd_una : after.snd_una ≡ before.snd_una
+  pub snd_nxt : after.snd_nxt ≡ before.snd_nxt
   pub released : after.released ≡ before.released
   pub queued : after.queue.bytes ≡ before.queue.bytes
 
@@ -77,14 +77,14 @@ FlightGoesOutAgain =
 -- UNSENT: nothing is in flight, and text or the FIN waits (RFC 9293, 3.10.4). What has to be sent again ends at most at
 -- SND.NXT
 pub record IsUnsent (s : State) : Type 0 where
-  pub idle : s.sending.una ≡ s.sending.nxt
-  pub waits : (0 < count_unsent s.sending) ⊎ ((s.closing ≡ true) × (s.sending.nxt ≡ end_of_text s.sending))
-  pub range : IfSome s.sending.resend (λ range. range.end ≤ s.sending.nxt)
+  pub idle : s.sending.snd_una ≡ s.sending.snd_nxt
+  pub waits : (0 < count_unsent s.sending) ⊎ ((s.closing ≡ true) × (s.sending.snd_nxt ≡ end_of_text s.sending))
+  pub range : IfSome s.sending.resend (λ range. range.end ≤ s.sending.snd_nxt)
 
 -- SND.NXT has moved on; SND.UNA and the queued bytes are what they were
 pub record MovesOn (before after : Sending) : Type 0 where
-  pub una : after.una ≡ before.una
-  pub nxt : before.nxt < after.nxt
+  pub snd_una : after.snd_una ≡ before.snd_una
+  pub snd_nxt : before.snd_nxt < after.snd_nxt
   pub released : after.released ≡ before.released
   pub queued : after.queue.bytes ≡ before.queue.bytes
 
@@ -93,5 +93,5 @@ pub record MovesOn (before after : Sending) : Type 0 where
 abbrev pub UnsentGoesOut : Type 0
 UnsentGoesOut =
     (s : State) → MaySend s → IsUnsent s
-    → CoversNext (after_timer s Retransmit) s.sending.nxt
+    → CoversNext (after_timer s Retransmit) s.sending.snd_nxt
     × MovesOn s.sending (after_emission (after_timer s Retransmit)).sending

@@ -11,16 +11,16 @@ use Rattle.tcp_halves.specs.Config.{IsConfig}
 use Rattle.tcp_conn.specs.Judgement.{count_numbers}
 use Rattle.tcp_replay.specs.Events.{EventContent, HasBytes}
 use Rattle.tcp_replay.specs.World.{WorldState, PartyState, SentSegment, max_life, new_world_with, run_of, world_after_all}
-use Rattle.tcp_replay.specs.Safe.{next_position}
+use Rattle.tcp_replay.specs.Safe.{rcv_position_of}
 
 -- the position of SND.NXT
 abbrev pub next_to_send : PartyState → ℕ
-next_to_send x = x.endpoint.sending.nxt
+next_to_send x = x.endpoint.sending.snd_nxt
 
 -- the direction from x to y
 pub record TakesOnlySent (x y : PartyState) : Type 0 where
   -- once y has the peer's SYN, RCV.NXT is at most SND.NXT,
-  pub taken : y.endpoint.receiving.opened ≡ true → next_position y ≤ next_to_send x
+  pub taken : y.endpoint.receiving.opened ≡ true → rcv_position_of y ≤ next_to_send x
   -- each byte that y keeps out of order is below SND.NXT,
   pub held : (place : ℕ) (cell : Cell) → slice_get y.endpoint.receiving.inbox.held place ≡ Some (Some cell) → 1 + y.endpoint.receiving.ordered + place < next_to_send x
   -- and each segment that x emitted ends there at most, its SYN and FIN counted, unless it is a reset

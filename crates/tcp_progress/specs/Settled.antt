@@ -9,7 +9,7 @@ use Rattle.tcp_sendq.specs.SendQueue.{max_capacity}
 use Rattle.tcp_halves.specs.Config.{IsConfig}
 use Rattle.tcp_replay.specs.Events.{EventContent, HasBytes, Receive, Timer, Emit, Deliver}
 use Rattle.tcp_replay.specs.World.{WorldState, PartyState, max_life, new_world_with, stop_of, run_of, world_after_all}
-use Rattle.tcp_replay.specs.Safe.{count_released, gave_up}
+use Rattle.tcp_replay.specs.Safe.{count_released, has_discarded}
 
 -- QUIET: what clock, network and the users who read do. No user calls anything else, and nothing is damaged
 abbrev pub IsQuiet : EventContent → Type 0
@@ -43,7 +43,7 @@ pub record AreOpening (x y : PartyState) : Type 0 where
 pub record HasEndedInOrder (x y : PartyState) : Type 0 where
   pub over : x.endpoint.ending ≡ Orderly
   pub fin_acked : is_fin_acked y.endpoint.sending ≡ true
-  pub stays : gave_up y ≡ false
+  pub stays : has_discarded y ≡ false
 
 -- THROUGH, from x to y: all that x accepted was delivered to y's user, and all of it is acknowledged to x. Where x's user
 -- closed, the end of the stream was delivered to y's, and the FIN is acknowledged to x; and x wasn't reset or aborted
@@ -52,7 +52,7 @@ pub record IsThrough (x y : PartyState) : Type 0 where
   pub released : count_released x ≡ length x.accepted
   pub ended : x.closed ≡ true → y.ended ≡ true
   pub fin_acked : x.closed ≡ true → is_fin_acked x.endpoint.sending ≡ true
-  pub stays : gave_up x ≡ false
+  pub stays : has_discarded x ≡ false
 
 -- SETTLED: through both ways; and where both users closed, both ends ended in order
 pub record IsSettled (w : WorldState) : Type 0 where

@@ -8,7 +8,7 @@ use Rattle.tcp_conn.specs.Phase.{has_peer}
 use Rattle.tcp_halves.specs.Sender.{is_fin_acked}
 use Rattle.tcp_conn.specs.State.{State}
 use Rattle.tcp_replay.specs.World.{PartyState}
-use Rattle.tcp_replay.specs.Safe.{next_position}
+use Rattle.tcp_replay.specs.Safe.{rcv_position_of}
 
 -- WHAT EACH STATE SAYS (RFC 9293, 3.3.2) of this end's close, of the acknowledgement of its FIN and of the peer's FIN
 pub record Says (closes acks finishes : Bool) (s : State) : Type 0 where
@@ -25,7 +25,7 @@ SaysByPhase CloseWait s = Says false false true s
 SaysByPhase Closing s = Says true false true s
 SaysByPhase LastAck s = Says true false true s
 SaysByPhase TimeWait s = Says true true true s
-SaysByPhase SynReceived s = (s.sending.una ≡ 0) × (s.sending.nxt ≡ 1)
+SaysByPhase SynReceived s = (s.sending.snd_una ≡ 0) × (s.sending.snd_nxt ≡ 1)
 SaysByPhase Closed s = s.ending ≡ Orderly → Says true true true s
 SaysByPhase other s = Unit {0}
 
@@ -35,4 +35,4 @@ KnowsPort x y = has_peer x.endpoint.phase ≡ true → x.endpoint.peer.port ≡ 
 
 -- in LAST-ACK, all that the peer sent is acknowledged to it once it has the FIN, since each FIN from LAST-ACK acknowledges the peer's
 abbrev pub ReleasesAll : PartyState → PartyState → Type 0
-ReleasesAll x y = x.endpoint.phase ≡ LastAck → y.endpoint.receiving.finished ≡ true → y.endpoint.sending.una ≡ next_position x
+ReleasesAll x y = x.endpoint.phase ≡ LastAck → y.endpoint.receiving.finished ≡ true → y.endpoint.sending.snd_una ≡ rcv_position_of x

@@ -11,7 +11,7 @@ use Rattle.tcp_replay.specs.Sound.{IsSoundPair}
 use Rattle.tcp_progress.specs.Sent.{TakesOnlySent}
 use Rattle.tcp_progress.specs.Settled.{least_life}
 use Rattle.tcp_progress.specs.Stage.{SaysByPhase, KnowsPort, ReleasesAll}
-use Rattle.tcp_progress.specs.Edge.{IsWithinReach, TellsWithin}
+use Rattle.tcp_progress.specs.Edge.{AdvertisesWithin, IsWithinReach}
 
 pub record IsSteadyEnd (x y : PartyState) : Type 0 where
   -- what its state says of both FINs, whose port it knows, and what it has acknowledged in LAST-ACK
@@ -22,10 +22,10 @@ pub record IsSteadyEnd (x y : PartyState) : Type 0 where
   pub mss : min_mss ≤ x.endpoint.link.peer_mss
   pub within : HoldsWithin x.endpoint.config.recv_capacity x.endpoint.receiving.inbox
   -- the window that it advertised fits its room
-  pub told : TellsWithin x y
+  pub advertised : AdvertisesWithin x y
   -- what it sent is within the peer's reach, what has to be sent again was sent, and the peer took nothing else
   pub edge : IsWithinReach x y
-  pub range : IfSome x.endpoint.sending.resend (λ range. range.end ≤ x.endpoint.sending.nxt)
+  pub range : IfSome x.endpoint.sending.resend (λ range. range.end ≤ x.endpoint.sending.snd_nxt)
   pub sent : TakesOnlySent x y
 
 pub record IsSteadyPair (x y : PartyState) : Type 0 where

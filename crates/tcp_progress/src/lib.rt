@@ -12,12 +12,12 @@
 //! - `every_world_is_steady` and `nothing_is_taken_before_it_is_sent`: invariants of two ends.
 //!
 //! Below them are laws of one end: what a segment brings (`what_is_next_is_taken`, `what_is_acknowledged_is_released`),
-//! and what is sent whatever came before it (`what_is_owed_is_told`, `what_is_in_flight_goes_out_again`,
+//! and what is sent whatever came before it (`what_is_pending_is_sent`, `what_is_in_flight_goes_out_again`,
 //! `what_is_unsent_goes_out`, `who_is_spoken_to_answers`; RFC 9293, 3.8.1, 3.8.6.1 and 3.10.7.4). These functions do
 //! nothing when they run: each carries the law that it ensures.
 #![tactic(auto)]
 
-ghost use Rattle.tcp_progress.specs.Progress.{AckedIsReleased, OwedIsTold, TakesWhatIsNext};
+ghost use Rattle.tcp_progress.specs.Progress.{AckedIsReleased, PendingIsSent, TakesWhatIsNext};
 
 mod fair;
 mod opening;
@@ -60,6 +60,6 @@ pub fn what_is_acknowledged_is_released()
 
 /// An end with a pending acknowledgement, and no pending reset or SYN, has a segment due that acknowledges RCV.NXT,
 /// whether it carries text, FIN or neither: `emit` writes it (RFC 9293, 3.10.7.4, seventh).
-pub fn what_is_owed_is_told()
-    ensures { OwedIsTold }
+pub fn what_is_pending_is_sent()
+    ensures { PendingIsSent }
 {}

@@ -1,9 +1,8 @@
 -- THE ROOM of the half that receives: what is unread and the places of the window make up the capacity, whatever is placed, read or given up.
-use Rattle.tcp_replay.proofs.Words.{◌+◌, after_handing, after_place, after_text, arith, Bool, bytes_in_order, capacity_placed, capacity_read, Cell}
-use Rattle.tcp_replay.proofs.Words.{cond_both, drop, greatest_stamp, HoldsWithin, Inbox, is_refused, length, length-append, length-drop, List, None, Option}
-use Rattle.tcp_replay.proofs.Words.{overlay, overlay_of, piece, Receiving, refl, Run, runs, Some, suc, sym, whole_empty, whole_read, whole_without_held, with_fin}
-use Rattle.tcp_replay.proofs.Words.{with_overlay, with_ranks, with_ranks_from, without_bytes, zero, ℕ, ℤ, ◌∙◌, ◌∷◌, ◌≡◌, ◌≤◌}
-use Rattle.tcp_replay.proofs.Words.{◌++◌, []}
+use Rattle.tcp_replay.proofs.Words.{◌+◌, ◌++◌, [], after_delivering, after_place, after_text, arith, Bool, bytes_in_order, capacity_placed, capacity_read}
+use Rattle.tcp_replay.proofs.Words.{Cell, cond_both, drop, greatest_stamp, HoldsWithin, Inbox, is_refused, length, length-append, length-drop, List, None}
+use Rattle.tcp_replay.proofs.Words.{Option, overlay, overlay_of, piece, Receiving, refl, Run, runs, Some, suc, sym, whole_empty, whole_read}
+use Rattle.tcp_replay.proofs.Words.{whole_without_held, with_fin, with_overlay, with_ranks, with_ranks_from, without_bytes, zero, ℕ, ℤ, ◌∙◌, ◌∷◌, ◌≡◌, ◌≤◌}
 
 -- a text that is laid over what is held leaves as many places
 pub overlay-length : (start : ℕ) (text : List ℕ) (stamp : ℕ) (held : List (Option Cell)) → length (overlay start text stamp held) ≡ length held
@@ -55,8 +54,8 @@ pub within-fin : (capacity : ℕ) (r : Receiving) → HoldsWithin capacity r.inb
 within-fin capacity r h = record { size = h.size; received = whole_without_held r.inbox (h.received ∙ sym h.size) ∙ h.size }
 
 -- the user reads, and what is unread and held is given up
-pub within-read : (capacity : ℕ) (r : Receiving) (n : ℕ) → HoldsWithin capacity r.inbox → HoldsWithin capacity (after_handing r n).inbox
+pub within-read : (capacity : ℕ) (r : Receiving) (n : ℕ) → HoldsWithin capacity r.inbox → HoldsWithin capacity (after_delivering r n).inbox
 within-read capacity r n h = record { size = capacity_read r.inbox n ∙ h.size; received = whole_read r.inbox n (h.received ∙ sym h.size) ∙ h.size }
 
-pub within-given_up : (capacity : ℕ) (r : Receiving) → HoldsWithin capacity r.inbox → HoldsWithin capacity (without_bytes r).inbox
-within-given_up capacity r h = record { size = h.size; received = whole_empty r.inbox.capacity ∙ h.size }
+pub within-discarded : (capacity : ℕ) (r : Receiving) → HoldsWithin capacity r.inbox → HoldsWithin capacity (without_bytes r).inbox
+within-discarded capacity r h = record { size = h.size; received = whole_empty r.inbox.capacity ∙ h.size }

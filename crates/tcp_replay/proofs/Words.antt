@@ -22,10 +22,11 @@ pub use Rattle.std.specs.List.{AllByRecursion}
 pub use Rattle.std.specs.Option.{option_or}
 pub use Rattle.std.specs.declared.ops.Range.{Range}
 pub use Rattle.tcp_conn.proofs.Segments.{plain_segment_valid, report_options_short, reset_segment_valid, syn_segment_valid}
-pub use Rattle.tcp_conn.specs.Arrival.{after_judgement, after_reading, answer_to_reading, blocks_used, first_reset, has_fin, is_current, phase_after_own_syn}
-pub use Rattle.tcp_conn.specs.Arrival.{reset_at_ack, reset_of_stray, takes_fin, takes_text_of, with_news, with_reset}
-unfoldable pub use Rattle.tcp_conn.specs.Arrival.{after_acked_text, after_arrival, after_fin, after_its_ack, after_its_text, after_news, after_own_fin}
-unfoldable pub use Rattle.tcp_conn.specs.Arrival.{after_own_syn, after_peer_accepts, after_peer_opens, after_taking, after_taking_shut, arrival_answer}
+pub use Rattle.tcp_conn.specs.Arrival.{after_judgement, after_reading, answer_to_reading, blocks_used, first_reset, has_fin, is_current}
+pub use Rattle.tcp_conn.specs.Arrival.{phase_after_own_syn, reset_at_ack, reset_of_stray, takes_fin, takes_text_of, with_reset, with_window_and_blocks}
+unfoldable pub use Rattle.tcp_conn.specs.Arrival.{after_acked_text, after_arrival, after_fin, after_its_ack, after_its_text, after_own_fin, after_own_syn}
+unfoldable pub use Rattle.tcp_conn.specs.Arrival.{after_peer_accepts, after_peer_opens, after_taking, after_taking_shut, after_window_and_blocks}
+unfoldable pub use Rattle.tcp_conn.specs.Arrival.{arrival_answer}
 pub use Rattle.tcp_conn.specs.Blocks.{block_numbers, blocks_to_report, sack_options}
 pub use Rattle.tcp_conn.specs.Calls.{after_closing, answer_unless, bytes_unless, close_refusal, is_full, is_unanswered, open_refusal, opening_refusal}
 pub use Rattle.tcp_conn.specs.Calls.{opens_window, own_reset, phase_after_close, receive_answer, receive_refusal, received_bytes, received_value, refusal_if}
@@ -33,18 +34,18 @@ pub use Rattle.tcp_conn.specs.Calls.{reset_after_abort, send_refusal, state_unle
 unfoldable pub use Rattle.tcp_conn.specs.Calls.{after_abort, after_acknowledge, after_close, after_connect, after_listen, after_receive, after_send}
 pub use Rattle.tcp_conn.specs.Due.{ack_due, count_of, end_of, flags_of, is_fin, reset_due, sent_due, start_of, syn_due, text_due, text_limit, text_of}
 unfoldable pub use Rattle.tcp_conn.specs.Due.{ack_alone, due_of}
-pub use Rattle.tcp_conn.specs.Emission.{after_due, buffer_with, owed_after, resend_after, sending_after, state_after}
+pub use Rattle.tcp_conn.specs.Emission.{after_due, buffer_with, pending_after, resend_after, sending_after, state_after}
 unfoldable pub use Rattle.tcp_conn.specs.Emission.{after_ack_alone, after_emission, emitted_bytes}
-pub use Rattle.tcp_conn.specs.Endings.{after_giving_up, after_orderly_end}
+pub use Rattle.tcp_conn.specs.Endings.{after_discarding, after_orderly_end}
 pub use Rattle.tcp_conn.specs.Endpoint.{AlwaysHolds, FitsFields}
 pub use Rattle.tcp_conn.specs.Forms.{is_sack_offered, permission_options, plain_segment, reset_ack, scale_options, shift_offered, syn_options, syn_segment}
 pub use Rattle.tcp_conn.specs.Forms.{waiting_segment}
 unfoldable pub use Rattle.tcp_conn.specs.Forms.{segment_of}
 pub use Rattle.tcp_conn.specs.Judgement.{acks_syn, count_numbers, is_acceptable_segment, is_allowed_shut, is_for_other, is_from_other, position_near}
-unfoldable pub use Rattle.tcp_conn.specs.Judgement.{acceptable_judgement, ack_judgement, closed_judgement, is_foreign, judgement, listen_judgement}
-unfoldable pub use Rattle.tcp_conn.specs.Judgement.{phase_judgement, present_judgement, syn_sent_judgement, unacceptable_judgement}
+unfoldable pub use Rattle.tcp_conn.specs.Judgement.{acceptable_judgement, ack_judgement, closed_judgement, is_foreign, judgement, judgement_after_syn}
+unfoldable pub use Rattle.tcp_conn.specs.Judgement.{listen_judgement, phase_judgement, syn_sent_judgement, unacceptable_judgement}
 pub use Rattle.tcp_conn.specs.NewEnd.{new_end}
-pub use Rattle.tcp_conn.specs.State.{State, with_ack_owed}
+pub use Rattle.tcp_conn.specs.State.{State, with_ack_pending}
 pub use Rattle.tcp_conn.specs.Timers.{after_gaps, marks_end, needs_probe, sends_again}
 unfoldable pub use Rattle.tcp_conn.specs.Timers.{after_reorder, after_resend_first, after_retransmit, after_time_wait}
 pub use Rattle.tcp_conn.specs.Windows.{advertised_window, max_window, own_shift, window_field, window_from}
@@ -64,10 +65,10 @@ pub use Rattle.tcp_halves.specs.Marks.{after_blocks, is_of_flight, marks_text, r
 unfoldable pub use Rattle.tcp_halves.specs.Marks.{after_block}
 pub use Rattle.tcp_halves.specs.Options.{shift_option}
 unfoldable pub use Rattle.tcp_halves.specs.Options.{link_of}
-pub use Rattle.tcp_conn.specs.Phase.{gives_up, has_peer, is_closed, is_ended, is_handshake, is_last_ack, is_listening, is_syn_received, is_syn_sent}
+pub use Rattle.tcp_conn.specs.Phase.{discards, has_peer, is_closed, is_ended, is_handshake, is_last_ack, is_listening, is_syn_received, is_syn_sent}
 pub use Rattle.tcp_conn.specs.Phase.{is_time_wait, phase_after_fin, phase_after_own_fin, resets_on_abort, sends_text, takes_text}
-pub use Rattle.tcp_halves.specs.Receiver.{HoldsWithin, Receiving, after_handing, is_fin_due, max_ordered, new_receiving, next_wanted, with_fin, with_inbox}
-pub use Rattle.tcp_halves.specs.Receiver.{with_syn, without_bytes}
+pub use Rattle.tcp_halves.specs.Receiver.{after_delivering, HoldsWithin, is_fin_due, max_ordered, new_receiving, rcv_position, Receiving, with_fin}
+pub use Rattle.tcp_halves.specs.Receiver.{with_inbox, with_syn, without_bytes}
 unfoldable pub use Rattle.tcp_halves.specs.Receiver.{after_text}
 pub use Rattle.tcp_halves.specs.Sender.{Sending, acks_more, acks_unsent, count_below, count_sendable, count_unsent, end_of_text, is_fin_acked, is_newer}
 pub use Rattle.tcp_halves.specs.Sender.{is_probe_needed, new_sending, place_of, position_at, with_acked, with_all_resent, with_first_resent, with_gaps_resent}
@@ -80,7 +81,7 @@ pub use Rattle.tcp_halves.specs.declared.sent.Sent.TheVariants.{Fin, NewText, Re
 pub use Rattle.tcp_conn.specs.declared.emit.due.Due.{Due}
 pub use Rattle.tcp_conn.specs.declared.emit.due.Due.TheVariants.{Acknowledgement, Reset, Syn, Text}
 pub use Rattle.tcp_halves.specs.declared.link.Link.{Link}
-pub use Rattle.tcp_conn.specs.declared.owed.Owed.{Owed}
+pub use Rattle.tcp_conn.specs.declared.pending.Pending.{Pending}
 pub use Rattle.tcp_halves.specs.declared.link.Peer.{Peer}
 pub use Rattle.tcp_halves.specs.declared.link.WaitingReset.{WaitingReset}
 pub use Rattle.tcp_conn.specs.declared.outcome.Arrival.TheVariants.{Dropped, Malformed}
@@ -127,22 +128,22 @@ pub use Rattle.tcp_replay.specs.Alone.{FitsPhase, IsAlone, IsAnswering, IsDone, 
 pub use Rattle.tcp_replay.specs.Events.{Abort, Acknowledge, Close, Connect, Damage, Deliver, Emit, EventContent, HasBytes, IsDamage, Receive, Send}
 pub use Rattle.tcp_replay.specs.Events.{EmitAcknowledgement, ResendFirst, Timer, event_content, side_of}
 pub use Rattle.tcp_replay.specs.Emissions.{due_for, segment_as}
-pub use Rattle.tcp_replay.specs.OneEnd.{AcknowledgesInOrder, Came, CameIn, HandsOverWhatCame, OneEndIsTrue, SendsItsUsers, TookSyn, count_come, wanted_position}
+pub use Rattle.tcp_replay.specs.OneEnd.{AcknowledgesInOrder, Came, CameIn, DeliversWhatCame, OneEndIsTrue, SendsItsUsers, TookSyn, count_come, rcv_position_after}
 unfoldable pub use Rattle.tcp_replay.specs.OneEnd.{count_in_order}
-pub use Rattle.tcp_replay.specs.Safe.{EmitsTruth, EveryRunIsSafe, FindsDamage, HasTrueHints, HintsAreTrue, IsSafe, IsSafeDirection, gave_up, next_position}
-pub use Rattle.tcp_replay.specs.Safe.{unread_of, witness_of}
-pub use Rattle.tcp_replay.specs.Solo.{IsLogOf, SoloState, after_solo, bytes_put_out, bytes_taken, end_after, hands_end, is_close, run_alone, segment_emitted}
-pub use Rattle.tcp_replay.specs.Solo.{segments, solo_outcome, solo_start}
+pub use Rattle.tcp_replay.specs.Safe.{EmitsTruth, EveryRunIsSafe, FindsDamage, has_discarded, HasTrueHints, HintsAreTrue, IsSafe, IsSafeDirection}
+pub use Rattle.tcp_replay.specs.Safe.{rcv_position_of, unread_of, witness_of}
+pub use Rattle.tcp_replay.specs.Solo.{after_solo, bytes_put_out, bytes_taken, delivers_end, end_after, is_close, IsLogOf, run_alone, segment_emitted}
+pub use Rattle.tcp_replay.specs.Solo.{segments, solo_outcome, solo_start, SoloState}
 unfoldable pub use Rattle.tcp_replay.specs.Solo.{segment_alone, segment_due, solo_run}
 pub use Rattle.tcp_replay.specs.SoloEvents.{Arrive, HasRanges, SoloContent, solo_content}
-pub use Rattle.tcp_replay.specs.Sound.{AreBlocksBehind, AreOwn, AreSoundEnds, HandsOver, IsBlockBehind, IsOwn, IsSound, IsSoundEnd, IsSoundPair, KeepBothHints}
-pub use Rattle.tcp_replay.specs.Sound.{KeepsHints, SpeaksTo, Takes}
+pub use Rattle.tcp_replay.specs.Sound.{AreBlocksBehind, AreOwn, AreSoundEnds, DeliversPrefix, IsBlockBehind, IsOwn, IsSound, IsSoundEnd, IsSoundPair}
+pub use Rattle.tcp_replay.specs.Sound.{KeepBothHints, KeepsHints, SpeaksTo, Takes}
 pub use Rattle.tcp_replay.specs.Truthful.{HasPosition, IsOfUser, IsTrueAck, IsTrueBlock, IsTruthful, StandsAt, Witness}
-pub use Rattle.tcp_replay.specs.World.{Effect, HasFault, KeepsAllSegments, NamesFault, PartyState, SentSegment, StopsForMemory, WorldState, acks_late}
-pub use Rattle.tcp_replay.specs.World.{address_of, age_refusal, arrival_outcome, both, bytes_with_damage, count_handed, damage_refusal, delivery_refusal}
-pub use Rattle.tcp_replay.specs.World.{flags_in, front_taken, grows_for, is_end_of_stream, is_expired, is_late, is_missing, later, max_life, new_party}
-pub use Rattle.tcp_replay.specs.World.{new_world, new_world_with, other, outcome_of, party_of, refusal_of, segment_at, sent_at, sent_by, seq_in, outcome_out}
-pub use Rattle.tcp_replay.specs.World.{party_out, stay_or, stop_or, world_after, world_from, world_with_effect}
+pub use Rattle.tcp_replay.specs.World.{acks_late, address_of, age_refusal, arrival_outcome, both, bytes_with_damage, count_delivered, damage_refusal}
+pub use Rattle.tcp_replay.specs.World.{delivery_refusal, Effect, flags_in, front_taken, grows_for, HasFault, is_end_of_stream, is_expired, is_late}
+pub use Rattle.tcp_replay.specs.World.{is_missing, KeepsAllSegments, later, max_life, NamesFault, new_party, new_world, new_world_with, other, outcome_of}
+pub use Rattle.tcp_replay.specs.World.{outcome_out, party_of, party_out, PartyState, refusal_of, segment_at, sent_at, sent_by, SentSegment, seq_in}
+pub use Rattle.tcp_replay.specs.World.{stay_or, stop_or, StopsForMemory, world_after, world_from, world_with_effect, WorldState}
 unfoldable pub use Rattle.tcp_replay.specs.World.{effect_of, party_after_abort, party_after_acknowledge, party_after_arrival, party_after_close}
 unfoldable pub use Rattle.tcp_replay.specs.World.{party_after_connect, party_after_emission, party_after_listen, party_after_receive, party_after_send}
 unfoldable pub use Rattle.tcp_replay.specs.World.{party_after_ack_alone, party_after_resend_first, party_after_timer, run_of, stop_of, world_after_all}

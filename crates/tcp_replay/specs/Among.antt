@@ -50,24 +50,24 @@ abbrev pub after_injection : State → Injection → State
 after_injection s i = after_arrival s i.src i.dst i.bytes
 
 -- NOTHING BUT WHAT IS PENDING is different: an acknowledgement may be, and a reset may wait
-abbrev pub with_owed : State → Bool → Option WaitingReset → State
-with_owed s ack reset = record s { owed = record s.owed { ack = ack; reset = reset } }
+abbrev pub with_pending : State → Bool → Option WaitingReset → State
+with_pending s ack reset = record s { pending = record s.pending { ack = ack; reset = reset } }
 
-pub record OwesAtMost (s s' : State) : Type 0 where
+pub record ChangesOnlyPending (s s' : State) : Type 0 where
   pub ack : Bool
   pub reset : Option WaitingReset
-  pub same : s' ≡ with_owed s ack reset
+  pub same : s' ≡ with_pending s ack reset
 
 -- so it is after whatever isn't let in
-abbrev pub WhatIsKeptOutOwesAtMost : Type 0
-WhatIsKeptOutOwesAtMost = (s : State) (i : Injection) → is_injection_let_in s i ≡ false → OwesAtMost s (after_injection s i)
+abbrev pub WhatIsKeptOutChangesOnlyPending : Type 0
+WhatIsKeptOutChangesOnlyPending = (s : State) (i : Injection) → is_injection_let_in s i ≡ false → ChangesOnlyPending s (after_injection s i)
 
 -- ---- BLIND, at p, whose peer is q: it isn't let in, and no reset waits for a stranger after it. An end writes one to whoever
 -- wrote in CLOSED and in LISTEN alone (RFC 9293, 3.10.7.1 and 3.10.7.2), and it would stand among what p sent to q
 pub record IsBlind (p q : PartyState) (i : Injection) : Type 0 where
   pub are_bytes : AreBytes i.bytes
   pub kept_out : is_injection_let_in p.endpoint i ≡ false
-  pub to_peer : IfSome (after_injection p.endpoint i).owed.reset (λ reset. reset.to.addr.0 ≡ q.endpoint.config.addr.0)
+  pub to_peer : IfSome (after_injection p.endpoint i).pending.reset (λ reset. reset.to.addr.0 ≡ q.endpoint.config.addr.0)
 
 -- ---- WHAT HAPPENS: an event of the two ends and of the network between them, or an injection at one side
 pub data Happening : Type 0 where

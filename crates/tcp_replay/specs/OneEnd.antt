@@ -55,7 +55,7 @@ pub record CameIn (c : Config) (list : List SoloContent) (n byte : ℕ) : Type 0
   pub number : n ≡ number came.content.seq place
 
 -- WHAT IT DELIVERS CAME: byte i as the byte with number IRS + 1 + i
-pub record HandsOverWhatCame (c : Config) (list : List SoloContent) (delivered : List ℕ) : Type 0 where
+pub record DeliversWhatCame (c : Config) (list : List SoloContent) (delivered : List ℕ) : Type 0 where
   pub irs : ℕ
   pub came : (i byte : ℕ) → slice_get delivered i ≡ Some byte → TookSyn c list irs × CameIn c list (number irs (1 + i)) byte
 
@@ -69,20 +69,20 @@ count_in_order s (event ∷ events) = count_come s event + count_in_order (end_a
 
 -- the next position that it expects after these events: after what came in order, and after the peer's FIN once that was
 -- taken
-abbrev pub wanted_position : Config → List SoloContent → ℕ
-wanted_position c list = 1 + count_in_order (new_end c) list + (if (run_alone c list).endpoint.receiving.finished then 1 else 0)
+abbrev pub rcv_position_after : Config → List SoloContent → ℕ
+rcv_position_after c list = 1 + count_in_order (new_end c) list + (if (run_alone c list).endpoint.receiving.finished then 1 else 0)
 
 -- WHAT IT ACKNOWLEDGES IS IN ORDER: at each emission, all that came in order up to then and nothing else
 pub record AcknowledgesInOrder (c : Config) (list : List SoloContent) : Type 0 where
   pub irs : ℕ
-  pub told : (front rest : List SoloContent) (event : SoloContent) (to bytes : List ℕ) (v : Content) → list ≡ front ++ event ∷ rest
+  pub reported : (front rest : List SoloContent) (event : SoloContent) (to bytes : List ℕ) (v : Content) → list ≡ front ++ event ∷ rest
       → segment_emitted (run_alone c front).endpoint event ≡ Some (to, bytes) → decode_answer c.addr.0 to bytes ≡ Ok v
-      → has rst v.flags ≡ false → has ack v.flags ≡ true → TookSyn c front irs × (v.ack ≡ number irs (wanted_position c front))
+      → has rst v.flags ≡ false → has ack v.flags ≡ true → TookSyn c front irs × (v.ack ≡ number irs (rcv_position_after c front))
 
 -- THE THEOREM OF ONE END
 pub record IsTrueEnd (c : Config) (list : List SoloContent) : Type 0 where
   pub sends : SendsItsUsers c (run_alone c list).accepted (run_alone c list).closed (run_alone c list).emitted
-  pub hands_over : HandsOverWhatCame c list (run_alone c list).delivered
+  pub delivers : DeliversWhatCame c list (run_alone c list).delivered
   pub acknowledges : AcknowledgesInOrder c list
 
 abbrev pub OneEndIsTrue : Type 0

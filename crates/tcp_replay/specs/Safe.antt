@@ -9,7 +9,7 @@ use Rattle.tcp_wire.specs.declared.fault.DecodeError.TheVariants.{BadChecksum}
 use Rattle.tcp_halves.specs.declared.config.Config.{Config}
 use Rattle.tcp_conn.specs.declared.outcome.Arrival.TheVariants.{Malformed}
 use Rattle.tcp_halves.specs.Config.{IsConfig}
-use Rattle.tcp_conn.specs.Phase.{gives_up}
+use Rattle.tcp_conn.specs.Phase.{discards}
 use Rattle.tcp_conn.specs.State.{position_at}
 use Rattle.tcp_replay.specs.declared.outcome.Outcome.TheVariants as outcomes
 use Rattle.tcp_replay.specs.Events.{EventContent, HasBytes, IsDamage}
@@ -28,12 +28,12 @@ count_released p = p.endpoint.sending.released
 abbrev pub queue_of : PartyState → List ℕ
 queue_of p = p.endpoint.sending.queue.bytes
 
-abbrev pub gave_up : PartyState → Bool
-gave_up p = gives_up p.endpoint.ending
+abbrev pub has_discarded : PartyState → Bool
+has_discarded p = discards p.endpoint.ending
 
 -- the next position that it expects: after what came in order, and after the peer's FIN once that was taken
-abbrev pub next_position : PartyState → ℕ
-next_position p = 1 + p.endpoint.receiving.ordered + (if p.endpoint.receiving.finished then 1 else 0)
+abbrev pub rcv_position_of : PartyState → ℕ
+rcv_position_of p = 1 + p.endpoint.receiving.ordered + (if p.endpoint.receiving.finished then 1 else 0)
 
 -- the first list is a prefix of the second
 abbrev pub IsPrefix : List ℕ → List ℕ → Type 0
@@ -42,15 +42,15 @@ IsPrefix front whole = (rest : List ℕ) × (whole ≡ front ++ rest)
 -- the direction from x to y
 pub record IsSafeDirection (x y : PartyState) : Type 0 where
   -- what was delivered to y's user, and then what y has unread, is a prefix of what x accepted, as long as what came in order
-  pub handed : IsPrefix (y.delivered ++ unread_of y) x.accepted
-  pub whole : gave_up y ≡ false → length (y.delivered ++ unread_of y) ≡ count_ordered y
+  pub delivery : IsPrefix (y.delivered ++ unread_of y) x.accepted
+  pub whole : has_discarded y ≡ false → length (y.delivered ++ unread_of y) ≡ count_ordered y
   -- the end of the stream comes only after a close, and after all bytes
   pub ended : y.ended ≡ true → (x.closed ≡ true) × (y.delivered ≡ x.accepted)
   -- an acknowledgement releases only what y has had in order
   pub released : count_released x ≤ count_ordered y
   pub ordered : count_ordered y ≤ length x.accepted
   -- nothing else leaves the queue
-  pub queued : gave_up x ≡ false → queue_of x ≡ drop (count_released x) x.accepted
+  pub queued : has_discarded x ≡ false → queue_of x ≡ drop (count_released x) x.accepted
 
 -- the witness of x, in the world where y is its peer
 abbrev pub witness_of : PartyState → PartyState → Witness
@@ -60,9 +60,9 @@ witness_of x y = record {
   accepted = x.accepted;
   closed = x.closed;
   opened = x.endpoint.receiving.opened;
-  next = next_position x;
+  next = rcv_position_of x;
   held = x.endpoint.receiving.inbox.held;
-  gave_up = gave_up x;
+  has_discarded = has_discarded x;
 }
 
 -- a segment that x emitted is read as this
@@ -89,7 +89,7 @@ pub record IsSafe (w : WorldState) : Type 0 where
 -- an abort discarded it.
 pub record HasTrueHints (x y : PartyState) : Type 0 where
   pub blocks : (v : Content) → IsSent x y v → HasTrueBlocks (witness_of x y) v
-  pub marks : gave_up y ≡ false → (place : ℕ) → IsMarked x.endpoint.sending.queue place → HasPosition (witness_of y x) (position_at x.endpoint.sending place)
+  pub marks : has_discarded y ≡ false → (place : ℕ) → IsMarked x.endpoint.sending.queue place → HasPosition (witness_of y x) (position_at x.endpoint.sending place)
 
 pub record HintsAreTrue (w : WorldState) : Type 0 where
   pub there : HasTrueHints w.a w.b

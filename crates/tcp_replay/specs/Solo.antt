@@ -66,9 +66,9 @@ abbrev pub is_close : State → SoloContent → Bool
 is_close s Close = is_ok (close_answer s)
 is_close s other = false
 
-abbrev pub hands_end : State → SoloContent → Bool
-hands_end s (Receive room) = is_end_of_stream (receive_answer s room)
-hands_end s other = false
+abbrev pub delivers_end : State → SoloContent → Bool
+delivers_end s (Receive room) = is_end_of_stream (receive_answer s room)
+delivers_end s other = false
 
 -- the segment that is due: its destination, and its bytes
 unfoldable pub segment_due : State → Option (List ℕ × List ℕ)
@@ -105,7 +105,7 @@ after_solo x e = record {
   accepted = x.accepted ++ bytes_taken x.endpoint e;
   delivered = x.delivered ++ bytes_put_out x.endpoint e;
   closed = x.closed || is_close x.endpoint e;
-  ended = x.ended || hands_end x.endpoint e;
+  ended = x.ended || delivers_end x.endpoint e;
   emitted = x.emitted ++ option_to_list (segment_emitted x.endpoint e);
   outcomes = x.outcomes ++ solo_outcome x.endpoint (length x.emitted) e ∷ [];
 }

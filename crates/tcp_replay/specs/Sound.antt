@@ -12,42 +12,42 @@ use Rattle.tcp_conn.specs.Blocks.{reported_blocks}
 use Rattle.tcp_conn.specs.Phase.{has_peer}
 use Rattle.tcp_replay.specs.World.{WorldState, PartyState, SentSegment, max_life}
 use Rattle.tcp_replay.specs.Truthful.{Witness, HasPosition, IsTrueBlock, StandsAt}
-use Rattle.tcp_replay.specs.Safe.{witness_of, gave_up, next_position}
+use Rattle.tcp_replay.specs.Safe.{witness_of, has_discarded, rcv_position_of}
 use Rattle.tcp_replay.specs.Alone.{IsAlone}
 
 -- THE HALF THAT RECEIVES, and what was accepted at the other end: what came in order, and what is kept out of order
 pub record Takes (r : Receiving) (irs : ℕ) (accepted : List ℕ) (closed : Bool) : Type 0 where
   -- RCV.NXT is the number of the next position
-  pub next : r.opened ≡ true → r.next ≡ number irs (1 + r.ordered + (if r.finished then 1 else 0))
-  pub unopened : r.opened ≡ false → (r.next ≡ 0) × (r.ordered ≡ 0) × (r.finished ≡ false)
+  pub next : r.opened ≡ true → r.rcv_nxt ≡ number irs (1 + r.ordered + (if r.finished then 1 else 0))
+  pub unopened : r.opened ≡ false → (r.rcv_nxt ≡ 0) × (r.ordered ≡ 0) × (r.finished ≡ false)
   pub order : r.ordered ≤ length accepted
   -- the FIN was taken in order
   pub fin : r.finished ≡ true → (closed ≡ true) × (r.ordered ≡ length accepted)
   pub held : Agrees r.inbox.held (drop r.ordered accepted)
 
 -- WHAT WAS DELIVERED TO ITS USER, and what was accepted at the other end
-pub record HandsOver (unread : List ℕ) (ordered : ℕ) (accepted : List ℕ) (closed : Bool) (delivered : List ℕ) (ended gone : Bool) : Type 0 where
+pub record DeliversPrefix (unread : List ℕ) (ordered : ℕ) (accepted : List ℕ) (closed : Bool) (delivered : List ℕ) (ended gone : Bool) : Type 0 where
   -- that, and then what is unread, is a prefix of the other end's text: all that came in order unless it was discarded
   pub count : ℕ
-  pub handed : delivered ++ unread ≡ take count accepted
+  pub delivery : delivered ++ unread ≡ take count accepted
   pub least : count ≤ ordered
   pub whole : gone ≡ false → count ≡ ordered
   -- the end of the stream was delivered after all of it
-  pub all_handed : ended ≡ true → (closed ≡ true) × (delivered ≡ accepted)
+  pub all_delivered : ended ≡ true → (closed ≡ true) × (delivered ≡ accepted)
 
 -- THE DESTINATION of an end is at this address: its peer, and where a waiting reset goes
 pub record SpeaksTo (s : State) (addr : List ℕ) : Type 0 where
   pub peer : has_peer s.phase ≡ true → s.peer.addr.0 ≡ addr
-  pub reset : IfSome s.owed.reset (λ reset. reset.to.addr.0 ≡ addr)
+  pub reset : IfSome s.pending.reset (λ reset. reset.to.addr.0 ≡ addr)
 
 -- ONE END and its user, with the other end
 pub record IsSoundEnd (x y : PartyState) : Type 0 where
   pub alone : IsAlone x.endpoint x.accepted x.closed
   pub speaks : SpeaksTo x.endpoint y.endpoint.config.addr.0
   pub takes : Takes x.endpoint.receiving y.endpoint.config.isn.0 y.accepted y.closed
-  pub hands : HandsOver x.endpoint.receiving.inbox.unread x.endpoint.receiving.ordered y.accepted y.closed x.delivered x.ended (gave_up x)
+  pub delivers : DeliversPrefix x.endpoint.receiving.inbox.unread x.endpoint.receiving.ordered y.accepted y.closed x.delivered x.ended (has_discarded x)
   -- nothing is acknowledged to it that the other end hasn't taken
-  pub between : x.endpoint.sending.una ≤ next_position y
+  pub between : x.endpoint.sending.snd_una ≤ rcv_position_of y
   pub limit : length x.accepted ≤ x.endpoint.config.limit
 
 -- what x emitted: a segment that is truthful at the positions that are kept of it, unless it is a reset
@@ -82,8 +82,8 @@ AreBlocksBehind x wanted blocks = (k : ℕ) (block : ℕ × ℕ) → slice_get b
 -- WHAT x REPORTS as kept out of order is true, and so is what it marked of y's reports
 pub record KeepsHints (x y : PartyState) : Type 0 where
   pub blocks : (k : ℕ) (g : SentSegment) (v : Content) → slice_get x.sent k ≡ Some g → decode_answer x.endpoint.config.addr.0 y.endpoint.config.addr.0 g.bytes ≡ Ok v
-      → gave_up x ≡ false → AreBlocksBehind (witness_of x y) g.wanted (reported_blocks v.options)
-  pub marks : gave_up y ≡ false → (place : ℕ) → IsMarked x.endpoint.sending.queue place → HasPosition (witness_of y x) (position_at x.endpoint.sending place)
+      → has_discarded x ≡ false → AreBlocksBehind (witness_of x y) g.wanted (reported_blocks v.options)
+  pub marks : has_discarded y ≡ false → (place : ℕ) → IsMarked x.endpoint.sending.queue place → HasPosition (witness_of y x) (position_at x.endpoint.sending place)
 
 pub record KeepBothHints (x y : PartyState) : Type 0 where
   pub there : KeepsHints x y

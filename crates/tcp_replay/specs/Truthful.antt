@@ -20,7 +20,7 @@ pub record Witness : Type 0 where
   pub next : ℕ
   pub held : List (Option Cell)
   -- whether it discarded what it kept, by a reset or an abort
-  pub gave_up : Bool
+  pub has_discarded : Bool
 
 -- a position of the peer's direction that the end has: below the next, or kept out of order
 abbrev pub HasPosition : Witness → ℕ → Type 0
@@ -36,7 +36,7 @@ AreTrueBlocks x blocks = (k : ℕ) (block : ℕ × ℕ) → slice_get blocks k �
 
 -- the blocks of a segment, unless the end discarded what it kept
 abbrev pub HasTrueBlocks : Witness → Content → Type 0
-HasTrueBlocks x v = x.gave_up ≡ false → AreTrueBlocks x (reported_blocks v.options)
+HasTrueBlocks x v = x.has_discarded ≡ false → AreTrueBlocks x (reported_blocks v.options)
 
 -- an acknowledgement is the number of a position up to the next one that the end expects
 pub record IsTrueAck (x : Witness) (ack : ℕ) : Type 0 where

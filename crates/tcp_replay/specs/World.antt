@@ -14,7 +14,7 @@ use Rattle.tcp_conn.specs.declared.phase.Timer.{Timer as Which}
 use Rattle.tcp_conn.specs.State.{State}
 use Rattle.tcp_halves.specs.Config.{default_limit, HasBadCapacity, HasBadMss, HasBadShift, HasBadLimit, IsGoodConfig}
 use Rattle.tcp_conn.specs.NewEnd.{new_end}
-use Rattle.tcp_halves.specs.Receiver.{next_wanted}
+use Rattle.tcp_halves.specs.Receiver.{rcv_position}
 use Rattle.tcp_conn.specs.Calls.{opening_answer, after_connect, after_listen, send_answer, after_send, receive_answer, after_receive, received_bytes, close_answer, after_close, abort_answer, after_abort, after_acknowledge}
 use Rattle.tcp_conn.specs.Timers.{timer_answer, after_timer, sends_again, after_resend_first}
 use Rattle.tcp_conn.specs.declared.emit.due.Due.{Due}
@@ -48,7 +48,7 @@ flags_in bytes = slice_index bytes 13
 
 -- an end in this state emits these bytes
 abbrev pub sent_by : State → List ℕ → SentSegment
-sent_by s bytes = record { bytes = bytes; position = position_of s.config.isn.0 s.sending.una (seq_in bytes); wanted = next_wanted s.receiving }
+sent_by s bytes = record { bytes = bytes; position = position_of s.config.isn.0 s.sending.snd_una (seq_in bytes); wanted = rcv_position s.receiving }
 
 -- one end, with what its user did and got, and every segment that it emitted
 pub record PartyState : Type 0 where
@@ -106,9 +106,9 @@ party_after_send p text = record p {
 }
 
 -- RECEIVE: delivered are the bytes that the call delivered, as many as it answers
-abbrev pub count_handed : Result Received CallError → ℕ
-count_handed (Ok (Bytes count)) = count
-count_handed other = 0
+abbrev pub count_delivered : Result Received CallError → ℕ
+count_delivered (Ok (Bytes count)) = count
+count_delivered other = 0
 
 abbrev pub is_end_of_stream : Result Received CallError → Bool
 is_end_of_stream (Ok EndOfStream) = true
@@ -185,10 +185,10 @@ is_missing p k = nat_le (length p.sent) k
 -- THE LIFETIME of a segment is over where its position lies that far behind the next that its receiver expects, or its
 -- acknowledgement that far behind the receiver's SND.UNA (RFC 9293, 3.4). A reset has none
 abbrev pub is_late : ℕ → State → SentSegment → Bool
-is_late life s g = nat_le (g.position + life) (next_wanted s.receiving)
+is_late life s g = nat_le (g.position + life) (rcv_position s.receiving)
 
 abbrev pub acks_late : ℕ → State → SentSegment → Bool
-acks_late life s g = has ack (flags_in g.bytes) && nat_le (g.wanted + life) s.sending.una
+acks_late life s g = has ack (flags_in g.bytes) && nat_le (g.wanted + life) s.sending.snd_una
 
 abbrev pub is_expired : ℕ → State → SentSegment → Bool
 is_expired life s g = not (has rst (flags_in g.bytes)) && (is_late life s g || acks_late life s g)

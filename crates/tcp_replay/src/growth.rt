@@ -8,7 +8,7 @@ ghost use Rattle.tcp_conn.specs.Emission.{after_due, buffer_with};
 ghost use Rattle.tcp_conn.specs.Forms.{segment_of};
 ghost use Rattle.tcp_conn.specs.Writing.{destination_of};
 ghost use Rattle.tcp_replay.specs.Emissions.{due_for, segment_as};
-ghost use Rattle.tcp_replay.specs.World.{front_taken, count_handed};
+ghost use Rattle.tcp_replay.specs.World.{front_taken, count_delivered};
 
 use crate::outcome::StepError;
 use std::alloc::Allocator;
@@ -16,8 +16,8 @@ use tcp_conn::{CallError, EMIT_ROOM, Endpoint, Received};
 use tcp_wire::Addr;
 
 /// How many bytes a `receive` with this answer delivered.
-fn count_handed(answer: Result<Received, CallError>) -> usize
-    ensures { result ≡ count_handed answer }
+fn count_delivered(answer: Result<Received, CallError>) -> usize
+    ensures { result ≡ count_delivered answer }
 {
     match answer {
         Ok(Received::Bytes(count)) => count,
@@ -64,7 +64,7 @@ pub(crate) fn receive_to<A: Allocator>(
     delivered.reserve(count)?;
     let mut out = vec![in alloc; 0u8; count]?;
     let answer = endpoint.receive(&mut out);
-    let _ = delivered.extend_from_slice(&out[..count_handed(answer)]);
+    let _ = delivered.extend_from_slice(&out[..count_delivered(answer)]);
     Ok(answer)
 }
 
@@ -83,7 +83,7 @@ fn pending<A: Allocator>(endpoint: &Endpoint<A>, alone: bool) -> Option<usize>
 }
 
 /// The end writes it into `out`: where it goes, and its length.
-#[tactic(auto, unfolding(tcp_conn::specs::Emission::destination, tcp_conn::specs::Emission::ack_alone_destination, tcp_conn::specs::Emission::buffer_after, tcp_conn::specs::Emission::buffer_after_ack_alone, tcp_conn::specs::Emission::after_emission, tcp_conn::specs::Emission::after_ack_alone, tcp_conn::specs::Emission::pending_length, tcp_conn::specs::Emission::ack_alone_length))]
+#[tactic(auto, unfolding(tcp_conn::specs::Emission::destination, tcp_conn::specs::Emission::ack_alone_destination, tcp_conn::specs::Emission::buffer_after, tcp_conn::specs::Emission::buffer_after_ack_alone, tcp_conn::specs::Emission::after_emission, tcp_conn::specs::Emission::after_ack_alone, tcp_conn::specs::Emission::pending_length, tcp_conn::specs::Emission::ack_alone_length, tcp_conn::specs::Transmission::transmit_ack_alone))]
 fn write_out<A: Allocator>(
     endpoint: &mut Endpoint<A>,
     alone: bool,
@@ -96,7 +96,8 @@ fn write_out<A: Allocator>(
     ensures state { endpoint.new ≡ after_due endpoint.old (due_for alone endpoint.old) }
 {
     if alone {
-        endpoint.emit_acknowledgement(out)
+        let sent = endpoint.emit_acknowledgement(out)?;
+        Some((sent.to, sent.len))
     } else {
         endpoint.emit(out)
     }

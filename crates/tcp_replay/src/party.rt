@@ -159,12 +159,12 @@ impl<A: Allocator + Copy> Party<A> {
         ensures memory { IfErr result (λ e. e ≡ StepError.NoMemory) }
     {
         let initial = self.endpoint.config().isn;
-        let una = self.endpoint.una();
-        let wanted = self.endpoint.next();
+        let snd_una = self.endpoint.snd_una();
+        let wanted = self.endpoint.rcv_position();
         let Some((_, bytes)) = emit_for(alloc, &mut self.endpoint, alone, &mut self.sent)? else {
             return Ok(Outcome::Emitted(None));
         };
-        let position = seq_in(&bytes).position(initial, una);
+        let position = seq_in(&bytes).position(initial, snd_una);
         let number = self.sent.len();
         self.sent.push_reserved(SentSegment {
             bytes,

@@ -59,8 +59,8 @@ impl<A: Allocator> SentSegment<A> {
         ensures { result ≡ is_expired life to.now self.now }
     {
         let flags = flags_in(&self.bytes);
-        let late = is_passed(self.position, life, to.next());
-        let acks_late = flags.is_ack() && is_passed(self.wanted, life, to.una());
+        let late = is_passed(self.position, life, to.rcv_position());
+        let acks_late = flags.is_ack() && is_passed(self.wanted, life, to.snd_una());
         !flags.is_rst() && (late || acks_late)
     }
 }

@@ -5,9 +5,9 @@ ghost use Rattle.tcp_halves.specs.Config.{HasBadCapacity, HasBadMss, HasBadShift
 ghost use Rattle.tcp_conn.specs.Calls.{receive_answer, received_bytes, after_receive};
 ghost use Rattle.tcp_conn.specs.Emission.{after_due};
 ghost use Rattle.tcp_conn.specs.NewEnd.{new_end};
-ghost use Rattle.tcp_replay.specs.OneEnd.{SendsItsUsers, HandsOverWhatCame, AcknowledgesInOrder};
+ghost use Rattle.tcp_replay.specs.OneEnd.{SendsItsUsers, DeliversWhatCame, AcknowledgesInOrder};
 ghost use Rattle.tcp_replay.specs.Emissions.{due_for, segment_as};
-ghost use Rattle.tcp_replay.specs.Solo.{end_after, bytes_taken, bytes_put_out, hands_end, segment_emitted, solo_outcome, run_alone, segments, IsLogOf, IsWantOfMemory};
+ghost use Rattle.tcp_replay.specs.Solo.{end_after, bytes_taken, bytes_put_out, delivers_end, segment_emitted, solo_outcome, run_alone, segments, IsLogOf, IsWantOfMemory};
 ghost use Rattle.tcp_replay.specs.SoloEvents.{solo_content, HasRanges};
 ghost use Rattle.tcp_replay.specs.World.{is_end_of_stream};
 
@@ -109,7 +109,7 @@ impl<A: Allocator + Copy> SoloLog<A> {
         ensures accepted { OnOk result (self.new.accepted.items ≡ self.old.accepted.items ++ bytes_taken self.old.endpoint (solo_content event.now)) }
         ensures delivered { OnOk result (self.new.delivered.items ≡ self.old.delivered.items ++ bytes_put_out self.old.endpoint (solo_content event.now)) }
         ensures emitted { OnOk result (segments self.new.emitted.items ≡ segments self.old.emitted.items ++ option_to_list (segment_emitted self.old.endpoint (solo_content event.now))) }
-        ensures ended { OnOk result (self.new.ended ≡ (self.old.ended || hands_end self.old.endpoint (solo_content event.now))) }
+        ensures ended { OnOk result (self.new.ended ≡ (self.old.ended || delivers_end self.old.endpoint (solo_content event.now))) }
         ensures outcome { IfOk result (λ o. o ≡ solo_outcome self.old.endpoint (length self.old.emitted.items) (solo_content event.now)) }
         ensures outcomes { self.new.outcomes ≡ self.old.outcomes }
         ensures ranges { OnOk result (HasRanges (solo_content event.now)) }
@@ -145,7 +145,7 @@ impl<A: Allocator + Copy> SoloLog<A> {
         ensures accepted { OnOk result (self.new.accepted.items ≡ self.old.accepted.items ++ bytes_taken self.old.endpoint (solo_content event.now)) }
         ensures delivered { OnOk result (self.new.delivered.items ≡ self.old.delivered.items ++ bytes_put_out self.old.endpoint (solo_content event.now)) }
         ensures emitted { OnOk result (segments self.new.emitted.items ≡ segments self.old.emitted.items ++ option_to_list (segment_emitted self.old.endpoint (solo_content event.now))) }
-        ensures ended { OnOk result (self.new.ended ≡ (self.old.ended || hands_end self.old.endpoint (solo_content event.now))) }
+        ensures ended { OnOk result (self.new.ended ≡ (self.old.ended || delivers_end self.old.endpoint (solo_content event.now))) }
         ensures outcomes { OnOk result (self.new.outcomes.items ≡ self.old.outcomes.items ++ solo_outcome self.old.endpoint (length self.old.emitted.items) (solo_content event.now) ∷ []) }
         ensures ranges { OnOk result (HasRanges (solo_content event.now)) }
         ensures memory { IfErr result (λ e. e ≡ StepError.NoMemory) }
@@ -163,7 +163,7 @@ pub fn solo(alloc: Global, config: Config, events: &[SoloEvent]) -> Result<SoloL
     // The log is the fold of calls, timers, emissions and arrivals over the events.
     ensures log { IfOk result (λ log. IsLogOf log (run_alone config (map solo_content events.now))) }
     ensures sends_its_users { IfOk result (λ log. SendsItsUsers config log.accepted.items (run_alone config (map solo_content events.now)).closed (segments log.emitted.items)) }
-    ensures hands_over_what_came { IfOk result (λ log. HandsOverWhatCame config (map solo_content events.now) log.delivered.items) }
+    ensures delivers_what_came { IfOk result (λ log. DeliversWhatCame config (map solo_content events.now) log.delivered.items) }
     ensures acknowledges_in_order { OnOk result (AcknowledgesInOrder config (map solo_content events.now)) }
     ensures bad_capacity { (result ≡ Err (SoloError.Config ConfigError.BadCapacity)) ↔ HasBadCapacity config }
     ensures bad_mss { (result ≡ Err (SoloError.Config ConfigError.BadMss)) ↔ HasBadMss config }
@@ -185,7 +185,7 @@ pub fn solo_in<A: Allocator + Copy>(
     // The log is the fold of calls, timers, emissions and arrivals over the events.
     ensures log { IfOk result (λ log. IsLogOf log (run_alone config (map solo_content events.now))) }
     ensures sends_its_users { IfOk result (λ log. SendsItsUsers config log.accepted.items (run_alone config (map solo_content events.now)).closed (segments log.emitted.items)) }
-    ensures hands_over_what_came { IfOk result (λ log. HandsOverWhatCame config (map solo_content events.now) log.delivered.items) }
+    ensures delivers_what_came { IfOk result (λ log. DeliversWhatCame config (map solo_content events.now) log.delivered.items) }
     ensures acknowledges_in_order { OnOk result (AcknowledgesInOrder config (map solo_content events.now)) }
     ensures bad_capacity { (result ≡ Err (SoloError.Config ConfigError.BadCapacity)) ↔ HasBadCapacity config }
     ensures bad_mss { (result ≡ Err (SoloError.Config ConfigError.BadMss)) ↔ HasBadMss config }

@@ -11,15 +11,15 @@ use Rattle.tcp_halves.specs.Sender.{acks_more, acks_unsent}
 unfoldable use Rattle.tcp_halves.specs.Sender.{after_ack}
 use Rattle.tcp_conn.specs.declared.arrive.judgement.Judgement.{Judgement}
 use Rattle.tcp_conn.specs.declared.arrive.judgement.Judgement.TheVariants.{AcksUnsent, Taken, TakenShut}
-use Rattle.tcp_conn.specs.Arrival.{after_judgement, after_news}
+use Rattle.tcp_conn.specs.Arrival.{after_judgement, after_window_and_blocks}
 unfoldable use Rattle.tcp_conn.specs.Arrival.{after_acked_text, after_fin, after_its_ack, after_its_text, after_own_syn, after_taking, after_taking_shut}
 use Rattle.tcp_conn.specs.Judgement.{is_acceptable_segment, position_near}
-unfoldable use Rattle.tcp_conn.specs.Judgement.{acceptable_judgement, ack_judgement, is_foreign, judgement, phase_judgement, present_judgement}
+unfoldable use Rattle.tcp_conn.specs.Judgement.{acceptable_judgement, ack_judgement, is_foreign, judgement, judgement_after_syn, phase_judgement}
 unfoldable use Rattle.tcp_conn.specs.Judgement.{unacceptable_judgement}
 use Rattle.tcp_conn.specs.Phase.{is_syn_received}
 use Rattle.tcp_conn.specs.State.{State}
 use Rattle.tcp_replay.specs.Among.{is_let_in, lets_in}
-use Rattle.tcp_progress.proofs.Taken.{news-keep, own_fin-keeps}
+use Rattle.tcp_progress.proofs.laws.NextTaken.{own_fin-keeps, window_and_blocks-keep}
 use Rattle.tcp_strangers.specs.Guesses.{AnyNumberAtAShutWindow, ComesToItsAck, FlightIsReleased, HalfOfAcksLetIn, IsOpen, flight, is_released_by, with_ack}
 use Rattle.tcp_strangers.specs.Guesses.{with_seq}
 use Rattle.tcp_strangers.proofs.Counting.{count-ahead, count-all, count-same}
@@ -31,7 +31,7 @@ record IsJudged (s : State) (src dst : List ℕ) (v : Content) : Type 0 where
   is : judgement s src dst v ≡ (if acks_unsent s.sending (position_near s v.ack) then AcksUnsent else good)
 
 judged : (s : State) (src dst : List ℕ) (v : Content) → IsOpen s → ComesToItsAck s src dst v → IsJudged s src dst v
-unfolding judgement phase_judgement present_judgement acceptable_judgement unacceptable_judgement ack_judgement
+unfolding judgement phase_judgement judgement_after_syn acceptable_judgement unacceptable_judgement ack_judgement
 judged s src dst v open_to h =
     let is = open_to.tests in
     elim (cases_Bool (is_acceptable_segment s v)) [
@@ -129,13 +129,13 @@ turned : (n a by : ℕ) → a < 2 ^ 32 → ((n + (2 ^ 32 - a)) % 2 ^ 32 + by) % 
 turned n a by fits = omega arith
 
 abbrev una_number : State → ℕ
-una_number s = number s.config.isn.0 s.sending.una
+una_number s = number s.config.isn.0 s.sending.snd_una
 
 -- ---- HALF OF ALL ACKNOWLEDGEMENTS let it in
 half-at : (s : State) (n : ℕ) → IsOpen s → n < 2 ^ 32
     → not (acks_unsent s.sending (position_near s n)) ≡ nat_lt ((n + (2 ^ 32 - una_number s + 2 ^ 31) % 2 ^ 32) % 2 ^ 32) (2 ^ 31 + flight s + 1)
 half-at s n h less =
-    ap not (position_of_beyond s.config.isn.0 s.sending.una s.sending.nxt n h.isn less h.order)
+    ap not (position_of_beyond s.config.isn.0 s.sending.snd_una s.sending.snd_nxt n h.isn less h.order)
     ∙ half-test (distance (una_number s) n) (flight s) (omega arith) h.most
     ∙ ap (λ m. nat_lt m (2 ^ 31 + flight s + 1)) (turned n (una_number s) (2 ^ 31) (omega arith))
 
@@ -149,16 +149,16 @@ half-lets_in s src dst v open_to h =
 
 -- ---- WHAT IS RELEASED by it: an acknowledgement of something new
 una-taken : (s : State) (v : Content) → is_syn_received s.phase ≡ false
-    → (after_its_ack s v).sending.una ≡ (after_ack s.sending (position_near s v.ack)).una
+    → (after_its_ack s v).sending.snd_una ≡ (after_ack s.sending (position_near s v.ack)).snd_una
 unfolding after_its_ack after_acked_text after_own_syn
 una-taken s v opened =
     let two = after_acked_text (after_own_syn s v) v in
-    let three = after_news two v in
-    (own_fin-keeps three).una ∙ (news-keep two v).una ∙ rw opened refl
+    let three = after_window_and_blocks two v in
+    (own_fin-keeps three).snd_una ∙ (window_and_blocks-keep two v).snd_una ∙ rw opened refl
 
 -- SND.UNA after a judgement that lets it in
 una-judged : (s : State) (src : List ℕ) (v : Content) (good : Judgement) → (good ≡ Taken) ⊎ (good ≡ TakenShut)
-    → (after_judgement good s src v).sending.una ≡ (after_its_ack s v).sending.una
+    → (after_judgement good s src v).sending.snd_una ≡ (after_its_ack s v).sending.snd_una
 unfolding after_taking after_fin after_its_text after_taking_shut
 una-judged s src v good (inl taken) = rw taken refl
 una-judged s src v good (inr shut) = rw shut refl
@@ -166,40 +166,40 @@ una-judged s src v good (inr shut) = rw shut refl
 less-self : (n : ℕ) → nat_lt n n ≡ false
 less-self n = le-ltb n n (omega arith)
 
-more-una : (s : State) (a : ℕ) (more : Bool) → acks_more s.sending a ≡ more → nat_lt s.sending.una (after_ack s.sending a).una ≡ more
+more-una : (s : State) (a : ℕ) (more : Bool) → acks_more s.sending a ≡ more → nat_lt s.sending.snd_una (after_ack s.sending a).snd_una ≡ more
 unfolding after_ack
-more-una s a true e = rw e (and_parts (nat_lt s.sending.una a) (nat_le a s.sending.nxt) e).0
-more-una s a false e = rw e (less-self s.sending.una)
+more-una s a true e = rw e (and_parts (nat_lt s.sending.snd_una a) (nat_le a s.sending.snd_nxt) e).0
+more-una s a false e = rw e (less-self s.sending.snd_una)
 
 unsent-more : (s : State) (a : ℕ) → acks_unsent s.sending a ≡ true → acks_more s.sending a ≡ false
 unsent-more s a e =
-    let no : nat_le a s.sending.nxt ≡ false = grind (arith, nat_tests, e) in
-    elim (cases_Bool (nat_lt s.sending.una a)) [ inl new ↦ rw (new, no) refl | inr old ↦ rw old refl ]
+    let no : nat_le a s.sending.snd_nxt ≡ false = grind (arith, nat_tests, e) in
+    elim (cases_Bool (nat_lt s.sending.snd_una a)) [ inl new ↦ rw (new, no) refl | inr old ↦ rw old refl ]
 
 by-released : (s : State) (src : List ℕ) (v : Content) (good : Judgement) (unsent : Bool) → acks_unsent s.sending (position_near s v.ack) ≡ unsent
     → is_syn_received s.phase ≡ false → (good ≡ Taken) ⊎ (good ≡ TakenShut)
-    → nat_lt s.sending.una (after_judgement (if unsent then AcksUnsent else good) s src v).sending.una ≡ acks_more s.sending (position_near s v.ack)
-by-released s src v good true e opened is = less-self s.sending.una ∙ sym (unsent-more s (position_near s v.ack) e)
+    → nat_lt s.sending.snd_una (after_judgement (if unsent then AcksUnsent else good) s src v).sending.snd_una ≡ acks_more s.sending (position_near s v.ack)
+by-released s src v good true e opened is = less-self s.sending.snd_una ∙ sym (unsent-more s (position_near s v.ack) e)
 by-released s src v good false e opened is =
-    ap (nat_lt s.sending.una) (una-judged s src v good is ∙ una-taken s v opened) ∙ more-una s (position_near s v.ack) _ refl
+    ap (nat_lt s.sending.snd_una) (una-judged s src v good is ∙ una-taken s v opened) ∙ more-una s (position_near s v.ack) _ refl
 
 released-is : (s : State) (src dst : List ℕ) (v : Content) → IsOpen s → ComesToItsAck s src dst v
     → is_released_by s src dst v ≡ acks_more s.sending (position_near s v.ack)
 released-is s src dst v open_to h =
     let j = judged s src dst v open_to h in
-    ap (λ (j : Judgement). nat_lt s.sending.una (after_judgement j s src v).sending.una) j.is
+    ap (λ (j : Judgement). nat_lt s.sending.snd_una (after_judgement j s src v).sending.snd_una) j.is
     ∙ by-released s src v j.good (acks_unsent s.sending (position_near s v.ack)) refl open_to.opened j.is_good
 
-not-beyond : (a nxt : ℕ) → nat_le a nxt ≡ not (nat_lt nxt a)
-not-beyond a nxt =
-    elim (cases_lt nxt a) [
+not-beyond : (a snd_nxt : ℕ) → nat_le a snd_nxt ≡ not (nat_lt snd_nxt a)
+not-beyond a snd_nxt =
+    elim (cases_lt snd_nxt a) [
       | inl beyond ↦
-          let one : nat_lt nxt a ≡ true = lt-ltb nxt a beyond in
-          let two : nat_le a nxt ≡ false = grind (arith, nat_tests, beyond) in
+          let one : nat_lt snd_nxt a ≡ true = lt-ltb snd_nxt a beyond in
+          let two : nat_le a snd_nxt ≡ false = grind (arith, nat_tests, beyond) in
           rw (one, two) refl
       | inr within ↦
-          let one : nat_lt nxt a ≡ false = le-ltb nxt a within in
-          let two : nat_le a nxt ≡ true = le-leb a nxt within in
+          let one : nat_lt snd_nxt a ≡ false = le-ltb snd_nxt a within in
+          let two : nat_le a snd_nxt ≡ true = le-leb a snd_nxt within in
           rw (one, two) refl
     ]
 
@@ -207,10 +207,10 @@ flight-at : (s : State) (n : ℕ) → IsOpen s → n < 2 ^ 32
     → acks_more s.sending (position_near s n) ≡ nat_lt ((n + (2 ^ 32 - una_number s + (2 ^ 32 - 1)) % 2 ^ 32) % 2 ^ 32) (flight s)
 flight-at s n h less =
     let far = distance (una_number s) n in
-    let new = position_of_later s.config.isn.0 s.sending.una n h.isn less in
-    let sent = not-beyond (position_near s n) s.sending.nxt
-    ∙ ap not (position_of_beyond s.config.isn.0 s.sending.una s.sending.nxt n h.isn less h.order) in
-    ap (λ b. b && nat_le (position_near s n) s.sending.nxt) new ∙ ap (λ b. (nat_lt 0 far && nat_lt far (2 ^ 31)) && b) sent
+    let new = position_of_later s.config.isn.0 s.sending.snd_una n h.isn less in
+    let sent = not-beyond (position_near s n) s.sending.snd_nxt
+    ∙ ap not (position_of_beyond s.config.isn.0 s.sending.snd_una s.sending.snd_nxt n h.isn less h.order) in
+    ap (λ b. b && nat_le (position_near s n) s.sending.snd_nxt) new ∙ ap (λ b. (nat_lt 0 far && nat_lt far (2 ^ 31)) && b) sent
     ∙ flight-test far (flight s) (omega arith) h.most
     ∙ ap (λ m. nat_lt m (flight s)) (turned n (una_number s) (2 ^ 32 - 1) (omega arith))
 

@@ -14,7 +14,7 @@ use Rattle.tcp_conn.specs.declared.arrive.judgement.Judgement.TheVariants.{Forei
 use Rattle.tcp_conn.specs.declared.arrive.judgement.Judgement.TheVariants.{Unacceptable, PeerResets, ResetElsewhere, SynInWindow, NoAck, HandshakeRefused}
 use Rattle.tcp_conn.specs.declared.arrive.judgement.Judgement.TheVariants.{HandshakeRefusedShut, Taken, TakenShut}
 use Rattle.tcp_conn.specs.Judgement.{count_numbers, is_acceptable_segment, is_allowed_shut, acks_syn, position_near}
-unfoldable use Rattle.tcp_conn.specs.Judgement.{judgement, phase_judgement, present_judgement, acceptable_judgement, unacceptable_judgement, ack_judgement}
+unfoldable use Rattle.tcp_conn.specs.Judgement.{judgement, phase_judgement, judgement_after_syn, acceptable_judgement, unacceptable_judgement, ack_judgement}
 unfoldable use Rattle.tcp_conn.specs.Judgement.{is_foreign, closed_judgement, listen_judgement, syn_sent_judgement}
 use Rattle.tcp_conn.specs.Phase.{is_closed, is_listening, is_syn_received, is_syn_sent}
 use Rattle.tcp_conn.specs.State.{State}
@@ -32,15 +32,15 @@ module _ (s : State) (src dst : List ℕ) (v : Content) (here : TestsNumbers s) 
   Leads j = lets_in j ≡ true → Q
 
   -- what is let in was judged so
-  through-present : Leads (present_judgement s v) → Leads (judgement s src dst v)
+  through-after_syn : Leads (judgement_after_syn s v) → Leads (judgement s src dst v)
   unfolding judgement phase_judgement
-  through-present h =
-      let opens = if is_syn_sent s.phase then syn_sent_judgement s v else present_judgement s v in
+  through-after_syn h =
+      let opens = if is_syn_sent s.phase then syn_sent_judgement s v else judgement_after_syn s v in
       cond_both (is_foreign s src dst v) Foreign (phase_judgement s v) Leads (λ _ e. absurd (cc))
       (λ _. cond_both (is_closed s.phase) (closed_judgement v) (if is_listening s.phase then listen_judgement v else opens) Leads
       (λ e. let no = here.closed in absurd (cc))
       (λ _. cond_both (is_listening s.phase) (listen_judgement v) opens Leads (λ e. let no = here.listening in absurd (cc))
-      (λ _. cond_both (is_syn_sent s.phase) (syn_sent_judgement s v) (present_judgement s v) Leads (λ e. let no = here.syn_sent in absurd (cc)) (λ _. h))))
+      (λ _. cond_both (is_syn_sent s.phase) (syn_sent_judgement s v) (judgement_after_syn s v) Leads (λ e. let no = here.syn_sent in absurd (cc)) (λ _. h))))
 
   through-unacceptable : (window s.receiving.inbox == 0) ≡ false → Leads (unacceptable_judgement s v)
   unfolding unacceptable_judgement
@@ -53,9 +53,9 @@ module _ (s : State) (src dst : List ℕ) (v : Content) (here : TestsNumbers s) 
 -- at an open window what is let in is acceptable
 pub let_in-acceptable : (s : State) (src dst : List ℕ) (v : Content) → TestsNumbers s → (window s.receiving.inbox == 0) ≡ false → is_let_in s src dst v ≡ true
     → is_acceptable_segment s v ≡ true
-unfolding present_judgement
+unfolding judgement_after_syn
 let_in-acceptable s src dst v here open_ =
-    through-present s src dst v here (is_acceptable_segment s v ≡ true)
+    through-after_syn s src dst v here (is_acceptable_segment s v ≡ true)
     (cond_both (is_acceptable_segment s v) (acceptable_judgement s v) (unacceptable_judgement s v) (λ j. lets_in j ≡ true → is_acceptable_segment s v ≡ true)
     (λ e _. e) (λ _. through-unacceptable s src dst v here (is_acceptable_segment s v ≡ true) open_))
 
@@ -83,12 +83,12 @@ acceptable-near next w seq count fits some most short e =
     (either (w == 0) false _ more.1))
     (either (count == 0) _ _ e)
 
-pub let_in-near : (s : State) (src dst : List ℕ) (v : Content) → TestsNumbers s → s.receiving.next < 2 ^ 32 → 1 ≤ window s.receiving.inbox
+pub let_in-near : (s : State) (src dst : List ℕ) (v : Content) → TestsNumbers s → s.receiving.rcv_nxt < 2 ^ 32 → 1 ≤ window s.receiving.inbox
     → window s.receiving.inbox ≤ 2 ^ 20 → count_numbers v ≤ 2 ^ 16 → is_let_in s src dst v ≡ true
-    → distance s.receiving.next ((v.seq + (max 1 (count_numbers v) - 1)) % 2 ^ 32) < width s v
+    → distance s.receiving.rcv_nxt ((v.seq + (max 1 (count_numbers v) - 1)) % 2 ^ 32) < width s v
 let_in-near s src dst v here fits some most short e =
     let open_ : (window s.receiving.inbox == 0) ≡ false = grind (arith, nat_tests, some) in
-    acceptable-near s.receiving.next (window s.receiving.inbox) v.seq (count_numbers v) fits some most short (let_in-acceptable s src dst v here open_ e)
+    acceptable-near s.receiving.rcv_nxt (window s.receiving.inbox) v.seq (count_numbers v) fits some most short (let_in-acceptable s src dst v here open_ e)
 
 turned : (n k next : ℕ) → next < 2 ^ 32 → ((n + k) % 2 ^ 32 + (2 ^ 32 - next)) % 2 ^ 32 ≡ (n + (k + (2 ^ 32 - next)) % 2 ^ 32) % 2 ^ 32
 turned n k next fits = omega arith
@@ -96,32 +96,32 @@ turned n k next fits = omega arith
 pub few-numbers : FewNumbersLetIn
 few-numbers s src dst v here fits some most short =
     let k = max 1 (count_numbers v) - 1 in
-    let b = (k + (2 ^ 32 - s.receiving.next)) % 2 ^ 32 in
+    let b = (k + (2 ^ 32 - s.receiving.rcv_nxt)) % 2 ^ 32 in
     let within = count-within (2 ^ 32) (λ n. is_let_in s src dst (with_seq v n)) (λ n. nat_lt ((n + b) % 2 ^ 32) (width s v))
     (λ n less e. lt-ltb ((n + b) % 2 ^ 32) (width s v)
-    (subst (λ d. d < width s v) (turned n k s.receiving.next fits) (let_in-near s src dst (with_seq v n) here fits some most short e))) in
+    (subst (λ d. d < width s v) (turned n k s.receiving.rcv_nxt fits) (let_in-near s src dst (with_seq v n) here fits some most short e))) in
     let counted = count-ahead b (width s v) (omega arith) (omega (arith, most, short)) in
     omega (arith, within, counted)
 
 -- A RESET is let in at RCV.NXT alone
-reset-number : (s : State) (src dst : List ℕ) (v : Content) → TestsNumbers s → has rst v.flags ≡ true → is_let_in s src dst v ≡ true → v.seq ≡ s.receiving.next
-unfolding present_judgement acceptable_judgement unacceptable_judgement
+reset-number : (s : State) (src dst : List ℕ) (v : Content) → TestsNumbers s → has rst v.flags ≡ true → is_let_in s src dst v ≡ true → v.seq ≡ s.receiving.rcv_nxt
+unfolding judgement_after_syn acceptable_judgement unacceptable_judgement
 reset-number s src dst v here reset =
-    let Q = v.seq ≡ s.receiving.next in
-    let resets = if v.seq == s.receiving.next then PeerResets else ResetElsewhere in
+    let Q = v.seq ≡ s.receiving.rcv_nxt in
+    let resets = if v.seq == s.receiving.rcv_nxt then PeerResets else ResetElsewhere in
     let others = if has syn v.flags then SynInWindow else (if not (has ack v.flags) then NoAck else ack_judgement s v Taken HandshakeRefused) in
     let allowed = if is_allowed_shut s v then ack_judgement s v TakenShut HandshakeRefusedShut else Unacceptable in
     let P : Judgement → Type 0 = λ j. lets_in j ≡ true → Q in
-    through-present s src dst v here Q
+    through-after_syn s src dst v here Q
     (cond_both (is_acceptable_segment s v) (acceptable_judgement s v) (unacceptable_judgement s v) P
     (λ _. cond_both (has rst v.flags) resets others P
-    (λ _. cond_both (v.seq == s.receiving.next) PeerResets ResetElsewhere P (λ e _. eqb-true v.seq s.receiving.next e) (λ _ e. absurd (cc)))
+    (λ _. cond_both (v.seq == s.receiving.rcv_nxt) PeerResets ResetElsewhere P (λ e _. eqb-true v.seq s.receiving.rcv_nxt e) (λ _ e. absurd (cc)))
     (λ no. absurd (cc)))
     (λ _. cond_both (has rst v.flags) ResetIgnored allowed P (λ _ e. absurd (cc)) (λ no. absurd (cc))))
 
 pub one-resets : OneNumberResets
 one-resets s src dst v here fits reset =
-    let b = (2 ^ 32 - s.receiving.next) % 2 ^ 32 in
+    let b = (2 ^ 32 - s.receiving.rcv_nxt) % 2 ^ 32 in
     let within = count-within (2 ^ 32) (λ n. is_let_in s src dst (with_seq v n)) (λ n. nat_lt ((n + b) % 2 ^ 32) 1)
     (λ n less e. lt-ltb ((n + b) % 2 ^ 32) 1 (let same = reset-number s src dst (with_seq v n) here reset e in omega (arith, same, less))) in
     let counted = count-ahead b 1 (omega arith) (omega arith) in
@@ -135,14 +135,14 @@ answers-syn s src dst v sent =
     let P : Judgement → Type 0 = λ j. lets_in j ≡ true → Q in
     let shut : is_closed s.phase ≡ false = grind (arith, sent) in
     let listening : is_listening s.phase ≡ false = grind (arith, sent) in
-    let opens = if is_syn_sent s.phase then syn_sent_judgement s v else present_judgement s v in
+    let opens = if is_syn_sent s.phase then syn_sent_judgement s v else judgement_after_syn s v in
     let answers = if has syn v.flags && has ack v.flags then PeerAccepts else OpensNothing in
     let resets = if has ack v.flags then PeerRefuses else ResetIgnored in
     let acked : (has ack v.flags && not (acks_syn s v)) ≡ false → has ack v.flags ≡ true → Q = λ e told. grind (arith, e, told) in
     cond_both (is_foreign s src dst v) Foreign (phase_judgement s v) P (λ _ e. absurd (cc))
     (λ _. cond_both (is_closed s.phase) (closed_judgement v) (if is_listening s.phase then listen_judgement v else opens) P (λ e. absurd (cc))
     (λ _. cond_both (is_listening s.phase) (listen_judgement v) opens P (λ e. absurd (cc))
-    (λ _. cond_both (is_syn_sent s.phase) (syn_sent_judgement s v) (present_judgement s v) P
+    (λ _. cond_both (is_syn_sent s.phase) (syn_sent_judgement s v) (judgement_after_syn s v) P
     (λ _. cond_both (has ack v.flags && not (acks_syn s v)) (if has rst v.flags then ResetIgnored else AckOfNoSyn)
     (if has rst v.flags then resets else answers) P
     (λ _. cond_both (has rst v.flags) ResetIgnored AckOfNoSyn P (λ _ e. absurd (cc)) (λ _ e. absurd (cc)))
@@ -162,17 +162,17 @@ ack-answers s v good refused received out =
 
 received-answers : (s : State) (src dst : List ℕ) (v : Content) → is_syn_received s.phase ≡ true → has rst v.flags ≡ false → is_let_in s src dst v ≡ true
     → acks_syn s v ≡ true
-unfolding present_judgement acceptable_judgement unacceptable_judgement
+unfolding judgement_after_syn acceptable_judgement unacceptable_judgement
 received-answers s src dst v received plain =
     let Q = acks_syn s v ≡ true in
     let P : Judgement → Type 0 = λ j. lets_in j ≡ true → Q in
     let here : TestsNumbers s = record { closed = grind (arith, received); listening = grind (arith, received); syn_sent = grind (arith, received) } in
-    let resets = if v.seq == s.receiving.next then PeerResets else ResetElsewhere in
+    let resets = if v.seq == s.receiving.rcv_nxt then PeerResets else ResetElsewhere in
     let acked = ack_judgement s v Taken HandshakeRefused in
     let others = if has syn v.flags then SynInWindow else (if not (has ack v.flags) then NoAck else acked) in
     let shut = ack_judgement s v TakenShut HandshakeRefusedShut in
     let allowed = if is_allowed_shut s v then shut else Unacceptable in
-    through-present s src dst v here Q
+    through-after_syn s src dst v here Q
     (cond_both (is_acceptable_segment s v) (acceptable_judgement s v) (unacceptable_judgement s v) P
     (λ _. cond_both (has rst v.flags) resets others P (λ reset. absurd (cc))
     (λ _. cond_both (has syn v.flags) SynInWindow (if not (has ack v.flags) then NoAck else acked) P (λ _ e. absurd (cc))
@@ -190,13 +190,13 @@ syn-number isn n fits small e =
     (cases_lt (distance (number isn 0) n) (2 ^ 31))
 
 pub one-answers : OneNumberAnswers
-one-answers s src dst v waits fits una nxt =
+one-answers s src dst v waits fits snd_una snd_nxt =
     let isn = s.config.isn.0 in
     let b = (2 ^ 32 - isn + 2 ^ 32 - 1) % 2 ^ 32 in
     let within = count-within (2 ^ 32) (λ n. is_let_in s src dst (with_ack v n)) (λ n. nat_lt ((n + b) % 2 ^ 32) 1)
     (λ n less e.
-    let is : position_of isn s.sending.una n ≡ s.sending.nxt = eqb-true (position_near s n) s.sending.nxt (waits-answers s src dst (with_ack v n) waits e) in
-    let same : position_of isn 0 n ≡ 1 = ap (λ u. position_of isn u n) (sym una) ∙ is ∙ nxt in
+    let is : position_of isn s.sending.snd_una n ≡ s.sending.snd_nxt = eqb-true (position_near s n) s.sending.snd_nxt (waits-answers s src dst (with_ack v n) waits e) in
+    let same : position_of isn 0 n ≡ 1 = ap (λ u. position_of isn u n) (sym snd_una) ∙ is ∙ snd_nxt in
     lt-ltb ((n + b) % 2 ^ 32) 1 (omega (arith, syn-number isn n fits less same, less, fits))) in
     let counted = count-ahead b 1 (omega arith) (omega arith) in
     omega (arith, within, counted)

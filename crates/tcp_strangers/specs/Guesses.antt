@@ -39,13 +39,13 @@ width s v = window s.receiving.inbox + (max 1 (count_numbers v) - 1)
 -- few let a segment in, whatever else it says, where the window is open
 abbrev pub FewNumbersLetIn : Type 0
 FewNumbersLetIn =
-    (s : State) (src dst : List ℕ) (v : Content) → TestsNumbers s → s.receiving.next < 2 ^ 32 → 1 ≤ window s.receiving.inbox
+    (s : State) (src dst : List ℕ) (v : Content) → TestsNumbers s → s.receiving.rcv_nxt < 2 ^ 32 → 1 ≤ window s.receiving.inbox
     → window s.receiving.inbox ≤ 2 ^ 20 → count_numbers v ≤ 2 ^ 16 → count_guesses (λ n. is_let_in s src dst (with_seq v n)) ≤ width s v
 
 -- a reset: one, RCV.NXT (3.10.7.4, second), whatever the window
 abbrev pub OneNumberResets : Type 0
 OneNumberResets =
-    (s : State) (src dst : List ℕ) (v : Content) → TestsNumbers s → s.receiving.next < 2 ^ 32 → has rst v.flags ≡ true
+    (s : State) (src dst : List ℕ) (v : Content) → TestsNumbers s → s.receiving.rcv_nxt < 2 ^ 32 → has rst v.flags ≡ true
     → count_guesses (λ n. is_let_in s src dst (with_seq v n)) ≤ 1
 
 -- ---- ACKNOWLEDGEMENTS of the SYN: one, whatever the sequence number. In SYN-SENT of any segment (3.10.7.3, first), and in
@@ -55,19 +55,19 @@ WaitsForItsSyn s v = (is_syn_sent s.phase ≡ true) ⊎ ((is_syn_received s.phas
 
 abbrev pub OneNumberAnswers : Type 0
 OneNumberAnswers =
-    (s : State) (src dst : List ℕ) (v : Content) → WaitsForItsSyn s v → s.config.isn.0 < 2 ^ 32 → s.sending.una ≡ 0 → s.sending.nxt ≡ 1
+    (s : State) (src dst : List ℕ) (v : Content) → WaitsForItsSyn s v → s.config.isn.0 < 2 ^ 32 → s.sending.snd_una ≡ 0 → s.sending.snd_nxt ≡ 1
     → count_guesses (λ n. is_let_in s src dst (with_ack v n)) ≤ 1
 
 -- ---- ACKNOWLEDGEMENTS FROM ESTABLISHED ON (3.10.7.4, fifth). How many numbers are in flight
 abbrev pub flight : State → ℕ
-flight s = s.sending.nxt - s.sending.una
+flight s = s.sending.snd_nxt - s.sending.snd_una
 
 -- what counts in flight isn't half of all numbers (RFC 9293, 3.4)
 pub record IsOpen (s : State) : Type 0 where
   pub tests : TestsNumbers s
   pub opened : is_syn_received s.phase ≡ false
   pub isn : s.config.isn.0 < 2 ^ 32
-  pub order : s.sending.una ≤ s.sending.nxt
+  pub order : s.sending.snd_una ≤ s.sending.snd_nxt
   pub most : flight s < 2 ^ 31
 
 -- ONLY ITS ACKNOWLEDGEMENT DECIDES: it has ACK and neither RST nor SYN, is from the peer's address, and is acceptable, or comes
@@ -81,7 +81,7 @@ pub record ComesToItsAck (s : State) (src dst : List ℕ) (v : Content) : Type 0
 
 -- SND.UNA moves on, so that text is released
 abbrev pub is_released_by : State → List ℕ → List ℕ → Content → Bool
-is_released_by s src dst v = nat_lt s.sending.una (after_judgement (judgement s src dst v) s src v).sending.una
+is_released_by s src dst v = nat_lt s.sending.snd_una (after_judgement (judgement s src dst v) s src v).sending.snd_una
 
 -- half of all acknowledgements let it in: the older ones, SND.UNA, and what is in flight
 abbrev pub HalfOfAcksLetIn : Type 0
@@ -110,8 +110,8 @@ abbrev pub HaveBytes : List Injection → Type 0
 HaveBytes = AllByRecursion (λ (i : Injection). AreBytes i.bytes)
 
 -- the end, were RCV.NXT another number: its peer had begun at another initial number
-abbrev pub with_next : State → ℕ → State
-with_next s n = record s { receiving = record s.receiving { next = n } }
+abbrev pub with_rcv_nxt : State → ℕ → State
+with_rcv_nxt s n = record s { receiving = record s.receiving { rcv_nxt = n } }
 
 -- the sum of their widths
 abbrev pub width_of_reading : State → Result Content DecodeError → ℕ
@@ -126,4 +126,4 @@ widths s (i ∷ rest) = width_of_reading s (decode_answer i.src i.dst i.bytes) +
 abbrev pub BurstsRarelyGetIn : Type 0
 BurstsRarelyGetIn =
     (s : State) (burst : List Injection) → HaveBytes burst → TestsNumbers s → 1 ≤ window s.receiving.inbox → window s.receiving.inbox ≤ 2 ^ 20
-    → count_guesses (λ n. any_let_in (with_next s n) burst) ≤ widths s burst
+    → count_guesses (λ n. any_let_in (with_rcv_nxt s n) burst) ≤ widths s burst

@@ -5,22 +5,22 @@
 //! - [`half_of_acks_let_in`], [`flight_is_released`] and [`any_number_at_a_shut_window`] count the acknowledgements that
 //!   do, and those that release text. **At a shut window no sequence number is needed.**
 //! - [`bursts_rarely_get_in`] adds them up over any number of segments, one after another.
-//! - [`what_is_kept_out_owes_at_most`]: what isn't let in changes nothing but what is pending.
+//! - [`what_is_kept_out_changes_only_pending`]: what isn't let in changes nothing but what is pending.
 //!
 //! What holds of two ends meanwhile is in `tcp_replay` (`every_run_among_strangers_is_safe`) and in `tcp_progress`
 //! (`goes_on_among_strangers`). These functions do nothing when they run: each carries the law that it
 //! ensures.
 #![tactic(auto)]
 
-ghost use Rattle.tcp_replay.specs.Among.{WhatIsKeptOutOwesAtMost};
+ghost use Rattle.tcp_replay.specs.Among.{WhatIsKeptOutChangesOnlyPending};
 ghost use Rattle.tcp_strangers.specs.Guesses.{AnyNumberAtAShutWindow, BurstsRarelyGetIn, FewNumbersLetIn, FlightIsReleased, HalfOfAcksLetIn};
 ghost use Rattle.tcp_strangers.specs.Guesses.{OneNumberAnswers, OneNumberResets};
 
 /// Bytes that an end doesn't let in change nothing of it, but that an acknowledgement may be pending, or a reset wait.
 /// An end lets in what opens or ends a connection, and anything of which it takes text, FIN, acknowledgement, window or
 /// blocks.
-pub fn what_is_kept_out_owes_at_most()
-    ensures { WhatIsKeptOutOwesAtMost }
+pub fn what_is_kept_out_changes_only_pending()
+    ensures { WhatIsKeptOutChangesOnlyPending }
 {}
 
 /// From SYN-RECEIVED on, where the window is open, at most `window + count - 1` of the 2^32 sequence numbers let a

@@ -9,13 +9,13 @@ mod runs;
 mod stream;
 
 use std::mem::size_of;
-use tcp_conn::Rest;
+use tcp_conn::TimeWait;
 use tcp_replay::every_run_is_safe;
 
 /// Runs the lists; returns whether what became of each was printed.
 pub(crate) fn shows_runs(rt: &(impl Print + AllocGlobal)) -> bool {
     every_run_is_safe();
-    let is_small = size_of::<Rest>() <= 64;
+    let is_small = size_of::<TimeWait>() <= 64;
     println!(rt; "a TIME-WAIT record has at most 64 bytes: {is_small}").is_ok()
         && runs::runs_all(rt)
         && stream::print_limits(rt).is_ok()

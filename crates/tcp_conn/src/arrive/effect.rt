@@ -1,8 +1,8 @@
 //! The effect of each judgement on an arrival (RFC 9293, 3.10.7), a method for each rule.
 ghost use Rattle.std.specs.Prelude.{◌≡◌, ◌≢◌};
 ghost use Rattle.tcp_wire.specs.View.{raw_content};
-ghost use Rattle.tcp_conn.specs.Arrival.{after_acked_text, after_fin, after_its_ack, after_its_text, after_judgement, after_news, after_own_fin, after_own_syn, after_peer_accepts, after_peer_opens, after_reported_blocks, after_taking, after_taking_shut, reset_at_ack, reset_of_stray, takes_fin, with_reset};
-ghost use Rattle.tcp_conn.specs.Taking.{brought_by, brought_kept, brought_text, is_window_news, takes_window, takes_window_by};
+ghost use Rattle.tcp_conn.specs.Arrival.{after_acked_text, after_fin, after_its_ack, after_its_text, after_judgement, after_own_fin, after_own_syn, after_peer_accepts, after_peer_opens, after_reported_blocks, after_taking, after_taking_shut, after_window_and_blocks, reset_at_ack, reset_of_stray, takes_fin, with_reset};
+ghost use Rattle.tcp_conn.specs.Taking.{brought_by, brought_kept, brought_text, takes_window, takes_window_by, takes_window_of};
 
 use crate::arrive::brought::{Brought, Effect, brings};
 use crate::arrive::judgement::{Judgement, count_numbers};
@@ -87,7 +87,7 @@ impl<A: Allocator> Endpoint<A> {
             }
             Judgement::HandshakeRefusedShut => {
                 self.record_reset(reset_at_ack(src, segment));
-                self.owed.ack = true;
+                self.pending.ack = true;
             }
             Judgement::PeerOpens => self.peer_opens(src, segment),
             Judgement::PeerAccepts => self.peer_accepts(segment),
@@ -95,7 +95,7 @@ impl<A: Allocator> Endpoint<A> {
             Judgement::Unacceptable
             | Judgement::ResetElsewhere
             | Judgement::SynInWindow
-            | Judgement::AcksUnsent => self.owed.ack = true,
+            | Judgement::AcksUnsent => self.pending.ack = true,
         }
     }
 
@@ -103,8 +103,8 @@ impl<A: Allocator> Endpoint<A> {
     fn record_reset(&mut self, reset: WaitingReset)
         ensures { self.new ≡ with_reset self.old reset }
     {
-        if self.owed.reset.is_none() {
-            self.owed.reset = Some(reset);
+        if self.pending.reset.is_none() {
+            self.pending.reset = Some(reset);
         }
     }
 
@@ -122,7 +122,7 @@ impl<A: Allocator> Endpoint<A> {
         self.link = link_of(&self.config, segment.options_left());
         self.sender.send_syn();
         self.receiver.take_syn(segment.header.seq);
-        self.owed.syn = true;
+        self.pending.syn = true;
     }
 
     /// A SYN with ACK in SYN-SENT: the peer accepts, and its window isn't scaled (RFC 9293, 3.10.7.3, fourth).
@@ -139,8 +139,8 @@ impl<A: Allocator> Endpoint<A> {
             u32::from(segment.header.window),
         );
         self.receiver.take_syn(segment.header.seq);
-        self.owed.syn = false;
-        self.owed.ack = true;
+        self.pending.syn = false;
+        self.pending.ack = true;
     }
 
     /// Takes all of a segment (RFC 9293, 3.10.7.4, fifth to eighth), and returns what is reported of it.
@@ -175,7 +175,7 @@ impl<A: Allocator> Endpoint<A> {
         ensures window { result ≡ takes_window self.old (raw_content segment.now) }
     {
         let window_taken = self.take_its_ack(segment);
-        self.owed.ack = self.owed.ack || !is_closed(self.phase);
+        self.pending.ack = self.pending.ack || !is_closed(self.phase);
         window_taken
     }
 
@@ -207,7 +207,7 @@ impl<A: Allocator> Endpoint<A> {
             let window = self.window_from(segment.header.window);
             self.sender
                 .take_syn_ack(segment.header.seq, segment.header.ack, window);
-            self.owed.syn = false;
+            self.pending.syn = false;
         }
     }
 
@@ -223,13 +223,13 @@ impl<A: Allocator> Endpoint<A> {
 
     /// Takes the window, then each block, but not from an acknowledgement that is older than SND.UNA (RFC 9293,
     /// 3.10.7.4, fifth; RFC 2018, 5). Whether the window is taken.
-    #[tactic(auto, unfolding(crate::specs::Arrival::after_news))]
+    #[tactic(auto, unfolding(crate::specs::Arrival::after_window_and_blocks))]
     fn take_window_and_blocks(&mut self, segment: &RawSegment<'_>) -> bool
-        ensures state { self.new ≡ after_news self.old (raw_content segment.now) }
-        ensures window { result ≡ is_window_news self.old (raw_content segment.now) }
+        ensures state { self.new ≡ after_window_and_blocks self.old (raw_content segment.now) }
+        ensures window { result ≡ takes_window_of self.old (raw_content segment.now) }
     {
         let ack = self.position_near(segment.header.ack);
-        if ack < self.sender.una {
+        if ack < self.sender.snd_una {
             return false;
         }
         let window = self.window_from(segment.header.window);
@@ -280,7 +280,7 @@ impl<A: Allocator> Endpoint<A> {
             return Brought::NotKept;
         }
         let placed = self.receiver.place(segment.header.seq, segment.text);
-        self.owed.ack = true;
+        self.pending.ack = true;
         Brought::text(placed)
     }
 
@@ -294,7 +294,7 @@ impl<A: Allocator> Endpoint<A> {
         if !takes_text(self.phase) || !segment.header.flags.is_fin() {
             return false;
         }
-        self.owed.ack = true;
+        self.pending.ack = true;
         let number = segment.header.seq.plus(segment.text.len() as u32);
         let is_taken = self.receiver.is_fin_due(number);
         if is_taken {

@@ -3,7 +3,7 @@ ghost use Rattle.std.specs.Prelude.{◌≡◌, ◌≤◌, ◌+◌};
 ghost use Rattle.tcp_wire.specs.Position.{number};
 ghost use Rattle.tcp_wire.specs.View.{raw_content};
 ghost use Rattle.tcp_wire.specs.Wire.{max_text_len};
-ghost use Rattle.tcp_conn.specs.Judgement.{IsReadOf, acceptable_judgement, ack_judgement, acks_syn, answer_of, closed_judgement, count_numbers, is_foreign, judgement, listen_judgement, phase_judgement, position_near, present_judgement, syn_sent_judgement, unacceptable_judgement};
+ghost use Rattle.tcp_conn.specs.Judgement.{acceptable_judgement, ack_judgement, acks_syn, answer_of, closed_judgement, count_numbers, is_foreign, IsReadOf, judgement, judgement_after_syn, listen_judgement, phase_judgement, position_near, syn_sent_judgement, unacceptable_judgement};
 ghost use Rattle.tcp_conn.specs.State.{State};
 
 use crate::arrive::judged_fields::JudgedFields;
@@ -131,9 +131,9 @@ fn judge_listen(segment: &RawSegment<'_>) -> Judgement
 
 /// Arrival at an end whose peer is known (RFC 9293, 3.10.7.4).
 #[inline(always)]
-#[tactic(auto, unfolding(crate::specs::Judgement::present_judgement))]
-pub(crate) fn judge_present(read: &JudgedFields, segment: &RawSegment<'_>) -> Judgement
-    ensures { (s : State) → IsReadOf read.now s → result ≡ present_judgement s (raw_content segment.now) }
+#[tactic(auto, unfolding(crate::specs::Judgement::judgement_after_syn))]
+pub(crate) fn judge_after_syn(read: &JudgedFields, segment: &RawSegment<'_>) -> Judgement
+    ensures { (s : State) → IsReadOf read.now s → result ≡ judgement_after_syn s (raw_content segment.now) }
 {
     let count = count_numbers(segment);
     if is_acceptable(read.rcv_nxt, read.rcv_wnd, segment.header.seq, count) {
@@ -244,7 +244,7 @@ impl<A: Allocator> Endpoint<A> {
             Phase::Closed => judge_closed(segment),
             Phase::Listen => judge_listen(segment),
             Phase::SynSent => self.judge_syn_sent(segment),
-            _ => self.judge_present(segment),
+            _ => self.judge_after_syn(segment),
         }
     }
 
@@ -252,14 +252,14 @@ impl<A: Allocator> Endpoint<A> {
     pub(crate) fn position_near(&self, number: Seq) -> u64
         ensures { result ≡ position_near self.now number.0 }
     {
-        number.position(self.config.isn, self.sender.una)
+        number.position(self.config.isn, self.sender.snd_una)
     }
 
     /// Whether it acknowledges this end's SYN, and nothing else was sent.
     fn acks_syn(&self, segment: &RawSegment<'_>) -> bool
         ensures { result ≡ acks_syn self.now (raw_content segment.now) }
     {
-        self.position_near(segment.header.ack) == self.sender.nxt
+        self.position_near(segment.header.ack) == self.sender.snd_nxt
     }
 
     /// Arrival in SYN-SENT (RFC 9293, 3.10.7.3).
@@ -291,24 +291,24 @@ impl<A: Allocator> Endpoint<A> {
     }
 
     /// Arrival in any other phase (RFC 9293, 3.10.7.4).
-    fn judge_present(&self, segment: &RawSegment<'_>) -> Judgement
-        ensures { result ≡ present_judgement self.now (raw_content segment.now) }
+    fn judge_after_syn(&self, segment: &RawSegment<'_>) -> Judgement
+        ensures { result ≡ judgement_after_syn self.now (raw_content segment.now) }
     {
-        judge_present(&self.present(), segment)
+        judge_after_syn(&self.judged_fields(), segment)
     }
 
     /// What is read of it where its peer is known.
     #[inline(always)]
-    fn present(&self) -> JudgedFields
+    fn judged_fields(&self) -> JudgedFields
         ensures { IsReadOf result self.now }
     {
         JudgedFields {
-            rcv_nxt: self.receiver.next,
+            rcv_nxt: self.receiver.rcv_nxt,
             rcv_wnd: self.receiver.inbox.window(),
             is_syn_received: is_syn_received(self.phase),
             isn: self.config.isn,
-            snd_una: self.sender.una,
-            snd_nxt: self.sender.nxt,
+            snd_una: self.sender.snd_una,
+            snd_nxt: self.sender.snd_nxt,
         }
     }
 }

@@ -103,8 +103,8 @@ impl<A: Allocator> Endpoint<A> {
     {
         let flags = segment.header.flags;
         let is_bare = segment.text.is_empty() && !flags.is_syn() && !flags.is_fin();
-        let is_at_una = self.position_near(segment.header.ack) == self.sender.una;
-        let is_same_window = self.window_from(segment.header.window) == self.sender.wnd;
+        let is_at_una = self.position_near(segment.header.ack) == self.sender.snd_una;
+        let is_same_window = self.window_from(segment.header.window) == self.sender.snd_wnd;
         self.in_flight() > 0 && is_bare && is_at_una && is_same_window
     }
 
@@ -113,8 +113,8 @@ impl<A: Allocator> Endpoint<A> {
         ensures { result ≡ is_urgent judgement had_gap self.now (raw_content segment.now) }
     {
         match judgement {
-            Judgement::Taken => self.owed.ack && self.breaks_order(had_gap, segment),
-            Judgement::TakenShut => self.owed.ack,
+            Judgement::Taken => self.pending.ack && self.breaks_order(had_gap, segment),
+            Judgement::TakenShut => self.pending.ack,
             Judgement::Foreign
             | Judgement::ResetIgnored
             | Judgement::OpensNothing

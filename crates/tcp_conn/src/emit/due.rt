@@ -42,18 +42,18 @@ impl<A: Allocator> Endpoint<A> {
         ensures value { result ≡ due_of self.now }
         ensures sendable { IfSome result (IsSendable self.now.sending max_mss) }
     {
-        if self.owed.reset.is_some() {
+        if self.pending.reset.is_some() {
             return Some(Due::Reset);
         }
-        if self.owed.syn {
+        if self.pending.syn {
             return Some(Due::Syn);
         }
         if let Some(due) = self.text_due() {
             return Some(due);
         }
-        if self.owed.ack {
+        if self.pending.ack {
             // So that the proof knows the invariant of a sender.
-            let _ = &self.sender.nxt;
+            let _ = &self.sender.snd_nxt;
             Some(Due::Acknowledgement)
         } else {
             None
@@ -66,11 +66,11 @@ impl<A: Allocator> Endpoint<A> {
         ensures value { result ≡ ack_alone self.now }
         ensures sendable { IfSome result (IsSendable self.now.sending max_mss) }
     {
-        if self.owed.reset.is_some() || self.owed.syn || !self.owed.ack {
+        if self.pending.reset.is_some() || self.pending.syn || !self.pending.ack {
             return None;
         }
         // So that the proof knows what always holds of a sender.
-        let _ = &self.sender.nxt;
+        let _ = &self.sender.snd_nxt;
         Some(Due::Acknowledgement)
     }
 
@@ -84,7 +84,7 @@ impl<A: Allocator> Endpoint<A> {
         }
         let sent = self
             .sender
-            .due(self.text_limit(), self.owed.probe, self.closing)?;
+            .due(self.text_limit(), self.pending.probe, self.closing)?;
         Some(Due::Text(sent))
     }
 
@@ -94,7 +94,7 @@ impl<A: Allocator> Endpoint<A> {
     {
         match due {
             Due::Text(sent) => sent.start(),
-            Due::Acknowledgement => self.sender.nxt,
+            Due::Acknowledgement => self.sender.snd_nxt,
             Due::Reset | Due::Syn => 0,
         }
     }
@@ -106,12 +106,12 @@ impl<A: Allocator> Endpoint<A> {
         ensures most { result ≤ 2 + stream_limit }
     {
         // So that the proof knows the invariant of a sender.
-        let _ = &self.sender.nxt;
+        let _ = &self.sender.snd_nxt;
         match due {
             Due::Reset => 0,
             Due::Syn => 1,
             Due::Text(sent) => sent.end(),
-            Due::Acknowledgement => self.sender.nxt,
+            Due::Acknowledgement => self.sender.snd_nxt,
         }
     }
 

@@ -138,7 +138,11 @@ impl<A: Allocator> Endpoint<A> {
             src_port: self.config.port,
             dst_port: self.peer.port,
             seq: self.number_of(0),
-            ack: if opened { self.receiver.next } else { Seq(0) },
+            ack: if opened {
+                self.receiver.rcv_nxt
+            } else {
+                Seq(0)
+            },
             reserved: 0,
             flags: if opened {
                 Flags::SYN.union(Flags::ACK)
@@ -167,7 +171,7 @@ impl<A: Allocator> Endpoint<A> {
             src_port: self.config.port,
             dst_port: self.peer.port,
             seq: self.number_of(self.start_of(due)),
-            ack: self.receiver.next,
+            ack: self.receiver.rcv_nxt,
             reserved: 0,
             flags: self.flags_of(due),
             window: self.advertised_window(),
@@ -221,7 +225,7 @@ impl<A: Allocator> Endpoint<A> {
             return ArrayVec::new();
         }
         let blocks = self.receiver.inbox.blocks();
-        block_numbers(self.receiver.next, blocks.as_slice())
+        block_numbers(self.receiver.rcv_nxt, blocks.as_slice())
     }
 
     /// Their length in bytes among the options: two Nops, kind and length byte, and eight for each block. No block is

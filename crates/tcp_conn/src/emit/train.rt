@@ -42,11 +42,11 @@ impl<A: Allocator> Endpoint<A> {
         ensures most { result ≤ max_capacity }
     {
         let sender = &self.sender;
-        if sender.nxt <= sender.released {
+        if sender.snd_nxt <= sender.released {
             return 0;
         }
-        let unsent = sender.queue.len() - sender.count_below(sender.nxt);
-        let usable = (sender.una + u64::from(sender.wnd)).saturating_sub(sender.nxt);
+        let unsent = sender.queue.len() - sender.count_below(sender.snd_nxt);
+        let usable = (sender.snd_una + u64::from(sender.snd_wnd)).saturating_sub(sender.snd_nxt);
         usable.min(unsent as u64) as usize
     }
 
@@ -76,7 +76,7 @@ impl<A: Allocator> Endpoint<A> {
         ensures writable { IsWritable self.now (Text (NewText start result)) room }
     {
         // So that the proof knows the invariant of a sender.
-        let _ = &self.sender.nxt;
+        let _ = &self.sender.snd_nxt;
         each.max((segments * each).min(self.text_allowed()))
     }
 

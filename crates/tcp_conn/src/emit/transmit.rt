@@ -94,7 +94,7 @@ impl<A: Allocator> Endpoint<A> {
         ensures most { result ≤ EMIT_ROOM }
     {
         match due {
-            Due::Reset if self.owed.reset.is_some() => HEADER_LEN,
+            Due::Reset if self.pending.reset.is_some() => HEADER_LEN,
             Due::Syn => {
                 let scale = if self.shift_offered().is_some() { 4 } else { 0 };
                 let sack = if self.is_sack_offered() { 4 } else { 0 };
@@ -157,20 +157,20 @@ impl<A: Allocator> Endpoint<A> {
         ensures { self.new ≡ state_after self.old due }
     {
         match due {
-            Due::Reset => self.owed.reset = None,
+            Due::Reset => self.pending.reset = None,
             Due::Syn => {
                 self.sender.mark_syn_sent();
-                self.owed.syn = false;
-                self.owed.ack = self.owed.ack && !self.receiver.opened;
+                self.pending.syn = false;
+                self.pending.ack = self.pending.ack && !self.receiver.opened;
             }
             Due::Text(sent) => {
                 self.sender.mark_sent(sent);
-                self.owed.ack = false;
+                self.pending.ack = false;
                 if matches!(sent, Sent::NewText(..)) {
-                    self.owed.probe = false;
+                    self.pending.probe = false;
                 }
             }
-            Due::Acknowledgement => self.owed.ack = false,
+            Due::Acknowledgement => self.pending.ack = false,
         }
     }
 

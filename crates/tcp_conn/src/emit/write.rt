@@ -56,7 +56,7 @@ impl<A: Allocator> Endpoint<A> {
         ensures { FitsFields self.now }
     {
         let _peer_port = self.peer.port;
-        let _next = self.receiver.next;
+        let _next = self.receiver.rcv_nxt;
     }
 
     /// Writes this end's SYN at the start of `out`, and returns its length.
@@ -166,7 +166,7 @@ impl<A: Allocator> Endpoint<A> {
         ensures completes { sum ≡ Partial → completed (take result out.new) ≡ bytes_of self.now due }
     {
         match due {
-            Due::Reset => match self.owed.reset {
+            Due::Reset => match self.pending.reset {
                 Some(reset) => self.write_reset(reset, sum, out),
                 None => self.write_plain(Due::Acknowledgement, sum, out),
             },
@@ -179,7 +179,7 @@ impl<A: Allocator> Endpoint<A> {
     pub(crate) fn destination(&self, due: Due) -> Addr
         ensures { result ≡ (destination_of self.now due).addr }
     {
-        match (due, self.owed.reset) {
+        match (due, self.pending.reset) {
             (Due::Reset, Some(reset)) => reset.to.addr,
             _ => self.peer.addr,
         }

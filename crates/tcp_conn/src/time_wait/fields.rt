@@ -1,16 +1,16 @@
 //! A TIME-WAIT record field by field: to be stored, or passed across an interface.
 ghost use Rattle.std.specs.Prelude.{◌≡◌, if◌then◌else◌, Some, None, IsTrue};
-ghost use Rattle.tcp_conn.specs.Rest.{can_be_kept, kept_of};
+ghost use Rattle.tcp_conn.specs.TimeWait.{can_be_kept, kept_of};
 
 use crate::phase::Ending;
-use crate::time_wait::record::Rest;
+use crate::time_wait::record::TimeWait;
 use tcp_halves::{MAX_SHIFT, Peer, WaitingReset};
 use tcp_sendq::MAX_CAPACITY;
 use tcp_wire::{Addr, Seq};
 
-/// The fields of a [`Rest`]. Any values can be given to [`Rest::of`], which refuses those of no record.
+/// The fields of a [`TimeWait`]. Any values can be given to [`TimeWait::of`], which refuses those of no record.
 #[derive(Clone, Copy, Debug, PartialEq, Eq)]
-pub struct RestFields {
+pub struct TimeWaitFields {
     /// The address of this end.
     pub addr: Addr,
     /// The port of this end.
@@ -18,9 +18,9 @@ pub struct RestFields {
     /// The other end.
     pub peer: Peer,
     /// SND.NXT: all before it is acknowledged.
-    pub seq: Seq,
+    pub snd_nxt: Seq,
     /// RCV.NXT.
-    pub next: Seq,
+    pub rcv_nxt: Seq,
     /// RCV.WND in bytes, at most 1,048,576.
     pub window: u32,
     /// The shift by which the window is advertised, at most 14.
@@ -33,19 +33,19 @@ pub struct RestFields {
     pub ending: Ending,
 }
 
-impl Rest {
-    /// Its fields: [`Rest::of`] makes an equal record of them.
+impl TimeWait {
+    /// Its fields: [`TimeWait::of`] makes an equal record of them.
     #[must_use]
-    pub fn fields(&self) -> RestFields
+    pub fn fields(&self) -> TimeWaitFields
         ensures value { kept_of result ≡ self.now }
         ensures valid { IsTrue (can_be_kept result) }
     {
-        RestFields {
+        TimeWaitFields {
             addr: self.addr,
             port: self.port,
             peer: self.peer,
-            seq: self.seq,
-            next: self.next,
+            snd_nxt: self.snd_nxt,
+            rcv_nxt: self.rcv_nxt,
             window: self.window,
             shift: self.shift,
             ack: self.ack,
@@ -57,18 +57,18 @@ impl Rest {
     /// The record of these fields. `None` exactly where there is none: with a window above 1,048,576 bytes, or a shift
     /// above 14.
     #[must_use]
-    pub fn of(fields: RestFields) -> Option<Rest>
+    pub fn of(fields: TimeWaitFields) -> Option<TimeWait>
         ensures { result ≡ (if can_be_kept fields then Some (kept_of fields) else None) }
     {
         if fields.window as usize > MAX_CAPACITY || fields.shift > MAX_SHIFT {
             return None;
         }
-        Some(Rest {
+        Some(TimeWait {
             addr: fields.addr,
             port: fields.port,
             peer: fields.peer,
-            seq: fields.seq,
-            next: fields.next,
+            snd_nxt: fields.snd_nxt,
+            rcv_nxt: fields.rcv_nxt,
             window: fields.window,
             shift: fields.shift,
             ack: fields.ack,

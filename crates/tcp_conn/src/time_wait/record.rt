@@ -10,13 +10,13 @@ ghost use Rattle.tcp_conn.specs.Calls.{abort_answer, after_abort};
 ghost use Rattle.tcp_conn.specs.Emission.{after_emission, buffer_after, destination, pending_length};
 ghost use Rattle.tcp_conn.specs.Forms.{plain_segment};
 ghost use Rattle.tcp_conn.specs.Judgement.{IsReadOf, is_foreign, judgement};
-ghost use Rattle.tcp_conn.specs.Rest.{after_judgement_at_rest, as_state, can_rest, phase_at_rest, resting};
+ghost use Rattle.tcp_conn.specs.TimeWait.{as_state, has_time_wait, time_wait_after_judgement, time_wait_of, time_wait_phase};
 ghost use Rattle.tcp_conn.specs.Timers.{after_timer, timer_answer};
 ghost use Rattle.tcp_conn.specs.Windows.{window_field};
 
 use crate::arrive::effect::reset_of_stray;
 use crate::arrive::judged_fields::JudgedFields;
-use crate::arrive::judgement::{Judgement, judge_closed, judge_present};
+use crate::arrive::judgement::{Judgement, judge_after_syn, judge_closed};
 use crate::emit::segment::reset_from;
 use crate::endpoint::Endpoint;
 use crate::outcome::{Arrival, CallError};
@@ -28,21 +28,21 @@ use std::marker::Model;
 use tcp_halves::{Peer, WaitingReset};
 use tcp_wire::{Addr, Flags, Header, RawSegment, Seq, write_around};
 
-/// The length in bytes of each segment that a [`Rest`] emits.
-pub const REST_LEN: usize = 20;
+/// The length in bytes of each segment that a [`TimeWait`] emits.
+pub const TIME_WAIT_LEN: usize = 20;
 
 /// A TIME-WAIT record: it takes the place of an end in TIME-WAIT (RFC 9293, 3.3.2), and allocates nothing. It answers
 /// late segments as the end would, until the TIME-WAIT timeout, a reset or `abort` closes it. At most 64 bytes.
 #[derive(Clone, Copy, Debug, PartialEq, Eq)]
-pub struct Rest {
+pub struct TimeWait {
     /// The address and port of this end.
     pub(crate) addr: Addr,
     pub(crate) port: u16,
     pub(crate) peer: Peer,
     /// SND.NXT: all before it is acknowledged.
-    pub(crate) seq: Seq,
+    pub(crate) snd_nxt: Seq,
     /// RCV.NXT.
-    pub(crate) next: Seq,
+    pub(crate) rcv_nxt: Seq,
     /// RCV.WND, and the shift by which it is advertised.
     pub(crate) window: u32,
     pub(crate) shift: u8,
@@ -53,19 +53,19 @@ pub struct Rest {
     pub(crate) ending: Ending,
 }
 
-impl Model for Rest {
+impl Model for TimeWait {
     ghost use Rattle.std.specs.Prelude.{◌<◌, ◌≤◌, ◌^◌};
     ghost use Rattle.tcp_reasm.specs.Reassembly.{max_capacity};
     ghost use Rattle.tcp_halves.specs.Config.{max_shift};
-    ghost use Rattle.tcp_conn.specs.Rest.{Resting};
+    ghost use Rattle.tcp_conn.specs.TimeWait.{TimeWaitRecord};
 
-    ghost Value = { Resting };
+    ghost Value = { TimeWaitRecord };
 
-    ghost view = { λ r. record { addr = r.addr; port = r.port; peer = r.peer; seq = r.seq.0; next = r.next.0; window = r.window; shift = r.shift; ack = r.ack; reset = r.reset; ending = r.ending } };
+    ghost view = { λ r. record { addr = r.addr; port = r.port; peer = r.peer; snd_nxt = r.snd_nxt.0; rcv_nxt = r.rcv_nxt.0; window = r.window; shift = r.shift; ack = r.ack; reset = r.reset; ending = r.ending } };
 
-    ghost inverse = { λ d. record { addr = d.addr; port = d.port; peer = d.peer; seq = record { 0 = d.seq }; next = record { 0 = d.next }; window = d.window; shift = d.shift; ack = d.ack; reset = d.reset; ending = d.ending } };
+    ghost inverse = { λ d. record { addr = d.addr; port = d.port; peer = d.peer; snd_nxt = record { 0 = d.snd_nxt }; rcv_nxt = record { 0 = d.rcv_nxt }; window = d.window; shift = d.shift; ack = d.ack; reset = d.reset; ending = d.ending } };
 
-    ghost invariant = { λ r. (r.seq.0 < 2 ^ 32) × (r.next.0 < 2 ^ 32) × (r.window ≤ max_capacity) × (r.shift ≤ max_shift) };
+    ghost invariant = { λ r. (r.snd_nxt.0 < 2 ^ 32) × (r.rcv_nxt.0 < 2 ^ 32) × (r.window ≤ max_capacity) × (r.shift ≤ max_shift) };
 }
 
 impl<A: Allocator> Endpoint<A> {
@@ -73,42 +73,42 @@ impl<A: Allocator> Endpoint<A> {
     /// phase but TIME-WAIT, while bytes are unread or kept out of order, and while anything that was sent isn't
     /// acknowledged.
     #[must_use]
-    pub fn rest(&self) -> Option<Rest>
-        ensures { result ≡ (if can_rest self.now then Some (resting self.now) else None) }
+    pub fn time_wait(&self) -> Option<TimeWait>
+        ensures { result ≡ (if has_time_wait self.now then Some (time_wait_of self.now) else None) }
     {
-        if !self.can_rest() {
+        if !self.has_time_wait() {
             return None;
         }
-        Some(Rest {
+        Some(TimeWait {
             addr: self.config.addr,
             port: self.config.port,
             peer: self.peer,
-            seq: self.number_of(self.sender.nxt),
-            next: self.receiver.next,
+            snd_nxt: self.number_of(self.sender.snd_nxt),
+            rcv_nxt: self.receiver.rcv_nxt,
             window: self.receiver.inbox.window(),
             shift: self.own_shift(),
-            ack: self.owed.ack,
-            reset: self.owed.reset,
+            ack: self.pending.ack,
+            reset: self.pending.reset,
             ending: self.ending,
         })
     }
 
     /// Whether it is in TIME-WAIT, nothing is unread or kept out of order, and all that was sent is acknowledged.
-    fn can_rest(&self) -> bool
-        ensures { result ≡ can_rest self.now }
+    fn has_time_wait(&self) -> bool
+        ensures { result ≡ has_time_wait self.now }
     {
         let waits = is_time_wait(self.phase) && !is_ended(self.ending);
         let empty = self.receiver.inbox.unread() == 0 && !self.has_gap();
-        let acknowledged = self.sender.una == self.sender.nxt && !self.owed.syn;
+        let acknowledged = self.sender.snd_una == self.sender.snd_nxt && !self.pending.syn;
         waits && empty && acknowledged
     }
 }
 
-impl Rest {
+impl TimeWait {
     /// TIME-WAIT, or CLOSED once the connection has ended.
     #[must_use]
     pub fn phase(&self) -> Phase
-        ensures { result ≡ phase_at_rest self.now.ending }
+        ensures { result ≡ time_wait_phase self.now.ending }
     {
         if is_ended(self.ending) {
             Phase::Closed
@@ -126,13 +126,13 @@ impl Rest {
     }
 
     /// Takes bytes that came from `src` to `dst`, whatever they are, as the end would (RFC 9293, 3.10.7).
-    #[tactic(auto, using(crate::proofs::Rests::kept, crate::proofs::RestArrival::followed), unfolding(crate::specs::Arrival::arrival_answer, crate::specs::Arrival::after_arrival))]
+    #[tactic(auto, using(crate::proofs::TimeWaits::kept, crate::proofs::TimeWaitArrival::followed), unfolding(crate::specs::Arrival::arrival_answer, crate::specs::Arrival::after_arrival))]
     pub fn arrive(&mut self, src: Addr, dst: Addr, bytes: &[u8]) -> Arrival
         ensures answer { result ≡ arrival_answer (as_state self.old) src.0 dst.0 bytes.now }
-        ensures state { self.new ≡ resting (after_arrival (as_state self.old) src.0 dst.0 bytes.now) }
+        ensures state { self.new ≡ time_wait_of (after_arrival (as_state self.old) src.0 dst.0 bytes.now) }
     {
         // So that the proof knows the invariant of the record.
-        let _ = &self.seq;
+        let _ = &self.snd_nxt;
         match RawSegment::parse(src, dst, bytes) {
             Ok(segment) => {
                 let judgement = self.judge(src, dst, &segment);
@@ -154,7 +154,7 @@ impl Rest {
         if is_ended(self.ending) {
             return judge_closed(segment);
         }
-        judge_present(&self.present(), segment)
+        judge_after_syn(&self.judged_fields(), segment)
     }
 
     /// Whether the segment is for another end, or, in TIME-WAIT, from another source than the peer (RFC 9293, 3.10.7).
@@ -168,15 +168,15 @@ impl Rest {
     }
 
     /// What is read of it in TIME-WAIT: positions count from SND.NXT.
-    fn present(&self) -> JudgedFields
+    fn judged_fields(&self) -> JudgedFields
         requires { self.now.ending ≡ NotEnded }
         ensures { IsReadOf result (as_state self.now) }
     {
         JudgedFields {
-            rcv_nxt: self.next,
+            rcv_nxt: self.rcv_nxt,
             rcv_wnd: self.window,
             is_syn_received: false,
-            isn: self.seq,
+            isn: self.snd_nxt,
             snd_una: 0,
             snd_nxt: 0,
         }
@@ -184,7 +184,7 @@ impl Rest {
 
     /// The effect of a judgement. An acknowledgement that is taken changes nothing.
     fn follow(&mut self, judgement: Judgement, src: Addr, segment: &RawSegment<'_>)
-        ensures { self.new ≡ after_judgement_at_rest judgement self.old src.0 (raw_content segment.now) }
+        ensures { self.new ≡ time_wait_after_judgement judgement self.old src.0 (raw_content segment.now) }
     {
         match judgement {
             Judgement::Stray => self.record_reset(reset_of_stray(src, segment)),
@@ -217,10 +217,10 @@ impl Rest {
 
     /// A timer has expired (RFC 9293, 3.10.8): whether its rule applies. TimeWait ends the connection in order; any
     /// other changes nothing.
-    #[tactic(auto, using(crate::proofs::Rests::kept), unfolding(crate::specs::Timers::after_retransmit, crate::specs::Timers::after_reorder, crate::specs::Timers::after_time_wait))]
+    #[tactic(auto, using(crate::proofs::TimeWaits::kept), unfolding(crate::specs::Timers::after_retransmit, crate::specs::Timers::after_reorder, crate::specs::Timers::after_time_wait))]
     pub fn timer(&mut self, timer: Timer) -> bool
         ensures answer { result ≡ timer_answer (as_state self.old) timer }
-        ensures state { self.new ≡ resting (after_timer (as_state self.old) timer) }
+        ensures state { self.new ≡ time_wait_of (after_timer (as_state self.old) timer) }
     {
         if timer != Timer::TimeWait || is_ended(self.ending) {
             return false;
@@ -230,10 +230,10 @@ impl Rest {
     }
 
     /// Aborts the connection; no reset is sent in TIME-WAIT (RFC 9293, 3.10.5). `Ended` where it has ended.
-    #[tactic(auto, using(crate::proofs::Rests::kept), unfolding(crate::specs::Calls::after_abort))]
+    #[tactic(auto, using(crate::proofs::TimeWaits::kept), unfolding(crate::specs::Calls::after_abort))]
     pub fn abort(&mut self) -> Result<(), CallError>
         ensures answer { result ≡ abort_answer (as_state self.old) }
-        ensures state { self.new ≡ resting (after_abort (as_state self.old)) }
+        ensures state { self.new ≡ time_wait_of (after_abort (as_state self.old)) }
     {
         if is_ended(self.ending) {
             return Err(CallError::Ended(self.ending));
@@ -242,15 +242,15 @@ impl Rest {
         Ok(())
     }
 
-    /// The length in bytes of the segment that `emit` would write now, [`REST_LEN`]; `None` where none is due.
+    /// The length in bytes of the segment that `emit` would write now, [`TIME_WAIT_LEN`]; `None` where none is due.
     #[must_use]
     #[tactic(auto, unfolding(crate::specs::Emission::pending_length, crate::specs::Due::due_of, crate::specs::Forms::segment_of))]
     pub fn pending(&self) -> Option<usize>
         ensures value { result ≡ pending_length (as_state self.now) }
-        ensures len { IfSome result (λ len. len ≡ REST_LEN) }
+        ensures len { IfSome result (λ len. len ≡ TIME_WAIT_LEN) }
     {
         if self.reset.is_some() || self.ack {
-            Some(REST_LEN)
+            Some(TIME_WAIT_LEN)
         } else {
             None
         }
@@ -273,8 +273,8 @@ impl Rest {
         Header {
             src_port: self.port,
             dst_port: self.peer.port,
-            seq: self.seq,
-            ack: self.next,
+            seq: self.snd_nxt,
+            ack: self.rcv_nxt,
             reserved: 0,
             flags: Flags::ACK,
             window: self.field(),
@@ -283,16 +283,16 @@ impl Rest {
     }
 
     /// Writes the segment that is due, a waiting reset or an acknowledgement, at the start of `out`, which has room for
-    /// [`REST_LEN`] bytes. Returns where it goes and its length, [`REST_LEN`]. `None`, and nothing changes, exactly
-    /// where none is due.
+    /// [`TIME_WAIT_LEN`] bytes. Returns where it goes and its length, [`TIME_WAIT_LEN`]. `None`, and nothing changes,
+    /// exactly where none is due.
     #[must_use]
-    #[tactic(auto, using(crate::proofs::Rests::kept), unfolding(crate::specs::Emission::pending_length, crate::specs::Emission::destination, crate::specs::Emission::buffer_after, crate::specs::Emission::after_emission, crate::specs::Due::due_of, crate::specs::Forms::segment_of, crate::specs::Writing::bytes_of))]
+    #[tactic(auto, using(crate::proofs::TimeWaits::kept), unfolding(crate::specs::Emission::pending_length, crate::specs::Emission::destination, crate::specs::Emission::buffer_after, crate::specs::Emission::after_emission, crate::specs::Due::due_of, crate::specs::Forms::segment_of, crate::specs::Writing::bytes_of))]
     pub fn emit(&mut self, out: &mut [u8]) -> Option<(Addr, usize)>
-        requires { REST_LEN ≤ length out.old }
+        requires { TIME_WAIT_LEN ≤ length out.old }
         ensures destination { option_map (λ sent. sent.0.0) result ≡ destination (as_state self.old) }
         ensures len { option_map (λ sent. sent.1) result ≡ pending_length (as_state self.old) }
         ensures bytes { out.new ≡ buffer_after (as_state self.old) out.old }
-        ensures state { self.new ≡ resting (after_emission (as_state self.old)) }
+        ensures state { self.new ≡ time_wait_of (after_emission (as_state self.old)) }
     {
         if let Some(reset) = self.reset {
             let header = reset_from(self.port, reset);

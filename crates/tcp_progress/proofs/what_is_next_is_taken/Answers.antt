@@ -1,4 +1,4 @@
-use Rattle.tcp_progress.proofs.Taken.{next_lem}
+use Rattle.tcp_progress.proofs.laws.NextTaken.{next_lem}
 use Rattle.tcp_progress.proofs.what_is_next_is_taken.Goals as goal
 
 pub returns : goal.returns

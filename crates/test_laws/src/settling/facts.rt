@@ -25,7 +25,7 @@ fn failed_of(world: &World, side: Side) -> u32 {
 }
 
 /// Whether all of both directions is delivered.
-pub(crate) fn is_handed_over(world: &World) -> bool {
+pub(crate) fn is_delivered(world: &World) -> bool {
     failed_of(world, Side::A) == 0 && failed_of(world, Side::B) == 0
 }
 

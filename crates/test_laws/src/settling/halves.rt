@@ -3,7 +3,7 @@
 //! free: other timers expire, more is emitted and lost, old segments arrive, some again and some damaged.
 use crate::generator::Generator;
 use crate::settling::events::side_of;
-use crate::settling::facts::{is_handed_over, is_settled};
+use crate::settling::facts::{is_delivered, is_settled};
 use crate::settling::failure::Failure;
 use crate::settling::places::{left_in, other};
 use crate::settling::turns::{Walk, disturb, happen, read_both, wait_out};
@@ -214,7 +214,7 @@ pub(crate) fn take_pairs(generator: &mut Generator, world: &mut World) -> Result
         disturb(generator, world, true)?;
         take_pair(generator, world, true)?;
         walk.grew = walk.grew || left_in(world) > before;
-        walk.is_through = left_in(world) == 0 && is_handed_over(world);
+        walk.is_through = left_in(world) == 0 && is_delivered(world);
         if walk.is_through {
             break;
         }

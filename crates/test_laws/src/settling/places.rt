@@ -46,12 +46,12 @@ impl Nexts {
 
 /// SND.UNA of this side (RFC 9293, 3.3.1).
 pub(crate) fn una(world: &World, side: Side) -> u64 {
-    world.endpoint(side).una()
+    world.endpoint(side).snd_una()
 }
 
 /// RCV.NXT of the other side (RFC 9293, 3.3.1): what is taken of this side's direction.
 pub(crate) fn taken(world: &World, side: Side) -> u64 {
-    world.endpoint(other(side)).next()
+    world.endpoint(other(side)).rcv_position()
 }
 
 /// The position after all that this side has to send: its SYN, the text that was accepted, and its FIN.

@@ -35,7 +35,7 @@ pub(crate) fn segment_at(world: &World, side: Side, k: usize) -> Option<Segment>
     let flags = Flags(*bits);
     let end = world.endpoint(side);
     let seq = Seq(u32::from_be_bytes([*s0, *s1, *s2, *s3]));
-    let start = seq.position(end.config().isn, end.una());
+    let start = seq.position(end.config().isn, end.snd_una());
     Some(Segment {
         start,
         end: start.saturating_add(numbers_of(flags, bytes.len(), *offset)),

@@ -2,7 +2,7 @@
 //! some again and some damaged. No reset arrives, so that no end is reset.
 use crate::generator::Generator;
 use crate::settling::events::{next_damage, side_of};
-use crate::settling::facts::{is_handed_over, is_settled};
+use crate::settling::facts::{is_delivered, is_settled};
 use crate::settling::failure::Failure;
 use crate::settling::places::{left_in, other};
 use crate::settling::segments::segment_at;
@@ -246,7 +246,7 @@ pub(crate) fn take_turns(generator: &mut Generator, world: &mut World) -> Result
         disturb(generator, world, true)?;
         take_turn(generator, world)?;
         walk.grew = walk.grew || left_in(world) > before;
-        walk.is_through = left_in(world) == 0 && is_handed_over(world);
+        walk.is_through = left_in(world) == 0 && is_delivered(world);
         if walk.is_through {
             break;
         }

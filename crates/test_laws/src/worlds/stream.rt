@@ -131,7 +131,7 @@ pub(crate) fn print_transfer(rt: &(impl Print + AllocGlobal)) -> io::Result<()> 
     for _ in 0..PIECES {
         right = right.wrapping_add(move_piece(&mut a, &mut b, &mut sent, &mut wanted));
     }
-    let una = a.una();
-    let next = b.next();
+    let una = a.snd_una();
+    let next = b.rcv_position();
     println!(rt; "{right} bytes came as they were sent, up to position {una} of {next}")
 }

@@ -1,4 +1,4 @@
-use Rattle.tcp_progress.proofs.BothHalves.{halved_lem}
+use Rattle.tcp_progress.proofs.turn.BothHalves.{halved_lem}
 use Rattle.tcp_progress.proofs.fair.half_turns_get_through.Goals as goal
 
 pub returns : goal.returns

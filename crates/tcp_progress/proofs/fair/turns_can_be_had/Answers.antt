@@ -1,4 +1,4 @@
-use Rattle.tcp_progress.proofs.Had.{turns_lem}
+use Rattle.tcp_progress.proofs.turn.TurnsHad.{turns_lem}
 use Rattle.tcp_progress.proofs.fair.turns_can_be_had.Goals as goal
 
 pub returns : goal.returns

@@ -1,4 +1,4 @@
-use Rattle.tcp_progress.proofs.Short.{handshake_lem}
+use Rattle.tcp_progress.proofs.handshake.FinishedInEight.{handshake_lem}
 use Rattle.tcp_progress.proofs.opening.a_handshake_can_be_finished.Goals as goal
 
 pub returns : goal.returns

@@ -1,4 +1,4 @@
-use Rattle.tcp_progress.proofs.Answer.{answer_lem}
+use Rattle.tcp_progress.proofs.laws.UnsentSent.{answer_lem}
 use Rattle.tcp_progress.proofs.sending.who_is_spoken_to_answers.Goals as goal
 
 pub returns : goal.returns

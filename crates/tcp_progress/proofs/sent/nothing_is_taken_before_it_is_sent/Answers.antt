@@ -1,4 +1,4 @@
-use Rattle.tcp_progress.proofs.OnlySent.{only_sent_lem}
+use Rattle.tcp_progress.proofs.steady.OnlySent.{only_sent_lem}
 use Rattle.tcp_progress.proofs.sent.nothing_is_taken_before_it_is_sent.Goals as goal
 
 -- each event keeps what holds of both ends

@@ -1,5 +1,5 @@
-use Rattle.tcp_progress.proofs.AmongStrangers.{bursts-among, halves-among, halves_had-among, left-among, not_stuck-among, opens-among, served-among}
-use Rattle.tcp_progress.proofs.AmongStrangers.{served_opens-among, turns-among}
+use Rattle.tcp_progress.proofs.laws.AmongStrangers.{bursts-among, halves-among, halves_had-among, left-among, not_stuck-among, opens-among, served-among}
+use Rattle.tcp_progress.proofs.laws.AmongStrangers.{served_opens-among, turns-among}
 use Rattle.tcp_progress.proofs.strangers.goes_on_among_strangers.Goals as goal
 
 pub returns-clause-not_stuck : goal.returns-clause-not_stuck

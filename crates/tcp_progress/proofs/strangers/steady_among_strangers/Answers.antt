@@ -1,4 +1,4 @@
-use Rattle.tcp_progress.proofs.AmongStrangers.{sent-among, steady-among}
+use Rattle.tcp_progress.proofs.laws.AmongStrangers.{sent-among, steady-among}
 use Rattle.tcp_progress.proofs.strangers.steady_among_strangers.Goals as goal
 
 pub returns-clause-steady : goal.returns-clause-steady

@@ -1,5 +1,5 @@
 use Rattle.tcp_replay.proofs.Words.{arith, common_steps, sym, take, ◌≡◌}
-use Rattle.tcp_replay.proofs.Parties.{emits_nothing, emits_something}
+use Rattle.tcp_replay.proofs.run.Parties.{emits_nothing, emits_something}
 use Rattle.tcp_replay.proofs.growth.emit_for.Goals as goal
 
 pub returns-in_default-clause-state : goal.returns-in_default-clause-state

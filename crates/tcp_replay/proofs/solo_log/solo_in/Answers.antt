@@ -1,5 +1,5 @@
 use Rattle.tcp_replay.proofs.Words.{◌<◌, HasRanges, length, map, rules, solo_content, ◌≤◌}
-use Rattle.tcp_replay.proofs.{Runs.all-go_on, Runs.content_at, Runs.content_inside, SoloLogs.log-begins, SoloLogs.log-ends, SoloLogs.log-goes_on}
+use Rattle.tcp_replay.proofs.{one_end.SoloLogs.log-begins, one_end.SoloLogs.log-ends, one_end.SoloLogs.log-goes_on, run.Runs.all-go_on, run.Runs.content_at, run.Runs.content_inside}
 use Rattle.tcp_replay.proofs.solo_log.solo_in.Goals as goal
 
 pub loop-i-init : goal.loop-i-init
@@ -28,11 +28,11 @@ returns-clause-sends_its_users g c =
     (log-ends c.args.config solo_content c.args.events.now c.loop-i.i c.loop-i.log c.loop-i.invariant.made done c.loop-i.invariant.ranges
     c.loop-i.invariant.so_far).sends
 
-pub returns-clause-hands_over_what_came : goal.returns-clause-hands_over_what_came
-returns-clause-hands_over_what_came g c =
+pub returns-clause-delivers_what_came : goal.returns-clause-delivers_what_came
+returns-clause-delivers_what_came g c =
     let done : length c.args.events.now ≤ c.loop-i.i = search rules in
     (log-ends c.args.config solo_content c.args.events.now c.loop-i.i c.loop-i.log c.loop-i.invariant.made done c.loop-i.invariant.ranges
-    c.loop-i.invariant.so_far).hands_over
+    c.loop-i.invariant.so_far).delivers
 
 pub returns-clause-acknowledges_in_order : goal.returns-clause-acknowledges_in_order
 returns-clause-acknowledges_in_order g c =

@@ -1,6 +1,6 @@
 use Rattle.tcp_replay.proofs.Words.{ap, append-nil, arith, common_steps, due_for, length, List, None, Option, party_out, PartyState, refl, segment_as, sent_by}
 use Rattle.tcp_replay.proofs.Words.{SentSegment, sym, ℕ, ◌∙◌, ◌≡◌}
-use Rattle.tcp_replay.proofs.Parties.{emission_is, outcome_is, segment_to}
+use Rattle.tcp_replay.proofs.run.Parties.{emission_is, outcome_is, segment_to}
 use Rattle.tcp_replay.proofs.party.Party.emit.Goals as goal
 
 pub returns-in_default-clause-state : goal.returns-in_default-clause-state
@@ -17,7 +17,7 @@ returns-in_default-clause-outcome g c =
 pub returns-clause-state : goal.returns-clause-state
 returns-clause-state g c =
     let some : segment_to c.in-Some.field-0-0.0 c.in-Some.bytes.items ≡ segment_as c.self.inside.endpoint (due_for c.args.alone c.self.inside.endpoint) = grind (arith, common_steps) in
-    let kept : ◌≡◌ {A = SentSegment} (record { bytes = c.in-Some.bytes.items; position = c.position-position.result; wanted = c.next-wanted.result })
+    let kept : ◌≡◌ {A = SentSegment} (record { bytes = c.in-Some.bytes.items; position = c.position-position.result; wanted = c.rcv_position-wanted.result })
     (sent_by c.self.inside.endpoint c.in-Some.bytes.items) = grind (arith, common_steps) in
     emission_is _ _ c.emit_for.new.endpoint _ (segment_to c.in-Some.field-0-0.0 c.in-Some.bytes.items) some c.in_ok-bytes.ensures.state
     (rw (c.push_reserved.ensures.items, c.in_ok-bytes.ensures.list, kept) refl) ∙ ap (λ (p : PartyState). party_out p (due_for c.args.alone p.endpoint)) c.self.view_is

@@ -1,6 +1,6 @@
 use Rattle.tcp_replay.proofs.Words.{◌<◌, ap, both, event_content, HasBytes, HintsAreTrue, IsSafe, length, map, rules, subst, WorldState}
-use Rattle.tcp_replay.proofs.Runs.{all-go_on, content_at, content_inside, refused_by, run_begins, run_goes_on, run_out_of_memory, run_refused}
-use Rattle.tcp_replay.proofs.Worlds.{hints-sound, safe-sound}
+use Rattle.tcp_replay.proofs.run.Runs.{all-go_on, content_at, content_inside, refused_by, run_begins, run_goes_on, run_out_of_memory, run_refused}
+use Rattle.tcp_replay.proofs.run.Worlds.{hints-sound, safe-sound}
 use Rattle.tcp_replay.proofs.world.World.run.Goals as goal
 
 pub loop-i-init : goal.loop-i-init

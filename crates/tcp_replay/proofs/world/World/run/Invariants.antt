@@ -1,5 +1,5 @@
 use Rattle.tcp_replay.proofs.Words.{AllByRecursion, event_content, HasBytes, HintsAreTrue, IsSafe, KeepsAllSegments, map, take}
-use Rattle.tcp_replay.proofs.Runs.{RunsTo}
+use Rattle.tcp_replay.proofs.run.Runs.{RunsTo}
 use Rattle.tcp_replay.proofs.world.World.run.Given as goal
 
 -- the world is where the events so far led, none of which was refused

@@ -1,5 +1,5 @@
 use Rattle.tcp_replay.proofs.Words.{both, event_content, KeepsAllSegments, subst, sym, WorldState}
-use Rattle.tcp_replay.proofs.Worlds.{damage_step, hints-sound, keeps_step, safe-sound, sound_step, unexpired_step}
+use Rattle.tcp_replay.proofs.run.Worlds.{damage_step, hints-sound, keeps_step, safe-sound, sound_step, unexpired_step}
 use Rattle.tcp_replay.proofs.world.World.step.Goals as goal
 
 -- two sound ends stay sound, whatever the event

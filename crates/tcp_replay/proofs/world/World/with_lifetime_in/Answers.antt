@@ -1,5 +1,5 @@
 use Rattle.tcp_replay.proofs.Words.{new_party, ◌≡◌}
-use Rattle.tcp_replay.proofs.{Parties.fault-of_a, Parties.fault-of_b, Parties.fault-of_none, Worlds.sound-new}
+use Rattle.tcp_replay.proofs.{run.Parties.fault-of_a, run.Parties.fault-of_b, run.Parties.fault-of_none, run.Worlds.sound-new}
 use Rattle.tcp_replay.proofs.world.World.with_lifetime_in.Goals as goal
 
 -- what two good Configs make is sound

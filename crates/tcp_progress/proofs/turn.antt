@@ -1,0 +1,25 @@
+-- WHO IS SERVED GETS THROUGH: calm events, turns and half turns, and each of them leaves less.
+pub mod Live
+pub mod Emitted
+pub mod Delivered
+pub mod Ended
+pub mod Waking
+pub mod Calm
+pub mod CalmWorlds
+pub mod Turning
+pub mod Serving
+pub mod Answering
+pub mod Speaking
+pub mod Bursting
+pub mod Replying
+pub mod Asking
+pub mod Sides
+pub mod GoingOn
+pub mod Behind
+pub mod Draining
+pub mod TurnsHad
+pub mod Lowering
+pub mod Happened
+pub mod OneHalf
+pub mod BothHalves
+pub mod HalfTurnsHad
