@@ -9,8 +9,17 @@ ghost use Rattle.tcp_c.specs.Segments.{after_emission_within, emission_number, w
 use crate::answers::{DONE, LITTLE_ROOM, NO_END, NOTHING_DUE};
 use crate::handle::Handle;
 use crate::records::CAddr;
-use tcp_conn::EMIT_ROOM;
+use tcp_conn::{EMIT_ROOM, Transmit};
 use tcp_wire::Addr;
+
+/// Where a segment goes that was reported, and its length.
+fn sent_to(sent: Option<Transmit>) -> Option<(Addr, usize)>
+    ensures to { option_map (λ sent. sent.0.0) result ≡ option_map (λ sent. sent.to.0) sent }
+    ensures len { option_map (λ sent. sent.1) result ≡ option_map (λ sent. sent.len) sent }
+{
+    let sent = sent?;
+    Some((sent.to, sent.len))
+}
 
 /// The one way out of an emission: reports where the segment goes that was written, and its length. Where none was, what stands there
 /// stays.
@@ -114,5 +123,5 @@ pub extern "C" fn tcp_c_emit_acknowledgement(
     }
     let sent = end.emit_acknowledgement(out);
     handle.put(end);
-    report_sent(sent, to, count)
+    report_sent(sent_to(sent), to, count)
 }

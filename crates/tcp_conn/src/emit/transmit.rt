@@ -5,11 +5,11 @@ ghost use Rattle.tcp_wire.specs.Wire.{header_len, max_text_len, wire_length};
 ghost use Rattle.tcp_halves.specs.Config.{max_mss, stream_limit};
 ghost use Rattle.tcp_conn.specs.declared.emit.write.Sum.TheVariants.{Partial};
 ghost use Rattle.tcp_conn.specs.Due.{IsSendable, count_of, end_of, start_of};
-ghost use Rattle.tcp_conn.specs.Emission.{ack_alone_length, after_ack_alone, after_emission, buffer_after, buffer_after_ack_alone, destination, emitted_bytes, pending_length, state_after};
+ghost use Rattle.tcp_conn.specs.Emission.{ack_alone_destination, ack_alone_length, after_ack_alone, after_emission, buffer_after, buffer_after_ack_alone, destination, emitted_bytes, pending_length, state_after};
 ghost use Rattle.tcp_conn.specs.Forms.{plain_segment, segment_of};
 ghost use Rattle.tcp_conn.specs.Partial.{partial_after};
 ghost use Rattle.tcp_conn.specs.State.{IsWithin};
-ghost use Rattle.tcp_conn.specs.Transmission.{kind_of, transmit_ack_alone, transmit_due, transmit_of};
+ghost use Rattle.tcp_conn.specs.Transmission.{count_due, kind_due, kind_of, position_due, transmit_ack_alone, transmit_due, transmit_of};
 ghost use Rattle.tcp_conn.specs.Writing.{IsWritable, bytes_of, destination_of, written_of};
 
 use crate::emit::due::Due;
@@ -202,7 +202,6 @@ impl<A: Allocator> Endpoint<A> {
     /// goes and its length, at most that (RFC 9293, 3.7, 3.8 and 3.10). `None`, and nothing changes, exactly where none
     /// is due.
     #[must_use]
-    #[tactic(auto, unfolding(crate::specs::Emission::destination, crate::specs::Emission::pending_length, crate::specs::Transmission::transmit_due))]
     pub fn emit(&mut self, out: &mut [u8]) -> Option<(Addr, usize)>
         requires { EMIT_ROOM ≤ length out.old }
         ensures destination { option_map (λ sent. sent.0.0) result ≡ destination self.old }
@@ -220,11 +219,16 @@ impl<A: Allocator> Endpoint<A> {
     /// the length of its text.
     #[must_use]
     #[inline(always)]
-    #[tactic(auto, using(crate::proofs::Segments::segment_short), unfolding(crate::specs::Emission::buffer_after, crate::specs::Emission::after_emission, crate::specs::Transmission::transmit_due, crate::specs::Writing::written_of))]
+    #[tactic(auto, using(crate::proofs::Segments::segment_short), unfolding(crate::specs::Emission::pending_length, crate::specs::Emission::destination, crate::specs::Emission::buffer_after, crate::specs::Emission::after_emission, crate::specs::Transmission::kind_due, crate::specs::Transmission::position_due, crate::specs::Transmission::count_due, crate::specs::Transmission::transmit_due, crate::specs::Writing::written_of))]
     pub fn transmit(&mut self, out: &mut [u8]) -> Option<Transmit>
         requires { EMIT_ROOM ≤ length out.old }
         ensures report { result ≡ transmit_due self.old }
+        ensures destination { option_map (λ sent. sent.to.0) result ≡ destination self.old }
+        ensures len { option_map (λ sent. sent.len) result ≡ pending_length self.old }
         ensures most { IfSome result (λ sent. sent.len ≤ EMIT_ROOM) }
+        ensures kind { option_map (λ sent. sent.kind) result ≡ kind_due self.old }
+        ensures position { option_map (λ sent. sent.position) result ≡ position_due self.old }
+        ensures count { option_map (λ sent. sent.count) result ≡ count_due self.old }
         ensures ends { IfSome result (λ sent. sent.end ≤ 2 + stream_limit) }
         ensures bytes { out.new ≡ buffer_after self.old out.old }
         ensures state { self.new ≡ after_emission self.old }
@@ -242,10 +246,15 @@ impl<A: Allocator> Endpoint<A> {
 
     /// What `transmit` would report now; nothing is written, and nothing changes. `None` where nothing is due.
     #[must_use]
-    #[tactic(auto, using(crate::proofs::Segments::sendable_as_text), unfolding(crate::specs::Transmission::transmit_due))]
+    #[tactic(auto, using(crate::proofs::Segments::sendable_as_text), unfolding(crate::specs::Emission::pending_length, crate::specs::Emission::destination, crate::specs::Transmission::kind_due, crate::specs::Transmission::position_due, crate::specs::Transmission::count_due, crate::specs::Transmission::transmit_due))]
     pub fn next_transmit(&self) -> Option<Transmit>
         ensures report { result ≡ transmit_due self.now }
+        ensures destination { option_map (λ next. next.to.0) result ≡ destination self.now }
+        ensures len { option_map (λ next. next.len) result ≡ pending_length self.now }
         ensures most { IfSome result (λ next. next.len ≤ EMIT_ROOM) }
+        ensures kind { option_map (λ next. next.kind) result ≡ kind_due self.now }
+        ensures position { option_map (λ next. next.position) result ≡ position_due self.now }
+        ensures count { option_map (λ next. next.count) result ≡ count_due self.now }
         ensures ends { IfSome result (λ next. next.end ≤ 2 + stream_limit) }
     {
         let due = self.due()?;
@@ -258,10 +267,12 @@ impl<A: Allocator> Endpoint<A> {
     /// [`transmit`](Self::transmit) reports what it emits. `None`, and nothing changes, exactly where no acknowledgement
     /// is pending or a reset or SYN comes before it.
     #[must_use]
-    #[tactic(auto, using(crate::proofs::Segments::segment_short), unfolding(crate::specs::Emission::buffer_after_ack_alone, crate::specs::Emission::after_ack_alone, crate::specs::Transmission::transmit_ack_alone, crate::specs::Writing::written_of))]
+    #[tactic(auto, using(crate::proofs::Segments::segment_short), unfolding(crate::specs::Emission::ack_alone_length, crate::specs::Emission::ack_alone_destination, crate::specs::Emission::buffer_after_ack_alone, crate::specs::Emission::after_ack_alone, crate::specs::Transmission::transmit_ack_alone, crate::specs::Writing::written_of))]
     pub fn emit_acknowledgement(&mut self, out: &mut [u8]) -> Option<Transmit>
         requires { EMIT_ROOM ≤ length out.old }
         ensures report { result ≡ transmit_ack_alone self.old }
+        ensures destination { option_map (λ sent. sent.to.0) result ≡ ack_alone_destination self.old }
+        ensures len { option_map (λ sent. sent.len) result ≡ ack_alone_length self.old }
         ensures most { IfSome result (λ sent. sent.len ≤ EMIT_ROOM) }
         ensures ends { IfSome result (λ sent. sent.end ≤ 2 + stream_limit) }
         ensures bytes { out.new ≡ buffer_after_ack_alone self.old out.old }
