@@ -15,7 +15,7 @@ use Rattle.tcp_conn.specs.Arrival.{after_taking_shut, after_judgement}
 use Rattle.tcp_replay.specs.World.{PartyState}
 use Rattle.tcp_replay.proofs.one_end.Judgements.{judged}
 use Rattle.tcp_replay.proofs.pair.Calls.{KeptByCalls}
-use Rattle.tcp_replay.proofs.Room.{within-discarded, within-fin, within-read, within-text}
+use Rattle.tcp_replay.proofs.one_end.Room.{within-discarded, within-fin, within-read, within-text}
 use Rattle.tcp_replay.proofs.pair.TakingSegments.{its_ack-receiving}
 
 module _ (capacity : ℕ) where

@@ -22,5 +22,5 @@ pub use Rattle.tcp_progress.proofs.turn.Turning.{got-through, have-read, reads-c
 pub use Rattle.tcp_progress.proofs.turn.Turning.{untimed-calm}
 pub use Rattle.tcp_progress.proofs.turn.Sides.{at-event, deliver-at, deliver-to, either-side, emit-at, emit-endpoint, emit-other, emit-party, timer-at}
 pub use Rattle.tcp_progress.proofs.turn.Sides.{timer-endpoint, timer-other, twice}
-pub use Rattle.tcp_progress.proofs.turn.GoingOn.{AreStill, going-live, IsGoing, IsStillFrom, KeepsReady, lowers, Lowers, lowers-only, over, over-served}
+pub use Rattle.tcp_progress.proofs.turn.GoingOn.{AreStill, going-live, IsGoing, IsStillFrom, KeepsReady, Lowers, lowers, lowers-only, over, over-served}
 pub use Rattle.tcp_progress.proofs.turn.GoingOn.{side-left, side-on, steps-both, still-back}

@@ -3,7 +3,6 @@ pub mod Lists
 pub mod Cases
 pub mod pair
 pub mod one_end
-pub mod Room
 pub mod run
 pub mod hints
 pub mod Lemmas

@@ -1,8 +1,7 @@
 -- Cases by a test, prefixes of lists, bytes, and the numbers of positions.
-use Rattle.tcp_replay.proofs.Words.{◌%◌, ◌&&◌, ◌++◌, ◌+◌, ◌-◌, ◌<◌, [], ◌^◌, Agrees, ap, arith, Bool, Cell, drop, false}
 use Rattle.tcp_replay.proofs.Words.{if◌then◌else◌, length, length-append}
 use Rattle.tcp_replay.proofs.Words.{length-take, List, nil_from_length, None, number, Option, refl, Some, suc, sym, take, true, zero, ℕ, ◌∙◌, ◌∷◌, ◌≡◌}
-use Rattle.tcp_replay.proofs.Words.{◌≤◌}
+use Rattle.tcp_replay.proofs.Words.{◌≤◌, ◌%◌, ◌&&◌, ◌++◌, ◌+◌, ◌-◌, ◌<◌, [], ◌^◌, Agrees, ap, arith, Bool, Cell, drop, false}
 
 -- what holds by a test, either way
 pub by_test : (b : Bool) (P : Bool → Type 0) → (b ≡ true → P true) → (b ≡ false → P false) → P b

@@ -5,7 +5,7 @@ use Rattle.tcp_replay.proofs.Words.{if◌then◌else◌, Inbox, inl, inr, ints, 
 use Rattle.tcp_replay.proofs.Words.{nat_lt, nat_tests, near_ahead, near_behind, negsuc, not, NotKept, number, offset, Option, or_right, overlay}
 use Rattle.tcp_replay.proofs.Words.{overlay_of, Piece, place_answer, pos, Receiving, refl, suc, sym, true, true≢false, window, with_fin, with_overlay}
 use Rattle.tcp_replay.proofs.Words.{zero, ◌||◌, ℕ, ℤ, ◌∙◌, ◌∷◌, ◌≡◌, ◌≤ℤ◌, ◌≤◌, ◌⊎◌}
-use Rattle.tcp_replay.proofs.Room.{in_order-most, overlay-length}
+use Rattle.tcp_replay.proofs.one_end.Room.{in_order-most, overlay-length}
 use Rattle.tcp_progress.proofs.Words.{BringsOn}
 
 -- what is laid over the first places is in order

@@ -7,7 +7,7 @@ use Rattle.tcp_replay.proofs.Words.{Range, refl, resend_of, segment_of, Sending,
 use Rattle.tcp_replay.proofs.Words.{true≢false, Unacceptable, unacceptable_judgement, with_ack_pending, ℕ, ◌∙◌, ◌≡◌, ◌≤◌, ◌⊎◌}
 use Rattle.tcp_progress.proofs.Words.{after_emissions, CoversNext, IsUnacceptable, KeepsFlight, MayAnswer, MaySend, MovesOn, SpokenToAnswers, StandsAtNext}
 use Rattle.tcp_progress.proofs.Words.{UnsentGoesOut}
-use Rattle.tcp_progress.proofs.laws.FlightSentAgain.{at-rest, covering, emission, exhausts, Exhausts, IsRested, kept, may-after_retransmit, no-syn}
+use Rattle.tcp_progress.proofs.laws.FlightSentAgain.{at-rest, covering, emission, Exhausts, exhausts, IsRested, kept, may-after_retransmit, no-syn}
 use Rattle.tcp_progress.proofs.laws.FlightSentAgain.{timeout-keeps, timeout-resends}
 use Rattle.tcp_replay.proofs.Lemmas.{done-none, due-kept, none-some, due-bits, some-due}
 use Rattle.tcp_progress.proofs.{laws.NextTaken.is-synchronized, laws.NextTaken.IsAfterSyn, laws.PendingSent.with_pending-due}

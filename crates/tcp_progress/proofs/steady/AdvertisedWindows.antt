@@ -8,7 +8,7 @@ use Rattle.tcp_replay.proofs.Words.{State, subst, sym, Syn, syn, syn_options, sy
 use Rattle.tcp_replay.proofs.Words.{with_bytes_received, ℕ, ◌∙◌, ◌≡◌, ◌≤◌}
 use Rattle.tcp_replay.proofs.Lemmas.{after_segment, AllSaid, Arrives, Both, both-swapped, GoesOutAlone, kept-same, KeptByCalls, Moved, on-arrival, PairKept}
 use Rattle.tcp_replay.proofs.Lemmas.{due-bits, said-after, said-back, Speaks, syn-bits}
-use Rattle.tcp_replay.proofs.Room.{within-discarded, within-fin, within-read, within-text}
+use Rattle.tcp_replay.proofs.one_end.Room.{within-discarded, within-fin, within-read, within-text}
 use Rattle.tcp_progress.proofs.{Words.AdvertisesWithin}
 use Rattle.tcp_replay.proofs.Lemmas.{waiting-bit}
 

@@ -3,7 +3,7 @@ use Rattle.tcp_halves.specs.Sent as half
 use Rattle.tcp_replay.proofs.Words.{◌+◌, ◌-◌, ◌<◌, ◌==◌, [], ◌^◌, Aborted, Acknowledgement, acks_more, address_of, after_ack, after_acked_text}
 use Rattle.tcp_replay.proofs.Words.{after_delivering, after_discarding, after_due, after_own_syn, after_peer_accepts, after_peer_opens, after_place}
 use Rattle.tcp_replay.proofs.Words.{after_read, after_text, after_window_and_blocks, and_parts, ap, arith, cases_lt, Cell, cond_both, Config, Content}
-use Rattle.tcp_replay.proofs.Words.{count_numbers, count_of, discards, drop, Due, eqb-false, EventContent, false, false≢true, fin, Fin, has, has_fin}
+use Rattle.tcp_replay.proofs.Words.{count_numbers, count_of, discards, drop, Due, eqb-false, EventContent, false, false≢true, Fin, fin, has, has_fin}
 use Rattle.tcp_replay.proofs.Words.{HasBytes, is_fin, is_fin_due, is_syn_received, IsSound, IsSoundPair, IsTruthful, length, length-drop, length-take}
 use Rattle.tcp_replay.proofs.Words.{List, min, new_party, new_world_with, NewText, None, not, not-true, number, offset, offset_of_earlier, offset_of_later}
 use Rattle.tcp_replay.proofs.Words.{Option, PartyState, piece, plain_segment, position_near, position_of, position_of_number, receive_refusal, Receiving}

@@ -7,8 +7,7 @@ use Rattle.tcp_replay.proofs.Words.{is_foreign, is_listening, IsAlone, IsSoundPa
 use Rattle.tcp_replay.proofs.Words.{Orderly, party_after_ack_alone, party_after_arrival, party_after_emission, party_after_resend_first, party_after_timer}
 use Rattle.tcp_replay.proofs.Words.{PartyState, PeerRefuses, PeerResets, Phase, phase_judgement, rcv_position_of, refl, ResetIgnored, rst, segment_at}
 use Rattle.tcp_replay.proofs.Words.{SentSegment, slice_get, Some, State, Stray, subst, sym, Taken, TakenShut, Timer, true, ℕ, ◌∙◌, ◌≡◌, ◌≤◌, ◌⊎◌}
-use Rattle.tcp_replay.proofs.Lemmas.{slice_get-before}
-use Rattle.tcp_replay.proofs.Lemmas.{after_segment, at-listen, Both, fair-judgement, judged, kept-same, not-closed-ended}
+use Rattle.tcp_replay.proofs.Lemmas.{after_segment, at-listen, Both, fair-judgement, judged, kept-same, not-closed-ended, slice_get-before}
 use Rattle.tcp_progress.proofs.turn.Delivered.{last-before, own_fin-ends, same-ending, same-phase, shut-as, taken-as}
 use Rattle.tcp_conn.specs.declared.phase.Timer.{Timer as Which}
 use Rattle.tcp_progress.proofs.{Words.IsCalm, Words.Side, turn.Emitted.delivered, turn.Emitted.IsOnItsWay, steady.OnlySent.KeepsSent, steady.OnlySent.reaches-arrive, turn.Live.IsStill}

@@ -7,7 +7,7 @@ use Rattle.tcp_replay.proofs.Words.{length-drop, length-take, max_life, min, nat
 use Rattle.tcp_replay.proofs.Words.{party_after_arrival, party_after_emission, PartyState, plain_segment, position_of, position_of_number, rcv_position_of}
 use Rattle.tcp_replay.proofs.Words.{refl, Reset, rst, segment_at, segment_of, sent_at, sent_by, SentSegment, slice_get, slice_get_within, Some, start_of}
 use Rattle.tcp_replay.proofs.Words.{State, subst, sym, Syn, syn, syn_segment, true, unwrap_or, ◌||◌, ℕ, ◌∙◌, ◌≡◌, ◌≤◌, ◌⊎◌}
-use Rattle.tcp_replay.proofs.Lemmas.{after_segment, arrival-ok, Arrives, comes, Comes, delivered-there, due-alone, due-bits, due-decodes, due-goes}
+use Rattle.tcp_replay.proofs.Lemmas.{after_segment, arrival-ok, Arrives, Comes, comes, delivered-there, due-alone, due-bits, due-decodes, due-goes}
 use Rattle.tcp_replay.proofs.Lemmas.{due-position, GoesOut, GoesOutAlone, handshake-knows, handshake-una, IsSaid, one_if, one_if-most, own-decodes}
 use Rattle.tcp_replay.proofs.Lemmas.{pair-swapped, rcv_position-is, same-content, segment-sent, syn-bits}
 use Rattle.tcp_progress.proofs.{Words.IsSteadyPair, turn.Live.last-of, steady.OnlySent.due-ends, steady.OnlySent.DueEnds}

@@ -1,13 +1,12 @@
 -- A WORLD THAT GOES ON, over calm events: either less is left in the end, or both are where they were, and what holds so is carried on.
-use Rattle.tcp_replay.proofs.Words.{◌+◌, ◌++◌, ◌-◌, ◌<◌, [], AllByRecursion, ap, arith, Bool, cases_lt, Emit, EventContent, inl, inr, length, List, other}
-use Rattle.tcp_replay.proofs.Words.{party_of, PartyState, rcv_position_of, refl, Retransmit, suc, Timer, true, unread_of, world_after, world_after_all}
-use Rattle.tcp_replay.proofs.Words.{WorldState, zero, ℕ, ◌≡◌, ◌≤◌, ◌⊎◌}
+use Rattle.tcp_replay.proofs.Words.{◌+◌, ◌++◌, ◌-◌, ◌<◌, [], AllByRecursion, ap, arith, Bool, cases_lt, Emit, EventContent, inl, inr, length, List}
+use Rattle.tcp_replay.proofs.Words.{nil_from_length, other, party_of, PartyState, rcv_position_of, refl, Retransmit, suc, Timer, true, unread_of}
+use Rattle.tcp_replay.proofs.Words.{world_after, world_after_all, WorldState, zero, ℕ, ◌≡◌, ◌≤◌, ◌⊎◌}
 use Rattle.tcp_progress.proofs.Words.{A, all_of, AllCome, B, Comes, emissions, IsCalm, IsLive, IsSteadyPair, left_in, left_of_both, NoneDiscarded, served, Side}
 use Rattle.tcp_progress.proofs.turn.CalmWorlds.{Steps, steps-all, steps-event, steps-left, steps-then}
 use Rattle.tcp_replay.proofs.Lemmas.{one_if}
 use Rattle.tcp_progress.proofs.{steady.AlwaysSteady.IsKept, steady.AlwaysSteady.side-pair, turn.Calm.Grows, turn.Live.GoOn, turn.Live.IsUp}
 use Rattle.tcp_progress.proofs.{turn.Live.steady-back, turn.Live.swapped, turn.Turning.calm-emissions, turn.Turning.in-order}
-use Rattle.tcp_replay.proofs.Words.{nil_from_length}
 
 -- ---- NOTHING IS BROUGHT ON: then both are where they were
 pub record AreThere (n u m v n' u' m' v' : ℕ) : Type 0 where

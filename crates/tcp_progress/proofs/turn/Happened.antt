@@ -5,8 +5,7 @@ use Rattle.tcp_replay.specs.Among.{after_happening, Happening, Happens, Injectio
 unfoldable use Rattle.tcp_replay.specs.Among.{after_happenings}
 use Rattle.tcp_replay.proofs.run.Injections.{kept-out-pending}
 use Rattle.tcp_progress.proofs.Words.{A, AreCalm, Arrives, B, CoversNext, IsCalmNow, left_in, NoneDiscarded, Side}
-use Rattle.tcp_progress.proofs.Lemmas.{emit-at, fresh-emitted, going-live, IsGoing, IsKept, IsStill, side-pair}
-use Rattle.tcp_progress.proofs.Lemmas.{Steps, steps-event, steps-left, steps-then}
+use Rattle.tcp_progress.proofs.Lemmas.{Steps, steps-event, steps-left, steps-then, emit-at, fresh-emitted, going-live, IsGoing, IsKept, IsStill, side-pair}
 use Rattle.tcp_progress.proofs.{laws.Injected.kept-injected, turn.Calm.IsMoved, turn.Calm.moves-still, turn.CalmWorlds.calm-event}
 use Rattle.tcp_progress.proofs.{turn.CalmWorlds.OneMoves, turn.CalmWorlds.steps-none, turn.CalmWorlds.steps-one, turn.GoingOn.lowers}
 use Rattle.tcp_progress.proofs.{turn.Serving.IsUseful, turn.Serving.useful-now, turn.Serving.useful-still}

@@ -9,18 +9,17 @@ use Rattle.tcp_progress.proofs.Words.{A, all_of, AnswerArrives, AreCalm, Arrives
 use Rattle.tcp_progress.proofs.Words.{KeepsFlight, left_in, MaySend, NoneDiscarded, SegmentIsAnswered, SendsAt, Side, timeout}
 use Rattle.tcp_replay.specs.Among.{Happening, Happens}
 unfoldable use Rattle.tcp_replay.specs.Among.{after_happenings}
-use Rattle.tcp_progress.proofs.turn.Happened.{calm-parts, covering-sent, happenings-append, steps-happenings, useful-arrives, useful-sent}
+use Rattle.tcp_progress.proofs.turn.Happened.{steps-happenings, useful-arrives, useful-sent, calm-parts, covering-sent, happenings-append}
 use Rattle.tcp_progress.proofs.Lemmas.{acked-all, AreStill, deliver-at, emit-at, emit-other, emit-party, emitted-as, fresh-emitted, going-live, has-room}
 use Rattle.tcp_progress.proofs.Lemmas.{in-flight, IsFresh, IsGoing, IsOld, IsStillFrom, kept-steady, live-in, live-sends, Lowers, new_lem, no-handshake}
-use Rattle.tcp_progress.proofs.Lemmas.{no-syn-pending, old-wakes, past-syn, sends-synchronized, side-pair, Steps, steps-event, still-emission, still-next}
-use Rattle.tcp_progress.proofs.Lemmas.{syn-due, syn-old, timer-at, timer-endpoint, twice, unsent-sends, waits}
+use Rattle.tcp_progress.proofs.Lemmas.{syn-due, syn-old, timer-at, timer-endpoint, twice, unsent-sends, waits, steps-event}
 use Rattle.tcp_replay.proofs.Lemmas.{due-alone, due-bits, end-is, one_if}
 use Rattle.tcp_replay.proofs.{one_end.AloneEmissions.ack-alone-goes, one_end.AloneEmissions.GoesOutAlone, pair.Emissions.goes-out}
 use Rattle.tcp_progress.proofs.{laws.FlightSentAgain.flight-kept, laws.FlightSentAgain.resent, laws.FlightSentAgain.timeout-keeps}
 use Rattle.tcp_progress.proofs.{laws.FlightSentAgain.timeout-resends, turn.Asking.syn-alone, turn.Emitted.fresh-due, turn.Emitted.party_after_due}
 use Rattle.tcp_progress.proofs.{turn.Live.due-still, turn.Serving.IsUseful, turn.Speaking.old-still}
 use Rattle.tcp_conn.specs.declared.emit.due.Due.TheVariants as dues
-use Rattle.tcp_progress.proofs.Lemmas.{lowers, over}
+use Rattle.tcp_progress.proofs.Lemmas.{lowers, no-syn-pending, old-wakes, over, past-syn, sends-synchronized, side-pair, Steps, still-emission, still-next}
 use Rattle.tcp_progress.proofs.turn.Waking.{brought-old}
 
 -- ---- WHAT AN EVENT SENDS at SND.NXT is fresh

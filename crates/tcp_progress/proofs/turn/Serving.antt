@@ -8,11 +8,10 @@ use Rattle.tcp_progress.proofs.Words.{after_emissions, all_of, AllCome, Comes, C
 use Rattle.tcp_progress.proofs.Words.{IsSteadyPair, least_life, left_in, left_of_both, MaySend, NoneDiscarded, served, Side}
 use Rattle.tcp_progress.proofs.Lemmas.{after-append, again_lem, AreStill, calm-append, calm-emissions, deliver-at, delivered-in, delivered-next, emit-at}
 use Rattle.tcp_progress.proofs.Lemmas.{flight-sends, fresh-emitted, going-live, has-room, in-flight, IsFresh, IsGoing, IsOpenTo, kept-steady, lowers}
-use Rattle.tcp_progress.proofs.Lemmas.{new_lem, no-handshake, no-syn-pending, over-served, past-syn, side-left, side-pair, steps-all, steps-event}
-use Rattle.tcp_progress.proofs.Lemmas.{steps-left, timer-at, unsent-sends, waits, way-later}
+use Rattle.tcp_progress.proofs.Lemmas.{steps-event, steps-left, timer-at, unsent-sends, waits, way-later}
 use Rattle.tcp_replay.proofs.Lemmas.{none-some}
 use Rattle.tcp_conn.specs.declared.emit.due.Due.TheVariants as dues
-use Rattle.tcp_progress.proofs.Lemmas.{sends-synchronized}
+use Rattle.tcp_progress.proofs.Lemmas.{sends-synchronized, new_lem, no-handshake, no-syn-pending, over-served, past-syn, side-left, side-pair, steps-all}
 use Rattle.tcp_replay.proofs.Lemmas.{waiting-bit, reset-waits}
 
 -- ---- WHAT WAS FRESH STILL IS

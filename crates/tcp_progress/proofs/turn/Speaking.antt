@@ -7,12 +7,11 @@ use Rattle.tcp_replay.proofs.Words.{state_unless, subst, sym, Syn, syn_due, text
 use Rattle.tcp_replay.proofs.Words.{world_after_all, WorldState, ℕ, ◌∙◌, ◌∷◌, ◌≡◌, ◌≤◌, ◌⊎◌}
 use Rattle.tcp_progress.proofs.Words.{AllCome, Comes, Delivers, IsCalm, IsIdle, IsUntimed, left_in, NoneDiscarded, Side, StandsAtNext}
 use Rattle.tcp_progress.proofs.Lemmas.{all-untimed, AreStill, at-event, calm-append, deliver-to, delivered, emit-endpoint, fresh-emitted, going-live, GoOn}
-use Rattle.tcp_progress.proofs.Lemmas.{IsGoing, IsKept, IsOld, KeepsPending, kept-steady, lowers, Lowers, old-wakes, past-syn, pending-judgement}
-use Rattle.tcp_progress.proofs.Lemmas.{pending-same, range-same, RangeDone, side-on, side-pair, stands-or-none, steady-back, still-back, still-emission}
-use Rattle.tcp_progress.proofs.Lemmas.{still-next, untimed-calm, way-later, with_pending-due}
+use Rattle.tcp_progress.proofs.Lemmas.{IsGoing, IsKept, IsOld, KeepsPending, kept-steady, Lowers, lowers, old-wakes, past-syn, pending-judgement}
+use Rattle.tcp_progress.proofs.Lemmas.{pending-same, range-same, RangeDone, side-on, side-pair, stands-or-none, steady-back, steps-all, steps-event}
+use Rattle.tcp_progress.proofs.Lemmas.{still-back, still-emission, still-next, untimed-calm, way-later, with_pending-due}
 use Rattle.tcp_replay.proofs.Lemmas.{done-none, finds-damage, none-some, or-none, pair-swapped}
 use Rattle.tcp_progress.proofs.turn.Serving.{not-reset, useful-out}
-use Rattle.tcp_progress.proofs.Lemmas.{steps-event, steps-all}
 
 -- ---- WHAT AN EVENT LEAVES of what is pending at an end, unless the end emits
 receive-pending : (s : State) (room : ℕ) (refusal : Option CallError) → KeepsPending s (state_unless refusal s (with_bytes_received s room))

@@ -1,7 +1,7 @@
 -- WHAT COMES LATER: what is delivered among some events is delivered among more of them, and what goes out in a list comes part by part.
 use Rattle.tcp_replay.proofs.Words.{◌++◌, ◌+◌, ◌<◌, [], after_read, after_receive, AllByRecursion, ap, append_assoc, arith, both, cases_lt, drop, Due, due_of}
 use Rattle.tcp_replay.proofs.Words.{effect_of, Emit, EmitAcknowledgement, ResendFirst, EventContent, false, IfSome, inl, inr, length, length-append}
-use Rattle.tcp_replay.proofs.Words.{length-drop, length-take, List, None, Option}
+use Rattle.tcp_replay.proofs.Words.{length-drop, length-take, List, None, Option, nil_from_length}
 use Rattle.tcp_replay.proofs.Words.{other, party_after_receive, party_of, PartyState, receive_refusal, refl, Some, subst, suc, sym, Timer, unread_of}
 use Rattle.tcp_replay.proofs.Words.{world_after, world_after_all, WorldState, zero, ℕ, ◌∙◌, ◌∷◌, ◌≡◌, ◌≤◌}
 use Rattle.tcp_progress.proofs.Words.{A, all_room, AllCome, B, both_served, Comes, Delivers, emissions, GetsThrough, GotThrough, HasReadAll, HasTurns}
@@ -12,7 +12,6 @@ use Rattle.tcp_replay.proofs.Lemmas.{both-swapped}
 use Rattle.tcp_progress.proofs.{steady.AlwaysSteady.in-every-world, steady.AlwaysSteady.IsKept, steady.AlwaysSteady.kept-steady, turn.Calm.Grows}
 use Rattle.tcp_progress.proofs.{turn.CalmWorlds.Steps, turn.CalmWorlds.steps-all, turn.CalmWorlds.steps-left, turn.CalmWorlds.steps-streams}
 use Rattle.tcp_progress.proofs.{turn.Live.both-live, turn.Live.GoOn, turn.Live.IsUp, turn.Live.steady-back, turn.Live.still-reading, turn.Sides.on-both}
-use Rattle.tcp_replay.proofs.Words.{nil_from_length}
 
 -- AMONG: whatever is delivered among some events is delivered among others
 abbrev pub AreAmong : List EventContent → List EventContent → Type 0

@@ -297,7 +297,7 @@ pub alone-text : (s : State) (accepted : List ℕ) (closed : Bool) (v : Content)
     → IsAlone (record s { receiving = after_text s.receiving v.seq v.text }) accepted closed
 unfolding after_text
 alone-text s accepted closed v h =
-    let next : (after_text s.receiving v.seq v.text).next < 2 ^ 32 = omega arith in
+    let next : (after_text s.receiving v.seq v.text).rcv_nxt < 2 ^ 32 = omega arith in
     assumption
 
 -- and where text comes, placed or not
@@ -323,7 +323,7 @@ alone-fin_taken s accepted closed e h =
     let port : has_peer (phase_after_fin s.phase) ≡ true → s.peer.port < 2 ^ 16 = λ known. h.port (sym knows ∙ known) in
     let syn : s.pending.syn ≡ true → is_handshake (phase_after_fin s.phase) ≡ true = λ pending. handshake-fin s.phase ∙ h.syn pending in
     let ack : s.pending.ack ≡ true → (has_peer (phase_after_fin s.phase) ≡ true) × (r.opened ≡ true) = λ pending. (knows ∙ (h.ack pending).0, (h.ack pending).1) in
-    let next : (with_fin r).next < 2 ^ 32 = omega arith in
+    let next : (with_fin r).rcv_nxt < 2 ^ 32 = omega arith in
     let unopened : r.opened ≡ false → true ≡ false = λ never. absurd (cc (at.1.is_opened)) in
     assumption
 

@@ -19,8 +19,7 @@ use Rattle.tcp_conn.specs.declared.outcome.CallError.TheVariants.{Closing}
 use Rattle.tcp_replay.proofs.{pair.Halves.sends-closed, pair.Halves.sends-more, pair.Halves.sends-syn, pair.Halves.sends-syn_acked, one_end.Judgements.IsAfterSyn, one_end.Judgements.judged}
 use Rattle.tcp_replay.proofs.{one_end.Dues.or-none, pair.Calls.CanOpen, pair.Calls.KeptByCalls, pair.Calls.pending_on_timeout, pair.Calls.refusal_if-none}
 use Rattle.tcp_replay.proofs.Words.{Stray, HandshakeRefused, HandshakeRefusedShut, Unacceptable, PeerResets, PeerOpens, PeerAccepts, Taken, TakenShut}
-use Rattle.tcp_replay.proofs.one_end.Judgements.{IsSyn}
-use Rattle.tcp_replay.proofs.one_end.Judgements.{IsTaken, IsAckOnly}
+use Rattle.tcp_replay.proofs.one_end.Judgements.{IsTaken, IsAckOnly, IsSyn}
 
 -- RESETS can be written
 pub writable-at_ack : (src : List ℕ) (v : Content) → IsValid v → IsWritable (reset_at_ack src v)

@@ -3,19 +3,17 @@
 use Rattle.tcp_replay.proofs.Words.{◌+◌, ◌++◌, ◌-◌, ◌<◌, ◌==◌, ◌^◌, after_acked_text, after_discarding, after_fin, after_its_ack, after_its_text}
 use Rattle.tcp_replay.proofs.Words.{after_judgement, after_own_fin, after_own_syn, after_peer_accepts, after_peer_opens, after_read, after_taking}
 use Rattle.tcp_replay.proofs.Words.{after_taking_shut, after_text, after_window_and_blocks, and_parts, ap, arith, Bool, cond_both, Content, discards, drop}
-use Rattle.tcp_replay.proofs.Words.{false, false≢true, fin, Foreign, has, has_fin, if◌then◌else◌, inl, inr, is_fin_due, is_foreign, IsAlone, Judgement}
-use Rattle.tcp_replay.proofs.Words.{judgement, length, length-drop, List, min, not, number, PartyState, Peer, phase_judgement, Receiving, refl, State}
-use Rattle.tcp_replay.proofs.Words.{subst, sym, syn, take, takes_fin, takes_text, takes_text_of, true, with_bytes_received, with_fin, with_syn, ℕ, ◌∙◌}
-use Rattle.tcp_replay.proofs.Words.{◌≡◌, ◌⊎◌}
+use Rattle.tcp_replay.proofs.Words.{false, false≢true, fin, Foreign, has, has_fin, if◌then◌else◌, inl, inr, is_fin_due, is_foreign, is_listening}
+use Rattle.tcp_replay.proofs.Words.{is_syn_sent, IsAlone, Judgement, judgement, length, length-drop, List, min, not, number, PartyState, Peer}
+use Rattle.tcp_replay.proofs.Words.{phase_judgement, Receiving, refl, State, subst, sym, syn, take, takes_fin, takes_text, takes_text_of, true}
+use Rattle.tcp_replay.proofs.Words.{with_bytes_received, with_fin, with_syn, ℕ, ◌∙◌, ◌≡◌, ◌⊎◌}
 use Rattle.tcp_conn.specs.declared.phase.Ending.TheVariants.{Reset}
 use Rattle.tcp_replay.proofs.one_end.Phases.{discards-not_ended, end-listen, end-syn_sent, end-synchronized, end-takes_text, not-closed-ended, time_wait-synchronized}
 use Rattle.tcp_replay.proofs.{Lists.by_test, one_end.Judgements.in-phase, one_end.Judgements.IsAfterSyn, one_end.Judgements.IsTaken, one_end.Alone.alone-its_ack, one_end.Alone.alone-its_text}
 use Rattle.tcp_replay.proofs.{one_end.Feeds.AllText, one_end.Feeds.ByNumber, one_end.Feeds.fed-fin, one_end.Feeds.fed-discarded, one_end.Feeds.fed-read, one_end.Feeds.fed-syn, one_end.Feeds.fed-text, one_end.Feeds.IsFed}
 use Rattle.tcp_replay.proofs.{pair.Calls.KeptByCalls, Cases.own_fin-cases}
 use Rattle.tcp_replay.proofs.Words.{Aborted, receive_refusal, None, is_time_wait, after_orderly_end, PeerResets, PeerOpens, PeerAccepts, Taken, TakenShut}
-use Rattle.tcp_replay.proofs.one_end.Judgements.{IsSyn}
-use Rattle.tcp_replay.proofs.one_end.Judgements.{IsAckOnly}
-use Rattle.tcp_replay.proofs.Words.{is_listening, is_syn_sent}
+use Rattle.tcp_replay.proofs.one_end.Judgements.{IsAckOnly, IsSyn}
 
 -- FROM ONE STATE TO ANOTHER: as many bytes more are in order as make what is unread longer
 pub record Feeds (P : ℕ → ℕ → Type 0) (Q : Type 0) (s s' : State) (irs k : ℕ) (delivered : List ℕ) : Type 0 where

@@ -7,8 +7,7 @@ use Rattle.tcp_replay.proofs.Words.{length-take, List, max, max_capacity, max_or
 use Rattle.tcp_replay.proofs.Words.{replicate, Sending, Sends, Some, stream_limit, sym, take, take-append-drop, take-append-le, take_all, take_min, Takes}
 use Rattle.tcp_replay.proofs.Words.{true, with_acked, with_fin, with_inbox, with_syn, with_syn_sent, with_text, without_bytes, without_held-agrees}
 use Rattle.tcp_replay.proofs.Words.{without_text, ◌||◌, ℕ, ◌∙◌, ◌≡◌, ◌≤◌, ⊎_elim}
-use Rattle.tcp_replay.proofs.Lists.{Agrees-more, front-is, nothing-follows, number-further, one_if, one_if-false}
-use Rattle.tcp_replay.proofs.Lists.{take-none}
+use Rattle.tcp_replay.proofs.Lists.{take-none, Agrees-more, front-is, nothing-follows, number-further, one_if, one_if-false}
 use Rattle.tcp_wire.proofs.Bytes.{bytes_append, bytes_take}
 use Rattle.tcp_reasm.proofs.Rings.{take_further}
 use Rattle.tcp_sendq.specs.SendQueue as queues
