@@ -69,6 +69,7 @@ impl<A: Allocator> Endpoint<A> {
     }
 
     /// The effect of a judgement by which no text and no acknowledgement of text is taken.
+    #[inline(never)]
     fn follow_other(&mut self, rule: Judgement, src: Addr, segment: &RawSegment<'_>)
         requires open { rule ≢ Judgement.Taken }
         requires shut { rule ≢ Judgement.TakenShut }

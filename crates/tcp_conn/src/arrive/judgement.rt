@@ -215,6 +215,7 @@ fn judge_ack(
 
 impl<A: Allocator> Endpoint<A> {
     /// Which rule applies to a segment that came from `src` to `dst`.
+    #[inline(always)]
     #[tactic(auto, unfolding(crate::specs::Judgement::judgement))]
     pub(crate) fn judge(&self, src: Addr, dst: Addr, segment: &RawSegment<'_>) -> Judgement
         ensures { result ≡ judgement self.now src.0 dst.0 (raw_content segment.now) }
@@ -226,6 +227,7 @@ impl<A: Allocator> Endpoint<A> {
     }
 
     /// Whether the segment is for another end, or, where the peer is known, from another source (RFC 9293, 3.10.7).
+    #[inline(always)]
     #[tactic(auto, unfolding(crate::specs::Judgement::is_foreign))]
     fn is_foreign(&self, src: Addr, dst: Addr, segment: &RawSegment<'_>) -> bool
         ensures { result ≡ is_foreign self.now src.0 dst.0 (raw_content segment.now) }
@@ -236,6 +238,7 @@ impl<A: Allocator> Endpoint<A> {
     }
 
     /// The rules of its phase.
+    #[inline(always)]
     #[tactic(auto, unfolding(crate::specs::Judgement::phase_judgement))]
     fn judge_by_phase(&self, segment: &RawSegment<'_>) -> Judgement
         ensures { result ≡ phase_judgement self.now (raw_content segment.now) }
@@ -291,6 +294,7 @@ impl<A: Allocator> Endpoint<A> {
     }
 
     /// Arrival in any other phase (RFC 9293, 3.10.7.4).
+    #[inline(always)]
     fn judge_after_syn(&self, segment: &RawSegment<'_>) -> Judgement
         ensures { result ≡ judgement_after_syn self.now (raw_content segment.now) }
     {

@@ -37,6 +37,7 @@ impl Due {
 impl<A: Allocator> Endpoint<A> {
     /// What `emit` would write now: a waiting reset, this end's SYN, text or FIN, an acknowledgement, the first that
     /// applies.
+    #[inline(always)]
     #[tactic(auto, unfolding(crate::specs::Due::due_of))]
     pub(crate) fn due(&self) -> Option<Due>
         ensures value { result ≡ due_of self.now }
@@ -75,6 +76,7 @@ impl<A: Allocator> Endpoint<A> {
     }
 
     /// What is due of the half that sends, in the phases that send text.
+    #[inline(always)]
     fn text_due(&self) -> Option<Due>
         ensures value { result ≡ text_due self.now }
         ensures sendable { IfSome result (IsSendable self.now.sending max_mss) }

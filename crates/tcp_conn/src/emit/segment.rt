@@ -163,6 +163,7 @@ impl<A: Allocator> Endpoint<A> {
     }
 
     /// The fixed header of any other segment.
+    #[inline(always)]
     pub(crate) fn plain_header(&self, due: Due) -> Header
         requires sendable { IsSendable self.now.sending max_text_len due }
         ensures { content_of result (sack_options (blocks_to_report self.now)) 0 (text_of self.now.sending due) ≡ plain_segment self.now due }

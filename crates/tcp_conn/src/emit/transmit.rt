@@ -151,6 +151,7 @@ impl<A: Allocator> Endpoint<A> {
     }
 
     /// What was due was emitted.
+    #[inline(always)]
     #[tactic(auto, using(crate::proofs::Segments::nxt_of_reset, crate::proofs::Segments::nxt_of_acknowledgement))]
     fn mark_sent(&mut self, due: Due)
         requires { IsSendable self.old.sending max_text_len due }

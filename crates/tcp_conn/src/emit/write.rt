@@ -95,6 +95,7 @@ impl<A: Allocator> Endpoint<A> {
     }
 
     /// Where the text of a segment begins, after the options that report blocks (RFC 9293, 3.1, Data Offset).
+    #[inline(always)]
     #[tactic(auto, using(crate::proofs::Segments::offset_of_report))]
     pub(crate) fn text_start(&self) -> usize
         ensures offset { result ≡ text_offset (sack_options (blocks_to_report self.now)) 0 }
@@ -158,6 +159,7 @@ impl<A: Allocator> Endpoint<A> {
     }
 
     /// Writes what is due at the start of `out`, and returns its length.
+    #[inline(always)]
     #[tactic(auto, using(crate::proofs::Segments::as_acknowledgement), unfolding(crate::specs::Forms::segment_of, crate::specs::Writing::bytes_of, crate::specs::Writing::written_of))]
     pub(crate) fn write(&self, due: Due, sum: Sum, out: &mut [u8]) -> usize
         requires { IsWritable self.now due (length out.old) }
