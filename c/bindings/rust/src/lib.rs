@@ -44,8 +44,8 @@ mod config;
 mod lending;
 mod placed;
 mod reports;
-mod time_wait;
 mod sys;
+mod time_wait;
 mod trains;
 
 pub use answers::{Agreed, Arrival, Ending, Error, Malformed, Phase, Received, Status, Timer, Timers};
@@ -166,7 +166,8 @@ impl End {
     /// answered at once (RFC 5681, 4.2).
     pub fn arrive(&mut self, src: Addr, dst: Addr, segment: &[u8]) -> (Arrival, bool) {
         let (src, dst, mut at_once) = (sys::Addr { byte: src }, sys::Addr { byte: dst }, 0);
-        let answer = unsafe { sys::tcpcore_arrive_with_at_once(&mut self.raw, src, dst, segment.as_ptr().cast(), segment.len(), &mut at_once) };
+        let answer =
+            unsafe { sys::tcpcore_arrive_with_at_once(&mut self.raw, src, dst, segment.as_ptr().cast(), segment.len(), &mut at_once) };
         (Arrival::of(answer), at_once == 1)
     }
 
@@ -235,7 +236,7 @@ impl End {
     pub fn time_wait(&self) -> Option<TimeWait> {
         let mut rest = sys::TimeWait::default();
         let answer = unsafe { sys::tcpcore_time_wait(&self.raw, &mut rest) };
-        (answer == 0).then_some(Rest(rest))
+        (answer == 0).then_some(TimeWait(rest))
     }
 }
 

@@ -231,7 +231,8 @@ impl End {
     /// bytes with the right checksum, whatever the bytes are: drop what the device found wrong.
     pub fn arrive_vouched_with_report(&mut self, src: Addr, dst: Addr, segment: &[u8]) -> ArriveReport {
         let (src, dst, mut told) = (sys::Addr { byte: src }, sys::Addr { byte: dst }, sys::ArriveReport::default());
-        let answer = unsafe { sys::tcpcore_arrive_vouched_with_report(&mut self.raw, src, dst, segment.as_ptr().cast(), segment.len(), &mut told) };
+        let answer =
+            unsafe { sys::tcpcore_arrive_vouched_with_report(&mut self.raw, src, dst, segment.as_ptr().cast(), segment.len(), &mut told) };
         ArriveReport::of(answer, &told)
     }
 

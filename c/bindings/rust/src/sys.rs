@@ -161,8 +161,22 @@ extern "C" {
     pub fn tcpcore_abort(end: *mut End) -> u32;
     pub fn tcpcore_timer(end: *mut End, timer: u32) -> u32;
     pub fn tcpcore_arrive_with_at_once(end: *mut End, src: Addr, dst: Addr, bytes: *const c_void, length: usize, at_once: *mut u32) -> u32;
-    pub fn tcpcore_arrive_with_report(end: *mut End, src: Addr, dst: Addr, bytes: *const c_void, length: usize, report: *mut ArriveReport) -> u32;
-    pub fn tcpcore_arrive_vouched_with_report(end: *mut End, src: Addr, dst: Addr, bytes: *const c_void, length: usize, report: *mut ArriveReport) -> u32;
+    pub fn tcpcore_arrive_with_report(
+        end: *mut End,
+        src: Addr,
+        dst: Addr,
+        bytes: *const c_void,
+        length: usize,
+        report: *mut ArriveReport,
+    ) -> u32;
+    pub fn tcpcore_arrive_vouched_with_report(
+        end: *mut End,
+        src: Addr,
+        dst: Addr,
+        bytes: *const c_void,
+        length: usize,
+        report: *mut ArriveReport,
+    ) -> u32;
     pub fn tcpcore_emit(end: *mut End, out: *mut c_void, room: usize, to: *mut Addr, length: *mut usize) -> u32;
     pub fn tcpcore_emit_acknowledgement(end: *mut End, out: *mut c_void, room: usize, to: *mut Addr, length: *mut usize) -> u32;
     pub fn tcpcore_resend_first(end: *mut End) -> u32;

@@ -42,7 +42,7 @@ fn connected() -> (Boxed, Boxed) {
     nothing_goes(&mut a);
     assert_eq!(b.arrive_with_report(A, B, &syn), other(Arrival::Taken, true, Some(Rule::PeerOpens), Brought::Nothing));
     let answer = goes(&mut b, A, Kind::Syn, 0, 0, 24);
-    let accepted = ArriveReport { rule: Some(Rule::PeerAccepts), ..arrive_with_report(true, 0, Brought::Nothing, false, true) };
+    let accepted = ArriveReport { rule: Some(Rule::PeerAccepts), ..taken(true, 0, Brought::Nothing, false, true) };
     assert_eq!(a.arrive_with_report(B, A, &answer), accepted);
     let ack = goes(&mut a, B, Kind::Acknowledgement, 1, 0, 20);
     assert_eq!(b.arrive_with_report(A, B, &ack), taken(false, 0, Brought::Nothing, false, true));
