@@ -15,9 +15,6 @@ static const struct timers_rules RULES = {
     .first_rto = 1000, .least_rto = 200, .greatest_rto = 60000, .granularity = 1, .time_wait = 2000,
     .r1 = 3, .r2 = 924600, .syn_limit = 180000, .syn_ack_limit = 60000};
 
-/* The first of the gateway's ports from which connections are carried in. */
-enum { FIRST_PORT = 32768 };
-
 /* A pair is its connection's first field. */
 static struct conn *conn_of(struct pair *pair) { return (struct conn *)(void *)pair; }
 
@@ -36,10 +33,18 @@ static struct conn *conn_new(struct usernet *net, const struct pair *key, int so
         return NULL;
     *conn = (struct conn){.pair = *key, .socket = socket, .capacity = capacity};
     timers_init(&conn->timers, &RULES);
-    answers_init(&conn->answers, (uint32_t)net->shared->limits.quiet);
+    answers_init(&conn->answers, (uint32_t)net->limits.quiet);
     pairs_add(&net->pairs, &conn->pair);
     limits_enter(net, conn);
     return conn;
+}
+
+/* Closes a socket of the host's, whose other side gets a reset where `resets`. */
+static void close_socket(int socket, int resets)
+{
+    if (resets)
+        setsockopt(socket, SOL_SOCKET, SO_LINGER, &(struct linger){.l_onoff = 1}, sizeof(struct linger));
+    close(socket);
 }
 
 /* An event of this turn may be its own, so that it stays where it is. */
@@ -48,10 +53,8 @@ void drop(struct usernet *net, struct conn *conn, int resets)
     pairs_remove(&net->pairs, &conn->pair);
     wheel_put(&net->wheel, &conn->node, net->now, -1);
     limits_leave(net, conn);
-    if (resets && conn->socket >= 0)
-        setsockopt(conn->socket, SOL_SOCKET, SO_LINGER, &(struct linger){.l_onoff = 1}, sizeof(struct linger));
     if (conn->socket >= 0)
-        close(conn->socket);
+        close_socket(conn->socket, resets);
     if (conn->is_open)
         tcpcore_free(&conn->end);
     free(conn->block);
@@ -207,6 +210,7 @@ static int host_answered(struct usernet *net, struct conn *conn)
 static void open_conn(struct usernet *net, const struct pair *key, const struct ip_packet *packet, int vouched)
 {
     uint32_t capacity = limits_admit(net, key);
+    count(net, FULL, capacity == 0);
     int host = capacity ? host_socket(net, key->server, key->server_port, SOCK_STREAM, 0) : -1, fault = errno;
     struct conn *conn = host >= 0 ? conn_new(net, key, host, capacity) : NULL;
     if (conn) {
@@ -227,27 +231,26 @@ static void open_conn(struct usernet *net, const struct pair *key, const struct 
     count(net, EXHAUSTED, capacity > 0);
 }
 
-/* A port of the gateway's that is this thread's and in no use towards the key's; whether there was one. */
-static int take_port(struct usernet *net, struct pair *key)
+/* Where this thread's share of the ports or of another limit is used up, the next thread may have some left; whether there is one that was
+   not asked, and heard of it. */
+static int pass_on(struct usernet *net, struct inward inward)
 {
-    for (uint32_t left = (uint32_t)net->shared->limits.ports; left > 0; left--) {
-        net->next_port = (uint16_t)((net->next_port + 1u) % net->shared->limits.ports);
-        key->server_port = (uint16_t)(FIRST_PORT + net->next_port);
-        if (owner_of(net, key) == net->index && !pairs_find(&net->pairs, key))
-            return 1;
-    }
-    return 0;
+    struct shared *shared = net->shared;
+    if (++inward.turn >= shared->threads)
+        return 0;
+    return send(shared->all[(net->index + 1) % shared->threads]->to_inbox, &inward, sizeof inward, MSG_DONTWAIT) == sizeof inward;
 }
 
-void conn_publish(struct usernet *net, int socket, uint16_t port)
+void conn_publish(struct usernet *net, struct inward inward)
 {
-    struct pair key = {.client = net->own, .client_port = port, .server = net->gateway};
-    int has_port = take_port(net, &key);
-    uint32_t capacity = has_port ? limits_admit(net, &key) : 0;
-    struct conn *conn = capacity ? conn_new(net, &key, socket, capacity) : NULL;
-    count(net, FULL, !has_port);
+    struct pair key = {.client = inward.guest, .client_port = inward.guest_port, .server = net->gateway};
+    uint32_t capacity = ports_deal(net, &net->pairs, &key) ? limits_admit(net, &key) : 0;
+    if (capacity == 0 && pass_on(net, inward))
+        return;
+    struct conn *conn = capacity ? conn_new(net, &key, inward.socket, capacity) : NULL;
+    count(net, FULL, capacity == 0);
     if (conn && make_end(net, conn) && watch(net, conn)) {
-        tcpcore_connect(&conn->end, conn->pair.client, port);
+        tcpcore_connect(&conn->end, conn->pair.client, conn->pair.client_port);
         count(net, PUBLISHED, 1);
         wheel_wake(&net->wheel, &conn->node);
         return;
@@ -256,7 +259,7 @@ void conn_publish(struct usernet *net, int socket, uint16_t port)
     if (conn)
         drop(net, conn, 1);
     else
-        close(socket);
+        close_socket(inward.socket, 1);
 }
 
 /* Whether a SYN may open anew what is in TIME-WAIT: its number lies behind all that came (RFC 9293, 3.10.7.4). */

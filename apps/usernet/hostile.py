@@ -16,6 +16,7 @@ import subprocess
 import sys
 import time
 
+import publishing
 import world
 from world import CLIENTS, GATEWAY, HERE, SERVERS, need
 
@@ -224,10 +225,20 @@ def small_limits(place, packets):
     for kind in "endings", "half_open", "windows", "endings":
         place.fuzz(kind, packets)
         found = place.counters()
-        need("most connections", found["most"] <= 52, True)
-        need("half-open", found["half_open"] <= 24, True)
+        need("most connections", found["most"] <= 50, True)
+        need("half-open", found["half_open"] <= 20, True)
         need("memory", found["reserved"] <= 4 << 20, True)
     need("some were dropped", found["full"] > 0, True)
+    place.ends()
+
+
+def api_noise(place, packets, seed):
+    """Who may write to the API's socket writes what it likes, while the namespace does so, too."""
+    words = place.words(CLIENTS, [HERE / "out/fuzz", "all", packets, seed])
+    with world.Child(words, stdout=subprocess.DEVNULL) as fuzz:
+        publishing.noise(str(place.folder / "api.sock"), seed, 2000)
+        fuzz.wait(60)
+    place.served()
     place.ends()
 
 
@@ -247,7 +258,7 @@ def stopped(place):
     need("reports", place.reports(), "")
 
 
-def calls(packets, seed):
+def calls(place, packets, seed):
     """What runs with what words of the program."""
     small = ["--connections", 50, "--half-open", 20, "--half-open-each", 10, "--memory", 4]
     yield words, (), ["--threads", 1]
@@ -260,6 +271,7 @@ def calls(packets, seed):
         yield one_place, (), told
         yield answers, (), told
         yield small_limits, (2000,), [*told, *small]
+        yield api_noise, (packets // 4, seed), [*told, "--api-socket", place.folder / "api.sock"]
         yield out_of_descriptors, (), told
         yield out_of_ports, (), [*told, "--ports", 40]
         yield no_device, (), told
@@ -273,7 +285,7 @@ def main():
     told = parser.parse_args()
     count = 0
     with Hostile(1 << 20) as place:
-        for call, rest, more in calls(told.packets, told.seed):
+        for call, rest, more in calls(place, told.packets, told.seed):
             began = time.monotonic()
             with place.usernet(0, *more):
                 try:

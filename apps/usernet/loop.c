@@ -13,8 +13,10 @@
 #include <time.h>
 #include <unistd.h>
 
-/* PAUSE: the milliseconds for which nothing is accepted where the system lacks what that takes. */
-enum { EVENTS = 256, BATCH = 128, PAUSE = 100, DEVICE = LISTENERS, SIGNALS, INBOX, EXITS };
+enum { EVENTS = 256, BATCH = 128 };
+
+/* What is passed from thread to thread is a frame with a packet, an inward connection, or nothing, by its length. */
+_Static_assert(sizeof(struct inward) < IP_HEADER, "a frame has more bytes than an inward connection");
 
 static uint64_t milliseconds(void)
 {
@@ -23,11 +25,19 @@ static uint64_t milliseconds(void)
     return (uint64_t)time.tv_sec * 1000 + (uint64_t)time.tv_nsec / 1000000;
 }
 
-/* The middle bits: the buckets go by the upper ones, the initial sequence number by the lower ones. */
+/* The middle bits: the buckets go by the upper ones, the initial sequence number by the lower ones. The gateway's ports for what is carried
+   in are dealt one by one, so that where there are as many of them as threads each has its own. */
 uint32_t owner_of(struct usernet *net, const struct pair *pair)
 {
-    uint32_t threads = net->shared->threads;
-    return threads == 1 ? 0 : (uint32_t)(pairs_secret(&net->pairs, pair) >> 20 & 0xfff) % threads;
+    uint32_t threads = net->shared->threads, turn = pair->server_port - (uint32_t)FIRST_PORT;
+    struct pair key = *pair;
+    if (threads == 1)
+        return 0;
+    if (turn < net->limits.ports && memcmp(&key.server, &net->gateway, sizeof key.server) == 0)
+        key.server_port = 0;
+    else
+        turn = 0;
+    return ((uint32_t)(pairs_secret(&net->pairs, &key) >> 20 & 0xfff) + turn) % threads;
 }
 
 static void to_device(const void *packet, size_t length, void *context)
@@ -189,9 +199,15 @@ static void read_inbox(struct usernet *net)
 {
     for (int at = 0; at < BATCH; at++) {
         ssize_t got = recv(net->inbox, net->frame, sizeof net->frame, MSG_DONTWAIT);
+        struct inward inward;
         if (got <= 0)
             return;
-        from_device(net->frame, (size_t)got, net);
+        if (got != sizeof inward) {
+            from_device(net->frame, (size_t)got, net);
+            continue;
+        }
+        memcpy(&inward, net->frame, sizeof inward);
+        conn_publish(net, inward);
     }
 }
 
@@ -199,37 +215,6 @@ static int watch(struct usernet *net, int descriptor, uint32_t events, uint64_t 
 {
     struct epoll_event event = {.events = events, .data.u64 = number};
     return epoll_ctl(net->events, EPOLL_CTL_ADD, descriptor, &event) == 0;
-}
-
-/* One thread is woken by a connection that comes, and takes it. */
-static int listen_all(struct usernet *net)
-{
-    const struct published *published = net->shared->published;
-    net->listens_at = 0;
-    for (uint64_t at = 0; published[at].socket >= 0; at++)
-        if (!watch(net, published[at].socket, EPOLLIN | EPOLLEXCLUSIVE, at))
-            return 0;
-    return 1;
-}
-
-/* Connections of the host wait for a while: what they would take isn't there. */
-static void pause_all(struct usernet *net)
-{
-    const struct published *published = net->shared->published;
-    for (uint64_t at = 0; published[at].socket >= 0; at++)
-        epoll_ctl(net->events, EPOLL_CTL_DEL, published[at].socket, NULL);
-    net->listens_at = net->now + PAUSE;
-}
-
-static void accept_on(struct usernet *net, const struct published *published)
-{
-    int socket = accept4(published->socket, NULL, NULL, SOCK_NONBLOCK | SOCK_CLOEXEC);
-    if (socket >= 0) {
-        conn_publish(net, socket, published->port);
-    } else if (is_exhausted(errno)) {
-        count(net, EXHAUSTED, 1);
-        pause_all(net);
-    }
 }
 
 /* A socket of a connection, which may have been dropped since these events were found. */
@@ -242,11 +227,15 @@ static void take_socket(struct usernet *net, struct conn *conn, uint32_t events)
     wheel_wake(&net->wheel, &conn->node);
 }
 
-/* An event's number is that of what listens, DEVICE, SIGNALS, INBOX, EXITS, and else the place of a connection, or one more than that of a relay. */
+/* An event's number is one of usernet.h, and else the address of a connection, or one more than that of a relay. */
 static void take_event(struct usernet *net, const struct epoll_event *event, void (*signalled)(void))
 {
     if (event->data.u64 < LISTENERS)
-        accept_on(net, &net->shared->published[event->data.u64]);
+        ports_take(net, event->data.u64);
+    else if (event->data.u64 == API)
+        api_accept(net);
+    else if (event->data.u64 >= CALLER && event->data.u64 < NAMED)
+        api_take(net, event->data.u64 - CALLER);
     else if (event->data.u64 == DEVICE)
         read_device(net);
     else if (event->data.u64 == SIGNALS)
@@ -286,23 +275,27 @@ int loop_init(struct usernet *net, const uint8_t secret[16])
     pairs_init(&net->pairs, net->buckets, BUCKETS, secret);
     pairs_init(&net->datagrams, net->datagram_buckets, FLOW_BUCKETS, secret);
     pairs_init(&net->echoes, net->echo_buckets, FLOW_BUCKETS, secret);
+    pairs_init(&net->inward, net->inward_buckets, FLOW_BUCKETS, secret);
     if (net->events < 0 || socketpair(AF_UNIX, SOCK_DGRAM | SOCK_CLOEXEC, 0, pair) != 0 ||
         tcpcore_new(&net->reader, &config, net->reader_block, sizeof net->reader_block) != TCPCORE_DONE)
         return 0;
     net->inbox = pair[0], net->to_inbox = pair[1];
-    return listen_all(net) && watch(net, net->device, EPOLLIN, DEVICE) && watch(net, net->inbox, EPOLLIN, INBOX);
+    return ports_listen(net) && watch(net, net->device, EPOLLIN, DEVICE) && watch(net, net->inbox, EPOLLIN, INBOX) &&
+           (net->index > 0 || api_watch(net));
 }
 
 /* What was found together, then all that is awake; what was dropped on the way is freed behind both. */
 static void loop_turn(struct usernet *net, void (*signalled)(void))
 {
     struct epoll_event events[EVENTS];
-    int found = epoll_wait(net->events, events, EVENTS, wheel_wait(&net->wheel, net->now));
+    int wait = wheel_wait(&net->wheel, net->now), found = epoll_wait(net->events, events, EVENTS, net->index > 0 ? wait : api_wait(wait));
     net->now = milliseconds();
-    if (net->listens_at && net->now >= net->listens_at && !listen_all(net))
-        pause_all(net);
+    if (net->listens_at && net->now >= net->listens_at)
+        ports_listen(net);
     for (int at = 0; at < found; at++)
         take_event(net, &events[at], signalled);
+    if (net->index == 0)
+        api_expire(net);
     relays_expire(net);
     turn_all(net);
     free_dropped(net);
@@ -323,5 +316,7 @@ void loop_run(struct usernet *net, int signals, int exits, void (*signalled)(voi
     }
     end_all(net);
     relays_end(net);
+    if (net->index == 0)
+        api_end();
     tell_of_now(net);
 }

@@ -34,7 +34,10 @@ static void drop_relay(struct usernet *net, struct relay *relay)
 {
     pairs_remove(pairs_of(net, relay->protocol), &relay->pair);
     queue_leave(&relay->order);
-    close(relay->socket);
+    if (relay->is_inward)
+        pairs_remove(&net->inward, &relay->outer);
+    else
+        close(relay->socket);
     relay->is_dropped = 1;
     relay->next = net->gone;
     net->gone = relay;
@@ -93,11 +96,17 @@ static void tell_unreachable(struct usernet *net, const struct pair *key, uint8_
     count(net, UNREACHABLE, 1);
 }
 
-/* A relay that the namespace begins; NULL where there is none, with errno. The one that was silent for the longest time makes way. */
+/* The one that was silent for the longest time makes way for another. */
+static void make_room(struct usernet *net)
+{
+    while (net->relays.count + net->brief.count >= net->limits.flows)
+        drop_relay(net, oldest_relay(net));
+}
+
+/* A relay that the namespace begins; NULL where there is none, with errno. */
 static struct relay *new_relay(struct usernet *net, const struct pair *key, uint8_t protocol)
 {
-    while (net->relays.count + net->brief.count >= net->shared->limits.flows)
-        drop_relay(net, oldest_relay(net));
+    make_room(net);
     int host = host_socket(net, key->server, key->server_port, SOCK_DGRAM, protocol == IP_UDP ? 0 : IPPROTO_ICMP);
     struct relay *relay = host >= 0 ? malloc(sizeof *relay) : NULL;
     /* The lowest bit tells it from a connection. */
@@ -116,6 +125,16 @@ static struct relay *new_relay(struct usernet *net, const struct pair *key, uint
     return NULL;
 }
 
+/* Sends it to the other side; whether the socket took it. */
+static int goes_out(const struct relay *relay, const uint8_t *text, size_t length)
+{
+    struct sockaddr_in to = {.sin_family = AF_INET, .sin_port = htons(relay->outer.client_port)};
+    memcpy(&to.sin_addr, &relay->outer.client, sizeof to.sin_addr);
+    if (relay->is_inward)
+        return sendto(relay->socket, text, length, MSG_NOSIGNAL, (struct sockaddr *)&to, sizeof to) >= 0;
+    return send(relay->socket, text, length, MSG_NOSIGNAL) >= 0;
+}
+
 /* What came from the namespace goes to the other side. What a socket can't take is lost, as on any network. */
 static void carry_out(struct usernet *net, const struct pair *key, uint8_t protocol, const uint8_t *text, size_t length)
 {
@@ -125,8 +144,7 @@ static void carry_out(struct usernet *net, const struct pair *key, uint8_t proto
     if (relay)
         touch(net, relay);
     /* What an earlier packet met is answered first, and then no more. */
-    if (relay && (send(relay->socket, text, length, MSG_NOSIGNAL) >= 0 ||
-                 (errno == ECONNREFUSED && send(relay->socket, text, length, MSG_NOSIGNAL) >= 0)))
+    if (relay && (goes_out(relay, text, length) || (errno == ECONNREFUSED && goes_out(relay, text, length))))
         return;
     if (is_exhausted(errno) || errno == EMSGSIZE || errno == EAGAIN)
         count(net, EXHAUSTED, 1);
@@ -198,4 +216,60 @@ void relays_readable(struct usernet *net, struct relay *relay)
 {
     for (int turn = 0; turn < TURNS && !relay->is_dropped && carry_in(net, relay); turn++)
         ;
+}
+
+/* The relay of a host's client that sends to a published port, at this place; NULL where there is none. */
+static struct relay *inward_relay(struct usernet *net, const struct published *published, uint64_t place, const struct sockaddr_in *from)
+{
+    struct pair outer = {.client_port = ntohs(from->sin_port), .server_port = (uint16_t)place};
+    struct pair key = {.client = published->guest, .client_port = published->guest_port, .server = net->gateway};
+    memcpy(&outer.client, &from->sin_addr, sizeof outer.client);
+    struct pair *found = pairs_find(&net->inward, &outer);
+    if (found)
+        return (struct relay *)(void *)((char *)found - offsetof(struct relay, outer));
+    make_room(net);
+    struct relay *relay = ports_deal(net, &net->datagrams, &key) ? malloc(sizeof *relay) : NULL;
+    if (!relay)
+        return NULL;
+    *relay = (struct relay){.pair = key, .outer = outer, .socket = published->socket, .protocol = IP_UDP, .is_inward = 1};
+    pairs_add(&net->datagrams, &relay->pair);
+    pairs_add(&net->inward, &relay->outer);
+    count(net, FLOWS, 1);
+    return relay;
+}
+
+void relays_inward(struct usernet *net, const struct published *published, uint64_t place)
+{
+    uint8_t *at = segment_place(net);
+    for (int turn = 0; turn < TURNS; turn++) {
+        struct sockaddr_in from = {0};
+        ssize_t got = recvfrom(published->socket, at + UDP_HEADER, UDP_MOST, MSG_DONTWAIT, (struct sockaddr *)&from, &(socklen_t){sizeof from});
+        if (got < 0)
+            return;
+        struct relay *relay = inward_relay(net, published, place, &from);
+        if (!relay) {
+            count(net, EXHAUSTED, 1);
+            continue;
+        }
+        const struct pair *pair = &relay->pair;
+        size_t length = udp_write(at, pair->server, pair->server_port, pair->client, pair->client_port, (size_t)got);
+        send_packet(net, length, pair->server, pair->client, IP_UDP);
+        touch(net, relay);
+    }
+}
+
+static void remove_from(struct usernet *net, const struct queue *queue, uint64_t place)
+{
+    for (struct link *link = queue->oldest, *newer; link; link = newer) {
+        struct relay *relay = relay_of(link);
+        newer = link->newer;
+        if (relay->is_inward && relay->outer.server_port == place)
+            drop_relay(net, relay);
+    }
+}
+
+void relays_remove(struct usernet *net, uint64_t place)
+{
+    remove_from(net, &net->relays, place);
+    remove_from(net, &net->brief, place);
 }

@@ -55,24 +55,27 @@ static int change_root(void)
            mount(NULL, "/", NULL, MS_REMOUNT | MS_BIND | MS_RDONLY | MS_NOSUID | MS_NODEV | MS_NOEXEC, NULL) == 0;
 }
 
-/* No capability is left, and none can be had again. */
-static int drop_capabilities(void)
+/* No capability is left, and none can be had again; but where ports may be published later, that to have one below 1024. */
+static int drop_capabilities(int publishes)
 {
     struct __user_cap_header_struct head = {.version = _LINUX_CAPABILITY_VERSION_3};
-    struct __user_cap_data_struct none[2] = {{0}};
+    struct __user_cap_data_struct kept[2] = {{0}};
+    if (publishes)
+        kept[0].effective = kept[0].permitted = 1u << CAP_NET_BIND_SERVICE;
     for (int number = 0; prctl(PR_CAPBSET_READ, number, 0, 0, 0) >= 0; number++)
-        if (prctl(PR_CAPBSET_DROP, number, 0, 0, 0) != 0)
+        if (!(publishes && number == CAP_NET_BIND_SERVICE) && prctl(PR_CAPBSET_DROP, number, 0, 0, 0) != 0)
             return 0;
-    return syscall(SYS_capset, &head, none) == 0 && prctl(PR_SET_NO_NEW_PRIVS, 1, 0, 0, 0) == 0;
+    return syscall(SYS_capset, &head, kept) == 0 && prctl(PR_SET_NO_NEW_PRIVS, 1, 0, 0, 0) == 0;
 }
 
 int sandbox_enter(const struct words *told)
 {
-    if (geteuid() != 0 && !enter_users(told))
+    int is_root = geteuid() == 0;
+    if (!is_root && !enter_users(told))
         return fails("--enable-sandbox: the user namespace");
     if (!change_root())
         return fails("--enable-sandbox: the root");
-    return drop_capabilities() ? 1 : fails("--enable-sandbox: the capabilities");
+    return drop_capabilities(is_root && told->api) ? 1 : fails("--enable-sandbox: the capabilities");
 }
 
 #ifdef HAS_SECCOMP
@@ -80,7 +83,7 @@ int sandbox_enter(const struct words *told)
 static const int CALLS[] = {
     SCMP_SYS(epoll_wait), SCMP_SYS(epoll_pwait), SCMP_SYS(epoll_pwait2), SCMP_SYS(epoll_ctl), SCMP_SYS(read), SCMP_SYS(write), SCMP_SYS(close),
     SCMP_SYS(recvfrom), SCMP_SYS(recvmsg), SCMP_SYS(sendto), SCMP_SYS(sendmsg), SCMP_SYS(accept4), SCMP_SYS(connect), SCMP_SYS(bind),
-    SCMP_SYS(shutdown), SCMP_SYS(getsockopt), SCMP_SYS(setsockopt), SCMP_SYS(clock_gettime), SCMP_SYS(futex), SCMP_SYS(brk), SCMP_SYS(mmap),
+    SCMP_SYS(listen), SCMP_SYS(shutdown), SCMP_SYS(getsockopt), SCMP_SYS(setsockopt), SCMP_SYS(clock_gettime), SCMP_SYS(futex), SCMP_SYS(brk), SCMP_SYS(mmap),
     SCMP_SYS(munmap), SCMP_SYS(mremap), SCMP_SYS(mprotect), SCMP_SYS(madvise), SCMP_SYS(fstat), SCMP_SYS(newfstatat), SCMP_SYS(lseek),
     SCMP_SYS(rt_sigprocmask), SCMP_SYS(rt_sigreturn), SCMP_SYS(restart_syscall), SCMP_SYS(sched_yield), SCMP_SYS(sched_getaffinity), SCMP_SYS(set_robust_list),
     SCMP_SYS(rseq), SCMP_SYS(exit), SCMP_SYS(exit_group)};

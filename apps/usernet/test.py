@@ -11,6 +11,7 @@ import time
 
 import world
 from clients import CLIENTS, MIB, download_past_all_numbers, flows_go, killed_program, many, sent_to_many
+from publishing import PUBLISHING
 from starts import STARTS
 from world import need
 
@@ -50,7 +51,7 @@ def main():
                         name = call.__name__ + (", faults" if fault else "") + (f", {threads} threads" if threads > 1 else "")
                         run(place, name, call, *rest)
                         count += 1
-        for call in STARTS:
+        for call in STARTS + PUBLISHING:
             if not words.only or words.only in call.__name__:
                 run(place, call.__name__, call)
                 count += 1

@@ -25,7 +25,7 @@
 /* The bytes of both headers, and the descriptors that are for no connection: of the program, and of each thread. */
 enum { HEADERS = 40, SPARE = 32, SPARE_EACH = 8, MIB = 1 << 20 };
 
-static struct shared shared;
+static struct shared shared = {.lock = PTHREAD_MUTEX_INITIALIZER, .api = -1};
 static struct words told;
 static int signals;
 
@@ -62,12 +62,39 @@ static tcpcore_addr host_of(uint8_t number)
     return (tcpcore_addr){{(uint8_t)(addr >> 24), (uint8_t)(addr >> 16), (uint8_t)(addr >> 8), (uint8_t)addr}};
 }
 
-static struct usernet *make(uint32_t index, int queue, const uint8_t secret[16])
+/* A thread's share of a number: all shares together are this number, and where there are as many as threads none is 0. */
+static uint64_t share(uint64_t number, uint32_t index) { return number / shared.threads + (index < number % shared.threads); }
+
+/* A thread's share of what all may hold together. Its ports are those of which it is the owner. */
+static struct limits share_of(const struct limits *all, uint32_t index)
+{
+    return (struct limits){.connections = share(all->connections, index), .half_open = share(all->half_open, index),
+                           .each = share(all->each, index), .memory = share(all->memory * MIB, index), .ports = all->ports,
+                           .flows = share(all->flows, index), .strays = share(all->strays, index), .quiet = all->quiet};
+}
+
+/* As many descriptors as there may be, and no more connections and flows than these are for. */
+static struct limits limits_of_all(void)
+{
+    struct rlimit files;
+    struct limits limits = told.limits;
+    uint64_t spare = SPARE + SPARE_EACH * shared.threads, least = 2 * shared.threads;
+    getrlimit(RLIMIT_NOFILE, &files);
+    files.rlim_cur = files.rlim_max;
+    setrlimit(RLIMIT_NOFILE, &files);
+    uint64_t all = files.rlim_max > spare + least ? files.rlim_max - spare : least;
+    limits.flows = limits.flows < all / 2 ? limits.flows : all / 2;
+    limits.connections = limits.connections < all - limits.flows ? limits.connections : all - limits.flows;
+    return limits;
+}
+
+static struct usernet *make(uint32_t index, int queue, const struct limits *all, const uint8_t secret[16])
 {
     struct usernet *net = calloc(1, sizeof *net);
     if (!net)
         return NULL;
     net->index = index, net->shared = &shared;
+    net->limits = share_of(all, index);
     net->device = queue, net->offloads = told.device.offloads;
     net->is_tap = tun_is_tap(queue, net->host.byte);
     net->mss = (uint16_t)(told.device.mtu < 1500 ? told.device.mtu - HEADERS : 1460);
@@ -77,42 +104,25 @@ static struct usernet *make(uint32_t index, int queue, const uint8_t secret[16])
     return loop_init(net, secret) ? net : NULL;
 }
 
-/* Each thread's share of a number, which is the same for all. */
-static uint64_t share(uint64_t number) { return (number + shared.threads - 1) / shared.threads; }
-
-/* As many descriptors as there may be, and no more connections than these are for. */
-static void share_limits(void)
-{
-    struct rlimit files;
-    struct limits limits = told.limits;
-    uint64_t spare = SPARE + SPARE_EACH * shared.threads;
-    getrlimit(RLIMIT_NOFILE, &files);
-    files.rlim_cur = files.rlim_max;
-    setrlimit(RLIMIT_NOFILE, &files);
-    uint64_t all = files.rlim_max > spare + 2 ? files.rlim_max - spare : 2, flows = limits.flows < all / 2 ? limits.flows : all / 2, most = all - flows;
-    shared.limits = (struct limits){.connections = share(limits.connections < most ? limits.connections : most),
-                                    .half_open = share(limits.half_open), .each = share(limits.each),
-                                    .memory = share(limits.memory * MIB), .ports = limits.ports, .flows = share(flows),
-                                    .strays = share(limits.strays), .quiet = limits.quiet};
-}
-
 /* Makes all threads' structs; whether it could. */
 static int set_up(void)
 {
     uint8_t secret[16];
     int queues[THREADS];
     sigset_t taken;
-    share_limits();
+    struct limits limits = limits_of_all();
     if (told.shows)
         mallopt(M_ARENA_MAX, 1); /* so that what is held is told of all threads */
     sigemptyset(&taken);
     sigaddset(&taken, SIGTERM), sigaddset(&taken, SIGINT), sigaddset(&taken, SIGUSR1);
     sigprocmask(SIG_BLOCK, &taken, NULL);
     signals = signalfd(-1, &taken, SFD_NONBLOCK | SFD_CLOEXEC);
+    if (told.api && (shared.api = api_open(told.api)) < 0)
+        return perror(told.api), 0;
     if (signals < 0 || getentropy(secret, sizeof secret) || !tun_open(&told.device, queues, shared.threads))
         return 0;
     for (uint32_t net = 0; net < shared.threads; net++)
-        if (!(shared.all[net] = make(net, queues[net], secret)))
+        if (!(shared.all[net] = make(net, queues[net], &limits, secret)))
             return 0;
     return 1;
 }

@@ -21,6 +21,7 @@
 #include "companions/wheel.h"
 
 #include <netinet/in.h>
+#include <pthread.h>
 #include <stdatomic.h>
 #include <time.h>
 
@@ -28,7 +29,16 @@
 enum { CAPACITY = 262144, LEAST_CAPACITY = 8192, SHIFT = 3, BUCKETS = 65536, FLOW_BUCKETS = 4096 };
 
 /* The most threads, and ports that are published; the queues of half-open connections by their destination. */
-enum { THREADS = 64, LISTENERS = 16, PLACES = 4096 };
+enum { THREADS = 64, LISTENERS = 256, PLACES = 4096 };
+
+/* The most clients of the API's socket at once. */
+enum { CALLERS = 8 };
+
+/* What an event of epoll is about: a published port by its place, one of these, or else a connection or relay by its address. */
+enum { DEVICE = LISTENERS, SIGNALS, INBOX, EXITS, API, CALLER, NAMED = CALLER + CALLERS };
+
+/* The first of the gateway's ports from which connections and datagrams are carried in. */
+enum { FIRST_PORT = 32768 };
 
 /* The longest header of a segment. */
 enum { MOST_HEADER = 60 };
@@ -59,14 +69,17 @@ struct conn {
     uint8_t syn_length;
 };
 
-/* Datagrams between two ports, or echoes with one identifier: a socket of the host that is connected to the other side. */
+/* Datagrams between two ports, or echoes with one identifier: a socket of the host that is connected to the other side. Or datagrams that
+   a client of the host's sends to a published port, whose socket serves all of its clients. */
 struct relay {
     struct pair pair;   /* as the namespace has it; of echoes the client's port is the identifier, and the server's 0 */
+    struct pair outer;  /* of a published port: the host's client, and as the server's port the published port's place */
     struct link order;  /* among all, by when a packet went through last */
     struct relay *next;  /* of those that were dropped */
     uint64_t since;     /* when one went through last */
     int socket;
     uint8_t protocol;   /* IP_UDP or IP_ICMP */
+    uint8_t is_inward;  /* whether its socket is a published port's */
     uint8_t is_dropped; /* whether it waits to be freed */
 };
 
@@ -97,23 +110,41 @@ struct limits {
     uint64_t quiet;        /* milliseconds for which a connection repeats no answer (companions/answers.h) */
 };
 
-/* A socket that listens, and the port of the namespace behind it. */
-struct published { int socket; uint16_t port; };
+/* A port of the host's, and the place in the namespace that it leads to. */
+struct published {
+    uint32_t id;               /* its number, never used again; 0 where there is none here */
+    int socket;                /* it listens, or takes datagrams */
+    uint8_t protocol;          /* IP_TCP or IP_UDP */
+    uint16_t port, guest_port; /* the host's port, and the namespace's */
+    struct in_addr addr;       /* the host's address */
+    tcpcore_addr guest;        /* the namespace's address */
+};
+
+/* A connection that came to a published port: any thread may take it, that has a port of the gateway's left for it. */
+struct inward {
+    int socket;
+    uint32_t turn; /* the threads that had none */
+    tcpcore_addr guest;
+    uint16_t guest_port;
+};
 
 /* What all threads have in common. */
 struct shared {
     struct usernet *all[THREADS];
     uint32_t threads;
-    struct limits limits;                      /* of each thread: its share of what the program was told */
     struct in_addr outbound;                   /* the address from which the host's sockets connect; all zero: the system's choice */
     int has_loopback, has_dns;                 /* whether the host's loopback and its name server are reached */
-    struct published published[LISTENERS + 1]; /* the last one's socket is below 0 */
+    pthread_mutex_t lock;                      /* of what is published */
+    struct published published[LISTENERS];
+    uint32_t last_id;                          /* of what was published */
+    int api;                                   /* the API's socket, or below 0 */
     _Atomic int stops, status;                 /* whether all end, and the program's status then */
 };
 
 struct usernet {
     uint32_t index;            /* this thread's place */
     struct shared *shared;
+    struct limits limits;      /* its share of what the program was told: all shares together are that */
     int device, events;        /* its queue of the TUN device, and epoll's descriptor */
     int inbox, to_inbox;       /* packets of its connections that another thread has read */
     int is_gone;               /* whether the device is */
@@ -135,7 +166,8 @@ struct usernet {
     struct queue half_open, active, resting; /* the connections by their phase: active ones by when something came last */
     struct queue places[PLACES];
     struct pairs datagrams, echoes; /* the relays, by their protocols */
-    struct pair *datagram_buckets[FLOW_BUCKETS], *echo_buckets[FLOW_BUCKETS];
+    struct pairs inward;            /* those of published ports, by the host's clients */
+    struct pair *datagram_buckets[FLOW_BUCKETS], *echo_buckets[FLOW_BUCKETS], *inward_buckets[FLOW_BUCKETS];
     struct queue relays, brief; /* all of them, by when a packet went through last: those that are soon over are in `brief` */
     struct relay *gone;        /* relays that are freed behind these events */
     uint64_t reserved;         /* bytes of all ends */
@@ -175,9 +207,36 @@ void loop_run(struct usernet *net, int signals, int exits, void (*signalled)(voi
 int stop_all(struct shared *shared, int status);
 
 /* conn.c: a packet came from the namespace, whose checksum needs no look where `vouched`; a connection came from the host, to be
-   carried in to `port` of the namespace. */
+   carried in. */
 void arrive(struct usernet *net, const struct ip_packet *packet, int vouched);
-void conn_publish(struct usernet *net, int socket, uint16_t port);
+void conn_publish(struct usernet *net, struct inward inward);
+
+/* ports.c: publishes a port, whose `id` and `socket` aren't looked at; answers its number, or 0 with errno. What has this number is no
+   longer published; whether there was any. */
+uint32_t ports_publish(struct shared *shared, struct published wanted);
+int ports_remove(struct shared *shared, uint32_t id);
+
+/* This thread waits for what comes to published ports, again and again; something has come to the one at this place. */
+int ports_listen(struct usernet *net);
+void ports_take(struct usernet *net, uint64_t place);
+
+/* A port of the gateway's that is this thread's and not in use towards the key's client, as the key's server; whether there was one. */
+int ports_deal(struct usernet *net, struct pairs *used, struct pair *key);
+
+/* api.c, of the first thread alone: makes the API's socket at this path, below 0 where it can't; waits for its clients; one has come, or
+   the one at this place has sent something; those that were silent for long go; the milliseconds until then, or `wait` where that is
+   sooner; all go. */
+int api_open(const char *path);
+int api_watch(struct usernet *net);
+void api_accept(struct usernet *net);
+void api_take(struct usernet *net, uint64_t place);
+void api_expire(struct usernet *net);
+int api_wait(int wait);
+void api_end(void);
+
+/* What the API answers to a request of so many bytes, written to `out`, of API_ROOM bytes; answers its length. */
+enum { API_REQUEST = 4095, API_ROOM = 64 + 160 * LISTENERS };
+size_t api_answer(struct shared *shared, const char *request, size_t length, char *out);
 
 /* Drops a connection: it has no socket, no end and no place any more, and is freed by free_dropped. Where `resets`, the host gets a
    reset; where it is cut, the client does, too. */
@@ -193,11 +252,13 @@ void end_all(struct usernet *net);
    EACCES where the program was told to leave that place alone. `kind` is SOCK_STREAM or SOCK_DGRAM. */
 int host_socket(struct usernet *net, tcpcore_addr to, uint16_t port, int kind, int protocol);
 
-/* relays.c: a datagram or an ICMP message came from the namespace; a socket of a relay has something; relays that were silent for long go;
-   those that were dropped are freed; all go. */
+/* relays.c: a datagram or an ICMP message came from the namespace; a socket of a relay has something, or that of the published port at this
+   place; all relays of that one go; those that were silent for long go; those that were dropped are freed; all go. */
 void relays_datagram(struct usernet *net, const struct ip_packet *packet, int vouched);
 void relays_message(struct usernet *net, const struct ip_packet *packet);
 void relays_readable(struct usernet *net, struct relay *relay);
+void relays_inward(struct usernet *net, const struct published *published, uint64_t place);
+void relays_remove(struct usernet *net, uint64_t place);
 void relays_expire(struct usernet *net);
 void relays_free(struct usernet *net);
 void relays_end(struct usernet *net);
@@ -238,6 +299,7 @@ struct words {
     uint64_t mtu, fault, threads;
     uint64_t ready, exits; /* descriptors, or NO_DESCRIPTOR: one is written to once all is there, the other's end ends the program */
     uint32_t network;      /* its number, without the host's */
+    const char *api;       /* the path of the API's socket, or NULL */
     int is_path;           /* whether the namespace is named by its file */
     int shows;             /* whether counts are reported */
     int is_boxed, is_filtered; /* whether what isn't needed is given up: files and rights; calls of the system */

@@ -16,7 +16,10 @@ static const char USAGE[] =
     "is its file. The namespace is 10.0.2.100; 10.0.2.2 leads to the host's loopback, and 10.0.2.3 to its name server. DEVICE is the name that\n"
     "the namespace's TUN device gets (tun0), or of a TAP device that is there.\n"
     "\n"
-    "  --publish HOST:PORT:INNER  carries connections to this address and port of the host to a port of the namespace\n"
+    "  --publish HOST:PORT:INNER[/udp]\n"
+    "                             carries connections (or datagrams) to this address and port of the host to a port of the namespace\n"
+    "  -a, --api-socket PATH      publishes ports, lists them and removes them for who writes slirp4netns's requests to this socket: add_hostfwd,\n"
+    "                             list_hostfwd, remove_hostfwd\n"
     "  --disable-host-loopback    10.0.2.2 leads nowhere\n"
     "  --disable-dns              10.0.2.3 leads nowhere\n"
     "  --outbound-addr ADDRESS    connects from this address of the host\n"
@@ -35,7 +38,7 @@ static const char USAGE[] =
     "  --fault PERCENT            loses, doubles and delays so many percent of the packets, 0 to 20 (0), for tests\n"
     "  -h, --help, -v, --version  says this, or the version of its library, and ends\n"
     "\n"
-    "Limits of what the namespace can hold and is answered:\n"
+    "Limits of what the namespace can hold and is answered. Each thread takes a share, so that none of what is held is less than --threads:\n"
     "  --connections N     so many connections (4096), and no more than there may be descriptors: one whose client was silent for ten\n"
     "                      seconds makes way for another\n"
     "  --half-open N       of them so many whose handshake isn't done (1024): after a second one makes way for another\n"
@@ -56,26 +59,44 @@ static int read_number(const char *word, uint64_t least, uint64_t most, uint64_t
     return *word >= '0' && *word <= '9' && *end == 0 && *number >= least && *number <= most;
 }
 
-/* Listens for HOST:PORT:INNER; whether it could. */
+/* Publishes HOST:PORT:INNER, or HOST:PORT:INNER/udp; whether it could. */
 static int publish(const char *word, struct shared *shared)
 {
-    struct sockaddr_in at = {.sin_family = AF_INET};
+    struct published wanted = {.protocol = IP_TCP};
     char host[16], ports[2][6];
     uint64_t port, inner;
-    int number = 0, end = 0, listener = socket(AF_INET, SOCK_STREAM | SOCK_NONBLOCK | SOCK_CLOEXEC, 0);
-    while (shared->published[number].socket >= 0)
-        number++;
-    if (number == LISTENERS || sscanf(word, "%15[0-9.]:%5[0-9]:%5[0-9]%n", host, ports[0], ports[1], &end) != 3 || word[end] ||
+    int end = 0;
+    if (sscanf(word, "%15[0-9.]:%5[0-9]:%5[0-9]%n", host, ports[0], ports[1], &end) != 3 ||
         !read_number(ports[0], 1, UINT16_MAX, &port) || !read_number(ports[1], 1, UINT16_MAX, &inner) ||
-        inet_pton(AF_INET, host, &at.sin_addr) != 1)
+        inet_pton(AF_INET, host, &wanted.addr) != 1)
         return 0;
-    at.sin_port = htons((uint16_t)port);
-    shared->published[number] = (struct published){listener, (uint16_t)inner};
-    setsockopt(listener, SOL_SOCKET, SO_REUSEADDR, &(int){1}, sizeof(int));
-    if (bind(listener, (struct sockaddr *)&at, sizeof at) == 0 && listen(listener, 1024) == 0)
+    if (strcmp(word + end, "/udp") == 0)
+        wanted.protocol = IP_UDP;
+    else if (word[end] && strcmp(word + end, "/tcp") != 0)
+        return 0;
+    wanted.port = (uint16_t)port, wanted.guest_port = (uint16_t)inner;
+    if (ports_publish(shared, wanted))
         return 1;
     perror(word);
     return 0;
+}
+
+/* What is published leads to the namespace's own address, which other words may say later. */
+static void aim_published(struct shared *shared, uint32_t addr)
+{
+    for (int at = 0; at < LISTENERS; at++)
+        shared->published[at].guest = (tcpcore_addr){{(uint8_t)(addr >> 24), (uint8_t)(addr >> 16), (uint8_t)(addr >> 8), (uint8_t)addr}};
+}
+
+/* Whether each thread has a share of all limits. */
+static int has_shares(const struct words *told)
+{
+    const struct limits *limits = &told->limits;
+    const uint64_t numbers[] = {limits->connections, limits->half_open, limits->each, limits->flows, limits->ports};
+    for (size_t at = 0; at < sizeof numbers / sizeof numbers[0]; at++)
+        if (numbers[at] < told->threads)
+            return fputs("usernet: a limit is less than --threads: each thread takes a share of it (see usernet --help)\n", stderr), 0;
+    return 1;
 }
 
 /* Whether a descriptor is one that the program was started with: its own are all closed where another one is started. */
@@ -128,6 +149,8 @@ static int read_option(const char *name, const char *value, struct words *told, 
         return told->is_path = strcmp(value, "path") == 0, told->is_path || strcmp(value, "pid") == 0;
     if (strcmp(name, "userns-path") == 0)
         return told->device.users = value, 1;
+    if (strcmp(name, "api-socket") == 0)
+        return told->api = value, *value != 0;
     if (strcmp(name, "outbound-addr") == 0)
         return inet_pton(AF_INET, value, &shared->outbound) == 1;
     if (strcmp(name, "publish") == 0)
@@ -162,7 +185,7 @@ static int read_rest(char **words, struct words *told)
 static const struct option OPTIONS[] = {
     {"configure", 0, 0, 'c'}, {"mtu", 1, 0, 'm'}, {"ready-fd", 1, 0, 'r'}, {"exit-fd", 1, 0, 'e'}, {"help", 0, 0, 'h'}, {"version", 0, 0, 'v'},
     {"publish", 1, 0, 0}, {"disable-host-loopback", 0, 0, 0}, {"disable-dns", 0, 0, 0}, {"enable-sandbox", 0, 0, 0}, {"enable-seccomp", 0, 0, 0},
-    {"outbound-addr", 1, 0, 0}, {"cidr", 1, 0, 0},
+    {"outbound-addr", 1, 0, 0}, {"cidr", 1, 0, 0}, {"api-socket", 1, 0, 'a'},
     {"netns-type", 1, 0, 0}, {"userns-path", 1, 0, 0}, {"netns", 1, 0, 0}, {"threads", 1, 0, 0}, {"no-offloads", 0, 0, 0}, {"stats", 0, 0, 0},
     {"fault", 1, 0, 0}, {"connections", 1, 0, 0}, {"half-open", 1, 0, 0}, {"half-open-each", 1, 0, 0}, {"memory", 1, 0, 0}, {"flows", 1, 0, 0},
     {"ports", 1, 0, 0}, {"strays", 1, 0, 0}, {"quiet", 1, 0, 0}, {0}};
@@ -186,7 +209,7 @@ static int read_options(int number, char **words, struct words *told, struct sha
 {
     int letter, place = 0;
     opterr = 0;
-    while ((letter = getopt_long(number, words, "cm:r:e:hv", OPTIONS, &place)) != -1) {
+    while ((letter = getopt_long(number, words, "cm:r:e:a:hv", OPTIONS, &place)) != -1) {
         if (letter == 'h')
             return fputs(USAGE, stdout), 0;
         if (letter == 'v')
@@ -207,8 +230,6 @@ int words_read(int number, char **words, struct words *told, struct shared *shar
                            .limits = {.connections = 4096, .half_open = 1024, .each = 256, .memory = 1024, .ports = 32768, .flows = 1024,
                                       .strays = 1000, .quiet = ANSWERS_QUIET}};
     shared->has_loopback = shared->has_dns = 1;
-    for (int at = 0; at <= LISTENERS; at++)
-        shared->published[at].socket = -1;
     int status = read_options(number, words, told, shared);
     if (status >= 0)
         return status;
@@ -219,5 +240,6 @@ int words_read(int number, char **words, struct words *told, struct shared *shar
     told->device.addr = told->network + 100;
     told->device.gateway = told->network + 2;
     shared->threads = (uint32_t)told->threads;
-    return -1;
+    aim_published(shared, told->device.addr);
+    return has_shares(told) ? -1 : 1;
 }
