@@ -125,10 +125,10 @@ static size_t refuse(char *out, const char *call, const char *why)
 
 enum { EXECUTE, PROTO, HOST_ADDR, HOST_PORT, GUEST_ADDR, GUEST_PORT, ID, MEMBERS };
 
-/* An address, or another one where none is named; whether it is one. */
+/* An address, or another one where none is named, or an empty one, as podman does; whether it is one. */
 static int read_addr(const struct json_member *member, void *addr, const void *otherwise)
 {
-    if (member->kind == JSON_NONE)
+    if (member->kind == JSON_NONE || (member->kind == JSON_STRING && !*member->string))
         return memcpy(addr, otherwise, 4), 1;
     return member->kind == JSON_STRING && inet_pton(AF_INET, member->string, addr) == 1;
 }

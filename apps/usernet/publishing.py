@@ -18,7 +18,7 @@ from world import CLIENTS, SERVERS, need
 
 # What slirp4netns 1.2.0 answers to each of these, in this order; where PORT is not above 65535, which it takes for one.
 FIRST = {"proto": "tcp", "host_addr": "127.0.0.1", "host_port": 7100, "guest_addr": "10.0.2.100", "guest_port": 8000}
-SECOND = {"proto": "udp", "host_port": 7100, "guest_port": 8090}
+SECOND = {"proto": "udp", "host_addr": "", "host_port": 7100, "guest_addr": "", "guest_port": 8090}  # as podman has it
 LISTED = [{"id": 1, **FIRST}, {"id": 2, "proto": "udp", "host_addr": "0.0.0.0", "host_port": 7100, "guest_addr": "10.0.2.100", "guest_port": 8090}]
 WRONG = {"proto": "sctp", "host_addr": "x", "host_port": 0, "guest_addr": "256.0.0.1", "guest_port": 0}
 
